@@ -1,0 +1,5 @@
+pub mod Words
+pub mod Reserved
+pub mod Naming
+pub mod Grammar
+pub mod Lines

@@ -1,0 +1,47 @@
+-- What a plain line is: a clause of a program, or a query.
+-- `names` are the texts of the names that are kept, by number; more names at their end change nothing.
+use Rattle.std.specs.Prelude.{ℕ, codes, Option, Some, None, List, [], ◌∷◌, length, map}
+use Rattle.std.specs.List.{range_with_len}
+use Rattle.apd_term.specs.declared.tuple.Tuple.{Tuple}
+use Rattle.apd_term.specs.declared.run.Query.{Query}
+use Rattle.apd_term.specs.Term.{Term, variable, compound, none, more}
+use Rattle.apd_plain.specs.Words.{tokens_of}
+use Rattle.apd_plain.specs.Naming.{variables_in}
+use Rattle.apd_plain.specs.Grammar.{◌>>=◌, id_of, clause_at, query_at}
+
+-- the list of the terms
+abbrev pub list_term : List (List ℕ) → List Term → Term
+list_term names [] = compound (id_of names (codes "[]")) none
+list_term names (t ∷ ts) = compound (id_of names (codes ".")) (more t (more (list_term names ts) none))
+
+-- the clause that a line is, with its variables numbered from 1 by first appearance
+unfoldable pub clause_of_line : List (List ℕ) → List ℕ → Option Tuple
+clause_of_line names line = let ts = tokens_of line in clause_at names (variables_in ts) ts
+
+-- the query that a line is: its goals, under a head that lists its variables
+unfoldable pub query_of_line : List (List ℕ) → List ℕ → Option Query
+query_of_line names line =
+    let ts = tokens_of line in
+    let variables = variables_in ts in
+    query_at names variables ts >>= λ goals. Some (record {
+      tuple = record { head = list_term names (map variable (range_with_len 1 (length variables))); body = goals };
+      vars = variables;
+    })
+
+-- a clause without goals
+abbrev pub fact_with_body : Tuple → List Term → Option Tuple
+fact_with_body t [] = Some t
+fact_with_body t (g ∷ gs) = None
+
+-- until rules are read: the fact that a line is
+abbrev pub fact_of_line : List (List ℕ) → List ℕ → Option Tuple
+fact_of_line names line = clause_of_line names line >>= λ t. fact_with_body t t.body
+
+-- a query with one goal
+abbrev pub query_with_body : Query → List Term → Option Query
+query_with_body q (g ∷ []) = Some q
+query_with_body q gs = None
+
+-- until rules are read: the query of one goal that a line is
+abbrev pub goal_of_line : List (List ℕ) → List ℕ → Option Query
+goal_of_line names line = query_of_line names line >>= λ q. query_with_body q q.tuple.body

@@ -1,0 +1,2 @@
+//! The plain reader.
+#![tactic(auto)]

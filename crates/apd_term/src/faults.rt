@@ -1,5 +1,7 @@
 //! Why a text is refused.
 
+use std::alloc::AllocError;
+
 /// Why a program's text is refused.
 #[derive(Clone, Copy, Debug, PartialEq, Eq)]
 pub enum LoadCause {
@@ -7,4 +9,36 @@ pub enum LoadCause {
     NotBuilt,
     /// There are 20,000 clauses before it.
     ClausesOver,
+}
+
+/// Why a text has no division into tokens. Each number is a byte's place in the text, from 0.
+#[derive(Clone, Copy, Debug, PartialEq, Eq)]
+pub enum TokenFault {
+    /// The bytes aren't UTF-8: the first byte that belongs to no whole character.
+    NotUtf8(u32),
+    /// A character that begins no token stands outside quotes and comments.
+    BadChar(u32),
+    /// A quote isn't closed: the opening quote, or the 0 of a `0'` at the end of the text.
+    OpenQuote(u32),
+    /// A `/*` has no `*/` behind it: the `/*`.
+    OpenComment(u32),
+    /// A backslash begins no escape, or a single quote behind `0'` isn't doubled.
+    BadEscape(u32),
+    /// An integer is greater than 2 ^ 63: its first digit.
+    NumberTooWide(u32),
+    /// Decimal digits, a full stop and a digit: the first digit.
+    FloatLiteral(u32),
+    /// There was no memory left.
+    Memory,
+}
+
+impl From<AllocError> for TokenFault {
+    ghost use Rattle.std.specs.Prelude.{◌≡◌};
+    ghost use Rattle.apd_term.specs.declared.faults.TokenFault.TheVariants.{Memory};
+
+    ghost from_gives = { λ _ e. e ≡ Memory };
+
+    fn from(_: AllocError) -> Self {
+        TokenFault::Memory
+    }
 }

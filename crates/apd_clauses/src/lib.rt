@@ -1,0 +1,8 @@
+//! Programs of pure Prolog: clauses in order, with an index by predicate.
+#![tactic(auto)]
+
+pub mod clause;
+pub mod program;
+
+pub use clause::Clause;
+pub use program::{AddFault, Program};

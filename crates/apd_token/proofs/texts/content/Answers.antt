@@ -1,0 +1,34 @@
+use Rattle.std.proofs.Common.{subst, sym, inl, inr, arith}
+use Rattle.std.specs.List.{slice_range}
+use Rattle.apd_token.specs.Grammar.{ContentOf}
+use Rattle.apd_token.specs.declared.items.Kind.{Kind}
+use Rattle.apd_token.proofs.Contents.{in_text, quoted_content, codes_content}
+use Rattle.apd_token.proofs.texts.content.Goals as goal
+
+pub unquoted-requires : goal.unquoted-requires
+unquoted-requires c = let t = in_text _ _ c.requires.token in omega (arith, t.order, t.within)
+
+pub part-requires : goal.part-requires
+part-requires c = let t = in_text _ _ c.requires.token in record { order = omega (arith, t.order); within = t.within }
+
+pub returns-in_ok-value-in-Quoted : goal.returns-in_ok-value-in-Quoted
+returns-in_ok-value-in-Quoted c =
+    let text = c.args.text.now in
+    let token = c.args.token.now in
+    let value = c.in_ok-value-in-Quoted.value in
+    let bytes = slice_range text token.start token.end in
+    elim c.in-Quoted.is as (λ w. ContentOf token.kind bytes value) [
+      | inl is ↦ subst (λ (k : Kind). ContentOf k bytes value) (sym is) (quoted_content text token value c.requires.token is c.in_ok-value-in-Quoted.ensures)
+      | inr is ↦ subst (λ (k : Kind). ContentOf k bytes value) (sym is) (codes_content text token value c.requires.token is c.in_ok-value-in-Quoted.ensures)
+    ]
+
+pub returns-in_ok-value-in-Name : goal.returns-in_ok-value-in-Name
+returns-in_ok-value-in-Name c =
+    let text = c.args.text.now in
+    let token = c.args.token.now in
+    let value = c.in_ok-value-in-Name.value in
+    let bytes = slice_range text token.start token.end in
+    elim c.in-Name.is as (λ w. ContentOf token.kind bytes value) [
+      | inl is ↦ subst (λ (k : Kind). ContentOf k bytes value) (sym is) c.in_ok-value-in-Name.ensures
+      | inr is ↦ subst (λ (k : Kind). ContentOf k bytes value) (sym is) c.in_ok-value-in-Name.ensures
+    ]

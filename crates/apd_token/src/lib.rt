@@ -1,0 +1,21 @@
+//! Tokens of Prolog texts (ISO/IEC 13211-1 section 6.4).
+//!
+//! [`tokens`] divides a text into layout, comments and tokens, each the longest at its place, or
+//! tells the first fault from the left. [`content`] gives the characters that a token stands for.
+#![tactic(auto)]
+
+mod bytes;
+mod found;
+mod items;
+mod numbers;
+mod quoted;
+mod runs;
+mod scanner;
+#[cfg(test)]
+mod tests;
+mod texts;
+
+pub use apd_term::faults::TokenFault;
+pub use items::{Kind, Token, Tokens};
+pub use scanner::{one_division, tokens};
+pub use texts::{content, one_content};

@@ -1,0 +1,53 @@
+-- What contracts see of a source, a sink and files that are kept in memory.
+use Rattle.std.specs.Prelude.{ℕ, List, [], ◌∷◌, Option, None, Some, Bool, true, false, if◌then◌else◌, nat_eq, Result, Err, ◌≡◌, ◌<◌, length, take, slice_get, IfSome}
+use Rattle.std.specs.List.{list_any}
+use Rattle.std.specs.Str.{bytes_eq}
+use Rattle.apd_io.specs.Outside.{risen}
+use Rattle.apd_io.specs.declared.fault.LoadFault.{LoadFault}
+use Rattle.apd_io.specs.declared.fault.LoadFault.TheVariants.{Failed}
+use Rattle.apd_io.specs.declared.calls.Calls.{Calls}
+use Rattle.apd_io.specs.declared.mem_files.MemFile.{MemFile}
+
+-- is the next call one of those that fail?
+abbrev pub is_due : Calls → Bool
+is_due calls = list_any (λ number. nat_eq number (risen calls.made)) calls.failing
+
+-- the calls with one more, which failed or didn't
+abbrev pub called : Calls → Bool → Calls
+called calls failed = record { failing = calls.failing; made = risen calls.made; faults = if failed then risen calls.faults else calls.faults }
+
+-- the calls before the first
+abbrev pub uncalled : List ℕ → Calls
+uncalled failing = record { failing = failing; made = 0; faults = 0 }
+
+-- a source: the bytes that are left, and its calls
+pub record Feed : Type 0 where
+  pub left : List ℕ
+  pub calls : Calls
+
+-- a sink: the bytes that it holds, how many it can hold, and its calls
+pub record Store : Type 0 where
+  pub held : List ℕ
+  pub room : ℕ
+  pub calls : Calls
+
+-- files, and the loads of them
+pub record Shelf : Type 0 where
+  pub files : List MemFile
+  pub calls : Calls
+
+-- the content of the file of this name
+abbrev pub content_of : List MemFile → List ℕ → Option (List ℕ)
+content_of [] name = None
+content_of (file ∷ files) name = if bytes_eq file.name name then Some file.content else content_of files name
+
+-- the first file of this name stands at this place
+pub record IsPlaceOf (files : List MemFile) (name : List ℕ) (i : ℕ) : Type 0 where
+  pub bound : i < length files
+  pub first : content_of (take i files) name ≡ None
+  pub named : IfSome (slice_get files i) (λ file. file.name ≡ name)
+
+-- did the load fail?
+abbrev pub is_failed : {T : Type 0} → Result T LoadFault → Bool
+is_failed (Err Failed) = true
+is_failed r = false

@@ -1,0 +1,5 @@
+pub mod Frames
+pub mod BuiltIn
+pub mod Trace
+pub mod Run
+pub mod Renaming

@@ -1,4 +1,5 @@
 pub mod Words
+pub mod Marks
 pub mod Reserved
 pub mod Naming
 pub mod Grammar

@@ -16,7 +16,7 @@ operator_names =
     codes "dynamic" ∷ codes "discontiguous" ∷ codes "multifile" ∷ codes "initialization" ∷ []
 
 -- a plain name: it begins with a small letter, and is no operator
-abbrev pub is_name : List ℕ → Bool
+unfoldable pub is_name : List ℕ → Bool
 is_name w = first_is is_ascii_lowercase w && not (is_listed operator_names w)
 
 abbrev pub built_in_names : List (List ℕ)
@@ -46,5 +46,5 @@ abbrev pub reserved_names : List (List ℕ)
 reserved_names = built_in_names ++ control_names ++ impure_names
 
 -- the name of a plain atom
-abbrev pub is_free_name : List ℕ → Bool
+unfoldable pub is_free_name : List ℕ → Bool
 is_free_name w = is_name w && not (is_listed reserved_names w)

@@ -1,2 +1,4 @@
-//! The plain reader.
+//! The plain reader: one line of a program or a query, in a part of Prolog without operators, quotes and lists.
 #![tactic(auto)]
+
+mod marks;

@@ -109,3 +109,13 @@ begins_at marks.Other line at c p e h = tokens_from-mark line at c _ p e h
 pub begins_none : (line : List ℕ) (at : ℕ) → length line ≤ at → tokens_from line at ≡ []
 unfolding tokens_of
 begins_none line at h = ap tokens_of (drop_all at line h)
+
+joined-word : (c : ℕ) (ts : List Token) → (w : List ℕ) × ((us : List Token) × (joined c ts ≡ word w ∷ us))
+joined-word c (word w ∷ ts) = (c ∷ w, (ts, refl))
+joined-word c ts = (c ∷ [], (ts, refl))
+
+-- a word stands where one begins
+pub word_stands : (line : List ℕ) (at : ℕ) → Begins marks.Word line at → (w : List ℕ) × ((us : List Token) × (tokens_from line at ≡ word w ∷ us))
+word_stands line at h =
+    let j = joined-word (get_or line at 0) (tokens_of (drop (at + 1) line)) in
+    (j.0, (j.1.0, ap tokens_of (drop_more line at 0 h.0) ∙ tokens_of-letter (get_or line at 0) (drop (at + 1) line) h.1 ∙ j.1.1))

@@ -1,6 +1,8 @@
 pub mod Words
-pub mod Marks
 pub mod Reserved
 pub mod Naming
 pub mod Grammar
 pub mod Lines
+pub mod Marks
+pub mod Frames
+pub mod Steps

@@ -2,6 +2,7 @@
 use Rattle.std.specs.Prelude.{◌≡◌, ℕ, ◌+◌, ◌<◌, ◌≤◌, true, false, List, [], ◌∷◌, length, drop, get_or, slice_range}
 use Rattle.apd_plain.specs.declared.marks.Mark.{Mark}
 use Rattle.apd_plain.specs.declared.marks.Mark.TheVariants as marks
+use Rattle.apd_plain.specs.Grammar.{past_space}
 use Rattle.apd_plain.specs.Words.{Token, word, opening, closing, comma, space, stop, colon, dash, question, other, is_word_byte, mark_of, tokens_of}
 
 -- the byte is a mark and this token
@@ -47,3 +48,9 @@ pub record IsWordFrom (line : List ℕ) (at end : ℕ) : Type 0 where
   pub further : at < end
   pub within : end ≤ length line
   pub is : tokens_from line at ≡ word (slice_range line at end) ∷ tokens_from line end
+
+-- behind a byte, and behind the space that may follow it
+pub record IsPastComma (line : List ℕ) (at end : ℕ) : Type 0 where
+  pub further : at < end
+  pub within : end ≤ length line
+  pub is : tokens_from line end ≡ past_space (tokens_from line (at + 1))

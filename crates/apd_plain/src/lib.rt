@@ -2,3 +2,5 @@
 #![tactic(auto)]
 
 mod marks;
+mod terms;
+mod unfinished;

@@ -1,18 +1,18 @@
 -- Steps of the reading of a term, one after another.
-use Rattle.std.proofs.Common.{◌≡◌, ◌≢◌, ℕ, ◌+◌, ◌-◌, ◌<◌, ◌≤◌, zero, suc, Bool, true, false, eqb, vec_len, Option, Some, None, List, [], ◌∷◌, ◌++◌, length, refl, sym, ◌∙◌, ap, subst, arith}
+use Rattle.std.proofs.Common.{◌≡◌, ◌≢◌, ℕ, ◌+◌, ◌-◌, ◌<◌, ◌≤◌, zero, suc, true, false, eqb, vec_len, Some, None, List, [], ◌∷◌, length, refl, sym, ◌∙◌, ap, arith}
 use Rattle.std.proofs.lemmas.List.{length_push}
 use Rattle.std.proofs.lemmas.Bool.Decides.{nat_tests}
-use Rattle.apd_term.specs.Term.{Term, spell}
+use Rattle.apd_term.specs.Term.{Term}
 use Rattle.apd_plain.specs.declared.marks.Mark.{Mark}
 use Rattle.apd_plain.specs.declared.marks.Mark.TheVariants as marks
 use Rattle.apd_plain.specs.declared.unfinished.Unfinished.{Unfinished}
 use Rattle.apd_plain.specs.declared.terms.Next.{Next}
 use Rattle.apd_plain.specs.declared.terms.Next.TheVariants as nexts
-use Rattle.apd_plain.specs.Words.{Token, closing, comma}
-use Rattle.apd_plain.specs.Grammar.{Reading, ◌>>=◌, max_arguments, arguments_at, arguments_after, term_at, past_space}
+use Rattle.apd_plain.specs.Words.{closing, comma}
+use Rattle.apd_plain.specs.Grammar.{Reading, ◌>>=◌, max_arguments, arguments_at, term_at}
 use Rattle.apd_plain.specs.Marks.{tokens_from, Begins, StandsAt, IsPastComma}
-use Rattle.apd_plain.specs.Frames.{Frame, IsOpen, IsBehind, HasOpen, HasMore, stacked, with_argument, closed}
-use Rattle.apd_plain.specs.Steps.{resumed, Grown, GoesOn, IsWithin, PassesNone, variables_from, filled}
+use Rattle.apd_plain.specs.Frames.{Frame, IsBehind, HasOpen, stacked, with_argument, closed}
+use Rattle.apd_plain.specs.Steps.{resumed, Grown, GoesOn, IsWithin, PassesNone, variables_from}
 use Rattle.apd_plain.proofs.Places.{arguments_after-other}
 use Rattle.apd_plain.proofs.Resumed.{made, resumed-none, resumed-comma, resumed-over, resumed-closing}
 
@@ -22,7 +22,7 @@ pub goes_on_from : (line : List ℕ) (names v : List (List ℕ)) (depth deep : �
     → GoesOn line names v deep then_ next work → GoesOn line names v depth before next work
 goes_on_from line names v depth deep before then_ nexts.NotPlain work d e h = λ n l g. e n l (l + depth - deep) g (omega arith) ∙ h n (l + depth - deep) g
 goes_on_from line names v depth deep before then_ (nexts.Further at) work d e h =
-    (h.0, h.1, λ n l k g s. e n l (l + depth - deep) g (omega arith) ∙ h.2 n (l + depth - deep) k g (omega arith))
+    (h.0, h.1, omega (arith, h.2), λ n l k g s. e n l (l + depth - deep) g (omega arith) ∙ h.3 n (l + depth - deep) k g (omega arith))
 goes_on_from line names v depth deep before then_ (nexts.Whole at) work d e h = (h.0, h.1, λ n l g. e n l (l + depth - deep) g (omega arith) ∙ h.2 n (l + depth - deep) g)
 
 pub within_from : (line : List ℕ) (from at : ℕ) (next : Next) → from ≤ at → IsWithin line at next → IsWithin line from next

@@ -1,16 +1,12 @@
 -- The rest of a term behind each token.
-use Rattle.std.proofs.Common.{◌≡◌, ◌≢◌, ℕ, ◌+◌, ◌-◌, ◌<◌, ◌≤◌, zero, suc, Bool, true, false, cond, Option, Some, None, List, [], ◌∷◌, ◌++◌, length, refl, sym, ◌∙◌, ap, subst, arith, append_assoc, length-append}
+use Rattle.std.proofs.Common.{◌≡◌, ℕ, ◌-◌, ◌<◌, zero, suc, Bool, true, false, cond, Option, Some, None, List, [], ◌∷◌, ◌++◌, length, refl, sym, ◌∙◌, ap, arith, append_assoc}
 use Rattle.std.proofs.lemmas.List.{length_push}
-use Rattle.apd_term.specs.declared.term.NameId.{NameId}
 use Rattle.apd_term.specs.Term.{Term, compound, terms_of}
-use Rattle.apd_plain.specs.declared.marks.Mark.{Mark}
-use Rattle.apd_plain.specs.declared.marks.Mark.TheVariants as marks
-use Rattle.apd_plain.specs.Words.{Token, word, opening, closing, comma, is_word_byte, joined, tokens_of}
-use Rattle.apd_plain.specs.Reserved.{is_name}
-use Rattle.apd_plain.specs.Marks.{tokens_from, Begins}
-use Rattle.apd_plain.specs.Grammar.{Reading, ◌>>=◌, max_arguments, past_space, arguments_after, arguments_at, id_of, simple_term, term_at}
+use Rattle.apd_plain.specs.Words.{Token, word, opening, closing, comma}
+use Rattle.apd_plain.specs.Reserved.{is_plain_name}
+use Rattle.apd_plain.specs.Grammar.{Reading, ◌>>=◌, max_arguments, past_space, arguments_after, arguments_at, id_of, term_at}
 use Rattle.apd_plain.specs.Frames.{Frame, entered, with_argument, closed}
-use Rattle.apd_plain.specs.Steps.{filled, resumed}
+use Rattle.apd_plain.specs.Steps.{resumed}
 
 pub max_arguments-is : max_arguments ≡ 255
 unfolding max_arguments
@@ -61,7 +57,7 @@ module _ (n v : List (List ℕ)) where
       let k : ℕ = max_arguments - suc (length (f.read ++ t ∷ [])) in
       let left : max_arguments - suc (length f.read) ≡ suc k = omega (arith, max_arguments-is, length_push f.read t) in
       let first : arguments_at (term_at n v l) (max_arguments - suc (length f.read)) (past_space ts) ≡ (term_at n v l (past_space ts) >>= λ p. arguments_after p.0 (arguments_at (term_at n v l) k) p.1) =
-          ap (λ m. arguments_at (term_at n v l) m (past_space ts)) left ∙ arguments_at-suc (term_at n v l) k (past_space ts) in
+      ap (λ m. arguments_at (term_at n v l) m (past_space ts)) left ∙ arguments_at-suc (term_at n v l) k (past_space ts) in
       ap (λ (o : Reading (List Term)). resumed n v (suc l) fs ((o >>= put t) >>= made f)) first
       ∙ ap (resumed n v (suc l) fs) (step f t (term_at n v l (past_space ts)) (λ p. arguments_after p.0 (arguments_at (term_at n v l) k) p.1))
 
@@ -73,7 +69,7 @@ module _ (n v : List (List ℕ)) where
       ∙ ap (λ (o : Reading (List Term)). resumed n v (suc l) fs ((o >>= put t) >>= made f)) (arguments_at-zero (term_at n v l) (past_space ts))
       ∙ resumed-none (suc l) fs
 
-  pub resumed-enter : (l : ℕ) (fs : List Frame) (w : List ℕ) (ts : List Token) → is_name w ≡ true
+  pub resumed-enter : (l : ℕ) (fs : List Frame) (w : List ℕ) (ts : List Token) → is_plain_name w ≡ true
       → resumed n v (suc l) fs (term_at n v (suc l) (word w ∷ opening ∷ ts)) ≡ resumed n v l (entered (id_of n w) fs) (term_at n v l ts)
   unfolding resumed term_at
   resumed-enter l fs w ts h =
@@ -86,7 +82,7 @@ module _ (n v : List (List ℕ)) where
       ∙ ap (resumed n v (suc l) fs) (bind-bind (term_at n v l ts) (λ p. arguments_after p.0 (arguments_at (term_at n v l) k) p.1) (made f))
 
   -- no word but a name has arguments
-  pub resumed-no_name : (l : ℕ) (fs : List Frame) (w : List ℕ) (ts : List Token) → is_name w ≡ false → resumed n v (suc l) fs (term_at n v (suc l) (word w ∷ opening ∷ ts)) ≡ None
+  pub resumed-no_name : (l : ℕ) (fs : List Frame) (w : List ℕ) (ts : List Token) → is_plain_name w ≡ false → resumed n v (suc l) fs (term_at n v (suc l) (word w ∷ opening ∷ ts)) ≡ None
   unfolding term_at
   resumed-no_name l fs w ts h =
       let f : Frame = record { name = id_of n w; read = [] } in

@@ -1,10 +1,9 @@
 -- The tokens of a line, from place to place.
-use Rattle.std.proofs.Common.{◌≡◌, ℕ, ◌+◌, ◌-◌, ◌<◌, ◌≤◌, zero, suc, Bool, true, false, cond, eqb, List, [], ◌∷◌, ◌++◌, length, get_or, take, drop, refl, sym, ◌∙◌, ap, subst, arith, ◌&&◌, length-drop, ◌⊎◌, inl, inr}
+use Rattle.std.proofs.Common.{◌≡◌, ℕ, ◌+◌, ◌-◌, ◌<◌, ◌≤◌, zero, suc, Bool, true, false, cond, eqb, List, [], ◌∷◌, ◌++◌, length, get_or, take, drop, refl, sym, ◌∙◌, ap, subst, arith, ◌&&◌, length-drop}
 use Rattle.std.specs.List.{list_all}
 use Rattle.std.proofs.lemmas.List.{drop_more, drop_all, take_more, take-append-drop, get_or-drop, drop-drop, length-take-le}
 use Rattle.std.proofs.lemmas.List.Folds.{list_all-append}
-use Rattle.std.proofs.lemmas.Grind.{common_steps}
-use Rattle.apd_plain.specs.Words.{Token, word, opening, is_word_byte, mark_of, joined, tokens_of}
+use Rattle.apd_plain.specs.Words.{Token, word, is_word_byte, mark_of, joined, tokens_of}
 use Rattle.apd_plain.specs.declared.marks.Mark.{Mark}
 use Rattle.apd_plain.specs.declared.marks.Mark.TheVariants as marks
 use Rattle.apd_plain.specs.Marks.{tokens_from, IsToken, StandsAt, IsMarkOf, Begins, IsWordFrom}
@@ -76,7 +75,7 @@ word_from line at end p h w n =
     record {
       further = p;
       within = h;
-      is = ap tokens_of (sym parts) ∙ ap (λ r. tokens_of (take (end - at) (drop at line) ++ r)) rest ∙ tokens_of-run _ _ there w (NoWord-from line end h n)
+      is = ap tokens_of (sym parts) ∙ ap (λ r. tokens_of (take (end - at) (drop at line) ++ r)) rest ∙ tokens_of-run _ _ there w (NoWord-from line end h n);
     }
 
 -- one more byte of the run

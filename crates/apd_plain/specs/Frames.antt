@@ -1,5 +1,5 @@
 -- The reading of a term whose outer compounds are still open.
-use Rattle.std.specs.Prelude.{◌≡◌, ℕ, ◌+◌, ◌<◌, ◌≤◌, Bool, true, false, List, [], ◌∷◌, ◌++◌, length}
+use Rattle.std.specs.Prelude.{◌≡◌, ◌<◌, Bool, true, false, List, [], ◌∷◌, ◌++◌, length}
 use Rattle.std.specs.List.{flat_map}
 use Rattle.apd_term.specs.declared.term.NameId.{NameId}
 use Rattle.apd_term.specs.declared.term.Sym.{Sym}

@@ -2,13 +2,13 @@
 -- `names` are the texts of the names that are kept, numbered from 0, and `variables` the names of the line's variables, numbered from 1.
 -- Levels: a clause's or query's term has one level more than the deepest of its parts; `:-`, `?-` and the comma between goals are such terms.
 use Rattle.std.proofs.Common.{zero, suc}
-use Rattle.std.specs.Prelude.{ℕ, ◌+◌, ◌-◌, pos, Option, Some, None, option_and_then, Bool, List, [], ◌∷◌, if◌then◌else◌}
+use Rattle.std.specs.Prelude.{ℕ, ◌+◌, ◌-◌, pos, Option, Some, None, option_and_then, List, [], ◌∷◌, if◌then◌else◌}
 use Rattle.apd_term.specs.declared.term.NameId.{NameId}
 use Rattle.apd_term.specs.declared.tuple.Tuple.{Tuple}
 use Rattle.apd_term.specs.Term.{Term, variable, integer, compound, none, terms_of}
 use Rattle.apd_plain.specs.Words.{Token, word, opening, closing, comma, space, stop, colon, dash, question, is_variable, is_integer, decimal_value}
-use Rattle.apd_plain.specs.Reserved.{is_name, is_free_name}
-use Rattle.apd_plain.specs.Naming.{number_of}
+use Rattle.apd_plain.specs.Reserved.{is_plain_name, is_free_name}
+use Rattle.apd_term.specs.Names.{number_of}
 
 infixl 10 ◌>>=◌
 abbrev pub ◌>>=◌ : {A B : Type 0} → Option A → (A → Option B) → Option B
@@ -79,12 +79,12 @@ id_of names w = record { 0 = number_of names w }
 module _ (names variables : List (List ℕ)) where
   -- a word by itself: a variable, an integer or a name
   abbrev pub simple_term : List ℕ → Option Term
-  simple_term w = if is_variable w then Some (variable (number_of variables w + 1)) else (if is_integer w then Some (integer (pos (decimal_value w))) else (if is_name w then Some (compound (id_of names w) none) else None))
+  simple_term w = if is_variable w then Some (variable (number_of variables w + 1)) else (if is_integer w then Some (integer (pos (decimal_value w))) else (if is_plain_name w then Some (compound (id_of names w) none) else None))
 
   -- a term of at most `levels` levels
   unfoldable pub term_at : ℕ → List Token → Reading Term
   term_at zero ts = None
-  term_at (suc levels) (word w ∷ opening ∷ ts) = if is_name w then (arguments_at (term_at levels) max_arguments ts >>= λ args. Some (compound (id_of names w) (terms_of args.0), args.1)) else None
+  term_at (suc levels) (word w ∷ opening ∷ ts) = if is_plain_name w then (arguments_at (term_at levels) max_arguments ts >>= λ args. Some (compound (id_of names w) (terms_of args.0), args.1)) else None
   term_at (suc levels) (word w ∷ ts) = simple_term w >>= λ t. Some (t, ts)
   term_at (suc levels) ts = None
 

@@ -16,8 +16,8 @@ operator_names =
     codes "dynamic" ∷ codes "discontiguous" ∷ codes "multifile" ∷ codes "initialization" ∷ []
 
 -- a plain name: it begins with a small letter, and is no operator
-unfoldable pub is_name : List ℕ → Bool
-is_name w = first_is is_ascii_lowercase w && not (is_listed operator_names w)
+unfoldable pub is_plain_name : List ℕ → Bool
+is_plain_name w = first_is is_ascii_lowercase w && not (is_listed operator_names w)
 
 abbrev pub built_in_names : List (List ℕ)
 built_in_names = codes "true" ∷ codes "fail" ∷ codes "is" ∷ []
@@ -47,4 +47,4 @@ reserved_names = built_in_names ++ control_names ++ impure_names
 
 -- the name of a plain atom
 unfoldable pub is_free_name : List ℕ → Bool
-is_free_name w = is_name w && not (is_listed reserved_names w)
+is_free_name w = is_plain_name w && not (is_listed reserved_names w)

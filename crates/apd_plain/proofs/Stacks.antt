@@ -5,7 +5,7 @@ use Rattle.std.proofs.lemmas.List.{set_at, take_at, get_or_push, length_push, fl
 use Rattle.apd_term.specs.declared.term.Sym.{Sym}
 use Rattle.apd_term.specs.declared.term.Sym.TheVariants.{Fun}
 use Rattle.apd_term.specs.Term.{Term, spell}
-use Rattle.apd_term.specs.Spelling.{spell-compound}
+use Rattle.apd_term.proofs.Spelling.{spell-compound}
 use Rattle.apd_plain.specs.declared.unfinished.Open.{Open}
 use Rattle.apd_plain.specs.Frames.{Frame, spelled, stacked, closed, with_argument}
 

@@ -2,7 +2,7 @@
 use Rattle.std.proofs.Common.{◌≡◌, ◌≢◌, ℕ, ◌+◌, ◌≤◌, List, [], ◌∷◌, ◌++◌, refl, sym, ◌∙◌, ap, subst, arith, Option, Some, None}
 use Rattle.apd_term.specs.declared.term.Pred.{Pred}
 use Rattle.apd_term.specs.Term.{Term, variable, integer, compound, apply, variables, predicate_of, IsAmong}
-use Rattle.apd_term.specs.Spelling.{length-apply_all}
+use Rattle.apd_term.proofs.Spelling.{length-apply_all}
 use Rattle.apd_term.specs.Substitution.{term_for, IsInstance}
 use Rattle.apd_term.specs.Canonical.{canonical, by_appearance, place_of}
 use Rattle.apd_term.specs.Tuple.{apply_tuple, variables_of_tuple, canonical_tuple}

@@ -3,7 +3,7 @@ use Rattle.std.proofs.Common.{◌≡◌, ℕ, ◌+◌, List, [], ◌∷◌, ◌+
 use Rattle.std.specs.Prelude.{slice_get, nat_lt}
 use Rattle.std.specs.List.{flat_map}
 use Rattle.apd_term.specs.Term.{Term, compound, more, terms_of, list_of, variable, apply, apply_all, variables, variables_all, size, size_all}
-use Rattle.apd_term.specs.Spelling.{list_of-terms_of}
+use Rattle.apd_term.proofs.Spelling.{list_of-terms_of}
 use Rattle.apd_term.specs.Substitution.{followed_by}
 use Rattle.apd_term.specs.Canonical.{canonical, canonical_in, by_appearance, place_of, AreVariants}
 use Rattle.apd_term.specs.Tuple.{apply_tuple, variables_of_tuple, canonical_tuple}

@@ -1,0 +1,3 @@
+pub mod Entries
+pub mod Clashes
+pub mod StandardTable

@@ -7,7 +7,7 @@ use Rattle.std.proofs.lemmas.Bool.{cases_eq}
 use Rattle.std.proofs.lemmas.Bool.Decides.{Decides-eqb, Decides-int_eq, nat_tests}
 use Rattle.apd_term.specs.declared.term.NameId.{NameId}
 use Rattle.apd_term.specs.Term.{Term, Terms, variable, integer, compound, none, more, list_of, arguments, size, size_all, apply, apply_all, variables, variables_all, IsAmong, Occurs}
-use Rattle.apd_term.specs.Spelling.{length-apply_all}
+use Rattle.apd_term.proofs.Spelling.{length-apply_all}
 use Rattle.apd_term.specs.Substitution.{Unifies}
 use Rattle.apd_term.proofs.Among.{IsAmong-left, IsAmong-right, IsAmong-append}
 use Rattle.apd_unify.specs.declared.equations.Rule.{Rule}

@@ -4,7 +4,7 @@ use Rattle.std.specs.List.{zip, slice_get}
 use Rattle.std.proofs.lemmas.List.{map-append}
 use Rattle.std.proofs.lemmas.Bool.{cases_eq}
 use Rattle.apd_term.specs.Term.{Term, Terms, variable, integer, compound, none, more, arguments, size, size_all, apply, apply_all, variables}
-use Rattle.apd_term.specs.Spelling.{size_positive}
+use Rattle.apd_term.proofs.Spelling.{size_positive}
 use Rattle.apd_term.specs.Substitution.{term_for, IsFree, single, extended}
 use Rattle.apd_term.proofs.Pairs.{term_for-same, term_for-other}
 use Rattle.apd_unify.specs.declared.equations.Rule.{Rule}

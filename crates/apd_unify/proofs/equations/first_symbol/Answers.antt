@@ -1,5 +1,5 @@
 use Rattle.std.proofs.Common.{ap, arith, length}
-use Rattle.apd_term.specs.Spelling.{length-spell, size_positive}
+use Rattle.apd_term.proofs.Spelling.{length-spell, size_positive}
 use Rattle.apd_unify.proofs.equations.first_symbol.Goals as goal
 
 pub bounds-symbols-0 : goal.bounds-symbols-0

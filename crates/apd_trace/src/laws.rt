@@ -2,6 +2,7 @@
 
 ghost use Rattle.std.specs.Prelude.{◌≡◌, ◌≢◌, ℕ, ◌+◌, ◌≤◌, ◌<◌, List, Option, Some, None, ◌∷◌, []};
 ghost use Rattle.apd_term.specs.Canonical.{canonical};
+ghost use Rattle.apd_term.specs.Named.{TupleIsNamed};
 ghost use Rattle.apd_term.specs.Term.{Term, predicate_of};
 ghost use Rattle.apd_term.specs.Tuple.{apply_tuple};
 ghost use Rattle.apd_term.specs.declared.term.Pred.{Pred};
@@ -10,10 +11,11 @@ ghost use Rattle.apd_unify.specs.Unifier.{IsAnswer};
 ghost use Rattle.apd_trace.specs.declared.frame.Frame.{Frame};
 ghost use Rattle.apd_trace.specs.declared.frame.Called.{Called};
 ghost use Rattle.apd_trace.specs.Frames.{entering, entered, under, shifted_tuple, next_goal, query_frame};
+ghost use Rattle.apd_trace.specs.Named.{AllTuplesNamed, AllItemsNamed, AllShownNamed};
 ghost use Rattle.apd_trace.specs.Renaming.{IsRenamed, AreRenamed, IsBelow, whole_term, HaveSameMarks, AreLinked};
 ghost use Rattle.apd_trace.specs.BuiltIn.{solution, solved};
 ghost use Rattle.apd_trace.specs.Trace.{search_from, trace};
-ghost use Rattle.apd_trace.specs.Run.{up_to, run_of};
+ghost use Rattle.apd_trace.specs.Run.{up_to, run_of, shown_of};
 
 /// The first ports of a trace, and so a run, do not depend on how deep the search may go beyond them.
 pub fn deeper_is_longer()
@@ -52,4 +54,10 @@ pub fn other_predicates_are_passed_over()
 pub fn frames_stay_linked()
     ensures entered { (F H : List Frame) (g : Called) (r : Tuple) (c m : ℕ) → AreLinked F → entering F g r c m ≡ Some H → AreLinked H }
     ensures solved { (F H : List Frame) (g : Called) (m : ℕ) → AreLinked F → solution F g m ≡ solved H → AreLinked H }
+{}
+
+/// A search brings in no names that the program and the query don't have.
+pub fn names_are_kept()
+    ensures trace { (n : ℕ) (P : List Tuple) (query : Tuple) (k : ℕ) → AllTuplesNamed n P → TupleIsNamed n query → AllItemsNamed n (trace P query k) }
+    ensures run { (n : ℕ) (P : List Tuple) (query : Tuple) (budget answers : ℕ) → AllTuplesNamed n P → TupleIsNamed n query → AllShownNamed n (shown_of (run_of (trace P query (budget + 1)) budget answers).passed) }
 {}

@@ -1,0 +1,33 @@
+-- The last of some entries.
+use Rattle.std.proofs.Common.{◌≡◌, ℕ, ◌+◌, ◌-◌, List, [], ◌∷◌, ◌++◌, length, get_or, refl, ap, ◌∙◌, arith, length-append, Option}
+use Rattle.std.proofs.Math.ListN.{set}
+use Rattle.std.proofs.Math.Seq.{get_or-append_seam, set-append_seam}
+use Rattle.apd_term.specs.declared.run.Ran.{Ran}
+use Rattle.apd_term.specs.declared.run.Query.{Query}
+use Rattle.apd_text.specs.Entries.{with_end}
+use Rattle.apd_text.specs.declared.entry.Entry.{Entry}
+use Rattle.apd_text.specs.declared.entry.Entry.TheVariants.{Warning, Loaded, Run, Refused, UsageRefused, ProgramRefused, FileTooLong, InputFault, InputOver}
+
+pub last_is : (items before : List Entry) (x d : Entry) (n : ℕ) → items ≡ before ++ x ∷ [] → n ≡ length items → get_or items (n - 1) d ≡ x
+last_is items before x d n is size =
+    let long : length items ≡ length before + 1 = ap length is ∙ length-append before (x ∷ []) in
+    let at : n - 1 ≡ length before = omega (arith, size, long) in
+    rw (at, is) (get_or-append_seam before x [] d)
+
+pub set_last : (items before : List Entry) (x y : Entry) (n : ℕ) → items ≡ before ++ x ∷ [] → n ≡ length items → set items (n - 1) y ≡ before ++ y ∷ []
+set_last items before x y n is size =
+    let long : length items ≡ length before + 1 = ap length is ∙ length-append before (x ∷ []) in
+    let at : n - 1 ≡ length before = omega (arith, size, long) in
+    rw (at, is) (set-append_seam before x [] y)
+
+-- any other entry stays
+pub with_end-other : (ran : Ran) (e : Entry) → ((q : Query) (b a : ℕ) (s : Option Ran) → e ≡ Run q b a s → ⊥) → with_end ran e ≡ e
+with_end-other ran (Warning line pred) not = refl
+with_end-other ran (Loaded clauses) not = refl
+with_end-other ran (Run query budget answers end) not = absurd (not query budget answers end refl)
+with_end-other ran (Refused r) not = refl
+with_end-other ran UsageRefused not = refl
+with_end-other ran (ProgramRefused line cause) not = refl
+with_end-other ran (FileTooLong n) not = refl
+with_end-other ran InputFault not = refl
+with_end-other ran InputOver not = refl

@@ -1,0 +1,4 @@
+pub mod Writing
+pub mod ElementLaws
+pub mod Last
+pub mod Binding

@@ -1,0 +1,5 @@
+pub mod Written
+pub mod Pieces
+pub mod Entries
+pub mod Lines
+pub mod Elements

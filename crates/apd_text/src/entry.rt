@@ -1,0 +1,49 @@
+use apd_term::faults::LoadCause;
+use apd_term::{Pred, Query, Ran};
+
+/// Why a command was refused.
+#[derive(Clone, Copy, Debug, PartialEq, Eq)]
+pub enum Refusal {
+    /// The line is not of a form that is read.
+    NotBuilt,
+}
+
+/// One thing that a session says.
+#[derive(Drop)]
+pub enum Entry {
+    /// A predicate is called and has no clauses: by the clause in this line of the program, counted from 1, or by a query.
+    Warning {
+        line: Option<u32>,
+        pred: Pred,
+    },
+    /// The program was loaded, with so many clauses.
+    Loaded {
+        clauses: u32,
+    },
+    /// A query was run within these limits on ports and answers. The end is set once the run has ended.
+    Run {
+        query: Query,
+        budget: u32,
+        answers: u32,
+        end: Option<Ran>,
+    },
+    /// A command was refused; it changed nothing.
+    Refused {
+        refusal: Refusal,
+    },
+    /// The words of the command line break their rules.
+    UsageRefused,
+    /// The program's text is refused, for this cause in this line, counted from 1.
+    ProgramRefused {
+        line: u32,
+        cause: LoadCause,
+    },
+    /// A file has more bytes than are read; the length is one more than those.
+    FileTooLong {
+        length: u64,
+    },
+    /// A read of a file or of the input failed.
+    InputFault,
+    /// The input has more bytes than are taken.
+    InputOver,
+}

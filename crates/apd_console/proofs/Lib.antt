@@ -1,0 +1,4 @@
+pub mod Hearing
+pub mod Bytes
+pub mod Drafting
+pub mod Printing

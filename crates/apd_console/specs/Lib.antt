@@ -1,0 +1,4 @@
+pub mod Lines
+pub mod Console
+pub mod Draft
+pub mod Print

@@ -4,6 +4,7 @@ use Rattle.std.proofs.Math.ListN.{set}
 use Rattle.std.proofs.Math.Seq.{get_or-append_seam, set-append_seam}
 use Rattle.apd_term.specs.declared.run.Ran.{Ran}
 use Rattle.apd_term.specs.declared.run.Query.{Query}
+use Rattle.apd_ports.specs.declared.filter.Filter.{Filter}
 use Rattle.apd_text.specs.Entries.{with_end}
 use Rattle.apd_text.specs.declared.entry.Entry.{Entry}
 use Rattle.apd_text.specs.declared.entry.Entry.TheVariants.{Warning, Loaded, Run, Refused, UsageRefused, ProgramRefused, FileTooLong, InputFault, InputOver}
@@ -21,10 +22,10 @@ set_last items before x y n is size =
     rw (at, is) (set-append_seam before x [] y)
 
 -- any other entry stays
-pub with_end-other : (ran : Ran) (e : Entry) → ((q : Query) (b a : ℕ) (s : Option Ran) → e ≡ Run q b a s → ⊥) → with_end ran e ≡ e
+pub with_end-other : (ran : Ran) (e : Entry) → ((q : Query) (b a : ℕ) (f : Filter) (s : Option Ran) → e ≡ Run q b a f s → ⊥) → with_end ran e ≡ e
 with_end-other ran (Warning line pred) not = refl
 with_end-other ran (Loaded clauses) not = refl
-with_end-other ran (Run query budget answers end) not = absurd (not query budget answers end refl)
+with_end-other ran (Run query budget answers filter end) not = absurd (not query budget answers filter end refl)
 with_end-other ran (Refused r) not = refl
 with_end-other ran UsageRefused not = refl
 with_end-other ran (ProgramRefused line cause) not = refl

@@ -2,3 +2,4 @@ pub mod Writing
 pub mod ElementLaws
 pub mod Last
 pub mod Binding
+pub mod MoreNames

@@ -32,7 +32,7 @@ usage = codes "usage: apd [--budget N] [--answers N] [--trace] [--strategy divid
 unfoldable pub text_of : List (List ℕ) → Entry → List ℕ
 text_of names (Warning line pred) = codes "warning: " ++ in_line line ++ codes "no clauses for " ++ indicator names pred ++ codes "\n"
 text_of names (Loaded clauses) = codes "loaded: " ++ decimal clauses ++ codes " clauses\n"
-text_of names (Run query budget answers end) = []
+text_of names (Run query budget answers filter end) = []
 text_of names (Refused r) = refusal_text r
 text_of names UsageRefused = usage
 text_of names (ProgramRefused line cause) = codes "program refused: line " ++ decimal line ++ codes ": " ++ cause_name cause ++ codes "\n"
@@ -44,7 +44,7 @@ text_of names InputOver = codes "input limit\n"
 abbrev pub with_end : Ran → Entry → Entry
 with_end ran (Warning line pred) = Warning line pred
 with_end ran (Loaded clauses) = Loaded clauses
-with_end ran (Run query budget answers end) = Run query budget answers (Some ran)
+with_end ran (Run query budget answers filter end) = Run query budget answers filter (Some ran)
 with_end ran (Refused r) = Refused r
 with_end ran UsageRefused = UsageRefused
 with_end ran (ProgramRefused line cause) = ProgramRefused line cause

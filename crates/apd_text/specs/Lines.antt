@@ -1,4 +1,4 @@
--- The lines of a run: its goals, its answers and its end.
+-- The lines of a run: its goals, its ports and answers, and its end.
 use Rattle.std.specs.Prelude.{ℕ, pos, List, [], ◌∷◌, ◌++◌, map, flat_map, codes}
 use Rattle.std.specs.Fmt.{decimal}
 use Rattle.apd_term.specs.Term.{Term, Terms, variable, integer, compound, none, more}
@@ -9,6 +9,9 @@ use Rattle.apd_term.specs.declared.run.RunEnd.{RunEnd}
 use Rattle.apd_term.specs.declared.run.RunEnd.TheVariants.{Exhausted, Budget, AnswerLimit, Error}
 use Rattle.apd_term.specs.declared.run.RunError.{RunError}
 use Rattle.apd_term.specs.declared.run.RunError.TheVariants.{Unbound, NotEvaluable, Overflow, ZeroDivisor, Size}
+use Rattle.apd_ports.specs.declared.event.Port.{Port}
+use Rattle.apd_ports.specs.declared.event.Port.TheVariants.{Call, Exit, Redo, Fail}
+use Rattle.apd_ports.specs.declared.event.Event.{Event}
 use Rattle.apd_text.specs.Written.{written}
 
 -- texts with `, ` between them
@@ -22,6 +25,16 @@ goals_of q = (canonical_tuple (record { head = integer (pos 0); body = q.tuple.b
 
 unfoldable pub head_text : List (List ℕ) → Query → List ℕ
 head_text names q = codes "run: " ++ joined (map (written names) (goals_of q)) ++ codes "\n"
+
+abbrev pub port_name : Port → List ℕ
+port_name Call = codes "Call"
+port_name Exit = codes "Exit"
+port_name Redo = codes "Redo"
+port_name Fail = codes "Fail"
+
+-- the line of a port: its box, its depth, the port and the goal
+unfoldable pub port_text : List (List ℕ) → Event → List ℕ
+port_text names e = decimal e.box_no ++ codes " " ++ decimal e.depth ++ codes " " ++ port_name e.port ++ codes ": " ++ written names e.atom ++ codes "\n"
 
 -- the elements of a list term
 abbrev mutual

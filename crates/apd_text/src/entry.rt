@@ -1,3 +1,4 @@
+use apd_ports::Filter;
 use apd_term::faults::LoadCause;
 use apd_term::{Pred, Query, Ran};
 
@@ -20,11 +21,13 @@ pub enum Entry {
     Loaded {
         clauses: u32,
     },
-    /// A query was run within these limits on ports and answers. The end is set once the run has ended.
+    /// A query was run within these limits on ports and answers, each from 1 to 1,000,000, and the ports that the filter
+    /// admits were printed. The end is set once the run has ended.
     Run {
         query: Query,
         budget: u32,
         answers: u32,
+        filter: Filter,
         end: Option<Ran>,
     },
     /// A command was refused; it changed nothing.

@@ -10,6 +10,7 @@ mod entry;
 mod head;
 mod line;
 mod log;
+mod port;
 mod text;
 mod written;
 
@@ -18,5 +19,6 @@ pub use end::end_line;
 pub use entry::{Entry, Refusal};
 pub use head::head_line;
 pub use log::{Entries, Log};
+pub use port::port_line;
 pub use text::text_of;
 pub use written::write_term;

@@ -1,7 +1,9 @@
 -- The line that a draft becomes.
-use Rattle.std.proofs.Common.{◌≡◌, ◌≢◌, ℕ, ◌+◌, ◌<◌, List, [], ◌∷◌, ◌++◌, length, refl, ap, sym, ◌∙◌, arith, Bool, true, false, append_assoc, length-append, add-zero, Option, subst}
+use Rattle.std.proofs.Common.{◌≡◌, ◌≢◌, ℕ, ◌+◌, ◌<◌, ◌≤◌, List, [], ◌∷◌, ◌++◌, length, refl, ap, sym, ◌∙◌, arith, Bool, true, false, append_assoc, length-append, add-zero, Option, subst}
 use Rattle.std.proofs.lemmas.List.{append-nil}
 use Rattle.apd_console.specs.declared.line.Line.{Line}
+use Rattle.apd_console.specs.declared.line.Line.TheVariants.{Text, TooLong}
+use Rattle.std.specs.Prelude.{nat_lt}
 use Rattle.apd_console.specs.declared.line.LineEnd.{LineEnd}
 use Rattle.apd_console.specs.declared.line.LineEnd.TheVariants.{Ended, ReadFault, InputLimit, Memory}
 use Rattle.apd_console.specs.declared.draft.Draft.{Draft}
@@ -42,6 +44,16 @@ adds k l m n x y z old new drafted more going part =
       drafts = part.draft drafted.raw drafted.drafts;
     }
 
+-- a text that is heard is the line
+seen_by : (long : Bool) (raw text : List ℕ) → nat_lt 65536 (length raw) ≡ long → seen raw ≡ Text text → raw ≡ text
+seen_by true raw text test is = absurd (let e : TooLong ≡ Text text = rw test at is in cc)
+seen_by false raw text test is = let e : Text raw ≡ Text text = rw test at is in cc
+
+heard_fits : (raw text : List ℕ) (line : Line) (before after : ℕ) → line ≡ seen raw → length raw + after ≤ before → line ≡ Text text → length text + after ≤ before
+heard_fits raw text line before after is fits same =
+    let e : length raw ≡ length text = ap length (seen_by _ raw text refl (sym is ∙ same)) in
+    omega (arith, e, fits)
+
 -- a part up to a newline
 pub ends-line : (k l m n : Kept) (x y z : Option (List ℕ)) (old new : Draft) (line : Line) → IsKept n → Drafted k l x y old → Hands l m y z [] → m.ended ≡ false → TakesPart m n old new true →
     ((raw : List ℕ) → Drafts new.text new.long raw → line ≡ seen raw) → HearsLine k n x z line
@@ -57,6 +69,7 @@ ends-line k l m n x y z old new line sound drafted more going part is =
       heard = raw ++ 10 ∷ [];
       hands = all;
       goes_on = omega arith;
+      fits = λ text same. heard_fits raw text line (room_of k) (room_of n) (is raw (part.draft drafted.raw drafted.drafts)) (omega arith) same;
       first = λ more ends can. rw (is raw (part.draft drafted.raw drafted.drafts), append_assoc raw (10 ∷ []) more)
           (hear-line (room_of k) (room_of n) raw more ends none (omega arith));
     }
@@ -85,6 +98,7 @@ ends-last k l m x y z draft line sound drafted hands ended is begun =
       heard = drafted.raw;
       hands = part;
       goes_on = omega arith;
+      fits = λ text same. heard_fits drafted.raw text line (room_of k) (room_of m) (is drafted.raw drafted.drafts) (omega arith) same;
       first = λ more ends can. last_only k m drafted.raw more ends line drafted.none some ended (is drafted.raw drafted.drafts) (omega arith) (omega arith) can;
     }
 

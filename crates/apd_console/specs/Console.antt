@@ -2,6 +2,7 @@
 use Rattle.std.specs.Prelude.{ℕ, ◌≡◌, ◌+◌, ◌-◌, ◌<◌, ◌≤◌, List, [], ◌++◌, length, Bool, true, false, Option, Result, IsErrOf, ⊤}
 use Rattle.apd_io.specs.Outside.{Rose, Takes, IsOver}
 use Rattle.apd_console.specs.declared.line.Line.{Line}
+use Rattle.apd_console.specs.declared.line.Line.TheVariants.{Text}
 use Rattle.apd_console.specs.declared.line.LineEnd.{LineEnd}
 use Rattle.apd_console.specs.declared.line.LineEnd.TheVariants.{Ended, ReadFault, InputLimit, Memory}
 use Rattle.apd_console.specs.Lines.{InputEnd, AtEnd, AtFault, AtLimit, hear, heard_onto}
@@ -47,6 +48,7 @@ pub record HearsLine (before after : Kept) (left now : Option (List ℕ)) (line 
   pub heard : List ℕ
   pub hands : Hands before after left now heard
   pub goes_on : room_of after < room_of before
+  pub fits : (text : List ℕ) → line ≡ Text text → length text + room_of after ≤ room_of before
   pub first : (more : List ℕ) (ends : InputEnd) → CanFollow after.ended more ends →
       hear (room_of before) (heard ++ more) ends ≡ heard_onto line (hear (room_of after) more ends)
 

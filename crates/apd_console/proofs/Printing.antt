@@ -33,3 +33,24 @@ Prints-all x y bytes rest prints none =
 
 pub Prints-front : (x y z : Option (List ℕ)) (bytes rest : List ℕ) → Prints x y bytes rest → z ≡ y → AddsFront x z bytes
 Prints-front x y z bytes rest prints same = (rest, record { shown = prints.shown; parts = prints.parts; adds = rw same prints.adds })
+
+-- a text that is printed piece by piece
+pub front_self : (x : Option (List ℕ)) (bytes : List ℕ) → AddsFront x x bytes
+front_self x bytes = (bytes, record { shown = []; parts = refl; adds = Adds-self x })
+
+pub piece_all : (x y z : Option (List ℕ)) (all rest piece next : List ℕ) → Prints x y all rest → Adds y z piece → rest ≡ piece ++ next → Prints x z all next
+piece_all x y z all rest piece next before adds is = record {
+  shown = before.shown ++ piece;
+  parts = before.parts ∙ ap (λ (r : List ℕ). before.shown ++ r) is ∙ sym (append_assoc before.shown piece next);
+  adds = Adds-more x y z _ _ before.adds adds;
+}
+
+pub piece_front : (x y z : Option (List ℕ)) (all rest piece next : List ℕ) → Prints x y all rest → AddsFront y z piece → rest ≡ piece ++ next → AddsFront x z all
+piece_front x y z all rest piece next before front is = (
+  front.0 ++ next,
+  record {
+    shown = before.shown ++ front.1.shown;
+    parts = before.parts ∙ ap (λ (r : List ℕ). before.shown ++ r) (is ∙ ap (λ (r : List ℕ). r ++ next) front.1.parts ∙ append_assoc front.1.shown front.0 next) ∙ sym (append_assoc before.shown front.1.shown (front.0 ++ next));
+    adds = Adds-more x y z _ _ before.adds front.1.adds;
+  },
+)

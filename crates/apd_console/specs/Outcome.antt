@@ -1,0 +1,25 @@
+-- A whole conversation: an input that agrees with what the source tells, and what was said to it.
+use Rattle.std.specs.Prelude.{ℕ, ◌≡◌, List, ◌++◌, Option, None, Some, ⊤}
+use Rattle.apd_console.specs.declared.talk.Ending.{Ending}
+use Rattle.apd_console.specs.Lines.{InputEnd, Ended, Fails}
+use Rattle.apd_console.specs.Utterance.{Utters}
+use Rattle.apd_console.specs.Talk.{Said}
+
+-- where an input is told, these bytes are it, or its front if a read fails
+abbrev pub IsGiven : Option (List ℕ) → List ℕ → InputEnd → Type 0
+IsGiven None input ends = ⊤
+IsGiven (Some known) input Ended = input ≡ known
+IsGiven (Some known) input Fails = (rest : List ℕ) × (known ≡ input ++ rest)
+
+-- some input is as far as it is told, fails only where a read has failed, and P holds of it
+pub record SomeInput (left : Option (List ℕ)) (failed : Type 0) (P : List ℕ → InputEnd → Type 0) : Type 0 where
+  pub input : List ℕ
+  pub ends : InputEnd
+  pub given : IsGiven left input ends
+  pub fails : ends ≡ Fails → failed
+  pub holds : P input ends
+
+-- all was said and printed, and it ended so
+pub record IsWhole {E : Type 0} (said : Said E) (ending : Ending) (log log_now : List E) (held held_now : Option (List ℕ)) : Type 0 where
+  pub ending_is : said.ending ≡ ending
+  pub says : Utters log log_now held held_now said.utterances

@@ -1,14 +1,14 @@
 -- When a definition would make two operators clash.
-use Rattle.std.proofs.Common.{◌≡◌, ℕ, ◌≤◌, List, [], ◌∷◌, Bool, true, false, Option, None, Some, ◌⊎◌, inl, inr, refl, sym, ◌∙◌, ap, subst, arith, eq-eqb}
+use Rattle.std.proofs.Common.{◌≡◌, ℕ, ◌≤◌, List, Bool, true, false, Option, None, Some, ◌⊎◌, inl, inr, refl, sym, ◌∙◌, ap, subst, arith, eq-eqb}
 use borrow.Author.Tests.{eqb-true, eqb-false}
-use Rattle.std.specs.Prelude.{nat_eq, ◌==◌, ◌||◌, ◌&&◌, not, if◌then◌else◌, IsTrue}
+use Rattle.std.specs.Prelude.{nat_eq, ◌||◌, ◌&&◌, not, if◌then◌else◌, IsTrue}
 use Rattle.std.specs.List.{list_any, IsDistinct}
 use Rattle.std.specs.Map.{keys_of}
 use Rattle.apd_ops.specs.declared.op.OpKind.{OpKind}
 use Rattle.apd_ops.specs.declared.op.OpKind.TheVariants.{Xfx, Xfy, Yfx, Fx, Fy}
 use Rattle.apd_ops.specs.Operators.{is_prefix_kind, prefix_kind, infix_kind, right_kind, groups_right, groups_left}
-use Rattle.apd_ops.specs.Table.{Meaning, Table, prefix_in, infix_in, Clash, HasClash, IsTable, given, prefixes_after, infixes_after, WouldClash, clashes, clashes_unless, Sets, Defines}
-use Rattle.apd_ops.proofs.Entries.{Among, any_found, any_of, lookup_among, among_lookup}
+use Rattle.apd_ops.specs.Table.{Meaning, Table, prefix_in, infix_in, HasClash, IsTable, given, prefixes_after, infixes_after, WouldClash, clashes, clashes_unless, Sets, Defines}
+use Rattle.apd_ops.proofs.Entries.{any_found, any_of, lookup_among, among_lookup}
 
 -- a meaning after the definition is the new one or an old one of another name or place
 module _ (b : Bool) (f g p : ℕ) (k : OpKind) (m : Meaning) (old : Option Meaning) where

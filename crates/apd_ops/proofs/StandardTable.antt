@@ -1,12 +1,12 @@
 -- The standard operators are a table.
-use Rattle.std.proofs.Common.{◌≡◌, ℕ, ◌≤◌, List, [], ◌∷◌, Bool, true, false, Some, ◌⊎◌, inl, inr, refl, sym, ◌∙◌, ap, subst, eq-eqb}
+use Rattle.std.proofs.Common.{◌≡◌, ◌≤◌, List, [], ◌∷◌, Bool, true, false, inl, inr, refl, sym, ◌∙◌, ap, eq-eqb}
 use borrow.Author.Tests.{leb-true}
-use Rattle.std.specs.Prelude.{nat_le, nat_eq, ◌==◌, ◌&&◌, not, ◌++◌}
+use Rattle.std.specs.Prelude.{nat_le, ◌==◌, ◌&&◌, not}
 use Rattle.std.specs.List.{list_all}
 use Rattle.apd_ops.specs.declared.op.OpKind.{OpKind}
 use Rattle.apd_ops.specs.declared.op.OpKind.TheVariants.{Xfx, Xfy, Yfx, Fx, Fy}
 use Rattle.apd_ops.specs.Operators.{is_prefix_kind, prefix_kind, infix_kind, right_kind, groups_right, groups_left}
-use Rattle.apd_ops.specs.Table.{Meaning, prefix_in, infix_in, HasClash, IsTable}
+use Rattle.apd_ops.specs.Table.{IsTable}
 use Rattle.apd_ops.specs.Standard.{standard_prefixes, standard_infixes, standard_table}
 use Rattle.apd_ops.proofs.Entries.{Entry, Among, lookup_among}
 

@@ -1,4 +1,4 @@
-use Rattle.std.proofs.Common.{◌≤◌, ℕ, sym, subst, arith}
+use Rattle.std.proofs.Common.{◌≤◌, ℕ, subst, arith}
 use Rattle.std.specs.Prelude.{IsTrue}
 use Rattle.apd_ops.specs.Table.{Table, WouldClash}
 use Rattle.apd_ops.proofs.Clashes.{no_clash_at_none, says_first, says_second}

@@ -6,8 +6,8 @@ use Rattle.apd_term.specs.Term.{Term}
 use Rattle.apd_plain.specs.declared.marks.Mark.{Mark}
 use Rattle.apd_plain.specs.declared.marks.Mark.TheVariants as marks
 use Rattle.apd_plain.specs.declared.unfinished.Unfinished.{Unfinished}
-use Rattle.apd_plain.specs.declared.terms.Next.{Next}
-use Rattle.apd_plain.specs.declared.terms.Next.TheVariants as nexts
+use Rattle.apd_plain.specs.declared.closing.Next.{Next}
+use Rattle.apd_plain.specs.declared.closing.Next.TheVariants as nexts
 use Rattle.apd_plain.specs.Words.{closing, comma}
 use Rattle.apd_plain.specs.Grammar.{Reading, ◌>>=◌, max_arguments, arguments_at, term_at}
 use Rattle.apd_plain.specs.Marks.{tokens_from, Begins, StandsAt, IsPastComma}

@@ -1,5 +1,7 @@
 pub mod Tokens
+pub mod Digits
 pub mod Stacks
 pub mod Resumed
 pub mod Places
 pub mod Going
+pub mod Simple

@@ -1,5 +1,5 @@
 -- What begins at a place of a line.
-use Rattle.std.specs.Prelude.{◌≡◌, ℕ, ◌+◌, ◌<◌, ◌≤◌, true, false, List, [], ◌∷◌, length, drop, get_or, slice_range}
+use Rattle.std.specs.Prelude.{◌≡◌, ◌≢◌, ℕ, ◌+◌, ◌<◌, ◌≤◌, true, false, List, [], ◌∷◌, length, drop, get_or, slice_range}
 use Rattle.apd_plain.specs.declared.marks.Mark.{Mark}
 use Rattle.apd_plain.specs.declared.marks.Mark.TheVariants as marks
 use Rattle.apd_plain.specs.Grammar.{past_space}
@@ -54,3 +54,7 @@ pub record IsPastComma (line : List ℕ) (at end : ℕ) : Type 0 where
   pub further : at < end
   pub within : end ≤ length line
   pub is : tokens_from line end ≡ past_space (tokens_from line (at + 1))
+
+-- anything but an opening parenthesis begins at the place
+abbrev pub BeginsOther : List ℕ → ℕ → Type 0
+BeginsOther line at = (m : Mark) × Begins m line at × (m ≢ marks.Opening)

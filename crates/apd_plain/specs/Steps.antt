@@ -4,8 +4,8 @@ use Rattle.std.specs.Prelude.{◌≡◌, ℕ, ◌+◌, ◌-◌, ◌≤◌, Optio
 use Rattle.apd_term.specs.declared.term.Sym.{Sym}
 use Rattle.apd_term.specs.Term.{Term, compound, terms_of, spell}
 use Rattle.apd_plain.specs.declared.unfinished.Unfinished.{Unfinished}
-use Rattle.apd_plain.specs.declared.terms.Next.{Next}
-use Rattle.apd_plain.specs.declared.terms.Next.TheVariants as nexts
+use Rattle.apd_plain.specs.declared.closing.Next.{Next}
+use Rattle.apd_plain.specs.declared.closing.Next.TheVariants as nexts
 use Rattle.apd_plain.specs.Words.{Token}
 use Rattle.apd_term.specs.Names.{with_name}
 use Rattle.apd_plain.specs.Naming.{variable_words}

@@ -1,6 +1,8 @@
 //! The plain reader: one line of a program or a query, in a part of Prolog without operators, quotes and lists.
 #![tactic(auto)]
 
+mod closing;
+mod kinds;
 mod marks;
-mod terms;
+mod operands;
 mod unfinished;

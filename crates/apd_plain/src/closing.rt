@@ -44,7 +44,7 @@ fn next_argument(line: &[u8], at: usize, work: &mut Unfinished) -> Next
 }
 
 /// Closes the compounds that end behind a term.
-fn close_up(line: &[u8], from: usize, work: &mut Unfinished) -> Next
+pub(crate) fn close_up(line: &[u8], from: usize, work: &mut Unfinished) -> Next
     requires built { (fs : List Frame) × ((t : Term) × IsBehind fs t work.old) }
     requires within { from ≤ length line.now }
     ensures goes { (fs : List Frame) (t : Term) (names variables : List (List ℕ)) → IsBehind fs t work.old → GoesOn line.now names variables (length fs) (λ n l. resumed n variables l fs (Some (t, tokens_from line.now from))) result work.new }

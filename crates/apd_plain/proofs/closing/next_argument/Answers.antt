@@ -1,7 +1,7 @@
 use Rattle.std.proofs.Common.{◌∷◌, subst, arith}
 use Rattle.apd_plain.specs.Frames.{HasMore, with_argument}
 use Rattle.apd_plain.proofs.Going.{no_more, next_at}
-use Rattle.apd_plain.proofs.terms.next_argument.Goals as goal
+use Rattle.apd_plain.proofs.closing.next_argument.Goals as goal
 
 pub returns-then-not-has_more-clause-goes : goal.returns-then-not-has_more-clause-goes
 returns-then-not-has_more-clause-goes c f fs t names v h n l g =

@@ -3,7 +3,7 @@ use Rattle.apd_term.specs.Term.{Term}
 use Rattle.apd_plain.specs.Frames.{Frame, IsBehind}
 use Rattle.apd_plain.specs.Steps.{variables_from}
 use Rattle.apd_plain.proofs.Going.{Reaches}
-use Rattle.apd_plain.proofs.terms.close_up.Given as goal
+use Rattle.apd_plain.proofs.closing.close_up.Given as goal
 
 abbrev pub invariant-compounds : goal.invariant-compounds
 invariant-compounds l = record {

@@ -1,7 +1,7 @@
 use Rattle.std.proofs.Common.{sym, ◌∙◌, arith}
 use Rattle.apd_plain.proofs.Places.{variables-closing}
 use Rattle.apd_plain.proofs.Going.{has_open, reaches_on, within_from, passes_from, closes_badly, closes_whole, goes_next}
-use Rattle.apd_plain.proofs.terms.close_up.Goals as goal
+use Rattle.apd_plain.proofs.closing.close_up.Goals as goal
 
 pub close-requires : goal.close-requires
 close-requires c =

@@ -5,3 +5,4 @@ pub mod Resumed
 pub mod Places
 pub mod Going
 pub mod Simple
+pub mod Levels

@@ -6,3 +6,4 @@ pub mod Lines
 pub mod Marks
 pub mod Frames
 pub mod Steps
+pub mod Readings

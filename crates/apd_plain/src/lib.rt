@@ -5,4 +5,5 @@ mod closing;
 mod kinds;
 mod marks;
 mod operands;
+mod terms;
 mod unfinished;

@@ -1,6 +1,6 @@
 //! One word where a term is wanted.
 
-ghost use Rattle.std.specs.Prelude.{◌≡◌, ℕ, ◌<◌, ◌≤◌, ◌+◌, ◌∷◌, List, length, IfOk, OnOk, Some};
+ghost use Rattle.std.specs.Prelude.{◌≡◌, ℕ, ◌<◌, ◌≤◌, ◌+◌, ◌∷◌, List, ◌-◌, min, length, IfOk, OnOk, Some};
 ghost use Rattle.apd_plain.specs.Words.{Token, word, opening};
 ghost use Rattle.apd_plain.specs.Naming.{variable_words};
 ghost use Rattle.apd_plain.specs.Marks.{tokens_from, IsWordFrom, Begins, StandsAt, BeginsOther};
@@ -129,8 +129,8 @@ pub(crate) fn read_operand(
     requires open { (fs : List Frame) × IsOpen fs work.old }
     requires few_names { length names.old < 4000000000 }
     requires few_variables { length variables.old < 4000000000 }
-    ensures names { GrowsBy 1 names.old names.new }
-    ensures variables { GrowsBy 1 variables.old variables.new }
+    ensures names { GrowsBy (min 1 (length line.now - at)) names.old names.new }
+    ensures variables { GrowsBy (min 1 (length line.now - at)) variables.old variables.new }
     ensures reads { IfOk result (λ next. ReadsFrom line.now at names.new variables.old variables.new work.old next work.new) }
     ensures within { IfOk result (IsWithin line.now (at + 1)) }
 {

@@ -184,8 +184,8 @@ pub at_most_one : (k : ℕ) (a b : List (List ℕ)) → GrowsBy (min 1 k) a b �
 at_most_one k a b g = (g.0, g.1, omega (arith, g.2))
 
 -- the same for a term that is kept as another
-pub read_as : (line : List ℕ) (from levels end : ℕ) (all new : List (List ℕ)) (t u : Term) (is_full : Bool) → t ≡ u
+pub read_as : (line : List ℕ) (from levels end : ℕ) (all new : List (List ℕ)) (t u : Term) (is_full : Bool) → u ≡ t
     → Gives (λ n. term_at n all levels (tokens_from line from)) new (Some (t, tokens_from line end)) × Gives (λ n. term_at n all (levels - 1) (tokens_from line from)) new (cond is_full None (Some (t, tokens_from line end)))
     → Gives (λ n. term_at n all levels (tokens_from line from)) new (Some (u, tokens_from line end)) × Gives (λ n. term_at n all (levels - 1) (tokens_from line from)) new (cond is_full None (Some (u, tokens_from line end)))
 read_as line from levels end all new t u is_full e h =
-    subst (λ x. Gives (λ n. term_at n all levels (tokens_from line from)) new (Some (x, tokens_from line end)) × Gives (λ n. term_at n all (levels - 1) (tokens_from line from)) new (cond is_full None (Some (x, tokens_from line end)))) e h
+    subst (λ x. Gives (λ n. term_at n all levels (tokens_from line from)) new (Some (x, tokens_from line end)) × Gives (λ n. term_at n all (levels - 1) (tokens_from line from)) new (cond is_full None (Some (x, tokens_from line end)))) (sym e) h

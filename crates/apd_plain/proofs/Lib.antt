@@ -6,3 +6,5 @@ pub mod Places
 pub mod Going
 pub mod Simple
 pub mod Levels
+pub mod Ends
+pub mod Bodies

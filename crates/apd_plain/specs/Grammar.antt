@@ -3,6 +3,7 @@
 -- Levels: a clause's or query's term has one level more than the deepest of its parts; `:-`, `?-` and the comma between goals are such terms.
 use Rattle.std.proofs.Common.{zero, suc}
 use Rattle.std.specs.Prelude.{ℕ, ◌+◌, ◌-◌, pos, Option, Some, None, option_and_then, List, [], ◌∷◌, if◌then◌else◌}
+use Rattle.std.specs.Option.{option_or}
 use Rattle.apd_term.specs.declared.term.NameId.{NameId}
 use Rattle.apd_term.specs.declared.tuple.Tuple.{Tuple}
 use Rattle.apd_term.specs.Term.{Term, variable, integer, compound, none, terms_of}
@@ -46,11 +47,6 @@ arguments_at read zero ts = None
 arguments_at read (suc most) ts = do
   first ← read ts
   arguments_after first.0 (arguments_at read most) first.1
-
--- the first, where there is one, else the second
-abbrev pub or_else : {A : Type 0} → Option A → Option A → Option A
-or_else (Some x) o = Some x
-or_else None o = o
 
 -- behind the last goal: the stop that ends the line
 abbrev pub last_goal : Term → List Token → Option (List Term)
@@ -98,12 +94,12 @@ module _ (names variables : List (List ℕ)) where
   unfoldable pub goals_at : ℕ → ℕ → List Token → Option (List Term)
   goals_at zero levels ts = None
   goals_at (suc most) levels ts =
-      or_else (atom_at levels ts >>= λ a. last_goal a.0 a.1) (atom_at (levels - 1) ts >>= λ a. further_goals a.0 (goals_at most (levels - 1)) a.1)
+      option_or (atom_at levels ts >>= λ a. last_goal a.0 a.1) (atom_at (levels - 1) ts >>= λ a. further_goals a.0 (goals_at most (levels - 1)) a.1)
 
   -- a fact, or a rule, whose head and body stand a level deeper, as the arguments of `:-`
   abbrev pub clause_at : List Token → Option Tuple
   clause_at ts =
-      or_else (atom_at max_levels ts >>= λ a. fact_with a.0 a.1) (atom_at (max_levels - 1) ts >>= λ a. rule_with a.0 (goals_at max_goals (max_levels - 1)) a.1)
+      option_or (atom_at max_levels ts >>= λ a. fact_with a.0 a.1) (atom_at (max_levels - 1) ts >>= λ a. rule_with a.0 (goals_at max_goals (max_levels - 1)) a.1)
 
   -- the goals of a query, which stand a level deeper, as the argument of `?-`
   abbrev pub query_at : List Token → Option (List Term)

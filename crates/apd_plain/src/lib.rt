@@ -2,6 +2,7 @@
 #![tactic(auto)]
 
 mod closing;
+mod goals;
 mod kinds;
 mod marks;
 mod operands;

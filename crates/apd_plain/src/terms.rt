@@ -32,6 +32,7 @@ pub(crate) fn read_term(
     requires within { from ≤ length line.now }
     requires few_names { length names.old + (length line.now - from) < 4000000000 }
     requires few_variables { length variables.old + (length line.now - from) < 4000000000 }
+    ensures further { from ≤ end_of line.now result }
     ensures within { end_of line.now result ≤ length line.now }
     ensures names { GrowsBy (end_of line.now result - from) names.old names.new }
     ensures variables { GrowsBy (end_of line.now result - from) variables.old variables.new }

@@ -65,6 +65,6 @@ pub returns-in-Whole-clause-read : goal.returns-in-Whole-clause-read
 returns-in-Whole-clause-read c all a =
     let r = reads_whole c.args.line.now c.args.from c.operands.at c.args.levels c.operands.deepest c.max-deepest.result all c.operands.variables c.read_operand.new.variables c.operands.names c.read_operand.new.names c.operands.work c.read_operand.new.work c.in_ok-read_operand.field-0
         c.in-Whole.end (c.operands.invariant.going all a) (at_most_one _ _ _ c.read_operand.ensures.names) (omega arith) (omega arith) c.in_ok-read_operand.ensures.reads c.in-Whole.is in
-    let e = sym (c.of_symbols.ensures ∙ term_of_from_spelled c.read_operand.new.work.symbols.items r.1.0 r.1.1) in
+    let e = c.of_symbols.ensures ∙ term_of_from_spelled c.read_operand.new.work.symbols.items r.1.0 r.1.1 in
     let h = read_as c.args.line.now c.args.from c.args.levels c.in-Whole.end all c.read_operand.new.names r.1.0 c.of_symbols.result (eqb c.max-deepest.result c.args.levels) e (r.1.2 _ refl) in
     (r.0, h.0, h.1)

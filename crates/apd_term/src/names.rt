@@ -24,7 +24,8 @@ impl Model for Names {
 }
 
 impl Names {
-    fn new(alloc: Global) -> Names
+    /// No name, not even a standard one.
+    pub fn new(alloc: Global) -> Names
         ensures { result ≡ [] }
     {
         Names {

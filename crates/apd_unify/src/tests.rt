@@ -3,6 +3,7 @@
 use crate::equations::textbook_unifier;
 use crate::mgu::mgu;
 use apd_term::canonical::canonical;
+use apd_term::list::Atoms;
 use apd_term::substitution::{Subst, apply};
 use apd_term::term::{Flat, NameId, Sym};
 use std::alloc::{AllocError, Global};
@@ -54,7 +55,7 @@ fn compound(
     arity: u8,
     terms: &mut Vec<Flat>,
 ) -> Result<Flat, AllocError> {
-    let mut args = Vec::new(alloc);
+    let mut args = Atoms::new(alloc);
     for _ in 0..arity {
         args.push(terms.pop().expect(rt, "an argument"))?;
     }

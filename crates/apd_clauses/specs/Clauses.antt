@@ -1,7 +1,8 @@
 -- A program is a list of clauses, numbered from 1.
+pub use Rattle.apd_term.specs.Tuple.{sizes, size_of_tuple}
 use Rattle.std.specs.Prelude.{ℕ, ◌+◌, ◌==◌, ◌≤◌, ◌&&◌, Bool, false, if◌then◌else◌, List, [], ◌∷◌, length, map, Option, Some, None, slice_get, IsSome, All}
 use Rattle.std.proofs.Common.{zero, suc}
-use Rattle.apd_term.specs.Term.{Term, size, predicate_of}
+use Rattle.apd_term.specs.Term.{Term, predicate_of}
 use Rattle.apd_term.specs.declared.term.Pred.{Pred}
 use Rattle.apd_term.specs.declared.tuple.Tuple.{Tuple}
 use Rattle.apd_clauses.specs.declared.clause.Clause.{Clause}
@@ -9,14 +10,6 @@ use Rattle.apd_clauses.specs.declared.clause.Clause.{Clause}
 -- a term that may be called: a name with its arguments
 abbrev pub IsAtom : Term → Type 0
 IsAtom t = IsSome (predicate_of t)
-
--- how many symbols a tuple has
-abbrev pub sizes : List Term → ℕ
-sizes [] = 0
-sizes (t ∷ ts) = size t + sizes ts
-
-abbrev pub size_of_tuple : Tuple → ℕ
-size_of_tuple t = size t.head + sizes t.body
 
 -- what a program keeps of each of its clauses, and a run needs of its query's goals
 pub record IsRunnable (t : Tuple) : Type 0 where

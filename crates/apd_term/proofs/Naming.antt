@@ -1,8 +1,8 @@
 -- Numbers and texts of names: what stays when names are put at the end.
-use Rattle.std.proofs.Common.{◌≡◌, ℕ, ◌+◌, ◌<◌, ◌≤◌, Bool, true, false, cond, not, List, [], ◌∷◌, ◌++◌, length, slice_index_or, if◌then◌else◌, refl, ap, sym, ◌∙◌, subst, arith, zero, suc, length-append, ◌||◌}
+use Rattle.std.proofs.Common.{◌≡◌, ℕ, ◌+◌, ◌<◌, ◌≤◌, get_or, drop, Bool, true, false, cond, not, List, [], ◌∷◌, ◌++◌, length, slice_index_or, if◌then◌else◌, refl, ap, sym, ◌∙◌, subst, arith, zero, suc, length-append, ◌||◌}
 use Rattle.std.specs.List.{list_any, position_or_len, IsDistinct, AllByRecursion}
 use Rattle.std.specs.Cmp.Lexicographic.{bytes_decides, nat_list_eq_equiv}
-use Rattle.std.proofs.lemmas.List.{get_or_append_left, append-nil}
+use Rattle.std.proofs.lemmas.List.{get_or_append_left, append-nil, drop_more}
 use Rattle.std.proofs.lemmas.Bool.{true≢false}
 use Rattle.apd_term.specs.declared.term.NameId.{NameId}
 use Rattle.apd_term.specs.Names.{same_text, is_name, number_of, text_of_name, with_name, HasDistinctTexts}
@@ -169,3 +169,18 @@ number_of_text (n ∷ ns) zero h l = ap (λ b. cond (not b) (1 + position_or_len
 number_of_text (n ∷ ns) (suc i) h l =
     let text : List ℕ = slice_index_or ns i [] in
     ap (λ b. cond (not b) (1 + position_or_len (same_text text) ns) 0) (apart_at ns n i h.0 (omega arith)) ∙ omega (arith, number_of_text ns i h.1 (omega arith))
+
+-- the place of a text in a walk over the names, here or further on
+pub number_here : (names : List (List ℕ)) (text : List ℕ) (i : ℕ) (d : List ℕ) → i < length names → same_text text (get_or names i d) ≡ true
+    → number_of names text ≡ i + number_of (drop i names) text → i ≡ number_of names text
+number_here names text i d l e w =
+    let f : number_of (drop i names) text ≡ 0 =
+    ap (λ ns. number_of ns text) (drop_more names i d l) ∙ ap (λ b. cond (not b) (1 + number_of (drop (i + 1) names) text) 0) e in
+    omega arith
+
+pub number_further : (names : List (List ℕ)) (text : List ℕ) (i : ℕ) (d : List ℕ) → i < length names → same_text text (get_or names i d) ≡ false
+    → number_of names text ≡ i + number_of (drop i names) text → number_of names text ≡ i + 1 + number_of (drop (i + 1) names) text
+number_further names text i d l e w =
+    let f : number_of (drop i names) text ≡ 1 + number_of (drop (i + 1) names) text =
+    ap (λ ns. number_of ns text) (drop_more names i d l) ∙ ap (λ b. cond (not b) (1 + number_of (drop (i + 1) names) text) 0) e in
+    omega arith

@@ -1,0 +1,18 @@
+-- Terms without variables.
+use Rattle.std.proofs.Common.{◌≡◌, ℕ, List, [], ◌∷◌, map, inl, inr, refl, ap, subst, ◌∙◌}
+use Rattle.std.specs.List.{flat_map}
+use Rattle.apd_term.specs.Term.{Term, variable, apply, variables, IsGround, IsAmong, Occurs}
+use Rattle.apd_term.proofs.Applying.{apply-variable, variables-apply}
+use Rattle.apd_term.proofs.Variants.{apply-agree}
+
+-- no substitution changes one
+pub apply-ground : (s : ℕ → Term) (t : Term) → IsGround t → apply s t ≡ t
+apply-ground s t g = apply-agree s variable t (λ v o. absurd (subst (λ vs. IsAmong vs v) g o)) ∙ apply-variable t
+
+flat_map_none : (f : ℕ → List ℕ) (vs : List ℕ) → ((v : ℕ) → IsAmong vs v → f v ≡ []) → flat_map f vs ≡ []
+flat_map_none f [] h = refl
+flat_map_none f (v ∷ vs) h = rw (h v (inl refl), flat_map_none f vs (λ w o. h w (inr o))) refl
+
+-- ground terms for all of a term's variables make it ground
+pub IsGround-apply : (s : ℕ → Term) (t : Term) → ((v : ℕ) → Occurs v t → IsGround (s v)) → IsGround (apply s t)
+IsGround-apply s t h = variables-apply s t ∙ flat_map_none (λ v. variables (s v)) (variables t) h

@@ -42,3 +42,37 @@ impl From<AllocError> for TokenFault {
         TokenFault::Memory
     }
 }
+
+/// Why a clause has no reading. Each number is a byte's place in the text, from 0.
+#[derive(Clone, Copy, Debug, PartialEq, Eq)]
+pub enum ReadFault {
+    /// A token can't begin an operand where one must begin: that token.
+    NoTerm(u32),
+    /// An operator's front has no reading, whatever operand follows: the operator.
+    Priority(u32),
+    /// The clause ends while a bracket is open: the innermost open bracket.
+    Unclosed(u32),
+    /// A token doesn't fit behind an operand: that token.
+    Stray(u32),
+    /// The text ends before the clause does: the text's length.
+    NoEnd(u32),
+    /// A compound has more than 255 arguments: the comma before the 256th.
+    ArityOver(u32),
+    /// An integer of 2 ^ 63 isn't part of a negative one: that integer.
+    Wide(u32),
+    /// A term stands at level 1,000: the clause's first token.
+    TooDeep(u32),
+    /// There was no memory left.
+    Memory,
+}
+
+impl From<AllocError> for ReadFault {
+    ghost use Rattle.std.specs.Prelude.{◌≡◌};
+    ghost use Rattle.apd_term.specs.declared.faults.ReadFault.TheVariants.{Memory};
+
+    ghost from_gives = { λ _ e. e ≡ Memory };
+
+    fn from(_: AllocError) -> Self {
+        ReadFault::Memory
+    }
+}

@@ -1,16 +1,13 @@
 -- The goals of a body or a query, one after another.
-use Rattle.std.proofs.Common.{◌≡◌, ◌≢◌, ℕ, ◌+◌, ◌-◌, ◌<◌, ◌≤◌, zero, suc, Bool, true, false, cond, Option, Some, None, List, [], ◌∷◌, ◌++◌, length, refl, sym, ◌∙◌, ap, subst, arith, append_assoc}
+use Rattle.std.proofs.Common.{◌≡◌, ℕ, ◌+◌, ◌-◌, ◌<◌, zero, suc, Bool, true, false, cond, Option, Some, None, List, [], ◌∷◌, ◌++◌, refl, sym, ◌∙◌, ap, subst, arith, append_assoc}
 use Rattle.std.specs.Option.{option_or}
-use Rattle.std.specs.List.{fold}
 use Rattle.apd_term.specs.Term.{Term}
-use Rattle.apd_term.specs.Names.{with_name}
 use Rattle.apd_plain.specs.declared.terms.TermRead.{TermRead}
-use Rattle.apd_plain.specs.declared.goals.Behind.{Behind}
 use Rattle.apd_plain.specs.declared.goals.Behind.TheVariants as behinds
-use Rattle.apd_plain.specs.Words.{Token, comma, stop}
+use Rattle.apd_plain.specs.Words.{Token, stop}
 use Rattle.apd_plain.specs.Naming.{variable_words}
 use Rattle.apd_plain.specs.Grammar.{Reading, ◌>>=◌, max_levels, max_goals, past_space, last_goal, further_goals, atom_at, goals_at}
-use Rattle.apd_plain.specs.Marks.{tokens_from, StandsAt, IsPastComma}
+use Rattle.apd_plain.specs.Marks.{tokens_from}
 use Rattle.apd_plain.specs.Steps.{Grown, GrowsBy, IsAhead, variables_from}
 use Rattle.apd_plain.specs.Readings.{Gives, IsAtomRead, IsBehindGoal}
 use Rattle.apd_plain.proofs.Places.{variables-past_comma}
@@ -56,7 +53,7 @@ unfolding goals_at
 goals_at-zero n all levels ts = refl
 
 -- an atom with one level less
-abbrev found : Bool → Term → List Token → Reading Term
+abbrev pub found : Bool → Term → List Token → Reading Term
 found is_full t ts = cond is_full None (Some (t, ts))
 
 found_none : (b : Bool) (t : Term) (ts : List Token) (others : List Token → Option (List Term)) → further_goals t others ts ≡ None → (found b t ts >>= λ a. further_goals a.0 others a.1) ≡ None
@@ -73,9 +70,9 @@ pub joins_first : (line : List ℕ) (from : ℕ) (all seen names : List (List �
 joins_first line from all seen names a = record {
   ahead = a;
   joins = λ n most levels g p q.
-    let e : max_goals ≡ most = omega (arith, max_goals-is) in
-    let f : max_levels - 1 ≡ levels = omega (arith, max_levels-is) in
-    ap (λ k. goals_at n all k (max_levels - 1) (tokens_from line from)) e ∙ ap (λ k. goals_at n all most k (tokens_from line from)) f ∙ sym (before_goals-none (goals_at n all most levels (tokens_from line from)));
+      let e : max_goals ≡ most = omega (arith, max_goals-is) in
+      let f : max_levels - 1 ≡ levels = omega (arith, max_levels-is) in
+      ap (λ k. goals_at n all k (max_levels - 1) (tokens_from line from)) e ∙ ap (λ k. goals_at n all most k (tokens_from line from)) f ∙ sym (before_goals-none (goals_at n all most levels (tokens_from line from)));
 }
 
 module _ (line : List ℕ) (from at i k : ℕ) (all seen now names new : List (List ℕ)) (goals : List Term) (j : Joins line from at i all seen names goals) (few : i < 64) (grows : GrowsBy k names new) where
@@ -96,9 +93,10 @@ module _ (line : List ℕ) (from at i k : ℕ) (all seen now names new : List (L
 
     -- the last goal
     pub last_read : tokens_from line r.end ≡ stop ∷ [] → (now ≡ all) × Gives (λ n. goals_at n all max_goals (max_levels - 1) (tokens_from line from)) new (Some (goals ++ r.term ∷ []))
-    last_read e =
-        (subst (λ ts. IsAhead all now (variable_words ts)) e h.0,
-          λ n g. with_atom n g ∙ ap (λ ts. before_goals goals (option_or (last_goal r.term ts) (found r.is_full r.term ts >>= λ a. further_goals a.0 (goals_at n all (63 - i) (999 - i - 1)) a.1))) e)
+    last_read e = (
+      subst (λ ts. IsAhead all now (variable_words ts)) e h.0,
+      λ n g. with_atom n g ∙ ap (λ ts. before_goals goals (option_or (last_goal r.term ts) (found r.is_full r.term ts >>= λ a. further_goals a.0 (goals_at n all (63 - i) (999 - i - 1)) a.1))) e,
+    )
 
     -- neither the last goal nor one before others
     pub badly_read : IsBehindGoal line r.end behinds.NotPlain → Gives (λ n. goals_at n all max_goals (max_levels - 1) (tokens_from line from)) new None
@@ -119,15 +117,15 @@ module _ (line : List ℕ) (from at i k : ℕ) (all seen now names new : List (L
     further_read next b f = record {
       ahead = subst (IsAhead all now) (sym (variables-past_comma line r.end next b.0 b.1)) h.0;
       joins = λ n most levels g p q.
-        let e : 63 - i ≡ most = omega arith in
-        let d : 999 - i - 1 ≡ levels = omega arith in
-        with_atom n g
-        ∙ ap (λ c. before_goals goals (option_or (last_goal r.term (tokens_from line r.end)) (found c r.term (tokens_from line r.end) >>= λ a. further_goals a.0 (goals_at n all (63 - i) (999 - i - 1)) a.1))) f
-        ∙ ap (λ ts. before_goals goals (option_or (last_goal r.term ts) (further_goals r.term (goals_at n all (63 - i) (999 - i - 1)) ts))) b.0.1
-        ∙ before_goals-more goals r.term (goals_at n all (63 - i) (999 - i - 1) (past_space (tokens_from line (r.end + 1))))
-        ∙ ap (λ ts. before_goals (goals ++ r.term ∷ []) (goals_at n all (63 - i) (999 - i - 1) ts)) (sym b.1.is)
-        ∙ ap (λ m. before_goals (goals ++ r.term ∷ []) (goals_at n all m (999 - i - 1) (tokens_from line next))) e
-        ∙ ap (λ l. before_goals (goals ++ r.term ∷ []) (goals_at n all most l (tokens_from line next))) d;
+          let e : 63 - i ≡ most = omega arith in
+          let d : 999 - i - 1 ≡ levels = omega arith in
+          with_atom n g
+          ∙ ap (λ c. before_goals goals (option_or (last_goal r.term (tokens_from line r.end)) (found c r.term (tokens_from line r.end) >>= λ a. further_goals a.0 (goals_at n all (63 - i) (999 - i - 1)) a.1))) f
+          ∙ ap (λ ts. before_goals goals (option_or (last_goal r.term ts) (further_goals r.term (goals_at n all (63 - i) (999 - i - 1)) ts))) b.0.1
+          ∙ before_goals-more goals r.term (goals_at n all (63 - i) (999 - i - 1) (past_space (tokens_from line (r.end + 1))))
+          ∙ ap (λ ts. before_goals (goals ++ r.term ∷ []) (goals_at n all (63 - i) (999 - i - 1) ts)) (sym b.1.is)
+          ∙ ap (λ m. before_goals (goals ++ r.term ∷ []) (goals_at n all m (999 - i - 1) (tokens_from line next))) e
+          ∙ ap (λ l. before_goals (goals ++ r.term ∷ []) (goals_at n all most l (tokens_from line next))) d;
     }
 
 -- a 65th goal

@@ -1,12 +1,11 @@
 -- What stands behind an atom.
-use Rattle.std.proofs.Common.{◌≡◌, ◌≢◌, ℕ, ◌+◌, ◌-◌, Bool, true, false, cond, Option, Some, None, List, [], ◌∷◌, length, refl, sym, ◌∙◌, ap, arith}
+use Rattle.std.proofs.Common.{◌≡◌, ◌≢◌, ℕ, ◌+◌, ◌-◌, true, false, cond, Option, Some, None, List, [], ◌∷◌, refl, sym, ◌∙◌, ap, arith}
 use Rattle.apd_term.specs.Term.{Term}
 use Rattle.apd_plain.specs.declared.marks.Mark.{Mark}
 use Rattle.apd_plain.specs.declared.marks.Mark.TheVariants as marks
 use Rattle.apd_plain.specs.declared.terms.TermRead.{TermRead}
 use Rattle.apd_plain.specs.Words.{Token, word, opening, closing, comma, space, stop, colon, dash, question, other}
 use Rattle.apd_plain.specs.Grammar.{last_goal, further_goals, fact_with, rule_with, atom_at, query_at, term_at}
-use Rattle.apd_plain.specs.Reserved.{is_free_name}
 use Rattle.apd_plain.specs.Marks.{tokens_from, Begins, StandsAt}
 use Rattle.apd_plain.specs.Readings.{starts_free, IsTermRead, IsAtomRead}
 use Rattle.apd_plain.proofs.Tokens.{word_stands}
@@ -144,3 +143,28 @@ atom_read line from levels names all seen (Some r) e h =
 
 pub no_atom : (line : List ℕ) (from levels : ℕ) (names all seen : List (List ℕ)) → starts_free (tokens_from line from) ≡ false → IsAtomRead line from levels names all seen None
 no_atom line from levels names all seen e = (λ n g. atom_at-other n all levels (tokens_from line from) e, λ n g. atom_at-other n all (levels - 1) (tokens_from line from) e)
+
+query_at-other : (n v : List (List ℕ)) (ts : List Token) → head_mark ts ≢ marks.Question → query_at n v ts ≡ None
+query_at-other n v [] e = refl
+query_at-other n v (question ∷ ts) e = absurd (e refl)
+query_at-other n v (u ∷ ts) e = refl
+
+query_at-question : (n v : List (List ℕ)) (ts : List Token) → head_mark ts ≢ marks.Dash → query_at n v (question ∷ ts) ≡ None
+query_at-question n v [] e = refl
+query_at-question n v (dash ∷ ts) e = absurd (e refl)
+query_at-question n v (u ∷ ts) e = refl
+
+query_at-dash : (n v : List (List ℕ)) (ts : List Token) → head_mark ts ≢ marks.Space → query_at n v (question ∷ dash ∷ ts) ≡ None
+query_at-dash n v [] e = refl
+query_at-dash n v (space ∷ ts) e = absurd (e refl)
+query_at-dash n v (u ∷ ts) e = refl
+
+module _ (line : List ℕ) (n v : List (List ℕ)) where
+  pub no_question : head_mark (tokens_from line 0) ≢ marks.Question → query_at n v (tokens_from line 0) ≡ None
+  no_question e = query_at-other n v (tokens_from line 0) e
+
+  pub no_query_dash : StandsAt question line 0 → head_mark (tokens_from line 1) ≢ marks.Dash → query_at n v (tokens_from line 0) ≡ None
+  no_query_dash h e = ap (query_at n v) h.1 ∙ query_at-question n v (tokens_from line 1) e
+
+  pub no_query_space : StandsAt question line 0 → StandsAt dash line 1 → head_mark (tokens_from line 2) ≢ marks.Space → query_at n v (tokens_from line 0) ≡ None
+  no_query_space h k e = ap (query_at n v) (h.1 ∙ ap (λ ts. question ∷ ts) k.1) ∙ query_at-dash n v (tokens_from line 2) e

@@ -144,6 +144,7 @@ module _ (line : List ℕ) (from at levels deepest : ℕ) (all seen names : List
       where
         P : Bool → Type 0
         P b = Gives (λ n. term_at n all (levels - 1) (tokens_from line from)) new (cond b None (Some (t, tokens_from line end)))
+
         cases : ((eqb deep levels ≡ true) × (deep ≡ levels)) ⊎ ((eqb deep levels ≡ false) × (deep ≢ levels)) → P (eqb deep levels)
         cases (inl (b, p)) = subst P (sym b) (fails_more line from (levels - 1) all names new grows (full_now deep is_deep p))
         cases (inr (b, p)) = subst P (sym b) (leads_whole line from (levels - 1) all at names new g.frames _ (less_now deep is_deep (omega arith)) (fewer (omega arith)) grows s)
@@ -166,8 +167,8 @@ module _ (line : List ℕ) (from at levels deepest deep : ℕ) (all seen now nam
   pub reads_whole : (end : ℕ) → Goes line from at levels deepest all seen names work → GrowsBy 1 names new → deep ≡ max (vec_len work.stack + 1) deepest → deep ≤ levels
       → ReadsFrom line at new seen now work next left → next ≡ nexts.Whole end
       → IsAhead all now (variables_from line end) × ((t : Term) × (left.symbols.items ≡ spell t) × ((is_full : Bool) → is_full ≡ eqb deep levels
-        → Gives (λ n. term_at n all levels (tokens_from line from)) new (Some (t, tokens_from line end))
-        × Gives (λ n. term_at n all (levels - 1) (tokens_from line from)) new (cond is_full None (Some (t, tokens_from line end)))))
+      → Gives (λ n. term_at n all levels (tokens_from line from)) new (Some (t, tokens_from line end))
+      × Gives (λ n. term_at n all (levels - 1) (tokens_from line from)) new (cond is_full None (Some (t, tokens_from line end)))))
   reads_whole end g grows d fits r e =
       let s = subst (λ x. ReadsFrom line at new seen now work x left) e r in
       let h = (s all g.ahead).1 g.frames g.opened in

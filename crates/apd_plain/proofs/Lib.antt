@@ -8,3 +8,5 @@ pub mod Simple
 pub mod Levels
 pub mod Ends
 pub mod Bodies
+pub mod Heads
+pub mod Lists

@@ -1,5 +1,5 @@
 -- Words by themselves, and words before an opening parenthesis.
-use Rattle.std.proofs.Common.{◌≡◌, ◌≢◌, ℕ, ◌+◌, ◌-◌, ◌<◌, ◌≤◌, ◌^◌, zero, suc, Bool, true, false, cond, ◌&&◌, not, Option, Some, None, List, [], ◌∷◌, ◌++◌, length, refl, sym, ◌∙◌, ap, subst, arith, pos, w64, append_assoc, take, drop}
+use Rattle.std.proofs.Common.{◌≡◌, ◌≢◌, ℕ, ◌+◌, ◌-◌, ◌<◌, suc, Bool, true, false, cond, ◌&&◌, not, Option, Some, None, List, [], ◌∷◌, ◌++◌, length, refl, sym, ◌∙◌, ap, subst, arith, pos, append_assoc, take, drop}
 use Rattle.std.specs.List.{fold}
 use Rattle.std.specs.Char.{is_ascii_lowercase, is_ascii_uppercase}
 use Rattle.std.proofs.lemmas.Bool.Decides.{nat_tests}
@@ -15,7 +15,7 @@ use Rattle.apd_plain.specs.Words.{Token, word, opening, is_variable, is_integer,
 use Rattle.apd_plain.specs.Naming.{variable_words}
 use Rattle.apd_plain.specs.Reserved.{is_plain_name, is_listed, operator_names}
 use Rattle.apd_plain.specs.Marks.{tokens_from, Begins, StandsAt, IsWordFrom, BeginsOther}
-use Rattle.apd_plain.specs.Grammar.{Reading, ◌>>=◌, id_of, simple_term, term_at}
+use Rattle.apd_plain.specs.Grammar.{◌>>=◌, id_of, simple_term, term_at}
 use Rattle.apd_plain.specs.Frames.{Frame, entered}
 use Rattle.apd_plain.specs.Steps.{resumed, Grown, IsAhead, IsAheadOf, PassesNone, variables_from}
 use Rattle.apd_plain.proofs.Tokens.{word_stands}

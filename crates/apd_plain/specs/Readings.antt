@@ -1,13 +1,13 @@
 -- What is read of a line: terms, atoms and goals.
-use Rattle.std.specs.Prelude.{◌≡◌, ℕ, ◌-◌, ◌≤◌, Bool, false, Option, Some, None, Result, Ok, Err, List, [], ◌∷◌, length, if◌then◌else◌}
+use Rattle.std.specs.Prelude.{◌≡◌, ℕ, ◌-◌, ◌≤◌, Bool, true, false, Option, Some, None, Result, Ok, Err, List, [], ◌∷◌, length, if◌then◌else◌}
 use Rattle.std.specs.declared.alloc.AllocError.{AllocError}
 use Rattle.apd_term.specs.Term.{Term}
 use Rattle.apd_plain.specs.declared.terms.TermRead.{TermRead}
 use Rattle.apd_plain.specs.declared.goals.Behind.{Behind}
 use Rattle.apd_plain.specs.declared.goals.Behind.TheVariants as behinds
-use Rattle.apd_plain.specs.Words.{Token, word, comma, space, stop, colon, dash}
+use Rattle.apd_plain.specs.Words.{Token, word, comma, space, stop, colon, dash, question}
 use Rattle.apd_plain.specs.Reserved.{is_free_name}
-use Rattle.apd_plain.specs.Grammar.{Reading, max_levels, max_goals, term_at, atom_at, goals_at, last_goal, further_goals, fact_with, rule_with}
+use Rattle.apd_plain.specs.Grammar.{Reading, max_levels, max_goals, term_at, atom_at, goals_at, last_goal, further_goals, fact_with, rule_with, query_at}
 use Rattle.apd_plain.specs.Marks.{tokens_from, StandsAt, IsPastComma}
 use Rattle.apd_plain.specs.Steps.{Grown, IsAhead, variables_from}
 
@@ -57,3 +57,8 @@ IsBehindHead line at behinds.Last = tokens_from line at ≡ stop ∷ []
 IsBehindHead line at (behinds.Further next) = (at ≤ next) × (next ≤ length line) × (tokens_from line at ≡ space ∷ colon ∷ dash ∷ space ∷ tokens_from line next)
 IsBehindHead line at behinds.NotPlain =
     ((t : Term) → fact_with t (tokens_from line at) ≡ None) × ((t : Term) (goals : List Token → Option (List Term)) → rule_with t goals (tokens_from line at) ≡ None)
+
+-- whether `?- ` begins the line, with a place behind it
+abbrev pub IsQueryStart : List ℕ → Bool → Type 0
+IsQueryStart line true = (3 ≤ length line) × (tokens_from line 0 ≡ question ∷ dash ∷ space ∷ tokens_from line 3)
+IsQueryStart line false = (names all : List (List ℕ)) → query_at names all (tokens_from line 0) ≡ None

@@ -4,7 +4,10 @@
 mod closing;
 mod goals;
 mod kinds;
+mod lines;
 mod marks;
 mod operands;
 mod terms;
 mod unfinished;
+
+pub use lines::{read_clause, read_fact, read_goal, read_query};

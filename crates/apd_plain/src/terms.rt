@@ -7,6 +7,7 @@ ghost use Rattle.apd_plain.specs.Readings.{end_of, IsTermRead};
 use crate::closing::Next;
 use crate::operands::read_operand;
 use crate::unfinished::Unfinished;
+use apd_term::list::Syms;
 use apd_term::names::Names;
 use apd_term::term::Flat;
 use std::alloc::{AllocError, Global};
@@ -52,7 +53,7 @@ pub(crate) fn read_term(
             Next::Further(next) => at = next,
             Next::Whole(end) => {
                 return Ok(Some(TermRead {
-                    term: Flat::of_symbols(work.symbols),
+                    term: Flat::of_symbols(Syms::of_items(work.symbols)),
                     end,
                     is_full: deepest == levels,
                 }));

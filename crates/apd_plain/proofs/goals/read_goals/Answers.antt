@@ -53,10 +53,10 @@ goals-preserved c =
       names = grows_more (c.goals.at - c.args.from) (end_of line (Ok c.in_ok-read.field-0) - c.goals.at) _ c.args.names.now c.goals.names c.read_atom.new.names c.goals.invariant.names c.in_ok-read.ensures.names (omega arith);
       variables = grows_more (c.goals.at - c.args.from) (end_of line (Ok c.in_ok-read.field-0) - c.goals.at) _ c.args.variables.now c.goals.variables c.read_atom.new.variables c.goals.invariant.variables c.in_ok-read.ensures.variables (omega arith);
       joins = λ all a.
-        let j = c.goals.invariant.joins all a in
-        let h = subst (IsAtomRead line c.goals.at (999 - c.goals.i) c.read_atom.new.names all c.read_atom.new.variables) c.in-Some.is (c.in_ok-read.ensures.read all j.ahead) in
-        subst (Joins line c.args.from c.in-Further.next (c.goals.i + 1) all c.read_atom.new.variables c.read_atom.new.names) (sym c.in_ok-push-in-Further.ensures.ok)
-        (further_read line c.args.from c.goals.at c.goals.i _ all c.goals.variables c.read_atom.new.variables c.goals.names c.read_atom.new.names c.goals.goals j c.goals-test.true c.read_atom.ensures.names c.in-Some.read h c.in-Further.next c.in-Further.ensures c.if-read.false);
+          let j = c.goals.invariant.joins all a in
+          let h = subst (IsAtomRead line c.goals.at (999 - c.goals.i) c.read_atom.new.names all c.read_atom.new.variables) c.in-Some.is (c.in_ok-read.ensures.read all j.ahead) in
+          subst (Joins line c.args.from c.in-Further.next (c.goals.i + 1) all c.read_atom.new.variables c.read_atom.new.names) (sym c.in_ok-push-in-Further.ensures.ok)
+          (further_read line c.args.from c.goals.at c.goals.i _ all c.goals.variables c.read_atom.new.variables c.goals.names c.read_atom.new.names c.goals.goals j c.goals-test.true c.read_atom.ensures.names c.in-Some.read h c.in-Further.next c.in-Further.ensures c.if-read.false);
     }
 
 pub returns-clause-read : goal.returns-clause-read

@@ -1,4 +1,4 @@
-use Rattle.std.proofs.Common.{sym, ◌∙◌, refl}
+use Rattle.std.proofs.Common.{sym, ◌∙◌}
 use Rattle.apd_plain.proofs.Digits.{listed_here, listed_further, listed_nowhere}
 use Rattle.apd_plain.proofs.kinds.is_listed.Goals as goal
 

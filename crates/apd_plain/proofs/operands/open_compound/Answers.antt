@@ -10,7 +10,14 @@ returns-then-not-is_plain_name-clause-reads c seen all a =
 
 pub returns-clause-reads : goal.returns-clause-reads
 returns-clause-reads c seen all a =
-    let plain = sym c.is_plain_name.ensures ∙ c.if-not-is_plain_name.false in
-    (compound_ahead c.args.line.now c.args.at c.args.end all seen c.requires.word c.requires.opening plain a, λ fs h. (entered c.in_ok-name.name fs, c.in_ok-enter.ensures fs h, omega arith, λ n l k g s.
-      compound_opens c.args.line.now c.args.at c.args.end l k n all fs c.in_ok-name.name c.requires.word c.requires.opening plain
-        (ap (λ (i : ℕ). let id : NameId = record { 0 = i } in id) (kept_number c.args.names.now c.intern.new.self n _ c.in_ok-name.ensures.names g ∙ sym c.in_ok-name.ensures.id)) (omega arith)))
+    let plain = sym c.is_plain_name.ensures ∙ c.if-not-is_plain_name.false in (
+      compound_ahead c.args.line.now c.args.at c.args.end all seen c.requires.word c.requires.opening plain a,
+      λ fs h. (
+        entered c.in_ok-name.name fs,
+        c.in_ok-enter.ensures fs h,
+        omega arith,
+        λ n l k g s.
+            compound_opens c.args.line.now c.args.at c.args.end l k n all fs c.in_ok-name.name c.requires.word c.requires.opening plain
+            (ap (λ (i : ℕ). let id : NameId = record { 0 = i } in id) (kept_number c.args.names.now c.intern.new.self n _ c.in_ok-name.ensures.names g ∙ sym c.in_ok-name.ensures.id)) (omega arith),
+      ),
+    )

@@ -1,4 +1,4 @@
-use Rattle.std.proofs.Common.{ap, sym, ◌∙◌, arith, refl, subst, List, ℕ, suc, length, take, drop, ◌-◌, [], ◌∷◌}
+use Rattle.std.proofs.Common.{arith, refl, subst, suc, length, take, drop, ◌-◌, [], ◌∷◌}
 use Rattle.std.specs.List.{fold}
 use Rattle.std.specs.Prelude.{Some}
 use Rattle.apd_term.specs.Names.{with_name}
@@ -28,7 +28,8 @@ returns-in_ok-put-in-Some-clause-reads c all a =
     let line = c.args.line.now in
     let w = take (c.args.end - c.args.at) (drop c.args.at line) in
     let ahead = word_ahead line c.args.at c.args.end all c.args.variables.now c.requires.word a in
-    let s = subst (IsSimple c.simple_symbol.new.names all w) c.in-Some.is (c.in_ok-simple_symbol.ensures.simple all (tokens_from line c.args.end) ahead) in
-    (passes_ahead all c.simple_symbol.new.variables line c.args.end c.close_up.result c.close_up.ensures.passes (c.in_ok-simple_symbol.ensures.ahead all (tokens_from line c.args.end) ahead),
+    let s = subst (IsSimple c.simple_symbol.new.names all w) c.in-Some.is (c.in_ok-simple_symbol.ensures.simple all (tokens_from line c.args.end) ahead) in (
+      passes_ahead all c.simple_symbol.new.variables line c.args.end c.close_up.result c.close_up.ensures.passes (c.in_ok-simple_symbol.ensures.ahead all (tokens_from line c.args.end) ahead),
       λ fs h. goes_on_from line c.simple_symbol.new.names all (suc (length fs)) (length fs) (λ n l. resumed n all (suc l) fs (term_at n all (suc l) (tokens_from line c.args.at))) (λ n l. resumed n all l fs (Some (s.0, tokens_from line c.args.end)))
-        c.close_up.result c.close_up.new.work (omega arith) (λ n l k g e. some_simple line c.args.at c.args.end l k n all fs s.0 c.requires.word c.requires.other (s.2 n g) (omega arith)) (c.close_up.ensures.goes fs s.0 c.simple_symbol.new.names all (c.in_ok-put-in-Some.ensures fs s.0 h s.1)))
+          c.close_up.result c.close_up.new.work (omega arith) (λ n l k g e. some_simple line c.args.at c.args.end l k n all fs s.0 c.requires.word c.requires.other (s.2 n g) (omega arith)) (c.close_up.ensures.goes fs s.0 c.simple_symbol.new.names all (c.in_ok-put-in-Some.ensures fs s.0 h s.1)),
+    )

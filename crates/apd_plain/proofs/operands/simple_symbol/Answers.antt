@@ -24,6 +24,9 @@ returns-then-is_integer-clause-simple c all ts h =
 
 pub returns-then-is_plain_name-clause-simple : goal.returns-then-is_plain_name-clause-simple
 returns-then-is_plain_name-clause-simple c all ts h =
-    let w = c.args.text.now in
-    (compound c.in_ok-name.name none, refl, λ n g. simple-name n all w (sym c.is_variable.ensures ∙ c.if-is_variable.false) (sym c.is_integer.ensures ∙ c.if-is_integer.false) (sym c.is_plain_name.ensures ∙ c.if-is_plain_name.true)
-      ∙ ap (λ (k : ℕ). let id : NameId = record { 0 = k } in Some (compound id none)) (kept_number c.args.names.now c.intern-then-is_plain_name.new.self n w c.in_ok-name.ensures.names g ∙ sym c.in_ok-name.ensures.id))
+    let w = c.args.text.now in (
+      compound c.in_ok-name.name none,
+      refl,
+      λ n g. simple-name n all w (sym c.is_variable.ensures ∙ c.if-is_variable.false) (sym c.is_integer.ensures ∙ c.if-is_integer.false) (sym c.is_plain_name.ensures ∙ c.if-is_plain_name.true)
+          ∙ ap (λ (k : ℕ). let id : NameId = record { 0 = k } in Some (compound id none)) (kept_number c.args.names.now c.intern-then-is_plain_name.new.self n w c.in_ok-name.ensures.names g ∙ sym c.in_ok-name.ensures.id),
+    )

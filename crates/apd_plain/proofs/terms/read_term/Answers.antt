@@ -1,8 +1,8 @@
-use Rattle.std.proofs.Common.{arith, sym, ◌∙◌, [], refl, ◌-◌, length, ◌+◌, ◌≤◌, min, eqb}
+use Rattle.std.proofs.Common.{arith, sym, ◌∙◌, [], refl, ◌-◌, length, ◌+◌, min, eqb}
 use Rattle.std.specs.List.{fold}
 use Rattle.std.proofs.lemmas.List.{append-nil}
 use Rattle.apd_term.specs.Names.{with_name}
-use Rattle.apd_term.specs.Spelling.{whole_from_spelled, term_of_from_spelled}
+use Rattle.apd_term.proofs.Spelling.{whole_from_spelled, term_of_from_spelled}
 use Rattle.apd_plain.specs.declared.closing.Next.TheVariants as nexts
 use Rattle.apd_plain.specs.Steps.{variables_from}
 use Rattle.apd_plain.proofs.Levels.{grows_more, goes_first, goes_over, reads_nowhere, reads_further, reads_whole, end_of_err, within_of, at_most_one, read_as}
@@ -51,20 +51,20 @@ operands-preserved c =
       names = grows_more (c.operands.at - c.args.from) (min 1 (length c.args.line.now - c.operands.at)) _ c.args.names.now c.operands.names c.read_operand.new.names c.operands.invariant.names c.read_operand.ensures.names (omega arith);
       variables = grows_more (c.operands.at - c.args.from) (min 1 (length c.args.line.now - c.operands.at)) _ c.args.variables.now c.operands.variables c.read_operand.new.variables c.operands.invariant.variables c.read_operand.ensures.variables (omega arith);
       going = λ all a. reads_further c.args.line.now c.args.from c.operands.at c.args.levels c.operands.deepest c.max-deepest.result all c.operands.variables c.read_operand.new.variables c.operands.names c.read_operand.new.names c.operands.work c.read_operand.new.work c.in_ok-read_operand.field-0
-        c.in-Further.next (c.operands.invariant.going all a) (at_most_one _ _ _ c.read_operand.ensures.names) (omega arith) (omega arith) c.in_ok-read_operand.ensures.reads c.in-Further.is;
+          c.in-Further.next (c.operands.invariant.going all a) (at_most_one _ _ _ c.read_operand.ensures.names) (omega arith) (omega arith) c.in_ok-read_operand.ensures.reads c.in-Further.is;
     }
 
 pub of_symbols-requires : goal.of_symbols-requires
 of_symbols-requires c =
     let all = fold with_name c.args.variables.now (variables_from c.args.line.now c.args.from) in
     let r = reads_whole c.args.line.now c.args.from c.operands.at c.args.levels c.operands.deepest c.max-deepest.result all c.operands.variables c.read_operand.new.variables c.operands.names c.read_operand.new.names c.operands.work c.read_operand.new.work c.in_ok-read_operand.field-0
-        c.in-Whole.end (c.operands.invariant.going all refl) (at_most_one _ _ _ c.read_operand.ensures.names) (omega arith) (omega arith) c.in_ok-read_operand.ensures.reads c.in-Whole.is in
-    whole_from_spelled c.read_operand.new.work.symbols.items r.1.0 r.1.1
+    c.in-Whole.end (c.operands.invariant.going all refl) (at_most_one _ _ _ c.read_operand.ensures.names) (omega arith) (omega arith) c.in_ok-read_operand.ensures.reads c.in-Whole.is in
+    whole_from_spelled c.of_items.result r.1.0 (c.of_items.ensures ∙ r.1.1)
 
 pub returns-in-Whole-clause-read : goal.returns-in-Whole-clause-read
 returns-in-Whole-clause-read c all a =
     let r = reads_whole c.args.line.now c.args.from c.operands.at c.args.levels c.operands.deepest c.max-deepest.result all c.operands.variables c.read_operand.new.variables c.operands.names c.read_operand.new.names c.operands.work c.read_operand.new.work c.in_ok-read_operand.field-0
-        c.in-Whole.end (c.operands.invariant.going all a) (at_most_one _ _ _ c.read_operand.ensures.names) (omega arith) (omega arith) c.in_ok-read_operand.ensures.reads c.in-Whole.is in
-    let e = c.of_symbols.ensures ∙ term_of_from_spelled c.read_operand.new.work.symbols.items r.1.0 r.1.1 in
+    c.in-Whole.end (c.operands.invariant.going all a) (at_most_one _ _ _ c.read_operand.ensures.names) (omega arith) (omega arith) c.in_ok-read_operand.ensures.reads c.in-Whole.is in
+    let e = c.of_symbols.ensures ∙ term_of_from_spelled c.of_items.result r.1.0 (c.of_items.ensures ∙ r.1.1) in
     let h = read_as c.args.line.now c.args.from c.args.levels c.in-Whole.end all c.read_operand.new.names r.1.0 c.of_symbols.result (eqb c.max-deepest.result c.args.levels) e (r.1.2 _ refl) in
     (r.0, h.0, h.1)

@@ -54,13 +54,13 @@ abbrev pub clauses_from : ℕ → Pred → List Tuple → List (ℕ × Tuple)
 clauses_from n p [] = []
 clauses_from n p (t ∷ ts) = if is_pred (predicate_of t.head) p then (n, t) ∷ clauses_from (n + 1) p ts else clauses_from (n + 1) p ts
 
-abbrev pub clauses_of : Option Pred → List Tuple → List (ℕ × Tuple)
-clauses_of None ts = []
-clauses_of (Some p) ts = clauses_from 1 p ts
+abbrev pub clauses_by : Option Pred → List Tuple → List (ℕ × Tuple)
+clauses_by None ts = []
+clauses_by (Some p) ts = clauses_from 1 p ts
 
 -- the clauses of the goal's predicate in order with their numbers; a goal that is no atom has none
 abbrev pub clauses_for : Term → List Tuple → List (ℕ × Tuple)
-clauses_for goal ts = clauses_of (predicate_of goal) ts
+clauses_for goal ts = clauses_by (predicate_of goal) ts
 
 -- clause number n, counted from 1
 abbrev pub clause_at : List Clause → ℕ → Option Clause

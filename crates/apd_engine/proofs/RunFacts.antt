@@ -1,0 +1,206 @@
+-- What stays true of a run from one item to the next.
+use Rattle.std.proofs.Common.{◌≡◌, ℕ, suc, ◌+◌, ◌-◌, ◌*◌, ◌<◌, ◌≤◌, List, [], ◌∷◌, length, refl, ap, subst, sym, ◌∙◌, arith, append-nil, zero-add, inl, inr, Option, Some, None, Result, Ok}
+use Rattle.std.specs.Prelude.{MatchOption}
+use Rattle.std.proofs.Math.Nat.{sub-zero}
+use Rattle.std.proofs.lemmas.List.{length-map}
+use Rattle.apd_term.specs.Term.{Term}
+use Rattle.apd_term.specs.declared.tuple.Tuple.{Tuple}
+use Rattle.apd_term.specs.Canonical.{by_appearance, canonical_in}
+use Rattle.apd_term.specs.Tuple.{canonical_tuple, variables_of_tuple}
+use Rattle.apd_ports.specs.Hook.{GoesThrough, GoesInto, StopsAt}
+use Rattle.apd_ports.specs.declared.event.Event.{Event}
+use Rattle.apd_ports.specs.declared.hook.HookFault.{HookFault}
+use Rattle.apd_ports.specs.declared.hook.Shown.{Shown}
+use Rattle.apd_ports.specs.declared.hook.Shown.TheVariants.{Port as ShownPort, Answer as ShownAnswer}
+use Rattle.apd_trace.specs.Frames.{query_frame}
+use Rattle.apd_trace.specs.Trace.{Out, search_from}
+use Rattle.apd_trace.specs.Run.{Run, run_of, query_run, shown_of, ports_of, answers_of, before_event, pass}
+use Rattle.apd_trace.specs.declared.item.Item.{Item}
+use Rattle.apd_trace.specs.declared.item.Item.TheVariants.{Passed, Answer, Made}
+use Rattle.apd_trace.specs.declared.item.Point.{Point}
+use Rattle.apd_trace.proofs.Searched.{search_same}
+use Rattle.apd_trace.proofs.Clauses.{canonical_query}
+use Rattle.apd_trace.proofs.Deeper.{run_of-up_to_error}
+use Rattle.apd_engine.specs.Search.{rest, AllWaits, Goes, Gives, Ends, may_make}
+use Rattle.apd_engine.specs.declared.search.Search.{Search}
+use Rattle.apd_engine.specs.declared.search.Mode.TheVariants.{Forward}
+
+-- what a run still passes from this search on
+abbrev pub left : List Tuple → ℕ → ℕ → ℕ → ℕ → Search → Run
+left P budget answers ports answered s =
+    run_of (rest P (budget + 1) s.mode s.frames s.stack s.boxes s.points) (budget - ports) (answers - answered)
+
+-- so many ports and answers were passed, and what is left completes the run
+pub record Going (P : List Tuple) (budget answers : ℕ) (all : Run) (ports answered : ℕ) (s : Search) : Type 0 where
+  pub end : all.end ≡ (left P budget answers ports answered s).end
+  pub ports_left : ports_of all.passed ≡ ports + ports_of (left P budget answers ports answered s).passed
+  pub answers_left : answers_of all.passed ≡ answered + answers_of (left P budget answers ports answered s).passed
+  pub goes : Goes s.boxes s.mode s.frames.current
+  pub waits : AllWaits s.boxes s.stack s.frames.saved
+  pub room : s.frames.fresh ≤ 4294967297 * s.points
+  pub height : length s.stack ≤ ports
+  pub boxes : s.boxes ≤ ports
+  pub points : s.points + may_make s.mode ≤ ports + answered + 1
+  pub within : ports ≤ budget
+  pub below : answered < answers
+
+-- what the hook goes through of what is left from here completes what it goes through from the start
+pub record Completes {H : Type 0} (step : H → Shown → Result (Unit {0}) HookFault → H → Type 0) (start : H) (all : List Shown) (here : H) (xs : List Shown) : Type 0 where
+  pub through : (end : H) → GoesThrough step here xs end → GoesThrough step start all end
+  pub into : (end : H) → GoesInto step here xs end → GoesInto step start all end
+  pub stops : (fault : HookFault) (end : H) → StopsAt step fault here xs end → StopsAt step fault start all end
+
+-- a run on the way, and its hook
+pub record Showing {H : Type 0} (step : H → Shown → Result (Unit {0}) HookFault → H → Type 0) (faults : H → ℕ) (start : H) (P : List Tuple) (budget answers : ℕ) (all : Run) (ports answered : ℕ) (s : Search) (hook : H) : Type 0 where
+  pub going : Going P budget answers all ports answered s
+  pub completes : Completes step start (shown_of all.passed) hook (shown_of (left P budget answers ports answered s).passed)
+  pub later : faults start ≤ faults hook
+
+-- a silent item is no port, no answer, and is not shown
+shown_of-hold : (p : Point) (xs : List Item) → shown_of (before_event (Made p) xs) ≡ shown_of xs
+shown_of-hold p [] = refl
+shown_of-hold p (x ∷ xs) = refl
+
+ports_of-hold : (p : Point) (xs : List Item) → ports_of (before_event (Made p) xs) ≡ ports_of xs
+ports_of-hold p [] = refl
+ports_of-hold p (x ∷ xs) = refl
+
+answers_of-hold : (p : Point) (xs : List Item) → answers_of (before_event (Made p) xs) ≡ answers_of xs
+answers_of-hold p [] = refl
+answers_of-hold p (x ∷ xs) = refl
+
+-- what is left of a run before an item, and after it
+left_passed : (P : List Tuple) (budget answers ports answered : ℕ) (s new : Search) (e : Event) → length s.stack ≤ ports → ports < budget → Gives P s.mode s.frames s.stack s.boxes s.points (Passed e) new → left P budget answers ports answered s ≡ pass (Passed e) (left P budget answers (ports + 1) answered new)
+left_passed P budget answers ports answered s new e low within gives =
+    let more : budget - ports ≡ suc (budget - (ports + 1)) = omega arith in
+    rw (gives.items (budget + 1) (omega arith), more) refl
+
+left_answer : (P : List Tuple) (budget answers ports answered : ℕ) (s new : Search) (a : Term) → length s.stack ≤ ports → ports ≤ budget → answered + 1 < answers → Gives P s.mode s.frames s.stack s.boxes s.points (Answer a) new → left P budget answers ports answered s ≡ pass (Answer a) (left P budget answers ports (answered + 1) new)
+left_answer P budget answers ports answered s new a low within more gives =
+    let two : answers - answered ≡ suc (suc (answers - (answered + 2))) = omega arith in
+    let one : answers - (answered + 1) ≡ suc (answers - (answered + 2)) = omega arith in
+    rw (gives.items (budget + 1) (omega arith), two, one) refl
+
+-- the search that is opened for a query
+abbrev pub opened : Tuple → Search
+opened query = record { frames = record { current = query_frame (canonical_tuple query) ∷ []; saved = []; fresh = 4294967297 }; mode = Forward; stack = []; boxes = 0; points = 1 }
+
+-- at first all is left
+first_rest : (P : List Tuple) (query : Tuple) (budget : ℕ) → rest P (budget + 1) Forward (opened query).frames [] 0 1 ≡ (search_from P (budget + 1) (query_frame query ∷ []) 0 1).items
+first_rest P query budget = simp (append-nil, sub-zero) (ap (λ (o : Out). o.items) (sym (search_same P (budget + 1) (query_frame query ∷ []) (query_frame (canonical_tuple query) ∷ []) 0 1 (canonical_query query))))
+
+starts : (P : List Tuple) (query : Tuple) (budget answers : ℕ) (s : Search) → 0 < answers → length query.body ≤ 64 → s ≡ opened query → Going P budget answers (query_run P query budget answers) 0 0 s
+starts P query budget answers s some few is =
+    let items = first_rest P query budget in
+    let cut = run_of-up_to_error (search_from P (budget + 1) (query_frame query ∷ []) 0 1).items budget answers in
+    rw is (record {
+      end = rw (cut, items, sub-zero, sub-zero) refl;
+      ports_left = rw (cut, items, sub-zero, sub-zero) (rw (ports_of-hold, zero-add) refl);
+      answers_left = rw (cut, items, sub-zero, sub-zero) (rw (answers_of-hold, zero-add) refl);
+      goes = (omega (arith, few, length-map query.body (canonical_in (by_appearance (variables_of_tuple query)))), omega arith, tt);
+      waits = tt;
+      room = omega arith;
+      height = omega arith;
+      boxes = omega arith;
+      points = omega arith;
+      within = omega arith;
+      below = some;
+    })
+
+module _ (P : List Tuple) (budget answers : ℕ) (all : Run) (ports answered : ℕ) (s : Search) (going : Going P budget answers all ports answered s) where
+  goes_passed : (new : Search) (e : Event) → ports < budget → Gives P s.mode s.frames s.stack s.boxes s.points (Passed e) new → Going P budget answers all (ports + 1) answered new
+  goes_passed new e more gives =
+      let is = left_passed P budget answers ports answered s new e going.height more gives in
+      let count = rw is at going.ports_left in
+      record {
+        end = going.end ∙ ap (λ (r : Run). r.end) is;
+        ports_left = omega (arith, count);
+        answers_left = rw is at going.answers_left;
+        goes = gives.goes;
+        waits = gives.waits;
+        room = omega (arith, gives.fresh, gives.points_made, going.room);
+        height = omega (arith, gives.height, going.height);
+        boxes = omega (arith, gives.boxes_made, going.boxes);
+        points = omega (arith, gives.points_made, gives.pace, going.points);
+        within = omega arith;
+        below = going.below;
+      }
+
+  goes_answer : (new : Search) (a : Term) → answered + 1 < answers → Gives P s.mode s.frames s.stack s.boxes s.points (Answer a) new → Going P budget answers all ports (answered + 1) new
+  goes_answer new a more gives =
+      let is = left_answer P budget answers ports answered s new a going.height going.within more gives in
+      let count = rw is at going.answers_left in
+      record {
+        end = going.end ∙ ap (λ (r : Run). r.end) is;
+        ports_left = rw is at going.ports_left;
+        answers_left = omega (arith, count);
+        goes = gives.goes;
+        waits = gives.waits;
+        room = omega (arith, gives.fresh, gives.points_made, going.room);
+        height = omega (arith, gives.height, going.height);
+        boxes = omega (arith, gives.boxes_made, going.boxes);
+        points = omega (arith, gives.points_made, gives.pace, going.points);
+        within = going.within;
+        below = more;
+      }
+
+-- a hook that is shown the next thing
+module _ {H : Type 0} (step : H → Shown → Result (Unit {0}) HookFault → H → Type 0) (start : H) (all : List Shown) (here next : H) (x : Shown) (xs : List Shown) (so_far : Completes step start all here (x ∷ xs)) where
+  pub shown_next : step here x (Ok tt) next → Completes step start all next xs
+  shown_next shown =
+      record {
+        through = λ end h. so_far.through end (next, shown, h);
+        into = λ end h. so_far.into end (inr (next, shown, h));
+        stops = λ fault end h. so_far.stops fault end (inr (next, shown, h));
+      }
+
+-- a hook that is left alone has gone through some of the things
+goes_nowhere : {H : Type 0} (step : H → Shown → Result (Unit {0}) HookFault → H → Type 0) (here : H) (xs : List Shown) → GoesInto step here xs here
+goes_nowhere step here [] = refl
+goes_nowhere step here (x ∷ xs) = inl refl
+
+pub left_alone : {H : Type 0} (step : H → Shown → Result (Unit {0}) HookFault → H → Type 0) (start : H) (all : List Shown) (here : H) (xs : List Shown) → Completes step start all here xs → GoesInto step start all here
+left_alone step start all here xs so_far = so_far.into here (goes_nowhere step here xs)
+
+module _ {H : Type 0} (step : H → Shown → Result (Unit {0}) HookFault → H → Type 0) (faults : H → ℕ) (start : H) (P : List Tuple) (budget answers : ℕ) where
+  pub starts_showing : (query : Tuple) (s : Search) → 0 < answers → length query.body ≤ 64 → s ≡ opened query → Showing step faults start P budget answers (query_run P query budget answers) 0 0 s start
+  starts_showing query s some few is =
+      let going = starts P query budget answers s some few is in
+      record {
+        going = going;
+        completes = rw (run_of-up_to_error (search_from P (budget + 1) (query_frame query ∷ []) 0 1).items budget answers, is, first_rest P query budget, sub-zero, sub-zero) (rw shown_of-hold (record { through = λ end h. h; into = λ end h. h; stops = λ fault end h. h }));
+        later = omega arith;
+      }
+
+  module _ (all : Run) (ports answered : ℕ) (s : Search) (hook : H) (was : Showing step faults start P budget answers all ports answered s hook) where
+    -- where memory is short
+    pub memory_short : GoesInto step start (shown_of all.passed) hook
+    memory_short = left_alone step start (shown_of all.passed) hook (shown_of (left P budget answers ports answered s).passed) was.completes
+
+    completes_as : (run : Run) → left P budget answers ports answered s ≡ run → Completes step start (shown_of all.passed) hook (shown_of run.passed)
+    completes_as run is = subst (λ (r : Run). Completes step start (shown_of all.passed) hook (shown_of r.passed)) is was.completes
+
+    -- a port is shown
+    pub shows_port : (new : Search) (e : Event) (hook' : H) → ports < budget → Gives P s.mode s.frames s.stack s.boxes s.points (Passed e) new → step hook (ShownPort e) (Ok tt) hook' → faults hook ≤ faults hook' → Showing step faults start P budget answers all (ports + 1) answered new hook'
+    shows_port new e hook' within gives shown more =
+        let later : Run = left P budget answers (ports + 1) answered new in
+        record {
+          going = goes_passed P budget answers all ports answered s was.going new e within gives;
+          completes = shown_next step start (shown_of all.passed) hook hook' (ShownPort e) (shown_of later.passed) (completes_as (pass (Passed e) later) (left_passed P budget answers ports answered s new e was.going.height within gives)) shown;
+          later = omega (arith, was.later);
+        }
+
+    -- an answer is shown
+    pub shows_answer : (new : Search) (a : Term) (hook' : H) → answered + 1 < answers → Gives P s.mode s.frames s.stack s.boxes s.points (Answer a) new → step hook (ShownAnswer a) (Ok tt) hook' → faults hook ≤ faults hook' → Showing step faults start P budget answers all ports (answered + 1) new hook'
+    shows_answer new a hook' within gives shown more =
+        let later : Run = left P budget answers ports (answered + 1) new in
+        record {
+          going = goes_answer P budget answers all ports answered s was.going new a within gives;
+          completes = shown_next step start (shown_of all.passed) hook hook' (ShownAnswer a) (shown_of later.passed) (completes_as (pass (Answer a) later) (left_answer P budget answers ports answered s new a was.going.height was.going.within within gives)) shown;
+          later = omega (arith, was.later);
+        }
+
+-- what a search gave, at the item that was matched
+pub gives_matched : (P : List Tuple) (s new : Search) (o : Option Item) (x y : Item) → MatchOption o (Ends P s.mode s.frames s.stack s.boxes s.points) (λ i. Gives P s.mode s.frames s.stack s.boxes s.points i new) → o ≡ Some x → x ≡ y → Gives P s.mode s.frames s.stack s.boxes s.points y new
+gives_matched P s new None x y h is same = cc
+gives_matched P s new (Some z) x y h is same = let found : z ≡ y = cc in rw found at h

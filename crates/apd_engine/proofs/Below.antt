@@ -9,7 +9,7 @@ use Rattle.apd_term.specs.Tuple.{apply_tuple, variables_of_tuple, canonical_tupl
 use Rattle.apd_term.specs.declared.tuple.Tuple.{Tuple}
 use Rattle.apd_term.proofs.Among.{IsAmong-left, IsAmong-right, IsAmong-append, IsAmong-flat_map}
 use Rattle.apd_unify.specs.Unifier.{OccursIn, BringsNoVariable}
-use Rattle.apd_unify.proofs.Applying.{variables-apply}
+use Rattle.apd_term.proofs.Applying.{variables-apply}
 use Rattle.apd_trace.specs.Frames.{apply_frames, variables_of_frames, shifted_tuple, next_goal}
 use Rattle.apd_trace.specs.declared.frame.Frame.{Frame}
 use Rattle.apd_trace.proofs.Clauses.{canonical_numbers}

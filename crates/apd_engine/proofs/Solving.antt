@@ -6,7 +6,7 @@ use Rattle.apd_term.proofs.Among.{IsAmong-append}
 use Rattle.apd_unify.specs.Unifier.{IsAnswer, IsUnifier, OccursIn}
 use Rattle.apd_unify.specs.Textbook.{unifier_of}
 use Rattle.apd_unify.proofs.Textbook.{unifier_of-right}
-use Rattle.apd_unify.proofs.Applying.{apply-variable}
+use Rattle.apd_term.proofs.Applying.{apply-variable}
 use Rattle.apd_trace.specs.Frames.{apply_frames, next_goal, under, variables_of_frames}
 use Rattle.apd_trace.specs.BuiltIn.{outcome, built, Solution, of_program, faulted, failed, solved, solved_or, solution_by, solution}
 use Rattle.apd_trace.specs.declared.frame.Frame.{Frame}

@@ -10,7 +10,7 @@ use Rattle.apd_term.specs.declared.run.RunError.TheVariants.{Size}
 use Rattle.apd_term.proofs.Named.{TupleIsNamed-apply, IsNamed-canonical, TupleIsNamed-canonical}
 use Rattle.apd_unify.specs.Textbook.{unifier_of}
 use Rattle.apd_unify.proofs.Named.{AnswerIsNamed, term_for-named, unifier_of-named}
-use Rattle.apd_clauses.specs.Clauses.{is_pred, clauses_from, clauses_of, clauses_for}
+use Rattle.apd_clauses.specs.Clauses.{is_pred, clauses_from, clauses_by, clauses_for}
 use Rattle.apd_ports.specs.declared.event.Port.TheVariants.{Exit}
 use Rattle.apd_trace.specs.declared.frame.Frame.{Frame}
 use Rattle.apd_trace.specs.declared.frame.Called.{Called}
@@ -140,9 +140,9 @@ clauses_from-named n i p (t ∷ P) named = either (is_pred (predicate_of t.head)
     either true later = (named.0, later)
     either false later = later
 
-clauses_of-named : (n : ℕ) (p : Option Pred) (P : List Tuple) → AllTuplesNamed n P → ClausesAreNamed n (clauses_of p P)
-clauses_of-named n None P named = tt
-clauses_of-named n (Some p) P named = clauses_from-named n 1 p P named
+clauses_by-named : (n : ℕ) (p : Option Pred) (P : List Tuple) → AllTuplesNamed n P → ClausesAreNamed n (clauses_by p P)
+clauses_by-named n None P named = tt
+clauses_by-named n (Some p) P named = clauses_from-named n 1 p P named
 
 outer-named : (n : ℕ) (F : List Frame) → AllFramesNamed n F → AllFramesNamed n (outer F)
 outer-named n [] named = tt
@@ -198,7 +198,7 @@ module _ (n : ℕ) (next : Next) (next-named : (F : List Frame) (b m : ℕ) → 
       → AllTuplesNamed n P → LookIsNamed n look → AllFramesNamed n F → AllItemsNamed n (turn next P look F b m).items
   turn-named P Nothing F b m program looked named = tt
   turn-named P (Goal g) F b m program looked named =
-      (looked, settled-named F g (clauses_for g.atom P) (solution F g m) (b + 1) m named looked (clauses_of-named n (predicate_of g.atom) P program) (solution-named n F g m named))
+      (looked, settled-named F g (clauses_for g.atom P) (solution F g m) (b + 1) m named looked (clauses_by-named n (predicate_of g.atom) P program) (solution-named n F g m named))
   turn-named P (Exits g e) F b m program looked named =
       let o = hand next (outer F) e b m in
       (looked, items_named-append n o.items (again g o.boxes o.points).items (hand-named (outer F) e b m (outer-named n F named)) (looked, tt))

@@ -93,7 +93,7 @@ abbrev pub GivesQuery : List ℕ → List (List ℕ) → Option Query → Type 0
 GivesQuery line names o = (more : List (List ℕ)) → query_of_line (names ++ more) line ≡ o
 
 -- a query with these goals
-abbrev queried : List (List ℕ) → List (List ℕ) → Option (List Term) → Option Query
+abbrev pub queried : List (List ℕ) → List (List ℕ) → Option (List Term) → Option Query
 queried n all o = o >>= λ goals. Some (record { tuple = record { head = list_term n (map variable (range_with_len 1 (length all))); body = goals }; vars = all })
 
 pub no_start : (line : List ℕ) (names : List (List ℕ)) → IsQueryStart line false → GivesQuery line names None

@@ -10,3 +10,5 @@ pub mod Ends
 pub mod Bodies
 pub mod Heads
 pub mod Lists
+pub mod Kept
+pub mod Runnable

@@ -1,10 +1,11 @@
 -- What a plain line is: a clause of a program, or a query.
 -- `names` are the texts of the names that are kept, by number; more names at their end change nothing.
-use Rattle.std.specs.Prelude.{ℕ, codes, Option, Some, None, List, [], ◌∷◌, length, map}
+use Rattle.std.specs.Prelude.{ℕ, ◌<◌, codes, Option, Some, None, List, [], ◌∷◌, length, map}
 use Rattle.std.specs.List.{range_with_len}
 use Rattle.apd_term.specs.declared.tuple.Tuple.{Tuple}
 use Rattle.apd_term.specs.declared.run.Query.{Query}
 use Rattle.apd_term.specs.Term.{Term, variable, compound, none, more}
+use Rattle.apd_clauses.specs.Clauses.{IsRunnable}
 use Rattle.apd_plain.specs.Words.{tokens_of}
 use Rattle.apd_plain.specs.Naming.{variables_in}
 use Rattle.apd_plain.specs.Grammar.{◌>>=◌, id_of, clause_at, query_at}
@@ -45,3 +46,8 @@ query_with_body q gs = None
 -- until rules are read: the query of one goal that a line is
 abbrev pub goal_of_line : List (List ℕ) → List ℕ → Option Query
 goal_of_line names line = query_of_line names line >>= λ q. query_with_body q q.tuple.body
+
+-- a query that can be run: goals that may be called, at least one
+pub record Runs (q : Query) : Type 0 where
+  pub runnable : IsRunnable q.tuple
+  pub goals : 0 < length q.tuple.body

@@ -1,9 +1,11 @@
 //! Whole lines: clauses and queries.
 
-ghost use Rattle.std.specs.Prelude.{◌≡◌, ℕ, ◌<◌, ◌≤◌, ◌+◌, ◌-◌, ◌++◌, List, length, map, IfOk, OnOk};
+ghost use Rattle.std.specs.Prelude.{◌≡◌, ℕ, ◌<◌, ◌≤◌, ◌+◌, ◌-◌, ◌++◌, List, length, map, IfOk, IfSome};
 ghost use Rattle.std.specs.List.{range_with_len};
 ghost use Rattle.apd_term.specs.Term.{variable};
-ghost use Rattle.apd_plain.specs.Lines.{clause_of_line, query_of_line, fact_of_line, goal_of_line, list_term};
+ghost use Rattle.apd_plain.specs.Lines.{clause_of_line, query_of_line, fact_of_line, goal_of_line, list_term, Runs};
+ghost use Rattle.apd_clauses.specs.Clauses.{IsClause};
+ghost use Rattle.apd_term.specs.Named.{TupleIsNamed};
 ghost use Rattle.apd_plain.specs.Steps.{GrowsBy};
 ghost use Rattle.apd_plain.specs.Readings.{IsQueryStart};
 
@@ -16,12 +18,8 @@ use apd_term::term::{Flat, NameId, Sym};
 use apd_term::tuple::Tuple;
 use std::alloc::{AllocError, Global};
 
-/// Reads a line of a program: the clause that it is; none where it isn't plain.
-pub fn read_clause(
-    alloc: Global,
-    names: &mut Names,
-    line: &[u8],
-) -> Result<Option<Tuple>, AllocError>
+/// The clause that a line is; none where it isn't plain.
+fn plain_clause(alloc: Global, names: &mut Names, line: &[u8]) -> Result<Option<Tuple>, AllocError>
     requires { length names.old + length line.now < 4000000000 }
     ensures names { GrowsBy (length line.now) names.old names.new }
     ensures read { IfOk result (λ r. (more : List (List ℕ)) → clause_of_line (names.new ++ more) line.now ≡ r) }
@@ -97,12 +95,8 @@ fn variable_list(alloc: Global, names: &mut Names, count: usize) -> Result<Flat,
     Ok(Flat::of_symbols(symbols))
 }
 
-/// Reads a query; none where the line isn't a plain one.
-pub fn read_query(
-    alloc: Global,
-    names: &mut Names,
-    line: &[u8],
-) -> Result<Option<Query>, AllocError>
+/// The query that a line is; none where it isn't plain.
+fn plain_query(alloc: Global, names: &mut Names, line: &[u8]) -> Result<Option<Query>, AllocError>
     requires { length names.old + length line.now < 4000000000 }
     ensures names { GrowsBy (length line.now) names.old names.new }
     ensures read { IfOk result (λ r. (more : List (List ℕ)) → query_of_line (names.new ++ more) line.now ≡ r) }
@@ -122,11 +116,47 @@ pub fn read_query(
     }))
 }
 
+/// Reads a line of a program: the clause that it is; none where it isn't plain.
+///
+/// After want of memory the names have only grown.
+pub fn read_clause(
+    alloc: Global,
+    names: &mut Names,
+    line: &[u8],
+) -> Result<Option<Tuple>, AllocError>
+    requires { length names.old + length line.now < 4000000000 }
+    ensures names { GrowsBy (length line.now) names.old names.new }
+    ensures read { IfOk result (λ r. (more : List (List ℕ)) → clause_of_line (names.new ++ more) line.now ≡ r) }
+    ensures clause { IfOk result (λ r. IfSome r IsClause) }
+    ensures named { IfOk result (λ r. IfSome r (TupleIsNamed (length names.new))) }
+{
+    plain_clause(alloc, names, line)
+}
+
+/// Reads a query; none where the line isn't a plain one.
+///
+/// After want of memory the names have only grown.
+pub fn read_query(
+    alloc: Global,
+    names: &mut Names,
+    line: &[u8],
+) -> Result<Option<Query>, AllocError>
+    requires { length names.old + length line.now < 4000000000 }
+    ensures names { GrowsBy (length line.now) names.old names.new }
+    ensures read { IfOk result (λ r. (more : List (List ℕ)) → query_of_line (names.new ++ more) line.now ≡ r) }
+    ensures runs { length line.now ≤ 1000000000 → IfOk result (λ r. IfSome r Runs) }
+    ensures named { IfOk result (λ r. IfSome r (λ q. TupleIsNamed (length names.new) q.tuple)) }
+{
+    plain_query(alloc, names, line)
+}
+
 /// Reads a line of a program of facts: the fact that it is; none where it isn't plain or has goals.
 pub fn read_fact(alloc: Global, names: &mut Names, line: &[u8]) -> Result<Option<Tuple>, AllocError>
     requires { length names.old + length line.now < 4000000000 }
     ensures names { GrowsBy (length line.now) names.old names.new }
     ensures read { IfOk result (λ r. (more : List (List ℕ)) → fact_of_line (names.new ++ more) line.now ≡ r) }
+    ensures clause { IfOk result (λ r. IfSome r IsClause) }
+    ensures named { IfOk result (λ r. IfSome r (TupleIsNamed (length names.new))) }
 {
     let Some(tuple) = read_clause(alloc, names, line)? else {
         return Ok(None);
@@ -142,6 +172,8 @@ pub fn read_goal(alloc: Global, names: &mut Names, line: &[u8]) -> Result<Option
     requires { length names.old + length line.now < 4000000000 }
     ensures names { GrowsBy (length line.now) names.old names.new }
     ensures read { IfOk result (λ r. (more : List (List ℕ)) → goal_of_line (names.new ++ more) line.now ≡ r) }
+    ensures runs { length line.now ≤ 1000000000 → IfOk result (λ r. IfSome r Runs) }
+    ensures named { IfOk result (λ r. IfSome r (λ q. TupleIsNamed (length names.new) q.tuple)) }
 {
     let Some(query) = read_query(alloc, names, line)? else {
         return Ok(None);

@@ -1,5 +1,5 @@
 -- Terms without variables.
-use Rattle.std.proofs.Common.{◌≡◌, ℕ, List, [], ◌∷◌, map, inl, inr, refl, ap, subst, ◌∙◌}
+use Rattle.std.proofs.Common.{◌≡◌, ℕ, List, [], ◌∷◌, inl, inr, refl, subst, ◌∙◌}
 use Rattle.std.specs.List.{flat_map}
 use Rattle.apd_term.specs.Term.{Term, variable, apply, variables, IsGround, IsAmong, Occurs}
 use Rattle.apd_term.proofs.Applying.{apply-variable, variables-apply}

@@ -1,3 +1,5 @@
+//! Names: the texts that names stand for.
+
 ghost use Rattle.std.specs.Prelude.{◌≡◌, ◌<◌, [], length, OnOk, OnErr, IfOk};
 ghost use Rattle.apd_term.specs.Names.{number_of, text_of_name, with_name, HasDistinctTexts};
 ghost use Rattle.apd_term.specs.StandardNames.{standard_names};
@@ -8,7 +10,7 @@ use indexmap::IndexSet;
 use std::alloc::{AllocError, Global};
 use std::marker::Model;
 
-/// The texts of names, each once; a name's id is its place among them.
+/// The texts of names, each once; a name's id is its place among them, from 0. Contracts see the list of the texts.
 #[derive(Drop)]
 pub struct Names {
     texts: IndexSet<Vec<u8>>,
@@ -34,7 +36,7 @@ impl Names {
         }
     }
 
-    /// The standard names alone.
+    /// The standard names alone. The only error is want of memory.
     pub fn standard(alloc: Global) -> Result<Names, AllocError>
         ensures { IfOk result (λ names. names ≡ standard_names) }
     {
@@ -45,7 +47,7 @@ impl Names {
         Ok(names)
     }
 
-    /// How many names there are.
+    /// How many names there are; their texts are distinct.
     pub fn count(&self) -> usize
         ensures count { result ≡ length self.now }
         ensures distinct { HasDistinctTexts self.now }
@@ -53,8 +55,8 @@ impl Names {
         self.texts.len()
     }
 
-    /// The id of the text, which is put at the end where it isn't there yet; after want of memory the names are as
-    /// before.
+    /// The id of the text, which is put at the end where it isn't there yet, while fewer than 4,000,000,000 names are
+    /// there. After want of memory the names are as before.
     pub fn intern(&mut self, text: &[u8]) -> Result<NameId, AllocError>
         requires { length self.old < 4000000000 }
         ensures names { OnOk result (self.new ≡ with_name self.old text.now) }

@@ -1,3 +1,5 @@
+//! What is asked of a program, and how a run of it ends.
+
 use crate::list::VarNames;
 use crate::tuple::Tuple;
 
@@ -41,6 +43,7 @@ pub enum RunError {
 /// What a run showed.
 #[derive(Clone, Copy, PartialEq, Eq, Debug)]
 pub struct Ran {
+    /// Why the run ended there.
     pub end: RunEnd,
     /// How many ports were shown.
     pub ports: u32,

@@ -1,3 +1,5 @@
+//! The ids of the standard names.
+
 ghost use Rattle.std.specs.Prelude.{◌≡◌, map};
 ghost use Rattle.apd_term.specs.StandardNames.{standard_names};
 

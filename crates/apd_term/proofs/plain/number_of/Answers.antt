@@ -1,4 +1,4 @@
-use Rattle.std.proofs.Common.{◌≡◌, ◌∙◌, ap, sym, subst}
+use Rattle.std.proofs.Common.{◌∙◌, ap, sym}
 use Rattle.apd_term.specs.Names.{same_text, number_of}
 use Rattle.apd_term.proofs.Naming.{number_here, number_further}
 use Rattle.apd_term.proofs.plain.number_of.Goals as goal

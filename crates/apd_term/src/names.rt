@@ -4,7 +4,7 @@ ghost use Rattle.std.specs.Prelude.{◌≡◌, ◌<◌, [], length, OnOk, OnErr,
 ghost use Rattle.apd_term.specs.Names.{number_of, text_of_name, with_name, HasDistinctTexts};
 ghost use Rattle.apd_term.specs.StandardNames.{standard_names};
 
-use crate::standard::texts;
+use crate::standard_texts::texts;
 use crate::term::NameId;
 use indexmap::IndexSet;
 use std::alloc::{AllocError, Global};

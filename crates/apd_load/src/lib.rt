@@ -22,3 +22,6 @@ pub enum LoadText {
 pub struct Loaded {
     pub program: Program,
 }
+
+#[cfg(test)]
+mod tests;

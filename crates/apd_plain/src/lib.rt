@@ -11,3 +11,6 @@ mod terms;
 mod unfinished;
 
 pub use lines::{read_clause, read_fact, read_goal, read_query};
+
+#[cfg(test)]
+mod tests;

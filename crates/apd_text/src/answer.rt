@@ -76,14 +76,14 @@ pub fn answer_line(
     alloc: Global,
     names: &Names,
     vars: &VarNames,
-    number: u32,
+    number: u64,
     values: &Flat,
 ) -> Result<Text, AllocError>
     ensures { IfOk result (λ t. t ≡ answer_text names.now vars.now number values.now) }
 {
     let texts = bindings(alloc, names, vars.as_slice(), values)?;
     let mut text = Text::copy_of(alloc, b"answer ")?;
-    add_number(alloc, number as u64, &mut text)?;
+    add_number(alloc, number, &mut text)?;
     text.extend(b": ")?;
     add_values(texts.as_slice(), &mut text)?;
     text.extend(b"\n")?;

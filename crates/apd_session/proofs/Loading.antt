@@ -1,0 +1,84 @@
+-- A loaded program is ready for the lines of the input.
+use Rattle.std.proofs.Common.{◌≡◌, ℕ, ◌+◌, ◌<◌, ◌≤◌, List, [], ◌∷◌, ◌++◌, length, refl, ap, sym, ◌∙◌, arith, length-append, Option, subst}
+use Rattle.std.proofs.lemmas.List.{append-nil}
+use Rattle.apd_clauses.specs.Clauses.{tuples_of}
+use Rattle.apd_clauses.specs.declared.clause.Clause.{Clause}
+use Rattle.apd_load.specs.Steps.{ClausesAreNamed}
+use Rattle.apd_plain.specs.Steps.{GrowsBy}
+use Rattle.apd_trace.specs.Named.{AllTuplesNamed}
+use Rattle.apd_io.specs.Outside.{Rose}
+use Rattle.apd_console.specs.Console.{Kept, IsKept, fresh}
+use Rattle.apd_console.specs.Talk.{Meaning, Ends, Breaks as BreaksOff, at, onto, replies}
+use Rattle.apd_console.specs.declared.talk.Ending.{Ending}
+use Rattle.apd_console.specs.declared.talk.Ending.TheVariants as ending
+use Rattle.apd_console.specs.declared.talk.Trouble.{Trouble}
+use Rattle.apd_console.specs.declared.talk.Trouble.TheVariants as trouble
+use Rattle.apd_load.specs.Program.{Loads, loads, program_of}
+use Rattle.apd_text.specs.declared.entry.Entry.{Entry}
+use Rattle.apd_text.specs.declared.entry.Entry.TheVariants.{Loaded}
+use Rattle.apd_session.specs.Commands.{Grew}
+use Rattle.apd_session.specs.Outcome.{Answers, IsSaid, status_of}
+use Rattle.apd_session.specs.Session.{Options, after_load, status_after, tells}
+use Rattle.apd_session.specs.Steps.{begun, plain, talker}
+use Rattle.apd_session.specs.declared.state.State.{State}
+use Rattle.apd_session.specs.declared.status.Status.{Status}
+use Rattle.apd_session.specs.declared.status.Status.TheVariants as statuses
+use Rattle.apd_session.proofs.Worlds.{answers_ended, answers_broken}
+
+pub loaded_named : (n : ℕ) (cs : List Clause) → ClausesAreNamed n cs → AllTuplesNamed n (tuples_of cs)
+loaded_named n [] named = tt
+loaded_named n (c ∷ cs) named = (named.0, loaded_named n cs named.1)
+
+pub grew_by : (m : ℕ) (a b : List (List ℕ)) → GrowsBy m a b → Grew a b
+grew_by m a b grows = (grows.0, grows.1)
+
+pub grows_to : (m : ℕ) (a b : List (List ℕ)) → GrowsBy m a b → length b ≤ length a + m
+grows_to m a b grows = let e : length b ≡ length (a ++ grows.0) = ap length grows.1 in let l = length-append a grows.0 in let s = grows.2 in omega (arith, e, l, s)
+
+-- the state that the input's lines are heard in
+abbrev pub state_for : List Clause → Options → State
+state_for program options = record { program = program; budget = options.budget; answers = options.answers; filter = options.filter }
+
+-- what the whole input means once the program is loaded
+abbrev pub opening : List (List ℕ) → State → Meaning Entry
+opening names s room more ends = onto (plain names (Loaded (length s.program)) ∷ []) (replies (talker names) s room more ends)
+
+module _ (names : List (List ℕ)) (options : Options) (text : List ℕ) (program : List Clause) (is : program_of names text ≡ loads program) (s : State) (state : s ≡ state_for program options)
+    (k l : Kept) (start : k ≡ fresh) (sound : IsKept l) (log log_now : List Entry) (empty : log ≡ []) (x y z w : Option (List ℕ)) (a b c d : ℕ) where
+  pub loaded_ended : (e : Ending) → Ends (opening names s) (at k x a log z c) (at l y b log_now w d) e → Answers x (Rose a b) (λ input ends. after_load names options input ends (program_of names text)) (status_after e) log_now z w
+  loaded_ended e ended =
+      let first = subst (λ (p : Kept). Ends (opening names s) (at p x a log z c) (at l y b log_now w d) e) start ended in
+      let second = subst (λ (p : List Entry). Ends (opening names s) (at fresh x a p z c) (at l y b log_now w d) e) empty first in
+      let third = subst (λ (p : State). Ends (opening names p) (at fresh x a [] z c) (at l y b log_now w d) e) state second in
+      rw is (answers_ended (opening names (state_for program options)) l x y z w a b c d log_now e sound third)
+
+  pub loaded_broken : (t : Trouble) → BreaksOff begun (opening names s) (at k x a log z c) (at l y b log_now w d) t → Answers x (Rose a b) (λ input ends. after_load names options input ends (program_of names text)) (status_of t) log_now z w
+  loaded_broken t broken =
+      let first = subst (λ (p : Kept). BreaksOff begun (opening names s) (at p x a log z c) (at l y b log_now w d) t) start broken in
+      let second = subst (λ (p : List Entry). BreaksOff begun (opening names s) (at fresh x a p z c) (at l y b log_now w d) t) empty first in
+      let third = subst (λ (p : State). BreaksOff begun (opening names p) (at fresh x a [] z c) (at l y b log_now w d) t) state second in
+      rw is (answers_broken (opening names (state_for program options)) l x y z w a b c d log_now t sound third)
+
+-- which statuses tell of a fault
+pub ended_read : (e : Ending) → status_after e ≡ statuses.ReadFault → e ≡ ending.ReadFault
+ended_read ending.Done is = absurd (cc)
+ended_read ending.ReadFault is = refl
+ended_read ending.InputLimit is = absurd (cc)
+
+pub ended_no_write : (e : Ending) → status_after e ≡ statuses.WriteFault → ⊥
+ended_no_write ending.Done is = absurd (cc)
+ended_no_write ending.ReadFault is = absurd (cc)
+ended_no_write ending.InputLimit is = absurd (cc)
+
+pub broken_no_read : (t : Trouble) → status_of t ≡ statuses.ReadFault → ⊥
+broken_no_read trouble.WriteFault is = absurd (cc)
+broken_no_read trouble.Memory is = absurd (cc)
+
+pub broken_write : (t : Trouble) → status_of t ≡ statuses.WriteFault → t ≡ trouble.WriteFault
+broken_write trouble.WriteFault is = refl
+broken_write trouble.Memory is = absurd (cc)
+
+-- what was said with the names that are kept now
+pub said_now : (names later : List (List ℕ)) (e : Entry) (st result : Status) (log : List Entry) (x y : Option (List ℕ)) → later ≡ names →
+    ((more : List (List ℕ)) → IsSaid result (tells (names ++ more) e st) log x y) → IsSaid result (tells later e st) log x y
+said_now names later e st result log x y same said = subst (λ (l : List (List ℕ)). IsSaid result (tells l e st) log x y) (append-nil names ∙ sym same) (said [])

@@ -1,0 +1,56 @@
+-- What a session met outside, and what it said.
+use Rattle.std.specs.Prelude.{ℕ, ◌≡◌, List, [], ◌∷◌, Option, None, Some, ⊤, IfSome, Result, IsErrOf, ◌≤◌}
+use Rattle.apd_io.specs.Outside.{Rose}
+use Rattle.apd_console.specs.Lines.{InputEnd, Fails}
+use Rattle.apd_console.specs.Outcome.{IsGiven, SomeInput}
+use Rattle.apd_console.specs.Utterance.{Utters, UttersFront}
+use Rattle.apd_console.specs.declared.talk.Trouble.{Trouble}
+use Rattle.apd_console.specs.declared.talk.Trouble.TheVariants as trouble
+use Rattle.apd_text.specs.declared.entry.Entry.{Entry}
+use Rattle.apd_session.specs.Steps.{begun}
+use Rattle.apd_session.specs.Session.{World, Loading, Gives, Breaks, Told, options_of}
+use Rattle.apd_session.specs.declared.status.Status.{Status}
+use Rattle.apd_session.specs.declared.status.Status.TheVariants.{Done, Usage, Program, ReadFault, WriteFault, Memory, InputLimit, FileTooLong}
+
+-- where a content is told, this is what a load of it gives
+abbrev pub IsLoading : Option (List ℕ) → Loading → Type 0
+IsLoading None loading = ⊤
+IsLoading (Some known) (Gives bytes) = bytes ≡ known
+IsLoading (Some known) Breaks = ⊤
+
+-- the world is as far as it is told, and it fails only where a count rose
+pub record IsMet (words : List (List ℕ)) (content : List ℕ → Option (List ℕ)) (left : Option (List ℕ)) (load_failed read_failed : Type 0) (world : World) : Type 0 where
+  pub program : IfSome (options_of words) (λ options. IsLoading (content options.program) world.program)
+  pub breaks : world.program ≡ Breaks → load_failed
+  pub given : IsGiven left world.input world.ends
+  pub fails : world.ends ≡ Fails → read_failed
+
+-- all was said and printed, and this is the status
+pub record IsWhole (status : Status) (told : Told) (log : List Entry) (held held_now : Option (List ℕ)) : Type 0 where
+  pub status_is : told.status ≡ status
+  pub says : Utters [] log held held_now told.utterances
+
+-- after a write fault or want of memory the front was said, and of that the front was printed
+abbrev pub IsSaid : Status → Told → List Entry → Option (List ℕ) → Option (List ℕ) → Type 0
+IsSaid WriteFault told log held held_now = UttersFront begun [] log held held_now told.utterances
+IsSaid Memory told log held held_now = UttersFront begun [] log held held_now told.utterances
+IsSaid status told log held held_now = IsWhole status told log held held_now
+
+-- there is a world that is met, and what was said is what a session says in it
+abbrev pub Meets : (List (List ℕ) → World → Told) → List (List ℕ) → (List ℕ → Option (List ℕ)) → Option (List ℕ) → Type 0 → Type 0 → List (List ℕ) → Status → List Entry → Option (List ℕ) → Option (List ℕ) → Type 0
+Meets session words content left load_failed read_failed names status log held held_now =
+    (world : World) × IsMet words content left load_failed read_failed world × IsSaid status (session names world) log held held_now
+
+-- there is an input that is given, and what was said is what is told of it
+abbrev pub Answers : Option (List ℕ) → Type 0 → (List ℕ → InputEnd → Told) → Status → List Entry → Option (List ℕ) → Option (List ℕ) → Type 0
+Answers left failed told st log held held_now = SomeInput left failed (λ input ends. IsSaid st (told input ends) log held held_now)
+
+-- the sink's count never falls, and a write fault is answered only where it rose
+pub record HasWriteCause {T : Type 0} (before now : ℕ) (result : Result T Trouble) : Type 0 where
+  pub later : before ≤ now
+  pub failed : IsErrOf result trouble.WriteFault → Rose before now
+
+-- the status of a session that breaks off
+abbrev pub status_of : Trouble → Status
+status_of trouble.WriteFault = WriteFault
+status_of trouble.Memory = Memory

@@ -1,0 +1,91 @@
+-- A whole session: from the words, the program's text, the input and the names that are kept in the end to what is said and the status.
+use Rattle.std.specs.Prelude.{ℕ, List, [], ◌∷◌, length, Bool, false, if◌then◌else◌, Option, None, Some, nat_lt, nat_eq}
+use Rattle.apd_console.specs.Lines.{InputEnd}
+use Rattle.apd_console.specs.Talk.{Said, onto, replies}
+use Rattle.apd_console.specs.Utterance.{Utterance}
+use Rattle.apd_console.specs.declared.talk.Ending.{Ending}
+use Rattle.apd_console.specs.declared.talk.Ending.TheVariants as ending
+use Rattle.apd_load.specs.Program.{Loads, refused, loads, program_of}
+use Rattle.apd_ports.specs.declared.filter.Filter.{Filter}
+use Rattle.apd_ports.specs.declared.filter.Filter.TheVariants.{Off}
+use Rattle.apd_text.specs.declared.entry.Entry.{Entry}
+use Rattle.apd_text.specs.declared.entry.Entry.TheVariants.{Loaded, UsageRefused, ProgramRefused, FileTooLong, InputFault}
+use Rattle.apd_session.specs.Steps.{plain, talker}
+use Rattle.apd_session.specs.declared.status.Status.{Status}
+use Rattle.apd_session.specs.declared.status.Status.TheVariants as status
+
+-- the exit status of the program
+abbrev pub number_of : Status → ℕ
+number_of status.Done = 0
+number_of status.Usage = 2
+number_of status.Program = 3
+number_of status.ReadFault = 4
+number_of status.WriteFault = 5
+number_of status.Memory = 6
+number_of status.InputLimit = 7
+number_of status.FileTooLong = 9
+
+-- what a load gives: the bytes of a file, or a fault
+pub data Loading : Type 0 where
+  Gives : List ℕ → Loading
+  Breaks : Loading
+
+-- what a session meets outside: its program file, and the bytes that its input gives before it ends
+pub record World : Type 0 where
+  pub program : Loading
+  pub input : List ℕ
+  pub ends : InputEnd
+
+-- what the words ask for
+pub record Options : Type 0 where
+  pub program : List ℕ
+  pub budget : ℕ
+  pub answers : ℕ
+  pub filter : Filter
+
+-- what is said, and the status
+pub record Told : Type 0 where
+  pub utterances : List (Utterance Entry)
+  pub status : Status
+
+abbrev pub begins_with_dash : List ℕ → Bool
+begins_with_dash [] = false
+begins_with_dash (b ∷ word) = nat_eq b 45
+
+-- the program's own name, and the name of a file
+unfoldable pub options_of : List (List ℕ) → Option Options
+options_of (own ∷ file ∷ []) = if begins_with_dash file then None else Some (record { program = file; budget = 100000; answers = 1000000; filter = Off })
+options_of words = None
+
+abbrev pub status_after : Ending → Status
+status_after ending.Done = status.Done
+status_after ending.ReadFault = status.ReadFault
+status_after ending.InputLimit = status.InputLimit
+
+abbrev pub told_of : Said Entry → Told
+told_of said = record { utterances = said.utterances; status = status_after said.ending }
+
+-- one thing is said
+abbrev pub tells : List (List ℕ) → Entry → Status → Told
+tells names entry st = record { utterances = plain names entry ∷ []; status = st }
+
+abbrev pub after_load : List (List ℕ) → Options → List ℕ → InputEnd → Loads → Told
+after_load names options input ends (refused line cause) = tells names (ProgramRefused line cause) status.Program
+after_load names options input ends (loads program) =
+    told_of (onto (plain names (Loaded (length program)) ∷ [])
+    (replies (talker names) (record { program = program; budget = options.budget; answers = options.answers; filter = options.filter }) 16777216 input ends))
+
+abbrev pub after_words : List (List ℕ) → World → Options → Loading → Told
+after_words names world options Breaks = tells names InputFault status.ReadFault
+after_words names world options (Gives text) =
+    if nat_lt 1048576 (length text)
+    then tells names (FileTooLong 1048577) status.FileTooLong
+    else after_load names options world.input world.ends (program_of names text)
+
+abbrev pub after_options : List (List ℕ) → World → Option Options → Told
+after_options names world None = tells names UsageRefused status.Usage
+after_options names world (Some options) = after_words names world options world.program
+
+-- the whole
+abbrev pub session_of : List (List ℕ) → List (List ℕ) → World → Told
+session_of words names world = after_options names world (options_of words)

@@ -1,0 +1,19 @@
+//! A session: from the words, the files and the input to what is printed and the status.
+#![tactic(auto)]
+
+mod commands;
+mod printer;
+mod query;
+mod say;
+mod state;
+mod status;
+mod top;
+mod turns;
+mod warnings;
+mod words;
+
+pub use apd_text::{Entry, Log};
+pub use commands::Command;
+pub use state::State;
+pub use status::Status;
+pub use top::session;

@@ -1,0 +1,78 @@
+// What a run is shown to: a printer of its lines.
+ghost use Rattle.std.specs.Prelude.{◌≡◌, ◌≤◌, Err};
+ghost use Rattle.apd_io.specs.Outside.{Rose};
+ghost use Rattle.apd_session.specs.Printing.{PrintsLine};
+ghost use Rattle.apd_ports.specs.Filter.{is_admitted};
+
+use apd_console::Console;
+use apd_io::Sink;
+use apd_ports::{Event, Filter, Hook, HookFault};
+use apd_term::names::Names;
+use apd_term::{Flat, Text, VarNames};
+use apd_text::{answer_line, port_line};
+use std::alloc::{AllocError, Global};
+
+/// Prints the ports that a filter admits, and the answers with their numbers.
+#[derive(Drop)]
+pub(crate) struct Printer<'a, K: Sink> {
+    pub alloc: Global,
+    pub out: &'a mut K,
+    pub names: &'a Names,
+    pub vars: &'a VarNames,
+    pub filter: &'a Filter,
+    /// How many answers were printed.
+    pub answers: u64,
+}
+
+/// Prints a line, where there was memory for it.
+fn print_line<K: Sink>(out: &mut K, line: Result<Text, AllocError>) -> Result<(), HookFault>
+    ensures line { PrintsLine (K.held out.old) (K.held out.new) line result }
+    ensures later { K.faults out.old ≤ K.faults out.new }
+    ensures cause { result ≡ Err HookFault.WriteFault → Rose (K.faults out.old) (K.faults out.new) }
+{
+    let Ok(text) = line else {
+        return Err(HookFault::Memory);
+    };
+    match Console::print(out, text.bytes()) {
+        Ok(()) => Ok(()),
+        Err(_) => Err(HookFault::WriteFault),
+    }
+}
+
+fn is_printed(filter: &Filter) -> bool
+    ensures { result ≡ is_admitted filter.now }
+{
+    match filter {
+        Filter::Off => false,
+        Filter::All => true,
+    }
+}
+
+impl<K: Sink> Hook for Printer<'_, K> {
+    ghost use Rattle.apd_session.specs.Printing.{Prints};
+
+    ghost faults = { λ p. K.faults p.out.now };
+
+    ghost step = { λ p x r q. (q.out.ghost_name ≡ p.out.ghost_name) × (q.names.now ≡ p.names.now) × (q.vars.now ≡ p.vars.now) × (q.filter.now ≡ p.filter.now)
+        × Prints p.names.now p.vars.now p.filter.now (K.held p.out.now) (K.held q.out.now) p.answers q.answers x r };
+
+    fn event(&mut self, event: &Event) -> Result<(), HookFault> {
+        if !is_printed(self.filter) {
+            return Ok(());
+        }
+        let line = port_line(self.alloc, self.names, event);
+        print_line(self.out, line)
+    }
+
+    fn answer(&mut self, values: &Flat) -> Result<(), HookFault> {
+        let number = self.answers.saturating_add(1);
+        let line = answer_line(self.alloc, self.names, self.vars, number, values);
+        match print_line(self.out, line) {
+            Ok(()) => {
+                self.answers = number;
+                Ok(())
+            }
+            Err(fault) => Err(fault),
+        }
+    }
+}

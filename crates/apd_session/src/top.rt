@@ -1,0 +1,183 @@
+//! The whole of a session.
+ghost use Rattle.std.specs.Prelude.{◌≡◌, ◌<◌, ◌≤◌, ◌+◌, ◌++◌, ◌⊎◌, List, ℕ, [], ◌∷◌, map, length, Some, None, IfSome, MatchResult, string_bytes};
+ghost use Rattle.apd_console.specs.Console.{IsKept, fresh, room_of};
+ghost use Rattle.apd_console.specs.Lines.{InputEnd, Ended};
+ghost use Rattle.apd_console.specs.Talk.{Breaks, Ends, at, onto, replies};
+ghost use Rattle.apd_io.specs.Outside.{Rose};
+ghost use Rattle.apd_load.specs.Program.{program_of};
+ghost use Rattle.apd_term.specs.StandardNames.{standard_names};
+ghost use Rattle.apd_text.specs.declared.entry.Entry.TheVariants as entries;
+ghost use Rattle.apd_text.specs.Named.{EntryIsNamed};
+ghost use Rattle.apd_session.specs.Commands.{Grew};
+ghost use Rattle.apd_session.specs.Outcome.{Answers, IsSaid, IsWhole, Meets};
+ghost use Rattle.apd_session.specs.Running.{IsReady};
+ghost use Rattle.apd_session.specs.Session.{Gives, Options, World, after_load, options_of, session_of, tells};
+ghost use Rattle.apd_session.specs.Steps.{begun, plain, talker};
+
+use crate::say::say;
+use crate::state::State;
+use crate::status::{Status, status_after, status_of};
+use crate::turns::converse;
+use crate::words::{Asked, read_words};
+use apd_console::{Console, Ending, Trouble};
+use apd_io::{Files, LoadFault, Sink, Source};
+use apd_load::{LoadText, load};
+use apd_term::Text;
+use apd_text::{Entry, Log};
+use std::alloc::Global;
+
+/// Says one thing and ends.
+fn end_with<K: Sink>(
+    alloc: Global,
+    out: &mut K,
+    log: &mut Log,
+    entry: Entry,
+    status: Status,
+) -> Status
+    requires empty { log.old.entries ≡ [] }
+    requires named { EntryIsNamed (length log.old.names) entry }
+    ensures said { (more : List (List ℕ)) → IsSaid result (tells (log.old.names ++ more) entry status) log.new.entries (K.held out.old) (K.held out.new) }
+    ensures names { log.new.names ≡ log.old.names }
+    ensures write { result ≡ Status.WriteFault → (status ≡ Status.WriteFault) ⊎ Rose (K.faults out.old) (K.faults out.new) }
+    ensures is { (result ≡ status) ⊎ ((result ≡ Status.WriteFault) ⊎ (result ≡ Status.Memory)) }
+{
+    match say(alloc, out, log, entry) {
+        Ok(()) => status,
+        Err(trouble) => status_of(trouble),
+    }
+}
+
+/// Says that the program is loaded, and hears the lines of the input.
+fn begin<S: Source, K: Sink>(
+    alloc: Global,
+    state: &State,
+    console: &mut Console,
+    input: &mut S,
+    out: &mut K,
+    log: &mut Log,
+) -> Result<Ending, Trouble>
+    requires ready { IsReady (length log.old.names) state.now }
+    requires few { length log.old.names ≤ 1000000000 }
+    requires start { console.old ≡ fresh }
+    ensures talk { (names : List (List ℕ)) → Grew log.new.names names → MatchResult result
+        (λ e. Ends (λ room more ends. onto (plain names (entries.Loaded (length state.now.program)) ∷ []) (replies (talker names) state.now room more ends))
+        (at console.old (S.left input.old) (S.faults input.old) log.old.entries (K.held out.old) (K.faults out.old))
+        (at console.new (S.left input.new) (S.faults input.new) log.new.entries (K.held out.new) (K.faults out.new)) e)
+        (λ t. Breaks begun (λ room more ends. onto (plain names (entries.Loaded (length state.now.program)) ∷ []) (replies (talker names) state.now room more ends))
+        (at console.old (S.left input.old) (S.faults input.old) log.old.entries (K.held out.old) (K.faults out.old))
+        (at console.new (S.left input.new) (S.faults input.new) log.new.entries (K.held out.new) (K.faults out.new)) t) }
+    ensures names { Grew log.old.names log.new.names }
+    ensures sound { IsKept console.new }
+{
+    let clauses = state.program.count();
+    match say(alloc, out, log, Entry::Loaded { clauses }) {
+        Ok(()) => converse(alloc, state, console, input, out, log),
+        Err(trouble) => Err(trouble),
+    }
+}
+
+/// Reads the program's text, and hears the lines of the input.
+fn talk<S: Source, K: Sink>(
+    alloc: Global,
+    asked: Asked<'_>,
+    text: &Text,
+    input: &mut S,
+    out: &mut K,
+    log: &mut Log,
+) -> Status
+    requires empty { log.old.entries ≡ [] }
+    requires few { length log.old.names ≤ 1000000 }
+    requires size { length text.now ≤ 1048576 }
+    requires limits { (asked.budget ≤ 1000000) × (0 < asked.answers) × (asked.answers ≤ 1000000) }
+    ensures answers { (names : List (List ℕ)) → Grew log.new.names names → (options : Options) → options ≡ record { program = asked.entry.program.now; budget = asked.entry.budget; answers = asked.entry.answers; filter = asked.entry.filter } →
+        Answers (S.left input.old) (Rose (S.faults input.old) (S.faults input.new)) (λ input ends. after_load names options input ends (program_of names text.now)) result log.new.entries (K.held out.old) (K.held out.new) }
+    ensures read { result ≡ Status.ReadFault → Rose (S.faults input.old) (S.faults input.new) }
+    ensures write { result ≡ Status.WriteFault → Rose (K.faults out.old) (K.faults out.new) }
+{
+    let program = match load(alloc, text.bytes(), &mut log.names) {
+        Ok(loaded) => loaded.program,
+        Err(LoadText::Refused { line, cause }) => {
+            let entry = Entry::ProgramRefused { line, cause };
+            return end_with(alloc, out, log, entry, Status::Program);
+        }
+        Err(LoadText::Memory) => return Status::Memory,
+    };
+    let state = State {
+        program,
+        budget: asked.budget,
+        answers: asked.answers,
+        filter: asked.filter,
+    };
+    let Ok(mut console) = Console::new(alloc) else {
+        return Status::Memory;
+    };
+    match begin(alloc, &state, &mut console, input, out, log) {
+        Ok(ending) => status_after(ending),
+        Err(trouble) => status_of(trouble),
+    }
+}
+
+/// A session without the clause that follows from the others.
+fn serve<F: Files, S: Source, K: Sink>(
+    alloc: Global,
+    words: &[String],
+    files: &mut F,
+    input: &mut S,
+    out: &mut K,
+    log: &mut Log,
+) -> Status
+    requires empty { log.old.entries ≡ [] }
+    requires standard { log.old.names ≡ standard_names }
+    ensures meaning { Meets (session_of (map (λ w. string_bytes w) words.now)) (map (λ w. string_bytes w) words.now) (F.content files.old) (S.left input.old)
+        (Rose (F.faults files.old) (F.faults files.new)) (Rose (S.faults input.old) (S.faults input.new)) log.new.names result log.new.entries (K.held out.old) (K.held out.new) }
+    ensures read { result ≡ Status.ReadFault → Rose (F.faults files.old) (F.faults files.new) ⊎ Rose (S.faults input.old) (S.faults input.new) }
+    ensures write { result ≡ Status.WriteFault → Rose (K.faults out.old) (K.faults out.new) }
+{
+    let Some(asked) = read_words(words) else {
+        return end_with(alloc, out, log, Entry::UsageRefused, Status::Usage);
+    };
+    match files.load(alloc, asked.program) {
+        Ok(text) => talk(alloc, asked, &text, input, out, log),
+        Err(LoadFault::Failed) => end_with(alloc, out, log, Entry::InputFault, Status::ReadFault),
+        Err(LoadFault::TooLong(length)) => {
+            let entry = Entry::FileTooLong { length };
+            end_with(alloc, out, log, entry, Status::FileTooLong)
+        }
+        Err(LoadFault::Memory) => Status::Memory,
+    }
+}
+
+/// A session: loads the program that the words name, then hears the lines of the input, and says what there is to say.
+///
+/// The first word is the program's own name, and the second the name of a file. The log's entries
+/// are what was said, and the sink has their texts. The status tells how the session ended;
+/// [`Status::ReadFault`] where a load or a read failed, [`Status::WriteFault`] where a write failed,
+/// and [`Status::Memory`] where there was no memory.
+pub fn session<F: Files, S: Source, K: Sink>(
+    alloc: Global,
+    words: &[String],
+    files: &mut F,
+    input: &mut S,
+    out: &mut K,
+    log: &mut Log,
+) -> Status
+    requires empty { log.old.entries ≡ [] }
+    requires standard { log.old.names ≡ standard_names }
+
+    // There is a world, which is what the objects tell where they tell it, and fails only where a count rose. The log has
+    // the entries that the definition gives for it, and the status is its status, or, after a write fault or want of
+    // memory, the front of these entries. The sink gained the texts of the log, or there the front of them.
+    ensures meaning { Meets (session_of (map (λ w. string_bytes w) words.now)) (map (λ w. string_bytes w) words.now) (F.content files.old) (S.left input.old)
+        (Rose (F.faults files.old) (F.faults files.new)) (Rose (S.faults input.old) (S.faults input.new)) log.new.names result log.new.entries (K.held out.old) (K.held out.new) }
+
+    // A fault is answered only where a count rose in this call.
+    ensures read { result ≡ Status.ReadFault → Rose (F.faults files.old) (F.faults files.new) ⊎ Rose (S.faults input.old) (S.faults input.new) }
+    ensures write { result ≡ Status.WriteFault → Rose (K.faults out.old) (K.faults out.new) }
+
+    // Where all is told and no count rises, the entries and the status are the definition's, or memory ran out.
+    ensures complete { (program bytes : List ℕ) → IfSome (options_of (map (λ w. string_bytes w) words.now)) (λ o. F.content files.old o.program ≡ Some program) → S.left input.old ≡ Some bytes →
+        (Rose (F.faults files.old) (F.faults files.new) → ⊥) → (Rose (S.faults input.old) (S.faults input.new) → ⊥) → (Rose (K.faults out.old) (K.faults out.new) → ⊥) →
+        (result ≡ Status.Memory) ⊎ IsWhole result (session_of (map (λ w. string_bytes w) words.now) log.new.names record { program = Gives program; input = bytes; ends = Ended }) log.new.entries (K.held out.old) (K.held out.new) }
+{
+    serve(alloc, words, files, input, out, log)
+}

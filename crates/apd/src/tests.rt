@@ -6,6 +6,7 @@ use std::test::Fail;
 
 // What a session is given: its words behind the program's own name, a file `p`, the lines of the input, and the numbers
 // of the load, the read and the write that fail, or 0.
+#[derive(Drop)]
 struct Given<'a> {
     words: &'a [&'a str],
     program: &'a [u8],

@@ -6,3 +6,4 @@ pub mod Running
 pub mod Turning
 pub mod Worlds
 pub mod Loading
+pub mod Causing

@@ -182,7 +182,7 @@ said_is statuses.ReadFault told log x y is not = inr is
 said_is statuses.InputLimit told log x y is not = inr is
 said_is statuses.FileTooLong told log x y is not = inr is
 
-world_is : (words names : List (List ℕ)) (content : List ℕ → Option (List ℕ)) (left : Option (List ℕ)) (R Q : Type 0) (world : World) (program bytes : List ℕ) → (options : Option Options) → options_of words ≡ options →
+pub world_is : (words names : List (List ℕ)) (content : List ℕ → Option (List ℕ)) (left : Option (List ℕ)) (R Q : Type 0) (world : World) (program bytes : List ℕ) → (options : Option Options) → options_of words ≡ options →
     IsMet words content left R Q world → IfSome options (λ o. content o.program ≡ Some program) → left ≡ Some bytes → (R → ⊥) → (Q → ⊥) →
     session_of words names world ≡ session_of words names record { program = Gives program; input = bytes; ends = Ended }
 world_is words names content left R Q world program bytes None is met told given loads reads = rw is refl

@@ -6,3 +6,4 @@ pub mod Outcome
 pub mod Running
 pub mod Warned
 pub mod Commands
+pub mod Causes

@@ -9,7 +9,8 @@ ghost use Rattle.apd_term.specs.StandardNames.{standard_names};
 ghost use Rattle.apd_text.specs.declared.entry.Entry.TheVariants as entries;
 ghost use Rattle.apd_text.specs.Named.{EntryIsNamed};
 ghost use Rattle.apd_session.specs.Commands.{Grew};
-ghost use Rattle.apd_session.specs.Outcome.{Answers, IsSaid, IsWhole, Meets};
+ghost use Rattle.apd_session.specs.Causes.{Comes, FileHas, IsProgram, status_for};
+ghost use Rattle.apd_session.specs.Outcome.{Answers, IsMet, IsSaid, IsWhole, Meets};
 ghost use Rattle.apd_session.specs.Running.{IsReady};
 ghost use Rattle.apd_session.specs.Session.{Gives, Options, World, after_load, options_of, session_of, tells};
 ghost use Rattle.apd_session.specs.Steps.{begun, plain, talker};
@@ -173,6 +174,15 @@ pub fn session<F: Files, S: Source, K: Sink>(
     // A fault is answered only where a count rose in this call.
     ensures read { result ≡ Status.ReadFault → Rose (F.faults files.old) (F.faults files.new) ⊎ Rose (S.faults input.old) (S.faults input.new) }
     ensures write { result ≡ Status.WriteFault → Rose (K.faults out.old) (K.faults out.new) }
+
+    // The status is the one that the first cause met in that world calls for, where no write failed and memory sufficed.
+    ensures status { (world : World) × IsMet (map (λ w. string_bytes w) words.now) (F.content files.old) (S.left input.old) (Rose (F.faults files.old) (F.faults files.new)) (Rose (S.faults input.old) (S.faults input.new)) world
+        × Comes result (status_for (map (λ w. string_bytes w) words.now) log.new.names world) }
+
+    // Where the words name a file that is a program, the input isn't over its limit, all is told and no count rises, the session is done, or memory ran out.
+    ensures done { (text bytes : List ℕ) → FileHas (map (λ w. string_bytes w) words.now) (F.content files.old) text → length text ≤ 1048576 → IsProgram (program_of log.new.names text) → S.left input.old ≡ Some bytes → length bytes < 16777216 →
+        (Rose (F.faults files.old) (F.faults files.new) → ⊥) → (Rose (S.faults input.old) (S.faults input.new) → ⊥) → (Rose (K.faults out.old) (K.faults out.new) → ⊥) →
+        (result ≡ Status.Done) ⊎ (result ≡ Status.Memory) }
 
     // Where all is told and no count rises, the entries and the status are the definition's, or memory ran out.
     ensures complete { (program bytes : List ℕ) → IfSome (options_of (map (λ w. string_bytes w) words.now)) (λ o. F.content files.old o.program ≡ Some program) → S.left input.old ≡ Some bytes →

@@ -5,7 +5,7 @@ work=$(mktemp -d) || exit 1
 trap 'rm -rf "$work"' EXIT
 awk 'BEGIN {
     for (i = 1; i <= 20000; i++)
-        printf "edge(node%05d, label(f(g(%05d)), some_longer_name), %d).\n", i, i, i
+        printf "edge(node%05d, label(f(%05d), some_name), %d).\n", i, i, i
 }' >"$work/facts.pl"
 echo '?- edge(N, L, 20000).' >"$work/input"
 wc -c "$work/facts.pl"

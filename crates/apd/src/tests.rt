@@ -129,10 +129,28 @@ fn words_files_and_faults(rt: HostRuntime) -> Result<(), Fail> {
         (&option, (0, 0, 0), 1000, Status::Usage, USAGE),
         (&other, (0, 0, 0), 1000, Status::ReadFault, b"read fault\n"),
         (&OWN, (1, 0, 0), 1000, Status::ReadFault, b"read fault\n"),
-        (&OWN, (0, 1, 0), 1000, Status::ReadFault, b"loaded: 2 clauses\nread fault\n"),
+        (
+            &OWN,
+            (0, 1, 0),
+            1000,
+            Status::ReadFault,
+            b"loaded: 2 clauses\nread fault\n",
+        ),
         (&OWN, (0, 0, 1), 1000, Status::WriteFault, b""),
-        (&OWN, (0, 0, 3), 1000, Status::WriteFault, b"loaded: 2 clauses\nrun: q(_1)\n"),
-        (&OWN, (0, 0, 0), 20, Status::WriteFault, b"loaded: 2 clauses\nru"),
+        (
+            &OWN,
+            (0, 0, 3),
+            1000,
+            Status::WriteFault,
+            b"loaded: 2 clauses\nrun: q(_1)\n",
+        ),
+        (
+            &OWN,
+            (0, 0, 0),
+            20,
+            Status::WriteFault,
+            b"loaded: 2 clauses\nru",
+        ),
     ];
     for (words, failing, room, status, text) in table {
         let given = Met {

@@ -1,17 +1,17 @@
 -- The status of a session is the one that its causes call for.
 use Rattle.std.proofs.Common.{◌≡◌, ℕ, ◌<◌, ◌≤◌, List, [], ◌∷◌, length, refl, ap, sym, ◌∙◌, arith, Option, Some, None, subst, Bool, true, false, ◌⊎◌, inl, inr}
-use Rattle.std.proofs.lemmas.Bool.{le-leb, lt-leb}
+use Rattle.std.proofs.lemmas.Bool.{lt-leb}
 use Rattle.std.proofs.Math.Dec.{leb}
 use Rattle.std.specs.Prelude.{IfSome}
-use Rattle.apd_console.specs.Lines.{InputEnd, Ended, Fails, Close, AtEnd, AtFault, AtLimit, Heard, hear}
-use Rattle.apd_console.specs.Talk.{run, replies, ending_of, onto}
+use Rattle.apd_console.specs.Lines.{InputEnd, Ended, Fails, Close, hear}
+use Rattle.apd_console.specs.Talk.{run, replies, ending_of}
 use Rattle.apd_console.specs.declared.line.Line.{Line}
 use Rattle.apd_console.specs.declared.line.Line.TheVariants.{Text, TooLong}
 use Rattle.apd_load.specs.Program.{Loads, refused, loads, program_of}
 use Rattle.apd_plain.specs.Lines.{goal_of_line}
 use Rattle.apd_term.specs.declared.run.Query.{Query}
 use Rattle.apd_text.specs.declared.entry.Entry.{Entry}
-use Rattle.apd_session.specs.Causes.{Comes, FileHas, IsProgram, status_at_end, status_for, status_of_input, status_of_load, status_of_options, status_of_text}
+use Rattle.apd_session.specs.Causes.{Comes, FileHas, IsProgram, status_for, status_of_input, status_of_load, status_of_options, status_of_text}
 use Rattle.apd_session.specs.Outcome.{IsMet, IsSaid, Meets}
 use Rattle.apd_session.specs.Session.{World, Loading, Gives, Breaks, Options, Told, after_load, after_options, after_words, options_of, session_of, status_after}
 use Rattle.apd_session.specs.Steps.{command_read, is_blank, step, talker}

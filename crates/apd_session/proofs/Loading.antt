@@ -1,5 +1,5 @@
 -- A loaded program is ready for the lines of the input.
-use Rattle.std.proofs.Common.{◌≡◌, ℕ, ◌+◌, ◌<◌, ◌≤◌, List, [], ◌∷◌, ◌++◌, length, refl, ap, sym, ◌∙◌, arith, length-append, Option, subst}
+use Rattle.std.proofs.Common.{◌≡◌, ℕ, ◌+◌, ◌≤◌, List, [], ◌∷◌, ◌++◌, length, refl, ap, sym, ◌∙◌, arith, length-append, Option, subst}
 use Rattle.std.proofs.lemmas.List.{append-nil}
 use Rattle.apd_clauses.specs.Clauses.{tuples_of}
 use Rattle.apd_clauses.specs.declared.clause.Clause.{Clause}
@@ -13,7 +13,7 @@ use Rattle.apd_console.specs.declared.talk.Ending.{Ending}
 use Rattle.apd_console.specs.declared.talk.Ending.TheVariants as ending
 use Rattle.apd_console.specs.declared.talk.Trouble.{Trouble}
 use Rattle.apd_console.specs.declared.talk.Trouble.TheVariants as trouble
-use Rattle.apd_load.specs.Program.{Loads, loads, program_of}
+use Rattle.apd_load.specs.Program.{loads, program_of}
 use Rattle.apd_text.specs.declared.entry.Entry.{Entry}
 use Rattle.apd_text.specs.declared.entry.Entry.TheVariants.{Loaded}
 use Rattle.apd_session.specs.Commands.{Grew}

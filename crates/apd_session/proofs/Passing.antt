@@ -1,5 +1,5 @@
 -- What a printer prints of all that it is shown.
-use Rattle.std.proofs.Common.{◌≡◌, ℕ, ◌+◌, ◌-◌, ◌<◌, ◌≤◌, ◌^◌, ◌⊎◌, inl, inr, List, [], ◌∷◌, ◌++◌, refl, ap, sym, ◌∙◌, arith, append_assoc, Option, subst, min, zero, suc}
+use Rattle.std.proofs.Common.{◌≡◌, ℕ, ◌+◌, ◌<◌, ◌≤◌, ◌^◌, inl, inr, List, [], ◌∷◌, ◌++◌, refl, ap, sym, ◌∙◌, arith, append_assoc, Option, subst, zero, suc}
 use Rattle.std.specs.Prelude.{Result, Ok, Err}
 use Rattle.apd_io.specs.Outside.{Adds}
 use Rattle.apd_console.specs.Print.{AddsFront}
@@ -9,7 +9,7 @@ use Rattle.apd_ports.specs.declared.filter.Filter.{Filter}
 use Rattle.apd_ports.specs.declared.hook.HookFault.{HookFault}
 use Rattle.apd_ports.specs.declared.hook.Shown.{Shown}
 use Rattle.apd_ports.specs.declared.hook.Shown.TheVariants.{Port, Answer}
-use Rattle.apd_trace.specs.Run.{Run, run_of, shown_of, before_event}
+use Rattle.apd_trace.specs.Run.{run_of, shown_of, before_event}
 use Rattle.apd_trace.specs.declared.item.Item.{Item}
 use Rattle.apd_trace.specs.declared.item.Item.TheVariants as items
 use Rattle.apd_clauses.specs.declared.clause.Clause.{Clause}
@@ -22,18 +22,24 @@ use Rattle.apd_session.specs.Runs.{one_text, next_after, shown_text, run_for}
 
 -- the front of a text, after a part that was printed, and before one that wasn't
 pub front_more : (x y z : Option (List ℕ)) (a b : List ℕ) → Adds x y a → AddsFront y z b → AddsFront x z (a ++ b)
-front_more x y z a b first second = (second.0, record {
-  shown = a ++ second.1.shown;
-  parts = ap (λ (t : List ℕ). a ++ t) second.1.parts ∙ sym (append_assoc a second.1.shown second.0);
-  adds = Adds-more x y z _ _ first second.1.adds;
-})
+front_more x y z a b first second = (
+  second.0,
+  record {
+    shown = a ++ second.1.shown;
+    parts = ap (λ (t : List ℕ). a ++ t) second.1.parts ∙ sym (append_assoc a second.1.shown second.0);
+    adds = Adds-more x y z _ _ first second.1.adds;
+  },
+)
 
 pub front_less : (x y : Option (List ℕ)) (a b : List ℕ) → AddsFront x y a → AddsFront x y (a ++ b)
-front_less x y a b front = (front.0 ++ b, record {
-  shown = front.1.shown;
-  parts = ap (λ (t : List ℕ). t ++ b) front.1.parts ∙ append_assoc front.1.shown front.0 b;
-  adds = front.1.adds;
-})
+front_less x y a b front = (
+  front.0 ++ b,
+  record {
+    shown = front.1.shown;
+    parts = ap (λ (t : List ℕ). t ++ b) front.1.parts ∙ append_assoc front.1.shown front.0 b;
+    adds = front.1.adds;
+  },
+)
 
 -- how many answers are shown
 abbrev pub answers_in : List Shown → ℕ

@@ -1,5 +1,5 @@
 -- What a printer prints of what it is shown.
-use Rattle.std.proofs.Common.{◌≡◌, ℕ, List, [], ◌∷◌, ◌++◌, refl, ap, sym, ◌∙◌, Option, Bool, true, false, subst}
+use Rattle.std.proofs.Common.{◌≡◌, ℕ, List, refl, sym, Option, true, subst}
 use Rattle.std.specs.Prelude.{Result, Ok, Err, IfOk}
 use Rattle.std.specs.declared.alloc.AllocError.{AllocError}
 use Rattle.apd_term.specs.Term.{Term}
@@ -13,7 +13,7 @@ use Rattle.apd_ports.specs.declared.hook.HookFault.{HookFault}
 use Rattle.apd_ports.specs.declared.hook.HookFault.TheVariants.{WriteFault, Memory}
 use Rattle.apd_ports.specs.declared.hook.Shown.TheVariants.{Port, Answer}
 use Rattle.apd_text.specs.Lines.{port_text, answer_text}
-use Rattle.apd_session.specs.Printing.{PrintsLine, Prints, next_number, counted}
+use Rattle.apd_session.specs.Printing.{PrintsLine, Prints, next_number}
 
 -- a line's text, or the front of it
 line_all : (x y : Option (List ℕ)) (line : Result (List ℕ) AllocError) (text : List ℕ) → IfOk line (λ t. t ≡ text) → PrintsLine x y line (Ok tt) → Adds x y text

@@ -1,5 +1,5 @@
 -- A run as a whole.
-use Rattle.std.proofs.Common.{◌≡◌, ℕ, ◌+◌, ◌⊎◌, inl, inr, List, [], ◌∷◌, ◌++◌, length, refl, ap, sym, ◌∙◌, append_assoc, Option, Some, None, subst, Bool, true, false, if◌then◌else◌}
+use Rattle.std.proofs.Common.{◌≡◌, ℕ, ◌+◌, inl, inr, List, [], ◌∷◌, ◌++◌, length, refl, ap, sym, ◌∙◌, Option, Some, subst, Bool, true, false, if◌then◌else◌}
 use Rattle.apd_io.specs.Outside.{Adds}
 use Rattle.apd_console.specs.Print.{AddsFront}
 use Rattle.apd_console.specs.Utterance.{Utterance, Utters, UttersFront}
@@ -22,8 +22,8 @@ use Rattle.apd_text.specs.declared.entry.Entry.TheVariants.{Run}
 use Rattle.apd_trace.proofs.Named.{run_named}
 use Rattle.apd_trace.specs.Named.{AllTuplesNamed, AllShownNamed}
 use Rattle.apd_trace.specs.Run.{shown_of, ran_of}
-use Rattle.apd_session.specs.Running.{IsReady, BeginsFront, entered}
-use Rattle.apd_session.specs.Runs.{one_text, next_after, shown_text, run_for, run_text, run_said}
+use Rattle.apd_session.specs.Running.{BeginsFront, entered}
+use Rattle.apd_session.specs.Runs.{shown_text, run_for, run_text, run_said}
 use Rattle.apd_session.specs.Steps.{begun}
 use Rattle.apd_session.specs.declared.state.State.{State}
 use Rattle.apd_session.proofs.Passing.{front_more, front_less}

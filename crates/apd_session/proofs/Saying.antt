@@ -1,5 +1,5 @@
 -- Saying one thing.
-use Rattle.std.proofs.Common.{◌≡◌, ℕ, ◌<◌, List, [], ◌∷◌, ◌++◌, length, refl, ap, sym, ◌∙◌, Option, subst}
+use Rattle.std.proofs.Common.{◌≡◌, ℕ, List, [], ◌∷◌, ◌++◌, length, sym, ◌∙◌, Option, subst}
 use Rattle.apd_io.specs.Outside.{Adds}
 use Rattle.apd_console.specs.Print.{AddsFront}
 use Rattle.apd_console.specs.Utterance.{Utters, UttersFront}

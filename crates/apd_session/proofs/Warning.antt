@@ -1,7 +1,7 @@
 -- The predicates that have no clauses.
-use Rattle.std.proofs.Common.{◌≡◌, ℕ, ◌+◌, ◌<◌, ◌≤◌, List, [], ◌∷◌, ◌++◌, length, take, drop, get_or, refl, ap, sym, ◌∙◌, arith, append_assoc, Bool, true, false, Option, Some, None, map, zero, suc, if◌then◌else◌}
+use Rattle.std.proofs.Common.{◌≡◌, ℕ, ◌+◌, ◌<◌, ◌≤◌, List, [], ◌∷◌, ◌++◌, length, take, drop, get_or, refl, ap, sym, ◌∙◌, arith, append_assoc, Bool, true, false, None, map, zero, suc, if◌then◌else◌}
 use Rattle.std.specs.List.{list_any}
-use Rattle.std.proofs.lemmas.List.{append-nil, drop_more, drop_all, take_more, map-append, take-append-drop}
+use Rattle.std.proofs.lemmas.List.{drop_more, drop_all, take_more, map-append, take-append-drop}
 use Rattle.apd_console.specs.Utterance.{Utterance}
 use Rattle.apd_term.specs.Term.{Term, variable, integer, compound, list_of, predicate_of}
 use Rattle.apd_term.specs.Named.{IsNamed, AllNamed}

@@ -1,5 +1,5 @@
 -- A world for each way a session goes.
-use Rattle.std.proofs.Common.{◌≡◌, ℕ, ◌<◌, ◌≤◌, List, [], ◌∷◌, length, refl, ap, sym, ◌∙◌, arith, Option, Some, None, subst, Bool, true, false, ◌⊎◌, inl, inr}
+use Rattle.std.proofs.Common.{◌≡◌, ℕ, ◌<◌, ◌≤◌, List, [], ◌∷◌, length, refl, ap, arith, Option, Some, None, subst, true, false, ◌⊎◌, inl, inr}
 use Rattle.std.specs.Prelude.{replicate, IfSome}
 use Rattle.std.proofs.lemmas.Bool.{le-leb, lt-leb}
 use Rattle.std.proofs.Math.Dec.{leb}
@@ -7,17 +7,15 @@ use Rattle.std.proofs.lemmas.List.{length-replicate}
 use Rattle.apd_io.specs.Outside.{Tells, TellsLong, Rose}
 use Rattle.apd_console.specs.Lines.{InputEnd, Ended, Fails}
 use Rattle.apd_console.specs.Console.{Kept, IsKept, fresh}
-use Rattle.apd_console.specs.Outcome.{IsGiven, SomeInput} 
-use Rattle.apd_console.specs.Outcome as talks
+use Rattle.apd_console.specs.Outcome.{IsGiven}
 use Rattle.apd_console.specs.Talk.{Meaning, Ends, Breaks as BreaksOff, at}
-use Rattle.apd_console.specs.Utterance.{Utterance, Utters, UttersFront}
+use Rattle.apd_console.specs.Utterance.{Utters, UttersFront}
 use Rattle.apd_console.specs.declared.talk.Ending.{Ending}
-use Rattle.apd_console.specs.declared.talk.Ending.TheVariants as ending
 use Rattle.apd_console.specs.declared.talk.Trouble.{Trouble}
 use Rattle.apd_console.specs.declared.talk.Trouble.TheVariants as trouble
 use Rattle.apd_console.proofs.Answering.{input_ended, input_broken}
 use Rattle.apd_console.proofs.Uttering.{UttersFront-all, UttersFront-none}
-use Rattle.apd_load.specs.Program.{Loads, program_of}
+use Rattle.apd_load.specs.Program.{program_of}
 use Rattle.apd_text.specs.declared.entry.Entry.{Entry}
 use Rattle.apd_text.specs.declared.entry.Entry.TheVariants as entry
 use Rattle.apd_session.specs.Steps.{begun, plain}

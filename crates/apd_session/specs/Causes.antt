@@ -1,5 +1,5 @@
 -- When each status comes: by the first cause that a session meets.
-use Rattle.std.specs.Prelude.{ℕ, ◌≡◌, ◌⊎◌, ◌<◌, ◌≤◌, List, length, if◌then◌else◌, Option, None, Some, nat_le, nat_lt, ⊤}
+use Rattle.std.specs.Prelude.{ℕ, ◌≡◌, ◌⊎◌, List, length, if◌then◌else◌, Option, None, Some, nat_le, nat_lt, ⊤}
 use Rattle.apd_console.specs.Lines.{InputEnd, Ended, Fails}
 use Rattle.apd_load.specs.Program.{Loads, refused, loads, program_of}
 use Rattle.apd_session.specs.Session.{World, Loading, Gives, Breaks, Options, options_of}

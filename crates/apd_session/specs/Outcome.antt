@@ -1,5 +1,5 @@
 -- What a session met outside, and what it said.
-use Rattle.std.specs.Prelude.{ℕ, ◌≡◌, List, [], ◌∷◌, Option, None, Some, ⊤, IfSome, Result, IsErrOf, ◌≤◌}
+use Rattle.std.specs.Prelude.{ℕ, ◌≡◌, List, [], Option, None, Some, ⊤, IfSome, Result, IsErrOf, ◌≤◌}
 use Rattle.apd_io.specs.Outside.{Rose}
 use Rattle.apd_console.specs.Lines.{InputEnd, Fails}
 use Rattle.apd_console.specs.Outcome.{IsGiven, SomeInput}
@@ -10,7 +10,7 @@ use Rattle.apd_text.specs.declared.entry.Entry.{Entry}
 use Rattle.apd_session.specs.Steps.{begun}
 use Rattle.apd_session.specs.Session.{World, Loading, Gives, Breaks, Told, options_of}
 use Rattle.apd_session.specs.declared.status.Status.{Status}
-use Rattle.apd_session.specs.declared.status.Status.TheVariants.{Done, Usage, Program, ReadFault, WriteFault, Memory, InputLimit, FileTooLong}
+use Rattle.apd_session.specs.declared.status.Status.TheVariants.{WriteFault, Memory}
 
 -- where a content is told, this is what a load of it gives
 abbrev pub IsLoading : Option (List ℕ) → Loading → Type 0

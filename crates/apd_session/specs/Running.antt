@@ -1,5 +1,5 @@
 -- The parts of a query's run, as they are said one after another.
-use Rattle.std.specs.Prelude.{ℕ, ◌≡◌, ◌<◌, ◌≤◌, ◌⊎◌, List, [], ◌∷◌, ◌++◌, Option, None, Result}
+use Rattle.std.specs.Prelude.{ℕ, ◌≡◌, ◌<◌, ◌≤◌, ◌⊎◌, List, [], ◌∷◌, ◌++◌, Option, None}
 use Rattle.apd_clauses.specs.Clauses.{tuples_of}
 use Rattle.apd_console.specs.Print.{AddsFront}
 use Rattle.apd_term.specs.declared.run.Query.{Query}

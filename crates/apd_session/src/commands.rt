@@ -49,7 +49,11 @@ fn command_of(alloc: Global, names: &mut Names, text: &Text) -> Result<Command, 
 }
 
 /// The command that a line is.
-pub(crate) fn read_command(alloc: Global, names: &mut Names, line: &Line) -> Result<Command, AllocError>
+pub(crate) fn read_command(
+    alloc: Global,
+    names: &mut Names,
+    line: &Line,
+) -> Result<Command, AllocError>
     requires { LineFits (length names.old) line.now }
     ensures names { LineGrows line.now names.old names.new }
     ensures command { IfOk result (λ c. (more : List (List ℕ)) (s : State) → step_for (names.new ++ more) s c ≡ step (names.new ++ more) s line.now) }

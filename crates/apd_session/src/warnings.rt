@@ -21,7 +21,9 @@ use std::alloc::{AllocError, Global};
 fn is_among(preds: &[Pred], pred: Pred) -> bool
     ensures { result ≡ list_any (λ q. same_pred q pred) preds.now }
 {
-    preds.iter().any(|q| q.name.0 == pred.name.0 && q.arity == pred.arity)
+    preds
+        .iter()
+        .any(|q| q.name.0 == pred.name.0 && q.arity == pred.arity)
 }
 
 /// Notes the predicate of a goal, where it isn't noted yet.
@@ -81,7 +83,12 @@ pub(crate) fn missing(alloc: Global, program: &Program, goals: &[Flat]) -> Resul
 }
 
 /// Says a warning for each of the predicates.
-pub(crate) fn warn<K: Sink>(alloc: Global, preds: &[Pred], out: &mut K, log: &mut Log) -> Result<(), Trouble>
+pub(crate) fn warn<K: Sink>(
+    alloc: Global,
+    preds: &[Pred],
+    out: &mut K,
+    log: &mut Log,
+) -> Result<(), Trouble>
     requires { PredsAreNamed (length log.old.names) preds.now }
     ensures ok { OnOk result ((more : List (List ℕ)) → Utters log.old.entries log.new.entries (K.held out.old) (K.held out.new) (map (λ p. plain (log.old.names ++ more) (entries.Warning None p)) preds.now)) }
     ensures err { OnErr result ((more : List (List ℕ)) → UttersFront begun log.old.entries log.new.entries (K.held out.old) (K.held out.new) (map (λ p. plain (log.old.names ++ more) (entries.Warning None p)) preds.now)) }

@@ -1,8 +1,6 @@
-use Rattle.std.proofs.Common.{◌≡◌, ◌∙◌, ◌≤◌, sym, ap, refl, subst, arith, Some, None, Ok, Option, List, ℕ, ◌++◌, true, false, length}
-use Rattle.std.specs.Prelude.{IfSome}
+use Rattle.std.proofs.Common.{◌≡◌, ◌∙◌, ◌≤◌, sym, ap, refl, Some, None, ◌++◌, true, false, length}
 use Rattle.apd_plain.specs.Lines.{goal_of_line, Runs}
 use Rattle.apd_term.specs.Named.{TupleIsNamed}
-use Rattle.apd_term.specs.declared.run.Query.{Query}
 use Rattle.apd_session.specs.Steps.{step, is_blank}
 use Rattle.apd_session.proofs.commands.command_of.Goals as goal
 

@@ -1,4 +1,3 @@
-use Rattle.std.proofs.Common.{List, ℕ}
 use Rattle.apd_session.proofs.Running.{run_utters, run_begins, run_breaks, run_ends}
 use Rattle.apd_session.proofs.query.run_query.Goals as goal
 

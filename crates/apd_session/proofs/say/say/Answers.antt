@@ -1,4 +1,4 @@
-use Rattle.std.proofs.Common.{◌≡◌, ◌∙◌, sym, refl}
+use Rattle.std.proofs.Common.{◌∙◌, refl}
 use Rattle.apd_console.proofs.Uttering.{UttersFront-none}
 use Rattle.apd_session.specs.Steps.{begun}
 use Rattle.apd_session.proofs.Saying.{says_all, says_front}

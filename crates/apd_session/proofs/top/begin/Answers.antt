@@ -1,5 +1,5 @@
-use Rattle.std.proofs.Common.{◌≡◌, ◌∙◌, sym, ap, refl, subst, List, ℕ, [], ◌∷◌, ◌++◌, length, Err}
-use Rattle.apd_console.specs.Talk.{at, onto, replies}
+use Rattle.std.proofs.Common.{sym, ap, refl, subst, List, ℕ, [], ◌∷◌, length, Err}
+use Rattle.apd_console.specs.Talk.{at, replies}
 use Rattle.apd_console.specs.Utterance.{Utters, UttersFront}
 use Rattle.apd_console.proofs.Talking.{Talks-say, Breaks-say, ends_on}
 use Rattle.apd_text.specs.declared.entry.Entry.TheVariants as entries

@@ -1,4 +1,4 @@
-use Rattle.std.proofs.Common.{◌≡◌, ◌≤◌, ◌∙◌, sym, ap, refl, subst, arith, List, ℕ, length, Err}
+use Rattle.std.proofs.Common.{◌≡◌, ◌∙◌, ap, refl, subst, arith, List, ℕ, length, Err}
 use Rattle.apd_term.proofs.FirstNames.{length-standard_names}
 use Rattle.apd_text.specs.declared.entry.Entry.TheVariants as entries
 use Rattle.apd_session.specs.Outcome.{IsSaid}

@@ -1,7 +1,5 @@
-use Rattle.std.proofs.Common.{◌≡◌, ◌∙◌, sym, ap, refl, subst, List, ℕ, [], ◌∷◌, ◌++◌, length, Ok, Err}
-use Rattle.apd_console.specs.Lines.{InputEnd}
+use Rattle.std.proofs.Common.{◌≡◌, ◌∙◌, sym, ap, refl, subst, List, ℕ, length, Err}
 use Rattle.apd_load.specs.Program.{Loads, loads, refused, program_of}
-use Rattle.apd_load.specs.declared.LoadText.TheVariants.{Refused}
 use Rattle.apd_text.specs.declared.entry.Entry.TheVariants as entries
 use Rattle.apd_session.specs.Commands.{Grew}
 use Rattle.apd_session.specs.Outcome.{IsSaid}

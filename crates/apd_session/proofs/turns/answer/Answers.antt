@@ -1,11 +1,9 @@
-use Rattle.std.proofs.Common.{◌≡◌, ◌∙◌, sym, ap, refl, subst, List, ℕ, [], ◌∷◌, ◌++◌, length}
+use Rattle.std.proofs.Common.{◌≡◌, ◌∙◌, ap, refl, subst, List, ℕ, [], ◌∷◌, ◌++◌, length}
 use Rattle.apd_console.specs.Utterance.{Utterance, Utters, UttersFront}
 use Rattle.apd_console.proofs.Uttering.{UttersFront-none, UttersFront-less, UttersFront-more, Utters-more}
 use Rattle.apd_term.specs.Term.{Term}
-use Rattle.apd_term.specs.declared.term.Pred.{Pred}
 use Rattle.apd_text.specs.declared.entry.Entry.{Entry}
 use Rattle.apd_session.specs.Steps.{begun, without_clauses, called_in}
-use Rattle.apd_session.specs.Warned.{PredsAreNamed}
 use Rattle.apd_session.proofs.Running.{said_for}
 use Rattle.apd_session.proofs.Turning.{query_parts}
 use Rattle.apd_session.proofs.Warning.{called_named, without_named, warned}

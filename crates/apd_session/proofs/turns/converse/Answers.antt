@@ -1,4 +1,4 @@
-use Rattle.std.proofs.Common.{◌≡◌, ◌∙◌, sym, ap, Ok}
+use Rattle.std.proofs.Common.{◌∙◌, ap, Ok}
 use Rattle.apd_console.specs.Talk.{replies}
 use Rattle.apd_console.proofs.Talking.{Ends-more, Breaks-more}
 use Rattle.apd_session.specs.Steps.{begun, talker}

@@ -1,16 +1,15 @@
-use Rattle.std.proofs.Common.{◌≡◌, ◌≤◌, ◌∙◌, sym, ap, refl, arith, subst, List, ℕ, [], ◌∷◌, ◌++◌, length, Ok, Err}
+use Rattle.std.proofs.Common.{◌≡◌, ◌∙◌, sym, ap, refl, arith, subst, List, ℕ, ◌++◌, length, Err}
 use Rattle.apd_session.specs.declared.state.State.{State}
 use Rattle.std.proofs.Common.{false}
-use Rattle.apd_console.specs.Talk.{Step, Talks, Ends, Breaks, at, replies, close_of, ending_of}
-use Rattle.apd_console.specs.Utterance.{Utterance, Utters, UttersFront}
-use Rattle.apd_console.specs.declared.talk.Ending.{Ending}
-use Rattle.apd_console.specs.declared.talk.Trouble.TheVariants.{WriteFault, Memory}
+use Rattle.apd_console.specs.Talk.{Step, Ends, replies, close_of, ending_of}
+use Rattle.apd_console.specs.Utterance.{Utters, UttersFront}
+use Rattle.apd_console.specs.declared.talk.Trouble.TheVariants.{Memory}
 use Rattle.apd_console.proofs.Talking.{Ends-hear, Breaks-hear, Breaks-line}
 use Rattle.apd_console.proofs.Uttering.{UttersFront-none}
 use Rattle.apd_text.specs.declared.entry.Entry.{Entry}
 use Rattle.apd_text.specs.declared.log.Log.{Log}
 use Rattle.apd_session.specs.Commands.{step_for}
-use Rattle.apd_session.specs.Steps.{begun, closing, step, talker}
+use Rattle.apd_session.specs.Steps.{begun, step, talker}
 use Rattle.apd_session.proofs.Turning.{Grew-line, Grew-length, IsReady-more, goes_on_after, stays_on}
 use Rattle.apd_session.proofs.turns.one_turn.Goals as goal
 

@@ -1,4 +1,4 @@
-use Rattle.std.proofs.Common.{◌≡◌, ◌<◌, ◌∙◌, sym, ap, arith, length}
+use Rattle.std.proofs.Common.{◌≡◌, ◌∙◌, sym, ap, arith, length}
 use Rattle.apd_clauses.specs.Clauses.{numbers_of}
 use Rattle.apd_session.proofs.Warning.{has_some, has_none}
 use Rattle.apd_session.proofs.warnings.has_clauses.Goals as goal

@@ -1,4 +1,4 @@
-use Rattle.std.proofs.Common.{◌≡◌, ◌≤◌, ◌<◌, ◌∙◌, ◌+◌, sym, ap, refl, arith, rules, subst, List, ℕ, [], ◌∷◌, ◌++◌, take, drop, length, get_or, None}
+use Rattle.std.proofs.Common.{◌∙◌, ◌+◌, refl, arith, subst, List, ℕ, [], ◌∷◌, ◌++◌, take, drop, length, get_or, None}
 use Rattle.std.proofs.lemmas.List.{take_all}
 use Rattle.apd_console.specs.Utterance.{Utterance, Utters, UttersFront}
 use Rattle.apd_console.proofs.Uttering.{Utters-nothing, Utters-more, UttersFront-more, UttersFront-less}

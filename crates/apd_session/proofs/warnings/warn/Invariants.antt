@@ -1,4 +1,4 @@
-use Rattle.std.proofs.Common.{◌≡◌, ◌≤◌, ◌++◌, List, ℕ, take, length}
+use Rattle.std.proofs.Common.{◌≡◌, ◌≤◌, ◌++◌, List, ℕ, take}
 use Rattle.apd_console.specs.Utterance.{Utters}
 use Rattle.apd_session.proofs.Warning.{warned}
 use Rattle.apd_session.proofs.warnings.warn.Given as goal

@@ -1,4 +1,4 @@
-use Rattle.std.proofs.Common.{◌≡◌, ◌∙◌, sym, refl}
+use Rattle.std.proofs.Common.{◌∙◌, sym, refl}
 use Rattle.apd_session.proofs.Printing.{event_prints}
 use Rattle.apd_session.proofs.printer.PrinterHook.event.Goals as goal
 

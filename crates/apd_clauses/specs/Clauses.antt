@@ -1,8 +1,8 @@
 -- A program is a list of clauses, numbered from 1.
-pub use Rattle.apd_term.specs.Tuple.{sizes, size_of_tuple}
 use Rattle.std.specs.Prelude.{ℕ, ◌+◌, ◌==◌, ◌≤◌, ◌&&◌, Bool, false, if◌then◌else◌, List, [], ◌∷◌, length, map, Option, Some, None, slice_get, IsSome, All}
 use Rattle.std.proofs.Common.{zero, suc}
 use Rattle.apd_term.specs.Term.{Term, predicate_of}
+use Rattle.apd_term.specs.Tuple.{size_of_tuple}
 use Rattle.apd_term.specs.declared.term.Pred.{Pred}
 use Rattle.apd_term.specs.declared.tuple.Tuple.{Tuple}
 use Rattle.apd_clauses.specs.declared.clause.Clause.{Clause}

@@ -4,5 +4,5 @@
 pub mod clause;
 pub mod program;
 
-pub use clause::Clause;
+pub use clause::{Clause, is_clause, is_runnable};
 pub use program::{AddFault, Program};

@@ -6,3 +6,4 @@ pub mod Solving
 pub mod Numbered
 pub mod Steps
 pub mod RunFacts
+pub mod Nodes

@@ -4,3 +4,4 @@ pub mod Solves
 pub mod Attempts
 pub mod Search
 pub mod Cut
+pub mod Shared

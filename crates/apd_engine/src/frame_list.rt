@@ -1,9 +1,14 @@
-//! Frames as copies of their clauses' instances, with all bindings applied.
+//! Frames as their clauses' instances, with all bindings applied.
+//!
+//! An instance without variables is the same under every substitution, so it is shared.
 
-ghost use Rattle.std.specs.Prelude.{◌≡◌, ◌∷◌, [], ℕ, ◌<◌, length, None, Some, IfOk, MatchOption};
+ghost use Rattle.std.specs.Prelude.{◌≡◌, ◌∷◌, [], ℕ, ◌<◌, length, map, None, Some, IfOk, MatchOption};
+ghost use Rattle.std.specs.Bool.{OnTrue};
+ghost use Rattle.apd_term.specs.Term.{Term};
 ghost use Rattle.apd_term.specs.Substitution.{term_for};
-ghost use Rattle.apd_term.specs.Tuple.{canonical_tuple};
-ghost use Rattle.apd_trace.specs.Frames.{apply_frame, apply_frames, look_of, handed_all, outer, owner_of, next_goal, query_frame};
+ghost use Rattle.apd_term.specs.Tuple.{apply_tuple, canonical_tuple};
+ghost use Rattle.apd_trace.specs.Frames.{apply_frame, apply_frames, look_of, goal_of, handed_all, outer, owner_of, next_goal, query_frame};
+ghost use Rattle.apd_engine.specs.Shared.{frame_of};
 ghost use Rattle.apd_engine.specs.Kept.{is_large_of, exit_in, MayCall, Takes, newest_of, point_in};
 
 use crate::tuples::is_large;
@@ -13,15 +18,27 @@ use apd_term::{Flat, Subst, Tuple};
 use apd_trace::{Called, Frame, Look, Point, Step};
 use std::alloc::{AllocError, Global};
 use std::marker::Model;
+use std::rc::Rc;
+
+/// A frame whose tuple may be shared with other lists.
+#[derive(Drop)]
+pub struct Node {
+    pub box_no: u32,
+    pub depth: u32,
+    pub clause: u32,
+    pub tuple: Rc<Tuple>,
+    pub done: u8,
+    pub point: u32,
+}
 
 /// Frames, the innermost first.
 #[derive(Drop)]
 pub struct FrameList {
-    frames: Vec<Frame>,
+    nodes: Vec<Node>,
 }
 
 impl Model for FrameList {
-    ghost use Rattle.std.specs.Prelude.{List};
+    ghost use Rattle.std.specs.Prelude.{List, map};
     ghost use Rattle.std.specs.Coded.{coded_list};
     ghost use Rattle.apd_trace.specs.declared.frame.Frame.{Frame};
     ghost use Rattle.apd_engine.specs.Codes.{frame_code};
@@ -30,31 +47,67 @@ impl Model for FrameList {
 
     ghost coded = { coded_list frame_code };
 
-    ghost view = { λ l. l.frames.items };
+    ghost use Rattle.apd_engine.specs.Shared.{frame_of};
+
+    ghost view = { λ l. map frame_of l.nodes.items };
 }
 
-fn applied_frame(alloc: Global, frame: &Frame, s: &Subst) -> Result<Frame, AllocError>
-    ensures { IfOk result (λ r. r ≡ apply_frame (term_for s.now) frame.now) }
+/// Whether no variable stands in the tuple, so that a substitution leaves it as it is.
+fn is_ground(tuple: &Tuple) -> bool
+    ensures { OnTrue result ((s : ℕ → Term) → apply_tuple s tuple.now ≡ tuple.now) }
 {
-    let tuple = apply_tuple(alloc, &frame.tuple, s)?;
-    Ok(Frame {
-        box_no: frame.box_no,
-        depth: frame.depth,
-        clause: frame.clause,
+    if !tuple.head.is_ground() {
+        return false;
+    }
+    'atoms: for atom in tuple.body.as_slice() {
+        if !atom.is_ground() {
+            return false;
+        }
+    }
+    true
+}
+
+/// The frame under a substitution. A tuple without variables is shared.
+fn applied_node(alloc: Global, node: &Node, s: &Subst) -> Result<Node, AllocError>
+    ensures { IfOk result (λ r. frame_of r ≡ apply_frame (term_for s.now) (frame_of node.now)) }
+{
+    let tuple = applied_tuple(alloc, &node.tuple, s)?;
+    Ok(Node {
+        box_no: node.box_no,
+        depth: node.depth,
+        clause: node.clause,
         tuple,
-        done: frame.done,
-        point: frame.point,
+        done: node.done,
+        point: node.point,
     })
 }
 
-/// The box that owns the innermost frame.
-fn owner(frames: &[Frame]) -> u32
-    ensures { result ≡ owner_of frames.now }
+/// The tuple under a substitution, shared where it has no variable.
+fn applied_tuple(alloc: Global, tuple: &Rc<Tuple>, s: &Subst) -> Result<Rc<Tuple>, AllocError>
+    ensures { IfOk result (λ r. r.value ≡ apply_tuple (term_for s.now) tuple.now.value) }
 {
-    match frames {
+    if is_ground(tuple) {
+        return tuple.clone();
+    }
+    let applied = apply_tuple(alloc, tuple, s)?;
+    Ok(Rc::new(alloc, applied)?)
+}
+
+/// The box that owns the innermost frame.
+fn owner(nodes: &[Node]) -> u32
+    ensures { result ≡ owner_of (map frame_of nodes.now) }
+{
+    match nodes {
         [] => 0,
         [first, ..] => first.box_no,
     }
+}
+
+/// The next goal of a frame.
+fn goal_of(node: &Node) -> Option<&Flat>
+    ensures { MatchOption result (goal_of (frame_of node.now) ≡ None) (λ a. goal_of (frame_of node.now) ≡ Some a.now) }
+{
+    node.tuple.body.get(node.done as usize)
 }
 
 impl FrameList {
@@ -63,7 +116,7 @@ impl FrameList {
         ensures { result ≡ [] }
     {
         FrameList {
-            frames: Vec::new(alloc),
+            nodes: Vec::new(alloc),
         }
     }
 
@@ -72,39 +125,46 @@ impl FrameList {
         ensures { IfOk result (λ r. r ≡ query_frame (canonical_tuple query.now) ∷ []) }
     {
         let tuple = canonical_tuple(alloc, query)?;
-        let mut frames = Vec::new(alloc);
-        frames.push(Frame {
+        let mut nodes = Vec::new(alloc);
+        nodes.push(Node {
             box_no: 0,
             depth: 0,
             clause: 0,
-            tuple,
+            tuple: Rc::new(alloc, tuple)?,
             done: 0,
             point: 0,
         })?;
-        Ok(FrameList { frames })
+        Ok(FrameList { nodes })
     }
 
     /// The first frame in front of these, under the substitution.
     pub fn applied(&self, alloc: Global, first: &Frame, s: &Subst) -> Result<FrameList, AllocError>
         ensures { IfOk result (λ r. r ≡ apply_frames (term_for s.now) (first.now ∷ self.now)) }
     {
-        let mut frames = Vec::new(alloc);
-        let innermost = applied_frame(alloc, first, s)?;
-        frames.push(innermost)?;
-        'frames: for frame in &self.frames {
-            let moved = applied_frame(alloc, frame, s)?;
-            frames.push(moved)?;
+        let mut nodes = Vec::new(alloc);
+        let tuple = apply_tuple(alloc, &first.tuple, s)?;
+        nodes.push(Node {
+            box_no: first.box_no,
+            depth: first.depth,
+            clause: first.clause,
+            tuple: Rc::new(alloc, tuple)?,
+            done: first.done,
+            point: first.point,
+        })?;
+        'nodes: for node in &self.nodes {
+            let moved = applied_node(alloc, node, s)?;
+            nodes.push(moved)?;
         }
-        Ok(FrameList { frames })
+        Ok(FrameList { nodes })
     }
 
     /// The innermost frame's next goal.
     pub fn goal(&self) -> Option<&Flat>
         ensures { MatchOption result (next_goal self.now ≡ None) (λ a. next_goal self.now ≡ Some a.now) }
     {
-        match self.frames.as_slice() {
+        match self.nodes.as_slice() {
             [] => None,
-            [first, ..] => first.tuple.body.get(first.done as usize),
+            [first, ..] => goal_of(first),
         }
     }
 
@@ -113,7 +173,7 @@ impl FrameList {
         requires { MayCall self.now }
         ensures { IfOk result (λ l. l ≡ look_of self.now box_no) }
     {
-        match self.frames.as_slice() {
+        match self.nodes.as_slice() {
             [] => Ok(Look::Nothing),
             [first, others @ ..] => match first.tuple.body.get(first.done as usize) {
                 Some(goal) => {
@@ -149,7 +209,7 @@ impl FrameList {
         requires { 0 < length self.now }
         ensures { IfOk result (λ e. Some e ≡ exit_in self.now) }
     {
-        match self.frames.as_slice() {
+        match self.nodes.as_slice() {
             [] => unreachable!(),
             [first, others @ ..] => {
                 let atom = canonical(alloc, &first.tuple.head)?;
@@ -168,7 +228,7 @@ impl FrameList {
     pub fn is_large(&self) -> bool
         ensures { result ≡ is_large_of self.now }
     {
-        match self.frames.as_slice() {
+        match self.nodes.as_slice() {
             [] => false,
             [first, ..] => is_large(&first.tuple),
         }
@@ -178,7 +238,7 @@ impl FrameList {
     pub fn newest(&self) -> Option<(u32, u32)>
         ensures { result ≡ newest_of self.now }
     {
-        match self.frames.as_slice() {
+        match self.nodes.as_slice() {
             [] => None,
             [first, ..] => Some((first.box_no, first.point)),
         }
@@ -189,7 +249,7 @@ impl FrameList {
         requires { 0 < length self.now }
         ensures { IfOk result (λ p. Some p ≡ point_in self.now before) }
     {
-        let first = &self.frames[0];
+        let first = &self.nodes[0];
         let tuple = canonical_tuple(alloc, &first.tuple)?;
         Ok(Point {
             owner: first.box_no,
@@ -204,8 +264,8 @@ impl FrameList {
     pub fn leave(&mut self)
         ensures { self.new ≡ outer self.old }
     {
-        if self.frames.len() > 0 {
-            let _ = self.frames.remove(0);
+        if self.nodes.len() > 0 {
+            let _ = self.nodes.remove(0);
         }
     }
 
@@ -214,8 +274,8 @@ impl FrameList {
         requires { Takes self.old }
         ensures { self.new ≡ handed_all self.old point }
     {
-        if self.frames.len() > 0 {
-            let first = &mut self.frames[0];
+        if self.nodes.len() > 0 {
+            let first = &mut self.nodes[0];
             first.done += 1;
             first.point = point;
         }

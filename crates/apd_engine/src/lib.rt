@@ -14,3 +14,6 @@ mod stack;
 mod tuples;
 
 pub use running::{RunFault, run};
+
+#[cfg(test)]
+mod tests;

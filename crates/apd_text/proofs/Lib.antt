@@ -3,3 +3,4 @@ pub mod ElementLaws
 pub mod Last
 pub mod Binding
 pub mod MoreNames
+pub mod Arguments

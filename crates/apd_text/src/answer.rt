@@ -1,4 +1,5 @@
-// The line of an answer.
+//! The line of an answer.
+
 ghost use Rattle.std.specs.Prelude.{◌≡◌, ◌<◌, ◌+◌, ◌++◌, length, drop, IfOk, OnOk};
 ghost use Rattle.apd_term.specs.Term.{IsTerms, size};
 ghost use Rattle.apd_text.specs.Elements.{term_at};
@@ -58,6 +59,7 @@ fn bindings(
     Ok(texts)
 }
 
+/// Adds the bindings, or `true` where there is none.
 fn add_values(texts: &[Text], out: &mut Text) -> Result<(), AllocError>
     ensures { OnOk result (out.new ≡ out.old ++ answer_of texts.now) }
 {
@@ -70,7 +72,7 @@ fn add_values(texts: &[Text], out: &mut Text) -> Result<(), AllocError>
 }
 
 /// The line of the answer with this number, counted from 1: the values of these variables, which are the elements of a
-/// list term.
+/// list term, or `true` where there is none.
 #[tactic(auto, unfolding(crate::specs::Lines::answer_text))]
 pub fn answer_line(
     alloc: Global,

@@ -1,4 +1,5 @@
-// The elements of a list term.
+//! The elements of a list term.
+
 ghost use Rattle.std.specs.Prelude.{◌≡◌, ◌<◌, [], length, drop, MatchOption};
 ghost use Rattle.apd_term.specs.Term.{IsTerms};
 ghost use Rattle.apd_text.specs.Elements.{elements_at, IsElement};

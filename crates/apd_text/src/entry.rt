@@ -1,3 +1,5 @@
+//! What a session says, as data.
+
 use apd_ports::Filter;
 use apd_term::faults::LoadCause;
 use apd_term::{Pred, Query, Ran};

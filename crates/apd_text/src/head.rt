@@ -1,4 +1,5 @@
-// The line of a run's goals.
+//! The line of a run's goals.
+
 ghost use Rattle.std.specs.Prelude.{◌≡◌, IfOk, map};
 ghost use Rattle.apd_text.specs.Lines.{head_text, goals_of};
 ghost use Rattle.apd_text.specs.Written.{written};

@@ -1,6 +1,8 @@
 //! The log of a session: its entries as data, and the text of each.
 //!
-//! Every line that a session prints is the text of an entry, or a line of a run.
+//! Every line that a session prints is the text of an entry, or a line of a run: its goals, a port (Byrd 1980), an
+//! answer or its end. Each text ends with a newline, and each number is decimal. Terms are written in functional notation
+//! (ISO/IEC 13211-1, section 6.3.3), with each name as it is kept, without quotes. Want of memory is the one error.
 #![tactic(auto)]
 
 mod answer;
@@ -10,6 +12,7 @@ mod entry;
 mod head;
 mod line;
 mod log;
+pub mod plain;
 mod port;
 mod text;
 mod written;
@@ -22,3 +25,6 @@ pub use log::{Entries, Log};
 pub use port::port_line;
 pub use text::text_of;
 pub use written::write_term;
+
+#[cfg(test)]
+mod tests;

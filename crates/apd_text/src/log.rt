@@ -1,3 +1,5 @@
+//! The log: names, and entries in order.
+
 ghost use Rattle.std.specs.Prelude.{◌≡◌, ◌<◌, [], ◌∷◌, ◌++◌, length, slice_index_or, IfOk, OnOk, OnErr};
 ghost use Rattle.apd_term.specs.StandardNames.{standard_names};
 ghost use Rattle.apd_text.specs.Entries.{Finishes};
@@ -61,7 +63,8 @@ impl Entries {
         Ok(())
     }
 
-    /// Sets the end of the run that is the last entry.
+    /// Sets the end of the run that is the last entry, which keeps all else; where the last entry is no run, nothing
+    /// changes.
     pub fn finish(&mut self, ran: Ran)
         ensures { Finishes self.old ran self.new }
     {
@@ -78,7 +81,9 @@ impl Entries {
 /// What a session said, and the names that its terms have.
 #[derive(Drop)]
 pub struct Log {
+    /// The names of the entries' terms and predicates.
     pub names: Names,
+    /// What was said, in order.
     pub entries: Entries,
 }
 

@@ -1,4 +1,5 @@
-// The line of a port.
+//! The line of a port.
+
 ghost use Rattle.std.specs.Prelude.{◌≡◌, IfOk};
 ghost use Rattle.apd_text.specs.Lines.{port_name, port_text};
 
@@ -9,6 +10,7 @@ use apd_term::Text;
 use apd_term::names::Names;
 use std::alloc::{AllocError, Global};
 
+/// The variant's name.
 fn port_name(port: Port) -> &'static [u8]
     ensures { result.now ≡ port_name port }
 {

@@ -1,3 +1,5 @@
+//! The text of each entry but a run.
+
 ghost use Rattle.std.specs.Prelude.{◌≡◌, ◌++◌, OnOk, OnErr, IfOk, codes};
 ghost use Rattle.std.specs.Fmt.{decimal};
 ghost use Rattle.apd_text.specs.Entries.{text_of, cause_name, refusal_text, in_line, indicator, usage};
@@ -9,9 +11,11 @@ use apd_term::names::Names;
 use apd_term::{Pred, Text};
 use std::alloc::{AllocError, Global};
 
+/// The words that the program takes.
 const USAGE: &[u8] =
     b"usage: apd [--budget N] [--answers N] [--trace] [--strategy divide|single|top] [--oracle FILE] PROGRAM or apd --demo N\n";
 
+/// The variant's name.
 fn cause_name(cause: LoadCause) -> &'static [u8]
     ensures { result.now ≡ cause_name cause }
 {
@@ -52,6 +56,7 @@ fn in_line(alloc: Global, line: Option<u32>) -> Result<Text, AllocError>
     Ok(text)
 }
 
+/// The line that tells of a predicate without clauses.
 fn warning(alloc: Global, names: &Names, line: Option<u32>, pred: &Pred) -> Result<Text, AllocError>
     ensures { IfOk result (λ t. t ≡ codes "warning: " ++ in_line line ++ codes "no clauses for " ++ indicator names.now pred.now ++ codes "\n") }
 {
@@ -63,6 +68,7 @@ fn warning(alloc: Global, names: &Names, line: Option<u32>, pred: &Pred) -> Resu
     Ok(text)
 }
 
+/// The line that tells how many clauses a program has.
 fn loaded(alloc: Global, clauses: u32) -> Result<Text, AllocError>
     ensures { IfOk result (λ t. t ≡ codes "loaded: " ++ decimal clauses ++ codes " clauses\n") }
 {
@@ -72,6 +78,7 @@ fn loaded(alloc: Global, clauses: u32) -> Result<Text, AllocError>
     Ok(text)
 }
 
+/// The line that tells where and why a program is refused.
 fn program_refused(alloc: Global, line: u32, cause: LoadCause) -> Result<Text, AllocError>
     ensures { IfOk result (λ t. t ≡ codes "program refused: line " ++ decimal line ++ codes ": " ++ cause_name cause ++ codes "\n") }
 {
@@ -83,6 +90,7 @@ fn program_refused(alloc: Global, line: u32, cause: LoadCause) -> Result<Text, A
     Ok(text)
 }
 
+/// The text of an entry by itself.
 #[tactic(auto, unfolding(crate::specs::Entries::text_of, crate::specs::Entries::usage))]
 fn entry_text(alloc: Global, entry: &Entry, names: &Names) -> Result<Text, AllocError>
     ensures { IfOk result (λ t. t ≡ text_of names.now entry.now) }

@@ -1,3 +1,5 @@
+//! Terms in functional notation.
+
 ghost use Rattle.std.specs.Prelude.{◌≡◌, ◌++◌, List, ℕ, OnOk, IfOk};
 ghost use Rattle.apd_term.specs.Term.{IsWhole, term_of};
 ghost use Rattle.apd_text.specs.Written.{written};
@@ -74,7 +76,8 @@ fn write_symbols(
     Ok(())
 }
 
-/// Writes a term in functional notation: a variable as `_` and its number, an integer in decimal digits.
+/// Writes a term in functional notation: a variable as `_` and its number, an integer in decimal digits, a compound as
+/// its name and, in parentheses, its arguments with commas between them. After want of memory a part may stand there.
 pub fn write_term(
     alloc: Global,
     names: &Names,

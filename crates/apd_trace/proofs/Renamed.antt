@@ -6,7 +6,7 @@ use Rattle.apd_term.specs.Term.{Term, compound, more, terms_of, list_of, variabl
 use Rattle.apd_term.proofs.Spelling.{list_of-terms_of}
 use Rattle.apd_term.specs.Substitution.{followed_by}
 use Rattle.apd_term.specs.Canonical.{canonical, canonical_in, by_appearance, place_of, AreVariants}
-use Rattle.apd_term.specs.Tuple.{apply_tuple, variables_of_tuple, canonical_tuple}
+use Rattle.apd_term.specs.Tuple.{apply_tuple, variables_of_tuple, canonical_tuple, size_of_tuple, sizes}
 use Rattle.apd_term.specs.declared.tuple.Tuple.{Tuple}
 use Rattle.apd_term.proofs.Variants.{AreVariants_from_instances, size-variants}
 use Rattle.apd_trace.specs.Frames.{is_large, apply_frame, apply_frames, goal_of, handed, handed_all, outer, owner_of, left, look_at, look_of}
@@ -15,7 +15,6 @@ use Rattle.apd_trace.specs.declared.frame.Frame.{Frame}
 use Rattle.apd_trace.specs.declared.item.Step.{Step}
 use Rattle.apd_trace.proofs.Applied.{apply_goal, slice_get-apply, apply_frames-followed_by, apply_frames-variable}
 use Rattle.apd_trace.specs.Renaming.{IsRenamed, tuple_term}
-use Rattle.apd_clauses.specs.Clauses.{size_of_tuple, sizes}
 
 pub apply-terms_of : (s : ℕ → Term) (ts : List Term) → apply_all s (terms_of ts) ≡ terms_of (map (apply s) ts)
 apply-terms_of s [] = refl

@@ -3,10 +3,9 @@ use Rattle.std.specs.Prelude.{ℕ, ◌+◌, ◌==◌, nat_lt, if◌then◌else�
 use Rattle.apd_term.specs.Term.{Term, variable}
 use Rattle.apd_term.specs.Substitution.{term_for}
 use Rattle.apd_term.specs.Canonical.{canonical}
-use Rattle.apd_term.specs.Tuple.{apply_tuple, variables_of_tuple, canonical_tuple}
+use Rattle.apd_term.specs.Tuple.{apply_tuple, variables_of_tuple, canonical_tuple, size_of_tuple}
 use Rattle.apd_term.specs.declared.tuple.Tuple.{Tuple}
 use Rattle.apd_unify.specs.Textbook.{unifier_of}
-use Rattle.apd_clauses.specs.Clauses.{size_of_tuple}
 use Rattle.apd_trace.specs.declared.frame.Frame.{Frame}
 use Rattle.apd_trace.specs.declared.frame.Called.{Called}
 use Rattle.apd_trace.specs.declared.frame.Look.{Look}

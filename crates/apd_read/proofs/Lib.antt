@@ -1,0 +1,14 @@
+pub mod Grammar
+pub mod Pushing
+pub mod Tables
+pub mod Steps
+pub mod ByMain
+pub mod Once
+pub mod Fronts
+pub mod Cells
+pub mod Growing
+pub mod Variables
+pub mod Clauses
+pub mod Decoding
+pub mod Placed
+pub mod Ending

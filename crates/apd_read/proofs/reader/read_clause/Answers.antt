@@ -1,0 +1,54 @@
+use Rattle.std.proofs.Common.{◌≡◌, ◌+◌, ◌-◌, ◌≤◌, length, get_or, Some, refl, arith}
+use Rattle.std.specs.Prelude.{slice_get}
+use Rattle.std.proofs.lemmas.Option.{slice_get-get_or}
+use Rattle.apd_token.proofs.Counting.{tokens_few, tokens_behind}
+use Rattle.apd_read.specs.Answer.{HasLexemes}
+use Rattle.apd_read.proofs.Clauses.{blank, lexemes_few}
+use Rattle.apd_read.proofs.Placed.{reading_of, fault_of}
+use Rattle.apd_read.proofs.Ending.{all_read}
+use Rattle.apd_read.proofs.Growing.{grown_at_most}
+use Rattle.apd_read.proofs.reader.read_clause.Goals as goal
+
+pub lexemes-requires-clause-few : goal.lexemes-requires-clause-few
+lexemes-requires-clause-few c =
+    rw c.as_slice.ensures (let few = tokens_few c.args.text.now c.args.tokens.now c.requires.tokens in omega arith)
+
+pub lexemes-requires-clause-room : goal.lexemes-requires-clause-room
+lexemes-requires-clause-room c =
+    let text = c.args.text.now in
+    let ts = c.args.tokens.now in
+    let at = c.args.at in
+    let t = get_or ts at blank in
+    let room = c.requires.room t (slice_get-get_or ts at blank c.requires.within) in
+    let behind = tokens_behind text ts at blank c.requires.tokens c.requires.within in
+    rw c.as_slice.ensures (omega arith)
+
+pub answer-requires-clause-short : goal.answer-requires-clause-short
+answer-requires-clause-short c =
+    let few = tokens_few c.args.text.now c.args.tokens.now c.requires.tokens in
+    let lexemes = lexemes_few c.args.tokens.now c.args.at (rw c.as_slice.ensures at c.in_ok-clause.ensures.lexemes) in
+    omega arith
+
+pub answer-requires-clause-low : goal.answer-requires-clause-low
+answer-requires-clause-low c =
+    let few = tokens_few c.args.text.now c.args.tokens.now c.requires.tokens in
+    omega arith
+
+pub returns-in-Ok-clause-ok : goal.returns-in-Ok-clause-ok
+returns-in-Ok-clause-ok c =
+    let clause : HasLexemes c.lexemes.new.names c.args.text.now c.args.tokens.now c.args.at =
+    record { lexemes = c.in_ok-clause.clause.lexemes.items; vars = c.in_ok-clause.clause.vars; are = rw c.as_slice.ensures at c.in_ok-clause.ensures.lexemes } in
+    reading_of c.args.ops.now c.lexemes.new.names c.args.text.now c.args.tokens.now c.args.at clause c.in-Ok.read c.in-Ok.ensures.ok
+
+pub returns-in-Err-clause-err : goal.returns-in-Err-clause-err
+returns-in-Err-clause-err c =
+    let clause : HasLexemes c.lexemes.new.names c.args.text.now c.args.tokens.now c.args.at =
+    record { lexemes = c.in_ok-clause.clause.lexemes.items; vars = c.in_ok-clause.clause.vars; are = rw c.as_slice.ensures at c.in_ok-clause.ensures.lexemes } in
+    fault_of c.args.ops.now c.lexemes.new.names c.args.text.now c.args.tokens.now c.args.at clause c.in-Err.fault c.in-Err.ensures.err
+
+pub returns-in-Ok-clause-names : goal.returns-in-Ok-clause-names
+returns-in-Ok-clause-names c =
+    let r = c.in-Ok.ensures.ok in
+    let all : length c.in_ok-clause.clause.lexemes.items ≤ r.count = all_read r.fills refl c.in_ok-clause.ensures.last in
+    let next = r.next in
+    grown_at_most (length c.in_ok-clause.clause.lexemes.items) (c.in-Ok.read.next - c.args.at) (omega arith) c.in_ok-clause.ensures.grown

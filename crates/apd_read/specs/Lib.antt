@@ -1,0 +1,10 @@
+pub mod Phrases
+pub mod Reading
+pub mod Places
+pub mod Clause
+pub mod Stack
+pub mod Holds
+pub mod State
+pub mod Top
+pub mod Lexemes
+pub mod Answer

@@ -1,0 +1,162 @@
+ghost use Rattle.std.specs.Prelude.{◌≡◌, ◌+◌, ◌-◌, ◌<◌, ◌≤◌, length, slice_range, IfOk, drop, ℕ, List};
+ghost use Rattle.apd_term.specs.Names.{number_of};
+ghost use Rattle.apd_token.specs.Grammar.{IsTokenOf, HasTokens, HasText, ContentOf};
+ghost use Rattle.apd_read.specs.Lexemes.{is_anonymous, variable_place, with_variable, IsNameOf, IsSort, AreLexemes, to_end, ends_clause, EndsLast, IsGrown};
+
+use crate::codes::codes;
+use crate::lexeme::{Lexeme, Sort};
+use apd_term::{NameId, Names, Text, VarNames};
+use apd_token::{Kind, Token, content};
+use std::alloc::{AllocError, Global};
+
+/// The tokens of a clause by what they stand for, and the texts of its variables in order.
+#[derive(Drop)]
+pub(crate) struct Clause {
+    pub lexemes: Vec<Lexeme>,
+    pub vars: VarNames,
+}
+
+fn is_anonymous(text: &[u8]) -> bool
+    ensures { result ≡ is_anonymous text.now }
+{
+    match text {
+        [b] => *b == b'_',
+        _ => false,
+    }
+}
+
+/// The place of a text among these, or their count where it isn't among them.
+fn place_of(texts: &[Text], text: &[u8]) -> usize
+    ensures { result ≡ number_of texts.now text.now }
+{
+    'texts: for (i, t) in texts.iter().enumerate() {
+        if text == t.bytes() {
+            return i;
+        }
+    }
+    texts.len()
+}
+
+fn variable_place(vars: &VarNames, text: &[u8]) -> usize
+    ensures { result ≡ variable_place vars.now text.now }
+{
+    if is_anonymous(text) {
+        return vars.len();
+    }
+    place_of(vars.as_slice(), text)
+}
+
+/// The number of a variable, which is put behind the others where it is new.
+fn variable(vars: &mut VarNames, text: Text) -> Result<u64, AllocError>
+    requires { length vars.old < 4000000000 }
+    ensures number { IfOk result (λ n. n ≡ variable_place vars.old text + 1) }
+    ensures all { IfOk result (λ _. vars.new ≡ with_variable vars.old text) }
+{
+    let place = variable_place(vars, text.bytes());
+    if place < vars.len() {
+        return Ok(place as u64 + 1);
+    }
+    let number = vars.len() as u64 + 1;
+    vars.push(text)?;
+    Ok(number)
+}
+
+/// The name that a token's characters are.
+fn named(alloc: Global, names: &mut Names, text: &[u8], token: &Token) -> Result<NameId, AllocError>
+    requires small { length text.now ≤ 1048576 }
+    requires token { IsTokenOf text.now token.now }
+    requires kind { HasText token.now.kind }
+    requires room { length names.old < 4000000000 }
+    ensures name { IfOk result (λ f. (v : List ℕ) × ContentOf token.now.kind (slice_range text.now token.now.start token.now.end) v × IsNameOf names.new f v) }
+    ensures grown { IsGrown names.old 1 names.new }
+{
+    let value = content(alloc, text, token)?;
+    let name = names.intern(value.bytes())?;
+    Ok(name)
+}
+
+/// What a token stands for.
+#[tactic(auto, using(crate::proofs::Growing::grown_none))]
+fn sort_of(
+    alloc: Global,
+    names: &mut Names,
+    text: &[u8],
+    token: &Token,
+    vars: &mut VarNames,
+) -> Result<Sort, AllocError>
+    requires small { length text.now ≤ 1048576 }
+    requires token { IsTokenOf text.now token.now }
+    requires room { length names.old < 4000000000 }
+    requires few { length vars.old < 4000000000 }
+    ensures sort { IfOk result (λ s. IsSort token.now.kind names.new (slice_range text.now token.now.start token.now.end) vars.old s vars.new) }
+    ensures grown { IsGrown names.old 1 names.new }
+{
+    match token.kind {
+        Kind::Name => Ok(Sort::Name(named(alloc, names, text, token)?)),
+        Kind::Quoted => Ok(Sort::Quoted(named(alloc, names, text, token)?)),
+        Kind::Codes => {
+            let value = content(alloc, text, token)?;
+            Ok(Sort::Codes(codes(alloc, value.bytes())?))
+        }
+        Kind::Variable => {
+            let value = content(alloc, text, token)?;
+            Ok(Sort::Variable(variable(vars, value)?))
+        }
+        Kind::Integer(i) => Ok(Sort::Integer(i)),
+        Kind::Open => Ok(Sort::Open),
+        Kind::Close => Ok(Sort::Close),
+        Kind::OpenList => Ok(Sort::OpenList),
+        Kind::CloseList => Ok(Sort::CloseList),
+        Kind::OpenCurly => Ok(Sort::OpenCurly),
+        Kind::CloseCurly => Ok(Sort::CloseCurly),
+        Kind::Comma => Ok(Sort::Comma),
+        Kind::Bar => Ok(Sort::Bar),
+        Kind::End => Ok(Sort::End),
+    }
+}
+
+fn ends_clause(kind: Kind) -> bool
+    ensures { result ≡ ends_clause kind }
+{
+    match kind {
+        Kind::End => true,
+        _ => false,
+    }
+}
+
+/// What the tokens of the clause that begins at a place stand for.
+pub(crate) fn lexemes(
+    alloc: Global,
+    names: &mut Names,
+    text: &[u8],
+    tokens: &[Token],
+    at: usize,
+) -> Result<Clause, AllocError>
+    requires small { length text.now ≤ 1048576 }
+    requires tokens { HasTokens text.now tokens.now }
+    requires few { length tokens.now ≤ 1048576 }
+    requires within { at ≤ length tokens.now }
+    requires room { length names.old + (length tokens.now - at) < 4000000000 }
+    ensures lexemes { IfOk result (λ c. AreLexemes names.new text.now (to_end (drop at tokens.now)) c.lexemes.items c.vars) }
+    ensures last { IfOk result (λ c. EndsLast c.lexemes.items) }
+    ensures grown { IfOk result (λ c. IsGrown names.old (length c.lexemes.items) names.new) }
+    ensures kept { IsGrown names.old (length tokens.now) names.new }
+{
+    let mut lexemes = Vec::new(alloc);
+    let mut vars = VarNames::new(alloc);
+    let mut i = at;
+    'tokens: while i < tokens.len() {
+        let token = &tokens[i];
+        let sort = sort_of(alloc, names, text, token, &mut vars)?;
+        lexemes.push(Lexeme {
+            sort,
+            spaced: token.spaced,
+            start: token.start,
+        })?;
+        if ends_clause(token.kind) {
+            return Ok(Clause { lexemes, vars });
+        }
+        i += 1;
+    }
+    Ok(Clause { lexemes, vars })
+}

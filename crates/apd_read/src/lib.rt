@@ -1,0 +1,21 @@
+//! Reading of Prolog clauses (ISO/IEC 13211-1 section 6.3).
+//!
+//! [`read_clause`] reads the clause that begins at a token, by a table of operators, in one pass:
+//! its term, or its first fault with the fault's place in the text. The law that a clause has one
+//! reading is [`one_reading`].
+#![tactic(auto)]
+
+mod brackets;
+mod codes;
+mod frames;
+mod lexeme;
+mod lexemes;
+mod phrase;
+mod places;
+mod reader;
+mod stack;
+#[cfg(test)]
+mod tests;
+
+pub use apd_term::{Read, ReadFault};
+pub use reader::{one_reading, read_clause};

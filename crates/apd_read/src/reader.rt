@@ -1,0 +1,119 @@
+ghost use Rattle.std.specs.Prelude.{◌≡◌, ◌+◌, ◌-◌, ◌<◌, ◌≤◌, ℕ, length, List, Some, IfOk, IfErr, slice_get, Result, Err};
+ghost use Rattle.apd_token.specs.Grammar.{HasTokens};
+ghost use Rattle.apd_token.specs.declared.items.Token.{Token};
+ghost use Rattle.apd_read.specs.Reading.{Splits};
+ghost use Rattle.apd_read.specs.Clause.{IsReading, IsOnly};
+ghost use Rattle.apd_read.specs.Lexemes.{IsGrown};
+ghost use Rattle.apd_read.specs.Answer.{HasReading, IsReadFault, IsFaultIn, IsReadAs, place_of, placed};
+ghost use Rattle.apd_read.specs.declared.lexeme.Lexeme.{Lexeme};
+ghost use Rattle.apd_read.specs.declared.brackets.Whole.{Whole};
+ghost use Rattle.apd_read.specs.declared.brackets.ClauseFault.{ClauseFault};
+ghost use Rattle.apd_read.specs.declared.brackets.ClauseFault.TheVariants.{Memory};
+
+use crate::brackets::{ClauseFault, Whole, read};
+use crate::lexeme::Lexeme;
+use crate::lexemes::{Clause, lexemes};
+use apd_ops::Ops;
+use apd_term::{Names, Read, ReadFault};
+use apd_token::Tokens;
+use std::alloc::Global;
+
+/// Where a token begins, and the text's end where there is none.
+fn place_of(lexemes: &[Lexeme], end: u32, k: usize) -> u32
+    ensures { result ≡ place_of lexemes.now end k }
+{
+    match lexemes.get(k) {
+        None => end,
+        Some(l) => l.start,
+    }
+}
+
+/// A fault with its place in the text.
+fn placed(lexemes: &[Lexeme], end: u32, fault: ClauseFault) -> ReadFault
+    ensures { result ≡ placed lexemes.now end fault }
+{
+    match fault {
+        ClauseFault::NoTerm(k) => ReadFault::NoTerm(place_of(lexemes, end, k)),
+        ClauseFault::Wide(k) => ReadFault::Wide(place_of(lexemes, end, k)),
+        ClauseFault::Stray(k) => ReadFault::Stray(place_of(lexemes, end, k)),
+        ClauseFault::Unclosed(k) => ReadFault::Unclosed(place_of(lexemes, end, k)),
+        ClauseFault::NoEnd(k) => ReadFault::NoEnd(place_of(lexemes, end, k)),
+        ClauseFault::Priority(k) => ReadFault::Priority(place_of(lexemes, end, k)),
+        ClauseFault::ArityOver(k) => ReadFault::ArityOver(place_of(lexemes, end, k)),
+        ClauseFault::Memory => ReadFault::Memory,
+    }
+}
+
+/// The clause that the lexemes are, each item read by its main operators.
+fn read_by_main(alloc: Global, ops: &Ops, lexemes: &[Lexeme]) -> Result<Whole, ClauseFault>
+    requires { length lexemes.now < 4611686018427386000 }
+    ensures { IsReading Splits ops.now lexemes.now result }
+{
+    ops.has_no_clash();
+    read(alloc, ops, lexemes)
+}
+
+/// The law of one reading: by a table of operators the tokens of a clause have one reading or one
+/// first fault, and not both.
+pub fn one_reading(ops: &Ops)
+    ensures { (ls : List Lexeme) (r : Result Whole ClauseFault) → IsReading Splits ops.now ls r → IsOnly Splits ops.now ls r }
+{
+    ops.has_no_clash();
+}
+
+/// What the lexemes of a clause read as, where they begin at a token of the text.
+fn answer(alloc: Global, ops: &Ops, clause: Clause, at: usize, end: u32) -> Result<Read, ReadFault>
+    requires short { length clause.lexemes.items ≤ 1048576 }
+    requires low { at ≤ 1048576 }
+    ensures ok { IfOk result (IsReadAs ops.now clause.lexemes.items clause.vars end at) }
+    ensures err { IfErr result (IsFaultIn ops.now clause.lexemes.items end) }
+{
+    let Clause { lexemes, vars } = clause;
+    match read_by_main(alloc, ops, &lexemes) {
+        Err(fault) => Err(placed(&lexemes, end, fault)),
+        Ok(whole) => {
+            let Whole { phrase, next } = whole;
+            let start = place_of(&lexemes, end, 0);
+            if phrase.height >= 1000 {
+                return Err(ReadFault::TooDeep(start));
+            }
+            Ok(Read {
+                term: phrase.term,
+                vars,
+                start,
+                next: at + next,
+            })
+        }
+    }
+}
+
+/// The clause that begins at a token: its term, the texts of its variables, its first byte's place
+/// and the index of the token behind it.
+///
+/// Variables are numbered from 1 by their first places in the clause, and each `_` is a new one. A
+/// fault is the first one from the left; `TooDeep` comes only where there is no other. `Memory` is
+/// the one answer that any clause may get. New names are put at the end of the names, at most one
+/// for each token, also where a fault is told.
+pub fn read_clause(
+    alloc: Global,
+    ops: &Ops,
+    names: &mut Names,
+    text: &[u8],
+    tokens: &Tokens,
+    at: usize,
+) -> Result<Read, ReadFault>
+    requires small { length text.now ≤ 1048576 }
+    requires tokens { HasTokens text.now tokens.now }
+    requires within { at < length tokens.now }
+    requires room { (t : Token) → slice_get tokens.now at ≡ Some t → length names.old + (length text.now - t.start) < 4000000000 }
+    ensures ok { IfOk result (HasReading ops.now names.new text.now tokens.now at) }
+    ensures err { IfErr result (IsReadFault ops.now names.new text.now tokens.now at) }
+    ensures names { IfOk result (λ r. IsGrown names.old (r.next - at) names.new) }
+    ensures kept { IsGrown names.old (length tokens.now) names.new }
+{
+    let clause = lexemes(alloc, names, text, tokens.as_slice(), at)?;
+    match answer(alloc, ops, clause, at, text.len() as u32) {
+        Ok(read) => Ok(read),
+        Err(fault) => Err(fault),
+    }
+}

@@ -1,20 +1,21 @@
 -- A program, line by line.
 use Rattle.std.proofs.Common.{◌≡◌, ℕ, ◌+◌, ◌-◌, ◌<◌, ◌≤◌, suc, Option, Some, None, Ok, Err, List, [], ◌∷◌, ◌++◌, length, refl, sym, ◌∙◌, ap, subst, arith, append_assoc, min, take, drop, length-append, length-drop}
 use Rattle.std.proofs.lemmas.List.{append-nil, length_push, drop_all, length-take-le}
-use Rattle.apd_term.specs.Named.{TupleIsNamed}
+use Rattle.apd_term.specs.Named.{TupleIsNamed, AllTuplesNamed}
 use Rattle.apd_term.proofs.Named.{TupleIsNamed-more}
 use Rattle.apd_term.specs.declared.tuple.Tuple.{Tuple}
 use Rattle.apd_term.specs.declared.faults.LoadCause.{LoadCause}
 use Rattle.apd_term.specs.declared.faults.LoadCause.TheVariants.{NotBuilt, ClausesOver}
+use Rattle.apd_clauses.specs.Clauses.{tuples_of}
 use Rattle.apd_clauses.specs.declared.clause.Clause.{Clause}
 use Rattle.apd_console.specs.Lines.{lines_of}
 use Rattle.apd_plain.specs.Lines.{fact_of_line}
-use Rattle.apd_plain.specs.Steps.{Grown, GrowsBy}
+use Rattle.apd_term.specs.Growth.{Grown, GrowsBy}
 use Rattle.apd_plain.proofs.Levels.{grown_by, grows_more}
 use Rattle.apd_load.specs.Program.{Loads, refused, loads, onto_program, line_loads, loads_of, program_of}
 use Rattle.apd_load.specs.declared.LoadText.{LoadText}
 use Rattle.apd_load.specs.declared.LoadText.TheVariants as texts
-use Rattle.apd_load.specs.Steps.{lines_from, ClausesAreNamed, AddsLine, IsLineFrom}
+use Rattle.apd_load.specs.Steps.{lines_from, AddsLine, IsLineFrom}
 
 -- clauses before a program
 abbrev pub joined : List Clause → Loads → Loads
@@ -79,19 +80,19 @@ module _ (text : List ℕ) (at next line k : ℕ) (names new : List (List ℕ)) 
   pub is_refused : (r : LoadText) → AddsLine w line new cs now (Err r) → (l : ℕ) (cause : LoadCause) → r ≡ texts.Refused l cause → (more : List (List ℕ)) → program_of (new ++ more) text ≡ refused l cause
   is_refused r a l cause q = line_refused l cause (subst (λ x. AddsLine w line new cs now (Err x)) q a)
 
-clauses_more : (n m : ℕ) (cs : List Clause) → n ≤ m → ClausesAreNamed n cs → ClausesAreNamed m cs
+clauses_more : (n m : ℕ) (cs : List Clause) → n ≤ m → AllTuplesNamed n (tuples_of cs) → AllTuplesNamed m (tuples_of cs)
 clauses_more n m [] l h = tt
 clauses_more n m (c ∷ cs) l h = (TupleIsNamed-more n m c.tuple l h.0, clauses_more n m cs l h.1)
 
-clauses_push : (n : ℕ) (cs : List Clause) (c : Clause) → ClausesAreNamed n cs → TupleIsNamed n c.tuple → ClausesAreNamed n (cs ++ c ∷ [])
+clauses_push : (n : ℕ) (cs : List Clause) (c : Clause) → AllTuplesNamed n (tuples_of cs) → TupleIsNamed n c.tuple → AllTuplesNamed n (tuples_of (cs ++ c ∷ []))
 clauses_push n [] c h i = (i, tt)
 clauses_push n (d ∷ cs) c h i = (h.0, clauses_push n cs c h.1 i)
 
 -- the clauses and the names after one more line
-pub named_added : (w : List ℕ) (line k : ℕ) (names new : List (List ℕ)) (cs now : List Clause) → GrowsBy k names new → AddsLine w line new cs now (Ok tt) → ClausesAreNamed (length names) cs → ClausesAreNamed (length new) now
+pub named_added : (w : List ℕ) (line k : ℕ) (names new : List (List ℕ)) (cs now : List Clause) → GrowsBy k names new → AddsLine w line new cs now (Ok tt) → AllTuplesNamed (length names) (tuples_of cs) → AllTuplesNamed (length new) (tuples_of now)
 named_added w line k names new cs now g (t, f, i, (is, free)) h =
     let more : length new ≡ length names + length g.0 = ap length g.1 ∙ length-append names g.0 in
-    subst (ClausesAreNamed (length new)) (sym is) (clauses_push (length new) cs (record { tuple = t; line = line }) (clauses_more (length names) (length new) cs (omega arith) h) i)
+    subst (λ (l : List Clause). AllTuplesNamed (length new) (tuples_of l)) (sym is) (clauses_push (length new) cs (record { tuple = t; line = line }) (clauses_more (length names) (length new) cs (omega arith) h) i)
 
 pub few_added : (w : List ℕ) (line : ℕ) (new : List (List ℕ)) (cs now : List Clause) → length cs ≤ 20000 → AddsLine w line new cs now (Ok tt) → length now ≤ 20000
 few_added w line new cs now few (t, f, i, (is, free)) = omega (arith, ap length is, length_push cs (record { tuple = t; line = line }), free)
@@ -102,7 +103,7 @@ pub record Goes (text : List ℕ) (at line : ℕ) (before names : List (List ℕ
   pub counted : line ≤ at + 1
   pub grows : GrowsBy (min at (length text)) before names
   pub few : length cs ≤ 20000
-  pub named : ClausesAreNamed (length names) cs
+  pub named : AllTuplesNamed (length names) (tuples_of cs)
   pub reaches : Reaches text at line names cs
 
 pub goes_first : (text : List ℕ) (names : List (List ℕ)) (cs : List Clause) → cs ≡ [] → Goes text 0 1 names names cs

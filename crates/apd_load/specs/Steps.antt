@@ -6,7 +6,7 @@ use Rattle.apd_term.specs.declared.faults.LoadCause.TheVariants.{NotBuilt, Claus
 use Rattle.apd_clauses.specs.declared.clause.Clause.{Clause}
 use Rattle.apd_console.specs.Lines.{lines_of}
 use Rattle.apd_plain.specs.Lines.{fact_of_line}
-use Rattle.apd_plain.specs.Steps.{Grown}
+use Rattle.apd_term.specs.Growth.{Grown}
 use Rattle.apd_load.specs.declared.LoadText.{LoadText}
 use Rattle.apd_load.specs.declared.LoadText.TheVariants as texts
 
@@ -19,11 +19,6 @@ pub record IsLineFrom (text : List ℕ) (at end : ℕ) : Type 0 where
   pub further : at ≤ end
   pub within : end ≤ length text
   pub is : lines_from text at ≡ slice_range text at end ∷ lines_from text (end + 1)
-
--- the names of the clauses are among the first so many
-abbrev pub ClausesAreNamed : ℕ → List Clause → Type 0
-ClausesAreNamed n [] = Unit {0}
-ClausesAreNamed n (c ∷ cs) = TupleIsNamed n c.tuple × ClausesAreNamed n cs
 
 -- a clause is added, or there are as many as there may be
 abbrev pub AddsClause : Tuple → ℕ → List Clause → List Clause → Result (Unit {0}) LoadText → Type 0

@@ -1,12 +1,12 @@
 //! A text's program, line by line.
 
 ghost use Rattle.std.specs.Prelude.{◌≡◌, ℕ, ◌<◌, ◌≤◌, ◌+◌, ◌++◌, List, length, IfOk, OnOk, Err};
-ghost use Rattle.apd_term.specs.Named.{TupleIsNamed};
+ghost use Rattle.apd_term.specs.Named.{AllTuplesNamed, TupleIsNamed};
 ghost use Rattle.apd_term.specs.declared.faults.LoadCause.{LoadCause};
-ghost use Rattle.apd_clauses.specs.Clauses.{IsClause};
-ghost use Rattle.apd_plain.specs.Steps.{GrowsBy};
+ghost use Rattle.apd_clauses.specs.Clauses.{IsClause, tuples_of};
+ghost use Rattle.apd_term.specs.Growth.{GrowsBy};
 ghost use Rattle.apd_load.specs.Program.{program_of, loads, refused};
-ghost use Rattle.apd_load.specs.Steps.{AddsClause, AddsLine, ClausesAreNamed};
+ghost use Rattle.apd_load.specs.Steps.{AddsClause, AddsLine};
 
 use crate::lines::line_end;
 use crate::{LoadText, Loaded};
@@ -64,7 +64,7 @@ pub fn load(alloc: Global, text: &[u8], names: &mut Names) -> Result<Loaded, Loa
     ensures grows { GrowsBy (length text.now) names.old names.new }
     ensures loaded { IfOk result (λ l. (more : List (List ℕ)) → program_of (names.new ++ more) text.now ≡ loads l.program) }
     ensures refused { (line : ℕ) (cause : LoadCause) → result ≡ Err (LoadText.Refused line cause) → (more : List (List ℕ)) → program_of (names.new ++ more) text.now ≡ refused line cause }
-    ensures named { IfOk result (λ l. ClausesAreNamed (length names.new) l.program) }
+    ensures named { IfOk result (λ l. AllTuplesNamed (length names.new) (tuples_of l.program)) }
 {
     let mut program = Program::new(alloc);
     let mut at = 0;

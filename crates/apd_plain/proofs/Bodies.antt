@@ -8,7 +8,8 @@ use Rattle.apd_plain.specs.Words.{Token, stop}
 use Rattle.apd_plain.specs.Naming.{variable_words}
 use Rattle.apd_plain.specs.Grammar.{Reading, ◌>>=◌, max_levels, max_goals, past_space, last_goal, further_goals, atom_at, goals_at}
 use Rattle.apd_plain.specs.Marks.{tokens_from}
-use Rattle.apd_plain.specs.Steps.{Grown, GrowsBy, IsAhead, variables_from}
+use Rattle.apd_plain.specs.Steps.{IsAhead, variables_from}
+use Rattle.apd_term.specs.Growth.{Grown, GrowsBy}
 use Rattle.apd_plain.specs.Readings.{Gives, IsAtomRead, IsBehindGoal}
 use Rattle.apd_plain.proofs.Places.{variables-past_comma}
 

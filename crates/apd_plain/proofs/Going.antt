@@ -12,7 +12,8 @@ use Rattle.apd_plain.specs.Words.{closing, comma}
 use Rattle.apd_plain.specs.Grammar.{Reading, ◌>>=◌, max_arguments, arguments_at, term_at}
 use Rattle.apd_plain.specs.Marks.{tokens_from, Begins, StandsAt, IsPastComma}
 use Rattle.apd_plain.specs.Frames.{Frame, IsBehind, HasOpen, stacked, with_argument, closed}
-use Rattle.apd_plain.specs.Steps.{resumed, Grown, GoesOn, IsWithin, PassesNone, variables_from}
+use Rattle.apd_plain.specs.Steps.{resumed, GoesOn, IsWithin, PassesNone, variables_from}
+use Rattle.apd_term.specs.Growth.{Grown}
 use Rattle.apd_plain.proofs.Places.{arguments_after-other}
 use Rattle.apd_plain.proofs.Resumed.{made, resumed-none, resumed-comma, resumed-over, resumed-closing}
 

@@ -13,7 +13,8 @@ use Rattle.apd_plain.specs.Naming.{variables_in, variable_words}
 use Rattle.apd_plain.specs.Grammar.{Reading, ◌>>=◌, max_levels, max_goals, fact_with, rule_with, atom_at, goals_at, clause_at, query_at}
 use Rattle.apd_plain.specs.Lines.{clause_of_line, query_of_line, fact_of_line, goal_of_line, fact_with_body, query_with_body, list_term}
 use Rattle.apd_plain.specs.Marks.{tokens_from}
-use Rattle.apd_plain.specs.Steps.{Grown, GrowsBy, IsAhead, variables_from}
+use Rattle.apd_plain.specs.Steps.{IsAhead, variables_from}
+use Rattle.apd_term.specs.Growth.{Grown, GrowsBy}
 use Rattle.apd_plain.specs.Readings.{IsAtomRead, AreGoalsRead, IsBehindHead, IsQueryStart}
 use Rattle.apd_plain.proofs.Levels.{grown_by}
 use Rattle.apd_plain.proofs.Bodies.{found, max_levels-is}

@@ -12,7 +12,8 @@ use Rattle.apd_plain.specs.declared.unfinished.Unfinished.{Unfinished}
 use Rattle.apd_plain.specs.Grammar.{Reading, term_at}
 use Rattle.apd_plain.specs.Marks.{tokens_from}
 use Rattle.apd_plain.specs.Frames.{Frame, stacked, IsOpen}
-use Rattle.apd_plain.specs.Steps.{resumed, Grown, GrowsBy, IsAhead, IsWithin, ReadsFrom, variables_from}
+use Rattle.apd_plain.specs.Steps.{resumed, IsAhead, IsWithin, ReadsFrom, variables_from}
+use Rattle.apd_term.specs.Growth.{Grown, GrowsBy}
 use Rattle.apd_plain.specs.Readings.{Gives, end_of}
 use Rattle.apd_plain.proofs.Resumed.{resumed-none, term_at-zero}
 

@@ -11,7 +11,7 @@ use Rattle.apd_term.proofs.Naming.{with_name_adds}
 use Rattle.apd_term.specs.Term.{variable, spell}
 use Rattle.apd_plain.specs.Grammar.{id_of}
 use Rattle.apd_plain.specs.Lines.{list_term}
-use Rattle.apd_plain.specs.Steps.{Grown, GrowsBy}
+use Rattle.apd_term.specs.Growth.{Grown, GrowsBy}
 use Rattle.apd_plain.proofs.Simple.{kept_number}
 
 -- the symbols of the list's cells, for n variables from a on

@@ -17,7 +17,8 @@ use Rattle.apd_plain.specs.Reserved.{is_plain_name, is_listed, operator_names}
 use Rattle.apd_plain.specs.Marks.{tokens_from, Begins, StandsAt, IsWordFrom, BeginsOther}
 use Rattle.apd_plain.specs.Grammar.{◌>>=◌, id_of, simple_term, term_at}
 use Rattle.apd_plain.specs.Frames.{Frame, entered}
-use Rattle.apd_plain.specs.Steps.{resumed, Grown, IsAhead, IsAheadOf, PassesNone, variables_from}
+use Rattle.apd_plain.specs.Steps.{resumed, IsAhead, IsAheadOf, PassesNone, variables_from}
+use Rattle.apd_term.specs.Growth.{Grown}
 use Rattle.apd_plain.proofs.Tokens.{word_stands}
 use Rattle.apd_plain.proofs.Resumed.{resumed-none, resumed-enter, resumed-no_name}
 

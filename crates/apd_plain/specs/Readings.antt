@@ -9,7 +9,8 @@ use Rattle.apd_plain.specs.Words.{Token, word, comma, space, stop, colon, dash, 
 use Rattle.apd_plain.specs.Reserved.{is_free_name}
 use Rattle.apd_plain.specs.Grammar.{Reading, max_levels, max_goals, term_at, atom_at, goals_at, last_goal, further_goals, fact_with, rule_with, query_at}
 use Rattle.apd_plain.specs.Marks.{tokens_from, StandsAt, IsPastComma}
-use Rattle.apd_plain.specs.Steps.{Grown, IsAhead, variables_from}
+use Rattle.apd_plain.specs.Steps.{IsAhead, variables_from}
+use Rattle.apd_term.specs.Growth.{Grown}
 
 -- where the reading ended: behind the term, or at the line's end
 abbrev pub end_of : List ℕ → Result (Option TermRead) AllocError → ℕ

@@ -8,6 +8,7 @@ use Rattle.apd_plain.specs.declared.closing.Next.{Next}
 use Rattle.apd_plain.specs.declared.closing.Next.TheVariants as nexts
 use Rattle.apd_plain.specs.Words.{Token}
 use Rattle.apd_term.specs.Names.{with_name}
+use Rattle.apd_term.specs.Growth.{Grown}
 use Rattle.apd_plain.specs.Naming.{variable_words}
 use Rattle.apd_plain.specs.Grammar.{Reading, ◌>>=◌, max_arguments, arguments_after, arguments_at, simple_term, term_at}
 use Rattle.apd_plain.specs.Marks.{tokens_from}
@@ -23,10 +24,6 @@ module _ (names variables : List (List ℕ)) where
   unfoldable pub resumed : ℕ → List Frame → Reading Term → Reading Term
   resumed levels [] r = r
   resumed levels (f ∷ fs) r = resumed (suc levels) fs (r >>= λ p. filled levels f p.0 p.1)
-
--- more names or none stand at the end
-abbrev pub Grown : List (List ℕ) → List (List ℕ) → Type 0
-Grown old new = (added : List (List ℕ)) × (new ≡ old ++ added)
 
 -- A step of the reading, from `before`, which gives the whole term for a list of names and a number of levels:
 -- the line is not plain, or a further term is wanted at a place, or the whole term ends there.
@@ -56,10 +53,6 @@ abbrev pub IsAheadOf : List (List ℕ) → List (List ℕ) → List ℕ → Next
 IsAheadOf all seen line nexts.NotPlain = Unit {0}
 IsAheadOf all seen line (nexts.Further at) = IsAhead all seen (variables_from line at)
 IsAheadOf all seen line (nexts.Whole at) = IsAhead all seen (variables_from line at)
-
--- the list has at most so many more texts, at its end
-abbrev pub GrowsBy : ℕ → List (List ℕ) → List (List ℕ) → Type 0
-GrowsBy most old new = (added : List (List ℕ)) × (new ≡ old ++ added) × (length added ≤ most)
 
 -- what a word is by itself for a list of names: no term, or the term of one symbol
 abbrev pub IsSimple : List (List ℕ) → List (List ℕ) → List ℕ → Option Sym → Type 0

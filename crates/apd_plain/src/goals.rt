@@ -3,7 +3,8 @@
 ghost use Rattle.std.specs.Prelude.{◌≡◌, ℕ, ◌<◌, ◌≤◌, ◌+◌, ◌-◌, List, length, IfOk};
 ghost use Rattle.apd_plain.specs.Words.{stop, space};
 ghost use Rattle.apd_plain.specs.Marks.{tokens_from, StandsAt};
-ghost use Rattle.apd_plain.specs.Steps.{GrowsBy, IsAhead, variables_from};
+ghost use Rattle.apd_plain.specs.Steps.{IsAhead, variables_from};
+ghost use Rattle.apd_term.specs.Growth.{GrowsBy};
 ghost use Rattle.apd_plain.specs.Readings.{end_of, IsAtomRead, AreGoalsRead, IsBehindGoal, IsBehindHead, starts_free};
 
 use crate::closing::past_comma;

@@ -6,7 +6,7 @@ ghost use Rattle.apd_term.specs.Term.{variable};
 ghost use Rattle.apd_plain.specs.Lines.{clause_of_line, query_of_line, fact_of_line, goal_of_line, list_term, Runs};
 ghost use Rattle.apd_clauses.specs.Clauses.{IsClause};
 ghost use Rattle.apd_term.specs.Named.{TupleIsNamed};
-ghost use Rattle.apd_plain.specs.Steps.{GrowsBy};
+ghost use Rattle.apd_term.specs.Growth.{GrowsBy};
 ghost use Rattle.apd_plain.specs.Readings.{IsQueryStart};
 
 use crate::goals::{Behind, behind_head, read_atom, read_goals};

@@ -5,7 +5,8 @@ ghost use Rattle.apd_plain.specs.Words.{Token, word, opening};
 ghost use Rattle.apd_plain.specs.Naming.{variable_words};
 ghost use Rattle.apd_plain.specs.Marks.{tokens_from, IsWordFrom, Begins, StandsAt, BeginsOther};
 ghost use Rattle.apd_plain.specs.Frames.{Frame, IsOpen};
-ghost use Rattle.apd_plain.specs.Steps.{GrowsBy, IsAhead, IsSimple, ReadsFrom, IsWithin};
+ghost use Rattle.apd_plain.specs.Steps.{IsAhead, IsSimple, ReadsFrom, IsWithin};
+ghost use Rattle.apd_term.specs.Growth.{GrowsBy};
 
 use crate::closing::{Next, close_up};
 use crate::kinds::{decimal_value, is_integer, is_plain_name, is_variable};

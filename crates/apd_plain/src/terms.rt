@@ -1,7 +1,8 @@
 //! Terms.
 
 ghost use Rattle.std.specs.Prelude.{◌≡◌, ℕ, ◌<◌, ◌≤◌, ◌+◌, ◌-◌, List, length, IfOk};
-ghost use Rattle.apd_plain.specs.Steps.{GrowsBy, IsAhead, variables_from};
+ghost use Rattle.apd_plain.specs.Steps.{IsAhead, variables_from};
+ghost use Rattle.apd_term.specs.Growth.{GrowsBy};
 ghost use Rattle.apd_plain.specs.Readings.{end_of, IsTermRead};
 
 use crate::closing::Next;

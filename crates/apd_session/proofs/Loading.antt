@@ -3,9 +3,7 @@ use Rattle.std.proofs.Common.{◌≡◌, ℕ, ◌+◌, ◌≤◌, List, [], ◌�
 use Rattle.std.proofs.lemmas.List.{append-nil}
 use Rattle.apd_clauses.specs.Clauses.{tuples_of}
 use Rattle.apd_clauses.specs.declared.clause.Clause.{Clause}
-use Rattle.apd_load.specs.Steps.{ClausesAreNamed}
-use Rattle.apd_plain.specs.Steps.{GrowsBy}
-use Rattle.apd_trace.specs.Named.{AllTuplesNamed}
+use Rattle.apd_term.specs.Growth.{GrowsBy, Grown}
 use Rattle.apd_io.specs.Outside.{Rose}
 use Rattle.apd_console.specs.Console.{Kept, IsKept, fresh}
 use Rattle.apd_console.specs.Talk.{Meaning, Ends, Breaks as BreaksOff, at, onto, replies}
@@ -16,7 +14,6 @@ use Rattle.apd_console.specs.declared.talk.Trouble.TheVariants as trouble
 use Rattle.apd_load.specs.Program.{loads, program_of}
 use Rattle.apd_text.specs.declared.entry.Entry.{Entry}
 use Rattle.apd_text.specs.declared.entry.Entry.TheVariants.{Loaded}
-use Rattle.apd_session.specs.Commands.{Grew}
 use Rattle.apd_session.specs.Outcome.{Answers, IsSaid, status_of}
 use Rattle.apd_session.specs.Session.{Options, after_load, status_after, tells}
 use Rattle.apd_session.specs.Steps.{begun, plain, talker}
@@ -25,11 +22,7 @@ use Rattle.apd_session.specs.declared.status.Status.{Status}
 use Rattle.apd_session.specs.declared.status.Status.TheVariants as statuses
 use Rattle.apd_session.proofs.Worlds.{answers_ended, answers_broken}
 
-pub loaded_named : (n : ℕ) (cs : List Clause) → ClausesAreNamed n cs → AllTuplesNamed n (tuples_of cs)
-loaded_named n [] named = tt
-loaded_named n (c ∷ cs) named = (named.0, loaded_named n cs named.1)
-
-pub grew_by : (m : ℕ) (a b : List (List ℕ)) → GrowsBy m a b → Grew a b
+pub grew_by : (m : ℕ) (a b : List (List ℕ)) → GrowsBy m a b → Grown a b
 grew_by m a b grows = (grows.0, grows.1)
 
 pub grows_to : (m : ℕ) (a b : List (List ℕ)) → GrowsBy m a b → length b ≤ length a + m

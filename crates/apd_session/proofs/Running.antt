@@ -11,7 +11,7 @@ use Rattle.apd_ports.specs.declared.filter.Filter.{Filter}
 use Rattle.apd_ports.specs.declared.hook.Shown.{Shown}
 use Rattle.apd_ports.specs.declared.hook.Shown.TheVariants.{Port, Answer}
 use Rattle.apd_ports.specs.declared.event.Event.{Event}
-use Rattle.apd_term.specs.Named.{TupleIsNamed, IsNamed}
+use Rattle.apd_term.specs.Named.{TupleIsNamed, IsNamed, AllTuplesNamed}
 use Rattle.apd_term.specs.declared.run.Query.{Query}
 use Rattle.apd_term.specs.declared.run.Ran.{Ran}
 use Rattle.apd_text.proofs.MoreNames.{head_text-more, port_text-more, answer_text-more}
@@ -20,7 +20,7 @@ use Rattle.apd_text.specs.Lines.{head_text, port_text, end_text}
 use Rattle.apd_text.specs.declared.entry.Entry.{Entry}
 use Rattle.apd_text.specs.declared.entry.Entry.TheVariants.{Run}
 use Rattle.apd_trace.proofs.Named.{run_named}
-use Rattle.apd_trace.specs.Named.{AllTuplesNamed, AllShownNamed}
+use Rattle.apd_trace.specs.Named.{AllShownNamed}
 use Rattle.apd_trace.specs.Run.{shown_of, ran_of}
 use Rattle.apd_session.specs.Running.{BeginsFront, entered}
 use Rattle.apd_session.specs.Runs.{shown_text, run_for, run_text, run_said}

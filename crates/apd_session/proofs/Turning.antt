@@ -13,8 +13,9 @@ use Rattle.apd_term.specs.declared.run.Query.{Query}
 use Rattle.apd_term.specs.declared.tuple.Tuple.{Tuple}
 use Rattle.apd_term.specs.declared.term.Pred.{Pred}
 use Rattle.apd_text.specs.declared.entry.Entry.{Entry}
-use Rattle.apd_trace.specs.Named.{AllTuplesNamed}
-use Rattle.apd_session.specs.Commands.{Grew, LineGrows, step_for}
+use Rattle.apd_term.specs.Named.{AllTuplesNamed}
+use Rattle.apd_session.specs.Commands.{LineGrows, step_for}
+use Rattle.apd_term.specs.Growth.{Grown}
 use Rattle.apd_session.specs.Running.{IsReady}
 use Rattle.apd_session.specs.Steps.{talker, query_said, warnings_for, without_clauses, called_in}
 use Rattle.apd_session.specs.declared.commands.Command.{Command}
@@ -25,18 +26,18 @@ use Rattle.apd_console.specs.declared.line.Line.TheVariants.{Text, TooLong}
 use Rattle.apd_session.proofs.Running.{said_for}
 use Rattle.apd_session.proofs.Warning.{warned}
 
-pub Grew-self : (names : List (List ℕ)) → Grew names names
-Grew-self names = ([], sym (append-nil names))
+pub Grown-self : (names : List (List ℕ)) → Grown names names
+Grown-self names = ([], sym (append-nil names))
 
-pub Grew-more : (a b c : List (List ℕ)) → Grew a b → Grew b c → Grew a c
-Grew-more a b c first second = (first.0 ++ second.0, second.1 ∙ ap (λ (l : List (List ℕ)). l ++ second.0) first.1 ∙ append_assoc a first.0 second.0)
+pub Grown-more : (a b c : List (List ℕ)) → Grown a b → Grown b c → Grown a c
+Grown-more a b c first second = (first.0 ++ second.0, second.1 ∙ ap (λ (l : List (List ℕ)). l ++ second.0) first.1 ∙ append_assoc a first.0 second.0)
 
-pub Grew-length : (a b : List (List ℕ)) → Grew a b → length a ≤ length b
-Grew-length a b grew = let e : length b ≡ length (a ++ grew.0) = ap length grew.1 in let l = length-append a grew.0 in omega (arith, e, l)
+pub Grown-length : (a b : List (List ℕ)) → Grown a b → length a ≤ length b
+Grown-length a b grew = let e : length b ≡ length (a ++ grew.0) = ap length grew.1 in let l = length-append a grew.0 in omega (arith, e, l)
 
-pub Grew-line : (line : Line) (a b : List (List ℕ)) → LineGrows line a b → Grew a b
-Grew-line TooLong a b grows = ([], grows ∙ sym (append-nil a))
-Grew-line (Text bytes) a b grows = (grows.0, grows.1)
+pub Grown-line : (line : Line) (a b : List (List ℕ)) → LineGrows line a b → Grown a b
+Grown-line TooLong a b grows = ([], grows ∙ sym (append-nil a))
+Grown-line (Text bytes) a b grows = (grows.0, grows.1)
 
 all_named_more : (n m : ℕ) (P : List Tuple) → n ≤ m → AllTuplesNamed n P → AllTuplesNamed m P
 all_named_more n m [] less named = tt
@@ -69,8 +70,8 @@ query_parts names s q ps is = ap (λ (l : List Pred). warned names l ++ said_for
 
 -- a conversation that goes on: what was said so far comes first, whatever names are kept in the end
 pub record IsGoing (s : State) (k l : Kept) (x y : Option (List ℕ)) (a b : ℕ) (log log_now : Log) (z w : Option (List ℕ)) (c d : ℕ) : Type 0 where
-  pub talks : (names : List (List ℕ)) → Grew log_now.names names → Talks (replies (talker names) s) (at k x a log.entries z c) (at l y b log_now.entries w d) (replies (talker names) s)
-  pub grew : Grew log.names log_now.names
+  pub talks : (names : List (List ℕ)) → Grown log_now.names names → Talks (replies (talker names) s) (at k x a log.entries z c) (at l y b log_now.entries w d) (replies (talker names) s)
+  pub grew : Grown log.names log_now.names
   pub ready : IsReady (length log_now.names) s
   pub room : length log_now.names + room_of l < 4000000000
   pub few : room_of l ≤ 1000000000
@@ -79,7 +80,7 @@ pub record IsGoing (s : State) (k l : Kept) (x y : Option (List ℕ)) (a b : ℕ
 pub IsGoing-start : (s : State) (k : Kept) (x z : Option (List ℕ)) (a c : ℕ) (log : Log) → IsReady (length log.names) s → length log.names + room_of k < 4000000000 → room_of k ≤ 1000000000 → IsKept k → IsGoing s k k x x a a log log z z c c
 IsGoing-start s k x z a c log ready room few sound = record {
   talks = λ names grew. Talks-self (replies (talker names) s) (at k x a log.entries z c);
-  grew = Grew-self log.names;
+  grew = Grown-self log.names;
   ready = ready;
   room = room;
   few = few;
@@ -87,12 +88,12 @@ IsGoing-start s k x z a c log ready room few sound = record {
 }
 
 pub IsGoing-more : (s : State) (k l m : Kept) (x y v : Option (List ℕ)) (a b e : ℕ) (log log_now log_next : Log) (z w u : Option (List ℕ)) (c d f : ℕ) → IsGoing s k l x y a b log log_now z w c d →
-    ((names : List (List ℕ)) → Grew log_next.names names → Talks (replies (talker names) s) (at l y b log_now.entries w d) (at m v e log_next.entries u f) (replies (talker names) s)) →
-    Grew log_now.names log_next.names → length log_next.names + room_of m ≤ length log_now.names + room_of l → room_of m < room_of l → IsKept m → IsGoing s k m x v a e log log_next z u c f
+    ((names : List (List ℕ)) → Grown log_next.names names → Talks (replies (talker names) s) (at l y b log_now.entries w d) (at m v e log_next.entries u f) (replies (talker names) s)) →
+    Grown log_now.names log_next.names → length log_next.names + room_of m ≤ length log_now.names + room_of l → room_of m < room_of l → IsKept m → IsGoing s k m x v a e log log_next z u c f
 IsGoing-more s k l m x y v a b e log log_now log_next z w u c d f before turn grew room less sound = record {
-  talks = λ names last. Talks-more _ (replies (talker names) s) _ _ (at l y b log_now.entries w d) _ (before.talks names (Grew-more log_now.names log_next.names names grew last)) (turn names last);
-  grew = Grew-more log.names log_now.names log_next.names before.grew grew;
-  ready = IsReady-more (length log_now.names) (length log_next.names) s (Grew-length log_now.names log_next.names grew) before.ready;
+  talks = λ names last. Talks-more _ (replies (talker names) s) _ _ (at l y b log_now.entries w d) _ (before.talks names (Grown-more log_now.names log_next.names names grew last)) (turn names last);
+  grew = Grown-more log.names log_now.names log_next.names before.grew grew;
+  ready = IsReady-more (length log_now.names) (length log_next.names) s (Grown-length log_now.names log_next.names grew) before.ready;
   room = let r = before.room in omega (arith, r, room);
   few = let r = before.few in omega (arith, r, less);
   sound = sound;

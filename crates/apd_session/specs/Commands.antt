@@ -2,7 +2,7 @@
 use Rattle.std.specs.Prelude.{ℕ, ◌≡◌, ◌<◌, ◌≤◌, ◌+◌, List, [], ◌∷◌, ◌++◌, length}
 use Rattle.apd_console.specs.declared.line.Line.{Line}
 use Rattle.apd_console.specs.declared.line.Line.TheVariants.{Text, TooLong}
-use Rattle.apd_plain.specs.Steps.{GrowsBy}
+use Rattle.apd_term.specs.Growth.{GrowsBy}
 use Rattle.apd_clauses.specs.Clauses.{IsRunnable}
 use Rattle.apd_console.specs.Talk.{Step}
 use Rattle.apd_term.specs.Named.{TupleIsNamed}
@@ -33,7 +33,3 @@ LineFits count (Text bytes) = (count + length bytes < 4000000000) × (length byt
 abbrev pub LineGrows : Line → List (List ℕ) → List (List ℕ) → Type 0
 LineGrows TooLong names later = later ≡ names
 LineGrows (Text bytes) names later = GrowsBy (length bytes) names later
-
--- the names only grew, at their end
-abbrev pub Grew : List (List ℕ) → List (List ℕ) → Type 0
-Grew names later = (more : List (List ℕ)) × (later ≡ names ++ more)

@@ -6,7 +6,7 @@ use Rattle.apd_term.specs.declared.run.Query.{Query}
 use Rattle.apd_text.specs.declared.entry.Entry.{Entry}
 use Rattle.apd_text.specs.declared.entry.Entry.TheVariants.{Run}
 use Rattle.apd_text.specs.Lines.{head_text}
-use Rattle.apd_trace.specs.Named.{AllTuplesNamed}
+use Rattle.apd_term.specs.Named.{AllTuplesNamed}
 use Rattle.apd_session.specs.declared.state.State.{State}
 
 -- a state's limits are from 1 to 1,000,000, and the names of its program are among the first n

@@ -1,7 +1,7 @@
 // What a line says in a command's place.
 ghost use Rattle.std.specs.Prelude.{◌≡◌, ◌<◌, ◌≤◌, ◌+◌, ◌++◌, List, ℕ, length, IfOk};
 ghost use Rattle.apd_console.specs.declared.line.Line.TheVariants as lines;
-ghost use Rattle.apd_plain.specs.Steps.{GrowsBy};
+ghost use Rattle.apd_term.specs.Growth.{GrowsBy};
 ghost use Rattle.apd_session.specs.declared.state.State.{State};
 ghost use Rattle.apd_session.specs.Commands.{CanObey, LineFits, LineGrows, step_for};
 ghost use Rattle.apd_session.specs.Steps.{is_blank, step};

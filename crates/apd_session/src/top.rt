@@ -8,7 +8,7 @@ ghost use Rattle.apd_load.specs.Program.{program_of};
 ghost use Rattle.apd_term.specs.StandardNames.{standard_names};
 ghost use Rattle.apd_text.specs.declared.entry.Entry.TheVariants as entries;
 ghost use Rattle.apd_text.specs.Named.{EntryIsNamed};
-ghost use Rattle.apd_session.specs.Commands.{Grew};
+ghost use Rattle.apd_term.specs.Growth.{Grown};
 ghost use Rattle.apd_session.specs.Causes.{Comes, FileHas, IsProgram, status_for};
 ghost use Rattle.apd_session.specs.Outcome.{Answers, IsMet, IsSaid, IsWhole, Meets};
 ghost use Rattle.apd_session.specs.Running.{IsReady};
@@ -60,14 +60,14 @@ fn begin<S: Source, K: Sink>(
     requires ready { IsReady (length log.old.names) state.now }
     requires few { length log.old.names ≤ 1000000000 }
     requires start { console.old ≡ fresh }
-    ensures talk { (names : List (List ℕ)) → Grew log.new.names names → MatchResult result
+    ensures talk { (names : List (List ℕ)) → Grown log.new.names names → MatchResult result
         (λ e. Ends (λ room more ends. onto (plain names (entries.Loaded (length state.now.program)) ∷ []) (replies (talker names) state.now room more ends))
         (at console.old (S.left input.old) (S.faults input.old) log.old.entries (K.held out.old) (K.faults out.old))
         (at console.new (S.left input.new) (S.faults input.new) log.new.entries (K.held out.new) (K.faults out.new)) e)
         (λ t. Breaks begun (λ room more ends. onto (plain names (entries.Loaded (length state.now.program)) ∷ []) (replies (talker names) state.now room more ends))
         (at console.old (S.left input.old) (S.faults input.old) log.old.entries (K.held out.old) (K.faults out.old))
         (at console.new (S.left input.new) (S.faults input.new) log.new.entries (K.held out.new) (K.faults out.new)) t) }
-    ensures names { Grew log.old.names log.new.names }
+    ensures names { Grown log.old.names log.new.names }
     ensures sound { IsKept console.new }
 {
     let clauses = state.program.count();
@@ -90,7 +90,7 @@ fn talk<S: Source, K: Sink>(
     requires few { length log.old.names ≤ 1000000 }
     requires size { length text.now ≤ 1048576 }
     requires limits { (asked.budget ≤ 1000000) × (0 < asked.answers) × (asked.answers ≤ 1000000) }
-    ensures answers { (names : List (List ℕ)) → Grew log.new.names names → (options : Options) → options ≡ record { program = asked.entry.program.now; budget = asked.entry.budget; answers = asked.entry.answers; filter = asked.entry.filter } →
+    ensures answers { (names : List (List ℕ)) → Grown log.new.names names → (options : Options) → options ≡ record { program = asked.entry.program.now; budget = asked.entry.budget; answers = asked.entry.answers; filter = asked.entry.filter } →
         Answers (S.left input.old) (Rose (S.faults input.old) (S.faults input.new)) (λ input ends. after_load names options input ends (program_of names text.now)) result log.new.entries (K.held out.old) (K.held out.new) }
     ensures read { result ≡ Status.ReadFault → Rose (S.faults input.old) (S.faults input.new) }
     ensures write { result ≡ Status.WriteFault → Rose (K.faults out.old) (K.faults out.new) }

@@ -3,7 +3,8 @@ ghost use Rattle.std.specs.Prelude.{◌≡◌, ◌<◌, ◌≤◌, ◌+◌, ◌+
 ghost use Rattle.apd_console.specs.Console.{IsKept, room_of};
 ghost use Rattle.apd_console.specs.Talk.{Breaks, Continues, Ends, at, close_of, ending_of, replies};
 ghost use Rattle.apd_console.specs.Utterance.{Utters, UttersFront};
-ghost use Rattle.apd_session.specs.Commands.{CanObey, Grew, step_for};
+ghost use Rattle.apd_session.specs.Commands.{CanObey, step_for};
+ghost use Rattle.apd_term.specs.Growth.{Grown};
 ghost use Rattle.apd_session.specs.Outcome.{HasWriteCause};
 ghost use Rattle.apd_session.specs.Running.{IsReady};
 ghost use Rattle.apd_clauses.specs.Clauses.{IsRunnable};
@@ -118,12 +119,12 @@ fn one_turn<S: Source, K: Sink>(
     requires ready { IsReady (length log.old.names) state.now }
     requires room { length log.old.names + room_of console.old < 4000000000 }
     requires few { room_of console.old ≤ 1000000000 }
-    ensures talk { (names : List (List ℕ)) → Grew log.new.names names → MatchResult result
+    ensures talk { (names : List (List ℕ)) → Grown log.new.names names → MatchResult result
         (λ n. Continues (replies (talker names) state.now) (at console.old (S.left input.old) (S.faults input.old) log.old.entries (K.held out.old) (K.faults out.old))
         (at console.new (S.left input.new) (S.faults input.new) log.new.entries (K.held out.new) (K.faults out.new)) (replies (talker names) state.now) n)
         (λ t. Breaks begun (replies (talker names) state.now) (at console.old (S.left input.old) (S.faults input.old) log.old.entries (K.held out.old) (K.faults out.old))
         (at console.new (S.left input.new) (S.faults input.new) log.new.entries (K.held out.new) (K.faults out.new)) t) }
-    ensures names { Grew log.old.names log.new.names }
+    ensures names { Grown log.old.names log.new.names }
     ensures room { length log.new.names + room_of console.new ≤ length log.old.names + room_of console.old }
     ensures less { result ≡ Ok Next.Goes → room_of console.new < room_of console.old }
     ensures sound { IsKept console.new }
@@ -160,12 +161,12 @@ pub(crate) fn converse<S: Source, K: Sink>(
     requires room { length log.old.names + room_of console.old < 4000000000 }
     requires few { room_of console.old ≤ 1000000000 }
     requires kept { IsKept console.old }
-    ensures talk { (names : List (List ℕ)) → Grew log.new.names names → MatchResult result
+    ensures talk { (names : List (List ℕ)) → Grown log.new.names names → MatchResult result
         (λ e. Ends (replies (talker names) state.now) (at console.old (S.left input.old) (S.faults input.old) log.old.entries (K.held out.old) (K.faults out.old))
         (at console.new (S.left input.new) (S.faults input.new) log.new.entries (K.held out.new) (K.faults out.new)) e)
         (λ t. Breaks begun (replies (talker names) state.now) (at console.old (S.left input.old) (S.faults input.old) log.old.entries (K.held out.old) (K.faults out.old))
         (at console.new (S.left input.new) (S.faults input.new) log.new.entries (K.held out.new) (K.faults out.new)) t) }
-    ensures names { Grew log.old.names log.new.names }
+    ensures names { Grown log.old.names log.new.names }
     ensures sound { IsKept console.new }
 {
     'lines: loop {

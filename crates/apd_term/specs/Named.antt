@@ -20,3 +20,7 @@ AllNamed n (t ∷ ts) = IsNamed n t × AllNamed n ts
 
 abbrev pub TupleIsNamed : ℕ → Tuple → Type 0
 TupleIsNamed n t = IsNamed n t.head × AllNamed n t.body
+
+abbrev pub AllTuplesNamed : ℕ → List Tuple → Type 0
+AllTuplesNamed n [] = Unit {0}
+AllTuplesNamed n (t ∷ ts) = TupleIsNamed n t × AllTuplesNamed n ts

@@ -4,7 +4,7 @@ use Rattle.std.specs.Prelude.{if◌then◌else◌, slice_get}
 use Rattle.apd_term.specs.Term.{Term, variable, predicate_of}
 use Rattle.apd_term.specs.declared.term.Pred.{Pred}
 use Rattle.apd_term.specs.Substitution.{term_for}
-use Rattle.apd_term.specs.Named.{IsNamed, AllNamed, TupleIsNamed}
+use Rattle.apd_term.specs.Named.{IsNamed, AllNamed, TupleIsNamed, AllTuplesNamed}
 use Rattle.apd_term.specs.declared.tuple.Tuple.{Tuple}
 use Rattle.apd_term.specs.declared.run.RunError.TheVariants.{Size}
 use Rattle.apd_term.proofs.Named.{TupleIsNamed-apply, IsNamed-canonical, TupleIsNamed-canonical}
@@ -24,7 +24,7 @@ use Rattle.apd_trace.specs.Frames.{apply_frames, above, variables_of_frames, apa
 use Rattle.apd_trace.specs.BuiltIn.{Solution, of_program, faulted, failed, solved, outcome, built, solved_or, solution_by, solution_at, solution}
 use Rattle.apd_trace.specs.Trace.{Out, Next, nothing, emit, and_then, at_port, point_of, begun, tried, tries, hand, over, succeeded, again, settled, turn, search_from, up_to_error, trace}
 use Rattle.apd_trace.specs.Run.{before_event, run_of, shown_of}
-use Rattle.apd_trace.specs.Named.{AllTuplesNamed, FrameIsNamed, AllFramesNamed, ItemIsNamed, AllItemsNamed, AllShownNamed}
+use Rattle.apd_trace.specs.Named.{FrameIsNamed, AllFramesNamed, ItemIsNamed, AllItemsNamed, AllShownNamed}
 
 -- the goal is named, if there is one
 abbrev pub GoalIsNamed : ℕ → Option Term → Type 0

@@ -8,11 +8,6 @@ use Rattle.apd_trace.specs.declared.frame.Frame.{Frame}
 use Rattle.apd_trace.specs.declared.item.Item.{Item}
 use Rattle.apd_trace.specs.declared.item.Item.TheVariants.{Passed, Answer, Made, Error}
 
--- each of the clauses is named: its names have numbers below n
-abbrev pub AllTuplesNamed : ℕ → List Tuple → Type 0
-AllTuplesNamed n [] = Unit {0}
-AllTuplesNamed n (t ∷ ts) = TupleIsNamed n t × AllTuplesNamed n ts
-
 -- the frame's clause instance is named
 abbrev pub FrameIsNamed : ℕ → Frame → Type 0
 FrameIsNamed n f = TupleIsNamed n f.tuple

@@ -2,7 +2,7 @@
 
 ghost use Rattle.std.specs.Prelude.{◌≡◌, ◌≢◌, ℕ, ◌+◌, ◌≤◌, ◌<◌, List, Option, Some, None, ◌∷◌, []};
 ghost use Rattle.apd_term.specs.Canonical.{canonical};
-ghost use Rattle.apd_term.specs.Named.{TupleIsNamed};
+ghost use Rattle.apd_term.specs.Named.{TupleIsNamed, AllTuplesNamed};
 ghost use Rattle.apd_term.specs.Term.{Term, predicate_of};
 ghost use Rattle.apd_term.specs.Tuple.{apply_tuple};
 ghost use Rattle.apd_term.specs.declared.term.Pred.{Pred};
@@ -11,7 +11,7 @@ ghost use Rattle.apd_unify.specs.Unifier.{IsAnswer};
 ghost use Rattle.apd_trace.specs.declared.frame.Frame.{Frame};
 ghost use Rattle.apd_trace.specs.declared.frame.Called.{Called};
 ghost use Rattle.apd_trace.specs.Frames.{entering, entered, under, shifted_tuple, next_goal, query_frame};
-ghost use Rattle.apd_trace.specs.Named.{AllTuplesNamed, AllItemsNamed, AllShownNamed};
+ghost use Rattle.apd_trace.specs.Named.{AllItemsNamed, AllShownNamed};
 ghost use Rattle.apd_trace.specs.Renaming.{IsRenamed, AreRenamed, IsBelow, whole_term, HaveSameMarks, AreLinked};
 ghost use Rattle.apd_trace.specs.BuiltIn.{solution, solved};
 ghost use Rattle.apd_trace.specs.Trace.{search_from, trace};

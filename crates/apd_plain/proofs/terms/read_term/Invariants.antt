@@ -1,5 +1,6 @@
 use Rattle.std.proofs.Common.{ℕ, ◌≤◌, ◌-◌, List, length}
-use Rattle.apd_plain.specs.Steps.{GrowsBy, IsAhead, variables_from}
+use Rattle.apd_plain.specs.Steps.{IsAhead, variables_from}
+use Rattle.apd_term.specs.Growth.{GrowsBy}
 use Rattle.apd_plain.proofs.Levels.{Goes}
 use Rattle.apd_plain.proofs.terms.read_term.Given as goal
 

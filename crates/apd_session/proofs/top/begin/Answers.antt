@@ -3,15 +3,15 @@ use Rattle.apd_console.specs.Talk.{at, replies}
 use Rattle.apd_console.specs.Utterance.{Utters, UttersFront}
 use Rattle.apd_console.proofs.Talking.{Talks-say, Breaks-say, ends_on}
 use Rattle.apd_text.specs.declared.entry.Entry.TheVariants as entries
-use Rattle.apd_session.specs.Commands.{Grew}
+use Rattle.apd_term.specs.Growth.{Grown}
 use Rattle.apd_session.specs.Steps.{begun, plain, talker}
 use Rattle.apd_session.proofs.Loading.{opening}
-use Rattle.apd_session.proofs.Turning.{Grew-more}
+use Rattle.apd_session.proofs.Turning.{Grown-more}
 use Rattle.apd_session.proofs.top.begin.Goals as goal
 
 pub returns-in-Ok-clause-talk : goal.returns-in-Ok-clause-talk
 returns-in-Ok-clause-talk g c = λ names grew.
-    let all : Grew c.args.log.now.names names = Grew-more c.args.log.now.names c.converse.new.log.names names (subst (λ (l : List (List ℕ)). Grew l c.converse.new.log.names) c.say.ensures.names c.converse.ensures.names) grew in
+    let all : Grown c.args.log.now.names names = Grown-more c.args.log.now.names c.converse.new.log.names names (subst (λ (l : List (List ℕ)). Grown l c.converse.new.log.names) c.say.ensures.names c.converse.ensures.names) grew in
     let says : Utters c.args.log.now.entries c.say.new.log.entries (g.K.Sink.held c.args.out.now) (g.K.Sink.held c.say.new.out) (plain names (entries.Loaded (length c.args.state.now.program)) ∷ []) =
     rw (all.1, sym c.count-clauses.ensures.count) (c.in-Ok.ensures.ok all.0) in
     ends_on begun (opening names c.args.state.now) (replies (talker names) c.args.state.now) _
@@ -22,7 +22,7 @@ returns-in-Ok-clause-talk g c = λ names grew.
 
 pub returns-in-Err-clause-talk : goal.returns-in-Err-clause-talk
 returns-in-Err-clause-talk g c = λ names grew.
-    let all : Grew c.args.log.now.names names = subst (λ (l : List (List ℕ)). Grew l names) c.say.ensures.names grew in
+    let all : Grown c.args.log.now.names names = subst (λ (l : List (List ℕ)). Grown l names) c.say.ensures.names grew in
     let front : UttersFront begun c.args.log.now.entries c.say.new.log.entries (g.K.Sink.held c.args.out.now) (g.K.Sink.held c.say.new.out) (plain names (entries.Loaded (length c.args.state.now.program)) ∷ []) =
     rw (all.1, sym c.count-clauses.ensures.count) (c.in-Err.ensures.err all.0) in
     Breaks-say begun (opening names c.args.state.now) c.args.console.now _ (g.K.Sink.held c.args.out.now) (g.K.Sink.held c.say.new.out) _ _ _ c.args.log.now.entries c.say.new.log.entries

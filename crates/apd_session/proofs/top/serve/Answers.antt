@@ -5,7 +5,7 @@ use Rattle.apd_session.specs.Outcome.{IsSaid}
 use Rattle.apd_session.specs.Session.{tells}
 use Rattle.apd_session.specs.declared.status.Status.TheVariants as statuses
 use Rattle.apd_session.proofs.Loading.{said_now}
-use Rattle.apd_session.proofs.Turning.{Grew-self}
+use Rattle.apd_session.proofs.Turning.{Grown-self}
 use Rattle.apd_session.proofs.Worlds.{met_unnamed, met_loaded, met_broken, met_long, met_memory}
 use Rattle.apd_session.proofs.top.serve.Goals as goal
 
@@ -19,7 +19,7 @@ talk-requires-clause-few g c = let e : length c.args.log.now.names ≡ 132 = ap 
 pub returns-in-Ok-clause-meaning : goal.returns-in-Ok-clause-meaning
 returns-in-Ok-clause-meaning g c =
     met_loaded _ c.talk.new.log.names record { program = c.in-Some.asked.program.now; budget = c.in-Some.asked.budget; answers = c.in-Some.asked.answers; filter = c.in-Some.asked.filter } _ _ _ _ c.in-Ok.text _ _ _ _
-    c.in-Some.ensures.options c.in-Ok.ensures.whole c.in-Ok.ensures.bound (c.talk.ensures.answers c.talk.new.log.names (Grew-self c.talk.new.log.names) _ refl)
+    c.in-Some.ensures.options c.in-Ok.ensures.whole c.in-Ok.ensures.bound (c.talk.ensures.answers c.talk.new.log.names (Grown-self c.talk.new.log.names) _ refl)
 
 pub returns-in-Err-Failed-clause-meaning : goal.returns-in-Err-Failed-clause-meaning
 returns-in-Err-Failed-clause-meaning g c =

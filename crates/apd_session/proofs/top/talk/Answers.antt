@@ -1,18 +1,18 @@
 use Rattle.std.proofs.Common.{◌≡◌, ◌∙◌, sym, ap, refl, subst, List, ℕ, length, Err}
 use Rattle.apd_load.specs.Program.{Loads, loads, refused, program_of}
 use Rattle.apd_text.specs.declared.entry.Entry.TheVariants as entries
-use Rattle.apd_session.specs.Commands.{Grew}
+use Rattle.apd_term.specs.Growth.{Grown}
 use Rattle.apd_session.specs.Outcome.{IsSaid}
 use Rattle.apd_session.specs.Session.{after_load, tells}
 use Rattle.apd_session.specs.declared.status.Status.TheVariants as statuses
-use Rattle.apd_session.proofs.Loading.{loaded_named, loaded_ended, loaded_broken, ended_read, broken_write}
-use Rattle.apd_session.proofs.Turning.{Grew-self, Grew-more}
+use Rattle.apd_session.proofs.Loading.{loaded_ended, loaded_broken, ended_read, broken_write}
+use Rattle.apd_session.proofs.Turning.{Grown-self, Grown-more}
 use Rattle.apd_session.proofs.Worlds.{unread, unread_front}
 use Rattle.apd_session.proofs.top.talk.Goals as goal
 
 pub returns-in-Err-Refused-clause-answers : goal.returns-in-Err-Refused-clause-answers
 returns-in-Err-Refused-clause-answers g c = λ names grew options is.
-    let all : Grew c.load.new.names names = subst (λ (l : List (List ℕ)). Grew l names) c.end_with.ensures.names grew in
+    let all : Grown c.load.new.names names = subst (λ (l : List (List ℕ)). Grown l names) c.end_with.ensures.names grew in
     let refuses : program_of names c.args.text.now ≡ refused c.in-Err-Refused.line c.in-Err-Refused.cause =
     rw (all.1, sym c.bytes.ensures) (c.load.ensures.refused c.in-Err-Refused.line c.in-Err-Refused.cause (c.in-Err-Refused.is ∙ ap Err c.in-Err-Refused.field-0-is) all.0) in
     let said : IsSaid c.end_with.result (tells names (entries.ProgramRefused c.in-Err-Refused.line c.in-Err-Refused.cause) statuses.Program) c.end_with.new.log.entries (g.K.Sink.held c.args.out.now) (g.K.Sink.held c.end_with.new.out) =
@@ -31,12 +31,12 @@ begin-requires-clause-ready g c = record {
   budget = c.requires.limits.0;
   some_answers = c.requires.limits.1;
   answers = c.requires.limits.2;
-  named = loaded_named (length c.load.new.names) c.in-Ok.loaded.program c.in-Ok.ensures.named;
+  named = c.in-Ok.ensures.named;
 }
 
 pub returns-in-Ok-begin-clause-answers : goal.returns-in-Ok-begin-clause-answers
 returns-in-Ok-begin-clause-answers g c = λ names grew options is.
-    let all : Grew c.load.new.names names = Grew-more c.load.new.names c.begin.new.log.names names c.begin.ensures.names grew in
+    let all : Grown c.load.new.names names = Grown-more c.load.new.names c.begin.new.log.names names c.begin.ensures.names grew in
     let reads : program_of names c.args.text.now ≡ loads c.in-Ok.loaded.program = rw (all.1, sym c.bytes.ensures) (c.in-Ok.ensures.loaded all.0) in
     rw c.status_after.ensures
     (loaded_ended names options c.args.text.now c.in-Ok.loaded.program reads _ (rw is refl) c.in-Ok-new.console c.begin.new.console c.in-Ok-new.ensures c.begin.ensures.sound
@@ -44,12 +44,12 @@ returns-in-Ok-begin-clause-answers g c = λ names grew options is.
 
 pub returns-in-Ok-begin-clause-read : goal.returns-in-Ok-begin-clause-read
 returns-in-Ok-begin-clause-read g c = λ is.
-    let ends = c.in-Ok-begin.ensures.talk c.begin.new.log.names (Grew-self c.begin.new.log.names) in
+    let ends = c.in-Ok-begin.ensures.talk c.begin.new.log.names (Grown-self c.begin.new.log.names) in
     ends.rose (ended_read c.in-Ok-begin.ending (sym c.status_after.ensures ∙ is))
 
 pub returns-clause-answers : goal.returns-clause-answers
 returns-clause-answers g c = λ names grew options is.
-    let all : Grew c.load.new.names names = Grew-more c.load.new.names c.begin.new.log.names names c.begin.ensures.names grew in
+    let all : Grown c.load.new.names names = Grown-more c.load.new.names c.begin.new.log.names names c.begin.ensures.names grew in
     let reads : program_of names c.args.text.now ≡ loads c.in-Ok.loaded.program = rw (all.1, sym c.bytes.ensures) (c.in-Ok.ensures.loaded all.0) in
     rw c.status_of.ensures
     (loaded_broken names options c.args.text.now c.in-Ok.loaded.program reads _ (rw is refl) c.in-Ok-new.console c.begin.new.console c.in-Ok-new.ensures c.begin.ensures.sound
@@ -57,5 +57,5 @@ returns-clause-answers g c = λ names grew options is.
 
 pub returns-clause-write : goal.returns-clause-write
 returns-clause-write g c = λ is.
-    let breaks = c.in-Err.ensures.talk c.begin.new.log.names (Grew-self c.begin.new.log.names) in
+    let breaks = c.in-Err.ensures.talk c.begin.new.log.names (Grown-self c.begin.new.log.names) in
     breaks.write_rose (broken_write c.in-Err.trouble (sym c.status_of.ensures ∙ is))

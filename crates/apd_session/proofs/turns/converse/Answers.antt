@@ -2,7 +2,7 @@ use Rattle.std.proofs.Common.{◌∙◌, ap, Ok}
 use Rattle.apd_console.specs.Talk.{replies}
 use Rattle.apd_console.proofs.Talking.{Ends-more, Breaks-more}
 use Rattle.apd_session.specs.Steps.{begun, talker}
-use Rattle.apd_session.proofs.Turning.{IsGoing-start, IsGoing-more, Grew-more}
+use Rattle.apd_session.proofs.Turning.{IsGoing-start, IsGoing-more, Grown-more}
 use Rattle.apd_session.proofs.turns.converse.Goals as goal
 
 pub lines-init : goal.lines-init
@@ -15,11 +15,11 @@ lines-preserved g c =
 
 pub returns-in-Ok-Ends-clause-talk : goal.returns-in-Ok-Ends-clause-talk
 returns-in-Ok-Ends-clause-talk g c = λ names grew.
-    let before = c.lines.invariant.talks names (Grew-more _ _ _ c.one_turn.ensures.names grew) in
+    let before = c.lines.invariant.talks names (Grown-more _ _ _ c.one_turn.ensures.names grew) in
     let ends = rw c.in-Ok-Ends.field-0-is at c.in-Ok-Ends.ensures.talk names grew in
     Ends-more _ (replies (talker names) c.args.state.now) _ _ _ c.in-Ok-Ends.ending before ends
 
 pub returns-in-Err-clause-talk : goal.returns-in-Err-clause-talk
 returns-in-Err-clause-talk g c = λ names grew.
-    let before = c.lines.invariant.talks names (Grew-more _ _ _ c.one_turn.ensures.names grew) in
+    let before = c.lines.invariant.talks names (Grown-more _ _ _ c.one_turn.ensures.names grew) in
     Breaks-more begun _ (replies (talker names) c.args.state.now) _ _ _ c.in-Err.trouble before (c.in-Err.ensures.talk names grew)

@@ -10,7 +10,7 @@ use Rattle.apd_text.specs.declared.entry.Entry.{Entry}
 use Rattle.apd_text.specs.declared.log.Log.{Log}
 use Rattle.apd_session.specs.Commands.{step_for}
 use Rattle.apd_session.specs.Steps.{begun, step, talker}
-use Rattle.apd_session.proofs.Turning.{Grew-line, Grew-length, IsReady-more, goes_on_after, stays_on}
+use Rattle.apd_session.proofs.Turning.{Grown-line, Grown-length, IsReady-more, goes_on_after, stays_on}
 use Rattle.apd_session.proofs.turns.one_turn.Goals as goal
 
 pub returns-in-Ok-finish-clause-talk : goal.returns-in-Ok-finish-clause-talk
@@ -37,7 +37,7 @@ returns-in-Err-read_command-clause-talk g c = λ names grew.
 
 pub obey-requires-clause-ready : goal.obey-requires-clause-ready
 obey-requires-clause-ready g c =
-    IsReady-more (length c.args.log.now.names) _ c.args.state.now (Grew-length c.args.log.now.names _ (Grew-line c.in-Ok.line c.args.log.now.names _ c.read_command.ensures.names)) c.requires.ready
+    IsReady-more (length c.args.log.now.names) _ c.args.state.now (Grown-length c.args.log.now.names _ (Grown-line c.in-Ok.line c.args.log.now.names _ c.read_command.ensures.names)) c.requires.ready
 
 pub returns-in-Ok-obey-clause-talk : goal.returns-in-Ok-obey-clause-talk
 returns-in-Ok-obey-clause-talk g c = λ names grew.

@@ -80,7 +80,7 @@ fn example_part(alloc: Global) -> Result<Flat, AllocError> {
 fn has_its_parts(alloc: Global) -> Result<bool, AllocError> {
     let t = example(alloc)?;
     let second = t.arg(alloc, 1)?;
-    let last = t.arg(alloc, 3)?;
+    let last = t.arg(alloc, 3)?.copy(alloc)?;
     let five = Flat::integer(alloc, 5)?;
     Ok(second.same(&example_part(alloc)?) && last.same(&five) && !second.same(&five))
 }
@@ -153,6 +153,22 @@ fn applying_what_matches_gives_the_instance(rt: HostRuntime) -> Result<(), Fail>
     let narrow = special(rt.alloc())?;
     assert!(rt; is_instance(rt.alloc(), &narrow, &wide)?);
     assert!(rt; !is_instance(rt.alloc(), &wide, &narrow)?);
+    Ok(())
+}
+
+// what {1 ↦ g(X2)}, followed by {2 ↦ 8}, puts for a variable
+fn is_put_for_one(alloc: Global, symbols: &[Sym]) -> Result<bool, AllocError> {
+    let first = Subst::single(alloc, 1, &example_part(alloc)?)?;
+    let both = first.extended(alloc, 2, &Flat::integer(alloc, 8)?)?;
+    match both.get(1) {
+        None => Ok(false),
+        Some(t) => Ok(t.symbols() == symbols && both.get(2).is_some() && both.get(3).is_none()),
+    }
+}
+
+#[test]
+fn a_further_pair_is_put_in_the_terms_of_the_others(rt: HostRuntime) -> Result<(), Fail> {
+    assert!(rt; is_put_for_one(rt.alloc(), &[Fun(G, 1), Int(8)])?);
     Ok(())
 }
 

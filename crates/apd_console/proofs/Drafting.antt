@@ -114,11 +114,11 @@ ends-none k l m x y z draft sound drafted hands ended none is =
 
 -- where bytes cannot be had
 ends-fault : (k l m : Kept) (x y z : Option (List ℕ)) (draft : Draft) → IsKept m → Drafted k l x y draft → Hands l m y z [] →
-    m.ended ≡ false → m.taken < 16777216 → HearsEnd k m x z ReadFault
-ends-fault k l m x y z draft sound drafted hands going below =
+    m.kept ≡ [] → m.ended ≡ false → m.taken < 16777216 → HearsEnd k m x z ReadFault
+ends-fault k l m x y z draft sound drafted hands none going below =
     let part : Hands k m x z drafted.raw = still k l m x y z drafted.raw drafted.hands hands in
     let room : room_of k ≡ length drafted.raw + room_of m = room-after k m x z _ sound part in
-    record { heard = drafted.raw; hands = part; shrinks = omega arith; is = (going, hear-fault (room_of k) drafted.raw drafted.none (omega arith)) }
+    record { heard = drafted.raw; hands = part; shrinks = omega arith; is = (going, none, hear-fault (room_of k) drafted.raw drafted.none (omega arith)) }
 
 ends-limit : (k l m : Kept) (x y z : Option (List ℕ)) (draft : Draft) → IsKept m → Drafted k l x y draft → Hands l m y z [] →
     m.kept ≡ [] → m.taken ≡ 16777216 → HearsEnd k m x z InputLimit
@@ -131,7 +131,7 @@ ends-limit k l m x y z draft sound drafted hands none limit =
 pub ends-with : (k l m : Kept) (x y z : Option (List ℕ)) (draft : Draft) (end : LineEnd) → IsKept m → Drafted k l x y draft → Hands l m y z [] →
     m.kept ≡ [] → m.ended ≡ false → (end ≡ InputLimit → m.taken ≡ 16777216) → (end ≡ ReadFault → m.taken < 16777216) → (end ≢ Ended) × (end ≢ Memory) → HearsEnd k m x z end
 ends-with k l m x y z draft Ended sound drafted hands none going limit below only = absurd (only.0 refl)
-ends-with k l m x y z draft ReadFault sound drafted hands none going limit below only = ends-fault k l m x y z draft sound drafted hands going (below refl)
+ends-with k l m x y z draft ReadFault sound drafted hands none going limit below only = ends-fault k l m x y z draft sound drafted hands none going (below refl)
 ends-with k l m x y z draft InputLimit sound drafted hands none going limit below only = ends-limit k l m x y z draft sound drafted hands none (limit refl)
 ends-with k l m x y z draft Memory sound drafted hands none going limit below only = absurd (only.1 refl)
 

@@ -73,6 +73,7 @@ Ends-more f g p q r ending first second = record {
   later = Later-more p q r first.later second.later;
   rose = λ is. Rose-before _ _ _ first.later.reads (second.rose is);
   going = second.going;
+  none_kept = second.none_kept;
   ends_so = λ more ends can.
       rw (append_assoc first.heard second.heard more)
       (first.goes (second.heard ++ more) ends (can_end q.console r.console q.left r.left second.heard more ends ending second.hands second.going can)
@@ -89,6 +90,7 @@ Breaks-more begun f g p q r t first second = record {
   way = second.way;
   rose = λ is. Rose-before _ _ _ first.later.reads (second.rose is);
   going = second.going;
+  none_kept = second.none_kept;
   write_rose = λ is. Rose-before _ _ _ first.later.writes (second.write_rose is);
   breaks_so = λ more ends can.
       let rest = second.breaks_so more ends can in (
@@ -128,6 +130,7 @@ Ends-say f k x y z a b c log log_now us says later means = record {
   later = record { reads = omega arith; writes = later };
   rose = λ is. absurd (cc);
   going = λ is. absurd (cc);
+  none_kept = λ is. absurd (cc);
   ends_so = λ more ends can. means (room_of k) more ends;
 }
 
@@ -143,6 +146,7 @@ Breaks-say begun f k x y z a b c log log_now us t says later rose means = record
   way = Done;
   rose = λ is. absurd (cc);
   going = λ is. absurd (cc);
+  none_kept = λ is. absurd (cc);
   write_rose = rose;
   breaks_so = λ more ends can. means (room_of k) more ends;
 }
@@ -207,6 +211,7 @@ Ends-hear talker s line_ends.Ended k l x y z w a b c d log log_now hears reads r
   later = record { reads = reads; writes = writes };
   rose = λ is. absurd (cc);
   going = λ is. absurd (cc);
+  none_kept = λ is. absurd (cc);
   ends_so = λ more ends can.
       let follows : (more ≡ []) × (ends ≡ Ended) = rw hears.is.0 at can in
       rw (follows.0, follows.1, append-nil hears.heard, hears.is.2) refl;
@@ -219,7 +224,8 @@ Ends-hear talker s line_ends.ReadFault k l x y z w a b c d log log_now hears rea
   later = record { reads = reads; writes = writes };
   rose = λ is. rose refl;
   going = λ is. hears.is.0;
-  ends_so = λ more ends can. rw (can.0, can.1, append-nil hears.heard, hears.is.1) refl;
+  none_kept = λ is. hears.is.1;
+  ends_so = λ more ends can. rw (can.0, can.1, append-nil hears.heard, hears.is.2) refl;
 }
 Ends-hear talker s line_ends.InputLimit k l x y z w a b c d log log_now hears reads rose writes not says = record {
   heard = hears.heard;
@@ -229,6 +235,7 @@ Ends-hear talker s line_ends.InputLimit k l x y z w a b c d log log_now hears re
   later = record { reads = reads; writes = writes };
   rose = λ is. absurd (cc);
   going = λ is. absurd (cc);
+  none_kept = λ is. absurd (cc);
   ends_so = λ more ends can. rw (hears.is more ends) refl;
 }
 Ends-hear talker s line_ends.Memory k l x y z w a b c d log log_now hears reads rose writes not says = absurd (not refl)
@@ -246,6 +253,7 @@ Breaks-hear begun talker s line_ends.Ended k l x y z w a b c d log log_now t hea
   way = Done;
   rose = λ is. absurd (cc);
   going = λ is. absurd (cc);
+  none_kept = λ is. absurd (cc);
   write_rose = wrote;
   breaks_so = λ more ends can.
       let follows : (more ≡ []) × (ends ≡ Ended) = rw hears.is.0 at can in
@@ -260,8 +268,9 @@ Breaks-hear begun talker s line_ends.ReadFault k l x y z w a b c d log log_now t
   way = ReadFault;
   rose = λ is. rose refl;
   going = λ is. hears.is.0;
+  none_kept = λ is. hears.is.1;
   write_rose = wrote;
-  breaks_so = λ more ends can. (record { utterances = []; ending = ReadFault }, rw (can.0, can.1, append-nil hears.heard, hears.is.1, append-nil (talker.closing s AtFault)) refl);
+  breaks_so = λ more ends can. (record { utterances = []; ending = ReadFault }, rw (can.0, can.1, append-nil hears.heard, hears.is.2, append-nil (talker.closing s AtFault)) refl);
 }
 Breaks-hear begun talker s line_ends.InputLimit k l x y z w a b c d log log_now t hears reads rose writes wrote same says = record {
   heard = hears.heard;
@@ -272,6 +281,7 @@ Breaks-hear begun talker s line_ends.InputLimit k l x y z w a b c d log log_now 
   way = Done;
   rose = λ is. absurd (cc);
   going = λ is. absurd (cc);
+  none_kept = λ is. absurd (cc);
   write_rose = wrote;
   breaks_so = λ more ends can. (record { utterances = []; ending = InputLimit }, rw (hears.is more ends, append-nil (talker.closing s AtLimit)) refl);
 }
@@ -284,6 +294,7 @@ Breaks-hear begun talker s line_ends.Memory k l x y z w a b c d log log_now t he
   way = Done;
   rose = λ is. absurd (cc);
   going = λ is. absurd (cc);
+  none_kept = λ is. absurd (cc);
   write_rose = wrote;
   breaks_so = λ more ends can. (_, refl);
 }

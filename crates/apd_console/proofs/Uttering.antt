@@ -4,7 +4,7 @@ use Rattle.std.proofs.lemmas.List.{append-nil}
 use Rattle.std.proofs.lemmas.Grind.{flat_map-append}
 use Rattle.apd_io.specs.Outside.{Adds}
 use Rattle.apd_console.specs.Print.{AddsFront}
-use Rattle.apd_console.specs.Utterance.{Utterance, entries_of, texts_of, Utters, Pushed, UttersFront}
+use Rattle.apd_console.specs.Utterance.{Utterance, entries_of, texts_of, Utters, Pushed, IsLostOfLast, UttersFront}
 use Rattle.apd_console.proofs.Printing.{Adds-self, Adds-more}
 
 pub entries_of-append : {E : Type 0} (us vs : List (Utterance E)) → entries_of (us ++ vs) ≡ entries_of us ++ entries_of vs
@@ -44,6 +44,7 @@ UttersFront-none begun log log_now x us same = record {
   shown = [];
   lost = [];
   texts = refl;
+  last = inl refl;
   adds = Adds-self x;
 }
 
@@ -56,6 +57,7 @@ front_of begun log log_now x y u pushed front = record {
   shown = front.1.shown;
   lost = front.0;
   texts = texts_of-one u ∙ front.1.parts;
+  last = inr ([], u, front.1.shown, refl, front.1.parts);
   adds = front.1.adds;
 }
 
@@ -78,6 +80,11 @@ Pushed-more {E} begun a b c us said first (inr (before, last, is, logged)) =
           ∙ ap (λ (l : List E). a ++ l) (sym (append_assoc (entries_of us) (entries_of before) rest) ∙ ap (λ (l : List E). l ++ rest) (sym (entries_of-append us before))),
     )
 
+lost_more : {E : Type 0} (us said : List (Utterance E)) (lost : List ℕ) → IsLostOfLast said lost → IsLostOfLast (us ++ said) lost
+lost_more us said lost (inl none) = inl none
+lost_more {E} us said lost (inr (before, last, part, is, text)) =
+    inr (us ++ before, last, part, ap (λ (l : List (Utterance E)). us ++ l) is ∙ sym (append_assoc us before (last ∷ [])), text)
+
 -- the front of some utterances after all of others
 pub UttersFront-more : {E : Type 0} (begun : E → E) (a b c : List E) (x y z : Option (List ℕ)) (us vs : List (Utterance E)) → Utters a b x y us → UttersFront begun b c y z vs → UttersFront begun a c x z (us ++ vs)
 UttersFront-more {E} begun a b c x y z us vs first second = record {
@@ -88,6 +95,7 @@ UttersFront-more {E} begun a b c x y z us vs first second = record {
   shown = texts_of us ++ second.shown;
   lost = second.lost;
   texts = texts_of-append us second.said ∙ ap (λ (l : List ℕ). texts_of us ++ l) second.texts ∙ sym (append_assoc (texts_of us) second.shown second.lost);
+  last = lost_more us second.said second.lost second.last;
   adds = Adds-more x y z _ _ first.adds second.adds;
 }
 
@@ -101,6 +109,7 @@ UttersFront-less {E} begun a b x y us vs front = record {
   shown = front.shown;
   lost = front.lost;
   texts = front.texts;
+  last = front.last;
   adds = front.adds;
 }
 
@@ -114,5 +123,6 @@ UttersFront-all begun a b x y us all = record {
   shown = texts_of us;
   lost = [];
   texts = sym (append-nil (texts_of us));
+  last = inl refl;
   adds = all.adds;
 }

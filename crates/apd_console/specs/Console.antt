@@ -55,7 +55,7 @@ pub record HearsLine (before after : Kept) (left now : Option (List ℕ)) (line 
 -- no line is heard, and why
 abbrev pub HearsNone : ℕ → LineEnd → Kept → List ℕ → Type 0
 HearsNone room Ended after heard = (after.ended ≡ true) × (after.kept ≡ []) × (hear room heard lines.Ended ≡ record { lines = []; close = AtEnd })
-HearsNone room ReadFault after heard = (after.ended ≡ false) × (hear room heard lines.Fails ≡ record { lines = []; close = AtFault })
+HearsNone room ReadFault after heard = (after.ended ≡ false) × (after.kept ≡ []) × (hear room heard lines.Fails ≡ record { lines = []; close = AtFault })
 HearsNone room InputLimit after heard = (more : List ℕ) (ends : InputEnd) → hear room (heard ++ more) ends ≡ record { lines = []; close = AtLimit }
 HearsNone room Memory after heard = ⊤
 

@@ -104,6 +104,7 @@ pub record Ends {E : Type 0} (start : Meaning E) (p q : Place E) (ending : Endin
   pub later : Later p q
   pub rose : ending ≡ ReadFault → Rose p.read_faults q.read_faults
   pub going : ending ≡ ReadFault → q.console.ended ≡ false
+  pub none_kept : ending ≡ ReadFault → q.console.kept ≡ []
   pub ends_so : (more : List ℕ) (ends : InputEnd) → CanEnd ending q.console.ended more ends →
       start (room_of p.console) (heard ++ more) ends ≡ record { utterances = utterances; ending = ending }
 
@@ -118,6 +119,7 @@ pub record Breaks {E : Type 0} (begun : E → E) (start : Meaning E) (p q : Plac
   pub way : Ending
   pub rose : way ≡ ReadFault → Rose p.read_faults q.read_faults
   pub going : way ≡ ReadFault → q.console.ended ≡ false
+  pub none_kept : way ≡ ReadFault → q.console.kept ≡ []
   pub write_rose : trouble ≡ troubles.WriteFault → Rose p.write_faults q.write_faults
   pub breaks_so : (more : List ℕ) (ends : InputEnd) → CanEnd way q.console.ended more ends →
       (tail : Said E) × (start (room_of p.console) (heard ++ more) ends ≡ onto utterances tail)

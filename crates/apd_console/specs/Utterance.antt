@@ -23,7 +23,11 @@ abbrev pub Pushed : {E : Type 0} → (E → E) → List E → List E → List (U
 Pushed {E} begun log log_now us = (log_now ≡ log ++ entries_of us)
     ⊎ ((before : List (Utterance E)) × (last : Utterance E) × (us ≡ before ++ last ∷ []) × (log_now ≡ log ++ (entries_of before ++ begun last.entry ∷ [])))
 
--- the log gained the first of these, and the sink the front of their texts
+-- what is lost is the end of the last one's text, or nothing
+abbrev pub IsLostOfLast : {E : Type 0} → List (Utterance E) → List ℕ → Type 0
+IsLostOfLast {E} said lost = (lost ≡ []) ⊎ ((before : List (Utterance E)) × (last : Utterance E) × (part : List ℕ) × (said ≡ before ++ last ∷ []) × (last.text ≡ part ++ lost))
+
+-- the log gained the first of these, and the sink their texts, of which only the last may lack its end
 pub record UttersFront {E : Type 0} (begun : E → E) (log log_now : List E) (held held_now : Option (List ℕ)) (us : List (Utterance E)) : Type 0 where
   pub said : List (Utterance E)
   pub unsaid : List (Utterance E)
@@ -32,4 +36,5 @@ pub record UttersFront {E : Type 0} (begun : E → E) (log log_now : List E) (he
   pub shown : List ℕ
   pub lost : List ℕ
   pub texts : texts_of said ≡ shown ++ lost
+  pub last : IsLostOfLast said lost
   pub adds : Adds held held_now shown

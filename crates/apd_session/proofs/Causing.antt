@@ -76,9 +76,9 @@ comes statuses.ReadFault told log x y said = inl (sym said.status_is)
 comes statuses.InputLimit told log x y said = inl (sym said.status_is)
 comes statuses.FileTooLong told log x y said = inl (sym said.status_is)
 
-pub status_comes : (words names : List (List ℕ)) (content : List ℕ → Option (List ℕ)) (left : Option (List ℕ)) (R Q : Type 0) (st : Status) (log : List Entry) (x y : Option (List ℕ)) →
-    Meets (session_of words) words content left R Q names st log x y → (world : World) × IsMet words content left R Q world × Comes st (status_for words names world)
-status_comes words names content left R Q st log x y meaning = (
+pub status_comes : (words names : List (List ℕ)) (content : List ℕ → Option (List ℕ)) (left now : Option (List ℕ)) (R Q : Type 0) (st : Status) (log : List Entry) (x y : Option (List ℕ)) →
+    Meets (session_of words names) words content left now R Q st log x y → (world : World) × IsMet words content left now R Q world × Comes st (status_for words names world)
+status_comes words names content left now R Q st log x y meaning = (
   meaning.0,
   meaning.1,
   subst (λ (due : Status). Comes st due) (options_status names meaning.0 (options_of words)) (comes st _ log x y meaning.2),
@@ -105,12 +105,12 @@ not_write st (inl is) never = inl is
 not_write st (inr (inl is)) never = absurd (never is)
 not_write st (inr (inr is)) never = inr is
 
-pub session_done : (words names : List (List ℕ)) (content : List ℕ → Option (List ℕ)) (left : Option (List ℕ)) (R Q W : Type 0) (st : Status) (log : List Entry) (x y : Option (List ℕ)) →
-    Meets (session_of words) words content left R Q names st log x y → (st ≡ statuses.WriteFault → W) →
+pub session_done : (words names : List (List ℕ)) (content : List ℕ → Option (List ℕ)) (left now : Option (List ℕ)) (R Q W : Type 0) (st : Status) (log : List Entry) (x y : Option (List ℕ)) →
+    Meets (session_of words names) words content left now R Q st log x y → (st ≡ statuses.WriteFault → W) →
     (text input : List ℕ) → FileHas words content text → length text ≤ 1048576 → IsProgram (program_of names text) → left ≡ Some input → length input < 16777216 → (R → ⊥) → (Q → ⊥) → (W → ⊥) →
     (st ≡ statuses.Done) ⊎ (st ≡ statuses.Memory)
-session_done words names content left R Q W st log x y meaning write text input file size is given few no_loads no_reads no_writes =
-    let same = world_is words names content left R Q meaning.0 text input (options_of words) refl meaning.1 (some_content (options_of words) file.0 content text file.1 file.2) given no_loads no_reads in
+session_done words names content left now R Q W st log x y meaning write text input file size is given few no_loads no_reads no_writes =
+    let same = world_is words names content left now R Q meaning.0 text input (options_of words) refl meaning.1 (some_content (options_of words) file.0 content text file.1 file.2) given no_loads no_reads in
     let due : (session_of words names meaning.0).status ≡ statuses.Done =
     ap (λ (t : Told). t.status) same ∙ options_status names record { program = Gives text; input = input; ends = Ended } (options_of words) ∙ file_done words names content text input file size is few in
     not_write st (subst (λ (d : Status). Comes st d) due (comes st _ log x y meaning.2)) (λ e. no_writes (write e))

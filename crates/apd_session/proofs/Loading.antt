@@ -6,7 +6,9 @@ use Rattle.apd_clauses.specs.declared.clause.Clause.{Clause}
 use Rattle.apd_term.specs.Growth.{GrowsBy, Grown}
 use Rattle.apd_io.specs.Outside.{Rose}
 use Rattle.apd_console.specs.Console.{Kept, IsKept, fresh}
-use Rattle.apd_console.specs.Talk.{Meaning, Ends, Breaks as BreaksOff, at, onto, replies}
+use Rattle.apd_console.specs.Talk.{Meaning, Talker, Ends, Breaks as BreaksOff, at, onto, replies}
+use Rattle.apd_console.specs.Lines.{Ended, Fails, hear}
+use Rattle.apd_console.specs.Utterance.{Utterance}
 use Rattle.apd_console.specs.declared.talk.Ending.{Ending}
 use Rattle.apd_console.specs.declared.talk.Ending.TheVariants as ending
 use Rattle.apd_console.specs.declared.talk.Trouble.{Trouble}
@@ -14,8 +16,8 @@ use Rattle.apd_console.specs.declared.talk.Trouble.TheVariants as trouble
 use Rattle.apd_load.specs.Program.{loads, program_of}
 use Rattle.apd_text.specs.declared.entry.Entry.{Entry}
 use Rattle.apd_text.specs.declared.entry.Entry.TheVariants.{Loaded}
-use Rattle.apd_session.specs.Outcome.{Answers, IsSaid, status_of}
-use Rattle.apd_session.specs.Session.{Options, after_load, status_after, tells}
+use Rattle.apd_session.specs.Outcome.{Answers, IsDeaf, IsSaid, status_of}
+use Rattle.apd_session.specs.Session.{Options, Told, told_of, after_load, status_after, tells}
 use Rattle.apd_session.specs.Steps.{begun, plain, talker}
 use Rattle.apd_session.specs.declared.state.State.{State}
 use Rattle.apd_session.specs.declared.status.Status.{Status}
@@ -28,6 +30,11 @@ grew_by m a b grows = (grows.0, grows.1)
 pub grows_to : (m : ℕ) (a b : List (List ℕ)) → GrowsBy m a b → length b ≤ length a + m
 grows_to m a b grows = let e : length b ≡ length (a ++ grows.0) = ap length grows.1 in let l = length-append a grows.0 in let s = grows.2 in omega (arith, e, l, s)
 
+-- what is said to an input depends on how it ends
+hears_input : {S : Type 0} (talks : Talker Entry S) (s : S) (us : List (Utterance Entry)) → ¬ IsDeaf (λ input ends. told_of (onto us (replies talks s 16777216 input ends)))
+unfolding replies hear
+hears_input talks s us deaf = let same : statuses.Done ≡ statuses.ReadFault = ap (λ (t : Told). t.status) (deaf [] [] Ended Fails) in absurd (cc)
+
 -- the state that the input's lines are heard in
 abbrev pub state_for : List Clause → Options → State
 state_for program options = record { program = program; budget = options.budget; answers = options.answers; filter = options.filter }
@@ -38,19 +45,19 @@ opening names s room more ends = onto (plain names (Loaded (length s.program)) �
 
 module _ (names : List (List ℕ)) (options : Options) (text : List ℕ) (program : List Clause) (is : program_of names text ≡ loads program) (s : State) (state : s ≡ state_for program options)
     (k l : Kept) (start : k ≡ fresh) (sound : IsKept l) (log log_now : List Entry) (empty : log ≡ []) (x y z w : Option (List ℕ)) (a b c d : ℕ) where
-  pub loaded_ended : (e : Ending) → Ends (opening names s) (at k x a log z c) (at l y b log_now w d) e → Answers x (Rose a b) (λ input ends. after_load names options input ends (program_of names text)) (status_after e) log_now z w
+  pub loaded_ended : (e : Ending) → Ends (opening names s) (at k x a log z c) (at l y b log_now w d) e → Answers x y (Rose a b) (λ input ends. after_load names options input ends (program_of names text)) (status_after e) log_now z w
   loaded_ended e ended =
       let first = subst (λ (p : Kept). Ends (opening names s) (at p x a log z c) (at l y b log_now w d) e) start ended in
       let second = subst (λ (p : List Entry). Ends (opening names s) (at fresh x a p z c) (at l y b log_now w d) e) empty first in
       let third = subst (λ (p : State). Ends (opening names p) (at fresh x a [] z c) (at l y b log_now w d) e) state second in
-      rw is (answers_ended (opening names (state_for program options)) l x y z w a b c d log_now e sound third)
+      rw is (answers_ended (opening names (state_for program options)) l x y z w a b c d log_now e sound (hears_input (talker names) (state_for program options) (plain names (Loaded (length program)) ∷ [])) third)
 
-  pub loaded_broken : (t : Trouble) → BreaksOff begun (opening names s) (at k x a log z c) (at l y b log_now w d) t → Answers x (Rose a b) (λ input ends. after_load names options input ends (program_of names text)) (status_of t) log_now z w
+  pub loaded_broken : (t : Trouble) → BreaksOff begun (opening names s) (at k x a log z c) (at l y b log_now w d) t → Answers x y (Rose a b) (λ input ends. after_load names options input ends (program_of names text)) (status_of t) log_now z w
   loaded_broken t broken =
       let first = subst (λ (p : Kept). BreaksOff begun (opening names s) (at p x a log z c) (at l y b log_now w d) t) start broken in
       let second = subst (λ (p : List Entry). BreaksOff begun (opening names s) (at fresh x a p z c) (at l y b log_now w d) t) empty first in
       let third = subst (λ (p : State). BreaksOff begun (opening names p) (at fresh x a [] z c) (at l y b log_now w d) t) state second in
-      rw is (answers_broken (opening names (state_for program options)) l x y z w a b c d log_now t sound third)
+      rw is (answers_broken (opening names (state_for program options)) l x y z w a b c d log_now t sound (hears_input (talker names) (state_for program options) (plain names (Loaded (length program)) ∷ [])) third)
 
 -- which statuses tell of a fault
 pub ended_read : (e : Ending) → status_after e ≡ statuses.ReadFault → e ≡ ending.ReadFault
@@ -71,7 +78,8 @@ pub broken_write : (t : Trouble) → status_of t ≡ statuses.WriteFault → t �
 broken_write trouble.WriteFault is = refl
 broken_write trouble.Memory is = absurd (cc)
 
--- what was said with the names that are kept now
-pub said_now : (names later : List (List ℕ)) (e : Entry) (st result : Status) (log : List Entry) (x y : Option (List ℕ)) → later ≡ names →
-    ((more : List (List ℕ)) → IsSaid result (tells (names ++ more) e st) log x y) → IsSaid result (tells later e st) log x y
-said_now names later e st result log x y same said = subst (λ (l : List (List ℕ)). IsSaid result (tells l e st) log x y) (append-nil names ∙ sym same) (said [])
+-- what was said, for any names that begin with those that are kept now
+pub said_now : (names later all : List (List ℕ)) (e : Entry) (st result : Status) (log : List Entry) (x y : Option (List ℕ)) → later ≡ names → Grown later all →
+    ((more : List (List ℕ)) → IsSaid result (tells (names ++ more) e st) log x y) → IsSaid result (tells all e st) log x y
+said_now names later all e st result log x y same grew said =
+    subst (λ (l : List (List ℕ)). IsSaid result (tells l e st) log x y) (ap (λ (l : List (List ℕ)). l ++ grew.0) (sym same) ∙ sym grew.1) (said grew.0)

@@ -4,10 +4,10 @@ use Rattle.std.specs.Prelude.{replicate, IfSome}
 use Rattle.std.proofs.lemmas.Bool.{le-leb, lt-leb}
 use Rattle.std.proofs.Math.Dec.{leb}
 use Rattle.std.proofs.lemmas.List.{length-replicate}
-use Rattle.apd_io.specs.Outside.{Tells, TellsLong, Rose}
+use Rattle.apd_io.specs.Outside.{Takes, Tells, TellsLong, Rose}
 use Rattle.apd_console.specs.Lines.{InputEnd, Ended, Fails}
 use Rattle.apd_console.specs.Console.{Kept, IsKept, fresh}
-use Rattle.apd_console.specs.Outcome.{IsGiven}
+use Rattle.apd_console.specs.Outcome.{IsGiven, IsTaken}
 use Rattle.apd_console.specs.Talk.{Meaning, Ends, Breaks as BreaksOff, at}
 use Rattle.apd_console.specs.Utterance.{Utters, UttersFront}
 use Rattle.apd_console.specs.declared.talk.Ending.{Ending}
@@ -20,7 +20,7 @@ use Rattle.apd_text.specs.declared.entry.Entry.{Entry}
 use Rattle.apd_text.specs.declared.entry.Entry.TheVariants as entry
 use Rattle.apd_session.specs.Steps.{begun, plain}
 use Rattle.apd_session.specs.Session.{World, Loading, Gives, Breaks, Options, Told, tells, told_of, status_after, options_of, after_load, after_words, session_of}
-use Rattle.apd_session.specs.Outcome.{Answers, IsLoading, IsMet, IsSaid, IsWhole, Meets, status_of}
+use Rattle.apd_session.specs.Outcome.{Answers, IsDeaf, IsLoading, IsMet, IsSaid, IsWhole, Meets, status_of}
 use Rattle.apd_session.specs.declared.status.Status.{Status}
 use Rattle.apd_session.specs.declared.status.Status.TheVariants as statuses
 
@@ -35,27 +35,30 @@ said_whole statuses.InputLimit told log x y whole = whole
 said_whole statuses.FileTooLong told log x y whole = whole
 
 -- a conversation that has ended, and one that has broken off
-pub answers_ended : (f : Meaning Entry) (l : Kept) (x y z w : Option (List ℕ)) (a b c d : ℕ) (log : List Entry) (e : Ending) → IsKept l →
-    Ends f (at fresh x a [] z c) (at l y b log w d) e → Answers x (Rose a b) (λ input ends. told_of (f 16777216 input ends)) (status_after e) log z w
-answers_ended f l x y z w a b c d log e sound ended =
-    let some = input_ended f l x y z w a b c d [] log e sound ended in
-    record {
-      input = some.input;
-      ends = some.ends;
-      given = some.given;
-      fails = some.fails;
-      holds = said_whole (status_after e) _ log z w record { status_is = ap status_after some.holds.ending_is; says = some.holds.says };
-    }
+pub answers_ended : (f : Meaning Entry) (l : Kept) (x y z w : Option (List ℕ)) (a b c d : ℕ) (log : List Entry) (e : Ending) → IsKept l → ¬ IsDeaf (λ input ends. told_of (f 16777216 input ends)) →
+    Ends f (at fresh x a [] z c) (at l y b log w d) e → Answers x y (Rose a b) (λ input ends. told_of (f 16777216 input ends)) (status_after e) log z w
+answers_ended f l x y z w a b c d log e sound hears ended =
+    let some = input_ended f l x y z w a b c d [] log e sound ended in (
+      record {
+        input = some.input;
+        ends = some.ends;
+        given = some.given;
+        fails = some.fails;
+        taken = some.taken;
+        holds = said_whole (status_after e) _ log z w record { status_is = ap status_after some.holds.ending_is; says = some.holds.says };
+      },
+      λ deaf. absurd (hears deaf),
+    )
 
 said_front : (t : Trouble) (told : Told) (log : List Entry) (x y : Option (List ℕ)) → UttersFront begun [] log x y told.utterances → IsSaid (status_of t) told log x y
 said_front trouble.WriteFault told log x y front = front
 said_front trouble.Memory told log x y front = front
 
-pub answers_broken : (f : Meaning Entry) (l : Kept) (x y z w : Option (List ℕ)) (a b c d : ℕ) (log : List Entry) (t : Trouble) → IsKept l →
-    BreaksOff begun f (at fresh x a [] z c) (at l y b log w d) t → Answers x (Rose a b) (λ input ends. told_of (f 16777216 input ends)) (status_of t) log z w
-answers_broken f l x y z w a b c d log t sound broken =
+pub answers_broken : (f : Meaning Entry) (l : Kept) (x y z w : Option (List ℕ)) (a b c d : ℕ) (log : List Entry) (t : Trouble) → IsKept l → ¬ IsDeaf (λ input ends. told_of (f 16777216 input ends)) →
+    BreaksOff begun f (at fresh x a [] z c) (at l y b log w d) t → Answers x y (Rose a b) (λ input ends. told_of (f 16777216 input ends)) (status_of t) log z w
+answers_broken f l x y z w a b c d log t sound hears broken =
     let some = input_broken begun f l x y z w a b c d [] log t sound broken in
-    record { input = some.input; ends = some.ends; given = some.given; fails = some.fails; holds = said_front t _ log z w some.holds }
+    (record { input = some.input; ends = some.ends; given = some.given; fails = some.fails; taken = some.taken; holds = said_front t _ log z w some.holds }, λ deaf. absurd (hears deaf))
 
 -- where one thing is said
 pub said_one : (log log_now : List Entry) (x y : Option (List ℕ)) (names : List (List ℕ)) (e : Entry) (st : Status) → log ≡ [] → Utters log log_now x y (plain names e ∷ []) → IsSaid st (tells names e st) log_now x y
@@ -75,63 +78,80 @@ given_all : (x : Option (List ℕ)) → IsGiven x (rest_of x) Ended
 given_all None = tt
 given_all (Some bytes) = refl
 
-pub unread : (x y z : Option (List ℕ)) (R : Type 0) (f : List ℕ → InputEnd → Told) (st : Status) (log : List Entry) (told : Told) → ((input : List ℕ) (ends : InputEnd) → f input ends ≡ told) → IsSaid st told log y z → Answers x R f st log y z
-unread x y z R f st log told same is = record {
-  input = rest_of x;
-  ends = Ended;
-  given = given_all x;
-  fails = λ e. absurd (cc);
-  holds = rw (same (rest_of x) Ended) is;
-}
+takes_none : (x : Option (List ℕ)) → Takes x x []
+takes_none None = tt
+takes_none (Some bytes) = refl
 
-pub unread_front : (x y : Option (List ℕ)) (R : Type 0) (f : List ℕ → InputEnd → Told) (log : List Entry) → log ≡ [] → Answers x R f statuses.Memory log y y
-unread_front x y R f log empty = record {
-  input = rest_of x;
-  ends = Ended;
-  given = given_all x;
-  fails = λ e. absurd (cc);
-  holds = UttersFront-none begun [] log y (f (rest_of x) Ended).utterances empty;
-}
+none_taken : (x : Option (List ℕ)) → IsTaken x x (rest_of x) Ended
+none_taken x = record { bytes = []; takes = takes_none x; few = omega arith; rest = rest_of x; first = refl; all = λ e. absurd (cc) }
+
+pub unread : (x y z : Option (List ℕ)) (R : Type 0) (f : List ℕ → InputEnd → Told) (st : Status) (log : List Entry) (told : Told) → ((input : List ℕ) (ends : InputEnd) → f input ends ≡ told) → IsSaid st told log y z → Answers x x R f st log y z
+unread x y z R f st log told same is = (
+  record {
+    input = rest_of x;
+    ends = Ended;
+    given = given_all x;
+    fails = λ e. absurd (cc);
+    taken = none_taken x;
+    holds = rw (same (rest_of x) Ended) is;
+  },
+  λ deaf. takes_none x,
+)
+
+pub unread_front : (x y : Option (List ℕ)) (R : Type 0) (f : List ℕ → InputEnd → Told) (log : List Entry) → log ≡ [] → Answers x x R f statuses.Memory log y y
+unread_front x y R f log empty = (
+  record {
+    input = rest_of x;
+    ends = Ended;
+    given = given_all x;
+    fails = λ e. absurd (cc);
+    taken = none_taken x;
+    holds = UttersFront-none begun [] log y (f (rest_of x) Ended).utterances empty;
+  },
+  λ deaf. takes_none x,
+)
 
 -- what the words ask for, and what the load gave
-pub met_answers : (words names : List (List ℕ)) (options : Options) (content : List ℕ → Option (List ℕ)) (left : Option (List ℕ)) (R Q : Type 0) (loading : Loading) (st : Status) (log : List Entry) (x y : Option (List ℕ)) →
+pub met_answers : (words names : List (List ℕ)) (options : Options) (content : List ℕ → Option (List ℕ)) (left now : Option (List ℕ)) (R Q : Type 0) (loading : Loading) (st : Status) (log : List Entry) (x y : Option (List ℕ)) →
     options_of words ≡ Some options → IsLoading (content options.program) loading → (loading ≡ Breaks → R) →
-    Answers left Q (λ input ends. after_words names record { program = loading; input = input; ends = ends } options loading) st log x y →
-    Meets (session_of words) words content left R Q names st log x y
-met_answers words names options content left R Q loading st log x y named is breaks answers = (
-  record { program = loading; input = answers.input; ends = answers.ends },
-  record { program = rw named is; breaks = breaks; given = answers.given; fails = answers.fails },
-  rw named answers.holds,
+    Answers left now Q (λ input ends. after_words names record { program = loading; input = input; ends = ends } options loading) st log x y →
+    Meets (session_of words names) words content left now R Q st log x y
+met_answers words names options content left now R Q loading st log x y named is breaks answers = (
+  record { program = loading; input = answers.0.input; ends = answers.0.ends },
+  record { program = rw named is; breaks = breaks; given = answers.0.given; fails = answers.0.fails; taken = answers.0.taken },
+  rw named answers.0.holds,
+  rw named answers.1,
 )
 
 pub met_unnamed : (words names : List (List ℕ)) (content : List ℕ → Option (List ℕ)) (left : Option (List ℕ)) (R Q : Type 0) (st : Status) (log : List Entry) (x y : Option (List ℕ)) →
-    options_of words ≡ None → IsSaid st (tells names entry.UsageRefused statuses.Usage) log x y → Meets (session_of words) words content left R Q names st log x y
+    options_of words ≡ None → IsSaid st (tells names entry.UsageRefused statuses.Usage) log x y → Meets (session_of words names) words content left left R Q st log x y
 met_unnamed words names content left R Q st log x y none said = (
   record { program = Gives []; input = rest_of left; ends = Ended },
-  record { program = rw none tt; breaks = λ e. absurd (cc); given = given_all left; fails = λ e. absurd (cc) },
+  record { program = rw none tt; breaks = λ e. absurd (cc); given = given_all left; fails = λ e. absurd (cc); taken = none_taken left },
   rw none said,
+  λ deaf. takes_none left,
 )
 
 tells_loading : (told : Option (List ℕ)) (bytes : List ℕ) → Tells told bytes → IsLoading told (Gives bytes)
 tells_loading None bytes tells = tt
 tells_loading (Some known) bytes tells = tells
 
-pub met_loaded : (words names : List (List ℕ)) (options : Options) (content : List ℕ → Option (List ℕ)) (left : Option (List ℕ)) (R Q : Type 0) (text : List ℕ) (st : Status) (log : List Entry) (x y : Option (List ℕ)) →
+pub met_loaded : (words names : List (List ℕ)) (options : Options) (content : List ℕ → Option (List ℕ)) (left now : Option (List ℕ)) (R Q : Type 0) (text : List ℕ) (st : Status) (log : List Entry) (x y : Option (List ℕ)) →
     options_of words ≡ Some options → Tells (content options.program) text → length text ≤ 1048576 →
-    Answers left Q (λ input ends. after_load names options input ends (program_of names text)) st log x y →
-    Meets (session_of words) words content left R Q names st log x y
-met_loaded words names options content left R Q text st log x y named tells bound answers =
+    Answers left now Q (λ input ends. after_load names options input ends (program_of names text)) st log x y →
+    Meets (session_of words names) words content left now R Q st log x y
+met_loaded words names options content left now R Q text st log x y named tells bound answers =
     let test : leb 1048577 (length text) ≡ false = lt-leb _ _ (omega arith) in
-    met_answers words names options content left R Q (Gives text) st log x y named (tells_loading (content options.program) text tells) (λ e. absurd (cc)) (rw test answers)
+    met_answers words names options content left now R Q (Gives text) st log x y named (tells_loading (content options.program) text tells) (λ e. absurd (cc)) (rw test answers)
 
 breaks_loading : (told : Option (List ℕ)) → IsLoading told Breaks
 breaks_loading None = tt
 breaks_loading (Some known) = tt
 
 pub met_broken : (words names : List (List ℕ)) (options : Options) (content : List ℕ → Option (List ℕ)) (left : Option (List ℕ)) (R Q : Type 0) (st : Status) (log : List Entry) (x y : Option (List ℕ)) →
-    options_of words ≡ Some options → R → IsSaid st (tells names entry.InputFault statuses.ReadFault) log x y → Meets (session_of words) words content left R Q names st log x y
+    options_of words ≡ Some options → R → IsSaid st (tells names entry.InputFault statuses.ReadFault) log x y → Meets (session_of words names) words content left left R Q st log x y
 met_broken words names options content left R Q st log x y named rose said =
-    met_answers words names options content left R Q Breaks st log x y named (breaks_loading (content options.program)) (λ e. rose) (unread left x y Q _ st log _ (λ input ends. refl) said)
+    met_answers words names options content left left R Q Breaks st log x y named (breaks_loading (content options.program)) (λ e. rose) (unread left x y Q _ st log _ (λ input ends. refl) said)
 
 -- a list of each length; abstract, so that no list of a million numbers is computed
 some_list : (n : ℕ) → (bytes : List ℕ) × (length bytes ≡ n)
@@ -144,11 +164,11 @@ long_of (Some known) long = (known, refl, long)
 
 pub met_long : (words names : List (List ℕ)) (options : Options) (content : List ℕ → Option (List ℕ)) (left : Option (List ℕ)) (R Q : Type 0) (st : Status) (log : List Entry) (x y : Option (List ℕ)) →
     options_of words ≡ Some options → TellsLong (content options.program) → IsSaid st (tells names (entry.FileTooLong 1048577) statuses.FileTooLong) log x y →
-    Meets (session_of words) words content left R Q names st log x y
+    Meets (session_of words names) words content left left R Q st log x y
 met_long words names options content left R Q st log x y named long said =
     let some = long_of (content options.program) long in
     let test : leb 1048577 (length some.0) ≡ true = le-leb _ _ (omega (arith, some.2)) in
-    met_answers words names options content left R Q (Gives some.0) st log x y named some.1 (λ e. absurd (cc)) (rw test (unread left x y Q _ st log _ (λ input ends. refl) said))
+    met_answers words names options content left left R Q (Gives some.0) st log x y named some.1 (λ e. absurd (cc)) (rw test (unread left x y Q _ st log _ (λ input ends. refl) said))
 
 -- some content for a file that memory did not suffice for
 any_of : (told : Option (List ℕ)) → (bytes : List ℕ) × IsLoading told (Gives bytes)
@@ -156,10 +176,10 @@ any_of None = ([], tt)
 any_of (Some known) = (known, refl)
 
 pub met_memory : (words names : List (List ℕ)) (options : Options) (content : List ℕ → Option (List ℕ)) (left : Option (List ℕ)) (R Q : Type 0) (log : List Entry) (x : Option (List ℕ)) →
-    options_of words ≡ Some options → log ≡ [] → Meets (session_of words) words content left R Q names statuses.Memory log x x
+    options_of words ≡ Some options → log ≡ [] → Meets (session_of words names) words content left left R Q statuses.Memory log x x
 met_memory words names options content left R Q log x named empty =
     let some = any_of (content options.program) in
-    met_answers words names options content left R Q (Gives some.0) statuses.Memory log x x named some.1 (λ e. absurd (cc)) (unread_front left x Q (λ input ends. after_words names record { program = Gives some.0; input = input; ends = ends } options (Gives some.0)) log empty)
+    met_answers words names options content left left R Q (Gives some.0) statuses.Memory log x x named some.1 (λ e. absurd (cc)) (unread_front left x Q (λ input ends. after_words names record { program = Gives some.0; input = input; ends = ends } options (Gives some.0)) log empty)
 
 -- where all is told and nothing fails
 loading_is : (program : List ℕ) (loading : Loading) → IsLoading (Some program) loading → (loading ≡ Breaks → ⊥) → loading ≡ Gives program
@@ -180,11 +200,11 @@ said_is statuses.ReadFault told log x y is not = inr is
 said_is statuses.InputLimit told log x y is not = inr is
 said_is statuses.FileTooLong told log x y is not = inr is
 
-pub world_is : (words names : List (List ℕ)) (content : List ℕ → Option (List ℕ)) (left : Option (List ℕ)) (R Q : Type 0) (world : World) (program bytes : List ℕ) → (options : Option Options) → options_of words ≡ options →
-    IsMet words content left R Q world → IfSome options (λ o. content o.program ≡ Some program) → left ≡ Some bytes → (R → ⊥) → (Q → ⊥) →
+pub world_is : (words names : List (List ℕ)) (content : List ℕ → Option (List ℕ)) (left now : Option (List ℕ)) (R Q : Type 0) (world : World) (program bytes : List ℕ) → (options : Option Options) → options_of words ≡ options →
+    IsMet words content left now R Q world → IfSome options (λ o. content o.program ≡ Some program) → left ≡ Some bytes → (R → ⊥) → (Q → ⊥) →
     session_of words names world ≡ session_of words names record { program = Gives program; input = bytes; ends = Ended }
-world_is words names content left R Q world program bytes None is met told given loads reads = rw is refl
-world_is words names content left R Q world program bytes (Some options) is met told given loads reads =
+world_is words names content left now R Q world program bytes None is met told given loads reads = rw is refl
+world_is words names content left now R Q world program bytes (Some options) is met told given loads reads =
     let loading : IsLoading (content options.program) world.program = rw is at met.program in
     let loaded : IsLoading (Some program) world.program = subst (λ (o : Option (List ℕ)). IsLoading o world.program) told loading in
     let p : world.program ≡ Gives program = loading_is program world.program loaded (λ e. loads (met.breaks e)) in
@@ -192,10 +212,10 @@ world_is words names content left R Q world program bytes (Some options) is met 
     let q : (world.input ≡ bytes) × (world.ends ≡ Ended) = given_is bytes world.input world.ends heard (λ e. reads (met.fails e)) in
     rw (is, p, q.0, q.1) refl
 
-pub complete : (words names : List (List ℕ)) (content : List ℕ → Option (List ℕ)) (left : Option (List ℕ)) (R Q W : Type 0) (st : Status) (log : List Entry) (x y : Option (List ℕ)) →
-    Meets (session_of words) words content left R Q names st log x y → (st ≡ statuses.WriteFault → W) →
+pub complete : (words names : List (List ℕ)) (content : List ℕ → Option (List ℕ)) (left now : Option (List ℕ)) (R Q W : Type 0) (st : Status) (log : List Entry) (x y : Option (List ℕ)) →
+    Meets (session_of words names) words content left now R Q st log x y → (st ≡ statuses.WriteFault → W) →
     (program bytes : List ℕ) → IfSome (options_of words) (λ o. content o.program ≡ Some program) → left ≡ Some bytes → (R → ⊥) → (Q → ⊥) → (W → ⊥) →
     (st ≡ statuses.Memory) ⊎ IsWhole st (session_of words names record { program = Gives program; input = bytes; ends = Ended }) log x y
-complete words names content left R Q W st log x y meaning write program bytes told given loads reads writes =
-    let same = world_is words names content left R Q meaning.0 program bytes (options_of words) refl meaning.1 told given loads reads in
+complete words names content left now R Q W st log x y meaning write program bytes told given loads reads writes =
+    let same = world_is words names content left now R Q meaning.0 program bytes (options_of words) refl meaning.1 told given loads reads in
     said_is st _ log x y (rw same at meaning.2) (λ e. writes (write e))

@@ -1,8 +1,8 @@
 -- What a session met outside, and what it said.
 use Rattle.std.specs.Prelude.{ℕ, ◌≡◌, List, [], Option, None, Some, ⊤, IfSome, Result, IsErrOf, ◌≤◌}
-use Rattle.apd_io.specs.Outside.{Rose}
+use Rattle.apd_io.specs.Outside.{Rose, Takes}
 use Rattle.apd_console.specs.Lines.{InputEnd, Fails}
-use Rattle.apd_console.specs.Outcome.{IsGiven, SomeInput}
+use Rattle.apd_console.specs.Outcome.{IsGiven, IsTaken, SomeInput}
 use Rattle.apd_console.specs.Utterance.{Utters, UttersFront}
 use Rattle.apd_console.specs.declared.talk.Trouble.{Trouble}
 use Rattle.apd_console.specs.declared.talk.Trouble.TheVariants as trouble
@@ -18,12 +18,13 @@ IsLoading None loading = ⊤
 IsLoading (Some known) (Gives bytes) = bytes ≡ known
 IsLoading (Some known) Breaks = ⊤
 
--- the world is as far as it is told, and it fails only where a count rose
-pub record IsMet (words : List (List ℕ)) (content : List ℕ → Option (List ℕ)) (left : Option (List ℕ)) (load_failed read_failed : Type 0) (world : World) : Type 0 where
+-- the world is as far as it is told, it fails only where a count rose, and its input begins with the bytes that were taken
+pub record IsMet (words : List (List ℕ)) (content : List ℕ → Option (List ℕ)) (left left_now : Option (List ℕ)) (load_failed read_failed : Type 0) (world : World) : Type 0 where
   pub program : IfSome (options_of words) (λ options. IsLoading (content options.program) world.program)
   pub breaks : world.program ≡ Breaks → load_failed
   pub given : IsGiven left world.input world.ends
   pub fails : world.ends ≡ Fails → read_failed
+  pub taken : IsTaken left left_now world.input world.ends
 
 -- all was said and printed, and this is the status
 pub record IsWhole (status : Status) (told : Told) (log : List Entry) (held held_now : Option (List ℕ)) : Type 0 where
@@ -36,14 +37,24 @@ IsSaid WriteFault told log held held_now = UttersFront begun [] log held held_no
 IsSaid Memory told log held held_now = UttersFront begun [] log held held_now told.utterances
 IsSaid status told log held held_now = IsWhole status told log held held_now
 
--- there is a world that is met, and what was said is what a session says in it
-abbrev pub Meets : (List (List ℕ) → World → Told) → List (List ℕ) → (List ℕ → Option (List ℕ)) → Option (List ℕ) → Type 0 → Type 0 → List (List ℕ) → Status → List Entry → Option (List ℕ) → Option (List ℕ) → Type 0
-Meets session words content left load_failed read_failed names status log held held_now =
-    (world : World) × IsMet words content left load_failed read_failed world × IsSaid status (session names world) log held held_now
+-- the same is told of every input
+abbrev pub IsDeaf : (List ℕ → InputEnd → Told) → Type 0
+IsDeaf told = (input other : List ℕ) (ends end_of_other : InputEnd) → told input ends ≡ told other end_of_other
 
--- there is an input that is given, and what was said is what is told of it
-abbrev pub Answers : Option (List ℕ) → Type 0 → (List ℕ → InputEnd → Told) → Status → List Entry → Option (List ℕ) → Option (List ℕ) → Type 0
-Answers left failed told st log held held_now = SomeInput left failed (λ input ends. IsSaid st (told input ends) log held held_now)
+-- what is told of a world by its input, the program being the same
+abbrev pub told_by_input : (World → Told) → World → List ℕ → InputEnd → Told
+told_by_input session world input ends = session record { program = world.program; input = input; ends = ends }
+
+-- there is a world that is met, and what was said is what a session says in it; where that doesn't depend on the input, no byte was taken
+abbrev pub Meets : (World → Told) → List (List ℕ) → (List ℕ → Option (List ℕ)) → Option (List ℕ) → Option (List ℕ) → Type 0 → Type 0 → Status → List Entry → Option (List ℕ) → Option (List ℕ) → Type 0
+Meets session words content left left_now load_failed read_failed status log held held_now =
+    (world : World) × IsMet words content left left_now load_failed read_failed world × IsSaid status (session world) log held held_now
+    × (IsDeaf (told_by_input session world) → Takes left left_now [])
+
+-- there is an input that is given, and what was said is what is told of it; where that doesn't depend on the input, no byte was taken
+abbrev pub Answers : Option (List ℕ) → Option (List ℕ) → Type 0 → (List ℕ → InputEnd → Told) → Status → List Entry → Option (List ℕ) → Option (List ℕ) → Type 0
+Answers left left_now failed told st log held held_now =
+    SomeInput left left_now failed (λ input ends. IsSaid st (told input ends) log held held_now) × (IsDeaf told → Takes left left_now [])
 
 -- the sink's count never falls, and a write fault is answered only where it rose
 pub record HasWriteCause {T : Type 0} (before now : ℕ) (result : Result T Trouble) : Type 0 where

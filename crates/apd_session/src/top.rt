@@ -91,7 +91,8 @@ fn talk<S: Source, K: Sink>(
     requires size { length text.now ≤ 1048576 }
     requires limits { (asked.budget ≤ 1000000) × (0 < asked.answers) × (asked.answers ≤ 1000000) }
     ensures answers { (names : List (List ℕ)) → Grown log.new.names names → (options : Options) → options ≡ record { program = asked.entry.program.now; budget = asked.entry.budget; answers = asked.entry.answers; filter = asked.entry.filter } →
-        Answers (S.left input.old) (Rose (S.faults input.old) (S.faults input.new)) (λ input ends. after_load names options input ends (program_of names text.now)) result log.new.entries (K.held out.old) (K.held out.new) }
+        Answers (S.left input.old) (S.left input.new) (Rose (S.faults input.old) (S.faults input.new)) (λ input ends. after_load names options input ends (program_of names text.now)) result log.new.entries (K.held out.old) (K.held out.new) }
+    ensures names { Grown log.old.names log.new.names }
     ensures read { result ≡ Status.ReadFault → Rose (S.faults input.old) (S.faults input.new) }
     ensures write { result ≡ Status.WriteFault → Rose (K.faults out.old) (K.faults out.new) }
 {
@@ -129,8 +130,9 @@ fn serve<F: Files, S: Source, K: Sink>(
 ) -> Status
     requires empty { log.old.entries ≡ [] }
     requires standard { log.old.names ≡ standard_names }
-    ensures meaning { Meets (session_of (map (λ w. string_bytes w) words.now)) (map (λ w. string_bytes w) words.now) (F.content files.old) (S.left input.old)
-        (Rose (F.faults files.old) (F.faults files.new)) (Rose (S.faults input.old) (S.faults input.new)) log.new.names result log.new.entries (K.held out.old) (K.held out.new) }
+    ensures meaning { (names : List (List ℕ)) → Grown log.new.names names → Meets (session_of (map (λ w. string_bytes w) words.now) names) (map (λ w. string_bytes w) words.now) (F.content files.old) (S.left input.old) (S.left input.new)
+        (Rose (F.faults files.old) (F.faults files.new)) (Rose (S.faults input.old) (S.faults input.new)) result log.new.entries (K.held out.old) (K.held out.new) }
+    ensures names { Grown log.old.names log.new.names }
     ensures read { result ≡ Status.ReadFault → Rose (F.faults files.old) (F.faults files.new) ⊎ Rose (S.faults input.old) (S.faults input.new) }
     ensures write { result ≡ Status.WriteFault → Rose (K.faults out.old) (K.faults out.new) }
 {
@@ -165,19 +167,23 @@ pub fn session<F: Files, S: Source, K: Sink>(
     requires empty { log.old.entries ≡ [] }
     requires standard { log.old.names ≡ standard_names }
 
-    // There is a world, which is what the objects tell where they tell it, and fails only where a count rose. The log has
-    // the entries that the definition gives for it, and the status is its status, or, after a write fault or want of
-    // memory, the front of these entries. The sink gained the texts of the log, or there the front of them.
-    ensures meaning { Meets (session_of (map (λ w. string_bytes w) words.now)) (map (λ w. string_bytes w) words.now) (F.content files.old) (S.left input.old)
-        (Rose (F.faults files.old) (F.faults files.new)) (Rose (S.faults input.old) (S.faults input.new)) log.new.names result log.new.entries (K.held out.old) (K.held out.new) }
+    // Whatever names are kept later, there is a world, which is what the objects tell where they tell it, fails only where
+    // a count rose, and whose input begins with the bytes that were taken: at most 16,777,216, all of it where a read
+    // failed, and none where what is said doesn't depend on the input. The log has the entries that the definition gives
+    // for this world, and the status is its status, or, after a write fault or want of memory, the front of these entries.
+    // The sink gained the texts of the log; there, the last of them perhaps without its end.
+    ensures meaning { (names : List (List ℕ)) → Grown log.new.names names → Meets (session_of (map (λ w. string_bytes w) words.now) names) (map (λ w. string_bytes w) words.now) (F.content files.old) (S.left input.old) (S.left input.new)
+        (Rose (F.faults files.old) (F.faults files.new)) (Rose (S.faults input.old) (S.faults input.new)) result log.new.entries (K.held out.old) (K.held out.new) }
+    ensures names { Grown log.old.names log.new.names }
 
     // A fault is answered only where a count rose in this call.
     ensures read { result ≡ Status.ReadFault → Rose (F.faults files.old) (F.faults files.new) ⊎ Rose (S.faults input.old) (S.faults input.new) }
     ensures write { result ≡ Status.WriteFault → Rose (K.faults out.old) (K.faults out.new) }
 
-    // The status is the one that the first cause met in that world calls for, where no write failed and memory sufficed.
-    ensures status { (world : World) × IsMet (map (λ w. string_bytes w) words.now) (F.content files.old) (S.left input.old) (Rose (F.faults files.old) (F.faults files.new)) (Rose (S.faults input.old) (S.faults input.new)) world
-        × Comes result (status_for (map (λ w. string_bytes w) words.now) log.new.names world) }
+    // There is such a world, and the status is the one that the first cause met in it calls for, where no write failed and
+    // memory sufficed.
+    ensures status { (names : List (List ℕ)) → Grown log.new.names names → (world : World) × IsMet (map (λ w. string_bytes w) words.now) (F.content files.old) (S.left input.old) (S.left input.new)
+        (Rose (F.faults files.old) (F.faults files.new)) (Rose (S.faults input.old) (S.faults input.new)) world × Comes result (status_for (map (λ w. string_bytes w) words.now) names world) }
 
     // Where the words name a file that is a program, the input isn't over its limit, all is told and no count rises, the session is done, or memory ran out.
     ensures done { (text bytes : List ℕ) → FileHas (map (λ w. string_bytes w) words.now) (F.content files.old) text → length text ≤ 1048576 → IsProgram (program_of log.new.names text) → S.left input.old ≡ Some bytes → length bytes < 16777216 →
@@ -185,9 +191,9 @@ pub fn session<F: Files, S: Source, K: Sink>(
         (result ≡ Status.Done) ⊎ (result ≡ Status.Memory) }
 
     // Where all is told and no count rises, the entries and the status are the definition's, or memory ran out.
-    ensures complete { (program bytes : List ℕ) → IfSome (options_of (map (λ w. string_bytes w) words.now)) (λ o. F.content files.old o.program ≡ Some program) → S.left input.old ≡ Some bytes →
+    ensures complete { (names : List (List ℕ)) → Grown log.new.names names → (program bytes : List ℕ) → IfSome (options_of (map (λ w. string_bytes w) words.now)) (λ o. F.content files.old o.program ≡ Some program) → S.left input.old ≡ Some bytes →
         (Rose (F.faults files.old) (F.faults files.new) → ⊥) → (Rose (S.faults input.old) (S.faults input.new) → ⊥) → (Rose (K.faults out.old) (K.faults out.new) → ⊥) →
-        (result ≡ Status.Memory) ⊎ IsWhole result (session_of (map (λ w. string_bytes w) words.now) log.new.names record { program = Gives program; input = bytes; ends = Ended }) log.new.entries (K.held out.old) (K.held out.new) }
+        (result ≡ Status.Memory) ⊎ IsWhole result (session_of (map (λ w. string_bytes w) words.now) names record { program = Gives program; input = bytes; ends = Ended }) log.new.entries (K.held out.old) (K.held out.new) }
 {
     serve(alloc, words, files, input, out, log)
 }

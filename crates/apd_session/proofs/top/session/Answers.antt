@@ -1,12 +1,13 @@
 use Rattle.apd_session.proofs.Causing.{session_done, status_comes}
+use Rattle.apd_session.proofs.Turning.{Grown-self}
 use Rattle.apd_session.proofs.Worlds.{complete}
 use Rattle.apd_session.proofs.top.session.Goals as goal
 
 pub returns-clause-status : goal.returns-clause-status
-returns-clause-status g c = status_comes _ _ _ _ _ _ _ _ _ _ c.serve.ensures.meaning
+returns-clause-status g c = λ names grew. status_comes _ names _ _ _ _ _ _ _ _ _ (c.serve.ensures.meaning names grew)
 
 pub returns-clause-done : goal.returns-clause-done
-returns-clause-done g c = session_done _ _ _ _ _ _ _ _ _ _ _ c.serve.ensures.meaning c.serve.ensures.write
+returns-clause-done g c = session_done _ _ _ _ _ _ _ _ _ _ _ _ (c.serve.ensures.meaning c.serve.new.log.names (Grown-self c.serve.new.log.names)) c.serve.ensures.write
 
 pub returns-clause-complete : goal.returns-clause-complete
-returns-clause-complete g c = complete _ _ _ _ _ _ _ _ _ _ _ c.serve.ensures.meaning c.serve.ensures.write
+returns-clause-complete g c = λ names grew. complete _ names _ _ _ _ _ _ _ _ _ _ (c.serve.ensures.meaning names grew) c.serve.ensures.write

@@ -36,7 +36,7 @@ port_name Fail = codes "Fail"
 unfoldable pub port_text : List (List ℕ) → Event → List ℕ
 port_text names e = decimal e.box_no ++ codes " " ++ decimal e.depth ++ codes " " ++ port_name e.port ++ codes ": " ++ written names e.atom ++ codes "\n"
 
--- the elements of a list term
+-- the elements of a list term: the first argument, and the elements of the second
 abbrev mutual
   pub elements : Term → List Term
   elements (variable v) = []

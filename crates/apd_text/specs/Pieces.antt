@@ -22,33 +22,33 @@ closes names (suc n) after (t ∷ ts) = codes "," ++ written names t ++ closes n
 -- after a term, in open compounds with so many arguments to come, the outermost first
 abbrev pub resume : List (List ℕ) → List ℕ → (List Term → List ℕ) → List Term → List ℕ
 resume names [] after = after
-resume names (n ∷ open_) after = resume names open_ (closes names n after)
+resume names (n ∷ waiting) after = resume names waiting (closes names n after)
 
 -- how many arguments are to come in all
 abbrev pub needs : List ℕ → ℕ
 needs [] = 0
-needs (n ∷ open_) = n + needs open_
+needs (n ∷ waiting) = n + needs waiting
 
 -- a finished term was closed up to the next argument
-pub record GoesOn (names : List (List ℕ)) (open_ open_now marks : List ℕ) : Type 0 where
-  pub needed : needs open_ ≡ needs open_now + 1
-  pub text : (after : List Term → List ℕ) (t : Term) (ts : List Term) → resume names open_ after (t ∷ ts) ≡ marks ++ (written names t ++ resume names open_now after ts)
+pub record GoesOn (names : List (List ℕ)) (waiting waiting_now marks : List ℕ) : Type 0 where
+  pub needed : needs waiting ≡ needs waiting_now + 1
+  pub text : (after : List Term → List ℕ) (t : Term) (ts : List Term) → resume names waiting after (t ∷ ts) ≡ marks ++ (written names t ++ resume names waiting_now after ts)
 
 -- a finished term was closed up to the outermost compound
-pub record IsClosed (names : List (List ℕ)) (open_ open_now marks : List ℕ) : Type 0 where
-  pub needed : needs open_ ≡ 0
-  pub empty : open_now ≡ []
-  pub text : (after : List Term → List ℕ) (ts : List Term) → resume names open_ after ts ≡ marks ++ after ts
+pub record IsClosed (names : List (List ℕ)) (waiting waiting_now marks : List ℕ) : Type 0 where
+  pub needed : needs waiting ≡ 0
+  pub empty : waiting_now ≡ []
+  pub text : (after : List Term → List ℕ) (ts : List Term) → resume names waiting after ts ≡ marks ++ after ts
 
 abbrev pub Closes : List (List ℕ) → List ℕ → List ℕ → List ℕ → Bool → Type 0
-Closes names open_ open_now marks true = GoesOn names open_ open_now marks
-Closes names open_ open_now marks false = IsClosed names open_ open_now marks
+Closes names waiting waiting_now marks true = GoesOn names waiting waiting_now marks
+Closes names waiting waiting_now marks false = IsClosed names waiting waiting_now marks
 
 -- marks were added that close a finished term
 abbrev pub AddsClosing : List (List ℕ) → List ℕ → List ℕ → List ℕ → List ℕ → Bool → Type 0
-AddsClosing names open_ open_now out out_now goes_on = (marks : List ℕ) × (out_now ≡ out ++ marks) × Closes names open_ open_now marks goes_on
+AddsClosing names waiting waiting_now out out_now goes_on = (marks : List ℕ) × (out_now ≡ out ++ marks) × Closes names waiting waiting_now marks goes_on
 
 -- the mark after a symbol was added: an opening parenthesis, or what closes a finished term
-pub record Marks (names : List (List ℕ)) (x : Sym) (open_ open_now out out_now : List ℕ) : Type 0 where
-  pub opens : 0 < arity_of x → (open_now ≡ open_ ++ (arity_of x - 1) ∷ []) × (out_now ≡ out ++ codes "(")
-  pub closes : arity_of x ≡ 0 → (goes_on : Bool) × AddsClosing names open_ open_now out out_now goes_on
+pub record Marks (names : List (List ℕ)) (x : Sym) (waiting waiting_now out out_now : List ℕ) : Type 0 where
+  pub opens : 0 < arity_of x → (waiting_now ≡ waiting ++ (arity_of x - 1) ∷ []) × (out_now ≡ out ++ codes "(")
+  pub closes : arity_of x ≡ 0 → (goes_on : Bool) × AddsClosing names waiting waiting_now out out_now goes_on

@@ -5,7 +5,7 @@ ghost use Rattle.apd_text.specs.Lines.{head_text, goals_of};
 ghost use Rattle.apd_text.specs.Written.{written};
 
 use crate::line::add_joined;
-use crate::written::write_term;
+use crate::written::term_text;
 use apd_term::list::ListOf;
 use apd_term::names::Names;
 use apd_term::tuple::canonical_tuple;
@@ -31,9 +31,7 @@ fn written_all(alloc: Global, names: &Names, terms: &[Flat]) -> Result<ListOf<Te
 {
     let mut texts = ListOf::new(alloc);
     'terms: for term in terms {
-        let mut text = Text::new(alloc);
-        write_term(alloc, names, term, &mut text)?;
-        texts.push(text)?;
+        texts.push(term_text(alloc, names, term)?)?;
     }
     Ok(texts)
 }

@@ -63,10 +63,11 @@ impl Entries {
         Ok(())
     }
 
-    /// Sets the end of the run that is the last entry, which keeps all else; where the last entry is no run, nothing
-    /// changes.
+    /// Sets the end of the run that is the last entry, which keeps all else; where the last entry is no run, or there
+    /// is no entry, nothing changes.
     pub fn finish(&mut self, ran: Ran)
-        ensures { Finishes self.old ran self.new }
+        ensures finished { Finishes self.old ran self.new }
+        ensures none { self.old ≡ [] → self.new ≡ [] }
     {
         let count = self.items.len();
         if count == 0 {

@@ -1,7 +1,6 @@
 //! Terms in functional notation.
 
-ghost use Rattle.std.specs.Prelude.{◌≡◌, ◌++◌, List, ℕ, OnOk, IfOk};
-ghost use Rattle.apd_term.specs.Term.{IsWhole, term_of};
+ghost use Rattle.std.specs.Prelude.{◌≡◌, ◌++◌, List, ℕ, OnOk, OnErr, IfOk};
 ghost use Rattle.apd_text.specs.Written.{written};
 ghost use Rattle.apd_text.specs.Pieces.{symbol_text, AddsClosing, Marks};
 
@@ -29,13 +28,13 @@ fn add_symbol(alloc: Global, names: &Names, symbol: Sym, out: &mut Text) -> Resu
 }
 
 /// After a term: closes each compound that has no argument left. Answers whether one has, after its comma.
-fn close(open: &mut Vec<u8>, out: &mut Text) -> Result<bool, AllocError>
-    ensures { IfOk result (λ goes_on. (names : List (List ℕ)) → AddsClosing names open.old.items open.new.items out.old out.new goes_on) }
+fn close(waiting: &mut Vec<u8>, out: &mut Text) -> Result<bool, AllocError>
+    ensures { IfOk result (λ goes_on. (names : List (List ℕ)) → AddsClosing names waiting.old.items waiting.new.items out.old out.new goes_on) }
 {
-    'closing: while let Some(left) = open.pop() {
+    'closing: while let Some(left) = waiting.pop() {
         if left > 0 {
             out.push(b',')?;
-            open.push(left - 1)?;
+            waiting.push(left - 1)?;
             return Ok(true);
         }
         out.push(b')')?;
@@ -43,49 +42,47 @@ fn close(open: &mut Vec<u8>, out: &mut Text) -> Result<bool, AllocError>
     Ok(false)
 }
 
-/// Writes what stands between a symbol and the next one.
-fn add_mark(symbol: Sym, open: &mut Vec<u8>, out: &mut Text) -> Result<(), AllocError>
-    ensures { OnOk result ((names : List (List ℕ)) → Marks names symbol open.old.items open.new.items out.old out.new) }
+/// Writes what stands between a symbol and the next one. Each open compound waits for so many arguments.
+fn add_mark(symbol: Sym, waiting: &mut Vec<u8>, out: &mut Text) -> Result<(), AllocError>
+    ensures { OnOk result ((names : List (List ℕ)) → Marks names symbol waiting.old.items waiting.new.items out.old out.new) }
 {
     if let Sym::Fun(_, arity) = symbol
         && arity > 0
     {
         out.push(b'(')?;
-        open.push(arity - 1)?;
+        waiting.push(arity - 1)?;
         return Ok(());
     }
-    close(open, out)?;
+    close(waiting, out)?;
     Ok(())
 }
 
-/// Writes the term that these symbols spell, in functional notation.
-fn write_symbols(
-    alloc: Global,
-    names: &Names,
-    symbols: &[Sym],
-    out: &mut Text,
-) -> Result<(), AllocError>
-    requires { IsWhole symbols.now }
-    ensures { OnOk result (out.new ≡ out.old ++ written names.now (term_of symbols.now)) }
+/// The text of a term in functional notation.
+pub(crate) fn term_text(alloc: Global, names: &Names, term: &Flat) -> Result<Text, AllocError>
+    ensures { IfOk result (λ t. t ≡ written names.now term.now) }
 {
-    let mut open = Vec::new(alloc);
+    let symbols = term.symbols();
+    let mut waiting = Vec::new(alloc);
+    let mut text = Text::new(alloc);
     'symbols: for symbol in symbols {
-        add_symbol(alloc, names, *symbol, out)?;
-        add_mark(*symbol, &mut open, out)?;
+        add_symbol(alloc, names, *symbol, &mut text)?;
+        add_mark(*symbol, &mut waiting, &mut text)?;
     }
-    Ok(())
+    Ok(text)
 }
 
-/// Writes a term in functional notation: a variable as `_` and its number, an integer in decimal digits, a compound as
-/// its name and, in parentheses, its arguments with commas between them. After want of memory a part may stand there.
+/// Adds a term in functional notation: a variable as `_` and its number, an integer in decimal digits, a compound as
+/// its name and, in parentheses, its arguments with commas between them. After want of memory the text is as before.
 pub fn write_term(
     alloc: Global,
     names: &Names,
     term: &Flat,
     out: &mut Text,
 ) -> Result<(), AllocError>
-    ensures { OnOk result (out.new ≡ out.old ++ written names.now term.now) }
+    ensures text { OnOk result (out.new ≡ out.old ++ written names.now term.now) }
+    ensures same { OnErr result (out.new ≡ out.old) }
 {
-    write_symbols(alloc, names, term.symbols(), out)?;
+    let text = term_text(alloc, names, term)?;
+    out.extend(text.bytes())?;
     Ok(())
 }

@@ -6,8 +6,8 @@ use Rattle.apd_text.proofs.Last.{last_is, set_last, with_end-other}
 use Rattle.apd_text.proofs.log.Entries.finish.Goals as goal
 use Rattle.apd_text.proofs.log.Entries.finish.Goals.{in-Run, in_default}
 
-pub returns : goal.returns
-returns c = λ before last is.
+pub returns-clause-finished : goal.returns-clause-finished
+returns-clause-finished c = λ before last is.
     let items : c.self.inside.items.items ≡ before ++ last ∷ [] = c.self.view_is ∙ is in
     let size : c.len-count.result ≡ length c.self.inside.items.items = search rules in
     let is_last : c.index_mut.result.now ≡ last = c.index_mut.ensures.value ∙ last_is _ before last c.index_mut.result.now c.len-count.result items size in

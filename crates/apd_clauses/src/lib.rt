@@ -6,3 +6,6 @@ pub mod program;
 
 pub use clause::{Clause, is_clause, is_runnable};
 pub use program::{AddFault, Program};
+
+#[cfg(test)]
+mod tests;

@@ -12,11 +12,12 @@ use Rattle.apd_console.specs.declared.talk.Ending.TheVariants as ending
 use Rattle.apd_console.specs.declared.talk.Trouble.{Trouble}
 use Rattle.apd_console.specs.declared.talk.Trouble.TheVariants as trouble
 use Rattle.apd_load.specs.Program.{loads, program_of}
+use Rattle.apd_load.specs.Warnings.{warnings_of}
 use Rattle.apd_text.specs.declared.entry.Entry.{Entry}
-use Rattle.apd_text.specs.declared.entry.Entry.TheVariants.{Loaded}
 use Rattle.apd_session.specs.Outcome.{Answers, IsSaid, status_of}
-use Rattle.apd_session.specs.Session.{Options, after_load, status_after, tells}
-use Rattle.apd_session.specs.Steps.{begun, plain, talker}
+use Rattle.apd_session.specs.Session.{after_load, status_after, tells}
+use Rattle.apd_session.specs.Steps.{begun, load_said, talker}
+use Rattle.apd_session.specs.Words.{Options}
 use Rattle.apd_session.specs.declared.state.State.{State}
 use Rattle.apd_session.specs.declared.status.Status.{Status}
 use Rattle.apd_session.specs.declared.status.Status.TheVariants as statuses
@@ -34,7 +35,7 @@ state_for program options = record { program = program; budget = options.budget;
 
 -- what the whole input means once the program is loaded
 abbrev pub opening : List (List ℕ) → State → Meaning Entry
-opening names s room more ends = onto (plain names (Loaded (length s.program)) ∷ []) (replies (talker names) s room more ends)
+opening names s room more ends = onto (load_said names s.program (warnings_of s.program)) (replies (talker names) s room more ends)
 
 module _ (names : List (List ℕ)) (options : Options) (text : List ℕ) (program : List Clause) (is : program_of names text ≡ loads program) (s : State) (state : s ≡ state_for program options)
     (k l : Kept) (start : k ≡ fresh) (sound : IsKept l) (log log_now : List Entry) (empty : log ≡ []) (x y z w : Option (List ℕ)) (a b c d : ℕ) where

@@ -9,7 +9,7 @@ use Rattle.apd_term.specs.declared.faults.LoadCause.TheVariants.{NotBuilt, Claus
 use Rattle.apd_clauses.specs.Clauses.{tuples_of}
 use Rattle.apd_clauses.specs.declared.clause.Clause.{Clause}
 use Rattle.apd_console.specs.Lines.{lines_of}
-use Rattle.apd_plain.specs.Lines.{fact_of_line}
+use Rattle.apd_plain.specs.Lines.{clause_of_line}
 use Rattle.apd_term.specs.Growth.{Grown, GrowsBy}
 use Rattle.apd_plain.proofs.Levels.{grown_by, grows_more}
 use Rattle.apd_load.specs.Program.{Loads, refused, loads, onto_program, line_loads, loads_of, program_of}
@@ -36,28 +36,28 @@ loads_of-line read room line (b ∷ w) ws h = refl
 
 -- from the text to the clauses so far and the lines from a place on
 abbrev pub Reaches : List ℕ → ℕ → ℕ → List (List ℕ) → List Clause → Type 0
-Reaches text at line names cs = (n : List (List ℕ)) → Grown names n → program_of n text ≡ joined cs (loads_of (fact_of_line n) (20000 - length cs) line (lines_from text at))
+Reaches text at line names cs = (n : List (List ℕ)) → Grown names n → program_of n text ≡ joined cs (loads_of (clause_of_line n) (20000 - length cs) line (lines_from text at))
 
 pub reaches_first : (text : List ℕ) (names : List (List ℕ)) → Reaches text 0 1 names []
 unfolding program_of
-reaches_first text names n g = sym (joined-nil (loads_of (fact_of_line n) 20000 1 (lines_of text)))
+reaches_first text names n g = sym (joined-nil (loads_of (clause_of_line n) 20000 1 (lines_of text)))
 
 pub reaches_last : (text : List ℕ) (at line : ℕ) (names : List (List ℕ)) (cs : List Clause) → Reaches text at line names cs → length text ≤ at → (more : List (List ℕ)) → program_of (names ++ more) text ≡ loads cs
 reaches_last text at line names cs h p more =
-    h (names ++ more) (more, refl) ∙ ap (λ t. joined cs (loads_of (fact_of_line (names ++ more)) (20000 - length cs) line (lines_of t))) (drop_all at text p) ∙ ap loads (append-nil cs)
+    h (names ++ more) (more, refl) ∙ ap (λ t. joined cs (loads_of (clause_of_line (names ++ more)) (20000 - length cs) line (lines_of t))) (drop_all at text p) ∙ ap loads (append-nil cs)
 
 pub reaches_empty : (text : List ℕ) (at next line : ℕ) (names : List (List ℕ)) (cs : List Clause) (w : List ℕ) → Reaches text at line names cs → lines_from text at ≡ w ∷ lines_from text next → w ≡ [] → Reaches text next (line + 1) names cs
-reaches_empty text at next line names cs w h e z n g = h n g ∙ ap (λ ls. joined cs (loads_of (fact_of_line n) (20000 - length cs) line ls)) (e ∙ ap (λ x. x ∷ lines_from text next) z)
+reaches_empty text at next line names cs w h e z n g = h n g ∙ ap (λ ls. joined cs (loads_of (clause_of_line n) (20000 - length cs) line ls)) (e ∙ ap (λ x. x ∷ lines_from text next) z)
 
 module _ (text : List ℕ) (at next line k : ℕ) (names new : List (List ℕ)) (cs now : List Clause) (w : List ℕ)
     (h : Reaches text at line names cs) (e : lines_from text at ≡ w ∷ lines_from text next) (some : 0 < length w) (grows : GrowsBy k names new) where
   -- with what the line is
-  by_line : (n : List (List ℕ)) (o : Option Tuple) → Grown new n → fact_of_line n w ≡ o → program_of n text ≡ joined cs (line_loads (20000 - length cs) line o (λ left. loads_of (fact_of_line n) left (line + 1) (lines_from text next)))
+  by_line : (n : List (List ℕ)) (o : Option Tuple) → Grown new n → clause_of_line n w ≡ o → program_of n text ≡ joined cs (line_loads (20000 - length cs) line o (λ left. loads_of (clause_of_line n) left (line + 1) (lines_from text next)))
   by_line n o g f =
       h n (grown_by k names new n grows g)
-      ∙ ap (λ ls. joined cs (loads_of (fact_of_line n) (20000 - length cs) line ls)) e
-      ∙ ap (joined cs) (loads_of-line (fact_of_line n) (20000 - length cs) line w (lines_from text next) some)
-      ∙ ap (λ (x : Option Tuple). joined cs (line_loads (20000 - length cs) line x (λ left. loads_of (fact_of_line n) left (line + 1) (lines_from text next)))) f
+      ∙ ap (λ ls. joined cs (loads_of (clause_of_line n) (20000 - length cs) line ls)) e
+      ∙ ap (joined cs) (loads_of-line (clause_of_line n) (20000 - length cs) line w (lines_from text next) some)
+      ∙ ap (λ (x : Option Tuple). joined cs (line_loads (20000 - length cs) line x (λ left. loads_of (clause_of_line n) left (line + 1) (lines_from text next)))) f
 
   pub reaches_added : length cs ≤ 20000 → AddsLine w line new cs now (Ok tt) → Reaches text next (line + 1) new now
   reaches_added few (t, f, i, (is, free)) n g =
@@ -65,16 +65,16 @@ module _ (text : List ℕ) (at next line k : ℕ) (names new : List (List ℕ)) 
       let size : length now ≡ length cs + 1 = ap length is ∙ length_push cs c in
       let room : 20000 - length cs ≡ suc (20000 - length now) = omega arith in
       by_line n (Some t) g (f n g)
-      ∙ ap (λ r. joined cs (line_loads r line (Some t) (λ left. loads_of (fact_of_line n) left (line + 1) (lines_from text next)))) room
-      ∙ joined-onto cs c (loads_of (fact_of_line n) (20000 - length now) (line + 1) (lines_from text next))
-      ∙ ap (λ ds. joined ds (loads_of (fact_of_line n) (20000 - length now) (line + 1) (lines_from text next))) (sym is)
+      ∙ ap (λ r. joined cs (line_loads r line (Some t) (λ left. loads_of (clause_of_line n) left (line + 1) (lines_from text next)))) room
+      ∙ joined-onto cs c (loads_of (clause_of_line n) (20000 - length now) (line + 1) (lines_from text next))
+      ∙ ap (λ ds. joined ds (loads_of (clause_of_line n) (20000 - length now) (line + 1) (lines_from text next))) (sym is)
 
   line_refused : (l : ℕ) (cause : LoadCause) → AddsLine w line new cs now (Err (texts.Refused l cause)) → (more : List (List ℕ)) → program_of (new ++ more) text ≡ refused l cause
   line_refused l NotBuilt (is, f) more = by_line (new ++ more) None (more, refl) (f (new ++ more) (more, refl)) ∙ ap (λ i. refused i NotBuilt) (sym is)
   line_refused l ClausesOver (t, f, i, (is, full)) more =
       let room : 20000 - length cs ≡ 0 = omega arith in
       by_line (new ++ more) (Some t) (more, refl) (f (new ++ more) (more, refl))
-      ∙ ap (λ r. joined cs (line_loads r line (Some t) (λ left. loads_of (fact_of_line (new ++ more)) left (line + 1) (lines_from text next)))) room
+      ∙ ap (λ r. joined cs (line_loads r line (Some t) (λ left. loads_of (clause_of_line (new ++ more)) left (line + 1) (lines_from text next)))) room
       ∙ ap (λ i. refused i ClausesOver) (sym is)
 
   pub is_refused : (r : LoadText) → AddsLine w line new cs now (Err r) → (l : ℕ) (cause : LoadCause) → r ≡ texts.Refused l cause → (more : List (List ℕ)) → program_of (new ++ more) text ≡ refused l cause

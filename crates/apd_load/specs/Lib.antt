@@ -1,2 +1,4 @@
 pub mod Program
 pub mod Steps
+pub mod Warnings
+pub mod Calls

@@ -6,7 +6,7 @@ use Rattle.apd_term.specs.declared.faults.LoadCause.{LoadCause}
 use Rattle.apd_term.specs.declared.faults.LoadCause.TheVariants.{NotBuilt, ClausesOver}
 use Rattle.apd_clauses.specs.declared.clause.Clause.{Clause}
 use Rattle.apd_console.specs.Lines.{lines_of}
-use Rattle.apd_plain.specs.Lines.{fact_of_line}
+use Rattle.apd_plain.specs.Lines.{clause_of_line}
 
 -- a text is refused, for this cause in this line, or it is a program
 pub data Loads : Type 0 where
@@ -32,4 +32,4 @@ loads_of read room line ((b ∷ bytes) ∷ texts) = line_loads room line (read (
 
 -- the program that a text is, or its first fault
 unfoldable pub program_of : List (List ℕ) → List ℕ → Loads
-program_of names text = loads_of (fact_of_line names) 20000 1 (lines_of text)
+program_of names text = loads_of (clause_of_line names) 20000 1 (lines_of text)

@@ -5,7 +5,7 @@ use Rattle.apd_term.specs.declared.tuple.Tuple.{Tuple}
 use Rattle.apd_term.specs.declared.faults.LoadCause.TheVariants.{NotBuilt, ClausesOver}
 use Rattle.apd_clauses.specs.declared.clause.Clause.{Clause}
 use Rattle.apd_console.specs.Lines.{lines_of}
-use Rattle.apd_plain.specs.Lines.{fact_of_line}
+use Rattle.apd_plain.specs.Lines.{clause_of_line}
 use Rattle.apd_term.specs.Growth.{Grown}
 use Rattle.apd_load.specs.declared.LoadText.{LoadText}
 use Rattle.apd_load.specs.declared.LoadText.TheVariants as texts
@@ -28,11 +28,11 @@ AddsClause t line cs now (Err (texts.Refused l NotBuilt)) = ⊥
 AddsClause t line cs now (Err texts.Memory) = Unit {0}
 
 -- the clause that a line is, for any names that begin with these
-abbrev pub IsFact : List ℕ → List (List ℕ) → Option Tuple → Type 0
-IsFact text names o = (n : List (List ℕ)) → Grown names n → fact_of_line n text ≡ o
+abbrev pub IsClauseOf : List ℕ → List (List ℕ) → Option Tuple → Type 0
+IsClauseOf text names o = (n : List (List ℕ)) → Grown names n → clause_of_line n text ≡ o
 
 -- the clause that a line is is added, or the line is refused
 abbrev pub AddsLine : List ℕ → ℕ → List (List ℕ) → List Clause → List Clause → Result (Unit {0}) LoadText → Type 0
 AddsLine text line names cs now (Err texts.Memory) = Unit {0}
-AddsLine text line names cs now (Err (texts.Refused l NotBuilt)) = (l ≡ line) × IsFact text names None
-AddsLine text line names cs now r = (t : Tuple) × IsFact text names (Some t) × TupleIsNamed (length names) t × AddsClause t line cs now r
+AddsLine text line names cs now (Err (texts.Refused l NotBuilt)) = (l ≡ line) × IsClauseOf text names None
+AddsLine text line names cs now r = (t : Tuple) × IsClauseOf text names (Some t) × TupleIsNamed (length names) t × AddsClause t line cs now r

@@ -1,12 +1,16 @@
-//! From the text of a file to a program.
+//! From the text of a file to a program, and what there is to warn of.
 #![tactic(auto)]
 
 mod lines;
 mod reading;
+mod warnings;
 
 use apd_clauses::program::Program;
 use apd_term::faults::LoadCause;
+use apd_term::list::ListOf;
+use apd_term::term::Pred;
 pub use reading::load;
+pub use warnings::query_warnings;
 
 /// Why there is no program.
 #[derive(Clone, Copy, Debug, PartialEq, Eq)]
@@ -17,10 +21,26 @@ pub enum LoadText {
     Memory,
 }
 
+/// What is noted of a predicate in a line.
+#[derive(Clone, Copy, Debug, PartialEq, Eq)]
+pub struct Note {
+    /// The line of the text, counted from 1; 0 for a query, which stands in no line of the text.
+    pub line: u32,
+    /// The predicate.
+    pub pred: Pred,
+}
+
+/// Notes in order.
+pub type Notes = ListOf<Note>;
+
 /// A program as its text gives it.
 #[derive(Drop)]
 pub struct Loaded {
+    /// The clauses, each with its line.
     pub program: Program,
+    /// Each predicate that a clause calls and that has no clauses, once, in the order of the first calls, with the line of
+    /// the clause of that call.
+    pub warnings: Notes,
 }
 
 #[cfg(test)]

@@ -1,4 +1,5 @@
-use crate::{LoadText, load};
+use crate::{LoadText, Note, load, query_warnings};
+use apd_plain::read_query;
 use apd_term::faults::LoadCause;
 use apd_term::names::Names;
 use std::alloc::Global;
@@ -16,7 +17,7 @@ fn loaded(alloc: Global, text: &str) -> Result<u32, LoadText> {
     }
 }
 
-const REFUSED: [(&str, u32); 9] = [
+const REFUSED: [(&str, u32); 10] = [
     ("q(1).\ntrue.\n", 2),
     ("q(1).\n\n% q\n", 3),
     (":- dynamic q/1.\n", 1),
@@ -24,17 +25,49 @@ const REFUSED: [(&str, u32); 9] = [
     ("q(1).\nq(2)\n", 2),
     ("q(mod).\n", 1),
     ("q(1).\n \n", 2),
-    ("q(1) :- r.\n", 1),
+    ("p :- .\n", 1),
+    ("q(1) :- r\n", 1),
     ("\n\nq(1).\r\nq(2).", 3),
 ];
 
-const LOADED: [(&str, u32); 6] = [
+const LOADED: [(&str, u32); 8] = [
     ("", 0),
     ("\n\n", 0),
     ("q(1).\nq(2).\n", 2),
     ("q(1).\nq(2).", 2),
     ("\nq(1).\n\n\nq(X,f(X)).\nr.", 3),
     ("q(1).", 1),
+    ("q(1) :- r.\n", 1),
+    ("p(X) :- q(X, Y), p(Y).\nq(1, 2).\n", 2),
+];
+
+/// The line, the name and the number of arguments of a predicate.
+type Called = (u32, &'static str, u8);
+
+/// Texts of programs, and what there is to warn of.
+const WARNED: [(&str, &[Called]); 6] = [
+    ("p.\nq(1).\n", &[]),
+    ("p :- p.\n", &[]),
+    ("p :- q(X).\n", &[(1, "q", 1)]),
+    (
+        "p :- q, r, q.\nq :- s, r.\ns(1).\n",
+        &[(1, "r", 0), (2, "s", 0)],
+    ),
+    (
+        "\np :- a(X).\nr :- a, a(X, Y), a(X).\n",
+        &[(2, "a", 1), (3, "a", 0), (3, "a", 2)],
+    ),
+    (
+        "p :- z.\n\np :- y.\np :- z, x.\ny.\n",
+        &[(1, "z", 0), (4, "x", 0)],
+    ),
+];
+
+/// Queries over a program of `q(1).`, and what there is to warn of.
+const ASKED: [(&str, &[Called]); 3] = [
+    ("?- q(X).", &[]),
+    ("?- r, q(X), r, q.", &[(0, "r", 0), (0, "q", 0)]),
+    ("?- s(q(1), X).", &[(0, "s", 2)]),
 ];
 
 #[test]
@@ -71,5 +104,36 @@ fn a_program_has_20000_clauses(rt: HostRuntime) -> Result<(), Fail> {
     };
     let refused = loaded(alloc, text.as_str());
     assert_eq!(rt; refused, Err(fault));
+    Ok(())
+}
+
+/// Whether the notes are these.
+fn are_noted(names: &Names, notes: &[Note], called: &[Called]) -> bool {
+    let same = notes.iter().zip(called.iter()).all(|(note, call)| {
+        let (line, name, arity) = *call;
+        note.line == line
+            && note.pred.arity == arity
+            && names.text(note.pred.name) == name.as_bytes()
+    });
+    same && notes.len() == called.len()
+}
+
+#[test]
+fn predicates_without_clauses_are_noted(rt: HostRuntime) -> Result<(), Fail> {
+    let alloc = rt.alloc();
+    for (text, called) in WARNED {
+        let mut names = Names::new(alloc);
+        let loaded = load(alloc, text.as_bytes(), &mut names)?;
+        let noted = are_noted(&names, loaded.warnings.as_slice(), called);
+        assert!(rt; noted, "{text}");
+    }
+    for (line, asked) in ASKED {
+        let mut names = Names::new(alloc);
+        let loaded = load(alloc, b"q(1).\n", &mut names)?;
+        let query = read_query(alloc, &mut names, line.as_bytes())?.ok_or("plain")?;
+        let notes = query_warnings(alloc, &loaded.program, query.tuple.body.as_slice())?;
+        let noted = are_noted(&names, notes.as_slice(), asked);
+        assert!(rt; noted, "{line}");
+    }
     Ok(())
 }

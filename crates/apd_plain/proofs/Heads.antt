@@ -1,8 +1,7 @@
 -- Clauses and queries, from what is read of their lines.
-use Rattle.std.proofs.Common.{◌≡◌, ℕ, ◌-◌, Bool, true, false, eqb, Option, Some, None, List, [], ◌∷◌, ◌++◌, length, map, refl, sym, ◌∙◌, ap, subst, arith}
+use Rattle.std.proofs.Common.{◌≡◌, ℕ, ◌-◌, Bool, true, false, Option, Some, None, List, [], ◌∷◌, ◌++◌, length, map, refl, sym, ◌∙◌, ap, subst, arith}
 use Rattle.std.specs.Option.{option_or}
 use Rattle.std.specs.List.{range_with_len}
-use Rattle.std.proofs.lemmas.Bool.Decides.{nat_tests}
 use Rattle.apd_term.specs.declared.tuple.Tuple.{Tuple}
 use Rattle.apd_term.specs.declared.run.Query.{Query}
 use Rattle.apd_term.specs.Term.{Term, variable}
@@ -11,7 +10,7 @@ use Rattle.apd_plain.specs.declared.goals.Behind.TheVariants as behinds
 use Rattle.apd_plain.specs.Words.{Token, stop, tokens_of}
 use Rattle.apd_plain.specs.Naming.{variables_in, variable_words}
 use Rattle.apd_plain.specs.Grammar.{Reading, ◌>>=◌, max_levels, max_goals, fact_with, rule_with, atom_at, goals_at, clause_at, query_at}
-use Rattle.apd_plain.specs.Lines.{clause_of_line, query_of_line, fact_of_line, goal_of_line, fact_with_body, query_with_body, list_term}
+use Rattle.apd_plain.specs.Lines.{clause_of_line, query_of_line, list_term}
 use Rattle.apd_plain.specs.Marks.{tokens_from}
 use Rattle.apd_plain.specs.Steps.{IsAhead, variables_from}
 use Rattle.apd_term.specs.Growth.{Grown, GrowsBy}
@@ -123,46 +122,3 @@ ahead_of_goals line all seen h a = subst (λ ts. IsAhead all seen (variable_word
 -- a body that is empty
 pub fact_same : (line : List ℕ) (names : List (List ℕ)) (head : Term) (body : List Term) → body ≡ [] → GivesClause line names (Some (record { head = head; body = [] })) → GivesClause line names (Some (record { head = head; body = body }))
 fact_same line names head body e h m = h m ∙ ap (λ (b : List Term). let o : Option Tuple = Some (record { head = head; body = b }) in o) (sym e)
-
--- what the line is as a fact, and as a query of one goal
-abbrev pub GivesFact : List ℕ → List (List ℕ) → Option Tuple → Type 0
-GivesFact line names o = (more : List (List ℕ)) → fact_of_line (names ++ more) line ≡ o
-
-abbrev pub GivesGoal : List ℕ → List (List ℕ) → Option Query → Type 0
-GivesGoal line names o = (more : List (List ℕ)) → goal_of_line (names ++ more) line ≡ o
-
-fact_by : (t : Tuple) (body : List Term) → eqb (length body) 0 ≡ true → fact_with_body t body ≡ Some t
-fact_by t [] e = refl
-fact_by t (g ∷ gs) e = absurd (grind (arith, nat_tests))
-
-rule_by : (t : Tuple) (body : List Term) → eqb (length body) 0 ≡ false → fact_with_body t body ≡ None
-rule_by t [] e = cc
-rule_by t (g ∷ gs) e = refl
-
-pub is_fact : (line : List ℕ) (names : List (List ℕ)) (t : Tuple) → GivesClause line names (Some t) → eqb (length t.body) 0 ≡ true → GivesFact line names (Some t)
-is_fact line names t h e m = ap (λ (o : Option Tuple). o >>= λ x. fact_with_body x x.body) (h m) ∙ fact_by t t.body e
-
-pub is_rule : (line : List ℕ) (names : List (List ℕ)) (t : Tuple) → GivesClause line names (Some t) → eqb (length t.body) 0 ≡ false → GivesFact line names None
-is_rule line names t h e m = ap (λ (o : Option Tuple). o >>= λ x. fact_with_body x x.body) (h m) ∙ rule_by t t.body e
-
-pub is_no_clause : (line : List ℕ) (names : List (List ℕ)) → GivesClause line names None → GivesFact line names None
-is_no_clause line names h m = ap (λ (o : Option Tuple). o >>= λ x. fact_with_body x x.body) (h m)
-
-goal_by : (q : Query) (body : List Term) → eqb (length body) 1 ≡ true → query_with_body q body ≡ Some q
-goal_by q [] e = cc
-goal_by q (g ∷ []) e = refl
-goal_by q (g ∷ h ∷ gs) e = absurd (grind (arith, nat_tests))
-
-goals_by : (q : Query) (body : List Term) → eqb (length body) 1 ≡ false → query_with_body q body ≡ None
-goals_by q [] e = refl
-goals_by q (g ∷ []) e = cc
-goals_by q (g ∷ h ∷ gs) e = refl
-
-pub is_goal : (line : List ℕ) (names : List (List ℕ)) (q : Query) → GivesQuery line names (Some q) → eqb (length q.tuple.body) 1 ≡ true → GivesGoal line names (Some q)
-is_goal line names q h e m = ap (λ (o : Option Query). o >>= λ x. query_with_body x x.tuple.body) (h m) ∙ goal_by q q.tuple.body e
-
-pub are_goals : (line : List ℕ) (names : List (List ℕ)) (q : Query) → GivesQuery line names (Some q) → eqb (length q.tuple.body) 1 ≡ false → GivesGoal line names None
-are_goals line names q h e m = ap (λ (o : Option Query). o >>= λ x. query_with_body x x.tuple.body) (h m) ∙ goals_by q q.tuple.body e
-
-pub is_no_query : (line : List ℕ) (names : List (List ℕ)) → GivesQuery line names None → GivesGoal line names None
-is_no_query line names h m = ap (λ (o : Option Query). o >>= λ x. query_with_body x x.tuple.body) (h m)

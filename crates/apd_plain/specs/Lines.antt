@@ -29,24 +29,6 @@ query_of_line names line =
       vars = variables;
     })
 
--- a clause without goals
-abbrev pub fact_with_body : Tuple → List Term → Option Tuple
-fact_with_body t [] = Some t
-fact_with_body t (g ∷ gs) = None
-
--- until rules are read: the fact that a line is
-abbrev pub fact_of_line : List (List ℕ) → List ℕ → Option Tuple
-fact_of_line names line = clause_of_line names line >>= λ t. fact_with_body t t.body
-
--- a query with one goal
-abbrev pub query_with_body : Query → List Term → Option Query
-query_with_body q (g ∷ []) = Some q
-query_with_body q gs = None
-
--- until rules are read: the query of one goal that a line is
-abbrev pub goal_of_line : List (List ℕ) → List ℕ → Option Query
-goal_of_line names line = query_of_line names line >>= λ q. query_with_body q q.tuple.body
-
 -- a query that can be run: goals that may be called, at least one
 pub record Runs (q : Query) : Type 0 where
   pub runnable : IsRunnable q.tuple

@@ -10,7 +10,7 @@ mod operands;
 mod terms;
 mod unfinished;
 
-pub use lines::{read_clause, read_fact, read_goal, read_query};
+pub use lines::{read_clause, read_query};
 
 #[cfg(test)]
 mod tests;

@@ -3,7 +3,7 @@
 ghost use Rattle.std.specs.Prelude.{◌≡◌, ℕ, ◌<◌, ◌≤◌, ◌+◌, ◌-◌, ◌++◌, List, length, map, IfOk, IfSome};
 ghost use Rattle.std.specs.List.{range_with_len};
 ghost use Rattle.apd_term.specs.Term.{variable};
-ghost use Rattle.apd_plain.specs.Lines.{clause_of_line, query_of_line, fact_of_line, goal_of_line, list_term, Runs};
+ghost use Rattle.apd_plain.specs.Lines.{clause_of_line, query_of_line, list_term, Runs};
 ghost use Rattle.apd_clauses.specs.Clauses.{IsClause};
 ghost use Rattle.apd_term.specs.Named.{TupleIsNamed};
 ghost use Rattle.apd_term.specs.Growth.{GrowsBy};
@@ -148,38 +148,4 @@ pub fn read_query(
     ensures named { IfOk result (λ r. IfSome r (λ q. TupleIsNamed (length names.new) q.tuple)) }
 {
     plain_query(alloc, names, line)
-}
-
-/// Reads a line of a program of facts: the fact that it is; none where it isn't plain or has goals.
-pub fn read_fact(alloc: Global, names: &mut Names, line: &[u8]) -> Result<Option<Tuple>, AllocError>
-    requires { length names.old + length line.now < 4000000000 }
-    ensures names { GrowsBy (length line.now) names.old names.new }
-    ensures read { IfOk result (λ r. (more : List (List ℕ)) → fact_of_line (names.new ++ more) line.now ≡ r) }
-    ensures clause { IfOk result (λ r. IfSome r IsClause) }
-    ensures named { IfOk result (λ r. IfSome r (TupleIsNamed (length names.new))) }
-{
-    let Some(tuple) = read_clause(alloc, names, line)? else {
-        return Ok(None);
-    };
-    if tuple.body.len() == 0 {
-        return Ok(Some(tuple));
-    }
-    Ok(None)
-}
-
-/// Reads a query of one goal; none where the line isn't plain or has further goals.
-pub fn read_goal(alloc: Global, names: &mut Names, line: &[u8]) -> Result<Option<Query>, AllocError>
-    requires { length names.old + length line.now < 4000000000 }
-    ensures names { GrowsBy (length line.now) names.old names.new }
-    ensures read { IfOk result (λ r. (more : List (List ℕ)) → goal_of_line (names.new ++ more) line.now ≡ r) }
-    ensures runs { length line.now ≤ 1000000000 → IfOk result (λ r. IfSome r Runs) }
-    ensures named { IfOk result (λ r. IfSome r (λ q. TupleIsNamed (length names.new) q.tuple)) }
-{
-    let Some(query) = read_query(alloc, names, line)? else {
-        return Ok(None);
-    };
-    if query.tuple.body.len() == 1 {
-        return Ok(Some(query));
-    }
-    Ok(None)
 }

@@ -1,4 +1,4 @@
-use crate::{read_clause, read_fact, read_goal, read_query};
+use crate::{read_clause, read_query};
 use apd_term::names::Names;
 use apd_term::term::{NameId, Sym};
 use std::alloc::{AllocError, Global};
@@ -17,18 +17,6 @@ fn is_plain(alloc: Global, line: &str) -> Result<bool, AllocError> {
         return Ok(read_query(alloc, &mut names, line.as_bytes())?.is_some());
     }
     Ok(read_clause(alloc, &mut names, line.as_bytes())?.is_some())
-}
-
-/// Whether the line is a query of one goal, or a fact.
-fn is_single(alloc: Global, line: &str) -> Result<bool, AllocError> {
-    let mut names = Names::new(alloc);
-    if line.len() > LONGEST {
-        return Ok(false);
-    }
-    if line.as_bytes().starts_with(b"?") {
-        return Ok(read_goal(alloc, &mut names, line.as_bytes())?.is_some());
-    }
-    Ok(read_fact(alloc, &mut names, line.as_bytes())?.is_some())
 }
 
 /// What stands before a long part, what is repeated before and behind its middle, how often, and the middle.
@@ -176,13 +164,6 @@ const NOT_PLAIN: [&str; 75] = [
     "?- true.",
 ];
 
-const SINGLE: [(&str, bool); 4] = [
-    ("q(X).", true),
-    ("q(X) :- r.", false),
-    ("?- q(X).", true),
-    ("?- q(X), r.", false),
-];
-
 #[test]
 fn plain_lines_are_read(rt: HostRuntime) -> Result<(), Fail> {
     let alloc = rt.alloc();
@@ -198,16 +179,6 @@ fn plain_lines_are_read(rt: HostRuntime) -> Result<(), Fail> {
         let text = long_line(alloc, part, last)?;
         let long = is_plain(alloc, text.as_str())?;
         assert_eq!(rt; long, expected);
-    }
-    Ok(())
-}
-
-#[test]
-fn facts_and_goals_are_read(rt: HostRuntime) -> Result<(), Fail> {
-    let alloc = rt.alloc();
-    for (line, expected) in SINGLE {
-        let single = is_single(alloc, line)?;
-        assert_eq!(rt; single, expected, "{line}");
     }
     Ok(())
 }

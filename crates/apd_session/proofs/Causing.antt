@@ -8,12 +8,13 @@ use Rattle.apd_console.specs.Talk.{run, replies, ending_of}
 use Rattle.apd_console.specs.declared.line.Line.{Line}
 use Rattle.apd_console.specs.declared.line.Line.TheVariants.{Text, TooLong}
 use Rattle.apd_load.specs.Program.{Loads, refused, loads, program_of}
-use Rattle.apd_plain.specs.Lines.{goal_of_line}
+use Rattle.apd_plain.specs.Lines.{query_of_line}
 use Rattle.apd_term.specs.declared.run.Query.{Query}
 use Rattle.apd_text.specs.declared.entry.Entry.{Entry}
-use Rattle.apd_session.specs.Causes.{Comes, FileHas, IsProgram, status_for, status_of_input, status_of_load, status_of_options, status_of_text}
+use Rattle.apd_session.specs.Causes.{Comes, FileHas, IsLoadable, status_for, status_of_input, status_of_load, status_of_options, status_of_text}
 use Rattle.apd_session.specs.Outcome.{IsMet, IsSaid, Meets}
-use Rattle.apd_session.specs.Session.{World, Loading, Gives, Breaks, Options, Told, after_load, after_options, after_words, options_of, session_of, status_after}
+use Rattle.apd_session.specs.Session.{World, Loading, Gives, Breaks, Told, after_load, after_options, after_words, session_of, status_after}
+use Rattle.apd_session.specs.Words.{Options, options_of}
 use Rattle.apd_session.specs.Steps.{command_read, is_blank, step, talker}
 use Rattle.apd_session.specs.declared.state.State.{State}
 use Rattle.apd_session.specs.declared.status.Status.{Status}
@@ -28,7 +29,7 @@ read_stays names s (Some q) = refl
 text_stays : (names : List (List ℕ)) (s : State) (line : List ℕ) (b : Bool) → is_blank line ≡ b → (step names s (Text line)).quits ≡ false
 unfolding step
 text_stays names s line true is = rw is refl
-text_stays names s line false is = rw is (read_stays names s (goal_of_line names line))
+text_stays names s line false is = rw is (read_stays names s (query_of_line names line))
 
 stays : (names : List (List ℕ)) (s : State) (line : Line) → (step names s line).quits ≡ false
 unfolding step
@@ -85,13 +86,13 @@ status_comes words names content left now R Q st log x y meaning = (
 )
 
 -- where all is right and nothing fails
-text_done : (input : List ℕ) (o : Loads) → IsProgram o → length input < 16777216 → status_of_text input Ended o ≡ statuses.Done
+text_done : (input : List ℕ) (o : Loads) → IsLoadable o → length input < 16777216 → status_of_text input Ended o ≡ statuses.Done
 text_done input (refused line cause) is few = absurd is
 text_done input (loads program) is few =
     let test : leb 16777216 (length input) ≡ false = lt-leb _ _ few in
     rw test refl
 
-file_done : (words names : List (List ℕ)) (content : List ℕ → Option (List ℕ)) (text input : List ℕ) → FileHas words content text → length text ≤ 1048576 → IsProgram (program_of names text) → length input < 16777216 →
+file_done : (words names : List (List ℕ)) (content : List ℕ → Option (List ℕ)) (text input : List ℕ) → FileHas words content text → length text ≤ 1048576 → IsLoadable (program_of names text) → length input < 16777216 →
     status_for words names record { program = Gives text; input = input; ends = Ended } ≡ statuses.Done
 file_done words names content text input file size is few =
     let test : leb 1048577 (length text) ≡ false = lt-leb _ _ (omega (arith, size)) in
@@ -107,7 +108,7 @@ not_write st (inr (inr is)) never = inr is
 
 pub session_done : (words names : List (List ℕ)) (content : List ℕ → Option (List ℕ)) (left now : Option (List ℕ)) (R Q W : Type 0) (st : Status) (log : List Entry) (x y : Option (List ℕ)) →
     Meets (session_of words names) words content left now R Q st log x y → (st ≡ statuses.WriteFault → W) →
-    (text input : List ℕ) → FileHas words content text → length text ≤ 1048576 → IsProgram (program_of names text) → left ≡ Some input → length input < 16777216 → (R → ⊥) → (Q → ⊥) → (W → ⊥) →
+    (text input : List ℕ) → FileHas words content text → length text ≤ 1048576 → IsLoadable (program_of names text) → left ≡ Some input → length input < 16777216 → (R → ⊥) → (Q → ⊥) → (W → ⊥) →
     (st ≡ statuses.Done) ⊎ (st ≡ statuses.Memory)
 session_done words names content left now R Q W st log x y meaning write text input file size is given few no_loads no_reads no_writes =
     let same = world_is words names content left now R Q meaning.0 text input (options_of words) refl meaning.1 (some_content (options_of words) file.0 content text file.1 file.2) given no_loads no_reads in

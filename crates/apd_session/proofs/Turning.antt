@@ -11,20 +11,21 @@ use Rattle.apd_clauses.specs.Clauses.{tuples_of}
 use Rattle.apd_term.proofs.Named.{TupleIsNamed-more}
 use Rattle.apd_term.specs.declared.run.Query.{Query}
 use Rattle.apd_term.specs.declared.tuple.Tuple.{Tuple}
-use Rattle.apd_term.specs.declared.term.Pred.{Pred}
+use Rattle.apd_load.specs.declared.Note.{Note}
+use Rattle.apd_load.specs.Warnings.{query_warnings}
 use Rattle.apd_text.specs.declared.entry.Entry.{Entry}
 use Rattle.apd_term.specs.Named.{AllTuplesNamed}
 use Rattle.apd_session.specs.Commands.{LineGrows, step_for}
 use Rattle.apd_term.specs.Growth.{Grown}
 use Rattle.apd_session.specs.Running.{IsReady}
-use Rattle.apd_session.specs.Steps.{talker, query_said, warnings_for, without_clauses, called_in}
+use Rattle.apd_session.specs.Steps.{talker, query_said, warned, warnings_for}
 use Rattle.apd_session.specs.declared.commands.Command.{Command}
 use Rattle.apd_session.specs.declared.commands.Command.TheVariants.{Nothing, Refused, Query as Asks}
 use Rattle.apd_session.specs.declared.state.State.{State}
+use Rattle.apd_session.specs.declared.warnings.Caller.TheVariants as callers
 use Rattle.apd_console.specs.declared.line.Line.{Line}
 use Rattle.apd_console.specs.declared.line.Line.TheVariants.{Text, TooLong}
 use Rattle.apd_session.proofs.Running.{said_for}
-use Rattle.apd_session.proofs.Warning.{warned}
 
 pub Grown-self : (names : List (List ℕ)) → Grown names names
 Grown-self names = ([], sym (append-nil names))
@@ -64,9 +65,9 @@ stays_on t s line k l x y z w a b c d log log_now hears reads goes says writes s
     subst (λ (next : State). Talks (replies t s) (at k x a log z c) (at l y b log_now w d) (replies t next)) stays (Talks-line t s line k l x y z w a b c d log log_now hears reads goes says writes)
 
 -- a query's warnings and its run
-pub query_parts : (names : List (List ℕ)) (s : State) (q : Query) (ps : List Pred) → ps ≡ without_clauses s.program (called_in [] q.tuple.body) → warned names ps ++ said_for names s q ∷ [] ≡ query_said names s q
+pub query_parts : (names : List (List ℕ)) (s : State) (q : Query) (ns : List Note) → ns ≡ query_warnings s.program q.tuple.body → warned names callers.Query ns ++ said_for names s q ∷ [] ≡ query_said names s q
 unfolding query_said warnings_for
-query_parts names s q ps is = ap (λ (l : List Pred). warned names l ++ said_for names s q ∷ []) is
+query_parts names s q ns is = ap (λ (l : List Note). warned names callers.Query l ++ said_for names s q ∷ []) is
 
 -- a conversation that goes on: what was said so far comes first, whatever names are kept in the end
 pub record IsGoing (s : State) (k l : Kept) (x y : Option (List ℕ)) (a b : ℕ) (log log_now : Log) (z w : Option (List ℕ)) (c d : ℕ) : Type 0 where

@@ -19,7 +19,8 @@ use Rattle.apd_load.specs.Program.{program_of}
 use Rattle.apd_text.specs.declared.entry.Entry.{Entry}
 use Rattle.apd_text.specs.declared.entry.Entry.TheVariants as entry
 use Rattle.apd_session.specs.Steps.{begun, plain}
-use Rattle.apd_session.specs.Session.{World, Loading, Gives, Breaks, Options, Told, tells, told_of, status_after, options_of, after_load, after_words, session_of}
+use Rattle.apd_session.specs.Session.{World, Loading, Gives, Breaks, Told, tells, told_of, status_after, after_load, after_words, session_of}
+use Rattle.apd_session.specs.Words.{Options, options_of}
 use Rattle.apd_session.specs.Outcome.{Answers, IsDeaf, IsLoading, IsMet, IsSaid, IsWhole, Meets, status_of}
 use Rattle.apd_session.specs.declared.status.Status.{Status}
 use Rattle.apd_session.specs.declared.status.Status.TheVariants as statuses

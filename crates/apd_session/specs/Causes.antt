@@ -2,7 +2,8 @@
 use Rattle.std.specs.Prelude.{ℕ, ◌≡◌, ◌⊎◌, List, length, if◌then◌else◌, Option, None, Some, nat_le, nat_lt, ⊤}
 use Rattle.apd_console.specs.Lines.{InputEnd, Ended, Fails}
 use Rattle.apd_load.specs.Program.{Loads, refused, loads, program_of}
-use Rattle.apd_session.specs.Session.{World, Loading, Gives, Breaks, Options, options_of}
+use Rattle.apd_session.specs.Session.{World, Loading, Gives, Breaks}
+use Rattle.apd_session.specs.Words.{Options, options_of}
 use Rattle.apd_session.specs.declared.status.Status.{Status}
 use Rattle.apd_session.specs.declared.status.Status.TheVariants as status
 
@@ -38,9 +39,9 @@ abbrev pub Comes : Status → Status → Type 0
 Comes result due = (result ≡ due) ⊎ ((result ≡ status.WriteFault) ⊎ (result ≡ status.Memory))
 
 -- a text is a program, and not refused
-abbrev pub IsProgram : Loads → Type 0
-IsProgram (refused line cause) = ⊥
-IsProgram (loads program) = ⊤
+abbrev pub IsLoadable : Loads → Type 0
+IsLoadable (refused line cause) = ⊥
+IsLoadable (loads program) = ⊤
 
 -- the words name a file, whose content is this text
 abbrev pub FileHas : List (List ℕ) → (List ℕ → Option (List ℕ)) → List ℕ → Type 0

@@ -1,9 +1,9 @@
 pub mod Runs
 pub mod Printing
 pub mod Steps
+pub mod Words
 pub mod Session
 pub mod Outcome
 pub mod Running
-pub mod Warned
 pub mod Commands
 pub mod Causes

@@ -1,16 +1,16 @@
 -- A whole session: from the words, the program's text, the input and the names that are kept in the end to what is said and the status.
-use Rattle.std.specs.Prelude.{ℕ, List, [], ◌∷◌, length, Bool, false, if◌then◌else◌, Option, None, Some, nat_lt, nat_eq}
+use Rattle.std.specs.Prelude.{ℕ, List, [], ◌∷◌, length, if◌then◌else◌, Option, None, Some, nat_lt}
 use Rattle.apd_console.specs.Lines.{InputEnd}
 use Rattle.apd_console.specs.Talk.{Said, onto, replies}
 use Rattle.apd_console.specs.Utterance.{Utterance}
 use Rattle.apd_console.specs.declared.talk.Ending.{Ending}
 use Rattle.apd_console.specs.declared.talk.Ending.TheVariants as ending
 use Rattle.apd_load.specs.Program.{Loads, refused, loads, program_of}
-use Rattle.apd_ports.specs.declared.filter.Filter.{Filter}
-use Rattle.apd_ports.specs.declared.filter.Filter.TheVariants.{Off}
+use Rattle.apd_load.specs.Warnings.{warnings_of}
 use Rattle.apd_text.specs.declared.entry.Entry.{Entry}
-use Rattle.apd_text.specs.declared.entry.Entry.TheVariants.{Loaded, UsageRefused, ProgramRefused, FileTooLong, InputFault}
-use Rattle.apd_session.specs.Steps.{plain, talker}
+use Rattle.apd_text.specs.declared.entry.Entry.TheVariants.{UsageRefused, ProgramRefused, FileTooLong, InputFault}
+use Rattle.apd_session.specs.Steps.{load_said, plain, talker}
+use Rattle.apd_session.specs.Words.{Options, options_of}
 use Rattle.apd_session.specs.declared.status.Status.{Status}
 use Rattle.apd_session.specs.declared.status.Status.TheVariants as status
 
@@ -36,26 +36,10 @@ pub record World : Type 0 where
   pub input : List ℕ
   pub ends : InputEnd
 
--- what the words ask for
-pub record Options : Type 0 where
-  pub program : List ℕ
-  pub budget : ℕ
-  pub answers : ℕ
-  pub filter : Filter
-
 -- what is said, and the status
 pub record Told : Type 0 where
   pub utterances : List (Utterance Entry)
   pub status : Status
-
-abbrev pub begins_with_dash : List ℕ → Bool
-begins_with_dash [] = false
-begins_with_dash (b ∷ word) = nat_eq b 45
-
--- the program's own name, and the name of a file
-unfoldable pub options_of : List (List ℕ) → Option Options
-options_of (own ∷ file ∷ []) = if begins_with_dash file then None else Some (record { program = file; budget = 100000; answers = 1000000; filter = Off })
-options_of words = None
 
 abbrev pub status_after : Ending → Status
 status_after ending.Done = status.Done
@@ -72,7 +56,7 @@ tells names entry st = record { utterances = plain names entry ∷ []; status = 
 abbrev pub after_load : List (List ℕ) → Options → List ℕ → InputEnd → Loads → Told
 after_load names options input ends (refused line cause) = tells names (ProgramRefused line cause) status.Program
 after_load names options input ends (loads program) =
-    told_of (onto (plain names (Loaded (length program)) ∷ [])
+    told_of (onto (load_said names program (warnings_of program))
     (replies (talker names) (record { program = program; budget = options.budget; answers = options.answers; filter = options.filter }) 16777216 input ends))
 
 abbrev pub after_words : List (List ℕ) → World → Options → Loading → Told

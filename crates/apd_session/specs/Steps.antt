@@ -1,23 +1,24 @@
 -- What a session says to each line. Names are numbered as they are when the session has ended.
-use Rattle.std.specs.Prelude.{ℕ, List, [], ◌∷◌, ◌++◌, map, false, nat_eq, Bool, if◌then◌else◌, Option, None, Some}
-use Rattle.std.specs.List.{list_all, list_any}
-use Rattle.apd_term.specs.Term.{Term, predicate_of}
-use Rattle.apd_term.specs.declared.term.Pred.{Pred}
+use Rattle.std.specs.Prelude.{ℕ, List, [], ◌∷◌, ◌++◌, length, map, false, nat_eq, Bool, if◌then◌else◌, Option, None, Some}
+use Rattle.std.specs.List.{list_all}
 use Rattle.apd_term.specs.declared.run.Query.{Query}
 use Rattle.apd_clauses.specs.declared.clause.Clause.{Clause}
-use Rattle.apd_clauses.specs.Clauses.{same_pred, is_for}
 use Rattle.apd_console.specs.Lines.{Close, AtEnd, AtFault, AtLimit}
 use Rattle.apd_console.specs.Talk.{Step, Talker}
 use Rattle.apd_console.specs.Utterance.{Utterance}
 use Rattle.apd_console.specs.declared.line.Line.{Line}
 use Rattle.apd_console.specs.declared.line.Line.TheVariants.{Text, TooLong}
-use Rattle.apd_plain.specs.Lines.{goal_of_line}
+use Rattle.apd_load.specs.declared.Note.{Note}
+use Rattle.apd_load.specs.Warnings.{query_warnings}
+use Rattle.apd_plain.specs.Lines.{query_of_line}
 use Rattle.apd_text.specs.Entries.{text_of}
 use Rattle.apd_text.specs.declared.entry.Refusal.TheVariants as refusal
 use Rattle.apd_text.specs.declared.entry.Entry.{Entry}
 use Rattle.apd_text.specs.declared.entry.Entry.TheVariants.{Warning, Loaded, Run, Refused, UsageRefused, ProgramRefused, FileTooLong, InputFault, InputOver}
 use Rattle.apd_session.specs.Runs.{run_said}
 use Rattle.apd_session.specs.declared.state.State.{State}
+use Rattle.apd_session.specs.declared.warnings.Caller.{Caller}
+use Rattle.apd_session.specs.declared.warnings.Caller.TheVariants as callers
 
 -- an entry whose text follows from it alone
 abbrev pub plain : List (List ℕ) → Entry → Utterance Entry
@@ -35,23 +36,22 @@ begun (FileTooLong n) = FileTooLong n
 begun InputFault = InputFault
 begun InputOver = InputOver
 
--- the predicates of the goals after those of others, each once
-abbrev pub with_pred : List Pred → Option Pred → List Pred
-with_pred ps None = ps
-with_pred ps (Some p) = if list_any (λ (q : Pred). same_pred q p) ps then ps else ps ++ p ∷ []
+-- the line that a warning tells: that of the clause that calls, and none where a query calls
+abbrev pub line_told : Caller → Note → Option ℕ
+line_told callers.Clause n = Some n.line
+line_told callers.Query n = None
 
-abbrev pub called_in : List Pred → List Term → List Pred
-called_in ps [] = ps
-called_in ps (g ∷ gs) = called_in (with_pred ps (predicate_of g)) gs
+-- a warning for each note
+abbrev pub warned : List (List ℕ) → Caller → List Note → List (Utterance Entry)
+warned names caller notes = map (λ (n : Note). plain names (Warning (line_told caller n) n.pred)) notes
 
--- those of the predicates that have no clauses
-abbrev pub without_clauses : List Clause → List Pred → List Pred
-without_clauses program [] = []
-without_clauses program (p ∷ ps) = if list_any (is_for p) program then without_clauses program ps else p ∷ without_clauses program ps
+-- the warnings of a program, and that it is loaded
+unfoldable pub load_said : List (List ℕ) → List Clause → List Note → List (Utterance Entry)
+load_said names program notes = warned names callers.Clause notes ++ plain names (Loaded (length program)) ∷ []
 
 -- a warning for each predicate that the query calls and that has no clauses
 unfoldable pub warnings_for : List (List ℕ) → List Clause → Query → List (Utterance Entry)
-warnings_for names program q = map (λ (p : Pred). plain names (Warning None p)) (without_clauses program (called_in [] q.tuple.body))
+warnings_for names program q = warned names callers.Query (query_warnings program q.tuple.body)
 
 -- a query's warnings and its run
 unfoldable pub query_said : List (List ℕ) → State → Query → List (Utterance Entry)
@@ -75,7 +75,7 @@ command_read names s (Some q) = stays s (query_said names s q)
 -- a line in a command's place
 unfoldable pub step : List (List ℕ) → State → Line → Step Entry State
 step names s TooLong = not_built names s
-step names s (Text line) = if is_blank line then stays s [] else command_read names s (goal_of_line names line)
+step names s (Text line) = if is_blank line then stays s [] else command_read names s (query_of_line names line)
 
 -- after the last line
 abbrev pub closing : List (List ℕ) → Close → List (Utterance Entry)

@@ -7,7 +7,7 @@ ghost use Rattle.apd_session.specs.Commands.{CanObey, LineFits, LineGrows, step_
 ghost use Rattle.apd_session.specs.Steps.{is_blank, step};
 
 use apd_console::Line;
-use apd_plain::read_goal;
+use apd_plain::read_query;
 use apd_term::names::Names;
 use apd_term::{Query, Text};
 use apd_text::Refusal;
@@ -41,7 +41,7 @@ fn command_of(alloc: Global, names: &mut Names, text: &Text) -> Result<Command, 
     if is_blank(text.bytes()) {
         return Ok(Command::Nothing);
     }
-    match read_goal(alloc, names, text.bytes()) {
+    match read_query(alloc, names, text.bytes()) {
         Ok(Some(query)) => Ok(Command::Query(query)),
         Ok(None) => Ok(Command::Refused(Refusal::NotBuilt)),
         Err(error) => Err(error),

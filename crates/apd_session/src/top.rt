@@ -1,28 +1,30 @@
 //! The whole of a session.
-ghost use Rattle.std.specs.Prelude.{◌≡◌, ◌<◌, ◌≤◌, ◌+◌, ◌++◌, ◌⊎◌, List, ℕ, [], ◌∷◌, map, length, Some, None, IfSome, MatchResult, string_bytes};
+ghost use Rattle.std.specs.Prelude.{◌≡◌, ◌<◌, ◌≤◌, ◌+◌, ◌++◌, ◌⊎◌, List, ℕ, [], map, length, Some, None, IfSome, MatchResult, string_bytes};
 ghost use Rattle.apd_console.specs.Console.{IsKept, fresh, room_of};
 ghost use Rattle.apd_console.specs.Lines.{InputEnd, Ended};
 ghost use Rattle.apd_console.specs.Talk.{Breaks, Ends, at, onto, replies};
 ghost use Rattle.apd_io.specs.Outside.{Rose};
 ghost use Rattle.apd_load.specs.Program.{program_of};
+ghost use Rattle.apd_load.specs.Warnings.{NotesAreNamed, warnings_of};
 ghost use Rattle.apd_term.specs.StandardNames.{standard_names};
-ghost use Rattle.apd_text.specs.declared.entry.Entry.TheVariants as entries;
 ghost use Rattle.apd_text.specs.Named.{EntryIsNamed};
 ghost use Rattle.apd_term.specs.Growth.{Grown};
-ghost use Rattle.apd_session.specs.Causes.{Comes, FileHas, IsProgram, status_for};
+ghost use Rattle.apd_session.specs.Causes.{Comes, FileHas, IsLoadable, status_for};
 ghost use Rattle.apd_session.specs.Outcome.{Answers, IsMet, IsSaid, IsWhole, Meets};
 ghost use Rattle.apd_session.specs.Running.{IsReady};
-ghost use Rattle.apd_session.specs.Session.{Gives, Options, World, after_load, options_of, session_of, tells};
-ghost use Rattle.apd_session.specs.Steps.{begun, plain, talker};
+ghost use Rattle.apd_session.specs.Session.{Gives, World, after_load, session_of, tells};
+ghost use Rattle.apd_session.specs.Steps.{begun, load_said, talker};
+ghost use Rattle.apd_session.specs.Words.{Options, options_of};
 
 use crate::say::say;
 use crate::state::State;
 use crate::status::{Status, status_after, status_of};
 use crate::turns::converse;
+use crate::warnings::say_loaded;
 use crate::words::{Asked, read_words};
 use apd_console::{Console, Ending, Trouble};
 use apd_io::{Files, LoadFault, Sink, Source};
-use apd_load::{LoadText, load};
+use apd_load::{LoadText, Loaded, Note, load};
 use apd_term::Text;
 use apd_text::{Entry, Log};
 use std::alloc::Global;
@@ -48,30 +50,32 @@ fn end_with<K: Sink>(
     }
 }
 
-/// Says that the program is loaded, and hears the lines of the input.
+/// Says the warnings of the program and that it is loaded, and hears the lines of the input.
 fn begin<S: Source, K: Sink>(
     alloc: Global,
     state: &State,
+    notes: &[Note],
     console: &mut Console,
     input: &mut S,
     out: &mut K,
     log: &mut Log,
 ) -> Result<Ending, Trouble>
     requires ready { IsReady (length log.old.names) state.now }
+    requires warnings { notes.now ≡ warnings_of state.now.program }
+    requires noted { NotesAreNamed (length log.old.names) notes.now }
     requires few { length log.old.names ≤ 1000000000 }
     requires start { console.old ≡ fresh }
     ensures talk { (names : List (List ℕ)) → Grown log.new.names names → MatchResult result
-        (λ e. Ends (λ room more ends. onto (plain names (entries.Loaded (length state.now.program)) ∷ []) (replies (talker names) state.now room more ends))
+        (λ e. Ends (λ room more ends. onto (load_said names state.now.program (warnings_of state.now.program)) (replies (talker names) state.now room more ends))
         (at console.old (S.left input.old) (S.faults input.old) log.old.entries (K.held out.old) (K.faults out.old))
         (at console.new (S.left input.new) (S.faults input.new) log.new.entries (K.held out.new) (K.faults out.new)) e)
-        (λ t. Breaks begun (λ room more ends. onto (plain names (entries.Loaded (length state.now.program)) ∷ []) (replies (talker names) state.now room more ends))
+        (λ t. Breaks begun (λ room more ends. onto (load_said names state.now.program (warnings_of state.now.program)) (replies (talker names) state.now room more ends))
         (at console.old (S.left input.old) (S.faults input.old) log.old.entries (K.held out.old) (K.faults out.old))
         (at console.new (S.left input.new) (S.faults input.new) log.new.entries (K.held out.new) (K.faults out.new)) t) }
     ensures names { Grown log.old.names log.new.names }
     ensures sound { IsKept console.new }
 {
-    let clauses = state.program.count();
-    match say(alloc, out, log, Entry::Loaded { clauses }) {
+    match say_loaded(alloc, &state.program, notes, out, log) {
         Ok(()) => converse(alloc, state, console, input, out, log),
         Err(trouble) => Err(trouble),
     }
@@ -96,14 +100,15 @@ fn talk<S: Source, K: Sink>(
     ensures read { result ≡ Status.ReadFault → Rose (S.faults input.old) (S.faults input.new) }
     ensures write { result ≡ Status.WriteFault → Rose (K.faults out.old) (K.faults out.new) }
 {
-    let program = match load(alloc, text.bytes(), &mut log.names) {
-        Ok(loaded) => loaded.program,
+    let loaded = match load(alloc, text.bytes(), &mut log.names) {
+        Ok(loaded) => loaded,
         Err(LoadText::Refused { line, cause }) => {
             let entry = Entry::ProgramRefused { line, cause };
             return end_with(alloc, out, log, entry, Status::Program);
         }
         Err(LoadText::Memory) => return Status::Memory,
     };
+    let Loaded { program, warnings } = loaded;
     let state = State {
         program,
         budget: asked.budget,
@@ -113,7 +118,7 @@ fn talk<S: Source, K: Sink>(
     let Ok(mut console) = Console::new(alloc) else {
         return Status::Memory;
     };
-    match begin(alloc, &state, &mut console, input, out, log) {
+    match begin(alloc, &state, warnings.as_slice(), &mut console, input, out, log) {
         Ok(ending) => status_after(ending),
         Err(trouble) => status_of(trouble),
     }
@@ -152,7 +157,9 @@ fn serve<F: Files, S: Source, K: Sink>(
 
 /// A session: loads the program that the words name, then hears the lines of the input, and says what there is to say.
 ///
-/// The first word is the program's own name, and the second the name of a file. The log's entries
+/// The first word is the program's own name. Then `--budget N`, `--answers N` and `--trace` may follow, in this order, with
+/// N from 1 to 1,000,000 in at most 7 digits, and last the name of a file, which doesn't begin with `-`. Without a budget a
+/// run shows at most 100,000 ports, and without a limit on answers 1,000,000; the ports are printed where `--trace` is given. The log's entries
 /// are what was said, and the sink has their texts. The status tells how the session ended;
 /// [`Status::ReadFault`] where a load or a read failed, [`Status::WriteFault`] where a write failed,
 /// and [`Status::Memory`] where there was no memory.
@@ -186,7 +193,7 @@ pub fn session<F: Files, S: Source, K: Sink>(
         (Rose (F.faults files.old) (F.faults files.new)) (Rose (S.faults input.old) (S.faults input.new)) world × Comes result (status_for (map (λ w. string_bytes w) words.now) names world) }
 
     // Where the words name a file that is a program, the input isn't over its limit, all is told and no count rises, the session is done, or memory ran out.
-    ensures done { (text bytes : List ℕ) → FileHas (map (λ w. string_bytes w) words.now) (F.content files.old) text → length text ≤ 1048576 → IsProgram (program_of log.new.names text) → S.left input.old ≡ Some bytes → length bytes < 16777216 →
+    ensures done { (text bytes : List ℕ) → FileHas (map (λ w. string_bytes w) words.now) (F.content files.old) text → length text ≤ 1048576 → IsLoadable (program_of log.new.names text) → S.left input.old ≡ Some bytes → length bytes < 16777216 →
         (Rose (F.faults files.old) (F.faults files.new) → ⊥) → (Rose (S.faults input.old) (S.faults input.new) → ⊥) → (Rose (K.faults out.old) (K.faults out.new) → ⊥) →
         (result ≡ Status.Done) ⊎ (result ≡ Status.Memory) }
 

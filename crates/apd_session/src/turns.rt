@@ -15,9 +15,10 @@ use crate::commands::{Command, read_command};
 use crate::query::run_query;
 use crate::say::say;
 use crate::state::State;
-use crate::warnings::{missing, warn};
+use crate::warnings::{Caller, warn};
 use apd_console::{Console, Ending, LineEnd, Next, Trouble};
 use apd_io::{Sink, Source};
+use apd_load::query_warnings;
 use apd_term::Query;
 use apd_text::{Entry, Log};
 use std::alloc::Global;
@@ -38,10 +39,10 @@ fn answer<K: Sink>(
     ensures names { log.new.names ≡ log.old.names }
     ensures cause { HasWriteCause (K.faults out.old) (K.faults out.new) result }
 {
-    let Ok(preds) = missing(alloc, &state.program, query.tuple.body.as_slice()) else {
+    let Ok(notes) = query_warnings(alloc, &state.program, query.tuple.body.as_slice()) else {
         return Err(Trouble::Memory);
     };
-    match warn(alloc, preds.as_slice(), out, log) {
+    match warn(alloc, Caller::Query, notes.as_slice(), out, log) {
         Ok(()) => {}
         Err(trouble) => return Err(trouble),
     }

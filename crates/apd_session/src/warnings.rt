@@ -1,104 +1,55 @@
-// The warnings of a query.
-ghost use Rattle.std.specs.Prelude.{◌≡◌, ◌++◌, List, ℕ, [], ◌∷◌, length, map, true, OnOk, OnErr, IfOk, IsTrue, ◌↔◌, None};
-ghost use Rattle.std.specs.List.{list_any};
-ghost use Rattle.apd_clauses.specs.Clauses.{is_for, same_pred};
-ghost use Rattle.apd_term.specs.Term.{predicate_of};
+// Warnings of predicates that are called and have no clauses.
+ghost use Rattle.std.specs.Prelude.{◌≡◌, ◌++◌, List, ℕ, length, OnOk, OnErr};
 ghost use Rattle.apd_console.specs.Utterance.{Utters, UttersFront};
-ghost use Rattle.apd_term.specs.Named.{AllNamed};
-ghost use Rattle.apd_text.specs.declared.entry.Entry.TheVariants as entries;
+ghost use Rattle.apd_load.specs.Warnings.{NotesAreNamed};
 ghost use Rattle.apd_session.specs.Outcome.{HasWriteCause};
-ghost use Rattle.apd_session.specs.Warned.{PredsAreNamed};
-ghost use Rattle.apd_session.specs.Steps.{begun, plain, called_in, with_pred, without_clauses};
+ghost use Rattle.apd_session.specs.Steps.{begun, line_told, load_said, warned};
 
 use crate::say::say;
 use apd_clauses::Program;
 use apd_console::Trouble;
 use apd_io::Sink;
-use apd_term::{Flat, Pred, Preds};
+use apd_load::Note;
 use apd_text::{Entry, Log};
-use std::alloc::{AllocError, Global};
+use std::alloc::Global;
 
-fn is_among(preds: &[Pred], pred: Pred) -> bool
-    ensures { result ≡ list_any (λ q. same_pred q pred) preds.now }
-{
-    preds
-        .iter()
-        .any(|q| q.name.0 == pred.name.0 && q.arity == pred.arity)
+/// Who calls a predicate that has no clauses.
+#[derive(Clone, Copy)]
+pub(crate) enum Caller {
+    /// A clause of the program, whose line is told.
+    Clause,
+    /// A query.
+    Query,
 }
 
-/// Notes the predicate of a goal, where it isn't noted yet.
-fn note(preds: &mut Preds, goal: &Flat) -> Result<(), AllocError>
-    ensures { OnOk result (preds.new ≡ with_pred preds.old (predicate_of goal.now)) }
+/// The line that a warning tells.
+fn line_told(caller: Caller, note: Note) -> Option<u32>
+    ensures { result ≡ line_told caller note }
 {
-    let Some(pred) = goal.pred() else {
-        return Ok(());
-    };
-    if is_among(preds.as_slice(), pred) {
-        return Ok(());
+    match caller {
+        Caller::Clause => Some(note.line),
+        Caller::Query => None,
     }
-    preds.push(pred)?;
-    Ok(())
 }
 
-/// The predicates that the goals call, each once, in order.
-fn called(alloc: Global, goals: &[Flat]) -> Result<Preds, AllocError>
-    ensures { IfOk result (λ preds. preds ≡ called_in [] goals.now) }
-{
-    let mut preds = Preds::new(alloc);
-    'goals: for goal in goals {
-        note(&mut preds, goal)?;
-    }
-    Ok(preds)
-}
-
-fn has_clauses(program: &Program, pred: Pred) -> bool
-    ensures { result ≡ list_any (is_for pred) program.now }
-{
-    let count = program.clauses_of(pred).len();
-    if count == 0 {
-        return false;
-    }
-    true
-}
-
-/// Those of the predicates that have no clauses.
-fn without_clauses(alloc: Global, program: &Program, preds: &[Pred]) -> Result<Preds, AllocError>
-    ensures { IfOk result (λ found. found ≡ without_clauses program.now preds.now) }
-{
-    let mut found = Preds::new(alloc);
-    'preds: for pred in preds {
-        if !has_clauses(program, *pred) {
-            found.push(*pred)?;
-        }
-    }
-    Ok(found)
-}
-
-/// The predicates that the goals call and that have no clauses.
-pub(crate) fn missing(alloc: Global, program: &Program, goals: &[Flat]) -> Result<Preds, AllocError>
-    ensures { IfOk result (λ preds. preds ≡ without_clauses program.now (called_in [] goals.now)) }
-{
-    let all = called(alloc, goals)?;
-    without_clauses(alloc, program, all.as_slice())
-}
-
-/// Says a warning for each of the predicates.
+/// Says a warning for each of the notes.
 pub(crate) fn warn<K: Sink>(
     alloc: Global,
-    preds: &[Pred],
+    caller: Caller,
+    notes: &[Note],
     out: &mut K,
     log: &mut Log,
 ) -> Result<(), Trouble>
-    requires { PredsAreNamed (length log.old.names) preds.now }
-    ensures ok { OnOk result ((more : List (List ℕ)) → Utters log.old.entries log.new.entries (K.held out.old) (K.held out.new) (map (λ p. plain (log.old.names ++ more) (entries.Warning None p)) preds.now)) }
-    ensures err { OnErr result ((more : List (List ℕ)) → UttersFront begun log.old.entries log.new.entries (K.held out.old) (K.held out.new) (map (λ p. plain (log.old.names ++ more) (entries.Warning None p)) preds.now)) }
+    requires { NotesAreNamed (length log.old.names) notes.now }
+    ensures ok { OnOk result ((more : List (List ℕ)) → Utters log.old.entries log.new.entries (K.held out.old) (K.held out.new) (warned (log.old.names ++ more) caller notes.now)) }
+    ensures err { OnErr result ((more : List (List ℕ)) → UttersFront begun log.old.entries log.new.entries (K.held out.old) (K.held out.new) (warned (log.old.names ++ more) caller notes.now)) }
     ensures names { log.new.names ≡ log.old.names }
     ensures cause { HasWriteCause (K.faults out.old) (K.faults out.new) result }
 {
-    'preds: for pred in preds {
+    'notes: for note in notes {
         let entry = Entry::Warning {
-            line: None,
-            pred: *pred,
+            line: line_told(caller, *note),
+            pred: note.pred,
         };
         match say(alloc, out, log, entry) {
             Ok(()) => {}
@@ -106,4 +57,29 @@ pub(crate) fn warn<K: Sink>(
         }
     }
     Ok(())
+}
+
+/// Says the warnings of a program, and that it is loaded.
+pub(crate) fn say_loaded<K: Sink>(
+    alloc: Global,
+    program: &Program,
+    notes: &[Note],
+    out: &mut K,
+    log: &mut Log,
+) -> Result<(), Trouble>
+    requires { NotesAreNamed (length log.old.names) notes.now }
+    ensures ok { OnOk result ((more : List (List ℕ)) → Utters log.old.entries log.new.entries (K.held out.old) (K.held out.new) (load_said (log.old.names ++ more) program.now notes.now)) }
+    ensures err { OnErr result ((more : List (List ℕ)) → UttersFront begun log.old.entries log.new.entries (K.held out.old) (K.held out.new) (load_said (log.old.names ++ more) program.now notes.now)) }
+    ensures names { log.new.names ≡ log.old.names }
+    ensures cause { HasWriteCause (K.faults out.old) (K.faults out.new) result }
+{
+    match warn(alloc, Caller::Clause, notes, out, log) {
+        Ok(()) => {}
+        Err(trouble) => return Err(trouble),
+    }
+    let clauses = program.count();
+    match say(alloc, out, log, Entry::Loaded { clauses }) {
+        Ok(()) => Ok(()),
+        Err(trouble) => Err(trouble),
+    }
 }

@@ -1,7 +1,7 @@
 // The words of the command line.
-ghost use Rattle.std.specs.Prelude.{◌≡◌, ◌<◌, ◌≤◌, map, MatchOption, IfSome, Some, None};
+ghost use Rattle.std.specs.Prelude.{◌≡◌, ◌<◌, ◌≤◌, ◌^◌, map, MatchOption, IfSome, Some, None};
 ghost use Rattle.std.specs.String.{string_bytes};
-ghost use Rattle.apd_session.specs.Session.{options_of, Options};
+ghost use Rattle.apd_session.specs.Words.{Options, file_from, filter_from, is_number, limit_at, limit_from, limit_of, options_of};
 
 use apd_ports::Filter;
 
@@ -14,24 +14,97 @@ pub(crate) struct Asked<'a> {
     pub filter: Filter,
 }
 
+/// The most ports that a run shows where the words give no budget.
 const BUDGET: u32 = 100_000;
 
+/// The most answers that a run shows where the words don't limit them.
 const ANSWERS: u32 = 1_000_000;
 
+const MOST: u32 = 1_000_000;
+
+const MOST_DIGITS: usize = 7;
+
+/// Whether the word is 1 to 7 decimal digits.
+fn is_number(word: &[u8]) -> bool
+    ensures { result ≡ is_number word.now }
+{
+    1 <= word.len() && (word.len() <= MOST_DIGITS && word.iter().all(|b| b.is_ascii_digit()))
+}
+
+/// The number, where it is from 1 to 1,000,000.
+fn limit_at(number: u32) -> Option<u32>
+    ensures limit { result ≡ limit_at number }
+    ensures within { IfSome result (λ n. (0 < n) × (n ≤ 1000000)) }
+{
+    if 1 <= number && number <= MOST {
+        return Some(number);
+    }
+    None
+}
+
+/// The limit that a word of 1 to 7 decimal digits writes.
+fn limit_of(word: &str) -> Option<u32>
+    ensures limit { result ≡ limit_of word.now }
+    ensures within { IfSome result (λ n. (0 < n) × (n ≤ 1000000)) }
+{
+    if !is_number(word.as_bytes()) {
+        return None;
+    }
+    match word.parse::<u32>() {
+        Ok(number) => limit_at(number),
+        Err(_) => None,
+    }
+}
+
+/// The limit that follows an option of this name, and the words behind it; without the option the usual limit. None where
+/// what follows is no limit.
+fn read_limit<'a>(words: &'a [String], name: &str, usual: u32) -> Option<(u32, &'a [String])>
+    requires { (0 < usual) × (usual ≤ 1000000) }
+    ensures limit { MatchOption result (limit_from name.now usual (map (λ w. string_bytes w) words.now) ≡ None)
+        (λ r. limit_from name.now usual (map (λ w. string_bytes w) words.now) ≡ Some (r.0, map (λ w. string_bytes w) r.1.now)) }
+    ensures within { IfSome result (λ r. (0 < r.0) × (r.0 ≤ 1000000)) }
+{
+    match words {
+        [word, value, rest @ ..] if word.as_str() == name => Some((limit_of(value.as_str())?, rest)),
+        _ => Some((usual, words)),
+    }
+}
+
+/// The filter that a run begins with, and the words behind it.
+fn read_filter(words: &[String]) -> (Filter, &[String])
+    ensures { filter_from (map (λ w. string_bytes w) words.now) ≡ (result.0, map (λ w. string_bytes w) result.1.now) }
+{
+    match words {
+        [word, rest @ ..] if word.as_str() == "--trace" => (Filter::All, rest),
+        _ => (Filter::Off, words),
+    }
+}
+
+/// The name of the file, where it is the only word.
+fn read_file(words: &[String]) -> Option<&str>
+    ensures { MatchOption result (file_from (map (λ w. string_bytes w) words.now) ≡ None) (λ f. file_from (map (λ w. string_bytes w) words.now) ≡ Some f.now) }
+{
+    match words {
+        [file] if !file.as_bytes().starts_with(b"-") => Some(file.as_str()),
+        _ => None,
+    }
+}
+
 /// The options that the words give, where they keep their rules.
-#[tactic(auto, unfolding(crate::specs::Session::options_of))]
 pub(crate) fn read_words(words: &[String]) -> Option<Asked<'_>>
     ensures options { MatchOption result (options_of (map (λ w. string_bytes w) words.now) ≡ None)
         (λ a. options_of (map (λ w. string_bytes w) words.now) ≡ Some record { program = a.program.now; budget = a.budget; answers = a.answers; filter = a.filter }) }
     ensures limits { IfSome result (λ a. (a.budget ≤ 1000000) × (0 < a.answers) × (a.answers ≤ 1000000)) }
 {
-    match words {
-        [_, file] if !file.as_bytes().starts_with(b"-") => Some(Asked {
-            program: file.as_str(),
-            budget: BUDGET,
-            answers: ANSWERS,
-            filter: Filter::Off,
-        }),
-        _ => None,
-    }
+    let (_, words) = words.split_first()?;
+    let (budget, words) = read_limit(words, "--budget", BUDGET)?;
+    let (answers, words) = read_limit(words, "--answers", ANSWERS)?;
+    let (filter, words) = read_filter(words);
+    let program = read_file(words)?;
+    Some(Asked {
+        program,
+        budget,
+        answers,
+        filter,
+    })
 }

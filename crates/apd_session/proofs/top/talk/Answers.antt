@@ -34,6 +34,9 @@ begin-requires-clause-ready g c = record {
   named = c.in-Ok.ensures.named;
 }
 
+pub begin-requires-clause-warnings : goal.begin-requires-clause-warnings
+begin-requires-clause-warnings g c = c.as_slice.ensures ∙ c.in-Ok.ensures.warnings
+
 pub returns-in-Ok-begin-clause-answers : goal.returns-in-Ok-begin-clause-answers
 returns-in-Ok-begin-clause-answers g c = λ names grew options is.
     let all : Grown c.load.new.names names = Grown-more c.load.new.names c.begin.new.log.names names c.begin.ensures.names grew in

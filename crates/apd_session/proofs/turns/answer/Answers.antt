@@ -1,12 +1,13 @@
 use Rattle.std.proofs.Common.{◌≡◌, ◌∙◌, ap, refl, subst, List, ℕ, [], ◌∷◌, ◌++◌, length}
 use Rattle.apd_console.specs.Utterance.{Utterance, Utters, UttersFront}
 use Rattle.apd_console.proofs.Uttering.{UttersFront-none, UttersFront-less, UttersFront-more, Utters-more}
-use Rattle.apd_term.specs.Term.{Term}
 use Rattle.apd_text.specs.declared.entry.Entry.{Entry}
-use Rattle.apd_session.specs.Steps.{begun, without_clauses, called_in}
+use Rattle.apd_load.proofs.Calling.{query_named}
+use Rattle.apd_load.specs.Warnings.{query_warnings}
+use Rattle.apd_session.specs.Steps.{begun, warned}
+use Rattle.apd_session.specs.declared.warnings.Caller.TheVariants.{Query}
 use Rattle.apd_session.proofs.Running.{said_for}
 use Rattle.apd_session.proofs.Turning.{query_parts}
-use Rattle.apd_session.proofs.Warning.{called_named, without_named, warned}
 use Rattle.apd_session.proofs.turns.answer.Goals as goal
 
 pub returns-in_default-clause-err : goal.returns-in_default-clause-err
@@ -14,40 +15,39 @@ returns-in_default-clause-err g c = λ more. UttersFront-none begun _ _ _ _ refl
 
 pub warn-requires : goal.warn-requires
 warn-requires g c =
-    let n = length c.args.log.now.names in
-    let is : c.as_slice-2.result.now ≡ without_clauses c.args.state.now.program (called_in [] c.args.query.now.tuple.body) =
-    c.as_slice-2.ensures ∙ c.in-Ok.ensures ∙ ap (λ (goals : List Term). without_clauses c.args.state.now.program (called_in [] goals)) c.as_slice.ensures in
-    rw is (without_named (length c.args.log.now.names) c.args.state.now.program (called_in [] c.args.query.now.tuple.body) (called_named (length c.args.log.now.names) [] c.args.query.now.tuple.body tt c.requires.named.1))
+    let is : c.as_slice-2.result.now ≡ query_warnings c.args.state.now.program c.args.query.now.tuple.body =
+    c.as_slice-2.ensures ∙ c.in-Ok.ensures ∙ ap (query_warnings c.args.state.now.program) c.as_slice.ensures in
+    rw is (query_named (length c.args.log.now.names) c.args.state.now.program c.args.query.now.tuple.body c.requires.named.1)
 
 pub returns-in-Err-clause-err : goal.returns-in-Err-clause-err
 returns-in-Err-clause-err g c = λ more.
-    let is : c.as_slice-2.result.now ≡ without_clauses c.args.state.now.program (called_in [] c.args.query.now.tuple.body) =
-    c.as_slice-2.ensures ∙ c.in-Ok.ensures ∙ ap (λ (goals : List Term). without_clauses c.args.state.now.program (called_in [] goals)) c.as_slice.ensures in
+    let is : c.as_slice-2.result.now ≡ query_warnings c.args.state.now.program c.args.query.now.tuple.body =
+    c.as_slice-2.ensures ∙ c.in-Ok.ensures ∙ ap (query_warnings c.args.state.now.program) c.as_slice.ensures in
     let names : List (List ℕ) = c.args.log.now.names ++ more in
     subst (λ (us : List (Utterance Entry)). UttersFront begun c.args.log.now.entries c.warn.new.log.entries (g.K.Sink.held c.args.out.now) (g.K.Sink.held c.warn.new.out) us)
     (query_parts names c.args.state.now c.args.query.now c.as_slice-2.result.now is)
-    (UttersFront-less begun _ _ _ _ (warned names c.as_slice-2.result.now) (said_for names c.args.state.now c.args.query.now ∷ []) (c.in-Err.ensures.err more))
+    (UttersFront-less begun _ _ _ _ (warned names Query c.as_slice-2.result.now) (said_for names c.args.state.now c.args.query.now ∷ []) (c.in-Err.ensures.err more))
 
 pub returns-in-Ok-run_query-clause-ok : goal.returns-in-Ok-run_query-clause-ok
 returns-in-Ok-run_query-clause-ok g c = λ more.
-    let is : c.as_slice-2.result.now ≡ without_clauses c.args.state.now.program (called_in [] c.args.query.now.tuple.body) =
-    c.as_slice-2.ensures ∙ c.in-Ok.ensures ∙ ap (λ (goals : List Term). without_clauses c.args.state.now.program (called_in [] goals)) c.as_slice.ensures in
+    let is : c.as_slice-2.result.now ≡ query_warnings c.args.state.now.program c.args.query.now.tuple.body =
+    c.as_slice-2.ensures ∙ c.in-Ok.ensures ∙ ap (query_warnings c.args.state.now.program) c.as_slice.ensures in
     let names : List (List ℕ) = c.args.log.now.names ++ more in
     let runs : Utters c.warn.new.log.entries c.run_query.new.log.entries (g.K.Sink.held c.warn.new.out) (g.K.Sink.held c.run_query.new.out) (said_for names c.args.state.now c.args.query.now ∷ []) =
     subst (λ (l : List (List ℕ)). Utters c.warn.new.log.entries c.run_query.new.log.entries (g.K.Sink.held c.warn.new.out) (g.K.Sink.held c.run_query.new.out) (said_for (l ++ more) c.args.state.now c.args.query.now ∷ []))
     c.warn.ensures.names (c.in-Ok-run_query.ensures.ok more) in
     subst (λ (us : List (Utterance Entry)). Utters c.args.log.now.entries c.run_query.new.log.entries (g.K.Sink.held c.args.out.now) (g.K.Sink.held c.run_query.new.out) us)
     (query_parts names c.args.state.now c.args.query.now c.as_slice-2.result.now is)
-    (Utters-more _ c.warn.new.log.entries _ _ (g.K.Sink.held c.warn.new.out) _ (warned names c.as_slice-2.result.now) (said_for names c.args.state.now c.args.query.now ∷ []) (c.in-Ok-warn.ensures.ok more) runs)
+    (Utters-more _ c.warn.new.log.entries _ _ (g.K.Sink.held c.warn.new.out) _ (warned names Query c.as_slice-2.result.now) (said_for names c.args.state.now c.args.query.now ∷ []) (c.in-Ok-warn.ensures.ok more) runs)
 
 pub returns-clause-err : goal.returns-clause-err
 returns-clause-err g c = λ more.
-    let is : c.as_slice-2.result.now ≡ without_clauses c.args.state.now.program (called_in [] c.args.query.now.tuple.body) =
-    c.as_slice-2.ensures ∙ c.in-Ok.ensures ∙ ap (λ (goals : List Term). without_clauses c.args.state.now.program (called_in [] goals)) c.as_slice.ensures in
+    let is : c.as_slice-2.result.now ≡ query_warnings c.args.state.now.program c.args.query.now.tuple.body =
+    c.as_slice-2.ensures ∙ c.in-Ok.ensures ∙ ap (query_warnings c.args.state.now.program) c.as_slice.ensures in
     let names : List (List ℕ) = c.args.log.now.names ++ more in
     let runs : UttersFront begun c.warn.new.log.entries c.run_query.new.log.entries (g.K.Sink.held c.warn.new.out) (g.K.Sink.held c.run_query.new.out) (said_for names c.args.state.now c.args.query.now ∷ []) =
     subst (λ (l : List (List ℕ)). UttersFront begun c.warn.new.log.entries c.run_query.new.log.entries (g.K.Sink.held c.warn.new.out) (g.K.Sink.held c.run_query.new.out) (said_for (l ++ more) c.args.state.now c.args.query.now ∷ []))
     c.warn.ensures.names (c.in-Err-run_query.ensures.err more) in
     subst (λ (us : List (Utterance Entry)). UttersFront begun c.args.log.now.entries c.run_query.new.log.entries (g.K.Sink.held c.args.out.now) (g.K.Sink.held c.run_query.new.out) us)
     (query_parts names c.args.state.now c.args.query.now c.as_slice-2.result.now is)
-    (UttersFront-more begun _ c.warn.new.log.entries _ _ (g.K.Sink.held c.warn.new.out) _ (warned names c.as_slice-2.result.now) (said_for names c.args.state.now c.args.query.now ∷ []) (c.in-Ok-warn.ensures.ok more) runs)
+    (UttersFront-more begun _ c.warn.new.log.entries _ _ (g.K.Sink.held c.warn.new.out) _ (warned names Query c.as_slice-2.result.now) (said_for names c.args.state.now c.args.query.now ∷ []) (c.in-Ok-warn.ensures.ok more) runs)

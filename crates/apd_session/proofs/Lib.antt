@@ -7,4 +7,4 @@ pub mod Turning
 pub mod Worlds
 pub mod Loading
 pub mod Causing
-pub mod Words
+pub mod Digits

@@ -51,9 +51,9 @@ file_from words = None
 abbrev pub options_from : List (List ℕ) → Option Options
 options_from words =
     option_and_then (λ (budget : ℕ × List (List ℕ)).
-        option_and_then (λ (answers : ℕ × List (List ℕ)).
-            option_map (λ file. record { program = file; budget = budget.0; answers = answers.0; filter = (filter_from answers.1).0 }) (file_from (filter_from answers.1).1))
-        (limit_from (codes "--answers") 1000000 budget.1))
+    option_and_then (λ (answers : ℕ × List (List ℕ)).
+    option_map (λ file. record { program = file; budget = budget.0; answers = answers.0; filter = (filter_from answers.1).0 }) (file_from (filter_from answers.1).1))
+    (limit_from (codes "--answers") 1000000 budget.1))
     (limit_from (codes "--budget") 100000 words)
 
 unfoldable pub options_of : List (List ℕ) → Option Options

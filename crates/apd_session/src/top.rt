@@ -118,7 +118,15 @@ fn talk<S: Source, K: Sink>(
     let Ok(mut console) = Console::new(alloc) else {
         return Status::Memory;
     };
-    match begin(alloc, &state, warnings.as_slice(), &mut console, input, out, log) {
+    match begin(
+        alloc,
+        &state,
+        warnings.as_slice(),
+        &mut console,
+        input,
+        out,
+        log,
+    ) {
         Ok(ending) => status_after(ending),
         Err(trouble) => status_of(trouble),
     }

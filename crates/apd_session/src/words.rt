@@ -1,7 +1,9 @@
 // The words of the command line.
 ghost use Rattle.std.specs.Prelude.{◌≡◌, ◌<◌, ◌≤◌, ◌^◌, map, MatchOption, IfSome, Some, None};
+ghost use Rattle.std.specs.Char.{is_ascii_digit};
+ghost use Rattle.std.specs.List.{list_all};
 ghost use Rattle.std.specs.String.{string_bytes};
-ghost use Rattle.apd_session.specs.Words.{Options, file_from, filter_from, is_number, limit_at, limit_from, limit_of, options_of};
+ghost use Rattle.apd_session.specs.Words.{Options, file_from, filter_from, is_number, limit_at, limit_from, limit_of, options_from, options_of};
 
 use apd_ports::Filter;
 
@@ -24,11 +26,17 @@ const MOST: u32 = 1_000_000;
 
 const MOST_DIGITS: usize = 7;
 
+fn are_digits(word: &[u8]) -> bool
+    ensures { result ≡ list_all is_ascii_digit word.now }
+{
+    word.iter().all(|b| b.is_ascii_digit())
+}
+
 /// Whether the word is 1 to 7 decimal digits.
 fn is_number(word: &[u8]) -> bool
     ensures { result ≡ is_number word.now }
 {
-    1 <= word.len() && (word.len() <= MOST_DIGITS && word.iter().all(|b| b.is_ascii_digit()))
+    1 <= word.len() && (word.len() <= MOST_DIGITS && are_digits(word))
 }
 
 /// The number, where it is from 1 to 1,000,000.
@@ -65,7 +73,10 @@ fn read_limit<'a>(words: &'a [String], name: &str, usual: u32) -> Option<(u32, &
     ensures within { IfSome result (λ r. (0 < r.0) × (r.0 ≤ 1000000)) }
 {
     match words {
-        [word, value, rest @ ..] if word.as_str() == name => Some((limit_of(value.as_str())?, rest)),
+        [word, value, rest @ ..] if word.as_str() == name => {
+            let limit = limit_of(value.as_str())?;
+            Some((limit, rest))
+        }
         _ => Some((usual, words)),
     }
 }
@@ -90,13 +101,12 @@ fn read_file(words: &[String]) -> Option<&str>
     }
 }
 
-/// The options that the words give, where they keep their rules.
-pub(crate) fn read_words(words: &[String]) -> Option<Asked<'_>>
-    ensures options { MatchOption result (options_of (map (λ w. string_bytes w) words.now) ≡ None)
-        (λ a. options_of (map (λ w. string_bytes w) words.now) ≡ Some record { program = a.program.now; budget = a.budget; answers = a.answers; filter = a.filter }) }
+/// The options that the words behind the program's own name give, where they keep their rules.
+fn read_options(words: &[String]) -> Option<Asked<'_>>
+    ensures options { MatchOption result (options_from (map (λ w. string_bytes w) words.now) ≡ None)
+        (λ a. options_from (map (λ w. string_bytes w) words.now) ≡ Some record { program = a.program.now; budget = a.budget; answers = a.answers; filter = a.filter }) }
     ensures limits { IfSome result (λ a. (a.budget ≤ 1000000) × (0 < a.answers) × (a.answers ≤ 1000000)) }
 {
-    let (_, words) = words.split_first()?;
     let (budget, words) = read_limit(words, "--budget", BUDGET)?;
     let (answers, words) = read_limit(words, "--answers", ANSWERS)?;
     let (filter, words) = read_filter(words);
@@ -107,4 +117,17 @@ pub(crate) fn read_words(words: &[String]) -> Option<Asked<'_>>
         answers,
         filter,
     })
+}
+
+/// The options that the words give, where they keep their rules.
+#[tactic(auto, unfolding(crate::specs::Words::options_of))]
+pub(crate) fn read_words(words: &[String]) -> Option<Asked<'_>>
+    ensures options { MatchOption result (options_of (map (λ w. string_bytes w) words.now) ≡ None)
+        (λ a. options_of (map (λ w. string_bytes w) words.now) ≡ Some record { program = a.program.now; budget = a.budget; answers = a.answers; filter = a.filter }) }
+    ensures limits { IfSome result (λ a. (a.budget ≤ 1000000) × (0 < a.answers) × (a.answers ≤ 1000000)) }
+{
+    match words {
+        [_, rest @ ..] => read_options(rest),
+        [] => None,
+    }
 }

@@ -20,9 +20,9 @@ returns-in-Ok-say-clause-ok g c = λ more.
     rw (← c.warn.ensures.names, ← c.count-clauses.ensures.count) (c.in-Ok-say.ensures.ok more) in
     Utters-more _ c.warn.new.log.entries _ _ (g.K.Sink.held c.warn.new.out) _ (warned names Clause c.args.notes.now) (plain names (Loaded (length c.args.program.now)) ∷ []) (c.in-Ok.ensures.ok more) says
 
-pub returns-clause-err : goal.returns-clause-err
+pub returns-in-Err-say-clause-err : goal.returns-in-Err-say-clause-err
 unfolding load_said
-returns-clause-err g c = λ more.
+returns-in-Err-say-clause-err g c = λ more.
     let names : List (List ℕ) = c.args.log.now.names ++ more in
     let says : UttersFront begun c.warn.new.log.entries c.say.new.log.entries (g.K.Sink.held c.warn.new.out) (g.K.Sink.held c.say.new.out) (plain names (Loaded (length c.args.program.now)) ∷ []) =
     rw (← c.warn.ensures.names, ← c.count-clauses.ensures.count) (c.in-Err-say.ensures.err more) in

@@ -1,4 +1,4 @@
-use Rattle.std.proofs.Common.{◌∙◌, ◌+◌, refl, arith, subst, List, ℕ, [], ◌∷◌, ◌++◌, take, drop, length, get_or}
+use Rattle.std.proofs.Common.{◌∙◌, ◌+◌, refl, arith, subst, List, ℕ, [], ◌∷◌, ◌++◌, take, drop, length, get_or, Option}
 use Rattle.std.proofs.lemmas.List.{take_all}
 use Rattle.apd_console.specs.Utterance.{Utterance, Utters, UttersFront}
 use Rattle.apd_console.proofs.Uttering.{Utters-nothing, Utters-more, UttersFront-more, UttersFront-less}
@@ -23,8 +23,10 @@ pub returns-in-Err-clause-err : goal.returns-in-Err-clause-err
 returns-in-Err-clause-err g c = λ more.
     let names : List (List ℕ) = c.args.log.now.names ++ more in
     let x : Note = get_or c.args.notes.now c.notes.note-index the_note in
+    let told : UttersFront begun c.notes.log.entries c.say.new.log.entries (g.K.Sink.held c.notes.out) (g.K.Sink.held c.say.new.out) (plain (c.notes.log.names ++ more) (Warning (line_told c.args.caller x) x.pred) ∷ []) =
+    subst (λ (line : Option ℕ). UttersFront begun c.notes.log.entries c.say.new.log.entries (g.K.Sink.held c.notes.out) (g.K.Sink.held c.say.new.out) (plain (c.notes.log.names ++ more) (Warning line x.pred) ∷ [])) c.line_told.ensures (c.in-Err.ensures.err more) in
     let said : UttersFront begun c.notes.log.entries c.say.new.log.entries (g.K.Sink.held c.notes.out) (g.K.Sink.held c.say.new.out) (plain names (Warning (line_told c.args.caller x) x.pred) ∷ []) =
-    subst (λ (l : List (List ℕ)). UttersFront begun c.notes.log.entries c.say.new.log.entries (g.K.Sink.held c.notes.out) (g.K.Sink.held c.say.new.out) (plain (l ++ more) (Warning (line_told c.args.caller x) x.pred) ∷ [])) c.notes.invariant.0 (c.in-Err.ensures.err more) in
+    subst (λ (l : List (List ℕ)). UttersFront begun c.notes.log.entries c.say.new.log.entries (g.K.Sink.held c.notes.out) (g.K.Sink.held c.say.new.out) (plain (l ++ more) (Warning (line_told c.args.caller x) x.pred) ∷ [])) c.notes.invariant.0 told in
     let front : UttersFront begun c.args.log.now.entries c.say.new.log.entries (g.K.Sink.held c.args.out.now) (g.K.Sink.held c.say.new.out) (warned names c.args.caller (take (c.notes.note-index + 1) c.args.notes.now)) =
     rw (warned_more names c.args.caller c.args.notes.now c.notes.note-index the_note c.notes-test.true)
     (UttersFront-more begun _ c.notes.log.entries _ _ (g.K.Sink.held c.notes.out) _ (warned names c.args.caller (take c.notes.note-index c.args.notes.now)) (plain names (Warning (line_told c.args.caller x) x.pred) ∷ []) (c.notes.invariant.2 more) said) in
@@ -39,8 +41,10 @@ notes-preserved g c = (
   λ more.
       let names : List (List ℕ) = c.args.log.now.names ++ more in
       let x : Note = get_or c.args.notes.now c.notes.note-index the_note in
+      let told : Utters c.notes.log.entries c.say.new.log.entries (g.K.Sink.held c.notes.out) (g.K.Sink.held c.say.new.out) (plain (c.notes.log.names ++ more) (Warning (line_told c.args.caller x) x.pred) ∷ []) =
+      subst (λ (line : Option ℕ). Utters c.notes.log.entries c.say.new.log.entries (g.K.Sink.held c.notes.out) (g.K.Sink.held c.say.new.out) (plain (c.notes.log.names ++ more) (Warning line x.pred) ∷ [])) c.line_told.ensures (c.in-Ok.ensures.ok more) in
       let said : Utters c.notes.log.entries c.say.new.log.entries (g.K.Sink.held c.notes.out) (g.K.Sink.held c.say.new.out) (plain names (Warning (line_told c.args.caller x) x.pred) ∷ []) =
-      subst (λ (l : List (List ℕ)). Utters c.notes.log.entries c.say.new.log.entries (g.K.Sink.held c.notes.out) (g.K.Sink.held c.say.new.out) (plain (l ++ more) (Warning (line_told c.args.caller x) x.pred) ∷ [])) c.notes.invariant.0 (c.in-Ok.ensures.ok more) in
+      subst (λ (l : List (List ℕ)). Utters c.notes.log.entries c.say.new.log.entries (g.K.Sink.held c.notes.out) (g.K.Sink.held c.say.new.out) (plain (l ++ more) (Warning (line_told c.args.caller x) x.pred) ∷ [])) c.notes.invariant.0 told in
       rw (warned_more names c.args.caller c.args.notes.now c.notes.note-index the_note c.notes-test.true)
       (Utters-more _ c.notes.log.entries _ _ (g.K.Sink.held c.notes.out) _ (warned names c.args.caller (take c.notes.note-index c.args.notes.now)) (plain names (Warning (line_told c.args.caller x) x.pred) ∷ []) (c.notes.invariant.2 more) said),
 )

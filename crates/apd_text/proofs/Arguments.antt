@@ -1,6 +1,7 @@
 -- The arguments of a term, one by one.
-use Rattle.std.proofs.Common.{◌≡◌, ℕ, ◌+◌, ◌<◌, ◌≤◌, List, [], ◌∷◌, ◌++◌, length, take, refl, ap, sym, ◌∙◌, arith, append_assoc, length-take, get_or, zero, suc, Some}
-use Rattle.std.specs.Prelude.{slice_get, flat_map}
+use Rattle.std.proofs.Common.{◌≡◌, ℕ, ◌+◌, ◌<◌, ◌≤◌, List, [], ◌∷◌, ◌++◌, length, take, refl, ap, sym, ◌∙◌, arith, append_assoc, length-take, get_or, zero, suc, Some, subst}
+use Rattle.std.specs.Prelude.{slice_get, flat_map, nat_eq, Option, None, Bool, true, false}
+use Rattle.std.proofs.lemmas.Bool.{eqb-true}
 use Rattle.std.proofs.lemmas.List.{append-nil, take_all, take_more}
 use Rattle.std.proofs.lemmas.List.Concat.{flat_map-append}
 use Rattle.apd_term.specs.Term.{Term, Terms, variable, integer, compound, none, more, list_of, size, size_all, arguments, predicate_of}
@@ -8,7 +9,10 @@ use Rattle.apd_term.proofs.Spelling.{slice_get_at}
 use Rattle.apd_term.specs.Names.{text_of_name}
 use Rattle.apd_term.specs.declared.term.Pred.{Pred}
 use Rattle.apd_text.specs.Written.{written, written_arguments, written_further}
-use Rattle.apd_text.specs.Lines.{elements}
+use Rattle.apd_text.specs.Elements.{IsCell}
+use Rattle.apd_text.specs.Lines.{elements, elements_of}
+use Rattle.apd_term.specs.declared.standard.TheConstants.{CELL}
+use Rattle.apd_term.specs.declared.term.NameId.{NameId}
 
 -- an argument is smaller than its term
 pub arg_smaller : (t a : Term) (i : ℕ) → slice_get (arguments t) i ≡ Some a → size a < size t
@@ -82,17 +86,47 @@ pub closing_none : (n : ℕ) → n ≤ 0 → closing n ≡ []
 closing_none zero none_ = refl
 closing_none (suc n) none_ = absurd (omega (arith, none_))
 
--- a term with two arguments is a list's cell
-pub cell_is : (t a b : Term) → slice_get (arguments t) 0 ≡ Some a → slice_get (arguments t) 1 ≡ Some b → elements t ≡ a ∷ elements b
-cell_is (variable v) a b first second = cc
-cell_is (integer i) a b first second = cc
-cell_is (compound f none) a b first second = cc
-cell_is (compound f (more t none)) a b first second = cc
-cell_is (compound f (more t (more u us))) a b first second = cc
+abbrev numbered : ℕ → NameId
+numbered n = record { 0 = n }
 
-pub no_cell : (t : Term) → length (arguments t) < 2 → elements t ≡ []
-no_cell (variable v) few = refl
-no_cell (integer i) few = refl
-no_cell (compound f none) few = refl
-no_cell (compound f (more t none)) few = refl
-no_cell (compound f (more t (more u us))) few = absurd (omega (arith, few))
+abbrev name_in : NameId → Option Pred → NameId
+name_in f None = f
+name_in f (Some p) = p.name
+
+abbrev arity_in : Option Pred → ℕ
+arity_in None = 0
+arity_in (Some p) = p.arity
+
+-- a cell has its element and the elements of its rest, and any other term has none
+pub cell_is : (t a b : Term) → IsCell t → slice_get (arguments t) 0 ≡ Some a → slice_get (arguments t) 1 ≡ Some b → elements t ≡ a ∷ elements b
+cell_is (variable v) a b cell first second = cc
+cell_is (integer i) a b cell first second = cc
+cell_is (compound f none) a b cell first second = cc
+cell_is (compound f (more t none)) a b cell first second = cc
+cell_is (compound f (more t (more u none))) a b cell first second =
+    let name : f ≡ CELL = ap (name_in f) cell in
+    let head : t ≡ a = cc in
+    let rest : u ≡ b = cc in
+    rw (name, head, rest) refl
+cell_is (compound f (more t (more u (more v ts)))) a b cell first second =
+    let three : suc (suc (suc (length (list_of ts)))) ≡ 2 = ap (λ (p : Option Pred). arity_in p) cell in
+    absurd (omega (arith, three))
+
+pub no_cell : (t : Term) → ¬ IsCell t → elements t ≡ []
+no_cell (variable v) not = refl
+no_cell (integer i) not = refl
+no_cell (compound f ts) not = by (nat_eq f.0 CELL.0) refl ts not
+  where
+    none_in : (ts : Terms) → ¬ IsCell (compound CELL ts) → elements_of ts ≡ []
+    none_in none other = refl
+    none_in (more t none) other = refl
+    none_in (more t (more u none)) other = absurd (other refl)
+    none_in (more t (more u (more v us))) other = refl
+
+    by : (b : Bool) → nat_eq f.0 CELL.0 ≡ b → (ts : Terms) → ¬ IsCell (compound f ts) → elements (compound f ts) ≡ []
+    by true is ts other =
+        let number : f.0 ≡ CELL.0 = eqb-true f.0 CELL.0 is in
+        let name : f ≡ CELL = ap (λ (n : ℕ). numbered n) number in
+        let only : ¬ IsCell (compound CELL ts) = subst (λ (g : NameId). ¬ IsCell (compound g ts)) name other in
+        rw is (none_in ts only)
+    by false is ts other = rw is refl

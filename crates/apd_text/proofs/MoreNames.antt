@@ -1,6 +1,7 @@
 -- A text stays where names are put at the end.
 use Rattle.std.proofs.Common.{◌≡◌, ℕ, List, [], ◌∷◌, ◌++◌, length, refl, map}
-use Rattle.std.specs.Prelude.{pos}
+use Rattle.std.specs.Prelude.{pos, Bool, true, false, nat_eq, if◌then◌else◌}
+use Rattle.apd_term.specs.declared.standard.TheConstants.{CELL}
 use Rattle.apd_term.specs.Term.{Term, Terms, variable, integer, compound, none, more}
 use Rattle.apd_term.specs.Named.{IsNamed, AreNamed, AllNamed, TupleIsNamed}
 use Rattle.apd_term.proofs.Named.{TupleIsNamed-canonical}
@@ -42,12 +43,17 @@ mutual
   elements_named : (n : ℕ) (t : Term) → IsNamed n t → AllNamed n (elements t)
   elements_named n (variable v) named = tt
   elements_named n (integer i) named = tt
-  elements_named n (compound f ts) named = elements_of_named n ts named.1
+  elements_named n (compound f ts) named = either (nat_eq f.0 CELL.0) (elements_of_named n ts named.1)
+    where
+      either : (b : Bool) → AllNamed n (elements_of ts) → AllNamed n (if b then elements_of ts else [])
+      either true all = all
+      either false all = tt
 
   elements_of_named : (n : ℕ) (ts : Terms) → AreNamed n ts → AllNamed n (elements_of ts)
   elements_of_named n none named = tt
   elements_of_named n (more t none) named = tt
-  elements_of_named n (more t (more u us)) named = (named.0, elements_named n u named.1.0)
+  elements_of_named n (more t (more u none)) named = (named.0, elements_named n u named.1.0)
+  elements_of_named n (more t (more u (more v us))) named = tt
 
 bindings-more : (names others vars : List (List ℕ)) (values : List Term) → AllNamed (length names) values → bindings (names ++ others) vars values ≡ bindings names vars values
 bindings-more names others [] values named = refl

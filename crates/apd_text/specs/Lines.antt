@@ -1,7 +1,8 @@
 -- The lines of a run: its goals, its ports and answers, and its end.
-use Rattle.std.specs.Prelude.{ℕ, pos, List, [], ◌∷◌, ◌++◌, map, flat_map, codes}
+use Rattle.std.specs.Prelude.{ℕ, pos, List, [], ◌∷◌, ◌++◌, map, flat_map, codes, nat_eq, if◌then◌else◌}
 use Rattle.std.specs.Fmt.{decimal}
 use Rattle.apd_term.specs.Term.{Term, Terms, variable, integer, compound, none, more}
+use Rattle.apd_term.specs.declared.standard.TheConstants.{CELL}
 use Rattle.apd_term.specs.Tuple.{canonical_tuple}
 use Rattle.apd_term.specs.declared.run.Query.{Query}
 use Rattle.apd_term.specs.declared.run.Ran.{Ran}
@@ -36,17 +37,18 @@ port_name Fail = codes "Fail"
 unfoldable pub port_text : List (List ℕ) → Event → List ℕ
 port_text names e = decimal e.box_no ++ codes " " ++ decimal e.depth ++ codes " " ++ port_name e.port ++ codes ": " ++ written names e.atom ++ codes "\n"
 
--- the elements of a list term: the first argument, and the elements of the second
+-- the elements of a list term: of a cell, which is `'.'` of two terms, the first and the elements of the second
 abbrev mutual
   pub elements : Term → List Term
   elements (variable v) = []
   elements (integer i) = []
-  elements (compound f ts) = elements_of ts
+  elements (compound f ts) = if nat_eq f.0 CELL.0 then elements_of ts else []
 
   pub elements_of : Terms → List Term
   elements_of none = []
   elements_of (more t none) = []
-  elements_of (more t (more u us)) = t ∷ elements u
+  elements_of (more t (more u none)) = t ∷ elements u
+  elements_of (more t (more u (more v ts))) = []
 
 abbrev pub binding : List (List ℕ) → List ℕ → Term → List ℕ
 binding names v t = v ++ codes " = " ++ written names t

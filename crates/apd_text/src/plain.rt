@@ -2,9 +2,11 @@
 ghost use Rattle.std.specs.Prelude.{◌≡◌, IfOk, ◌<◌, ◌≤◌, ◌↔◌, IsTrue, None, List, ℕ, length};
 ghost use Rattle.apd_term.specs.Term.{arguments, predicate_of};
 ghost use Rattle.apd_text.specs.Written.{written};
+ghost use Rattle.apd_text.specs.Elements.{IsCell};
 ghost use Rattle.apd_text.specs.Lines.{elements};
 
 use apd_term::names::Names;
+use apd_term::standard::CELL;
 use apd_term::{Atoms, Flat, Sym, Text};
 use std::alloc::{AllocError, Global};
 
@@ -54,12 +56,12 @@ fn mark_before(i: u8) -> u8
     if i == 0 { b'(' } else { b',' }
 }
 
-/// Whether a term has a first argument and a second one.
+/// Whether a term is a list's cell: an element, and the rest of the list.
 fn is_cell(term: &Flat) -> bool
-    ensures { IsTrue result ↔ (2 ≤ length (arguments term.now)) }
+    ensures { IsTrue result ↔ IsCell term.now }
 {
     match term.pred() {
-        Some(pred) => pred.arity >= 2,
+        Some(pred) => pred.name == CELL && pred.arity == 2,
         None => false,
     }
 }

@@ -32,6 +32,17 @@ fn fault_of(fault: HookFault) -> RunFault
     }
 }
 
+/// A run that showed so many ports and answers, and ended so.
+fn ended(end: RunEnd, ports: u32, answers: u32) -> Ran
+    ensures { result ≡ record { end = end; ports = ports; answers = answers } }
+{
+    Ran {
+        end,
+        ports,
+        answers,
+    }
+}
+
 /// Runs a query: shows the first ports and answers of its trace to the hook, and tells how it ended.
 ///
 /// The search is leftmost depth-first SLD search with the occurs check, with the ports of Byrd's
@@ -71,28 +82,16 @@ pub fn run<H: Hook>(
             return Err(RunFault::Memory);
         };
         let Some(item) = next else {
-            return Ok(Ran {
-                end: RunEnd::Exhausted,
-                ports,
-                answers: answered,
-            });
+            return Ok(ended(RunEnd::Exhausted, ports, answered));
         };
         match item {
             Item::Made(_point) => {}
             Item::Error(error, box_no) => {
-                return Ok(Ran {
-                    end: RunEnd::Error(error, box_no),
-                    ports,
-                    answers: answered,
-                });
+                return Ok(ended(RunEnd::Error(error, box_no), ports, answered));
             }
             Item::Passed(event) => {
                 if ports == budget {
-                    return Ok(Ran {
-                        end: RunEnd::Budget,
-                        ports,
-                        answers: answered,
-                    });
+                    return Ok(ended(RunEnd::Budget, ports, answered));
                 }
                 if let Err(fault) = hook.event(&event) {
                     return Err(fault_of(fault));
@@ -105,11 +104,7 @@ pub fn run<H: Hook>(
                 }
                 answered += 1;
                 if answered == answers {
-                    return Ok(Ran {
-                        end: RunEnd::AnswerLimit,
-                        ports,
-                        answers: answered,
-                    });
+                    return Ok(ended(RunEnd::AnswerLimit, ports, answered));
                 }
             }
         }

@@ -9,3 +9,4 @@ pub mod RunFacts
 pub mod Nodes
 pub mod Growing
 pub mod PlainSearch
+pub mod PlainRuns

@@ -33,6 +33,9 @@ use Rattle.apd_engine.proofs.Steps.{opened, few_apart, drop_past}
 pub makes_as : (o : Option Searched) (x y : Out) → x ≡ y → Makes o y → Makes o x
 makes_as o x y is h = subst (Makes o) (sym is) h
 
+pub makes_full : (o : Option Searched) (x : Out) → Makes o x → o ≡ None → IsFull x
+makes_full o x h is = subst (λ y. Makes y x) is h
+
 -- an item before a search, and one after it
 pub emitted : (o : Option Searched) (i j : Item) (rest : Option Searched) (whole : Out) → ((w : Out) → Makes rest w → Makes o (emit i w)) → i ≡ j → Makes rest whole → Makes o (emit j whole)
 emitted o i j rest whole h is made = subst (λ x. Makes o (emit x whole)) is (h whole made)

@@ -43,13 +43,19 @@ search_from-settled-requires t c =
 
 pub search_from-hand-requires : goal.search_from-hand-requires
 search_from-hand-requires t c =
-    let around = c.in_ok-around-in-Exit in
-    (omega (arith, c.decreases), (
-      c.requires.program,
-      (subst (AllWait c.args.counts.boxes) (sym around.ensures.frames) (outer_waits c.args.place.now.frames c.args.counts.boxes c.requires.open),
-      (subst (λ q. IsBelow q around.around.frames) (sym around.ensures.fresh) (outer_below c.args.place.now.fresh c.args.place.now.frames around.around.frames around.ensures.frames c.requires.below),
-      omega (arith, around.ensures.fresh)))
-    ))
+    let around = c.in_ok-around-in-Exit in (
+      omega (arith, c.decreases),
+      (
+        c.requires.program,
+        (
+          subst (AllWait c.args.counts.boxes) (sym around.ensures.frames) (outer_waits c.args.place.now.frames c.args.counts.boxes c.requires.open),
+          (
+            subst (λ q. IsBelow q around.around.frames) (sym around.ensures.fresh) (outer_below c.args.place.now.fresh c.args.place.now.frames around.around.frames around.ensures.frames c.requires.below),
+            omega (arith, around.ensures.fresh),
+          ),
+        ),
+      ),
+    )
 
 pub search_from-returns-in_ok-rest-in-Goal : goal.search_from-returns-in_ok-rest-in-Goal
 search_from-returns-in_ok-rest-in-Goal t c =
@@ -84,13 +90,19 @@ search_from-returns-in-Answer t c =
 
 pub succeeded-hand-requires : goal.succeeded-hand-requires
 succeeded-hand-requires t c =
-    let around = c.in_ok-around in
-    (omega (arith, c.decreases), (
-      c.requires.program,
-      (subst (AllWait c.args.counts.boxes) (sym around.ensures.frames) (outer_waits c.args.entered.now.frames c.args.counts.boxes c.requires.open),
-      (subst (λ q. IsBelow q around.around.frames) (sym around.ensures.fresh) (outer_below c.args.entered.now.fresh c.args.entered.now.frames around.around.frames around.ensures.frames c.requires.below),
-      omega (arith, around.ensures.fresh)))
-    ))
+    let around = c.in_ok-around in (
+      omega (arith, c.decreases),
+      (
+        c.requires.program,
+        (
+          subst (AllWait c.args.counts.boxes) (sym around.ensures.frames) (outer_waits c.args.entered.now.frames c.args.counts.boxes c.requires.open),
+          (
+            subst (λ q. IsBelow q around.around.frames) (sym around.ensures.fresh) (outer_below c.args.entered.now.fresh c.args.entered.now.frames around.around.frames around.ensures.frames c.requires.below),
+            omega (arith, around.ensures.fresh),
+          ),
+        ),
+      ),
+    )
 
 pub succeeded-returns : goal.succeeded-returns
 succeeded-returns t c =
@@ -119,14 +131,22 @@ succeeded-returns t c =
 
 pub tries-tried-requires : goal.tries-tried-requires
 tries-tried-requires t c =
-    let count : length c.numbers-numbers.result.now ≡ length (numbers_for c.args.g.now.atom c.args.program.now) = ap length c.numbers-numbers.ensures in
-    (omega (arith, c.decreases), (
-      c.requires.program,
-      (omega (arith, count, c.clauses-test.true),
-      (omega (arith, c.clauses.invariant.boxes),
-      (AllWait-more c.args.counts.boxes c.clauses.out.counts.boxes c.args.place.now.frames c.clauses.invariant.boxes c.requires.waits,
-      (c.requires.below, c.requires.room))))
-    ))
+    let count : length c.numbers-numbers.result.now ≡ length (numbers_for c.args.g.now.atom c.args.program.now) = ap length c.numbers-numbers.ensures in (
+      omega (arith, c.decreases),
+      (
+        c.requires.program,
+        (
+          omega (arith, count, c.clauses-test.true),
+          (
+            omega (arith, c.clauses.invariant.boxes),
+            (
+              AllWait-more c.args.counts.boxes c.clauses.out.counts.boxes c.args.place.now.frames c.clauses.invariant.boxes c.requires.waits,
+              (c.requires.below, c.requires.room),
+            ),
+          ),
+        ),
+      ),
+    )
 
 pub tries-returns : goal.tries-returns
 tries-returns t c =
@@ -165,8 +185,8 @@ tries-returns-in-Ends t c =
     let next = search_from (tuples_of c.args.program.now) c.args.depth in
     let cs = clauses_for c.args.g.now.atom (tuples_of c.args.program.now) in
     sym (
-      c.clauses.invariant.made
-      ∙ advances_ends (out_of c.clauses.out) (out_of c.tried.new.out) (tries next c.args.place.now.frames c.args.g.now (drop c.clauses.at cs)) (tries next c.args.place.now.frames c.args.g.now (drop (c.clauses.at + 1) cs)) c.in_ok-tried.field-0 c.in_ok-tried.ensures.advances c.in-Ends.is
+    c.clauses.invariant.made
+    ∙ advances_ends (out_of c.clauses.out) (out_of c.tried.new.out) (tries next c.args.place.now.frames c.args.g.now (drop c.clauses.at cs)) (tries next c.args.place.now.frames c.args.g.now (drop (c.clauses.at + 1) cs)) c.in_ok-tried.field-0 c.in_ok-tried.ensures.advances c.in-Ends.is
     )
 
 pub tried-clause-clause-requires-clause-there : goal.tried-clause-clause-requires-clause-there
@@ -195,13 +215,19 @@ tried-begun-requires t c =
     let within : c.args.at < length c.numbers-numbers.result.now = omega (arith, ap length c.numbers-numbers.ensures, c.requires.there) in
     let short = number_runnable g.atom c.args.program.now c.numbers-numbers.result.now c.args.at c.numbers-numbers.ensures within c.clause-clause.result.now c.clause-clause.ensures c.requires.program in
     let there = number_among g.atom c.args.program.now c.numbers-numbers.result.now c.args.at c.numbers-numbers.ensures within c.clause-clause.result.now c.clause-clause.ensures in
-    let renamed = subst (AreRenamed (entering F g rule number counts.points)) c.in-Some.is c.in_ok-entered.ensures.renamed in
-    (omega (arith, c.decreases), (
-      c.requires.program,
-      (entered_open P c.args.depth F g c.args.at number rule counts.points there c.in-Some.frames renamed counts.boxes short c.requires.deep c.requires.waits,
-      (subst (λ o. IfSome o (IsBelow (c.args.place.now.fresh + 4294967297))) c.in-Some.is c.in_ok-entered.ensures.below,
-      omega (arith, c.requires.room)))
-    ))
+    let renamed = subst (AreRenamed (entering F g rule number counts.points)) c.in-Some.is c.in_ok-entered.ensures.renamed in (
+      omega (arith, c.decreases),
+      (
+        c.requires.program,
+        (
+          entered_open P c.args.depth F g c.args.at number rule counts.points there c.in-Some.frames renamed counts.boxes short c.requires.deep c.requires.waits,
+          (
+            subst (λ o. IfSome o (IsBelow (c.args.place.now.fresh + 4294967297))) c.in-Some.is c.in_ok-entered.ensures.below,
+            omega (arith, c.requires.room),
+          ),
+        ),
+      ),
+    )
 
 pub tried-returns-in-None : goal.tried-returns-in-None
 tried-returns-in-None t c =

@@ -7,3 +7,6 @@ pub mod Numbered
 pub mod Steps
 pub mod RunFacts
 pub mod Nodes
+pub mod Growing
+pub mod PlainSearch
+pub mod PlainRuns

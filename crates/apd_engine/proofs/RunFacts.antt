@@ -57,15 +57,15 @@ pub record Showing {H : Type 0} (step : H → Shown → Result (Unit {0}) HookFa
   pub later : faults start ≤ faults hook
 
 -- a silent item is no port, no answer, and is not shown
-shown_of-hold : (p : Point) (xs : List Item) → shown_of (before_event (Made p) xs) ≡ shown_of xs
+pub shown_of-hold : (p : Point) (xs : List Item) → shown_of (before_event (Made p) xs) ≡ shown_of xs
 shown_of-hold p [] = refl
 shown_of-hold p (x ∷ xs) = refl
 
-ports_of-hold : (p : Point) (xs : List Item) → ports_of (before_event (Made p) xs) ≡ ports_of xs
+pub ports_of-hold : (p : Point) (xs : List Item) → ports_of (before_event (Made p) xs) ≡ ports_of xs
 ports_of-hold p [] = refl
 ports_of-hold p (x ∷ xs) = refl
 
-answers_of-hold : (p : Point) (xs : List Item) → answers_of (before_event (Made p) xs) ≡ answers_of xs
+pub answers_of-hold : (p : Point) (xs : List Item) → answers_of (before_event (Made p) xs) ≡ answers_of xs
 answers_of-hold p [] = refl
 answers_of-hold p (x ∷ xs) = refl
 

@@ -65,11 +65,11 @@ goal_at (Some a) f F n g was look ready =
     (omega (arith, ready.1), (slice_get_within f.tuple.body f.done a was, ready.0, omega (arith, ready.1), AllWait-more n (n + 1) F (omega arith) ready.2))
 goal_at None f F n g was look ready = elim (f.box_no == 0) as (λ b. (if b then Answers (canonical f.tuple.head) else Exits (left f F) f.point) ≡ Goal g → (g.depth ≤ n + 1) × AllWait (n + 1) (f ∷ F)) [ true ↦ λ bad. cc | false ↦ λ bad. cc ] look
 
-goal_waits : (F : List Frame) (n : ℕ) (g : Called) → look_of F (n + 1) ≡ Goal g → IsOpen n F → (g.depth ≤ n + 1) × AllWait (n + 1) F
+pub goal_waits : (F : List Frame) (n : ℕ) (g : Called) → look_of F (n + 1) ≡ Goal g → IsOpen n F → (g.depth ≤ n + 1) × AllWait (n + 1) F
 goal_waits [] n g look ready = elim ready [ ]
 goal_waits (f ∷ F) n g look ready = goal_at (goal_of f) f F n g refl look ready
 
-outer_waits : (F : List Frame) (n : ℕ) → IsOpen n F → AllWait n (outer F)
+pub outer_waits : (F : List Frame) (n : ℕ) → IsOpen n F → AllWait n (outer F)
 outer_waits [] n ready = tt
 outer_waits (f ∷ F) n ready = ready.2
 
@@ -116,16 +116,16 @@ opened_under : (n : ℕ) (x : Option (List (ℕ × Term))) (F G : List Frame) �
 opened_under n None F G h ready = elim h [ ]
 opened_under n (Some s) F G h ready = subst (IsOpen n) h.makes (IsOpen-apply n h.there (apply_frames (term_for s) F) (IsOpen-apply n (term_for s) F ready))
 
-opened : (n : ℕ) (o : Option Term) (e : Frame) (F G : List Frame) → AreRenamed (resolved o e F) (Some G) → IsOpen n (e ∷ F) → IsOpen n G
+pub opened : (n : ℕ) (o : Option Term) (e : Frame) (F G : List Frame) → AreRenamed (resolved o e F) (Some G) → IsOpen n (e ∷ F) → IsOpen n G
 opened n None e F G h ready = elim h [ ]
 opened n (Some a) e F G h ready = opened_under n (unifier_of a e.tuple.head) (e ∷ F) G h ready
 
 -- a clause that was entered gives its point, or an error
-begun_made : (next : Next) (g : Called) (others : ℕ → ℕ → Out) (F : List Frame) (n m : ℕ) (p : Point) → is_large_of F ≡ false → Some p ≡ point_in F None → begun next g others F n m ≡ emit (Made p) (and_then (next F n (m + 1)) others)
+pub begun_made : (next : Next) (g : Called) (others : ℕ → ℕ → Out) (F : List Frame) (n m : ℕ) (p : Point) → is_large_of F ≡ false → Some p ≡ point_in F None → begun next g others F n m ≡ emit (Made p) (and_then (next F n (m + 1)) others)
 begun_made next g others [] n m p large is = cc
 begun_made next g others (f ∷ F) n m p large is = let same : p ≡ point_at f None = cc in rw (large, same) refl
 
-begun_large : (next : Next) (g : Called) (others : ℕ → ℕ → Out) (F : List Frame) (n m : ℕ) → is_large_of F ≡ true → begun next g others F n m ≡ emit (Error Size g.box_no) (nothing n m)
+pub begun_large : (next : Next) (g : Called) (others : ℕ → ℕ → Out) (F : List Frame) (n m : ℕ) → is_large_of F ≡ true → begun next g others F n m ≡ emit (Error Size g.box_no) (nothing n m)
 begun_large next g others [] n m large = cc
 begun_large next g others (f ∷ F) n m large = rw large refl
 
@@ -139,7 +139,7 @@ succeeded_made next g l e (f ∷ F) n m p large is exits =
     let same_left : l ≡ left f F = ap (λ (x : Called × ℕ). x.0) both in
     rw (large, same, same_left) refl
 
-succeeded_large : (next : Next) (g : Called) (F : List Frame) (n m : ℕ) → is_large_of F ≡ true → succeeded next g F n m ≡ emit (Error Size g.box_no) (nothing n m)
+pub succeeded_large : (next : Next) (g : Called) (F : List Frame) (n m : ℕ) → is_large_of F ≡ true → succeeded next g F n m ≡ emit (Error Size g.box_no) (nothing n m)
 succeeded_large next g [] n m large = cc
 succeeded_large next g (f ∷ F) n m large = rw large refl
 
@@ -158,15 +158,15 @@ opened_by n (Faults e) a F g m G h deep waits = elim h [ ]
 opened_by n Fails a F g m G h deep waits = elim h [ ]
 opened_by n (Equates l r) a F g m G h deep waits = opened_or n (unifier_of l r) (built g a m ∷ F) G h (omega arith, deep, waits)
 
-opened_at : (n : ℕ) (o : Option Term) (F : List Frame) (g : Called) (m : ℕ) (G : List Frame) → AreAlike (solution_at o F g m) (solved G) → g.depth ≤ n → AllWait n F → IsOpen n G
+pub opened_at : (n : ℕ) (o : Option Term) (F : List Frame) (g : Called) (m : ℕ) (G : List Frame) → AreAlike (solution_at o F g m) (solved G) → g.depth ≤ n → AllWait n F → IsOpen n G
 opened_at n None F g m G h deep waits = elim h [ ]
 opened_at n (Some a) F g m G h deep waits = opened_by n (outcome a) a F g m G h deep waits
 
 -- a clause that is renamed apart has as many goals
-few_apart : (F : List Frame) (r : Tuple) → IsRunnable r → length (apart F r).body ≤ 64
+pub few_apart : (F : List Frame) (r : Tuple) → IsRunnable r → length (apart F r).body ≤ 64
 few_apart F r h = omega (arith, h.few, length-map r.body (apply (λ v. variable (above (variables_of_frames F) + v))))
 
-drop_past : {X : Type 0} (xs : List X) (j : ℕ) → length xs ≤ j → drop j xs ≡ []
+pub drop_past : {X : Type 0} (xs : List X) (j : ℕ) → length xs ≤ j → drop j xs ≡ []
 drop_past [] zero le = refl
 drop_past [] (suc j) le = refl
 drop_past (x ∷ xs) zero le = absurd (omega arith)

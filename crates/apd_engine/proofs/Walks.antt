@@ -28,4 +28,3 @@ among_atom (t ∷ ts) (suc i) v d lt m = IsAmong-right (variables t) (flat_map v
 pub among_body : (t : Tuple) (items : List Term) (i v : ℕ) (x : Term) → i < length items → x ≡ get_or items i x → items ≡ t.body → IsAmong (variables x) v → IsAmong (variables_of_tuple t) v
 among_body t items i v x within at same m =
     IsAmong-right (variables t.head) (flat_map variables t.body) v (subst (λ ts. IsAmong (flat_map variables ts) v) same (among_atom items i v x within (subst (λ y. IsAmong (variables y) v) at m)))
-

@@ -93,6 +93,20 @@ fn applied_tuple(alloc: Global, tuple: &Rc<Tuple>, s: &Subst) -> Result<Rc<Tuple
     Ok(Rc::new(alloc, applied)?)
 }
 
+/// The same frame. Its tuple is shared.
+fn copied_node(node: &Node) -> Result<Node, AllocError>
+    ensures { IfOk result (λ r. frame_of r ≡ frame_of node.now) }
+{
+    Ok(Node {
+        box_no: node.box_no,
+        depth: node.depth,
+        clause: node.clause,
+        tuple: node.tuple.clone()?,
+        done: node.done,
+        point: node.point,
+    })
+}
+
 /// The box that owns the innermost frame.
 fn owner(nodes: &[Node]) -> u32
     ensures { result ≡ owner_of (map frame_of nodes.now) }
@@ -154,6 +168,18 @@ impl FrameList {
         'nodes: for node in &self.nodes {
             let moved = applied_node(alloc, node, s)?;
             nodes.push(moved)?;
+        }
+        Ok(FrameList { nodes })
+    }
+
+    /// The same frames. Their tuples are shared.
+    pub fn copy(&self, alloc: Global) -> Result<FrameList, AllocError>
+        ensures { IfOk result (λ r. r ≡ self.now) }
+    {
+        let mut nodes = Vec::new(alloc);
+        'nodes: for node in &self.nodes {
+            let same = copied_node(node)?;
+            nodes.push(same)?;
         }
         Ok(FrameList { nodes })
     }

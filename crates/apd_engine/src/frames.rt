@@ -25,7 +25,7 @@ use std::alloc::{AllocError, Global};
 use std::marker::Model;
 
 /// So many numbers of variables each clause has to itself: one more than it may have symbols.
-const BLOCK: u64 = 4294967297;
+pub(crate) const BLOCK: u64 = 4294967297;
 
 /// The clause of a built-in goal's frame.
 const BUILTIN: u32 = 4294967295;
@@ -51,7 +51,7 @@ impl Model for Frames {
 }
 
 /// The frames where the clause is entered for the next goal, if its head unifies with it.
-fn resolved(
+pub(crate) fn resolved(
     alloc: Global,
     frames: &FrameList,
     fresh: u64,
@@ -98,7 +98,7 @@ pub enum Attempt {
 }
 
 /// Solves the innermost frame's next goal, if it is built in.
-fn attempted(
+pub(crate) fn attempted(
     alloc: Global,
     frames: &FrameList,
     called: &Called,

@@ -8,8 +8,11 @@
 mod builtin;
 mod frame_list;
 mod frames;
+pub mod plain;
+pub mod plain_run;
 mod running;
 mod search;
+mod searched;
 mod stack;
 mod tuples;
 

@@ -47,14 +47,18 @@ abbrev pub file_from : List (List ℕ) → Option (List ℕ)
 file_from (file ∷ []) = if begins_with_dash file then None else Some file
 file_from words = None
 
--- the words behind the program's own name: the budget, the answers and the filter, in this order, and then the file
+-- the filter and the file, behind the two limits
+abbrev pub options_with : ℕ → ℕ → List (List ℕ) → Option Options
+options_with budget answers words =
+    option_map (λ file. record { program = file; budget = budget; answers = answers; filter = (filter_from words).0 }) (file_from (filter_from words).1)
+
+-- the limit on answers, and what is behind it
+abbrev pub options_after : ℕ → List (List ℕ) → Option Options
+options_after budget words = option_and_then (λ (answers : ℕ × List (List ℕ)). options_with budget answers.0 answers.1) (limit_from (codes "--answers") 1000000 words)
+
+-- the words behind the program's own name: the budget, the limit on answers and the filter, in this order, and then the file
 abbrev pub options_from : List (List ℕ) → Option Options
-options_from words =
-    option_and_then (λ (budget : ℕ × List (List ℕ)).
-    option_and_then (λ (answers : ℕ × List (List ℕ)).
-    option_map (λ file. record { program = file; budget = budget.0; answers = answers.0; filter = (filter_from answers.1).0 }) (file_from (filter_from answers.1).1))
-    (limit_from (codes "--answers") 1000000 budget.1))
-    (limit_from (codes "--budget") 100000 words)
+options_from words = option_and_then (λ (budget : ℕ × List (List ℕ)). options_after budget.0 budget.1) (limit_from (codes "--budget") 100000 words)
 
 unfoldable pub options_of : List (List ℕ) → Option Options
 options_of [] = None

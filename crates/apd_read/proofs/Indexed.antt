@@ -101,8 +101,7 @@ module _ (named : List (List ℕ)) (places : List ℕ) (texts : List (List ℕ))
   found n l =
       let each = h.each in
       let within : number_of named t < length named = omega arith in
-      let there : is_name named t ≡ true = is_name_within named t within in
-      (
+      let there : is_name named t ≡ true = is_name_within named t within in (
         with_known named t (is_name named t) there,
         h.placed t n within ∙ sym (place_of_named texts t n),
         sym (with_named texts t n ∙ with_known texts t (is_name texts t) (sym (h.known t n) ∙ there)),
@@ -146,8 +145,7 @@ module _ (named : List (List ℕ)) (places : List ℕ) (texts : List (List ℕ))
   fresh n le =
       let each = h.each in
       let new : is_name named t ≡ false = not_name named t (omega arith) in
-      let unknown : is_name texts t ≡ false = sym (h.known t n) ∙ new in
-      (
+      let unknown : is_name texts t ≡ false = sym (h.known t n) ∙ new in (
         sym (place_of_named texts t n ∙ number_of_past texts t unknown),
         sym (with_named texts t n ∙ with_new texts t (is_name texts t) unknown),
         subst (λ ns. IsIndexed ns (places ++ length texts ∷ []) (texts ++ t ∷ [])) (sym (with_new named t (is_name named t) new)) (indexed_new n new),

@@ -20,10 +20,12 @@ pub tokens-preserved : goal.tokens-preserved
 tokens-preserved c =
     let ts = c.args.tokens.now in
     let t = get_or ts c.tokens.i blank in
-    let l : Lexeme = record { sort = c.in_ok-sort.sort; spaced = t.spaced; start = t.start } in
-    (rw c.in_ok-push.ensures.items
-    (taken_more c.tokens.invariant.0 c.sort_of.ensures.grown t l c.sort_of.new.vars.texts c.tokens-test.true (own_token ts c.tokens.i blank c.tokens-test.true) (c.in_ok-sort.ensures.sort, refl, refl)
-    (sym c.ends_clause.ensures ∙ c.if-ends_clause.false)), c.in_ok-sort.ensures.indexed)
+    let l : Lexeme = record { sort = c.in_ok-sort.sort; spaced = t.spaced; start = t.start } in (
+      rw c.in_ok-push.ensures.items
+          (taken_more c.tokens.invariant.0 c.sort_of.ensures.grown t l c.sort_of.new.vars.texts c.tokens-test.true (own_token ts c.tokens.i blank c.tokens-test.true) (c.in_ok-sort.ensures.sort, refl, refl)
+          (sym c.ends_clause.ensures ∙ c.if-ends_clause.false)),
+      c.in_ok-sort.ensures.indexed,
+    )
 
 pub returns-clause-lexemes : goal.returns-clause-lexemes
 returns-clause-lexemes c = taken_all c.tokens.invariant.0 c.tokens-test.false

@@ -12,3 +12,5 @@ pub mod Clauses
 pub mod Decoding
 pub mod Placed
 pub mod Ending
+pub mod Size
+pub mod Weights

@@ -16,47 +16,43 @@ pub struct Counts {
     pub clauses: u64,
     /// The symbols of all terms.
     pub symbols: u64,
+    /// 1 where a fault ended the reading.
+    pub faults: u64,
 }
 
-/// Why the reading ended early.
-#[derive(Clone, Copy, Debug, PartialEq, Eq)]
-pub enum Stopped {
-    Token(TokenFault),
-    Read(ReadFault),
-}
-
-impl From<AllocError> for Stopped {
-    fn from(_: AllocError) -> Self {
-        Stopped::Read(ReadFault::Memory)
-    }
-}
-
-/// Reads the clauses of the text one after the other, with the standard operators.
-pub fn counts(alloc: Global, text: &[u8]) -> Result<Counts, Stopped>
+/// Reads the clauses of the text one after the other, with the standard operators, up to the first fault.
+pub fn read_all(alloc: Global, text: &[u8]) -> Result<Counts, AllocError>
     requires { length text.now ≤ 1048576 }
 {
+    let mut counts = Counts::default();
     let ops = Ops::standard(alloc)?;
     let mut names = Names::standard(alloc)?;
     let tokens = match tokens(alloc, text) {
         Ok(tokens) => tokens,
-        Err(fault) => return Err(Stopped::Token(fault)),
+        Err(TokenFault::Memory) => return Err(AllocError),
+        Err(_) => {
+            counts.faults = 1;
+            return Ok(counts);
+        }
     };
-    let mut counts = Counts {
-        tokens: tokens.len(),
-        clauses: 0,
-        symbols: 0,
-    };
+    counts.tokens = tokens.len();
     let mut at = 0;
     for _clause in 0..tokens.len() {
         if at >= tokens.len() || names.count() > MAX_NAMES {
             break;
         }
         match read_clause(alloc, &ops, &mut names, text, &tokens, at) {
-            Err(fault) => return Err(Stopped::Read(fault)),
             Ok(read) => {
                 counts.clauses = counts.clauses.saturating_add(1);
-                counts.symbols = counts.symbols.saturating_add(read.term.symbols().len() as u64);
+                counts.symbols = counts
+                    .symbols
+                    .saturating_add(read.term.symbols().len() as u64);
                 at = read.next;
+            }
+            Err(ReadFault::Memory) => return Err(AllocError),
+            Err(_) => {
+                counts.faults = 1;
+                break;
             }
         }
     }

@@ -1,18 +1,19 @@
-//! Reads the clauses of a file as often as asked, and prints how much that was: for the measurement of times.
+//! Reads the clauses of a file as often as asked, and prints how much that is: for the measurement of times.
 //!
-//! The words are the file's name and how often it is read. The counts are those of one reading.
+//! The words are the file's name and how often it is read. The counts are those of one reading. Status 2: the words are
+//! others; 3: the file can't be had, nothing can be written, or there is no memory.
 #![tactic(auto)]
 
 mod counts;
 
 use apd_io::{DiskFiles, Files};
-use counts::{Counts, Stopped, counts};
+use counts::{Counts, read_all};
 use std::io;
 use std::process::ExitCode;
 
 const USAGE: u8 = 2;
 
-const FAULT: u8 = 3;
+const FAILED: u8 = 3;
 
 /// The file's name and how often it is read.
 fn asked(words: &[String]) -> Option<(&str, u32)> {
@@ -22,41 +23,42 @@ fn asked(words: &[String]) -> Option<(&str, u32)> {
     }
 }
 
-fn told(rt: &impl Print, bytes: usize, counts: &Counts) -> io::Result<()> {
-    println!(rt; "{bytes} bytes, {} tokens, {} clauses, {} symbols", counts.tokens, counts.clauses, counts.symbols)
+fn say(rt: &impl Print, bytes: usize, counts: Counts) -> io::Result<()> {
+    let Counts {
+        tokens,
+        clauses,
+        symbols,
+        faults,
+    } = counts;
+    println!(rt;
+        "{bytes} bytes, {tokens} tokens, {clauses} clauses, {symbols} symbols, {faults} faults"
+    )
 }
 
 fn main(rt: HostRuntime) -> ExitCode {
     let alloc = rt.alloc();
     let Ok(args) = std::env::args(&rt) else {
-        return ExitCode::from(FAULT);
+        return ExitCode::from(FAILED);
     };
     let Ok(words) = args.collect::<Vec<String>>(alloc) else {
-        return ExitCode::from(FAULT);
+        return ExitCode::from(FAILED);
     };
     let Some((name, times)) = asked(&words) else {
         return ExitCode::from(USAGE);
     };
     let mut files = DiskFiles::new(&rt);
     let Ok(text) = files.load(alloc, name) else {
-        return ExitCode::from(FAULT);
+        return ExitCode::from(FAILED);
     };
     let mut last = Counts::default();
     for _round in 0..times {
-        match counts(alloc, text.bytes()) {
-            Ok(now) => last = now,
-            Err(Stopped::Token(fault)) => {
-                let _ = println!(&rt; "{fault:?}");
-                return ExitCode::from(FAULT);
-            }
-            Err(Stopped::Read(fault)) => {
-                let _ = println!(&rt; "{fault:?}");
-                return ExitCode::from(FAULT);
-            }
+        match read_all(alloc, text.bytes()) {
+            Ok(counts) => last = counts,
+            Err(_) => return ExitCode::from(FAILED),
         }
     }
-    match told(&rt, text.len(), &last) {
+    match say(&rt, text.len(), last) {
         Ok(()) => ExitCode::SUCCESS,
-        Err(_) => ExitCode::from(FAULT),
+        Err(_) => ExitCode::from(FAILED),
     }
 }

@@ -57,7 +57,7 @@ pub fn written(alloc: Global, names: &Names, symbols: &[Sym]) -> Result<String, 
 pub fn first_read(alloc: Global, ops: &Ops, text: &str) -> Result<String, AllocError> {
     let text = text.as_bytes();
     let mut names = Names::standard(alloc)?;
-    if text.len() > 1_048_576 {
+    if text.len() > 1_048_576 || names.count() > 1_000_000 {
         return Ok(String::new(alloc));
     }
     let tokens = match tokens(alloc, text) {

@@ -7,8 +7,10 @@ pub mod Once
 pub mod Fronts
 pub mod Cells
 pub mod Growing
-pub mod Variables
+pub mod Indexed
 pub mod Clauses
 pub mod Decoding
 pub mod Placed
 pub mod Ending
+pub mod Size
+pub mod Weights

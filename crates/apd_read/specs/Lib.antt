@@ -7,4 +7,5 @@ pub mod Holds
 pub mod State
 pub mod Top
 pub mod Lexemes
+pub mod Variables
 pub mod Answer

@@ -1,11 +1,12 @@
 ghost use Rattle.std.specs.Prelude.{◌≡◌, ◌+◌, ◌-◌, ◌<◌, ◌≤◌, length, slice_range, IfOk, drop, ℕ, List};
-ghost use Rattle.apd_term.specs.Names.{number_of};
 ghost use Rattle.apd_token.specs.Grammar.{IsTokenOf, HasTokens, HasText, ContentOf};
-ghost use Rattle.apd_read.specs.Lexemes.{is_anonymous, variable_place, with_variable, IsNameOf, IsSort, AreLexemes, to_end, ends_clause, EndsLast, IsGrown};
+ghost use Rattle.apd_read.specs.Lexemes.{IsNameOf, IsSort, AreLexemes, to_end, ends_clause, EndsLast, IsGrown};
+ghost use Rattle.apd_read.specs.Variables.{IsIndexed};
 
 use crate::codes::codes;
 use crate::lexeme::{Lexeme, Sort};
-use apd_term::{NameId, Names, Text, VarNames};
+use crate::variables::Variables;
+use apd_term::{NameId, Names, VarNames};
 use apd_token::{Kind, Token, content};
 use std::alloc::{AllocError, Global};
 
@@ -14,51 +15,6 @@ use std::alloc::{AllocError, Global};
 pub(crate) struct Clause {
     pub lexemes: Vec<Lexeme>,
     pub vars: VarNames,
-}
-
-fn is_anonymous(text: &[u8]) -> bool
-    ensures { result ≡ is_anonymous text.now }
-{
-    match text {
-        [b] => *b == b'_',
-        _ => false,
-    }
-}
-
-/// The place of a text among these, or their count where it isn't among them.
-fn place_of(texts: &[Text], text: &[u8]) -> usize
-    ensures { result ≡ number_of texts.now text.now }
-{
-    'texts: for (i, t) in texts.iter().enumerate() {
-        if text == t.bytes() {
-            return i;
-        }
-    }
-    texts.len()
-}
-
-fn variable_place(vars: &VarNames, text: &[u8]) -> usize
-    ensures { result ≡ variable_place vars.now text.now }
-{
-    if is_anonymous(text) {
-        return vars.len();
-    }
-    place_of(vars.as_slice(), text)
-}
-
-/// The number of a variable, which is put behind the others where it is new.
-fn variable(vars: &mut VarNames, text: Text) -> Result<u64, AllocError>
-    requires { length vars.old < 4000000000 }
-    ensures number { IfOk result (λ n. n ≡ variable_place vars.old text + 1) }
-    ensures all { IfOk result (λ _. vars.new ≡ with_variable vars.old text) }
-{
-    let place = variable_place(vars, text.bytes());
-    if place < vars.len() {
-        return Ok(place as u64 + 1);
-    }
-    let number = vars.len() as u64 + 1;
-    vars.push(text)?;
-    Ok(number)
 }
 
 /// The name that a token's characters are.
@@ -82,13 +38,15 @@ fn sort_of(
     names: &mut Names,
     text: &[u8],
     token: &Token,
-    vars: &mut VarNames,
+    vars: &mut Variables,
 ) -> Result<Sort, AllocError>
     requires small { length text.now ≤ 1048576 }
     requires token { IsTokenOf text.now token.now }
     requires room { length names.old < 4000000000 }
-    requires few { length vars.old < 4000000000 }
-    ensures sort { IfOk result (λ s. IsSort token.now.kind names.new (slice_range text.now token.now.start token.now.end) vars.old s vars.new) }
+    requires few { length vars.old.texts < 4000000000 }
+    requires indexed { IsIndexed vars.old.named vars.old.places.items vars.old.texts }
+    ensures sort { IfOk result (λ s. IsSort token.now.kind names.new (slice_range text.now token.now.start token.now.end) vars.old.texts s vars.new.texts) }
+    ensures indexed { IfOk result (λ _. IsIndexed vars.new.named vars.new.places.items vars.new.texts) }
     ensures grown { IsGrown names.old 1 names.new }
 {
     match token.kind {
@@ -100,7 +58,7 @@ fn sort_of(
         }
         Kind::Variable => {
             let value = content(alloc, text, token)?;
-            Ok(Sort::Variable(variable(vars, value)?))
+            Ok(Sort::Variable(vars.number(value)?))
         }
         Kind::Integer(i) => Ok(Sort::Integer(i)),
         Kind::Open => Ok(Sort::Open),
@@ -143,7 +101,7 @@ pub(crate) fn lexemes(
     ensures kept { IsGrown names.old (length tokens.now) names.new }
 {
     let mut lexemes = Vec::new(alloc);
-    let mut vars = VarNames::new(alloc);
+    let mut vars = Variables::new(alloc);
     let mut i = at;
     'tokens: while i < tokens.len() {
         let token = &tokens[i];
@@ -154,9 +112,15 @@ pub(crate) fn lexemes(
             start: token.start,
         })?;
         if ends_clause(token.kind) {
-            return Ok(Clause { lexemes, vars });
+            return Ok(Clause {
+                lexemes,
+                vars: vars.texts,
+            });
         }
         i += 1;
     }
-    Ok(Clause { lexemes, vars })
+    Ok(Clause {
+        lexemes,
+        vars: vars.texts,
+    })
 }

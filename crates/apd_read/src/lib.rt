@@ -16,6 +16,7 @@ mod reader;
 mod stack;
 #[cfg(test)]
 mod tests;
+mod variables;
 
 pub use apd_term::{Read, ReadFault};
 pub use reader::{one_reading, read_clause};

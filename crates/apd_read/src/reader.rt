@@ -1,4 +1,5 @@
-ghost use Rattle.std.specs.Prelude.{◌≡◌, ◌+◌, ◌-◌, ◌<◌, ◌≤◌, ℕ, length, List, Some, IfOk, IfErr, slice_get, Result, Err};
+ghost use Rattle.std.specs.Prelude.{◌≡◌, ◌+◌, ◌-◌, ◌*◌, ◌<◌, ◌≤◌, ℕ, length, List, Some, IfOk, IfErr, slice_get, Result, Err};
+ghost use Rattle.apd_term.specs.Term.{size};
 ghost use Rattle.apd_token.specs.Grammar.{HasTokens};
 ghost use Rattle.apd_token.specs.declared.items.Token.{Token};
 ghost use Rattle.apd_read.specs.Reading.{Splits};
@@ -93,7 +94,8 @@ fn answer(alloc: Global, ops: &Ops, clause: Clause, at: usize, end: u32) -> Resu
 /// Variables are numbered from 1 by their first places in the clause, and each `_` is a new one. A
 /// fault is the first one from the left; `TooDeep` comes only where there is no other. `Memory` is
 /// the one answer that any clause may get. New names are put at the end of the names, at most one
-/// for each token, also where a fault is told.
+/// for each token, also where a fault is told. The term has at most twice as many symbols as the
+/// text has bytes.
 pub fn read_clause(
     alloc: Global,
     ops: &Ops,
@@ -108,6 +110,7 @@ pub fn read_clause(
     requires room { (t : Token) → slice_get tokens.now at ≡ Some t → length names.old + (length text.now - t.start) < 4000000000 }
     ensures ok { IfOk result (HasReading ops.now names.new text.now tokens.now at) }
     ensures err { IfErr result (IsReadFault ops.now names.new text.now tokens.now at) }
+    ensures size { IfOk result (λ r. size r.term ≤ 2 * length text.now) }
     ensures names { IfOk result (λ r. IsGrown names.old (r.next - at) names.new) }
     ensures kept { IsGrown names.old (length tokens.now) names.new }
 {

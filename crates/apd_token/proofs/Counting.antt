@@ -9,7 +9,7 @@ use Rattle.apd_token.specs.Grammar.{HasForm, Piece, Divides, Begins, token_of, t
 use Rattle.apd_token.specs.Bytes.{class_of}
 
 -- a piece has a byte
-some_byte : (at : ℕ) (w : Found) (bytes after : List ℕ) → HasForm at w bytes after → 1 ≤ length bytes
+pub some_byte : (at : ℕ) (w : Found) (bytes after : List ℕ) → HasForm at w bytes after → 1 ≤ length bytes
 some_byte at w [] after f = absurd f
 some_byte at w (b ∷ bs) after f = omega arith
 

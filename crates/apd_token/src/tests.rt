@@ -1,6 +1,9 @@
+mod plain;
+
 ghost use Rattle.std.specs.Bool.{OnTrue};
 ghost use Rattle.apd_token.specs.Grammar.{HasText};
 
+use crate::tests::plain::plain_tokens;
 use crate::{Kind, Token, TokenFault, content, tokens};
 use std::alloc::{AllocError, Global};
 use std::test::Fail;
@@ -173,6 +176,31 @@ fn tells_each_fault_at_its_byte(rt: HostRuntime) -> Result<(), Fail> {
         assert!(rt; got.as_str() == want, "{text:?}: {got}");
     }
     Ok(())
+}
+
+/// Whether the plain program divides the text as `tokens` does.
+fn divides_plainly(alloc: Global, text: &[u8]) -> bool {
+    if text.len() > 1_048_576 {
+        return false;
+    }
+    match (tokens(alloc, text), plain_tokens(alloc, text)) {
+        (Ok(ts), Ok(us)) => ts.as_slice() == us.as_slice(),
+        (Err(f), Err(g)) => f == g,
+        _ => false,
+    }
+}
+
+#[test]
+fn divides_as_the_plain_program(rt: HostRuntime) {
+    for (text, _) in TOKENS {
+        assert!(rt; divides_plainly(rt.alloc(), text.as_bytes()), "{text}");
+    }
+    for (text, _) in FAULTS {
+        assert!(rt; divides_plainly(rt.alloc(), text), "{text:?}");
+    }
+    for (text, _) in CONTENTS {
+        assert!(rt; divides_plainly(rt.alloc(), text.as_bytes()), "{text}");
+    }
 }
 
 #[test]

@@ -5,7 +5,7 @@ use Rattle.apd_read.proofs.lexemes.lexemes.Goals as goal
 
 pub tokens-init : goal.tokens-init
 tokens-init c =
-    rw (c.new-lexemes.ensures.items, c.new-vars.ensures) (taken_start c.args.names.now c.args.text.now c.args.tokens.now c.args.at c.requires.within)
+    (rw (c.new-lexemes.ensures.items, c.new-vars.ensures.none) (taken_start c.args.names.now c.args.text.now c.args.tokens.now c.args.at c.requires.within), c.new-vars.ensures.indexed)
 
 pub returns-then-ends_clause-clause-lexemes : goal.returns-then-ends_clause-clause-lexemes
 returns-then-ends_clause-clause-lexemes c =
@@ -13,20 +13,22 @@ returns-then-ends_clause-clause-lexemes c =
     let t = get_or ts c.tokens.i blank in
     let l : Lexeme = record { sort = c.in_ok-sort.sort; spaced = t.spaced; start = t.start } in
     rw c.in_ok-push.ensures.items
-    (taken_end c.tokens.invariant c.sort_of.ensures.grown t l c.sort_of.new.vars c.tokens-test.true (own_token ts c.tokens.i blank c.tokens-test.true) (c.in_ok-sort.ensures.sort, refl, refl)
+    (taken_end c.tokens.invariant.0 c.sort_of.ensures.grown t l c.sort_of.new.vars.texts c.tokens-test.true (own_token ts c.tokens.i blank c.tokens-test.true) (c.in_ok-sort.ensures.sort, refl, refl)
     (sym c.ends_clause.ensures ∙ c.if-ends_clause.true))
 
 pub tokens-preserved : goal.tokens-preserved
 tokens-preserved c =
     let ts = c.args.tokens.now in
     let t = get_or ts c.tokens.i blank in
-    let l : Lexeme = record { sort = c.in_ok-sort.sort; spaced = t.spaced; start = t.start } in
-    rw c.in_ok-push.ensures.items
-    (taken_more c.tokens.invariant c.sort_of.ensures.grown t l c.sort_of.new.vars c.tokens-test.true (own_token ts c.tokens.i blank c.tokens-test.true) (c.in_ok-sort.ensures.sort, refl, refl)
-    (sym c.ends_clause.ensures ∙ c.if-ends_clause.false))
+    let l : Lexeme = record { sort = c.in_ok-sort.sort; spaced = t.spaced; start = t.start } in (
+      rw c.in_ok-push.ensures.items
+          (taken_more c.tokens.invariant.0 c.sort_of.ensures.grown t l c.sort_of.new.vars.texts c.tokens-test.true (own_token ts c.tokens.i blank c.tokens-test.true) (c.in_ok-sort.ensures.sort, refl, refl)
+          (sym c.ends_clause.ensures ∙ c.if-ends_clause.false)),
+      c.in_ok-sort.ensures.indexed,
+    )
 
 pub returns-clause-lexemes : goal.returns-clause-lexemes
-returns-clause-lexemes c = taken_all c.tokens.invariant c.tokens-test.false
+returns-clause-lexemes c = taken_all c.tokens.invariant.0 c.tokens-test.false
 
 pub returns-then-ends_clause-clause-last : goal.returns-then-ends_clause-clause-last
-returns-then-ends_clause-clause-last c = rw c.in_ok-push.ensures.items (ends_last c.tokens.invariant _)
+returns-then-ends_clause-clause-last c = rw c.in_ok-push.ensures.items (ends_last c.tokens.invariant.0 _)

@@ -1,12 +1,14 @@
-use Rattle.std.proofs.Common.{◌≡◌, ◌+◌, ◌-◌, ◌≤◌, length, get_or, Some, refl, arith}
+use Rattle.std.proofs.Common.{◌≡◌, ◌+◌, ◌*◌, ◌-◌, ◌≤◌, length, get_or, Some, refl, sym, subst, arith}
 use Rattle.std.specs.Prelude.{slice_get}
 use Rattle.std.proofs.lemmas.Option.{slice_get-get_or}
 use Rattle.apd_token.proofs.Counting.{tokens_few, tokens_behind}
+use Rattle.apd_term.specs.Term.{size}
 use Rattle.apd_read.specs.Answer.{HasLexemes}
 use Rattle.apd_read.proofs.Clauses.{blank, lexemes_few}
 use Rattle.apd_read.proofs.Placed.{reading_of, fault_of}
 use Rattle.apd_read.proofs.Ending.{all_read}
 use Rattle.apd_read.proofs.Growing.{grown_at_most}
+use Rattle.apd_read.proofs.Weights.{term_few}
 use Rattle.apd_read.proofs.reader.read_clause.Goals as goal
 
 pub lexemes-requires-clause-few : goal.lexemes-requires-clause-few
@@ -52,3 +54,11 @@ returns-in-Ok-clause-names c =
     let all : length c.in_ok-clause.clause.lexemes.items ≤ r.count = all_read r.fills refl c.in_ok-clause.ensures.last in
     let next = r.next in
     grown_at_most (length c.in_ok-clause.clause.lexemes.items) (c.in-Ok.read.next - c.args.at) (omega arith) c.in_ok-clause.ensures.grown
+
+pub returns-in-Ok-clause-size : goal.returns-in-Ok-clause-size
+returns-in-Ok-clause-size c =
+    let clause : HasLexemes c.lexemes.new.names c.args.text.now c.args.tokens.now c.args.at =
+    record { lexemes = c.in_ok-clause.clause.lexemes.items; vars = c.in_ok-clause.clause.vars; are = rw c.as_slice.ensures at c.in_ok-clause.ensures.lexemes } in
+    let r = c.in-Ok.ensures.ok in
+    subst (λ t. size t ≤ 2 * length c.args.text.now) (sym r.term)
+    (term_few c.args.ops.now c.lexemes.new.names c.args.text.now c.args.tokens.now c.args.at clause r.phrase r.count c.requires.tokens r.fills)

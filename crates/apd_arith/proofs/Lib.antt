@@ -1,2 +1,3 @@
 pub mod Integers
 pub mod Values
+pub mod Found

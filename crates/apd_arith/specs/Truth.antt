@@ -1,5 +1,6 @@
 -- When a ground atom of a built-in goal is true, and when its evaluation faults.
-use Rattle.std.specs.Prelude.{◌≡◌, ◌↔◌, ℤ, int_lt, int_le, Bool, true, not, IsTrue, List, [], ◌∷◌, Option, Some, None, Result, Ok, Err, IsErr, AllocError, alloc_error}
+use Rattle.std.specs.Prelude.{◌≡◌, ◌↔◌, ℤ, int_lt, int_le, Bool, true, not, IsTrue, List, [], ◌∷◌, Option, Some, None, Result, Ok, Err, IsErr, alloc_error}
+use Rattle.std.specs.declared.alloc.AllocError.{AllocError}
 use Rattle.std.specs.Ordering.{int_eq}
 use Rattle.apd_term.specs.Term.{Term, integer, arguments}
 use Rattle.apd_arith.specs.declared.fault.ArithFault.{ArithFault}

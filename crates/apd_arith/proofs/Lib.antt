@@ -1,3 +1,5 @@
 pub mod Integers
+pub mod Signs
 pub mod Values
+pub mod Memoryless
 pub mod Found

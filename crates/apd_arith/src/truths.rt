@@ -70,7 +70,7 @@ fn unless_fault(found: Result<bool, ArithFault>) -> Result<Option<bool>, AllocEr
 /// Whether a ground atom of a built-in goal is true; none exactly where its evaluation faults. The only error is want of
 /// memory.
 pub fn truth(alloc: Global, atom: &Flat) -> Result<Option<bool>, AllocError>
-    requires ground { IsGround atom.now }
+    requires variable_free { IsGround atom.now }
     requires builtin { IsBuiltin atom.now }
     ensures none { IfOk result (λ found. IsNone found ↔ Faults atom.now) }
     ensures some { IfOk result (λ found. IfSome found (λ holds. IsTrue holds ↔ IsTrueAtom atom.now)) }

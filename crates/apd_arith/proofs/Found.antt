@@ -1,16 +1,16 @@
 -- What is found of a ground atom of a built-in goal.
-use Rattle.std.proofs.Common.{◌≡◌, ◌≢◌, ◌↔◌, ℕ, ◌<◌, Bool, true, false, cond, IsTrue, List, [], ◌∷◌, length, Option, Some, None, Result, Ok, Err, refl, sym, ◌∙◌, ap, subst, arith}
-use Rattle.std.specs.Prelude.{slice_get, ◌==◌, if◌then◌else◌, IfOk, IfSome, IsNone}
+use Rattle.std.proofs.Common.{◌≡◌, ◌≢◌, ◌↔◌, ℕ, Bool, true, false, IsTrue, List, [], ◌∷◌, length, Option, Some, None, Result, Ok, Err, refl, sym, ◌∙◌, subst, arith}
+use Rattle.std.specs.Prelude.{slice_get, if◌then◌else◌, IfOk, IfSome, IsNone}
 use Rattle.std.specs.declared.alloc.AllocError.{AllocError}
 use Rattle.std.proofs.lemmas.Bool.{true≢false}
 use Rattle.std.proofs.lemmas.Bool.Decides.{Decides-eqb, nat_tests}
-use Rattle.apd_term.specs.Term.{Term, variable, integer, compound, arguments, list_of, predicate_of}
+use Rattle.apd_term.specs.Term.{Term, variable, integer, compound, arguments, list_of}
 use Rattle.apd_term.specs.declared.term.NameId.{NameId}
 use Rattle.apd_arith.specs.declared.fault.ArithFault.{ArithFault}
 use Rattle.apd_arith.specs.declared.fault.ArithFault.TheVariants.{Unbound, NotEvaluable, Overflow, ZeroDivisor, Memory}
 use Rattle.apd_arith.specs.declared.goal.Builtin.{Builtin}
 use Rattle.apd_arith.specs.declared.goal.Builtin.TheVariants.{True, Fail, Unify, Is, Equal, Different, Less, LessEqual, Greater, GreaterEqual}
-use Rattle.apd_arith.specs.Builtins.{builtin_of_none, builtin_of_two, builtin_of, builtin_of_atom}
+use Rattle.apd_arith.specs.Builtins.{builtin_of_none, builtin_of_two, builtin_of_atom}
 use Rattle.apd_arith.specs.Truth.{IsTrueGoal, FaultsInGoal, IsTrueAtom, Faults, IsFound, unless_fault}
 
 -- how many arguments a built-in goal has

@@ -1,17 +1,15 @@
 -- What the operations on 64 bits make of integers that fit.
-use Rattle.std.proofs.Common.{rules, ◌≡◌, ◌≢◌, ◌<◌, ◌≤◌, ℕ, ℤ, pos, negsuc, ◌+ℤ◌, ◌-ℤ◌, ◌*ℤ◌, neg_ℤ, w64, FitsSigned, to_z, of_z, ◌⊎◌, inl, inr, Bool, true, false, Result, Ok, Err, Option, Some, None, refl, sym, ◌∙◌, ap, subst, arith, zero, suc, not, ◌&&◌, ◌%◌, ◌^◌}
+use Rattle.std.proofs.Common.{rules, ◌≡◌, ◌<◌, ℕ, ℤ, pos, negsuc, ◌+ℤ◌, ◌-ℤ◌, ◌*ℤ◌, neg_ℤ, w64, FitsSigned, to_z, of_z, ◌⊎◌, inl, inr, Bool, true, false, Ok, Err, Option, Some, None, refl, sym, ◌∙◌, ap, subst, arith, zero, suc, not, ◌&&◌, ◌%◌, ◌^◌}
 use Rattle.std.specs.Prelude.{int_div, int_rem, int_lt, unsigned_abs}
 use Rattle.std.specs.Option.{ok_or, SomeIff}
 use Rattle.std.specs.Int.{CanDivide, IsNonZero}
-use Rattle.std.specs.Int.Signed.{mag, mag_rem}
 use Rattle.std.proofs.Math.Bool.{beq}
 use Rattle.std.proofs.lemmas.Bool.{true≢false}
 use Rattle.std.proofs.lemmas.Bool.Decides.{nat_tests}
 use Rattle.std.proofs.lemmas.Int.{ints, quot-rem, to_z-of_z}
 use Rattle.std.proofs.Math.IntN.{pred_ℤ, pred_ℤ-*ℤ}
-use Rattle.apd_arith.specs.declared.fault.ArithFault.{ArithFault}
 use Rattle.apd_arith.specs.declared.fault.ArithFault.TheVariants.{Overflow, ZeroDivisor}
-use Rattle.apd_arith.specs.Integers.{fits, within, is_zero, divided, have_different_signs, truncated, floored, remainder, modulo}
+use Rattle.apd_arith.specs.Integers.{within, is_zero, divided, have_different_signs, truncated, remainder, modulo}
 
 pub within-fits : (z : ℤ) → FitsSigned w64 z → within z ≡ Ok z
 within-fits (pos n) h = grind (arith, nat_tests, h.sfits)

@@ -1,17 +1,15 @@
 -- Want of memory is no expression's value.
-use Rattle.std.proofs.Common.{◌≡◌, ◌≢◌, ℤ, pos, neg_ℤ, ◌+ℤ◌, ◌-ℤ◌, ◌*ℤ◌, List, [], ◌∷◌, Option, Some, None, Result, Ok, Err, refl, sym, Bool, true, false, cond}
+use Rattle.std.proofs.Common.{◌≢◌, ℤ, pos, neg_ℤ, ◌+ℤ◌, ◌-ℤ◌, ◌*ℤ◌, Option, Some, None, Ok, Err, Bool, true, false}
 use Rattle.std.specs.Prelude.{if◌then◌else◌, unsigned_abs}
 use Rattle.apd_term.specs.Term.{Term, variable, integer, compound, none, more}
-use Rattle.apd_term.specs.declared.term.NameId.{NameId}
-use Rattle.apd_arith.specs.declared.fault.ArithFault.{ArithFault}
-use Rattle.apd_arith.specs.declared.fault.ArithFault.TheVariants.{Unbound, NotEvaluable, Overflow, ZeroDivisor, Memory}
+use Rattle.apd_arith.specs.declared.fault.ArithFault.TheVariants.{Overflow, ZeroDivisor, Memory}
 use Rattle.apd_arith.specs.declared.operation.UnaryOperation.{UnaryOperation}
 use Rattle.apd_arith.specs.declared.operation.UnaryOperation.TheVariants.{Negate, Absolute}
 use Rattle.apd_arith.specs.declared.operation.BinaryOperation.{BinaryOperation}
 use Rattle.apd_arith.specs.declared.operation.BinaryOperation.TheVariants.{Add, Subtract, Multiply, Quotient, Modulo, Remainder, Minimum, Maximum}
 use Rattle.apd_arith.specs.Integers.{fits, within, is_zero, divided, truncated, remainder, modulo}
 use Rattle.apd_arith.specs.Operations.{unary_operation, binary_operation, unary_value, binary_value}
-use Rattle.apd_arith.specs.Value.{Value, value, values, of_one, of_two, of_one_by, of_two_by, value_of}
+use Rattle.apd_arith.specs.Value.{Value, value, of_one_by, of_two_by}
 
 either : (b : Bool) (x y : Value) → x ≢ Err Memory → y ≢ Err Memory → (if b then x else y) ≢ Err Memory
 either true x y p q = p

@@ -1,5 +1,5 @@
 -- The value of a term by its first symbol and the values of its arguments.
-use Rattle.std.proofs.Common.{◌≡◌, ◌≢◌, ◌<◌, ◌≤◌, ℕ, ◌+◌, ℤ, List, [], ◌∷◌, length, get_or, Option, Some, None, Ok, Err, refl, sym, ◌∙◌, ap, subst, arith, zero, suc}
+use Rattle.std.proofs.Common.{◌≡◌, ◌≢◌, ◌<◌, ℕ, ◌+◌, ℤ, length, get_or, Option, Some, None, Ok, Err, refl, sym, ◌∙◌, ap, arith, zero, suc}
 use Rattle.std.specs.Prelude.{slice_get}
 use Rattle.apd_term.specs.Term.{Term, Terms, variable, integer, compound, none, more, list_of, spell, size, size_all, arguments}
 use Rattle.apd_term.specs.declared.term.NameId.{NameId}
@@ -10,7 +10,6 @@ use Rattle.apd_arith.specs.declared.operation.UnaryOperation.{UnaryOperation}
 use Rattle.apd_arith.specs.declared.operation.BinaryOperation.{BinaryOperation}
 use Rattle.apd_arith.specs.Operations.{unary_operation, binary_operation}
 use Rattle.apd_arith.specs.Value.{Value, value, values, of_one_by, of_two_by, value_of}
-
 
 pub value-variable : (t : Term) (d : Sym) (v : ℕ) → get_or (spell t) 0 d ≡ Var v → value t ≡ Err Unbound
 value-variable (variable w) d v e = refl

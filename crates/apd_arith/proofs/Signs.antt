@@ -1,6 +1,6 @@
 -- The signs of the two remainders.
-use Rattle.std.proofs.Common.{◌≡◌, ◌≢◌, ◌<◌, ◌⊎◌, inl, inr, ◌+◌, ◌-◌, ℕ, ℤ, pos, negsuc, ◌+ℤ◌, Bool, true, false, refl, sym, ◌∙◌, ap, subst, arith, zero, suc, not, ◌&&◌}
-use Rattle.std.specs.Prelude.{int_div, int_rem, int_lt, unsigned_abs}
+use Rattle.std.proofs.Common.{◌≡◌, ◌≢◌, ◌<◌, inl, inr, ◌-◌, ℕ, ℤ, pos, negsuc, ◌+ℤ◌, Bool, true, false, refl, sym, ◌∙◌, ap, arith, zero, suc, not}
+use Rattle.std.specs.Prelude.{int_rem, int_lt, unsigned_abs}
 use Rattle.std.proofs.Math.Bool.{beq}
 use Rattle.std.proofs.lemmas.Bool.{true≢false}
 use Rattle.std.proofs.lemmas.Bool.Decides.{nat_tests}

@@ -1,7 +1,7 @@
 -- The values of whole terms that stand one after another, and the stack that keeps them, the first on top.
-use Rattle.std.proofs.Common.{get_or, ℤ, Ok, Some, ◌≡◌, ◌≤◌, ◌<◌, ℕ, ◌+◌, ◌-◌, List, [], ◌∷◌, ◌++◌, length, map, take, drop, reverse, refl, sym, ◌∙◌, ap, subst, arith, append_assoc}
+use Rattle.std.proofs.Common.{get_or, ℤ, Ok, Some, ◌≡◌, ◌≤◌, ◌<◌, ℕ, ◌+◌, ◌-◌, List, [], ◌∷◌, ◌++◌, length, map, take, drop, reverse, refl, sym, ◌∙◌, ap, subst, arith}
 use Rattle.std.proofs.lemmas.List.{reverse-append, length-reverse, take-append-drop, take_at, drop_at, length-drop, length-take, take-map, drop-map, take_rest, drop_more, append-nil, reverse-reverse, length-map}
-use Rattle.apd_term.specs.Term.{Term, Terms, none, more, list_of, terms_of, read_all, first_of, spell, IsTerms, IsWhole, arity_of, term_of}
+use Rattle.apd_term.specs.Term.{Term, Terms, none, more, list_of, terms_of, read_all, spell, IsTerms, arity_of}
 use Rattle.apd_term.specs.declared.term.NameId.{NameId}
 use Rattle.apd_term.specs.declared.term.Sym.{Sym}
 use Rattle.apd_term.specs.declared.term.Sym.TheVariants.{Var, Int, Fun}

@@ -1,5 +1,5 @@
 -- The built-in goals: their names.
-use Rattle.std.specs.Prelude.{ℕ, ◌==◌, Bool, if◌then◌else◌, Option, Some, None, IsSome}
+use Rattle.std.specs.Prelude.{◌==◌, if◌then◌else◌, Option, Some, None, IsSome}
 use Rattle.std.specs.Option.{option_and_then}
 use Rattle.apd_term.specs.Term.{Term, predicate_of}
 use Rattle.apd_term.specs.declared.term.NameId.{NameId}

@@ -1,5 +1,5 @@
 -- The values of whole terms that stand one after another, from a symbol on.
-use Rattle.std.specs.Prelude.{ℕ, List, [], ◌∷◌, take, drop, Ok, Err}
+use Rattle.std.specs.Prelude.{List, ◌∷◌, take, drop, Ok, Err}
 use Rattle.apd_term.specs.declared.term.Sym.{Sym}
 use Rattle.apd_term.specs.declared.term.Sym.TheVariants.{Var, Int, Fun}
 use Rattle.apd_arith.specs.declared.fault.ArithFault.TheVariants.{Unbound}

@@ -1,12 +1,12 @@
 //! The built-in goals.
 
 ghost use Rattle.std.specs.Prelude.{◌≡◌};
-ghost use Rattle.apd_arith.specs.Builtins.{builtin_of};
+ghost use Rattle.apd_arith.specs.Builtins.{builtin_of, builtin_of_atom};
 
-use apd_term::Pred;
 use apd_term::standard::{
     DIFFERENT, EQUAL, FAIL, GREATER, GREATER_EQUAL, IS, LESS, LESS_EQUAL, TRUE, UNIFY,
 };
+use apd_term::{Flat, Pred};
 
 /// A built-in goal.
 #[derive(Clone, Copy, PartialEq, Eq, Debug)]
@@ -51,5 +51,12 @@ impl Builtin {
             (GREATER_EQUAL, 2) => Some(Builtin::GreaterEqual),
             _ => None,
         }
+    }
+
+    /// The built-in goal of an atom, if it has one.
+    pub fn of_atom(atom: &Flat) -> Option<Builtin>
+        ensures { result ≡ builtin_of_atom atom.now }
+    {
+        Builtin::of(atom.pred()?)
     }
 }

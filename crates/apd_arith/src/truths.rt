@@ -2,7 +2,7 @@
 
 ghost use Rattle.std.specs.Prelude.{◌≡◌, ◌≢◌, ◌↔◌, ◌∷◌, [], IfOk, IfSome, IsNone, IsTrue};
 ghost use Rattle.apd_term.specs.Term.{IsGround, integer};
-ghost use Rattle.apd_arith.specs.Builtins.{IsBuiltin, builtin_of_atom};
+ghost use Rattle.apd_arith.specs.Builtins.{IsBuiltin};
 ghost use Rattle.apd_arith.specs.Truth.{IsTrueAtom, Faults, IsFound, unless_fault};
 
 use crate::comparison::{Comparison, compare};
@@ -11,13 +11,6 @@ use crate::fault::ArithFault;
 use crate::goal::Builtin;
 use apd_term::{Flat, Sym};
 use std::alloc::{AllocError, Global};
-
-/// The built-in goal of an atom.
-fn goal_of(atom: &Flat) -> Option<Builtin>
-    ensures { result ≡ builtin_of_atom atom.now }
-{
-    Builtin::of(atom.pred()?)
-}
 
 /// Whether a term is the integer.
 fn is_integer(term: &Flat, value: i64) -> bool
@@ -35,12 +28,7 @@ fn is_value(alloc: Global, term: &Flat, expr: &Flat) -> Result<bool, ArithFault>
 }
 
 /// Whether a ground goal with two arguments is true, or its first fault.
-fn truth_of_two(
-    alloc: Global,
-    goal: Builtin,
-    left: &Flat,
-    right: &Flat,
-) -> Result<bool, ArithFault>
+fn truth_of_two(alloc: Global, goal: Builtin, left: &Flat, right: &Flat) -> Result<bool, ArithFault>
     ensures { result ≢ Err ArithFault.Memory → IsFound goal (left.now ∷ right.now ∷ []) result }
 {
     match goal {
@@ -75,7 +63,7 @@ pub fn truth(alloc: Global, atom: &Flat) -> Result<Option<bool>, AllocError>
     ensures none { IfOk result (λ found. IsNone found ↔ Faults atom.now) }
     ensures some { IfOk result (λ found. IfSome found (λ holds. IsTrue holds ↔ IsTrueAtom atom.now)) }
 {
-    match goal_of(atom) {
+    match Builtin::of_atom(atom) {
         None | Some(Builtin::Fail) => Ok(Some(false)),
         Some(Builtin::True) => Ok(Some(true)),
         Some(goal) => {

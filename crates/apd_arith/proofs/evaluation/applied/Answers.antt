@@ -1,4 +1,4 @@
-use Rattle.std.proofs.Common.{◌≡◌, ap, sym, ◌∙◌, arith, List, length}
+use Rattle.std.proofs.Common.{◌≡◌, ap, ◌∙◌, arith, List, length}
 use Rattle.apd_arith.specs.Value.{Value, value_of}
 use Rattle.apd_arith.proofs.Values.{arguments_taken, arguments_left}
 use Rattle.apd_arith.proofs.evaluation.applied.Goals as goal

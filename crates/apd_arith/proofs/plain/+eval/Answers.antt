@@ -1,6 +1,6 @@
 use Rattle.std.proofs.Common.{rules, ◌≡◌, ℕ, ℤ, w64, FitsSigned, Ok, get_or, length, ap, sym, ◌∙◌, arith}
 use Rattle.std.proofs.lemmas.Int.{to_z-of_z}
-use Rattle.apd_term.specs.Term.{size, spell}
+use Rattle.apd_term.specs.Term.{spell}
 use Rattle.apd_term.specs.declared.term.Sym.TheVariants.{Var, Fun}
 use Rattle.apd_term.proofs.Spelling.{length-spell, size_positive}
 use Rattle.apd_arith.specs.Value.{Value, of_one_by, of_two_by}

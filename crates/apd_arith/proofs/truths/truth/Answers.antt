@@ -1,4 +1,4 @@
-use Rattle.std.proofs.Common.{◌≡◌, sym, ◌∙◌}
+use Rattle.std.proofs.Common.{sym, ◌∙◌}
 use Rattle.apd_arith.proofs.Found.{found_of, none_of, some_of}
 use Rattle.apd_arith.proofs.truths.truth.Goals as goal
 

@@ -9,7 +9,7 @@ use apd_term::standard::{
     ABS, DIFFERENT, EQUAL, FAIL, GREATER, GREATER_EQUAL, IS, LESS, LESS_EQUAL, MAX, MIN, MINUS,
     MOD, NIL, PLUS, QUOTIENT, REM, TIMES, TRUE, UNIFY,
 };
-use apd_term::{Atoms, Flat, NameId, Sym, Syms};
+use apd_term::{Atoms, Flat, NameId, Subst, Sym, apply};
 use std::alloc::Global;
 use std::process::Abort;
 use std::test::Fail;
@@ -211,13 +211,15 @@ fn the_first_fault_is_told(rt: HostRuntime) -> Result<(), Fail> {
 
 #[test]
 fn depth_has_no_limit(rt: HostRuntime) -> Result<(), Fail> {
-    let mut symbols = Syms::new(rt.alloc());
-    for _ in 0..3_001 {
-        symbols.push(NEGATE)?;
+    let mut deep = term(&rt, rt.alloc(), &[NEGATE, X])?;
+    for _ in 0..17 {
+        let again = Subst::single(rt.alloc(), 1, &deep)?;
+        deep = apply(rt.alloc(), &deep, &again)?;
     }
-    symbols.push(Int(7))?;
-    let deep = term(&rt, rt.alloc(), symbols.as_slice())?;
-    assert!(rt; eval(rt.alloc(), &deep) == Ok(-7));
+    let seven = Subst::single(rt.alloc(), 1, &Flat::integer(rt.alloc(), 7)?)?;
+    let closed = apply(rt.alloc(), &deep, &seven)?;
+    assert_eq!(rt; closed.size(), 131073);
+    assert!(rt; eval(rt.alloc(), &closed) == Ok(7));
     Ok(())
 }
 

@@ -1,4 +1,4 @@
--- When a ground atom of a built-in goal is true, and when its evaluation faults.
+-- When an atom of a built-in goal is true, and when its evaluation faults: of atoms without variables.
 use Rattle.std.specs.Prelude.{◌≡◌, ◌↔◌, ℤ, int_lt, int_le, Bool, true, not, IsTrue, List, [], ◌∷◌, Option, Some, None, Result, Ok, Err, IsErr, alloc_error}
 use Rattle.std.specs.declared.alloc.AllocError.{AllocError}
 use Rattle.std.specs.Ordering.{int_eq}
@@ -35,7 +35,7 @@ IsTrueComparison comparison a b = compared comparison (value a) (value b) ≡ Ok
 abbrev pub FaultsInComparison : Comparison → Term → Term → Type 0
 FaultsInComparison comparison a b = IsErr (compared comparison (value a) (value b))
 
--- a ground goal with these arguments is true
+-- a goal with these arguments, which have no variables, is true
 abbrev pub IsTrueGoal : Builtin → List Term → Type 0
 IsTrueGoal goals.True [] = Unit {0}
 IsTrueGoal goals.Unify (a ∷ b ∷ []) = a ≡ b
@@ -67,7 +67,7 @@ abbrev pub FaultsBy : Option Builtin → List Term → Type 0
 FaultsBy None ts = ⊥
 FaultsBy (Some goal) ts = FaultsInGoal goal ts
 
--- a ground atom of a built-in goal is true
+-- an atom of a built-in goal, without variables, is true
 abbrev pub IsTrueAtom : Term → Type 0
 IsTrueAtom t = IsTrueBy (builtin_of_atom t) (arguments t)
 

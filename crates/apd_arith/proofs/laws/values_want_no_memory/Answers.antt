@@ -1,0 +1,5 @@
+use Rattle.apd_arith.proofs.Memoryless.{no_memory}
+use Rattle.apd_arith.proofs.laws.values_want_no_memory.Goals as goal
+
+pub returns : goal.returns
+returns c = no_memory

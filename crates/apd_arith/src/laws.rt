@@ -1,0 +1,24 @@
+//! Laws of the operations and of values.
+
+ghost use Rattle.std.specs.Prelude.{◌≢◌, ℤ, pos, Err};
+ghost use Rattle.apd_term.specs.Term.{Term};
+ghost use Rattle.apd_arith.specs.declared.fault.ArithFault.TheVariants.{Memory};
+ghost use Rattle.apd_arith.specs.Integers.{truncated, floored, remainder, modulo, IsDivision, HasSignOf};
+ghost use Rattle.apd_arith.specs.Value.{value};
+
+/// `//` and `rem` divide with a remainder that has the sign of the dividend.
+pub fn remainders_have_the_sign_of_the_dividend()
+    ensures division { (x y : ℤ) → y ≢ pos 0 → IsDivision x y (truncated x y) (remainder x y) }
+    ensures sign { (x y : ℤ) → y ≢ pos 0 → HasSignOf x (remainder x y) }
+{}
+
+/// `mod` is the remainder of a division that has the sign of the divisor.
+pub fn moduli_have_the_sign_of_the_divisor()
+    ensures division { (x y : ℤ) → y ≢ pos 0 → IsDivision x y (floored x y) (modulo x y) }
+    ensures sign { (x y : ℤ) → y ≢ pos 0 → HasSignOf y (modulo x y) }
+{}
+
+/// No expression has want of memory as its value: that answer is never one that the definition gives.
+pub fn values_want_no_memory()
+    ensures { (t : Term) → value t ≢ Err Memory }
+{}

@@ -19,4 +19,6 @@ mod tuples;
 pub use running::{RunFault, run};
 
 #[cfg(test)]
+mod alike;
+#[cfg(test)]
 mod tests;

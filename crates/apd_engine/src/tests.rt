@@ -1,36 +1,34 @@
 //! Runs over a table of programs.
 
-use crate::plain_run::plain_run;
 use crate::run;
 use apd_clauses::{Clause, Program, is_clause, is_runnable};
-use apd_ports::{Event, Hook, HookFault, Port, Shown};
-use apd_term::{Atoms, Flat, NameId, Query, Ran, RunEnd, RunError, Sym, Tuple, VarNames};
+use apd_ports::{Event, Hook, HookFault, Port};
+use apd_term::{Atoms, Flat, NameId, Query, Ran, RunEnd, Sym, Tuple, VarNames};
 use std::alloc::{AllocError, Global};
-use std::collections::VecDeque;
 use std::process::Abort;
 use std::test::Fail;
 
-const X: Sym = Sym::Var(1);
+pub(crate) const X: Sym = Sym::Var(1);
 
-const Y: Sym = Sym::Var(2);
+pub(crate) const Y: Sym = Sym::Var(2);
 
-const Z: Sym = Sym::Var(3);
+pub(crate) const Z: Sym = Sym::Var(3);
 
-const W: Sym = Sym::Var(4);
+pub(crate) const W: Sym = Sym::Var(4);
 
-const NIL: Sym = Sym::Fun(NameId(0), 0);
+pub(crate) const NIL: Sym = Sym::Fun(NameId(0), 0);
 
-const CONS: Sym = Sym::Fun(NameId(1), 2);
+pub(crate) const CONS: Sym = Sym::Fun(NameId(1), 2);
 
-const P: Sym = Sym::Fun(NameId(1000), 0);
+pub(crate) const P: Sym = Sym::Fun(NameId(1000), 0);
 
-const Q: Sym = Sym::Fun(NameId(1001), 1);
+pub(crate) const Q: Sym = Sym::Fun(NameId(1001), 1);
 
-const R: Sym = Sym::Fun(NameId(1002), 2);
+pub(crate) const R: Sym = Sym::Fun(NameId(1002), 2);
 
-const F: Sym = Sym::Fun(NameId(1003), 1);
+pub(crate) const F: Sym = Sym::Fun(NameId(1003), 1);
 
-const APPEND: Sym = Sym::Fun(NameId(1004), 3);
+pub(crate) const APPEND: Sym = Sym::Fun(NameId(1004), 3);
 
 /// A port, its box, caller and depth, and its atom in prefix order.
 #[derive(Clone, Copy)]
@@ -123,7 +121,7 @@ fn tuple(
 }
 
 /// Adds a clause to the program.
-fn add(
+pub(crate) fn add(
     rt: &impl Abort,
     alloc: Global,
     program: &mut Program,
@@ -173,7 +171,7 @@ fn check(
     Ok(())
 }
 
-fn query(
+pub(crate) fn query(
     rt: &impl Abort,
     alloc: Global,
     head: &[Sym],
@@ -289,11 +287,10 @@ fn ran(
 }
 
 #[test]
-fn deep_calls_and_large_instances_end_in_order(rt: HostRuntime) -> Result<(), Fail> {
+fn five_thousand_nested_calls_end_in_order(rt: HostRuntime) -> Result<(), Fail> {
     let alloc = rt.alloc();
     let mut program = Program::new(alloc);
     add(&rt, alloc, &mut program, &[P], &[&[P]])?;
-    add(&rt, alloc, &mut program, &[Q, X], &[&[Q, R, X, X]])?;
     let loops = query(&rt, alloc, &[NIL], &[&[P]])?;
     let deep = Ran {
         end: RunEnd::Budget,
@@ -301,166 +298,5 @@ fn deep_calls_and_large_instances_end_in_order(rt: HostRuntime) -> Result<(), Fa
         answers: 0,
     };
     assert!(rt; ran(&rt, alloc, &program, &loops, 5000) == Some(deep));
-    let doubles = query(&rt, alloc, &[NIL], &[&[Q, Sym::Int(1)]])?;
-    let large = Ran {
-        end: RunEnd::Error(RunError::Size, 19),
-        ports: 19,
-        answers: 0,
-    };
-    assert!(rt; ran(&rt, alloc, &program, &doubles, 5000) == Some(large));
-    Ok(())
-}
-
-/// A hook that compares what it is shown with what a plain run shows.
-#[derive(Drop)]
-struct Comparer {
-    expected: VecDeque<Shown>,
-    same: bool,
-}
-
-impl Hook for Comparer {
-    ghost faults = { λ _. 0 };
-
-    ghost step = { λ _ _ _ _. Unit {0} };
-
-    fn event(&mut self, event: &Event) -> Result<(), HookFault> {
-        let same = match self.expected.pop_front() {
-            Some(Shown::Port(want)) => is_same(event, &want),
-            _ => false,
-        };
-        self.same = self.same && same;
-        Ok(())
-    }
-
-    fn answer(&mut self, values: &Flat) -> Result<(), HookFault> {
-        let same = match self.expected.pop_front() {
-            Some(Shown::Answer(want)) => values.same(&want),
-            _ => false,
-        };
-        self.same = self.same && same;
-        Ok(())
-    }
-}
-
-/// Whether the two ports are equal.
-fn is_same(event: &Event, want: &Event) -> bool {
-    event.port == want.port
-        && event.box_no == want.box_no
-        && event.caller == want.caller
-        && event.depth == want.depth
-        && event.atom.same(&want.atom)
-}
-
-/// Runs a query by the engine and by the plain program, and compares what they show, their ends and their counts.
-fn compare(
-    rt: &impl Abort,
-    alloc: Global,
-    program: &Program,
-    query: &Query,
-    budget: u32,
-    answers: u32,
-) -> Result<(), AllocError> {
-    let runnable = is_runnable(&query.tuple);
-    assert!(rt; runnable);
-    assert!(rt; 0 < answers);
-    assert!(rt; budget <= 1000000);
-    assert!(rt; answers <= 1000000);
-    let plain = plain_run(alloc, program, query, budget, answers)?.expect(rt, "a small search");
-    let mut hook = Comparer {
-        expected: plain.shown,
-        same: true,
-    };
-    let ran = run(alloc, program, query, budget, answers, &mut hook);
-    assert!(rt; hook.same);
-    assert!(rt; hook.expected.is_empty());
-    assert!(rt; ran == Ok(plain.ran));
-    Ok(())
-}
-
-/// A clause as a head and a body.
-type Written<'a> = (&'a [Sym], &'a [&'a [Sym]]);
-
-/// A program, a query, and the least and the greatest budget that it is run with.
-#[derive(Clone, Copy)]
-struct Case<'a>(&'a [Written<'a>], Written<'a>, u32, u32);
-
-const ONE: Sym = Sym::Int(1);
-
-const TWO: Sym = Sym::Int(2);
-
-/// Facts, and goals that share variables.
-const FACTS: [Written; 5] = [
-    (&[Q, ONE], &[]),
-    (&[Q, TWO], &[]),
-    (&[R, ONE, ONE], &[]),
-    (&[R, TWO, X], &[]),
-    (&[R, X, TWO], &[]),
-];
-
-/// Lists that are appended.
-const LISTS: [Written; 2] = [
-    (&[APPEND, NIL, X, X], &[]),
-    (&[APPEND, CONS, X, Y, Z, CONS, X, W], &[&[APPEND, Y, Z, W]]),
-];
-
-/// A goal that calls itself, and one whose argument doubles.
-const LOOPS: [Written; 3] = [
-    (&[P], &[&[P]]),
-    (&[Q, X], &[&[Q, R, X, X]]),
-    (&[R, X, F, X], &[&[P]]),
-];
-
-/// Rules with several goals, the second of which fails at first.
-const RULES: [Written; 5] = [
-    (&[P], &[&[Q, X], &[R, X, Y], &[Q, Y]]),
-    (&[P], &[]),
-    (&[Q, TWO], &[]),
-    (&[Q, ONE], &[]),
-    (&[R, ONE, F, X], &[]),
-];
-
-#[test]
-fn the_plain_program_runs_alike(rt: HostRuntime) -> Result<(), Fail> {
-    let alloc = rt.alloc();
-    let cases = [
-        Case(&FACTS, (&[NIL], &[]), 0, 1),
-        Case(&FACTS, (&[CONS, X, NIL], &[&[Q, X]]), 0, 8),
-        Case(&FACTS, (&[CONS, X, Y], &[&[Q, X], &[R, X, Y]]), 0, 24),
-        Case(
-            &FACTS,
-            (&[CONS, X, Y], &[&[R, X, Y], &[R, Y, X], &[P]]),
-            0,
-            30,
-        ),
-        Case(
-            &LISTS,
-            (&[CONS, X, Y], &[&[APPEND, X, Y, CONS, ONE, NIL]]),
-            0,
-            12,
-        ),
-        Case(
-            &LISTS,
-            (&[CONS, X, Y], &[&[APPEND, X, CONS, ONE, Y, X]]),
-            0,
-            9,
-        ),
-        Case(&LISTS, (&[X], &[&[APPEND, X, Y, Z]]), 0, 14),
-        Case(&LOOPS, (&[NIL], &[&[P]]), 0, 12),
-        Case(&LOOPS, (&[NIL], &[&[R, X, X]]), 0, 3),
-        Case(&LOOPS, (&[NIL], &[&[Q, ONE]]), 18, 20),
-        Case(&RULES, (&[NIL], &[&[P]]), 0, 20),
-    ];
-    for Case(clauses, (head, body), least, most) in cases {
-        let mut program = Program::new(alloc);
-        for (clause_head, clause_body) in clauses {
-            add(&rt, alloc, &mut program, clause_head, clause_body)?;
-        }
-        let asked = query(&rt, alloc, head, body)?;
-        for budget in least..=most {
-            for answers in 1..=3 {
-                compare(&rt, alloc, &program, &asked, budget, answers)?;
-            }
-        }
-    }
     Ok(())
 }

@@ -17,11 +17,19 @@ const OPERATORS: [&str; 7] = [
     "initialization",
 ];
 
-/// The names of built-in goals, control and impure predicates that are written as words.
-const RESERVED: [&str; 59] = [
+/// The names of built-in goals, control and impure predicates.
+const RESERVED: [&str; 67] = [
     "true",
     "fail",
+    "=",
     "is",
+    "=:=",
+    "=\\=",
+    "<",
+    "=<",
+    ">",
+    ">=",
+    "!",
     "not",
     "compare",
     "var",
@@ -61,8 +69,8 @@ const RESERVED: [&str; 59] = [
     "retract",
     "retractall",
     "abolish",
-    "op",
     "consult",
+    "op",
     "catch",
     "throw",
     "halt",

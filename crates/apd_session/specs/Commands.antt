@@ -1,5 +1,5 @@
 -- The step for each command.
-use Rattle.std.specs.Prelude.{ℕ, ◌≡◌, ◌<◌, ◌≤◌, ◌+◌, List, [], ◌∷◌, ◌++◌, length}
+use Rattle.std.specs.Prelude.{ℕ, ◌≡◌, ◌<◌, ◌≤◌, ◌+◌, List, [], ◌∷◌, length}
 use Rattle.apd_console.specs.declared.line.Line.{Line}
 use Rattle.apd_console.specs.declared.line.Line.TheVariants.{Text, TooLong}
 use Rattle.apd_term.specs.Growth.{GrowsBy}

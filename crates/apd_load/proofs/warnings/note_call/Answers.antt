@@ -1,4 +1,4 @@
-use Rattle.std.proofs.Common.{◌≡◌, sym, ◌∙◌, Some, None}
+use Rattle.std.proofs.Common.{◌≡◌, sym, ◌∙◌, Some}
 use Rattle.indexmap.proofs.CallerLemmas.{insert_entry-new}
 use Rattle.apd_clauses.specs.Clauses.{same_pred}
 use Rattle.apd_term.specs.Term.{predicate_of}

@@ -1,4 +1,4 @@
-use Rattle.std.proofs.Common.{◌≡◌, ◌∙◌, sym, ap, refl, subst, List, ℕ, length, Err}
+use Rattle.std.proofs.Common.{◌≡◌, ◌∙◌, sym, ap, refl, subst, List, ℕ, Err}
 use Rattle.apd_load.specs.Program.{Loads, loads, refused, program_of}
 use Rattle.apd_text.specs.declared.entry.Entry.TheVariants as entries
 use Rattle.apd_term.specs.Growth.{Grown}

@@ -1,5 +1,5 @@
-use Rattle.std.proofs.Common.{◌∙◌, ap, refl, subst, List, ℕ, [], ◌∷◌, ◌++◌, length}
-use Rattle.apd_console.specs.Utterance.{Utterance, Utters, UttersFront}
+use Rattle.std.proofs.Common.{List, ℕ, [], ◌∷◌, ◌++◌, length}
+use Rattle.apd_console.specs.Utterance.{Utters, UttersFront}
 use Rattle.apd_console.proofs.Uttering.{UttersFront-less, UttersFront-more, Utters-more}
 use Rattle.apd_text.specs.declared.entry.Entry.TheVariants.{Loaded}
 use Rattle.apd_session.specs.Steps.{begun, load_said, plain, warned}

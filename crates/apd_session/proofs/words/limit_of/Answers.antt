@@ -1,4 +1,4 @@
-use Rattle.std.proofs.Common.{◌≡◌, ◌∙◌, ap, subst, sym, true, ℕ, Result}
+use Rattle.std.proofs.Common.{◌≡◌, ◌∙◌, ap, subst, sym, true}
 use Rattle.apd_session.specs.Words.{is_number, limit_of}
 use Rattle.apd_session.proofs.Digits.{limit_read, parsed}
 use Rattle.apd_session.proofs.words.limit_of.Goals as goal

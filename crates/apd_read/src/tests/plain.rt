@@ -70,6 +70,20 @@ fn main_of(pieces: &[Piece]) -> Option<usize> {
     main
 }
 
+fn prefixed(alloc: Global, operator: &str, right: Part) -> Result<Part, AllocError> {
+    Ok(Part {
+        text: format!(in alloc; "{operator}({})", right.text)?,
+        level: right.level.saturating_add(1),
+    })
+}
+
+fn infixed(alloc: Global, operator: &str, left: Part, right: Part) -> Result<Part, AllocError> {
+    Ok(Part {
+        text: format!(in alloc; "{operator}({},{})", left.text, right.text)?,
+        level: left.level.max(right.level).saturating_add(1),
+    })
+}
+
 /// The pieces read for a priority, or none; `fuel` bounds how deep the operators nest.
 fn split(
     alloc: Global,
@@ -89,29 +103,25 @@ fn split(
             _ => Ok(None),
         };
     };
-    match pieces.get(place) {
-        Some(Piece::Operator(o, text)) if o.priority <= max => {
-            let Some(right) = split(alloc, fuel - 1, o.right(), &pieces[place + 1..])? else {
-                return Ok(None);
-            };
-            if o.is_prefix() {
-                if place > 0 {
-                    return Ok(None);
-                }
-                return Ok(Some(Part {
-                    text: format!(in alloc; "{text}({})", right.text)?,
-                    level: right.level.saturating_add(1),
-                }));
-            }
-            let Some(left) = split(alloc, fuel - 1, o.left(), &pieces[..place])? else {
-                return Ok(None);
-            };
-            Ok(Some(Part {
-                text: format!(in alloc; "{text}({},{})", left.text, right.text)?,
-                level: left.level.max(right.level).saturating_add(1),
-            }))
-        }
-        _ => Ok(None),
+    let (Some(before), Some(behind)) = (pieces.get(..place), pieces.get(place.saturating_add(1)..))
+    else {
+        return Ok(None);
+    };
+    let Some(Piece::Operator(o, text)) = pieces.get(place) else {
+        return Ok(None);
+    };
+    if o.priority > max || o.is_prefix() && place > 0 {
+        return Ok(None);
+    }
+    let Some(right) = split(alloc, fuel - 1, o.right(), behind)? else {
+        return Ok(None);
+    };
+    if o.is_prefix() {
+        return Ok(Some(prefixed(alloc, text.as_str(), right)?));
+    }
+    match split(alloc, fuel - 1, o.left(), before)? {
+        Some(left) => Ok(Some(infixed(alloc, text.as_str(), left, right)?)),
+        None => Ok(None),
     }
 }
 

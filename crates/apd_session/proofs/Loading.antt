@@ -50,14 +50,14 @@ module _ (names : List (List ℕ)) (options : Options) (text : List ℕ) (progra
       let first = subst (λ (p : Kept). Ends (opening names s) (at p x a log z c) (at l y b log_now w d) e) start ended in
       let second = subst (λ (p : List Entry). Ends (opening names s) (at fresh x a p z c) (at l y b log_now w d) e) empty first in
       let third = subst (λ (p : State). Ends (opening names p) (at fresh x a [] z c) (at l y b log_now w d) e) state second in
-      rw is (answers_ended (opening names (state_for program options)) l x y z w a b c d log_now e sound (hears_input (talker names) (state_for program options) (load_said names program)) third)
+      rw is (answers_ended (opening names (state_for program options)) l x y z w a b c d log_now e sound (hears_input (talker names) (state_for program options) (load_said names program (warnings_of program))) third)
 
   pub loaded_broken : (t : Trouble) → BreaksOff begun (opening names s) (at k x a log z c) (at l y b log_now w d) t → Answers x y (Rose a b) (λ input ends. after_load names options input ends (program_of names text)) (status_of t) log_now z w
   loaded_broken t broken =
       let first = subst (λ (p : Kept). BreaksOff begun (opening names s) (at p x a log z c) (at l y b log_now w d) t) start broken in
       let second = subst (λ (p : List Entry). BreaksOff begun (opening names s) (at fresh x a p z c) (at l y b log_now w d) t) empty first in
       let third = subst (λ (p : State). BreaksOff begun (opening names p) (at fresh x a [] z c) (at l y b log_now w d) t) state second in
-      rw is (answers_broken (opening names (state_for program options)) l x y z w a b c d log_now t sound (hears_input (talker names) (state_for program options) (load_said names program)) third)
+      rw is (answers_broken (opening names (state_for program options)) l x y z w a b c d log_now t sound (hears_input (talker names) (state_for program options) (load_said names program (warnings_of program))) third)
 
 -- which statuses tell of a fault
 pub ended_read : (e : Ending) → status_after e ≡ statuses.ReadFault → e ≡ ending.ReadFault

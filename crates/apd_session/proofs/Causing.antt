@@ -12,7 +12,7 @@ use Rattle.apd_plain.specs.Lines.{query_of_line}
 use Rattle.apd_term.specs.declared.run.Query.{Query}
 use Rattle.apd_text.specs.declared.entry.Entry.{Entry}
 use Rattle.apd_session.specs.Causes.{Comes, FileHas, IsLoadable, status_for, status_of_input, status_of_load, status_of_options, status_of_text}
-use Rattle.apd_session.specs.Outcome.{IsMet, IsSaid, Meets}
+use Rattle.apd_session.specs.Outcome.{IsMet, IsSaid, Meets, NoneFails}
 use Rattle.apd_session.specs.Session.{World, Loading, Gives, Breaks, Told, after_load, after_options, after_words, session_of, status_after}
 use Rattle.apd_session.specs.Words.{Options, options_of}
 use Rattle.apd_session.specs.Steps.{command_read, is_blank, step, talker}
@@ -108,10 +108,10 @@ not_write st (inr (inr is)) never = inr is
 
 pub session_done : (words names : List (List ℕ)) (content : List ℕ → Option (List ℕ)) (left now : Option (List ℕ)) (R Q W : Type 0) (st : Status) (log : List Entry) (x y : Option (List ℕ)) →
     Meets (session_of words names) words content left now R Q st log x y → (st ≡ statuses.WriteFault → W) →
-    (text input : List ℕ) → FileHas words content text → length text ≤ 1048576 → IsLoadable (program_of names text) → left ≡ Some input → length input < 16777216 → (R → ⊥) → (Q → ⊥) → (W → ⊥) →
+    (text input : List ℕ) → FileHas words content text → length text ≤ 1048576 → IsLoadable (program_of names text) → left ≡ Some input → length input < 16777216 → NoneFails R Q W →
     (st ≡ statuses.Done) ⊎ (st ≡ statuses.Memory)
-session_done words names content left now R Q W st log x y meaning write text input file size is given few no_loads no_reads no_writes =
-    let same = world_is words names content left now R Q meaning.0 text input (options_of words) refl meaning.1 (some_content (options_of words) file.0 content text file.1 file.2) given no_loads no_reads in
+session_done words names content left now R Q W st log x y meaning write text input file size is given few none =
+    let same = world_is words names content left now R Q meaning.0 text input (options_of words) refl meaning.1 (some_content (options_of words) file.0 content text file.1 file.2) given none.0 none.1 in
     let due : (session_of words names meaning.0).status ≡ statuses.Done =
     ap (λ (t : Told). t.status) same ∙ options_status names record { program = Gives text; input = input; ends = Ended } (options_of words) ∙ file_done words names content text input file size is few in
-    not_write st (subst (λ (d : Status). Comes st d) due (comes st _ log x y meaning.2)) (λ e. no_writes (write e))
+    not_write st (subst (λ (d : Status). Comes st d) due (comes st _ log x y meaning.2)) (λ e. none.2 (write e))

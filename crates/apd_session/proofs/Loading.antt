@@ -1,6 +1,5 @@
 -- A loaded program is ready for the lines of the input.
 use Rattle.std.proofs.Common.{◌≡◌, ℕ, ◌+◌, ◌≤◌, List, [], ◌++◌, length, refl, ap, sym, ◌∙◌, arith, length-append, Option, subst}
-use Rattle.std.proofs.lemmas.List.{append-nil}
 use Rattle.apd_clauses.specs.declared.clause.Clause.{Clause}
 use Rattle.apd_term.specs.Growth.{GrowsBy, Grown}
 use Rattle.apd_io.specs.Outside.{Rose}

@@ -21,7 +21,7 @@ use Rattle.apd_text.specs.declared.entry.Entry.TheVariants as entry
 use Rattle.apd_session.specs.Steps.{begun, plain}
 use Rattle.apd_session.specs.Session.{World, Loading, Gives, Breaks, Told, tells, told_of, status_after, after_load, after_words, session_of}
 use Rattle.apd_session.specs.Words.{Options, options_of}
-use Rattle.apd_session.specs.Outcome.{Answers, IsDeaf, IsLoading, IsMet, IsSaid, IsWhole, Meets, status_of}
+use Rattle.apd_session.specs.Outcome.{Answers, IsDeaf, IsLoading, IsMet, IsSaid, IsWhole, Meets, NoneFails, status_of}
 use Rattle.apd_session.specs.declared.status.Status.{Status}
 use Rattle.apd_session.specs.declared.status.Status.TheVariants as statuses
 
@@ -215,8 +215,8 @@ world_is words names content left now R Q world program bytes (Some options) is 
 
 pub complete : (words names : List (List ℕ)) (content : List ℕ → Option (List ℕ)) (left now : Option (List ℕ)) (R Q W : Type 0) (st : Status) (log : List Entry) (x y : Option (List ℕ)) →
     Meets (session_of words names) words content left now R Q st log x y → (st ≡ statuses.WriteFault → W) →
-    (program bytes : List ℕ) → IfSome (options_of words) (λ o. content o.program ≡ Some program) → left ≡ Some bytes → (R → ⊥) → (Q → ⊥) → (W → ⊥) →
+    (program bytes : List ℕ) → IfSome (options_of words) (λ o. content o.program ≡ Some program) → left ≡ Some bytes → NoneFails R Q W →
     (st ≡ statuses.Memory) ⊎ IsWhole st (session_of words names record { program = Gives program; input = bytes; ends = Ended }) log x y
-complete words names content left now R Q W st log x y meaning write program bytes told given loads reads writes =
-    let same = world_is words names content left now R Q meaning.0 program bytes (options_of words) refl meaning.1 told given loads reads in
-    said_is st _ log x y (rw same at meaning.2) (λ e. writes (write e))
+complete words names content left now R Q W st log x y meaning write program bytes told given none =
+    let same = world_is words names content left now R Q meaning.0 program bytes (options_of words) refl meaning.1 told given none.0 none.1 in
+    said_is st _ log x y (rw same at meaning.2) (λ e. none.2 (write e))

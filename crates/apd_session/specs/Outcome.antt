@@ -27,6 +27,10 @@ pub record IsMet (words : List (List ℕ)) (content : List ℕ → Option (List 
   pub fails : world.ends ≡ Fails → read_failed
   pub taken : IsTaken left left_now world.input world.ends
 
+-- no load, no read and no write failed
+abbrev pub NoneFails : Type 0 → Type 0 → Type 0 → Type 0
+NoneFails load_failed read_failed write_failed = (¬ load_failed) × (¬ read_failed) × (¬ write_failed)
+
 -- all was said and printed, and this is the status
 pub record IsWhole (status : Status) (told : Told) (log : List Entry) (held held_now : Option (List ℕ)) : Type 0 where
   pub status_is : told.status ≡ status

@@ -1,5 +1,5 @@
 -- What the words of the command line ask for.
-use Rattle.std.specs.Prelude.{ℕ, ◌&&◌, List, [], ◌∷◌, length, Bool, false, if◌then◌else◌, Option, None, Some, nat_eq, nat_le, codes}
+use Rattle.std.specs.Prelude.{ℕ, ◌&&◌, List, [], ◌∷◌, length, Bool, false, if◌then◌else◌, Option, None, Some, nat_eq, nat_le, codes, map, String, string_bytes}
 use Rattle.std.specs.Option.{option_and_then, option_map}
 use Rattle.std.specs.Char.{is_ascii_digit}
 use Rattle.std.specs.List.{list_all}
@@ -7,6 +7,10 @@ use Rattle.std.specs.Str.{bytes_eq}
 use Rattle.std.specs.Str.Parse.{digits_value}
 use Rattle.apd_ports.specs.declared.filter.Filter.{Filter}
 use Rattle.apd_ports.specs.declared.filter.Filter.TheVariants.{Off, All}
+
+-- the bytes of each word
+abbrev pub bytes_of : {A : Type 0} → List (String A) → List (List ℕ)
+bytes_of words = map (λ w. string_bytes w) words
 
 -- what the words ask for
 pub record Options : Type 0 where

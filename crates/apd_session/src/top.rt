@@ -10,11 +10,11 @@ ghost use Rattle.apd_term.specs.StandardNames.{standard_names};
 ghost use Rattle.apd_text.specs.Named.{EntryIsNamed};
 ghost use Rattle.apd_term.specs.Growth.{Grown};
 ghost use Rattle.apd_session.specs.Causes.{Comes, FileHas, IsLoadable, status_for};
-ghost use Rattle.apd_session.specs.Outcome.{Answers, IsMet, IsSaid, IsWhole, Meets};
+ghost use Rattle.apd_session.specs.Outcome.{Answers, IsMet, IsSaid, IsWhole, Meets, NoneFails};
 ghost use Rattle.apd_session.specs.Running.{IsReady};
 ghost use Rattle.apd_session.specs.Session.{Gives, World, after_load, session_of, tells};
 ghost use Rattle.apd_session.specs.Steps.{begun, load_said, talker};
-ghost use Rattle.apd_session.specs.Words.{Options, options_of};
+ghost use Rattle.apd_session.specs.Words.{Options, bytes_of, options_of};
 
 use crate::say::say;
 use crate::state::State;
@@ -143,7 +143,7 @@ fn serve<F: Files, S: Source, K: Sink>(
 ) -> Status
     requires empty { log.old.entries ≡ [] }
     requires standard { log.old.names ≡ standard_names }
-    ensures meaning { (names : List (List ℕ)) → Grown log.new.names names → Meets (session_of (map (λ w. string_bytes w) words.now) names) (map (λ w. string_bytes w) words.now) (F.content files.old) (S.left input.old) (S.left input.new)
+    ensures meaning { (names : List (List ℕ)) → Grown log.new.names names → Meets (session_of (bytes_of words.now) names) (bytes_of words.now) (F.content files.old) (S.left input.old) (S.left input.new)
         (Rose (F.faults files.old) (F.faults files.new)) (Rose (S.faults input.old) (S.faults input.new)) result log.new.entries (K.held out.old) (K.held out.new) }
     ensures names { Grown log.old.names log.new.names }
     ensures read { result ≡ Status.ReadFault → Rose (F.faults files.old) (F.faults files.new) ⊎ Rose (S.faults input.old) (S.faults input.new) }
@@ -187,7 +187,7 @@ pub fn session<F: Files, S: Source, K: Sink>(
     // failed, and none where what is said doesn't depend on the input. The log has the entries that the definition gives
     // for this world, and the status is its status, or, after a write fault or want of memory, the front of these entries.
     // The sink gained the texts of the log; there, the last of them perhaps without its end.
-    ensures meaning { (names : List (List ℕ)) → Grown log.new.names names → Meets (session_of (map (λ w. string_bytes w) words.now) names) (map (λ w. string_bytes w) words.now) (F.content files.old) (S.left input.old) (S.left input.new)
+    ensures meaning { (names : List (List ℕ)) → Grown log.new.names names → Meets (session_of (bytes_of words.now) names) (bytes_of words.now) (F.content files.old) (S.left input.old) (S.left input.new)
         (Rose (F.faults files.old) (F.faults files.new)) (Rose (S.faults input.old) (S.faults input.new)) result log.new.entries (K.held out.old) (K.held out.new) }
     ensures names { Grown log.old.names log.new.names }
 
@@ -197,18 +197,18 @@ pub fn session<F: Files, S: Source, K: Sink>(
 
     // There is such a world, and the status is the one that the first cause met in it calls for, where no write failed and
     // memory sufficed.
-    ensures status { (names : List (List ℕ)) → Grown log.new.names names → (world : World) × IsMet (map (λ w. string_bytes w) words.now) (F.content files.old) (S.left input.old) (S.left input.new)
-        (Rose (F.faults files.old) (F.faults files.new)) (Rose (S.faults input.old) (S.faults input.new)) world × Comes result (status_for (map (λ w. string_bytes w) words.now) names world) }
+    ensures status { (names : List (List ℕ)) → Grown log.new.names names → (world : World) × IsMet (bytes_of words.now) (F.content files.old) (S.left input.old) (S.left input.new)
+        (Rose (F.faults files.old) (F.faults files.new)) (Rose (S.faults input.old) (S.faults input.new)) world × Comes result (status_for (bytes_of words.now) names world) }
 
     // Where the words name a file that is a program, the input isn't over its limit, all is told and no count rises, the session is done, or memory ran out.
-    ensures done { (text bytes : List ℕ) → FileHas (map (λ w. string_bytes w) words.now) (F.content files.old) text → length text ≤ 1048576 → IsLoadable (program_of log.new.names text) → S.left input.old ≡ Some bytes → length bytes < 16777216 →
-        (Rose (F.faults files.old) (F.faults files.new) → ⊥) → (Rose (S.faults input.old) (S.faults input.new) → ⊥) → (Rose (K.faults out.old) (K.faults out.new) → ⊥) →
+    ensures done { (text bytes : List ℕ) → FileHas (bytes_of words.now) (F.content files.old) text → length text ≤ 1048576 → IsLoadable (program_of log.new.names text) → S.left input.old ≡ Some bytes → length bytes < 16777216 →
+        NoneFails (Rose (F.faults files.old) (F.faults files.new)) (Rose (S.faults input.old) (S.faults input.new)) (Rose (K.faults out.old) (K.faults out.new)) →
         (result ≡ Status.Done) ⊎ (result ≡ Status.Memory) }
 
     // Where all is told and no count rises, the entries and the status are the definition's, or memory ran out.
-    ensures complete { (names : List (List ℕ)) → Grown log.new.names names → (program bytes : List ℕ) → IfSome (options_of (map (λ w. string_bytes w) words.now)) (λ o. F.content files.old o.program ≡ Some program) → S.left input.old ≡ Some bytes →
-        (Rose (F.faults files.old) (F.faults files.new) → ⊥) → (Rose (S.faults input.old) (S.faults input.new) → ⊥) → (Rose (K.faults out.old) (K.faults out.new) → ⊥) →
-        (result ≡ Status.Memory) ⊎ IsWhole result (session_of (map (λ w. string_bytes w) words.now) names record { program = Gives program; input = bytes; ends = Ended }) log.new.entries (K.held out.old) (K.held out.new) }
+    ensures complete { (names : List (List ℕ)) → Grown log.new.names names → (program bytes : List ℕ) → IfSome (options_of (bytes_of words.now)) (λ o. F.content files.old o.program ≡ Some program) → S.left input.old ≡ Some bytes →
+        NoneFails (Rose (F.faults files.old) (F.faults files.new)) (Rose (S.faults input.old) (S.faults input.new)) (Rose (K.faults out.old) (K.faults out.new)) →
+        (result ≡ Status.Memory) ⊎ IsWhole result (session_of (bytes_of words.now) names record { program = Gives program; input = bytes; ends = Ended }) log.new.entries (K.held out.old) (K.held out.new) }
 {
     serve(alloc, words, files, input, out, log)
 }

@@ -2,8 +2,7 @@
 ghost use Rattle.std.specs.Prelude.{◌≡◌, ◌<◌, ◌≤◌, ◌^◌, map, MatchOption, IfSome, Some, None};
 ghost use Rattle.std.specs.Char.{is_ascii_digit};
 ghost use Rattle.std.specs.List.{list_all};
-ghost use Rattle.std.specs.String.{string_bytes};
-ghost use Rattle.apd_session.specs.Words.{Options, file_from, filter_from, is_number, limit_at, limit_from, limit_of, options_from, options_of};
+ghost use Rattle.apd_session.specs.Words.{Options, bytes_of, file_from, filter_from, is_number, limit_at, limit_from, limit_of, options_from, options_of};
 
 use apd_ports::Filter;
 
@@ -68,8 +67,8 @@ fn limit_of(word: &str) -> Option<u32>
 /// what follows is no limit.
 fn read_limit<'a>(words: &'a [String], name: &str, usual: u32) -> Option<(u32, &'a [String])>
     requires { (0 < usual) × (usual ≤ 1000000) }
-    ensures limit { MatchOption result (limit_from name.now usual (map (λ w. string_bytes w) words.now) ≡ None)
-        (λ r. limit_from name.now usual (map (λ w. string_bytes w) words.now) ≡ Some (r.0, map (λ w. string_bytes w) r.1.now)) }
+    ensures limit { MatchOption result (limit_from name.now usual (bytes_of words.now) ≡ None)
+        (λ r. limit_from name.now usual (bytes_of words.now) ≡ Some (r.0, bytes_of r.1.now)) }
     ensures within { IfSome result (λ r. (0 < r.0) × (r.0 ≤ 1000000)) }
 {
     match words {
@@ -83,7 +82,7 @@ fn read_limit<'a>(words: &'a [String], name: &str, usual: u32) -> Option<(u32, &
 
 /// The filter that a run begins with, and the words behind it.
 fn read_filter(words: &[String]) -> (Filter, &[String])
-    ensures { filter_from (map (λ w. string_bytes w) words.now) ≡ (result.0, map (λ w. string_bytes w) result.1.now) }
+    ensures { filter_from (bytes_of words.now) ≡ (result.0, bytes_of result.1.now) }
 {
     match words {
         [word, rest @ ..] if word.as_str() == "--trace" => (Filter::All, rest),
@@ -93,7 +92,7 @@ fn read_filter(words: &[String]) -> (Filter, &[String])
 
 /// The name of the file, where it is the only word.
 fn read_file(words: &[String]) -> Option<&str>
-    ensures { MatchOption result (file_from (map (λ w. string_bytes w) words.now) ≡ None) (λ f. file_from (map (λ w. string_bytes w) words.now) ≡ Some f.now) }
+    ensures { MatchOption result (file_from (bytes_of words.now) ≡ None) (λ f. file_from (bytes_of words.now) ≡ Some f.now) }
 {
     match words {
         [file] if !file.as_bytes().starts_with(b"-") => Some(file.as_str()),
@@ -103,8 +102,8 @@ fn read_file(words: &[String]) -> Option<&str>
 
 /// The options that the words behind the program's own name give, where they keep their rules.
 fn read_options(words: &[String]) -> Option<Asked<'_>>
-    ensures options { MatchOption result (options_from (map (λ w. string_bytes w) words.now) ≡ None)
-        (λ a. options_from (map (λ w. string_bytes w) words.now) ≡ Some record { program = a.program.now; budget = a.budget; answers = a.answers; filter = a.filter }) }
+    ensures options { MatchOption result (options_from (bytes_of words.now) ≡ None)
+        (λ a. options_from (bytes_of words.now) ≡ Some record { program = a.program.now; budget = a.budget; answers = a.answers; filter = a.filter }) }
     ensures limits { IfSome result (λ a. (a.budget ≤ 1000000) × (0 < a.answers) × (a.answers ≤ 1000000)) }
 {
     let (budget, words) = read_limit(words, "--budget", BUDGET)?;
@@ -122,8 +121,8 @@ fn read_options(words: &[String]) -> Option<Asked<'_>>
 /// The options that the words give, where they keep their rules.
 #[tactic(auto, unfolding(crate::specs::Words::options_of))]
 pub(crate) fn read_words(words: &[String]) -> Option<Asked<'_>>
-    ensures options { MatchOption result (options_of (map (λ w. string_bytes w) words.now) ≡ None)
-        (λ a. options_of (map (λ w. string_bytes w) words.now) ≡ Some record { program = a.program.now; budget = a.budget; answers = a.answers; filter = a.filter }) }
+    ensures options { MatchOption result (options_of (bytes_of words.now) ≡ None)
+        (λ a. options_of (bytes_of words.now) ≡ Some record { program = a.program.now; budget = a.budget; answers = a.answers; filter = a.filter }) }
     ensures limits { IfSome result (λ a. (a.budget ≤ 1000000) × (0 < a.answers) × (a.answers ≤ 1000000)) }
 {
     match words {

@@ -24,8 +24,9 @@ impl Hook for Comparer {
     ghost step = { λ _ _ _ _. Unit {0} };
 
     fn event(&mut self, event: &Event) -> Result<(), HookFault> {
-        let same = match self.expected.pop_front() {
-            Some(Shown::Port(want)) => is_same(event, &want),
+        let expected = self.expected.pop_front();
+        let same = match &expected {
+            Some(Shown::Port(want)) => is_same(event, want),
             _ => false,
         };
         self.same = self.same && same;
@@ -33,8 +34,9 @@ impl Hook for Comparer {
     }
 
     fn answer(&mut self, values: &Flat) -> Result<(), HookFault> {
-        let same = match self.expected.pop_front() {
-            Some(Shown::Answer(want)) => values.same(&want),
+        let expected = self.expected.pop_front();
+        let same = match &expected {
+            Some(Shown::Answer(want)) => values.same(want),
             _ => false,
         };
         self.same = self.same && same;

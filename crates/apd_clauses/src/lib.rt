@@ -4,6 +4,7 @@
 pub mod clause;
 pub mod program;
 
+pub use apd_term::Query;
 pub use clause::{Clause, is_clause, is_runnable};
 pub use program::{AddFault, Program};
 

@@ -16,6 +16,7 @@ mod searched;
 mod stack;
 mod tuples;
 
+pub use apd_term::{Ran, RunEnd, RunError};
 pub use running::{RunFault, run};
 
 #[cfg(test)]

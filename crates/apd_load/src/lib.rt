@@ -6,7 +6,7 @@ mod reading;
 mod warnings;
 
 use apd_clauses::program::Program;
-use apd_term::faults::LoadCause;
+pub use apd_term::faults::LoadCause;
 use apd_term::list::ListOf;
 use apd_term::term::Pred;
 pub use reading::load;

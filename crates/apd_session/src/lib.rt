@@ -13,7 +13,5 @@ mod warnings;
 mod words;
 
 pub use apd_text::{Entry, Log};
-pub use commands::Command;
-pub use state::State;
 pub use status::Status;
 pub use top::session;

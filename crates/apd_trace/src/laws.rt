@@ -50,7 +50,7 @@ pub fn other_predicates_are_passed_over()
     ensures { (F : List Frame) (g : Called) (r : Tuple) (c m : ℕ) (a : Term) (p q : Pred) → next_goal F ≡ Some a → predicate_of a ≡ Some p → predicate_of r.head ≡ Some q → p ≢ q → entering F g r c m ≡ None }
 {}
 
-/// Each frame's head stays the next goal of the frame around it, so an exit's head is the goal that was called, under all bindings since.
+/// Each frame's head stays the next goal of the frame around it, under all bindings since.
 pub fn frames_stay_linked()
     ensures entered { (F H : List Frame) (g : Called) (r : Tuple) (c m : ℕ) → AreLinked F → entering F g r c m ≡ Some H → AreLinked H }
     ensures solved { (F H : List Frame) (g : Called) (m : ℕ) → AreLinked F → solution F g m ≡ solved H → AreLinked H }

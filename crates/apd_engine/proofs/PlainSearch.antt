@@ -1,8 +1,6 @@
 -- The plain search makes what its definition says.
-use Rattle.std.proofs.Common.{◌≡◌, ℕ, suc, ◌+◌, ◌-◌, ◌<◌, ◌≤◌, List, [], ◌∷◌, ◌++◌, length, drop, get_or, refl, ap, sym, ◌∙◌, subst, arith, append_assoc, Option, Some, None, inl, inr, true, false}
+use Rattle.std.proofs.Common.{◌≡◌, ℕ, suc, ◌+◌, ◌-◌, ◌<◌, ◌≤◌, List, [], ◌∷◌, ◌++◌, drop, refl, ap, sym, ◌∙◌, subst, arith, append_assoc, Option, Some, None, true, false}
 use Rattle.std.specs.Prelude.{slice_get}
-use Rattle.std.specs.List.{flat_map}
-use Rattle.apd_term.specs.Term.{variables, IsAmong}
 use Rattle.apd_term.specs.Tuple.{variables_of_tuple}
 use Rattle.apd_term.specs.declared.tuple.Tuple.{Tuple}
 use Rattle.apd_term.specs.declared.run.RunError.TheVariants.{Size}
@@ -10,9 +8,9 @@ use Rattle.apd_term.proofs.Among.{IsAmong-right}
 use Rattle.apd_clauses.specs.Clauses.{IsRunnable, clauses_for}
 use Rattle.apd_ports.specs.declared.event.Port.TheVariants.{Exit, Redo, Fail}
 use Rattle.apd_trace.specs.Frames.{entering, apart, entered, handed_all, outer, look_of, next_goal, variables_of_frames, point_at, step_from, left}
-use Rattle.apd_trace.specs.BuiltIn.{Solution, solution, solved}
+use Rattle.apd_trace.specs.BuiltIn.{Solution, solution}
 use Rattle.apd_trace.specs.Renaming.{AreAlike, AreRenamed, IsBelow}
-use Rattle.apd_trace.specs.Trace.{Out, Next, nothing, emit, and_then, at_port, closing, over, begun, tried, tries, hand, succeeded, settled, turn, search_from}
+use Rattle.apd_trace.specs.Trace.{Out, Next, nothing, emit, and_then, at_port, over, begun, tried, tries, hand, succeeded, settled, turn, search_from}
 use Rattle.apd_trace.specs.declared.frame.Frame.{Frame}
 use Rattle.apd_trace.specs.declared.frame.Called.{Called}
 use Rattle.apd_trace.specs.declared.frame.Look.{Look}
@@ -22,13 +20,13 @@ use Rattle.apd_trace.specs.declared.item.Point.{Point}
 use Rattle.apd_trace.proofs.Renamed.{renamed_self}
 use Rattle.apd_trace.proofs.Searched.{search_same, tried_same, settled_same}
 use Rattle.apd_engine.specs.Kept.{exit_in, is_large_of, newest_of, point_in}
-use Rattle.apd_engine.specs.Plain.{Advances, Grows, IsFull, Makes, out_of}
+use Rattle.apd_engine.specs.Plain.{Advances, IsFull, Makes, out_of}
 use Rattle.apd_engine.specs.Search.{AllWait, IsOpen}
 use Rattle.apd_engine.specs.declared.plain.Advance.{Advance}
 use Rattle.apd_engine.specs.declared.plain.Advance.TheVariants.{Full, Ends, Goes}
 use Rattle.apd_engine.specs.declared.searched.Searched.{Searched}
 use Rattle.apd_engine.proofs.Numbered.{cut}
-use Rattle.apd_engine.proofs.Steps.{opened, few_apart, drop_past}
+use Rattle.apd_engine.proofs.Steps.{opened, few_apart}
 
 pub makes_as : (o : Option Searched) (x y : Out) → x ≡ y → Makes o y → Makes o x
 makes_as o x y is h = subst (Makes o) (sym is) h

@@ -1,4 +1,4 @@
-use Rattle.std.proofs.Common.{◌≡◌, ℕ, ◌+◌, ◌-◌, ◌<◌, ◌≤◌, List, length, drop, refl, sym, ap, ◌∙◌, subst, arith, get_or, Some, None}
+use Rattle.std.proofs.Common.{◌≡◌, ℕ, ◌+◌, ◌-◌, ◌<◌, ◌≤◌, List, length, drop, refl, sym, ap, ◌∙◌, subst, arith, get_or, Some}
 use Rattle.std.proofs.lemmas.Result.{IfOk-weaker}
 use Rattle.std.specs.Prelude.{IfSome}
 use Rattle.apd_term.specs.declared.tuple.Tuple.{Tuple}
@@ -12,7 +12,7 @@ use Rattle.apd_trace.specs.declared.frame.Look.TheVariants.{Goal, Exit as Exits,
 use Rattle.apd_trace.specs.declared.item.Item.TheVariants.{Made}
 use Rattle.apd_engine.specs.Plain.{Makes, IsFull, out_of}
 use Rattle.apd_engine.specs.Search.{AllWait, numbers_for}
-use Rattle.apd_engine.proofs.Growing.{search_grows, hand_grows, succeeded_grows, tries_grows, begun_grows, full_boxes, full_points, full_then}
+use Rattle.apd_engine.proofs.Growing.{search_grows, hand_grows, succeeded_grows, tries_grows, begun_grows, full_boxes, full_points}
 use Rattle.apd_engine.proofs.Numbered.{number_positive, number_within, number_among, number_runnable, numbers_count}
 use Rattle.apd_engine.proofs.PlainSearch.{makes_as, makes_turn, emitted, followed, outer_below, succeeded_made, over_twice, and_then_at, advances_as, advances_full, advances_ends, advances_goes, passed_over, entered_as, entered_open, begun_goes, made_out, appended}
 use Rattle.apd_engine.proofs.Steps.{goal_waits, outer_waits, drop_past, AllWait-more, begun_made}

@@ -160,19 +160,23 @@ const STANDARD: [(u16, OpKind, &str); 43] = [
     (200, OpKind::Fy, "\\"),
 ];
 
+fn standard() -> &'static [(u16, OpKind, &'static str)] {
+    &STANDARD
+}
+
 /// The standard operators as a list, by the names' texts.
 fn plain_standard(alloc: Global) -> Result<Vec<Op>, AllocError> {
     let mut names = Names::standard(alloc)?;
     let mut table = Vec::new(alloc);
-    for (priority, kind, text) in STANDARD {
+    for (priority, kind, text) in standard() {
         if names.count() > 1_000_000 {
             break;
         }
         let name = names.intern(text.as_bytes())?;
         let o = Op {
             name,
-            priority,
-            kind,
+            priority: *priority,
+            kind: *kind,
         };
         table.push(o)?;
     }
@@ -210,7 +214,19 @@ const KINDS: [OpKind; 5] = [
     OpKind::Fy,
 ];
 
+fn kinds() -> &'static [OpKind] {
+    &KINDS
+}
+
+fn priorities() -> &'static [i64] {
+    &PRIORITIES
+}
+
 const NAMES: [NameId; 8] = [PLUS, MINUS, TRUE, NECK, COMMA, BAR, NIL, CURLY];
+
+fn names() -> &'static [NameId] {
+    &NAMES
+}
 
 /// Defines each name in turn in both tables; whether they answer the same.
 fn define_both(
@@ -221,9 +237,9 @@ fn define_both(
     kind: OpKind,
 ) -> Result<Option<Vec<Op>>, AllocError> {
     let mut table = table;
-    for name in NAMES {
-        let fault = ops.define(priority, kind, name).err();
-        match plain_define(alloc, &table, priority, kind, name) {
+    for name in names() {
+        let fault = ops.define(priority, kind, *name).err();
+        match plain_define(alloc, &table, priority, kind, *name) {
             Ok(after) => {
                 if fault.is_some() {
                     return Ok(None);
@@ -244,9 +260,9 @@ fn define_both(
 fn defines_as_the_plain_program(rt: HostRuntime) -> Result<(), Fail> {
     let mut ops = Ops::standard(rt.alloc())?;
     let mut table = plain_standard(rt.alloc())?;
-    for priority in PRIORITIES {
-        for kind in KINDS {
-            match define_both(rt.alloc(), &mut ops, table, priority, kind)? {
+    for priority in priorities() {
+        for kind in kinds() {
+            match define_both(rt.alloc(), &mut ops, table, *priority, *kind)? {
                 Some(after) => table = after,
                 None => {
                     assert!(rt; false, "{priority} {kind:?}");

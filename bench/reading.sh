@@ -1,6 +1,8 @@
 #!/bin/sh
-# Times the reading of texts of 10 KB, 100 KB and 1 MB: facts, deep nesting, long lists and chains of operators.
-# It ends with 1 where a text isn't read, or where a byte of 1 MB takes more than twice the time of one of 10 KB.
+# Times the reading of texts of 10 KB, 100 KB and 1 MB: facts, deep nesting, long lists and chains of operators, and of
+# one clause of the whole length, a list and a chain that is too deep. Each text is read again and again, so that every
+# row reads about 8 MB. It ends with 1 where a text isn't read as it is to be, or where a byte of 1 MB takes more than
+# twice the time of a byte of 10 KB.
 top=$(cd "$(dirname "$0")/.." && pwd) || exit 1
 folder=$top/crates/apd_reading_bench
 program=$folder/out/apd_reading_bench
@@ -13,36 +15,59 @@ if ! (cd "$folder" && rt run -- data/clauses.pl 1 >out/build.log 2>&1); then
     exit 1
 fi
 
-# The texts by kind and length: clauses are put one behind the other until the length is reached. The long list and the
-# long chains are single clauses.
+# The text of a kind and of about a length.
 text() {
     awk -v kind="$1" -v want="$2" '
     function times(s, n,   r, i) { r = ""; for (i = 0; i < n; i++) r = r s; return r }
     function clause(i) {
         if (kind == "facts")
-            return sprintf("edge(node%05d, label(f(%05d), \"some codes\"), X%d, '\''a name'\'', -%d).\n", i, i, i % 7, i)
-        if (kind == "nested")
-            return nest ".\n"
-        if (kind == "lists")
-            return sprintf("list%d([%s]).\n", i, list)
-        return sprintf("chain%d :- %s.\n", i, chain)
+            return sprintf("edge(node%05d, label(f(%05d), \"codes\"), X%d, -%d).\n", i, i, i % 7, i)
+        if (kind == "nesting") return nest
+        if (kind == "lists") return sprintf("list%05d([%s]).\n", i, list)
+        return sprintf("chain%05d :- %s.\n", i, chain)
     }
     BEGIN {
-        nest = times("f(", 400) times("[", 300) times("(", 200) "x" times(")", 200) times("]", 300) times(")", 400)
+        nest = times("f(", 400) times("[", 300) times("(", 200) "x" times(")", 200) times("]", 300) times(")", 400) ".\n"
         list = times("a, B, 12, ", 200) "end"
-        chain = "X is 1" times(" + Y * 2 - (3 - Z) ^ 2 ^ 1", 40) ", \\+ " times("- ", 300) "a" times(" = b, c", 20)
-        if (kind == "one list") {
-            printf "p(["
-            for (length_so_far = 2; length_so_far < want - 8; length_so_far += 6) printf "a, V1,"
-            print "b])."
-            exit
-        }
-        if (kind == "one chain") {
+        chain = "X is 1" times(" + Y * 2 - (3 - Z) ^ 2 ^ 1", 40) ", \\+ " times("- ", 300) "a"
+        if (kind == "one-list") {
+            printf "p([b"
+            for (n = 8; n < want; n += 6) printf ", V, a"
+            print "])."
+        } else if (kind == "one-chain") {
             printf "p :- a"
-            for (length_so_far = 6; length_so_far < want - 12; length_so_far += 12) printf ", b = 1 + c"
+            for (n = 8; n < want; n += 3) printf ", b"
             print "."
-            exit
-        }
-        for (i = 1; done < want; i++) { c = clause(i); printf "%s", c; done += length(c) }
-    }' | head -c 1048576
+        } else
+            for (i = 1; done < want; i++) { c = clause(i); printf "%s", c; done += length(c) }
+    }'
 }
+
+# How many nanoseconds a byte of the file takes, when it is read so often; the counts go to the file `counts`.
+per_byte() {
+    begun=$(date +%s%N)
+    "$program" "$1" "$2" >"$work/counts" || return 1
+    ended=$(date +%s%N)
+    echo $(((ended - begun) / ($(wc -c <"$1") * $2)))
+}
+
+failed=0
+for kind in facts nesting lists chains one-list one-chain; do
+    case $kind in one-chain) faults=1 ;; *) faults=0 ;; esac
+    small=
+    for size in 10000 100000 1000000; do
+        text $kind $size >"$work/text.pl"
+        if ! nanoseconds=$(per_byte "$work/text.pl" $((8000000 / size))); then
+            echo "$kind: not read"
+            exit 1
+        fi
+        echo "$kind, $nanoseconds ns a byte: $(cat "$work/counts")"
+        grep -q ", $faults faults" "$work/counts" || failed=1
+        small=${small:-$nanoseconds}
+    done
+    if [ "$nanoseconds" -gt $((2 * small)) ]; then
+        echo "$kind: a byte of 1 MB takes more than twice the time of a byte of 10 KB"
+        failed=1
+    fi
+done
+exit $failed

@@ -99,6 +99,10 @@ const READINGS: [(&str, &str); 87] = [
     ("%c\np(X) /*c*/ :- % c\n q(X).", ":-(p(_1),q(_1))"),
 ];
 
+fn readings() -> &'static [(&'static str, &'static str)] {
+    &READINGS
+}
+
 /// Texts, and the first fault of each at its byte.
 const FAULTS: [(&str, &str); 62] = [
     (".", "NoTerm(0)"),
@@ -165,6 +169,10 @@ const FAULTS: [(&str, &str); 62] = [
     ("- 9223372036854775808.", "Wide(2)"),
 ];
 
+fn faults() -> &'static [(&'static str, &'static str)] {
+    &FAULTS
+}
+
 /// What is repeated before a middle, the middle, and what is repeated behind it.
 type Part = (&'static str, &'static str, &'static str);
 
@@ -179,6 +187,10 @@ const CHANGED: [(&str, &str); 7] = [
     ("true true true.", "true(true,true)"),
 ];
 
+fn changed() -> &'static [(&'static str, &'static str)] {
+    &CHANGED
+}
+
 /// Parts that give a term at level 1,000 if repeated a thousand times.
 const LEVELS: [Part; 9] = [
     ("f(", "a", ")"),
@@ -192,12 +204,16 @@ const LEVELS: [Part; 9] = [
     ("f(a, ", "\"abc\"", ")"),
 ];
 
+fn levels() -> &'static [Part] {
+    &LEVELS
+}
+
 #[test]
 fn reads_terms(rt: HostRuntime) -> Result<(), Fail> {
     let ops = Ops::standard(rt.alloc())?;
-    for (text, want) in READINGS {
+    for (text, want) in readings() {
         let got = first_read(rt.alloc(), &ops, text)?;
-        assert!(rt; got.as_str() == want, "{text}: {got}");
+        assert!(rt; got.as_str() == *want, "{text}: {got}");
     }
     Ok(())
 }
@@ -205,9 +221,9 @@ fn reads_terms(rt: HostRuntime) -> Result<(), Fail> {
 #[test]
 fn tells_each_fault_at_its_byte(rt: HostRuntime) -> Result<(), Fail> {
     let ops = Ops::standard(rt.alloc())?;
-    for (text, want) in FAULTS {
+    for (text, want) in faults() {
         let got = first_read(rt.alloc(), &ops, text)?;
-        assert!(rt; got.as_str() == want, "{text}: {got}");
+        assert!(rt; got.as_str() == *want, "{text}: {got}");
     }
     Ok(())
 }
@@ -215,7 +231,7 @@ fn tells_each_fault_at_its_byte(rt: HostRuntime) -> Result<(), Fail> {
 #[test]
 fn reads_terms_as_the_plain_program(rt: HostRuntime) -> Result<(), Fail> {
     let ops = Ops::standard(rt.alloc())?;
-    for (text, _) in READINGS {
+    for (text, _) in readings() {
         let apart = difference(rt.alloc(), &ops, text)?;
         assert!(rt; apart.is_empty(), "{text}: {apart}");
     }
@@ -225,7 +241,7 @@ fn reads_terms_as_the_plain_program(rt: HostRuntime) -> Result<(), Fail> {
 #[test]
 fn tells_faults_as_the_plain_program(rt: HostRuntime) -> Result<(), Fail> {
     let ops = Ops::standard(rt.alloc())?;
-    for (text, _) in FAULTS {
+    for (text, _) in faults() {
         let apart = difference(rt.alloc(), &ops, text)?;
         assert!(rt; apart.is_empty(), "{text}: {apart}");
     }
@@ -243,10 +259,10 @@ fn nested_read(alloc: Global, ops: &Ops, part: Part, count: usize) -> Result<Str
 #[test]
 fn counts_levels(rt: HostRuntime) -> Result<(), Fail> {
     let ops = Ops::standard(rt.alloc())?;
-    for part in LEVELS {
-        let last = nested_read(rt.alloc(), &ops, part, 999)?;
+    for part in levels() {
+        let last = nested_read(rt.alloc(), &ops, *part, 999)?;
         assert!(rt; !last.as_str().starts_with("TooDeep"), "{part:?}");
-        let over = nested_read(rt.alloc(), &ops, part, 1000)?;
+        let over = nested_read(rt.alloc(), &ops, *part, 1000)?;
         assert!(rt; over.as_str() == "TooDeep(2)", "{part:?}: {over}");
     }
     Ok(())
@@ -294,9 +310,9 @@ fn reads_by_the_table_of_operators(rt: HostRuntime) -> Result<(), Fail> {
     assert!(rt; ops.define(0, OpKind::Fy, MINUS).is_ok());
     assert!(rt; ops.define(700, OpKind::Xfx, PLUS).is_ok());
     assert!(rt; ops.define(200, OpKind::Xfy, TRUE).is_ok());
-    for (text, want) in CHANGED {
+    for (text, want) in changed() {
         let got = first_read(rt.alloc(), &ops, text)?;
-        assert!(rt; got.as_str() == want, "{text}: {got}");
+        assert!(rt; got.as_str() == *want, "{text}: {got}");
     }
     Ok(())
 }

@@ -122,6 +122,10 @@ const TOKENS: [(&str, &str); 30] = [
     ("0'b'a'", "980-3s q3-6 "),
 ];
 
+fn divisions() -> &'static [(&'static str, &'static str)] {
+    &TOKENS
+}
+
 const FAULTS: [(&[u8], &str); 24] = [
     (b"a \xff", "NotUtf8(2)"),
     (b"`\xc3", "NotUtf8(1)"),
@@ -149,6 +153,10 @@ const FAULTS: [(&[u8], &str); 24] = [
     (b"a 1.5 `", "FloatLiteral(2)"),
 ];
 
+fn faults() -> &'static [(&'static [u8], &'static str)] {
+    &FAULTS
+}
+
 const CONTENTS: [(&str, &str); 8] = [
     ("ab_1", "[97, 98, 95, 49]"),
     ("_X", "[95, 88]"),
@@ -160,20 +168,24 @@ const CONTENTS: [(&str, &str); 8] = [
     ("'\\xe9\\é'", "[195, 169, 195, 169]"),
 ];
 
+fn contents() -> &'static [(&'static str, &'static str)] {
+    &CONTENTS
+}
+
 #[test]
 fn divides_texts(rt: HostRuntime) -> Result<(), Fail> {
-    for (text, want) in TOKENS {
+    for (text, want) in divisions() {
         let got = shown(rt.alloc(), text.as_bytes())?;
-        assert!(rt; got.as_str() == want, "{text}: {got}");
+        assert!(rt; got.as_str() == *want, "{text}: {got}");
     }
     Ok(())
 }
 
 #[test]
 fn tells_each_fault_at_its_byte(rt: HostRuntime) -> Result<(), Fail> {
-    for (text, want) in FAULTS {
+    for (text, want) in faults() {
         let got = shown(rt.alloc(), text)?;
-        assert!(rt; got.as_str() == want, "{text:?}: {got}");
+        assert!(rt; got.as_str() == *want, "{text:?}: {got}");
     }
     Ok(())
 }
@@ -192,22 +204,22 @@ fn divides_plainly(alloc: Global, text: &[u8]) -> bool {
 
 #[test]
 fn divides_as_the_plain_program(rt: HostRuntime) {
-    for (text, _) in TOKENS {
+    for (text, _) in divisions() {
         assert!(rt; divides_plainly(rt.alloc(), text.as_bytes()), "{text}");
     }
-    for (text, _) in FAULTS {
+    for (text, _) in faults() {
         assert!(rt; divides_plainly(rt.alloc(), text), "{text:?}");
     }
-    for (text, _) in CONTENTS {
+    for (text, _) in contents() {
         assert!(rt; divides_plainly(rt.alloc(), text.as_bytes()), "{text}");
     }
 }
 
 #[test]
 fn gives_what_tokens_stand_for(rt: HostRuntime) -> Result<(), Fail> {
-    for (text, want) in CONTENTS {
+    for (text, want) in contents() {
         let got = first_content(rt.alloc(), text.as_bytes())?;
-        assert!(rt; got.as_str() == want, "{text}: {got}");
+        assert!(rt; got.as_str() == *want, "{text}: {got}");
     }
     Ok(())
 }

@@ -5,8 +5,23 @@ use crate::{Kind, Token, TokenFault};
 use std::alloc::{AllocError, Global};
 use std::str;
 
+/// A place of a short text.
+fn place_of(at: usize) -> u32 {
+    u32::try_from(at).unwrap_or(u32::MAX)
+}
+
+/// The value of a digit or a letter up to f, and 16 for any other byte.
+fn digit(b: u8) -> u32 {
+    match b {
+        b'0'..=b'9' => u32::from(b.saturating_sub(b'0')),
+        b'a'..=b'f' => u32::from(b.saturating_sub(b'a')).saturating_add(10),
+        b'A'..=b'F' => u32::from(b.saturating_sub(b'A')).saturating_add(10),
+        _ => 16,
+    }
+}
+
 fn is_digit(radix: u32, b: u8) -> bool {
-    char::from(b).is_digit(radix)
+    digit(b) < radix
 }
 
 fn is_word(b: u8) -> bool {
@@ -25,10 +40,9 @@ fn is_graphic(b: u8) -> bool {
 fn value(radix: u32, digits: &[u8]) -> u128 {
     let mut value = 0u128;
     for b in digits {
-        let digit = char::from(*b).to_digit(radix).unwrap_or(0);
         value = value
             .saturating_mul(u128::from(radix))
-            .saturating_add(u128::from(digit))
+            .saturating_add(u128::from(digit(*b)))
             .min(1 << 64);
     }
     value
@@ -50,18 +64,18 @@ fn escape(bytes: &[u8]) -> Option<(u32, usize)> {
     };
     if first == b'x' || is_digit(8, first) {
         let mut end = from;
-        for b in &bytes[from..] {
+        for b in bytes.get(from..)? {
             if !is_digit(radix, *b) {
                 break;
             }
-            end += 1;
+            end = end.saturating_add(1);
         }
-        let code = value(radix, &bytes[from..end]);
+        let code = value(radix, bytes.get(from..end)?);
         if end == from || bytes.get(end) != Some(&b'\\') || code > 0x10_FFFF {
             return None;
         }
         char::from_u32(code as u32)?;
-        return Some((code as u32, end + 1));
+        return Some((code as u32, end.saturating_add(1)));
     }
     let code = match first {
         b'a' => 7,
@@ -172,7 +186,7 @@ fn quoted(at: u32, q: u8, bytes: &[u8], after: &[u8]) -> Option<Found> {
             [b'\\', ..] => match escape(rest) {
                 Some((_, length)) => i = i.saturating_add(length),
                 None if rest.len() == 1 => {
-                    let place = at.saturating_add(1).saturating_add(i as u32);
+                    let place = at.saturating_add(1).saturating_add(place_of(i));
                     return Some(Found::Bad(TokenFault::BadEscape(place)));
                 }
                 None => return None,
@@ -223,7 +237,7 @@ fn longest(text: &[u8], at: usize) -> Option<(Found, usize)> {
     let mut found = None;
     for end in at.saturating_add(1)..text.len().saturating_add(1) {
         if let (Some(bytes), Some(after)) = (text.get(at..end), text.get(end..)) {
-            if let Some(what) = form(at as u32, bytes, after) {
+            if let Some(what) = form(place_of(at), bytes, after) {
                 found = Some((what, end));
             }
         }
@@ -250,7 +264,7 @@ fn put(tokens: &mut Vec<Token>, token: Token) -> Result<(), AllocError> {
 /// The tokens of a short text, or its first fault.
 pub fn plain_tokens(alloc: Global, text: &[u8]) -> Result<Vec<Token>, TokenFault> {
     if let Err(e) = str::from_utf8(text) {
-        return Err(TokenFault::NotUtf8(e.valid_up_to() as u32));
+        return Err(TokenFault::NotUtf8(place_of(e.valid_up_to())));
     }
     let mut tokens = Vec::new(alloc);
     let mut at = lead(text);
@@ -265,8 +279,8 @@ pub fn plain_tokens(alloc: Global, text: &[u8]) -> Result<Vec<Token>, TokenFault
             Found::Item(kind) => {
                 let token = Token {
                     kind,
-                    start: at as u32,
-                    end: end as u32,
+                    start: place_of(at),
+                    end: place_of(end),
                     spaced,
                 };
                 put(&mut tokens, token)?;

@@ -43,12 +43,15 @@ text() {
     }'
 }
 
-# How many nanoseconds a byte of the file takes, when it is read so often; the counts go to the file `counts`.
+# How many nanoseconds of the processor a byte of the file takes, when it is read so often; the counts go to `counts`.
 per_byte() {
-    begun=$(date +%s%N)
-    "$program" "$1" "$2" >"$work/counts" || return 1
-    ended=$(date +%s%N)
-    echo $(((ended - begun) / ($(wc -c <"$1") * $2)))
+    (
+        "$program" "$1" "$2" >"$work/counts" || exit 1
+        times
+    ) >"$work/times" || return 1
+    awk -v bytes=$(($(wc -c <"$1") * $2)) '
+    function seconds(s,   part) { split(s, part, "[ms]"); return part[1] * 60 + part[2] }
+    NR == 2 { printf "%d\n", (seconds($1) + seconds($2)) * 1000000000 / bytes }' "$work/times"
 }
 
 failed=0

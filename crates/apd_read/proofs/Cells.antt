@@ -4,7 +4,7 @@ use Rattle.std.proofs.lemmas.List.{append-nil, take_more}
 use Rattle.apd_term.specs.declared.term.Sym.{Sym}
 use Rattle.apd_term.specs.declared.term.Sym.TheVariants.{Fun}
 use Rattle.apd_term.specs.declared.standard.TheConstants.{CELL}
-use Rattle.apd_term.specs.Term.{Term, spell, term_of, IsWhole, compound, more, none}
+use Rattle.apd_term.specs.Term.{Term, spell, term_of, IsWhole}
 use Rattle.apd_term.specs.Spelling.{term_of-spell}
 use Rattle.apd_read.specs.Phrases.{list_term}
 

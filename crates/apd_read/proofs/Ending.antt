@@ -1,5 +1,5 @@
 -- A clause's reading goes up to its last token.
-use Rattle.std.proofs.Common.{◌≡◌, ℕ, ◌+◌, ◌<◌, ◌≤◌, List, [], ◌∷◌, ◌++◌, length, zero, suc, Option, Some, None, true, false, ◌⊎◌, inl, inr, refl, sym, ◌∙◌, ap, subst, arith, length-append}
+use Rattle.std.proofs.Common.{◌≡◌, ℕ, ◌+◌, ◌≤◌, List, [], ◌∷◌, ◌++◌, length, zero, suc, Option, Some, None, true, false, inl, inr, refl, sym, ◌∙◌, ap, subst, arith, length-append}
 use Rattle.std.specs.Prelude.{slice_get}
 use Rattle.apd_ops.specs.declared.op.Op.{Op}
 use Rattle.apd_ops.specs.Table.{Table}

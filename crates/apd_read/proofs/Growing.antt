@@ -1,5 +1,5 @@
 -- Names grow at their end, and what was read under them stays.
-use Rattle.std.proofs.Common.{◌≡◌, ℕ, ◌+◌, ◌<◌, ◌≤◌, List, [], ◌∷◌, ◌++◌, length, take, drop, refl, sym, ◌∙◌, ap, subst, arith, length-append, take-append-drop, append_assoc}
+use Rattle.std.proofs.Common.{◌≡◌, ℕ, ◌+◌, ◌<◌, ◌≤◌, List, ◌++◌, length, take, drop, refl, sym, ◌∙◌, ap, subst, arith, length-append, take-append-drop, append_assoc}
 use Rattle.std.proofs.lemmas.List.{take_all, take_at}
 use Rattle.apd_term.specs.declared.term.NameId.{NameId}
 use Rattle.apd_term.specs.Names.{number_of, with_name}
@@ -9,7 +9,7 @@ use Rattle.apd_token.specs.declared.items.Kind.TheVariants as kinds
 use Rattle.apd_token.specs.declared.items.Token.{Token}
 use Rattle.apd_read.specs.declared.lexeme.Sort.{Sort}
 use Rattle.apd_read.specs.declared.lexeme.Lexeme.{Lexeme}
-use Rattle.apd_read.specs.Lexemes.{IsNameOf, IsSort, IsLexeme, AreLexemes, no_lexeme, then_lexeme, IsGrown}
+use Rattle.apd_read.specs.Lexemes.{IsNameOf, IsSort, AreLexemes, no_lexeme, then_lexeme, IsGrown}
 
 pub grown_none : (xs : List (List ℕ)) → IsGrown xs 1 xs
 grown_none xs = record { kept = take_all (length xs) xs (omega arith); few = omega arith }

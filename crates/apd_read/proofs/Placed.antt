@@ -1,5 +1,5 @@
 -- Faults in their places, and how far a clause goes.
-use Rattle.std.proofs.Common.{◌≡◌, ℕ, ◌+◌, ◌<◌, ◌≤◌, List, refl, arith}
+use Rattle.std.proofs.Common.{◌≡◌, ℕ, ◌<◌, ◌≤◌, List, refl, arith}
 use Rattle.apd_ops.specs.Table.{Table}
 use Rattle.apd_read.specs.declared.lexeme.Lexeme.{Lexeme}
 use Rattle.apd_read.specs.declared.phrase.Phrase.{Phrase}
@@ -13,7 +13,7 @@ use Rattle.apd_term.specs.declared.faults.ReadFault.{ReadFault}
 use Rattle.apd_term.specs.declared.faults.ReadFault.TheVariants as faults
 use Rattle.apd_term.specs.declared.reading.Read.{Read}
 use Rattle.apd_token.specs.declared.items.Token.{Token}
-use Rattle.apd_read.specs.Answer.{IsFaultIn, placed, HasLexemes, HasReading, HasFault, IsReadFault, IsReadAs}
+use Rattle.apd_read.specs.Answer.{IsFaultIn, placed, HasLexemes, HasReading, IsReadFault, IsReadAs}
 use Rattle.apd_read.proofs.Tables.{goes_within}
 use Rattle.std.proofs.Common.{length}
 

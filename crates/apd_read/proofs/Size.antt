@@ -1,11 +1,11 @@
 -- A term that was read has at most as many symbols as its tokens stand for: one for each, and for a text in double quotes
 -- one more than two for each character.
-use Rattle.std.proofs.Common.{◌≡◌, ℕ, ◌+◌, ◌*◌, ◌<◌, ◌≤◌, List, [], ◌∷◌, ◌++◌, length, map, reverse, max, zero, suc, Bool, true, false, Option, Some, None, refl, sym, ◌∙◌, ap, subst, arith, add-one, length-append, pos}
+use Rattle.std.proofs.Common.{◌≡◌, ℕ, ◌+◌, ◌*◌, ◌<◌, ◌≤◌, List, [], ◌∷◌, ◌++◌, length, reverse, max, zero, suc, Bool, true, false, Option, Some, None, refl, sym, ◌∙◌, ap, subst, arith, add-one, pos}
 use Rattle.std.proofs.lemmas.List.{reverse-append, length-reverse}
 use Rattle.std.specs.Prelude.{slice_get, nat_lt, ◌==◌, ◌^◌, if◌then◌else◌}
 use Rattle.apd_term.specs.declared.term.NameId.{NameId}
-use Rattle.apd_term.specs.declared.standard.TheConstants.{NIL, CURLY, MINUS, CELL}
-use Rattle.apd_term.specs.Term.{Term, Terms, variable, integer, compound, more, none, terms_of, size, size_all}
+use Rattle.apd_term.specs.declared.standard.TheConstants.{NIL, CURLY, MINUS}
+use Rattle.apd_term.specs.Term.{Term, variable, integer, compound, more, none, terms_of, size, size_all}
 use Rattle.apd_ops.specs.declared.op.Op.{Op}
 use Rattle.apd_ops.specs.Table.{Table}
 use Rattle.apd_read.specs.declared.lexeme.Sort.{Sort}
@@ -17,8 +17,8 @@ use Rattle.apd_read.specs.declared.places.Inside.TheVariants.{Clause, Paren, Cur
 use Rattle.apd_read.specs.declared.places.Begin.{Begin}
 use Rattle.apd_read.specs.declared.places.Begin.TheVariants.{Word, Opens, Prefix, Wide, Nothing, NoMore}
 use Rattle.apd_read.specs.declared.places.Go.TheVariants.{Infix, Separates, Turns, Closes, Ends}
-use Rattle.apd_read.specs.Phrases.{atom, leaf, too_deep, raised, highest, terms_in, unary, binary, enclosed, braced, call, list_term, listing}
-use Rattle.apd_read.specs.Places.{prefix_op, is_direct, is_close_list, is_close_curly, stands_alone, named, name_begins, minus_begins, integer_next, unquoted_begins, code_terms, begin_by, begin_with, begins, goes}
+use Rattle.apd_read.specs.Phrases.{atom, leaf, too_deep, raised, highest, terms_in, unary, binary, list_term}
+use Rattle.apd_read.specs.Places.{prefix_op, is_direct, is_close_list, is_close_curly, stands_alone, named, name_begins, minus_begins, integer_next, code_terms, begin_by, begin_with, begins}
 use Rattle.apd_read.specs.Reading.{Piece, Operand, Operator, Splits, single, at_prefix, at_infix}
 use Rattle.apd_read.specs.Clause.{Place, made, Scans, item_begins, then_word, then_bracket, then_prefix, then_infix, Elements, no_element, then_element, then_tail, Fills, filled}
 use Rattle.apd_read.proofs.Tables.{begins_within, goes_within}

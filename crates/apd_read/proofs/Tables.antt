@@ -1,6 +1,6 @@
 -- What the tables of the places say of their answers.
-use Rattle.std.proofs.Common.{◌≡◌, ℕ, ◌+◌, ◌<◌, ◌≤◌, ◌⊎◌, inl, inr, Bool, true, false, Option, Some, None, List, [], ◌∷◌, length, refl, sym, ◌∙◌, ap, subst, arith}
-use Rattle.std.specs.Prelude.{slice_get, nat_lt, nat_le, not, ◌&&◌, ◌==◌, ◌^◌, ◌-ℤ◌, pos, if◌then◌else◌}
+use Rattle.std.proofs.Common.{◌≡◌, ℕ, ◌+◌, ◌<◌, ◌≤◌, ◌⊎◌, inl, inr, Bool, true, false, Option, Some, None, List, length, refl, sym, ◌∙◌, ap, subst, arith}
+use Rattle.std.specs.Prelude.{slice_get, nat_lt, ◌==◌, ◌^◌, pos, if◌then◌else◌}
 use Rattle.std.proofs.lemmas.Option.{slice_get_past}
 use Rattle.std.proofs.lemmas.Bool.Decides.{leb_tells}
 use Rattle.apd_term.specs.declared.term.NameId.{NameId}
@@ -19,7 +19,7 @@ use Rattle.apd_read.specs.declared.places.Begin.TheVariants.{Word, Opens, Prefix
 use Rattle.apd_read.specs.declared.places.Go.{Go}
 use Rattle.apd_read.specs.declared.places.Go.TheVariants.{Infix, Separates, Turns, Closes, Unclosed, Stray, Ends}
 use Rattle.apd_read.specs.Phrases.{atom, leaf}
-use Rattle.apd_read.specs.Places.{operator, prefix_op, infix_op, is_direct, is_close_list, is_close_curly, stands_alone, named, name_begins, minus_begins, integer_next, unquoted_begins, begin_by, begin_with, begins, named_go, comma_goes, bar_goes, close_goes, close_list_goes, close_curly_goes, end_goes, go_by, go_with, goes}
+use Rattle.apd_read.specs.Places.{operator, prefix_op, infix_op, is_direct, is_close_list, is_close_curly, stands_alone, named, name_begins, minus_begins, integer_next, begin_by, begin_with, begins, named_go, comma_goes, bar_goes, close_goes, close_list_goes, close_curly_goes, end_goes, go_by, go_with, goes}
 
 -- the operator is one of the table's
 abbrev pub IsIn : Op → Table → Type 0

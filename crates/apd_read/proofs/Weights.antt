@@ -1,5 +1,5 @@
 -- A term that was read has at most twice as many symbols as its text has bytes.
-use Rattle.std.proofs.Common.{◌≡◌, ℕ, ◌+◌, ◌-◌, ◌*◌, ◌<◌, ◌≤◌, List, [], ◌∷◌, ◌++◌, length, drop, zero, suc, Bool, true, false, refl, sym, ◌∙◌, ap, subst, arith, length-append}
+use Rattle.std.proofs.Common.{◌≡◌, ℕ, ◌+◌, ◌-◌, ◌*◌, ◌<◌, ◌≤◌, List, [], ◌∷◌, ◌++◌, length, drop, zero, suc, Bool, true, false, refl, ap, arith, length-append}
 use Rattle.std.specs.Prelude.{if◌then◌else◌}
 use Rattle.std.specs.List.{slice_range}
 use Rattle.std.specs.Str.{chars, chars_after, continuation_len, lead_bits}
@@ -17,7 +17,7 @@ use Rattle.apd_read.specs.declared.phrase.Phrase.{Phrase}
 use Rattle.apd_read.specs.declared.places.Inside.TheVariants.{Clause}
 use Rattle.apd_read.specs.Reading.{Splits}
 use Rattle.apd_read.specs.Clause.{Fills, filled}
-use Rattle.apd_read.specs.Lexemes.{IsSort, IsLexeme, AreLexemes, no_lexeme, then_lexeme, ends_clause, to_end}
+use Rattle.apd_read.specs.Lexemes.{IsSort, AreLexemes, no_lexeme, then_lexeme, ends_clause, to_end}
 use Rattle.apd_read.specs.Answer.{HasLexemes}
 use Rattle.apd_read.proofs.Size.{weight_of, upto, symbols, fills_size}
 use Rattle.apd_read.proofs.Placed.{fills_within}

@@ -1,5 +1,5 @@
 -- What a clause of a text reads as, with the places of its faults in the text.
-use Rattle.std.specs.Prelude.{◌≡◌, ℕ, ◌+◌, ◌<◌, ◌≤◌, Option, Some, None, List, [], drop, length, slice_get}
+use Rattle.std.specs.Prelude.{◌≡◌, ℕ, ◌+◌, ◌<◌, ◌≤◌, Option, Some, None, List, drop, length, slice_get}
 use Rattle.apd_term.specs.declared.faults.ReadFault.{ReadFault}
 use Rattle.apd_term.specs.declared.faults.ReadFault.TheVariants as faults
 use Rattle.apd_term.specs.declared.reading.Read.{Read}

@@ -2,7 +2,7 @@
 use Rattle.std.specs.Prelude.{ℕ, ◌+◌, List, [], ◌∷◌, map, max, nat_lt, if◌then◌else◌}
 use Rattle.apd_term.specs.declared.term.NameId.{NameId}
 use Rattle.apd_term.specs.declared.standard.TheConstants.{NIL, CELL, CURLY}
-use Rattle.apd_term.specs.Term.{Term, variable, integer, compound, none, more, terms_of}
+use Rattle.apd_term.specs.Term.{Term, compound, none, more, terms_of}
 use Rattle.apd_ops.specs.declared.op.Op.{Op}
 use Rattle.apd_read.specs.declared.phrase.Phrase.{Phrase}
 

@@ -1,5 +1,5 @@
 -- The places: what begins in operand place and what goes on in operator place.
-use Rattle.std.specs.Prelude.{ℕ, ℤ, ◌+◌, ◌^◌, ◌==◌, ◌&&◌, not, is_some, Bool, true, false, pos, ◌-ℤ◌, Option, Some, None, List, [], ◌∷◌, slice_get, map, nat_lt, nat_le, if◌then◌else◌}
+use Rattle.std.specs.Prelude.{ℕ, ◌+◌, ◌^◌, ◌==◌, ◌&&◌, not, is_some, Bool, true, false, pos, ◌-ℤ◌, Option, Some, None, List, slice_get, map, nat_lt, nat_le, if◌then◌else◌}
 use Rattle.apd_term.specs.declared.term.NameId.{NameId}
 use Rattle.apd_term.specs.declared.standard.TheConstants.{NIL, CURLY, COMMA, MINUS}
 use Rattle.apd_term.specs.Term.{Term, variable, integer}

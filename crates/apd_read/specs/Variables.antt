@@ -1,5 +1,5 @@
 -- Where the variables of a clause that have a name stand among all of them.
-use Rattle.std.specs.Prelude.{◌≡◌, ℕ, ◌<◌, ◌≤◌, Bool, false, List, length, get_or}
+use Rattle.std.specs.Prelude.{◌≡◌, ℕ, ◌<◌, ◌≤◌, false, List, length, get_or}
 use Rattle.apd_term.specs.Names.{is_name, number_of}
 use Rattle.apd_read.specs.Lexemes.{is_anonymous}
 

@@ -98,7 +98,7 @@ pub(crate) fn lexemes(
     ensures lexemes { IfOk result (λ c. AreLexemes names.new text.now (to_end (drop at tokens.now)) c.lexemes.items c.vars) }
     ensures last { IfOk result (λ c. EndsLast c.lexemes.items) }
     ensures grown { IfOk result (λ c. IsGrown names.old (length c.lexemes.items) names.new) }
-    ensures kept { IsGrown names.old (length tokens.now) names.new }
+    ensures kept { IsGrown names.old (length tokens.now - at) names.new }
 {
     let mut lexemes = Vec::new(alloc);
     let mut vars = Variables::new(alloc);

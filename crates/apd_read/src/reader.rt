@@ -94,7 +94,7 @@ fn answer(alloc: Global, ops: &Ops, clause: Clause, at: usize, end: u32) -> Resu
 /// Variables are numbered from 1 by their first places in the clause, and each `_` is a new one. A
 /// fault is the first one from the left; `TooDeep` comes only where there is no other. `Memory` is
 /// the one answer that any clause may get. New names are put at the end of the names, at most one
-/// for each token, also where a fault is told. The term has at most twice as many symbols as the
+/// for each token from that one on, also where a fault is told. The term has at most twice as many symbols as the
 /// text has bytes.
 pub fn read_clause(
     alloc: Global,
@@ -112,7 +112,7 @@ pub fn read_clause(
     ensures err { IfErr result (IsReadFault ops.now names.new text.now tokens.now at) }
     ensures size { IfOk result (λ r. size r.term ≤ 2 * length text.now) }
     ensures names { IfOk result (λ r. IsGrown names.old (r.next - at) names.new) }
-    ensures kept { IsGrown names.old (length tokens.now) names.new }
+    ensures kept { IsGrown names.old (length tokens.now - at) names.new }
 {
     let clause = lexemes(alloc, names, text, tokens.as_slice(), at)?;
     match answer(alloc, ops, clause, at, text.len() as u32) {

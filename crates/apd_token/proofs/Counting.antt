@@ -1,12 +1,9 @@
 -- A text has at most as many tokens as bytes.
-use Rattle.std.proofs.Common.{◌≡◌, ℕ, ◌+◌, ◌-◌, ◌<◌, ◌≤◌, List, [], ◌∷◌, ◌++◌, length, get_or, zero, suc, Bool, true, false, refl, sym, ◌∙◌, ap, subst, arith, length-append}
-use Rattle.std.proofs.Common.{Some}
-use Rattle.apd_token.specs.declared.items.Kind.{Kind}
+use Rattle.std.proofs.Common.{◌≡◌, ℕ, ◌+◌, ◌-◌, ◌<◌, ◌≤◌, List, [], ◌∷◌, ◌++◌, length, get_or, zero, suc, Bool, true, sym, ◌∙◌, ap, subst, arith, length-append}
 use Rattle.apd_token.specs.declared.items.Token.{Token}
 use Rattle.apd_token.specs.declared.found.Found.{Found}
 use Rattle.apd_token.specs.declared.found.Found.TheVariants.{Passed, Item, Bad}
-use Rattle.apd_token.specs.Grammar.{HasForm, Piece, Divides, Begins, token_of, tokens_of, spaced_behind, HasTokens}
-use Rattle.apd_token.specs.Bytes.{class_of}
+use Rattle.apd_token.specs.Grammar.{HasForm, Piece, Divides, token_of, tokens_of, spaced_behind, HasTokens}
 
 -- a piece has a byte
 pub some_byte : (at : ℕ) (w : Found) (bytes after : List ℕ) → HasForm at w bytes after → 1 ≤ length bytes

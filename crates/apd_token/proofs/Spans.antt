@@ -1,14 +1,12 @@
 -- How many bytes the tokens of a text have, and how many characters an item in double quotes stands for.
-use Rattle.std.proofs.Common.{◌≡◌, ℕ, ◌+◌, ◌-◌, ◌*◌, ◌<◌, ◌≤◌, ◌⊎◌, inl, inr, List, [], ◌∷◌, ◌++◌, length, Bool, true, false, cond, refl, sym, ◌∙◌, ap, subst, arith, length-append}
-use Rattle.std.specs.Prelude.{encode_utf8, nat_lt, nat_le, ◌==◌, ◌||◌, ◌&&◌}
-use Rattle.std.specs.Char.{digit_value, len_utf8}
-use Rattle.std.proofs.lemmas.Bool.{or_cases, leb-true}
+use Rattle.std.proofs.Common.{◌≡◌, ℕ, ◌+◌, ◌-◌, ◌<◌, ◌≤◌, List, [], ◌∷◌, ◌++◌, length, Bool, true, false, cond, refl, sym, ◌∙◌, ap, subst, arith, length-append}
+use Rattle.std.specs.Prelude.{encode_utf8, nat_lt, ◌==◌}
+use Rattle.std.specs.Char.{digit_value}
 use Rattle.std.proofs.lemmas.Str.{length-encode}
-use Rattle.apd_token.specs.Bytes.{escape_of, is_simple, simple_code}
-use Rattle.apd_token.specs.Quotes.{IsDigits, numeral, CodeOf, EscapeOf, ElementOf, IsElement, Element, AreElements, spelling, meaning}
+use Rattle.apd_token.specs.Bytes.{escape_of, simple_code}
+use Rattle.apd_token.specs.Quotes.{IsDigits, numeral, EscapeOf, ElementOf, IsElement, Element, AreElements, spelling, meaning}
 use Rattle.apd_token.specs.declared.bytes.Escape.{Escape}
 use Rattle.apd_token.specs.declared.bytes.Escape.TheVariants.{Newline, Octal, Hex, Simple, Unknown}
-use Rattle.apd_token.specs.declared.items.Kind.{Kind}
 use Rattle.apd_token.specs.declared.items.Kind.TheVariants.{Codes}
 use Rattle.apd_token.specs.declared.items.Token.{Token}
 use Rattle.apd_token.specs.declared.found.Found.{Found}

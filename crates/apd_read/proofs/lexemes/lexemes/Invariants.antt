@@ -1,4 +1,4 @@
-use Rattle.std.proofs.Common.{ℕ, ◌≡◌, ◌≤◌, ◌-◌, length}
+use Rattle.std.proofs.Common.{◌-◌, length}
 use Rattle.apd_read.specs.Variables.{IsIndexed}
 use Rattle.apd_read.proofs.Clauses.{IsTaken}
 use Rattle.apd_read.proofs.lexemes.lexemes.Given as goal

@@ -1,6 +1,6 @@
 use Rattle.std.proofs.Common.{◌∙◌, ap}
 use Rattle.apd_term.specs.Names.{with_name}
-use Rattle.apd_read.proofs.Growing.{is_name_of, grown_name}
+use Rattle.apd_read.proofs.Growing.{is_name_of}
 use Rattle.apd_read.proofs.lexemes.named.Goals as goal
 
 pub returns-clause-name : goal.returns-clause-name

@@ -1,5 +1,5 @@
-use Rattle.std.proofs.Common.{◌≡◌, ◌+◌, ◌<◌, ◌≤◌, ◌++◌, ◌∷◌, [], length, get_or, true, false, sym, ◌∙◌, ap, subst, arith}
-use Rattle.apd_read.specs.Lexemes.{is_anonymous, variable_place, with_variable}
+use Rattle.std.proofs.Common.{◌≡◌, ◌+◌, ◌<◌, ◌≤◌, length, true, false, sym, ◌∙◌, ap, subst, arith}
+use Rattle.apd_read.specs.Lexemes.{is_anonymous}
 use Rattle.apd_read.specs.Variables.{IsIndexed}
 use Rattle.apd_read.proofs.Indexed.{place_of_anonymous, with_anonymous, indexed_anonymous, found_by, fresh_by, place_within}
 use Rattle.apd_read.proofs.variables.Variables.number.Goals as goal

@@ -1,2 +1,3 @@
 pub mod NameTexts
 pub mod Writing
+pub mod Pending

@@ -1,7 +1,15 @@
 //! Writing of terms as Prolog reads them (ISO/IEC 13211-1 section 7.10.5).
+//!
+//! [`write_term`] writes a term by a table of operators, so that it reads back as itself under that
+//! table. [`write_name`] writes a name by itself.
 #![tactic(auto)]
 
-/// A stub.
-pub fn nothing() -> u8 {
-    0
-}
+mod closing;
+mod leaves;
+mod names;
+mod opening;
+mod pending;
+mod terms;
+
+pub use names::write_name;
+pub use terms::write_term;

@@ -56,7 +56,7 @@ module _ (ops : Table) (names : List (List ℕ)) where
   behind frame.ListEnd after ps = codes "]" ++ after ps
   behind frame.CurlyEnd after ps = codes "}" ++ after ps
   behind frame.ParenthesisEnd after ps = codes ")" ++ after ps
-  behind (frame.Right f max) after ps = between ops f (name_text (text_of_name names f)) ++ next_in (place.Right max) after ps
+  behind (frame.Right f max) after ps = between f (name_text (text_of_name names f)) ++ next_in (place.Right max) after ps
 
   -- what all frames have, the outermost first
   abbrev pub resume : List Frame → (List Part → List ℕ) → List Part → List ℕ
@@ -95,6 +95,25 @@ Closes ops names frames frames_now marks None = IsClosed ops names frames frames
 -- what closes a written term was added to the text
 abbrev pub AddsClosing : Table → List (List ℕ) → List Frame → List Frame → List ℕ → List ℕ → Option Place → Type 0
 AddsClosing ops names frames frames_now out out_now next = (marks : List ℕ) × (out_now ≡ out ++ marks) × Closes ops names frames frames_now marks next
+
+-- one frame was left for the next term, which stands in it
+pub record LeavesFor (ops : Table) (names : List (List ℕ)) (frame : Frame) (frames frames_now : List Frame) (marks : List ℕ) (next : Place) : Type 0 where
+  pub count : takes_in_all frames + takes frame ≡ takes_in_all frames_now + 1
+  pub text : (after : List Part → List ℕ) (p : Part) (ps : List Part) →
+      behind ops names frame (resume ops names frames after) (p ∷ ps) ≡ marks ++ (text_in ops names next p ++ resume ops names frames_now after ps)
+
+-- one frame was left for good
+pub record LeavesBehind (ops : Table) (names : List (List ℕ)) (frame : Frame) (frames frames_now : List Frame) (marks : List ℕ) : Type 0 where
+  pub count : takes frame ≡ 0
+  pub same : frames_now ≡ frames
+  pub text : (after : List Part → List ℕ) (ps : List Part) → behind ops names frame after ps ≡ marks ++ after ps
+
+abbrev pub LeavesTo : Table → List (List ℕ) → Frame → List Frame → List Frame → List ℕ → Option Place → Type 0
+LeavesTo ops names frame frames frames_now marks (Some next) = LeavesFor ops names frame frames frames_now marks next
+LeavesTo ops names frame frames frames_now marks None = LeavesBehind ops names frame frames frames_now marks
+
+abbrev pub Leaves : Table → List (List ℕ) → Frame → List Frame → List Frame → List ℕ → List ℕ → Option Place → Type 0
+Leaves ops names frame frames frames_now out out_now next = (marks : List ℕ) × (out_now ≡ out ++ marks) × LeavesTo ops names frame frames frames_now marks next
 
 -- a name with its arguments in a place
 abbrev pub compound_in : Table → Place → NameId → List ℕ → List Part → List ℕ

@@ -39,6 +39,10 @@ pub record Part : Type 0 where
   pub text : ℕ → List ℕ
   pub rest : List ℕ
 
+-- an infix operator's name between its operands: the comma has no space before it
+abbrev pub between : NameId → List ℕ → List ℕ
+between f name = if is_same_name f COMMA then codes ", " else codes " " ++ name ++ codes " "
+
 module _ (ops : Table) where
   -- an operand on the right of an infix operator
   abbrev pub right_operand : ℕ → Part → List ℕ
@@ -47,10 +51,6 @@ module _ (ops : Table) where
   -- an operand on its left, or of a prefix operator
   abbrev pub left_operand : ℕ → Part → List ℕ
   left_operand max p = if is_negative_integer p.term then in_parentheses (p.text 1200) else right_operand max p
-
-  -- an operator's name between its operands: the comma has no space before it
-  abbrev pub between : NameId → List ℕ → List ℕ
-  between f name = if is_same_name f COMMA then codes ", " else codes " " ++ name ++ codes " "
 
   abbrev pub prefix_text : Meaning → List ℕ → ℕ → Part → List ℕ
   prefix_text m name max p = fitted max m.0 (name ++ codes " " ++ left_operand (right_by m.1 m.0) p)

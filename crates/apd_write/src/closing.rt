@@ -1,6 +1,8 @@
 //! What stands behind a term.
 
-ghost use Rattle.std.specs.Prelude.{◌≡◌, ◌++◌, IfOk, OnOk};
+ghost use Rattle.std.specs.Prelude.{◌≡◌, ◌++◌, List, ℕ, IfOk, OnOk};
+ghost use Rattle.apd_ops.specs.Table.{Table};
+ghost use Rattle.apd_term.specs.Names.{text_of_name};
 ghost use Rattle.apd_write.specs.NameTexts.{name_text};
 ghost use Rattle.apd_write.specs.Pending.{AddsClosing, Leaves};
 ghost use Rattle.apd_write.specs.Writing.{between};
@@ -33,7 +35,7 @@ fn leave(
     frames: &mut Vec<Frame>,
     out: &mut Text,
 ) -> Result<Option<Place>, AllocError>
-    ensures { IfOk result (λ next. Leaves names.now frame frames.old.items frames.new.items out.old out.new next) }
+    ensures { IfOk result (λ next. (ops : Table) → Leaves ops names.now frame frames.old.items frames.new.items out.old out.new next) }
 {
     match frame {
         Frame::Arguments(0) | Frame::ParenthesisEnd => out.push(b')')?,
@@ -59,7 +61,7 @@ pub(crate) fn close(
     frames: &mut Vec<Frame>,
     out: &mut Text,
 ) -> Result<Option<Place>, AllocError>
-    ensures { IfOk result (λ next. AddsClosing names.now frames.old.items frames.new.items out.old out.new next) }
+    ensures { IfOk result (λ next. (ops : Table) → AddsClosing ops names.now frames.old.items frames.new.items out.old out.new next) }
 {
     'closing: while let Some(frame) = frames.pop() {
         if let Some(place) = leave(names, frame, frames, out)? {

@@ -31,12 +31,7 @@ fn is_negative(symbol: Sym) -> bool
 }
 
 /// Writes a variable, an integer or a name.
-fn write_symbol(
-    alloc: Global,
-    names: &Names,
-    symbol: Sym,
-    out: &mut Text,
-) -> Result<(), AllocError>
+fn write_symbol(alloc: Global, names: &Names, symbol: Sym, out: &mut Text) -> Result<(), AllocError>
     ensures { OnOk result (out.new ≡ out.old ++ leaf_text names.now symbol) }
 {
     match symbol {
@@ -70,12 +65,7 @@ fn write_enclosed(
 }
 
 /// Writes a list's tail, behind the bar, and the list's end.
-fn write_tail(
-    alloc: Global,
-    names: &Names,
-    symbol: Sym,
-    out: &mut Text,
-) -> Result<(), AllocError>
+fn write_tail(alloc: Global, names: &Names, symbol: Sym, out: &mut Text) -> Result<(), AllocError>
     ensures { OnOk result (out.new ≡ out.old ++ (codes "|" ++ leaf_text names.now symbol ++ codes "]")) }
 {
     out.push(b'|')?;

@@ -23,20 +23,20 @@ fn is_graphic_name(name: &[u8]) -> bool
 {
     !name.is_empty()
         && name.iter().all(|b| is_graphic(*b))
-        && name != b"."
+        && name != b".".as_slice()
         && !name.starts_with(b"/*")
 }
 
 fn is_solo_name(name: &[u8]) -> bool
     ensures { result ≡ is_solo_name name.now }
 {
-    name == b"!" || name == b";"
+    name == b"!".as_slice() || name == b";".as_slice()
 }
 
 fn is_bracket_name(name: &[u8]) -> bool
     ensures { result ≡ is_bracket_name name.now }
 {
-    name == b"[]" || name == b"{}"
+    name == b"[]".as_slice() || name == b"{}".as_slice()
 }
 
 /// Whether one token without quotes stands for the name.
@@ -51,11 +51,7 @@ fn hex_digit(digit: u8) -> u8
     requires { digit < 16 }
     ensures { result ≡ hex_digit digit }
 {
-    if digit < 10 {
-        digit + b'0'
-    } else {
-        digit + 87
-    }
+    if digit < 10 { digit + b'0' } else { digit + 87 }
 }
 
 /// Writes a byte between quotes.

@@ -1,22 +1,20 @@
 -- How a name is written (ISO/IEC 13211-1 sections 6.4.2 and 7.10.5, with the project's choices).
-use Rattle.std.specs.Prelude.{ℕ, ◌+◌, ◌/◌, ◌%◌, Bool, true, false, List, [], ◌∷◌, ◌++◌, codes, if◌then◌else◌, ◌&&◌, ◌||◌, not, ◌==◌, nat_le, nat_lt}
-use Rattle.std.specs.List.{list_all, flat_map}
+use Rattle.std.specs.Prelude.{ℕ, ◌+◌, ◌/◌, ◌%◌, Bool, true, false, List, [], ◌∷◌, ◌++◌, codes, if◌then◌else◌, ◌&&◌, ◌||◌, not, ◌==◌, length, nat_eq, nat_lt}
+use Rattle.std.specs.List.{list_all, flat_map, starts_with}
 use Rattle.apd_term.specs.Names.{same_text}
 use Rattle.apd_token.specs.Bytes.{is_small, is_word, is_graphic}
 
--- a small letter, then letters, digits and `_`
+-- a small letter first, and only letters, digits and `_`
 abbrev pub is_word_name : List ℕ → Bool
 is_word_name [] = false
-is_word_name (b ∷ bs) = is_small b && list_all is_word bs
+is_word_name (b ∷ bs) = is_small b && list_all is_word (b ∷ bs)
 
 abbrev pub begins_comment : List ℕ → Bool
-begins_comment (b ∷ c ∷ bs) = (b == 47) && (c == 42)
-begins_comment bs = false
+begins_comment bs = starts_with nat_eq bs (codes "/*")
 
 -- graphic characters, not the full stop alone and not with the beginning of a comment
 abbrev pub is_graphic_name : List ℕ → Bool
-is_graphic_name [] = false
-is_graphic_name (b ∷ bs) = list_all is_graphic (b ∷ bs) && not (same_text (b ∷ bs) (codes ".")) && not (begins_comment (b ∷ bs))
+is_graphic_name bs = not (length bs == 0) && list_all is_graphic bs && not (same_text bs (codes ".")) && not (begins_comment bs)
 
 abbrev pub is_solo_name : List ℕ → Bool
 is_solo_name bs = same_text bs (codes "!") || same_text bs (codes ";")

@@ -1,30 +1,55 @@
 //! Names: bare, or in quotes.
 
-ghost use Rattle.std.specs.Prelude.{◌≡◌, ◌++◌, ◌<◌, OnOk};
-ghost use Rattle.apd_write.specs.NameTexts.{is_word_name, is_graphic_name, is_solo_name, is_bracket_name, is_bare, hex_digit, quoted_byte, quoted, function_text, name_text};
+ghost use Rattle.std.specs.Prelude.{◌≡◌, ◌++◌, ◌<◌, codes, OnOk};
+ghost use Rattle.std.specs.List.{list_all};
+ghost use Rattle.apd_term.specs.Names.{same_text};
+ghost use Rattle.apd_token.specs.Bytes.{is_word, is_graphic};
+ghost use Rattle.apd_write.specs.NameTexts.{is_word_name, is_graphic_name, begins_comment, is_solo_name, is_bracket_name, is_bare, hex_digit, quoted_byte, quoted, function_text, name_text};
 
 use apd_term::Text;
 use apd_token::{is_graphic, is_small, is_word};
 use std::alloc::AllocError;
 
-/// A small letter, then letters, digits and `_`.
+/// Whether all are letters, digits and `_`.
+fn are_word_bytes(bytes: &[u8]) -> bool
+    ensures { result ≡ list_all is_word bytes.now }
+{
+    bytes.iter().all(|b| is_word(*b))
+}
+
+/// A small letter first, and only letters, digits and `_`.
 fn is_word_name(name: &[u8]) -> bool
     ensures { result ≡ is_word_name name.now }
 {
     match name {
-        [first, rest @ ..] => is_small(*first) && rest.iter().all(|b| is_word(*b)),
+        [first, ..] => is_small(*first) && are_word_bytes(name),
         [] => false,
     }
+}
+
+fn are_graphic_bytes(bytes: &[u8]) -> bool
+    ensures { result ≡ list_all is_graphic bytes.now }
+{
+    bytes.iter().all(|b| is_graphic(*b))
+}
+
+fn is_full_stop(name: &[u8]) -> bool
+    ensures { result ≡ same_text name.now (codes ".") }
+{
+    name == b".".as_slice()
+}
+
+fn begins_comment(name: &[u8]) -> bool
+    ensures { result ≡ begins_comment name.now }
+{
+    name.starts_with(b"/*")
 }
 
 /// Graphic characters, not the full stop alone and not with the beginning of a comment.
 fn is_graphic_name(name: &[u8]) -> bool
     ensures { result ≡ is_graphic_name name.now }
 {
-    !name.is_empty()
-        && name.iter().all(|b| is_graphic(*b))
-        && name != b".".as_slice()
-        && !name.starts_with(b"/*")
+    !name.is_empty() && are_graphic_bytes(name) && !is_full_stop(name) && !begins_comment(name)
 }
 
 fn is_solo_name(name: &[u8]) -> bool

@@ -1,15 +1,17 @@
 -- What is still to be written in the middle of a term.
-use Rattle.std.specs.Prelude.{ℕ, ◌≡◌, ◌+◌, ◌-◌, Bool, true, false, List, [], ◌∷◌, ◌++◌, codes, length, if◌then◌else◌, Option, Some, None}
+use Rattle.std.specs.Prelude.{ℕ, ◌≡◌, ◌+◌, ◌-◌, Bool, true, false, List, [], ◌∷◌, ◌++◌, codes, length, if◌then◌else◌, Option, Some, None, nat_lt}
 use Rattle.std.proofs.Common.{zero, suc}
 use Rattle.std.specs.Fmt.{signed_decimal}
 use Rattle.std.specs.Int.{is_negative}
 use Rattle.apd_term.specs.Names.{text_of_name}
+use Rattle.apd_term.specs.Term.{Term, terms_of}
+use Rattle.apd_term.specs.declared.standard.TheConstants.{NIL}
 use Rattle.apd_term.specs.declared.term.NameId.{NameId}
 use Rattle.apd_term.specs.declared.term.Sym.{Sym}
 use Rattle.apd_term.specs.declared.term.Sym.TheVariants.{Var, Int, Fun}
 use Rattle.apd_ops.specs.Table.{Table}
 use Rattle.apd_write.specs.NameTexts.{name_text}
-use Rattle.apd_write.specs.Writing.{Part, arranged, between, in_parentheses, is_operator, left_operand, rest_after, right_operand, variable_text}
+use Rattle.apd_write.specs.Writing.{Part, arranged, between, in_parentheses, is_operator, is_same_name, parts, left_operand, rest_after, right_operand, variable_text}
 use Rattle.apd_write.specs.declared.pending.Place.{Place}
 use Rattle.apd_write.specs.declared.pending.Place.TheVariants as place
 use Rattle.apd_write.specs.declared.pending.Frame.{Frame}
@@ -25,6 +27,10 @@ leaf_text names (Fun f n) = name_text (text_of_name names f)
 abbrev pub is_operator_symbol : Table → Sym → Bool
 is_operator_symbol ops (Fun f n) = is_operator ops f
 is_operator_symbol ops x = false
+
+abbrev pub is_nil_symbol : Sym → Bool
+is_nil_symbol (Fun f n) = is_same_name f NIL
+is_nil_symbol x = false
 
 abbrev pub is_negative_symbol : Sym → Bool
 is_negative_symbol (Int i) = is_negative i
@@ -122,6 +128,20 @@ compound_in ops (place.Left max) f name ps = arranged ops f name max ps
 compound_in ops (place.Right max) f name ps = arranged ops f name max ps
 compound_in ops place.Rest f name ps = rest_after ops f name ps
 
+-- the opening parenthesis where the priority is above the greatest one of the place
+abbrev pub opening_mark : ℕ → ℕ → List ℕ
+opening_mark priority max = if nat_lt max priority then codes "(" else []
+
+-- the frame of the closing one
+abbrev pub closing_frames : ℕ → ℕ → List Frame
+closing_frames priority max = if nat_lt max priority then frame.ParenthesisEnd ∷ [] else []
+
+-- marks were added to the text and frames pushed, and the next term stands in this place
+pub record Puts (marks : List ℕ) (pushed : List Frame) (place : Place) (frames frames_now : List Frame) (out out_now : List ℕ) (next : Place) : Type 0 where
+  pub adds : out_now ≡ out ++ marks
+  pub pushes : frames_now ≡ frames ++ pushed
+  pub stands : next ≡ place
+
 -- what stands before the first argument was added to the text, with a frame for what stands behind it
 pub record Opens (ops : Table) (names : List (List ℕ)) (f : NameId) (count : ℕ) (here : Place) (frames frames_now : List Frame) (out out_now : List ℕ) (next : Place) : Type 0 where
   pub marks : List ℕ
@@ -130,9 +150,23 @@ pub record Opens (ops : Table) (names : List (List ℕ)) (f : NameId) (count : �
   pub text : (after : List Part → List ℕ) (ps qs : List Part) → length ps ≡ count →
       compound_in ops here f (text_of_name names f) ps ++ resume ops names frames after qs ≡ marks ++ next_in ops names next (resume ops names frames_now after) (ps ++ qs)
 
+-- a symbol without arguments as the rest of a list
+abbrev pub leaf_rest : List (List ℕ) → Sym → List ℕ
+leaf_rest names x = if is_nil_symbol x then codes "]" else codes "|" ++ leaf_text names x ++ codes "]"
+
 -- a symbol without arguments in a place
 abbrev pub leaf_in : Table → List (List ℕ) → Place → Sym → List ℕ
 leaf_in ops names (place.Whole max) x = leaf_text names x
 leaf_in ops names (place.Left max) x = if is_negative_symbol x then in_parentheses (leaf_text names x) else (if is_operator_symbol ops x then in_parentheses (leaf_text names x) else leaf_text names x)
 leaf_in ops names (place.Right max) x = if is_operator_symbol ops x then in_parentheses (leaf_text names x) else leaf_text names x
-leaf_in ops names place.Rest x = codes "|" ++ leaf_text names x ++ codes "]"
+leaf_in ops names place.Rest x = leaf_rest names x
+
+-- in the middle of a text: the next of these terms is to be written in this place, and the frames have what stands behind it
+pub record Expects (ops : Table) (names : List (List ℕ)) (whole : List ℕ) (frames : List Frame) (out : List ℕ) (place : Place) (ts : List Term) : Type 0 where
+  pub count : length ts ≡ takes_in_all frames + 1
+  pub text : whole ≡ out ++ next_in ops names place (resume ops names frames (λ ps. [])) (parts ops names (terms_of ts))
+
+-- in the middle of a text, or at its end
+abbrev pub Stands : Table → List (List ℕ) → List ℕ → List Frame → List ℕ → Option Place → List Term → Type 0
+Stands ops names whole frames out (Some place) ts = Expects ops names whole frames out place ts
+Stands ops names whole frames out None ts = whole ≡ out

@@ -1,13 +1,14 @@
 //! Symbols without arguments, in their places.
 
-ghost use Rattle.std.specs.Prelude.{◌≡◌, ◌++◌, codes, OnOk};
-ghost use Rattle.apd_write.specs.Pending.{is_negative_symbol, is_operator_symbol, leaf_in, leaf_text};
+ghost use Rattle.std.specs.Prelude.{◌≡◌, ◌++◌, OnOk};
+ghost use Rattle.apd_write.specs.Pending.{is_negative_symbol, is_nil_symbol, is_operator_symbol, leaf_in, leaf_rest, leaf_text};
 ghost use Rattle.apd_write.specs.Writing.{in_parentheses};
 
 use crate::names::write_name;
 use crate::pending::Place;
 use apd_ops::Ops;
 use apd_term::names::Names;
+use apd_term::standard::NIL;
 use apd_term::{Sym, Text};
 use std::alloc::{AllocError, Global};
 
@@ -64,17 +65,28 @@ fn write_enclosed(
     Ok(())
 }
 
-/// Writes a list's tail, behind the bar, and the list's end.
-fn write_tail(alloc: Global, names: &Names, symbol: Sym, out: &mut Text) -> Result<(), AllocError>
-    ensures { OnOk result (out.new ≡ out.old ++ (codes "|" ++ leaf_text names.now symbol ++ codes "]")) }
+fn is_nil(symbol: Sym) -> bool
+    ensures { result ≡ is_nil_symbol symbol }
 {
-    out.push(b'|')?;
-    write_symbol(alloc, names, symbol, out)?;
+    match symbol {
+        Sym::Fun(name, _) => name == NIL,
+        Sym::Var(_) | Sym::Int(_) => false,
+    }
+}
+
+/// Writes the end of a list whose rest is the symbol: what isn't `[]` stands behind the bar.
+fn write_rest(alloc: Global, names: &Names, symbol: Sym, out: &mut Text) -> Result<(), AllocError>
+    ensures { OnOk result (out.new ≡ out.old ++ leaf_rest names.now symbol) }
+{
+    if !is_nil(symbol) {
+        out.push(b'|')?;
+        write_symbol(alloc, names, symbol, out)?;
+    }
     out.push(b']')?;
     Ok(())
 }
 
-/// Writes a symbol without arguments in its place; in that of a list's rest it is a tail, and not the list's end.
+/// Writes a symbol without arguments in its place.
 pub(crate) fn write_leaf(
     alloc: Global,
     ops: &Ops,
@@ -90,7 +102,7 @@ pub(crate) fn write_leaf(
         Place::Left(_) | Place::Right(_) if is_operator(ops, symbol) => {
             write_enclosed(alloc, names, symbol, out)
         }
-        Place::Rest => write_tail(alloc, names, symbol, out),
+        Place::Rest => write_rest(alloc, names, symbol, out),
         Place::Whole(_) | Place::Left(_) | Place::Right(_) => {
             write_symbol(alloc, names, symbol, out)
         }

@@ -1,8 +1,12 @@
 //! What stands before the arguments of a compound.
 
-ghost use Rattle.std.specs.Prelude.{◌≡◌, ◌<◌, IfOk};
-ghost use Rattle.apd_write.specs.Pending.{Opens};
+ghost use Rattle.std.specs.Prelude.{◌≡◌, ◌<◌, ◌-◌, ◌++◌, [], ◌∷◌, codes, IfOk, OnOk};
+ghost use Rattle.apd_ops.specs.Operators.{left_of, right_of};
+ghost use Rattle.apd_term.specs.Names.{text_of_name};
+ghost use Rattle.apd_write.specs.NameTexts.{function_text, name_text};
+ghost use Rattle.apd_write.specs.Pending.{Opens, Puts, closing_frames, opening_mark};
 ghost use Rattle.apd_write.specs.declared.pending.Place.TheVariants as places;
+ghost use Rattle.apd_write.specs.declared.pending.Frame.TheVariants as behind;
 
 use crate::names::{write_function_name, write_name};
 use crate::pending::{Frame, Place};
@@ -18,7 +22,10 @@ fn open_fitted(
     max: u16,
     frames: &mut Vec<Frame>,
     out: &mut Text,
-) -> Result<(), AllocError> {
+) -> Result<(), AllocError>
+    ensures text { OnOk result (out.new ≡ out.old ++ opening_mark priority max) }
+    ensures frames { OnOk result (frames.new.items ≡ frames.old.items ++ closing_frames priority max) }
+{
     if priority > max {
         out.push(b'(')?;
         frames.push(Frame::ParenthesisEnd)?;
@@ -35,6 +42,7 @@ fn open_function(
     out: &mut Text,
 ) -> Result<Place, AllocError>
     requires { 0 < count }
+    ensures { IfOk result (λ next. Puts (function_text (text_of_name names.now name) ++ codes "(") (behind.Arguments (count - 1) ∷ []) (places.Whole 999) frames.old.items frames.new.items out.old out.new next) }
 {
     write_function_name(names.text(name), out)?;
     out.push(b'(')?;
@@ -49,7 +57,9 @@ fn open_prefix(
     max: u16,
     frames: &mut Vec<Frame>,
     out: &mut Text,
-) -> Result<Place, AllocError> {
+) -> Result<Place, AllocError>
+    ensures { IfOk result (λ next. Puts (opening_mark operator.priority max ++ (name_text (text_of_name names.now operator.name) ++ codes " ")) (closing_frames operator.priority max) (places.Left (right_of operator)) frames.old.items frames.new.items out.old out.new next) }
+{
     open_fitted(operator.priority, max, frames, out)?;
     write_name(names.text(operator.name), out)?;
     out.push(b' ')?;
@@ -62,7 +72,9 @@ fn open_infix(
     max: u16,
     frames: &mut Vec<Frame>,
     out: &mut Text,
-) -> Result<Place, AllocError> {
+) -> Result<Place, AllocError>
+    ensures { IfOk result (λ next. Puts (opening_mark operator.priority max) (closing_frames operator.priority max ++ behind.Right operator.name (right_of operator) ∷ []) (places.Left (left_of operator)) frames.old.items frames.new.items out.old out.new next) }
+{
     open_fitted(operator.priority, max, frames, out)?;
     frames.push(Frame::Right {
         name: operator.name,
@@ -72,14 +84,27 @@ fn open_infix(
 }
 
 /// A list, from its first element on.
-fn open_list(frames: &mut Vec<Frame>, out: &mut Text) -> Result<Place, AllocError> {
+fn open_list(frames: &mut Vec<Frame>, out: &mut Text) -> Result<Place, AllocError>
+    ensures { IfOk result (λ next. Puts (codes "[") (behind.Rest ∷ []) (places.Whole 999) frames.old.items frames.new.items out.old out.new next) }
+{
     out.push(b'[')?;
     frames.push(Frame::Rest)?;
     Ok(Place::Whole(999))
 }
 
+/// A list's next element.
+fn open_further(frames: &mut Vec<Frame>, out: &mut Text) -> Result<Place, AllocError>
+    ensures { IfOk result (λ next. Puts (codes ",") (behind.Rest ∷ []) (places.Whole 999) frames.old.items frames.new.items out.old out.new next) }
+{
+    out.push(b',')?;
+    frames.push(Frame::Rest)?;
+    Ok(Place::Whole(999))
+}
+
 /// A term in braces.
-fn open_curly(frames: &mut Vec<Frame>, out: &mut Text) -> Result<Place, AllocError> {
+fn open_curly(frames: &mut Vec<Frame>, out: &mut Text) -> Result<Place, AllocError>
+    ensures { IfOk result (λ next. Puts (codes "{") (behind.CurlyEnd ∷ []) (places.Whole 1200) frames.old.items frames.new.items out.old out.new next) }
+{
     out.push(b'{')?;
     frames.push(Frame::CurlyEnd)?;
     Ok(Place::Whole(1200))
@@ -144,11 +169,7 @@ pub(crate) fn open(
         Place::Whole(max) | Place::Left(max) | Place::Right(max) => {
             open_compound(ops, names, name, count, max, frames, out)
         }
-        Place::Rest if name == CELL && count == 2 => {
-            out.push(b',')?;
-            frames.push(Frame::Rest)?;
-            Ok(Place::Whole(999))
-        }
+        Place::Rest if name == CELL && count == 2 => open_further(frames, out),
         Place::Rest => {
             out.push(b'|')?;
             frames.push(Frame::ListEnd)?;

@@ -1,7 +1,9 @@
 //! Terms, symbol by symbol.
 
-ghost use Rattle.std.specs.Prelude.{◌≡◌, ◌++◌, ◌≤◌, OnOk, OnErr, IfOk};
-ghost use Rattle.apd_term.specs.Term.{IsWhole, term_of};
+ghost use Rattle.std.specs.Prelude.{◌≡◌, ◌++◌, ◌≤◌, List, ◌∷◌, ℕ, OnOk, OnErr, IfOk};
+ghost use Rattle.apd_term.specs.Term.{IsTerms, IsWhole, read_all, term_of};
+ghost use Rattle.apd_term.specs.declared.term.Sym.{Sym};
+ghost use Rattle.apd_write.specs.Pending.{Expects, Stands};
 ghost use Rattle.apd_write.specs.Writing.{written};
 
 use crate::closing::close;
@@ -10,7 +12,6 @@ use crate::opening::open;
 use crate::pending::{Frame, Place};
 use apd_ops::Ops;
 use apd_term::names::Names;
-use apd_term::standard::NIL;
 use apd_term::{Flat, Sym, Text};
 use std::alloc::{AllocError, Global};
 
@@ -23,20 +24,18 @@ fn write_next(
     place: Place,
     frames: &mut Vec<Frame>,
     out: &mut Text,
-) -> Result<Option<Place>, AllocError> {
-    match symbol {
-        Sym::Fun(name, count) if count > 0 => {
-            Ok(Some(open(ops, names, name, count, place, frames, out)?))
-        }
-        Sym::Fun(NIL, _) if place == Place::Rest => {
-            out.push(b']')?;
-            close(names, frames, out)
-        }
-        _ => {
-            write_leaf(alloc, ops, names, symbol, place, out)?;
-            close(names, frames, out)
-        }
+) -> Result<Option<Place>, AllocError>
+    ensures { IfOk result (λ next. (whole : List ℕ) (rest : List Sym) → IsTerms (symbol ∷ rest) →
+        Expects ops.now names.now whole frames.old.items out.old place (read_all (symbol ∷ rest)) →
+        Stands ops.now names.now whole frames.new.items out.new next (read_all rest)) }
+{
+    if let Sym::Fun(name, count) = symbol
+        && count > 0
+    {
+        return Ok(Some(open(ops, names, name, count, place, frames, out)?));
     }
+    write_leaf(alloc, ops, names, symbol, place, out)?;
+    close(names, frames, out)
 }
 
 /// The text of the term that these symbols spell, for a place of a priority.

@@ -37,14 +37,14 @@ fn leave(
     ensures { IfOk result (λ next. (ops : Table) → Leaves ops names.now frame frames.old.items frames.new.items out.old out.new next) }
 {
     match frame {
-        Frame::Arguments(0) | Frame::ParenthesisEnd => out.push(b')')?,
-        Frame::ListEnd => out.push(b']')?,
-        Frame::CurlyEnd => out.push(b'}')?,
-        Frame::Arguments(left) => {
+        Frame::Arguments(left) if left > 0 => {
             out.push(b',')?;
             frames.push(Frame::Arguments(left - 1))?;
             return Ok(Some(Place::Whole(999)));
         }
+        Frame::Arguments(_) | Frame::ParenthesisEnd => out.push(b')')?,
+        Frame::ListEnd => out.push(b']')?,
+        Frame::CurlyEnd => out.push(b'}')?,
         Frame::Rest => return Ok(Some(Place::Rest)),
         Frame::Right { name, max } => {
             write_infix(names, name, out)?;

@@ -37,13 +37,12 @@ parts_of-append ops names [] us = refl
 parts_of-append ops names (t ∷ ts) us = ap (λ (ps : List Part). part_of ops names t ∷ ps) (parts_of-append ops names ts us)
 
 -- what a term without arguments has for its symbol
-leaf_of : Sym → Term
+abbrev pub leaf_of : Sym → Term
 leaf_of (Var v) = variable v
 leaf_of (Int i) = integer i
 leaf_of (Fun f n) = compound f none
 
 leaf_text_in : (ops : Table) (names : List (List ℕ)) (here : Place) (x : Sym) → text_in ops names here (part_of ops names (leaf_of x)) ≡ leaf_in ops names here x
-  unfolding leaf_of
 leaf_text_in ops names (place.Whole max) (Var v) = refl
 leaf_text_in ops names (place.Whole max) (Int i) = refl
 leaf_text_in ops names (place.Whole max) (Fun f n) = refl
@@ -58,7 +57,6 @@ leaf_text_in ops names place.Rest (Int i) = refl
 leaf_text_in ops names place.Rest (Fun f n) = refl
 
 leaf_read : (x : Sym) (s : List Sym) → arity_of x ≡ 0 → read_all (x ∷ s) ≡ leaf_of x ∷ read_all s
-  unfolding leaf_of
 leaf_read (Var v) s leaf = refl
 leaf_read (Int i) s leaf = refl
 leaf_read (Fun f zero) s leaf = refl

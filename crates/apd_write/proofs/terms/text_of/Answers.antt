@@ -1,0 +1,1 @@
+use Rattle.apd_write.proofs.terms.text_of.Goals as goal

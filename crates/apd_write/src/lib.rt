@@ -10,6 +10,8 @@ mod names;
 mod opening;
 mod pending;
 mod terms;
+#[cfg(test)]
+mod tests;
 
 pub use names::write_name;
 pub use terms::write_term;

@@ -15,10 +15,14 @@ use Rattle.apd_write.proofs.Frames.{resume-push, takes-push}
 pub argument_left : (ops : Table) (names : List (List ℕ)) (n m : ℕ) (frames frames_now : List Frame) (out out_now : List ℕ) → n ≡ suc m →
     frames_now ≡ frames ++ frame.Arguments m ∷ [] → out_now ≡ out ++ codes "," →
     Leaves ops names (frame.Arguments n) frames frames_now out out_now (Some (place.Whole 999))
-argument_left ops names n m frames frames_now out out_now some pushed added = rw (some, pushed) (codes ",", added, record {
-  count = let e = takes-push frames (frame.Arguments m) in omega (arith, e);
-  text = λ after p ps. ap (λ (g : List Part → List ℕ). 44 ∷ (p.text 999 ++ g ps)) (sym (resume-push ops names frames (frame.Arguments m) after));
-})
+argument_left ops names n m frames frames_now out out_now some pushed added = rw (some, pushed) (
+  codes ",",
+  added,
+  record {
+    count = let e = takes-push frames (frame.Arguments m) in omega (arith, e);
+    text = λ after p ps. ap (λ (g : List Part → List ℕ). 44 ∷ (p.text 999 ++ g ps)) (sym (resume-push ops names frames (frame.Arguments m) after));
+  },
+)
 
 -- what was closed so far
 pub record Closing (ops : Table) (names : List (List ℕ)) (frames frames_now : List Frame) (out out_now : List ℕ) : Type 0 where

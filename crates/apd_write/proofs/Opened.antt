@@ -1,7 +1,6 @@
 -- What opens a compound, with what stands behind it, makes up the compound's text.
 use Rattle.std.proofs.Common.{ℕ, ◌≡◌, ◌+◌, ◌-◌, ◌<◌, List, [], ◌∷◌, ◌++◌, Bool, true, false, length, refl, ap, sym, ◌∙◌, arith, append_assoc, zero, suc}
 use Rattle.std.specs.Prelude.{codes, if◌then◌else◌, nat_lt, Option, Some, None}
-
 use Rattle.apd_ops.specs.Operators.{left_by, right_by}
 use Rattle.apd_ops.specs.Table.{Meaning, Table, prefix_in, infix_in}
 use Rattle.apd_term.specs.Names.{text_of_name}
@@ -48,9 +47,9 @@ function_text_opens ops names name n frames after (p ∷ ps) qs is =
     let few : length ps ≡ n = omega (arith, is) in
     regroup_function (function_text name) (p.text 999) (further_arguments ps) (resume ops names frames after qs)
     ∙ ap (λ (x : List ℕ). (function_text name ++ 40 ∷ []) ++ (p.text 999 ++ x)) (
-        sym (arguments_all ops names (resume ops names frames after) ps qs)
-        ∙ ap (λ (k : ℕ). arguments_then ops names k (resume ops names frames after) (ps ++ qs)) few
-        ∙ ap (λ (g : List Part → List ℕ). g (ps ++ qs)) (sym (resume-push ops names frames (frame.Arguments n) after)))
+    sym (arguments_all ops names (resume ops names frames after) ps qs)
+    ∙ ap (λ (k : ℕ). arguments_then ops names k (resume ops names frames after) (ps ++ qs)) few
+    ∙ ap (λ (g : List Part → List ℕ). g (ps ++ qs)) (sym (resume-push ops names frames (frame.Arguments n) after)))
 
 pub function_opens : (ops : Table) (names : List (List ℕ)) (f : NameId) (count max : ℕ) (frames frames_now : List Frame) (out out_now : List ℕ) (next : Place) →
     0 < count →
@@ -61,7 +60,7 @@ function_opens ops names f count max frames frames_now out out_now next some is 
     opens_from_put ops names f count (place.Whole max) _ _ _ frames frames_now out out_now next
     (let e = takes-push frames (frame.Arguments (count - 1)) in omega (arith, e, some))
     (λ after ps qs long. ap (λ (x : List ℕ). x ++ resume ops names frames after qs) (is ps long)
-      ∙ function_text_opens ops names (text_of_name names f) (count - 1) frames after ps qs (omega (arith, long, some)))
+    ∙ function_text_opens ops names (text_of_name names f) (count - 1) frames after ps qs (omega (arith, long, some)))
     put
 
 -- which compounds are in functional notation
@@ -154,10 +153,10 @@ pub infix_opens : (ops : Table) (names : List (List ℕ)) (f : NameId) (m : Mean
 infix_opens ops names f m max frames frames_now out out_now next is not_cell put =
     opens_from_put ops names f 2 (place.Whole max) _ _ _ frames frames_now out out_now next
     (let last : Frame = frame.Right f (right_by m.1 m.0) in
-      let e = takes-fitted (nat_lt max m.0) frames in
-      let d = takes-push (frames ++ closing_frames m.0 max) last in
-      let s : takes_in_all ((frames ++ closing_frames m.0 max) ++ last ∷ []) ≡ takes_in_all (frames ++ (closing_frames m.0 max ++ last ∷ [])) = ap takes_in_all (append_assoc frames (closing_frames m.0 max) (last ∷ [])) in
-      omega (arith, e, d, s))
+    let e = takes-fitted (nat_lt max m.0) frames in
+    let d = takes-push (frames ++ closing_frames m.0 max) last in
+    let s : takes_in_all ((frames ++ closing_frames m.0 max) ++ last ∷ []) ≡ takes_in_all (frames ++ (closing_frames m.0 max ++ last ∷ [])) = ap takes_in_all (append_assoc frames (closing_frames m.0 max) (last ∷ [])) in
+    omega (arith, e, d, s))
     (λ after ps qs two. infix_text_opens ops names f m max frames after is not_cell ps qs two)
     put
 
@@ -253,7 +252,7 @@ tail_opens ops names f count frames inner frames_now out between_out out_now nex
       let here : List ℕ = arranged ops f name 999 ps in
       ap (λ (x : List ℕ). x ++ resume ops names frames after qs) (rest_after_tail ops f name ps (omega (arith, some, long)) (λ two. no_cell (omega (arith, two, long))))
       ∙ ap (λ (x : List ℕ). 124 ∷ x) (append_assoc here (93 ∷ []) (resume ops names frames after qs)
-        ∙ ap (λ (g : List Part → List ℕ). here ++ g qs) (sym (resume-push ops names frames frame.ListEnd after))
-        ∙ ap (λ (fs : List Frame). here ++ resume ops names fs after qs) (sym pushed)
-        ∙ opens.text after ps qs long);
+      ∙ ap (λ (g : List Part → List ℕ). here ++ g qs) (sym (resume-push ops names frames frame.ListEnd after))
+      ∙ ap (λ (fs : List Frame). here ++ resume ops names fs after qs) (sym pushed)
+      ∙ opens.text after ps qs long);
 }

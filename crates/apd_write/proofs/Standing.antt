@@ -24,10 +24,6 @@ module _ (ops : Table) (names : List (List ℕ)) where
   abbrev pub parts_of : List Term → List Part
   parts_of ts = parts ops names (terms_of ts)
 
-  -- nothing comes after the term
-  abbrev pub nothing : List Part → List ℕ
-  nothing ps = []
-
 length-parts_of : (ops : Table) (names : List (List ℕ)) (ts : List Term) → length (parts_of ops names ts) ≡ length ts
 length-parts_of ops names [] = refl
 length-parts_of ops names (t ∷ ts) = let e = length-parts_of ops names ts in omega (arith, e)

@@ -6,7 +6,7 @@ ghost use Rattle.apd_term.specs.Names.{text_of_name};
 ghost use Rattle.apd_write.specs.NameTexts.{function_text, name_text};
 ghost use Rattle.apd_write.specs.Pending.{Opens, Puts, closing_frames, opening_mark};
 ghost use Rattle.apd_write.specs.declared.pending.Place.TheVariants as places;
-ghost use Rattle.apd_write.specs.declared.pending.Frame.TheVariants as behind;
+ghost use Rattle.apd_write.specs.declared.pending.Frame.TheVariants as pushed;
 
 use crate::names::{write_function_name, write_name};
 use crate::pending::{Frame, Place};
@@ -42,7 +42,7 @@ fn open_function(
     out: &mut Text,
 ) -> Result<Place, AllocError>
     requires { 0 < count }
-    ensures { IfOk result (λ next. Puts (function_text (text_of_name names.now name) ++ codes "(") (behind.Arguments (count - 1) ∷ []) (places.Whole 999) frames.old.items frames.new.items out.old out.new next) }
+    ensures { IfOk result (λ next. Puts (function_text (text_of_name names.now name) ++ codes "(") (pushed.Arguments (count - 1) ∷ []) (places.Whole 999) frames.old.items frames.new.items out.old out.new next) }
 {
     write_function_name(names.text(name), out)?;
     out.push(b'(')?;
@@ -73,7 +73,7 @@ fn open_infix(
     frames: &mut Vec<Frame>,
     out: &mut Text,
 ) -> Result<Place, AllocError>
-    ensures { IfOk result (λ next. Puts (opening_mark operator.priority max) (closing_frames operator.priority max ++ behind.Right operator.name (right_of operator) ∷ []) (places.Left (left_of operator)) frames.old.items frames.new.items out.old out.new next) }
+    ensures { IfOk result (λ next. Puts (opening_mark operator.priority max) (closing_frames operator.priority max ++ pushed.Right operator.name (right_of operator) ∷ []) (places.Left (left_of operator)) frames.old.items frames.new.items out.old out.new next) }
 {
     open_fitted(operator.priority, max, frames, out)?;
     frames.push(Frame::Right {
@@ -85,7 +85,7 @@ fn open_infix(
 
 /// A list, from its first element on.
 fn open_list(frames: &mut Vec<Frame>, out: &mut Text) -> Result<Place, AllocError>
-    ensures { IfOk result (λ next. Puts (codes "[") (behind.Rest ∷ []) (places.Whole 999) frames.old.items frames.new.items out.old out.new next) }
+    ensures { IfOk result (λ next. Puts (codes "[") (pushed.Rest ∷ []) (places.Whole 999) frames.old.items frames.new.items out.old out.new next) }
 {
     out.push(b'[')?;
     frames.push(Frame::Rest)?;
@@ -94,7 +94,7 @@ fn open_list(frames: &mut Vec<Frame>, out: &mut Text) -> Result<Place, AllocErro
 
 /// A list's next element.
 fn open_further(frames: &mut Vec<Frame>, out: &mut Text) -> Result<Place, AllocError>
-    ensures { IfOk result (λ next. Puts (codes ",") (behind.Rest ∷ []) (places.Whole 999) frames.old.items frames.new.items out.old out.new next) }
+    ensures { IfOk result (λ next. Puts (codes ",") (pushed.Rest ∷ []) (places.Whole 999) frames.old.items frames.new.items out.old out.new next) }
 {
     out.push(b',')?;
     frames.push(Frame::Rest)?;
@@ -103,7 +103,7 @@ fn open_further(frames: &mut Vec<Frame>, out: &mut Text) -> Result<Place, AllocE
 
 /// A term in braces.
 fn open_curly(frames: &mut Vec<Frame>, out: &mut Text) -> Result<Place, AllocError>
-    ensures { IfOk result (λ next. Puts (codes "{") (behind.CurlyEnd ∷ []) (places.Whole 1200) frames.old.items frames.new.items out.old out.new next) }
+    ensures { IfOk result (λ next. Puts (codes "{") (pushed.CurlyEnd ∷ []) (places.Whole 1200) frames.old.items frames.new.items out.old out.new next) }
 {
     out.push(b'{')?;
     frames.push(Frame::CurlyEnd)?;

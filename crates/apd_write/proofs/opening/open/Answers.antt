@@ -17,7 +17,7 @@ returns-in-Rest c =
     let names : List (List ℕ) = c.args.names.now in
     let cell : is_same_name c.args.name CELL ≡ true = sym c.if-eq.ensures in
     rw (c.in-Rest.is, c.if-count-eq2.true) (IfOk-weaker c.open_further.result _ _ (λ next put.
-      further_opens ops names c.args.name c.args.frames.now.items c.open_further.new.frames.items c.args.out.now c.open_further.new.out next cell put) c.open_further.ensures)
+    further_opens ops names c.args.name c.args.frames.now.items c.open_further.new.frames.items c.args.out.now c.open_further.new.out next cell put) c.open_further.ensures)
 
 pub returns-in_ok-push-in-Rest-2-2 : goal.returns-in_ok-push-in-Rest-2-2
 returns-in_ok-push-in-Rest-2-2 c =
@@ -28,4 +28,4 @@ returns-in_ok-push-in-Rest-2-2 c =
     let pushed : c.push-in-Rest-2.new.self.items ≡ c.args.frames.now.items ++ ListEnd ∷ [] = search rules in
     let added : c.push.new.self ≡ c.args.out.now ++ codes "|" = search rules in
     rw c.in-Rest-2.is (IfOk-weaker c.open_compound.result _ _ (λ next opens.
-      tail_opens ops names f c.args.count c.args.frames.now.items c.push-in-Rest-2.new.self.items c.open_compound.new.frames.items c.args.out.now c.push.new.self c.open_compound.new.out next c.requires no_cell pushed added opens) c.open_compound.ensures)
+    tail_opens ops names f c.args.count c.args.frames.now.items c.push-in-Rest-2.new.self.items c.open_compound.new.frames.items c.args.out.now c.push.new.self c.open_compound.new.out next c.requires no_cell pushed added opens) c.open_compound.ensures)

@@ -28,4 +28,4 @@ returns-2 c =
     let leaf : arity_of c.args.symbol ≡ 0 = elim c.in_default.branch [ in_default-via-in-Var-1 w ↦ search rules | in_default-via-in-Fun+else-count-gt0 w ↦ ap arity_of w.in-Fun.is ∙ (let h = w.if-count-gt0.false in omega arith) ] in
     let wrote : c.write_leaf.new.out ≡ c.args.out.now ++ leaf_in ops names c.args.place c.args.symbol = search rules in
     IfOk-weaker c.close.result _ _ (λ next closing whole rest terms expects.
-      leaf_next ops names whole c.args.frames.now.items c.close.new.frames.items c.args.out.now c.write_leaf.new.out c.close.new.out c.args.place c.args.symbol rest next leaf expects wrote (closing ops)) c.close.ensures
+    leaf_next ops names whole c.args.frames.now.items c.close.new.frames.items c.args.out.now c.write_leaf.new.out c.close.new.out c.args.place c.args.symbol rest next leaf expects wrote (closing ops)) c.close.ensures

@@ -1,4 +1,6 @@
-//! Terms and names with their texts, by hand from the rules.
+//! Terms with their texts, by hand from the rules.
+
+mod names;
 
 use crate::write_term;
 use apd_ops::{OpFault, OpKind, Ops};
@@ -26,54 +28,6 @@ const C: Symbol = F("c", 0);
 const NIL: Symbol = F("[]", 0);
 
 const CELL: Symbol = F(".", 2);
-
-/// Names and how they stand by themselves.
-const NAMES: [(&str, &str); 44] = [
-    ("a", "a"),
-    ("aB_9z", "aB_9z"),
-    ("[]", "[]"),
-    ("{}", "{}"),
-    ("!", "!"),
-    (";", ";"),
-    ("=..", "=.."),
-    ("#$&*+-./:<=>?@\\^~", "#$&*+-./:<=>?@\\^~"),
-    ("..", ".."),
-    ("*/", "*/"),
-    ("/", "/"),
-    ("//*", "//*"),
-    (".", "'.'"),
-    ("/*", "'/*'"),
-    ("/**", "'/**'"),
-    ("", "''"),
-    ("A", "'A'"),
-    ("_a", "'_a'"),
-    ("9", "'9'"),
-    ("a b", "'a b'"),
-    ("a+", "'a+'"),
-    ("+a", "'+a'"),
-    (",", "','"),
-    ("|", "'|'"),
-    ("[", "'['"),
-    ("[]a", "'[]a'"),
-    ("{} ", "'{} '"),
-    ("!!", "'!!'"),
-    (";;", "';;'"),
-    ("!;", "'!;'"),
-    ("(", "'('"),
-    ("%", "'%'"),
-    ("\"`", "'\"`'"),
-    ("it's", "'it\\'s'"),
-    ("a\\b", "'a\\\\b'"),
-    ("a\nb\tc", "'a\\nb\\tc'"),
-    ("\0", "'\\x00\\'"),
-    ("\x07\x0b\x0d", "'\\x07\\\\x0b\\\\x0d\\'"),
-    ("\x1f ", "'\\x1f\\ '"),
-    ("~\x7f", "'~\\x7f\\'"),
-    ("\u{e9}", "'\u{e9}'"),
-    ("na\u{ef}ve", "'na\u{ef}ve'"),
-    ("\u{65e5}\u{672c}", "'\u{65e5}\u{672c}'"),
-    ("\u{80}", "'\u{80}'"),
-];
 
 /// A term in prefix order, the greatest priority of its place, and its text.
 type Case = (&'static [Symbol], u16, &'static str);
@@ -270,10 +224,6 @@ const QUOTED: [Case; 6] = [
     ),
 ];
 
-fn named() -> &'static [(&'static str, &'static str)] {
-    &NAMES
-}
-
 fn atoms() -> &'static [Case] {
     &ATOMS
 }
@@ -399,19 +349,5 @@ fn terms_are_written_as_they_are_read(rt: HostRuntime) -> Result<(), Fail> {
     check(&rt, alloc, &ops, &mut names, negative())?;
     check(&rt, alloc, &ops, &mut names, operator_atoms())?;
     check(&rt, alloc, &ops, &mut names, quoted())?;
-    Ok(())
-}
-
-#[test]
-fn names_are_bare_or_in_quotes(rt: HostRuntime) -> Result<(), Fail> {
-    let alloc = rt.alloc();
-    let ops = Ops::new(alloc);
-    let mut names = Names::standard(alloc)?;
-    for (name, want) in named() {
-        let term = term(&rt, alloc, &mut names, &[F(name, 0)])?;
-        let mut text = Text::new(alloc);
-        write_term(alloc, &ops, &names, &term, 0, &mut text)?;
-        assert!(rt; text.bytes() == want.as_bytes(), "{want}");
-    }
     Ok(())
 }

@@ -57,7 +57,7 @@ pub(crate) fn is_layout(b: u8) -> bool
     b == b' ' || (b'\t' <= b && b <= b'\r')
 }
 
-fn is_small(b: u8) -> bool
+pub fn is_small(b: u8) -> bool
     ensures { result ≡ is_small b }
 {
     b'a' <= b && b <= b'z'
@@ -75,13 +75,13 @@ pub(crate) fn is_digit(b: u8) -> bool
     b'0' <= b && b <= b'9'
 }
 
-fn is_word(b: u8) -> bool
+pub fn is_word(b: u8) -> bool
     ensures { result ≡ is_word b }
 {
     is_small(b) || is_capital(b) || is_digit(b)
 }
 
-fn is_graphic(b: u8) -> bool
+pub fn is_graphic(b: u8) -> bool
     ensures { result ≡ is_graphic b }
 {
     (b'#' <= b && b <= b'$')

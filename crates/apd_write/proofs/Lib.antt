@@ -1,0 +1,5 @@
+pub mod NameLaws
+pub mod Frames
+pub mod Opened
+pub mod Closed
+pub mod Standing

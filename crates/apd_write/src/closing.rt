@@ -1,0 +1,71 @@
+//! What stands behind a term.
+
+ghost use Rattle.std.specs.Prelude.{◌≡◌, ◌++◌, List, ℕ, IfOk, OnOk};
+ghost use Rattle.apd_ops.specs.Table.{Table};
+ghost use Rattle.apd_term.specs.Names.{text_of_name};
+ghost use Rattle.apd_write.specs.NameTexts.{name_text};
+ghost use Rattle.apd_write.specs.Pending.{AddsClosing, Leaves};
+ghost use Rattle.apd_write.specs.Writing.{between};
+
+use crate::names::write_name;
+use crate::pending::{Frame, Place};
+use apd_term::names::Names;
+use apd_term::standard::COMMA;
+use apd_term::{NameId, Text};
+use std::alloc::AllocError;
+
+/// Writes an infix operator between its operands: a space on each side, but none before the comma.
+fn write_infix(names: &Names, name: NameId, out: &mut Text) -> Result<(), AllocError>
+    ensures { OnOk result (out.new ≡ out.old ++ between name (name_text (text_of_name names.now name))) }
+{
+    if name == COMMA {
+        return out.extend(b", ");
+    }
+    out.push(b' ')?;
+    write_name(names.text(name), out)?;
+    out.push(b' ')
+}
+
+/// Writes what a frame has behind the term before the next one, and tells the place of that, where there is one. Frames
+/// are without the frame.
+fn leave(
+    names: &Names,
+    frame: Frame,
+    frames: &mut Vec<Frame>,
+    out: &mut Text,
+) -> Result<Option<Place>, AllocError>
+    ensures { IfOk result (λ next. (ops : Table) → Leaves ops names.now frame frames.old.items frames.new.items out.old out.new next) }
+{
+    match frame {
+        Frame::Arguments(left) if left > 0 => {
+            out.push(b',')?;
+            frames.push(Frame::Arguments(left - 1))?;
+            return Ok(Some(Place::Whole(999)));
+        }
+        Frame::Arguments(_) | Frame::ParenthesisEnd => out.push(b')')?,
+        Frame::ListEnd => out.push(b']')?,
+        Frame::CurlyEnd => out.push(b'}')?,
+        Frame::Rest => return Ok(Some(Place::Rest)),
+        Frame::Right { name, max } => {
+            write_infix(names, name, out)?;
+            return Ok(Some(Place::Right(max)));
+        }
+    }
+    Ok(None)
+}
+
+/// Closes what a term ends, and tells the place of the next term, where there is one.
+pub(crate) fn close(
+    names: &Names,
+    frames: &mut Vec<Frame>,
+    out: &mut Text,
+) -> Result<Option<Place>, AllocError>
+    ensures { IfOk result (λ next. (ops : Table) → AddsClosing ops names.now frames.old.items frames.new.items out.old out.new next) }
+{
+    'closing: while let Some(frame) = frames.pop() {
+        if let Some(place) = leave(names, frame, frames, out)? {
+            return Ok(Some(place));
+        }
+    }
+    Ok(None)
+}

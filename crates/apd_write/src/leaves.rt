@@ -1,0 +1,110 @@
+//! Symbols without arguments, in their places.
+
+ghost use Rattle.std.specs.Prelude.{◌≡◌, ◌++◌, OnOk};
+ghost use Rattle.apd_write.specs.Pending.{is_negative_symbol, is_nil_symbol, is_operator_symbol, leaf_in, leaf_rest, leaf_text};
+ghost use Rattle.apd_write.specs.Writing.{in_parentheses};
+
+use crate::names::write_name;
+use crate::pending::Place;
+use apd_ops::Ops;
+use apd_term::names::Names;
+use apd_term::standard::NIL;
+use apd_term::{Sym, Text};
+use std::alloc::{AllocError, Global};
+
+/// Whether the symbol is an atom that is an operator.
+fn is_operator(ops: &Ops, symbol: Sym) -> bool
+    ensures { result ≡ is_operator_symbol ops.now symbol }
+{
+    match symbol {
+        Sym::Fun(name, _) => ops.prefix(name).is_some() || ops.infix(name).is_some(),
+        Sym::Var(_) | Sym::Int(_) => false,
+    }
+}
+
+fn is_negative(symbol: Sym) -> bool
+    ensures { result ≡ is_negative_symbol symbol }
+{
+    match symbol {
+        Sym::Int(i) => i < 0,
+        Sym::Var(_) | Sym::Fun(_, _) => false,
+    }
+}
+
+/// Writes a variable, an integer or a name.
+fn write_symbol(alloc: Global, names: &Names, symbol: Sym, out: &mut Text) -> Result<(), AllocError>
+    ensures { OnOk result (out.new ≡ out.old ++ leaf_text names.now symbol) }
+{
+    match symbol {
+        Sym::Var(v) => {
+            let digits = v.to_string(alloc)?;
+            out.push(b'_')?;
+            out.extend(digits.as_bytes())?;
+        }
+        Sym::Int(i) => {
+            let digits = i.to_string(alloc)?;
+            out.extend(digits.as_bytes())?;
+        }
+        Sym::Fun(name, _) => write_name(names.text(name), out)?,
+    }
+    Ok(())
+}
+
+/// Writes it in parentheses.
+fn write_enclosed(
+    alloc: Global,
+    names: &Names,
+    symbol: Sym,
+    out: &mut Text,
+) -> Result<(), AllocError>
+    ensures { OnOk result (out.new ≡ out.old ++ in_parentheses (leaf_text names.now symbol)) }
+{
+    out.push(b'(')?;
+    write_symbol(alloc, names, symbol, out)?;
+    out.push(b')')?;
+    Ok(())
+}
+
+fn is_nil(symbol: Sym) -> bool
+    ensures { result ≡ is_nil_symbol symbol }
+{
+    match symbol {
+        Sym::Fun(name, _) => name == NIL,
+        Sym::Var(_) | Sym::Int(_) => false,
+    }
+}
+
+/// Writes the end of a list whose rest is the symbol: what isn't `[]` stands behind the bar.
+fn write_rest(alloc: Global, names: &Names, symbol: Sym, out: &mut Text) -> Result<(), AllocError>
+    ensures { OnOk result (out.new ≡ out.old ++ leaf_rest names.now symbol) }
+{
+    if !is_nil(symbol) {
+        out.push(b'|')?;
+        write_symbol(alloc, names, symbol, out)?;
+    }
+    out.push(b']')?;
+    Ok(())
+}
+
+/// Writes a symbol without arguments in its place.
+pub(crate) fn write_leaf(
+    alloc: Global,
+    ops: &Ops,
+    names: &Names,
+    symbol: Sym,
+    place: Place,
+    out: &mut Text,
+) -> Result<(), AllocError>
+    ensures { OnOk result (out.new ≡ out.old ++ leaf_in ops.now names.now place symbol) }
+{
+    match place {
+        Place::Left(_) if is_negative(symbol) => write_enclosed(alloc, names, symbol, out),
+        Place::Left(_) | Place::Right(_) if is_operator(ops, symbol) => {
+            write_enclosed(alloc, names, symbol, out)
+        }
+        Place::Rest => write_rest(alloc, names, symbol, out),
+        Place::Whole(_) | Place::Left(_) | Place::Right(_) => {
+            write_symbol(alloc, names, symbol, out)
+        }
+    }
+}

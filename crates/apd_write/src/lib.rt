@@ -1,0 +1,17 @@
+//! Writing of terms as Prolog reads them (ISO/IEC 13211-1 section 7.10.5).
+//!
+//! [`write_term`] writes a term by a table of operators, so that it reads back as itself under that
+//! table. [`write_name`] writes a name by itself.
+#![tactic(auto)]
+
+mod closing;
+mod leaves;
+mod names;
+mod opening;
+mod pending;
+mod terms;
+#[cfg(test)]
+mod tests;
+
+pub use names::write_name;
+pub use terms::write_term;

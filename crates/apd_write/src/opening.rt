@@ -1,0 +1,179 @@
+//! What stands before the arguments of a compound.
+
+ghost use Rattle.std.specs.Prelude.{◌≡◌, ◌<◌, ◌-◌, ◌++◌, [], ◌∷◌, codes, IfOk, OnOk};
+ghost use Rattle.apd_ops.specs.Operators.{left_of, right_of};
+ghost use Rattle.apd_term.specs.Names.{text_of_name};
+ghost use Rattle.apd_write.specs.NameTexts.{function_text, name_text};
+ghost use Rattle.apd_write.specs.Pending.{Opens, Puts, closing_frames, opening_mark};
+ghost use Rattle.apd_write.specs.declared.pending.Place.TheVariants as places;
+ghost use Rattle.apd_write.specs.declared.pending.Frame.TheVariants as pushed;
+
+use crate::names::{write_function_name, write_name};
+use crate::pending::{Frame, Place};
+use apd_ops::{Op, OpKind, Ops};
+use apd_term::names::Names;
+use apd_term::standard::{CELL, CURLY};
+use apd_term::{NameId, Text};
+use std::alloc::AllocError;
+
+/// Opens a parenthesis where the priority is above the place's greatest.
+fn open_fitted(
+    priority: u16,
+    max: u16,
+    frames: &mut Vec<Frame>,
+    out: &mut Text,
+) -> Result<(), AllocError>
+    ensures text { OnOk result (out.new ≡ out.old ++ opening_mark priority max) }
+    ensures frames { OnOk result (frames.new.items ≡ frames.old.items ++ closing_frames priority max) }
+{
+    if priority > max {
+        out.push(b'(')?;
+        frames.push(Frame::ParenthesisEnd)?;
+    }
+    Ok(())
+}
+
+/// Functional notation: the name and the opening parenthesis.
+fn open_function(
+    names: &Names,
+    name: NameId,
+    count: u8,
+    frames: &mut Vec<Frame>,
+    out: &mut Text,
+) -> Result<Place, AllocError>
+    requires { 0 < count }
+    ensures { IfOk result (λ next. Puts (function_text (text_of_name names.now name) ++ codes "(") (pushed.Arguments (count - 1) ∷ []) (places.Whole 999) frames.old.items frames.new.items out.old out.new next) }
+{
+    write_function_name(names.text(name), out)?;
+    out.push(b'(')?;
+    frames.push(Frame::Arguments(count - 1))?;
+    Ok(Place::Whole(999))
+}
+
+/// A prefix operator before its operand.
+fn open_prefix(
+    names: &Names,
+    operator: Op,
+    max: u16,
+    frames: &mut Vec<Frame>,
+    out: &mut Text,
+) -> Result<Place, AllocError>
+    ensures { IfOk result (λ next. Puts (opening_mark operator.priority max ++ (name_text (text_of_name names.now operator.name) ++ codes " ")) (closing_frames operator.priority max) (places.Left (right_of operator)) frames.old.items frames.new.items out.old out.new next) }
+{
+    open_fitted(operator.priority, max, frames, out)?;
+    write_name(names.text(operator.name), out)?;
+    out.push(b' ')?;
+    Ok(Place::Left(operator.right()))
+}
+
+/// An infix operator, whose left operand comes first.
+fn open_infix(
+    operator: Op,
+    max: u16,
+    frames: &mut Vec<Frame>,
+    out: &mut Text,
+) -> Result<Place, AllocError>
+    ensures { IfOk result (λ next. Puts (opening_mark operator.priority max) (closing_frames operator.priority max ++ pushed.Right operator.name (right_of operator) ∷ []) (places.Left (left_of operator)) frames.old.items frames.new.items out.old out.new next) }
+{
+    open_fitted(operator.priority, max, frames, out)?;
+    frames.push(Frame::Right {
+        name: operator.name,
+        max: operator.right(),
+    })?;
+    Ok(Place::Left(operator.left()))
+}
+
+/// A list, from its first element on.
+fn open_list(frames: &mut Vec<Frame>, out: &mut Text) -> Result<Place, AllocError>
+    ensures { IfOk result (λ next. Puts (codes "[") (pushed.Rest ∷ []) (places.Whole 999) frames.old.items frames.new.items out.old out.new next) }
+{
+    out.push(b'[')?;
+    frames.push(Frame::Rest)?;
+    Ok(Place::Whole(999))
+}
+
+/// A list's next element.
+fn open_further(frames: &mut Vec<Frame>, out: &mut Text) -> Result<Place, AllocError>
+    ensures { IfOk result (λ next. Puts (codes ",") (pushed.Rest ∷ []) (places.Whole 999) frames.old.items frames.new.items out.old out.new next) }
+{
+    out.push(b',')?;
+    frames.push(Frame::Rest)?;
+    Ok(Place::Whole(999))
+}
+
+/// A term in braces.
+fn open_curly(frames: &mut Vec<Frame>, out: &mut Text) -> Result<Place, AllocError>
+    ensures { IfOk result (λ next. Puts (codes "{") (pushed.CurlyEnd ∷ []) (places.Whole 1200) frames.old.items frames.new.items out.old out.new next) }
+{
+    out.push(b'{')?;
+    frames.push(Frame::CurlyEnd)?;
+    Ok(Place::Whole(1200))
+}
+
+/// What stands before the first argument of a compound in a place for this priority.
+fn open_compound(
+    ops: &Ops,
+    names: &Names,
+    name: NameId,
+    count: u8,
+    max: u16,
+    frames: &mut Vec<Frame>,
+    out: &mut Text,
+) -> Result<Place, AllocError>
+    requires { 0 < count }
+    ensures { IfOk result (λ next. Opens ops.now names.now name count (places.Whole max) frames.old.items frames.new.items out.old out.new next) }
+{
+    match count {
+        1 => match ops.prefix(name) {
+            Some((priority, kind)) => {
+                let operator = Op {
+                    name,
+                    priority,
+                    kind,
+                };
+                open_prefix(names, operator, max, frames, out)
+            }
+            None if name == CURLY => open_curly(frames, out),
+            None => open_function(names, name, count, frames, out),
+        },
+        2 if name == CELL => open_list(frames, out),
+        2 => match ops.infix(name) {
+            Some((priority, kind)) => {
+                let operator = Op {
+                    name,
+                    priority,
+                    kind,
+                };
+                open_infix(operator, max, frames, out)
+            }
+            None => open_function(names, name, count, frames, out),
+        },
+        _ => open_function(names, name, count, frames, out),
+    }
+}
+
+/// The same in any place.
+pub(crate) fn open(
+    ops: &Ops,
+    names: &Names,
+    name: NameId,
+    count: u8,
+    place: Place,
+    frames: &mut Vec<Frame>,
+    out: &mut Text,
+) -> Result<Place, AllocError>
+    requires { 0 < count }
+    ensures { IfOk result (λ next. Opens ops.now names.now name count place frames.old.items frames.new.items out.old out.new next) }
+{
+    match place {
+        Place::Whole(max) | Place::Left(max) | Place::Right(max) => {
+            open_compound(ops, names, name, count, max, frames, out)
+        }
+        Place::Rest if name == CELL && count == 2 => open_further(frames, out),
+        Place::Rest => {
+            out.push(b'|')?;
+            frames.push(Frame::ListEnd)?;
+            open_compound(ops, names, name, count, 999, frames, out)
+        }
+    }
+}

@@ -1,0 +1,33 @@
+//! What is still to be written.
+
+use apd_term::NameId;
+
+/// Where the next term stands, with the greatest priority that it may have there.
+#[derive(Clone, Copy, Debug, PartialEq, Eq)]
+pub(crate) enum Place {
+    /// An argument, a list's element or tail, or all of a text or of a bracket.
+    Whole(u16),
+    /// The left operand of an infix operator, or the operand of a prefix operator.
+    Left(u16),
+    /// The right operand of an infix operator.
+    Right(u16),
+    /// The rest of a list, behind an element.
+    Rest,
+}
+
+/// What stands behind the term that is written.
+#[derive(Clone, Copy, Debug, PartialEq, Eq)]
+pub(crate) enum Frame {
+    /// So many further arguments, and the closing parenthesis.
+    Arguments(u8),
+    /// The rest of a list.
+    Rest,
+    /// The bracket that closes a list.
+    ListEnd,
+    /// The closing brace.
+    CurlyEnd,
+    /// The closing parenthesis.
+    ParenthesisEnd,
+    /// An infix operator, and its right operand for this priority.
+    Right { name: NameId, max: u16 },
+}

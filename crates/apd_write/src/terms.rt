@@ -1,0 +1,79 @@
+//! Terms, symbol by symbol.
+
+ghost use Rattle.std.specs.Prelude.{◌≡◌, ◌++◌, ◌≤◌, List, ◌∷◌, ℕ, OnOk, OnErr, IfOk};
+ghost use Rattle.apd_term.specs.Term.{IsTerms, IsWhole, read_all, term_of};
+ghost use Rattle.apd_term.specs.declared.term.Sym.{Sym};
+ghost use Rattle.apd_write.specs.Pending.{Expects, Stands};
+ghost use Rattle.apd_write.specs.Writing.{written};
+
+use crate::closing::close;
+use crate::leaves::write_leaf;
+use crate::opening::open;
+use crate::pending::{Frame, Place};
+use apd_ops::Ops;
+use apd_term::names::Names;
+use apd_term::{Flat, Sym, Text};
+use std::alloc::{AllocError, Global};
+
+/// Writes what a symbol stands for in its place, and what stands behind it up to the place of the next symbol.
+fn write_next(
+    alloc: Global,
+    ops: &Ops,
+    names: &Names,
+    symbol: Sym,
+    place: Place,
+    frames: &mut Vec<Frame>,
+    out: &mut Text,
+) -> Result<Option<Place>, AllocError>
+    ensures { IfOk result (λ next. (whole : List ℕ) (rest : List Sym) → IsTerms (symbol ∷ rest) →
+        Expects ops.now names.now whole frames.old.items out.old place (read_all (symbol ∷ rest)) →
+        Stands ops.now names.now whole frames.new.items out.new next (read_all rest)) }
+{
+    if let Sym::Fun(name, count) = symbol
+        && count > 0
+    {
+        return Ok(Some(open(ops, names, name, count, place, frames, out)?));
+    }
+    write_leaf(alloc, ops, names, symbol, place, out)?;
+    close(names, frames, out)
+}
+
+/// The text of the term that these symbols spell, for a place of a priority.
+fn text_of(
+    alloc: Global,
+    ops: &Ops,
+    names: &Names,
+    symbols: &[Sym],
+    max: u16,
+) -> Result<Text, AllocError>
+    requires { IsWhole symbols.now }
+    ensures { IfOk result (λ text. text ≡ written ops.now names.now (term_of symbols.now) max) }
+{
+    let mut text = Text::new(alloc);
+    let mut frames = Vec::new(alloc);
+    let mut place = Place::Whole(max);
+    'symbols: for symbol in symbols {
+        match write_next(alloc, ops, names, *symbol, place, &mut frames, &mut text)? {
+            Some(next) => place = next,
+            None => return Ok(text),
+        }
+    }
+    Ok(text)
+}
+
+/// Writes a term for a place of a priority, so that it reads back as itself under the same operators. After want of memory
+/// the text is as it was.
+pub fn write_term(
+    alloc: Global,
+    ops: &Ops,
+    names: &Names,
+    term: &Flat,
+    max: u16,
+    out: &mut Text,
+) -> Result<(), AllocError>
+    ensures text { OnOk result (out.new ≡ out.old ++ written ops.now names.now term.now max) }
+    ensures same { OnErr result (out.new ≡ out.old) }
+{
+    let text = text_of(alloc, ops, names, term.symbols(), max)?;
+    out.extend(text.bytes())
+}

@@ -1,7 +1,6 @@
 //! Writing of terms as Prolog reads them (ISO/IEC 13211-1 section 7.10.5).
 //!
-//! [`write_term`] writes a term by a table of operators, so that it reads back as itself under that
-//! table. [`write_name`] writes a name by itself.
+//! [`write_term`] writes a term by a table of operators, [`write_name`] a name by itself.
 #![tactic(auto)]
 
 mod closing;

@@ -61,8 +61,8 @@ fn text_of(
     Ok(text)
 }
 
-/// Writes a term for a place of a priority, so that it reads back as itself under the same operators. After want of memory
-/// the text is as it was.
+/// Writes a term for a place where its priority may be at most `max`, by a table of operators. After want of memory the text
+/// is as it was.
 pub fn write_term(
     alloc: Global,
     ops: &Ops,

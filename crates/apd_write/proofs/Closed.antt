@@ -4,7 +4,7 @@ use Rattle.std.specs.Prelude.{codes, Some, None}
 use Rattle.std.proofs.lemmas.List.{append-nil}
 use Rattle.apd_ops.specs.Table.{Table}
 use Rattle.apd_write.specs.Writing.{Part}
-use Rattle.apd_write.specs.Pending.{AddsClosing, Leaves, arguments_then, behind, resume, takes, takes_in_all, text_in}
+use Rattle.apd_write.specs.Pending.{AddsClosing, Leaves, resume, takes, takes_in_all, text_in}
 use Rattle.apd_write.specs.declared.pending.Place.{Place}
 use Rattle.apd_write.specs.declared.pending.Place.TheVariants as place
 use Rattle.apd_write.specs.declared.pending.Frame.{Frame}

@@ -1,5 +1,5 @@
 -- What opens a compound, with what stands behind it, makes up the compound's text.
-use Rattle.std.proofs.Common.{ℕ, ◌≡◌, ◌+◌, ◌-◌, ◌<◌, List, [], ◌∷◌, ◌++◌, Bool, true, false, length, refl, ap, sym, ◌∙◌, arith, append_assoc, zero, suc}
+use Rattle.std.proofs.Common.{ℕ, ◌≡◌, ◌+◌, ◌-◌, ◌<◌, List, [], ◌∷◌, ◌++◌, Bool, true, false, length, refl, ap, sym, ◌∙◌, arith, append_assoc, suc}
 use Rattle.std.specs.Prelude.{codes, if◌then◌else◌, nat_lt, Option, Some, None}
 use Rattle.apd_ops.specs.Operators.{left_by, right_by}
 use Rattle.apd_ops.specs.Table.{Meaning, Table, prefix_in, infix_in}
@@ -7,8 +7,8 @@ use Rattle.apd_term.specs.Names.{text_of_name}
 use Rattle.apd_term.specs.declared.term.NameId.{NameId}
 use Rattle.apd_term.specs.declared.standard.TheConstants.{CELL, CURLY}
 use Rattle.apd_write.specs.NameTexts.{name_text, function_text}
-use Rattle.apd_write.specs.Writing.{Part, arguments_text, arranged, between, fitted, in_parentheses, further_arguments, function, infix_text, is_same_name, left_operand, list_text, one_text, prefix_text, rest_after, right_operand, two_text}
-use Rattle.apd_write.specs.Pending.{Opens, Puts, arguments_then, behind, closing_frames, compound_in, next_in, opening_mark, resume, takes, takes_in_all}
+use Rattle.apd_write.specs.Writing.{Part, arranged, between, further_arguments, function, infix_text, is_same_name, left_operand, list_text, one_text, prefix_text, rest_after, right_operand, two_text}
+use Rattle.apd_write.specs.Pending.{Opens, Puts, arguments_then, closing_frames, compound_in, next_in, opening_mark, resume, takes, takes_in_all}
 use Rattle.apd_write.specs.declared.pending.Place.{Place}
 use Rattle.apd_write.specs.declared.pending.Place.TheVariants as place
 use Rattle.apd_write.specs.declared.pending.Frame.{Frame}

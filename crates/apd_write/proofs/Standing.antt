@@ -1,18 +1,17 @@
 -- A term's text, symbol by symbol.
-use Rattle.std.proofs.Common.{◌≡◌, ℕ, ◌+◌, ◌-◌, ◌≤◌, ◌<◌, List, [], ◌∷◌, ◌++◌, length, take, drop, refl, ap, sym, ◌∙◌, arith, suc, zero, append_assoc, Bool, true, false, length-take, length-drop}
-use Rattle.std.specs.Prelude.{codes, Option, Some, None, if◌then◌else◌}
-use Rattle.std.specs.Fmt.{signed_decimal}
+use Rattle.std.proofs.Common.{◌≡◌, ℕ, ◌≤◌, ◌<◌, List, [], ◌∷◌, ◌++◌, length, take, drop, refl, ap, sym, ◌∙◌, arith, suc, zero, append_assoc, length-take, length-drop}
+use Rattle.std.specs.Prelude.{Option, Some, None}
 use Rattle.std.proofs.lemmas.List.{append-nil, take-append-drop}
 use Rattle.apd_ops.specs.Table.{Table}
-use Rattle.apd_term.specs.Term.{Term, Terms, variable, integer, compound, none, more, terms_of, spell, read_all, IsTerms, IsWhole, term_of, arity_of}
+use Rattle.apd_term.specs.Term.{Term, variable, integer, compound, none, terms_of, spell, read_all, IsTerms, IsWhole, term_of, arity_of}
 use Rattle.apd_term.specs.Names.{text_of_name}
-use Rattle.apd_term.proofs.Spelling.{IsTerms-tail, under_name, whole_from_spelled}
+use Rattle.apd_term.proofs.Spelling.{under_name}
 use Rattle.apd_term.specs.Spelling.{read_all-spell}
 use Rattle.apd_term.specs.declared.term.NameId.{NameId}
 use Rattle.apd_term.specs.declared.term.Sym.{Sym}
 use Rattle.apd_term.specs.declared.term.Sym.TheVariants.{Var, Int, Fun}
-use Rattle.apd_write.specs.Writing.{Part, arranged, parts, rest_text, written}
-use Rattle.apd_write.specs.Pending.{AddsClosing, Closes, Expects, Opens, Stands, compound_in, leaf_in, next_in, resume, takes_in_all, text_in}
+use Rattle.apd_write.specs.Writing.{Part, parts, rest_text, written}
+use Rattle.apd_write.specs.Pending.{AddsClosing, Closes, Expects, Opens, Stands, compound_in, leaf_in, next_in, resume, text_in}
 use Rattle.apd_write.specs.declared.pending.Place.{Place}
 use Rattle.apd_write.specs.declared.pending.Place.TheVariants as place
 use Rattle.apd_write.specs.declared.pending.Frame.{Frame}

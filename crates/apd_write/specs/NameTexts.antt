@@ -1,5 +1,5 @@
 -- How a name is written (ISO/IEC 13211-1 sections 6.4.2 and 7.10.5, with the project's choices).
-use Rattle.std.specs.Prelude.{ℕ, ◌+◌, ◌/◌, ◌%◌, Bool, true, false, List, [], ◌∷◌, ◌++◌, codes, if◌then◌else◌, ◌&&◌, ◌||◌, not, ◌==◌, length, nat_eq, nat_lt}
+use Rattle.std.specs.Prelude.{ℕ, ◌+◌, ◌/◌, ◌%◌, Bool, false, List, [], ◌∷◌, ◌++◌, codes, if◌then◌else◌, ◌&&◌, ◌||◌, not, ◌==◌, length, nat_eq, nat_lt}
 use Rattle.std.specs.List.{list_all, flat_map, starts_with}
 use Rattle.apd_term.specs.Names.{same_text}
 use Rattle.apd_token.specs.Bytes.{is_small, is_word, is_graphic}

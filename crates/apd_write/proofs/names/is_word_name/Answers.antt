@@ -1,4 +1,4 @@
-use Rattle.std.proofs.Common.{◌≡◌, ◌∙◌, sym}
+use Rattle.std.proofs.Common.{◌∙◌, sym}
 use Rattle.apd_write.proofs.NameLaws.{word_name_after}
 use Rattle.apd_write.proofs.names.is_word_name.Goals as goal
 

@@ -1,4 +1,4 @@
-use Rattle.std.proofs.Common.{rules, ◌≡◌, ◌<◌, ◌-◌, ◌++◌, ℕ, List, [], ◌∷◌, Bool, true, false, length, arith, subst, sym, ◌∙◌, ap}
+use Rattle.std.proofs.Common.{rules, ◌≡◌, ◌++◌, ℕ, List, [], ◌∷◌, true, false, arith, sym, ◌∙◌}
 use Rattle.std.specs.Prelude.{codes}
 use Rattle.std.proofs.lemmas.Result.{IfOk-weaker}
 use Rattle.apd_ops.specs.Table.{Table}
@@ -6,7 +6,6 @@ use Rattle.apd_term.specs.declared.term.NameId.{NameId}
 use Rattle.apd_term.specs.declared.standard.TheConstants.{CELL}
 use Rattle.apd_write.specs.Writing.{is_same_name}
 use Rattle.apd_write.specs.declared.pending.Frame.TheVariants.{ListEnd}
-use Rattle.apd_write.specs.declared.pending.Place.TheVariants as places
 use Rattle.apd_write.proofs.Opened.{further_opens, tail_opens}
 use Rattle.apd_write.proofs.opening.open.Goals as goal
 use Rattle.apd_write.proofs.opening.open.Goals.{then-eq+else-count-eq2, else-eq}

@@ -1,15 +1,11 @@
-use Rattle.std.proofs.Common.{rules, ◌≡◌, ◌<◌, ◌-◌, ◌++◌, ℕ, List, [], ◌∷◌, Bool, true, false, length, arith, subst, sym, ◌∙◌, ap}
-use Rattle.std.specs.Prelude.{codes, Option, Some, None}
+use Rattle.std.proofs.Common.{◌≡◌, ◌<◌, ℕ, List, true, false, arith, sym, ◌∙◌}
+use Rattle.std.specs.Prelude.{Some, None}
 use Rattle.std.proofs.lemmas.Result.{IfOk-weaker}
-use Rattle.apd_ops.specs.Table.{Meaning, Table, prefix_in, infix_in}
+use Rattle.apd_ops.specs.Table.{Table, prefix_in, infix_in}
 use Rattle.apd_term.specs.Names.{text_of_name}
 use Rattle.apd_term.specs.declared.term.NameId.{NameId}
 use Rattle.apd_term.specs.declared.standard.TheConstants.{CELL, CURLY}
 use Rattle.apd_write.specs.Writing.{is_same_name}
-use Rattle.apd_write.specs.Pending.{Opens, Puts}
-use Rattle.apd_write.specs.declared.pending.Frame.{Frame}
-use Rattle.apd_write.specs.declared.pending.Place.{Place}
-use Rattle.apd_write.specs.declared.pending.Place.TheVariants as places
 use Rattle.apd_write.proofs.Opened.{function_opens, one_is_function, two_is_function, many_is_function, prefix_opens, infix_opens, list_opens, curly_opens}
 use Rattle.apd_write.proofs.opening.open_compound.Goals as goal
 

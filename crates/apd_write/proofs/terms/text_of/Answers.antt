@@ -1,4 +1,4 @@
-use Rattle.std.proofs.Common.{◌≡◌, ◌∙◌, ℕ, ◌+◌, List, [], ◌∷◌, drop, get_or, rules, subst, sym}
+use Rattle.std.proofs.Common.{◌≡◌, ℕ, ◌+◌, List, [], ◌∷◌, drop, get_or, rules, subst, sym}
 use Rattle.std.specs.Prelude.{Option, Some, None}
 use Rattle.std.proofs.lemmas.List.{drop_more}
 use Rattle.apd_ops.specs.Table.{Table}
@@ -8,7 +8,6 @@ use Rattle.apd_term.specs.declared.term.Sym.TheVariants.{Var}
 use Rattle.apd_term.proofs.Spelling.{IsTerms-tail}
 use Rattle.apd_write.specs.Pending.{Stands}
 use Rattle.apd_write.specs.Writing.{written}
-use Rattle.apd_write.specs.declared.pending.Frame.{Frame}
 use Rattle.apd_write.specs.declared.pending.Place.{Place}
 use Rattle.apd_write.proofs.Standing.{Standing, Standing-start}
 use Rattle.apd_write.proofs.terms.text_of.Goals as goal

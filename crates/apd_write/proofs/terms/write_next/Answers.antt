@@ -1,13 +1,10 @@
-use Rattle.std.proofs.Common.{◌≡◌, ◌<◌, ◌+◌, ℕ, List, [], ◌∷◌, ◌++◌, arith, rules, subst, sym, ◌∙◌, ap}
-use Rattle.std.specs.Prelude.{Option}
+use Rattle.std.proofs.Common.{◌≡◌, ℕ, List, ◌∷◌, ◌++◌, arith, rules, subst, ◌∙◌, ap}
 use Rattle.std.proofs.lemmas.Result.{IfOk-weaker}
-use Rattle.std.proofs.lemmas.Grind.{common_steps}
 use Rattle.apd_ops.specs.Table.{Table}
 use Rattle.apd_term.specs.Term.{IsTerms, read_all, arity_of}
 use Rattle.apd_term.specs.declared.term.Sym.{Sym}
 use Rattle.apd_term.specs.declared.term.Sym.TheVariants.{Fun}
-use Rattle.apd_write.specs.Pending.{AddsClosing, Expects, Opens, Stands, leaf_in}
-use Rattle.apd_write.specs.declared.pending.Place.{Place}
+use Rattle.apd_write.specs.Pending.{Expects, leaf_in}
 use Rattle.apd_write.proofs.Standing.{leaf_next, compound_next}
 use Rattle.apd_write.proofs.terms.write_next.Goals as goal
 use Rattle.apd_write.proofs.terms.write_next.Goals.{in_default-via-in-Var-1, in_default-via-in-Fun+else-count-gt0}

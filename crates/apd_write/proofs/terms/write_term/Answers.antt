@@ -1,6 +1,6 @@
 use Rattle.std.proofs.Common.{◌≡◌, ◌++◌, ◌∙◌, ℕ, List, ap, rules}
 use Rattle.std.proofs.lemmas.Result.{IfOk-equal}
-use Rattle.apd_term.specs.Term.{Term, term_of}
+use Rattle.apd_term.specs.Term.{Term}
 use Rattle.apd_term.proofs.Spelling.{whole_from_spelled, term_of_from_spelled}
 use Rattle.apd_write.specs.Writing.{written}
 use Rattle.apd_write.proofs.terms.write_term.Goals as goal

@@ -1,11 +1,5 @@
-<<<<<<< HEAD
 -- How a term is written under a table of operators (ISO/IEC 13211-1 section 7.10.5, with the project's choices).
-use Rattle.std.specs.Prelude.{ℕ, Bool, true, false, List, [], ◌∷◌, ◌++◌, codes, Option, None, Some, is_some, if◌then◌else◌, ◌&&◌, ◌||◌, ◌==◌, nat_lt}
-=======
--- How a term is written, so that it reads back as itself under the same operators (ISO/IEC 13211-1 section 7.10.5, with the
--- project's choices).
 use Rattle.std.specs.Prelude.{ℕ, Bool, false, List, [], ◌∷◌, ◌++◌, codes, Option, None, Some, is_some, if◌then◌else◌, ◌||◌, ◌==◌, nat_lt}
->>>>>>> origin/writing
 use Rattle.std.specs.Fmt.{decimal, signed_decimal}
 use Rattle.std.specs.Int.{is_negative}
 use Rattle.apd_term.specs.declared.term.NameId.{NameId}

@@ -20,41 +20,9 @@ use apd_engine::{RunFault, run};
 use apd_io::Sink;
 use apd_ports::Filter;
 use apd_term::names::Names;
-use apd_term::{Atoms, Flat, Query, Ran, Text, Tuple, VarNames};
+use apd_term::{Query, Ran};
 use apd_text::{Entry, Log, end_line, head_line};
-use std::alloc::{AllocError, Global};
-
-fn copy_of_terms(alloc: Global, terms: &[Flat]) -> Result<Atoms, AllocError>
-    ensures { IfOk result (λ copy. copy ≡ terms.now) }
-{
-    let mut copy = Atoms::new(alloc);
-    'terms: for term in terms {
-        copy.push(term.copy(alloc)?)?;
-    }
-    Ok(copy)
-}
-
-fn copy_of_texts(alloc: Global, texts: &[Text]) -> Result<VarNames, AllocError>
-    ensures { IfOk result (λ copy. copy ≡ texts.now) }
-{
-    let mut copy = VarNames::new(alloc);
-    'texts: for text in texts {
-        copy.push(Text::copy_of(alloc, text.bytes())?)?;
-    }
-    Ok(copy)
-}
-
-fn copy_of(alloc: Global, query: &Query) -> Result<Query, AllocError>
-    ensures { IfOk result (λ q. q ≡ query.now) }
-{
-    let head = query.tuple.head.copy(alloc)?;
-    let body = copy_of_terms(alloc, query.tuple.body.as_slice())?;
-    let vars = copy_of_texts(alloc, query.vars.as_slice())?;
-    Ok(Query {
-        tuple: Tuple { head, body },
-        vars,
-    })
-}
+use std::alloc::{Global};
 
 fn same_filter(filter: &Filter) -> Filter
     ensures { result ≡ filter.now }
@@ -82,7 +50,7 @@ fn begin_run<K: Sink>(
     let Ok(head) = head_line(alloc, &log.names, query) else {
         return Err(Trouble::Memory);
     };
-    let Ok(kept) = copy_of(alloc, query) else {
+    let Ok(kept) = query.copy(alloc) else {
         return Err(Trouble::Memory);
     };
     let entry = Entry::Run {

@@ -1,14 +1,78 @@
 //! Why a text is refused.
 
+use crate::term::Pred;
 use std::alloc::AllocError;
 
 /// Why a program's text is refused.
 #[derive(Clone, Copy, Debug, PartialEq, Eq)]
 pub enum LoadCause {
-    /// The line is not of a form that is read.
+    /// The clause has a form that isn't run yet.
     NotBuilt,
+    /// The text has no division into tokens.
+    Token(TokenFault),
+    /// A clause has no reading.
+    Read(ReadFault),
+    /// A directive `op(P, T, N)` defines no operator.
+    Op(OpCause),
+    /// A term is no clause and no directive.
+    Body(BodyFault),
     /// There are 20,000 clauses before it.
     ClausesOver,
+}
+
+/// Why a directive `op(P, T, N)` defines no operator.
+#[derive(Clone, Copy, Debug, PartialEq, Eq)]
+pub enum OpCause {
+    /// P isn't an integer from 0 to 1200.
+    BadPriority,
+    /// T is `xf` or `yf`.
+    Postfix,
+    /// T is none of the kinds of operators.
+    BadKind,
+    /// N is neither a name nor a list of names.
+    BadName,
+    /// The comma, the bar, `[]` and `{}` keep their meanings.
+    Fixed,
+    /// An operator that groups to the right would have the priority of an infix one that groups to the left.
+    Clash,
+}
+
+/// Why a term is no clause or no query.
+#[derive(Clone, Copy, Debug, PartialEq, Eq)]
+pub enum BodyFault {
+    /// The term is a grammar rule.
+    Dcg,
+    /// A head is a variable or an integer, or a goal is an integer.
+    NotCallable,
+    /// The head is a built-in goal, a control construct or an impure predicate.
+    HeadIsBuiltin(Pred),
+    /// A goal is a variable.
+    VariableGoal,
+    /// A goal is the cut.
+    Cut,
+    /// A goal is a negation.
+    Negation,
+    /// A goal is a disjunction.
+    Disjunction,
+    /// A goal is an if-then.
+    IfThen,
+    /// A goal is an impure predicate.
+    Impure(Pred),
+    /// There is a 65th goal.
+    BodyOver,
+    /// There was no memory left.
+    Memory,
+}
+
+impl From<AllocError> for BodyFault {
+    ghost use Rattle.std.specs.Prelude.{◌≡◌};
+    ghost use Rattle.apd_term.specs.declared.faults.BodyFault.TheVariants.{Memory};
+
+    ghost from_gives = { λ _ e. e ≡ Memory };
+
+    fn from(_: AllocError) -> Self {
+        BodyFault::Memory
+    }
 }
 
 /// Why a text has no division into tokens. Each number is a byte's place in the text, from 0.

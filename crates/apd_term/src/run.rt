@@ -1,7 +1,11 @@
 //! What is asked of a program, and how a run of it ends.
 
-use crate::list::VarNames;
+ghost use Rattle.std.specs.Prelude.{◌≡◌, IfOk};
+
+use crate::list::{Atoms, Text, VarNames};
+use crate::term::Flat;
 use crate::tuple::Tuple;
+use std::alloc::{AllocError, Global};
 
 /// A query: its head is the list of the values that an answer shows, its body the goals.
 #[derive(Drop)]
@@ -10,6 +14,41 @@ pub struct Query {
     pub tuple: Tuple,
     /// The names of the variables in the head, in its order.
     pub vars: VarNames,
+}
+
+fn copy_of_terms(alloc: Global, terms: &[Flat]) -> Result<Atoms, AllocError>
+    ensures { IfOk result (λ copy. copy ≡ terms.now) }
+{
+    let mut copy = Atoms::new(alloc);
+    'terms: for term in terms {
+        copy.push(term.copy(alloc)?)?;
+    }
+    Ok(copy)
+}
+
+fn copy_of_texts(alloc: Global, texts: &[Text]) -> Result<VarNames, AllocError>
+    ensures { IfOk result (λ copy. copy ≡ texts.now) }
+{
+    let mut copy = VarNames::new(alloc);
+    'texts: for text in texts {
+        copy.push(Text::copy_of(alloc, text.bytes())?)?;
+    }
+    Ok(copy)
+}
+
+impl Query {
+    /// An equal query.
+    pub fn copy(&self, alloc: Global) -> Result<Query, AllocError>
+        ensures { IfOk result (λ q. q ≡ self.now) }
+    {
+        let head = self.tuple.head.copy(alloc)?;
+        let body = copy_of_terms(alloc, self.tuple.body.as_slice())?;
+        let vars = copy_of_texts(alloc, self.vars.as_slice())?;
+        Ok(Query {
+            tuple: Tuple { head, body },
+            vars,
+        })
+    }
 }
 
 /// Why a run came to an end.

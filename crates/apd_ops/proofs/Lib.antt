@@ -1,3 +1,5 @@
 pub mod Entries
+pub mod Looked
 pub mod Clashes
+pub mod Defining
 pub mod StandardTable

@@ -1,4 +1,4 @@
+pub mod Directives
 pub mod Program
-pub mod Steps
 pub mod Warnings
 pub mod Calls

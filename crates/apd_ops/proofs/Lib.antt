@@ -3,3 +3,4 @@ pub mod Looked
 pub mod Clashes
 pub mod Defining
 pub mod StandardTable
+pub mod Tested

@@ -1,6 +1,7 @@
-ghost use Rattle.std.specs.Prelude.{◌≡◌, ◌≤◌, nat_eq, IfErr, OnOk, OnErr, IfOk, IsTrue, ◌↔◌};
+ghost use Rattle.std.specs.Prelude.{◌≡◌, ◌≢◌, Ok, Err, ◌≤◌, nat_eq, IfErr, OnOk, OnErr, IfOk, IsTrue, ◌↔◌};
 ghost use Rattle.std.specs.List.{list_any, IsDistinct};
 ghost use Rattle.std.specs.Map.{keys_of};
+ghost use Rattle.apd_ops.specs.Definition.{definition};
 ghost use Rattle.apd_ops.specs.Standard.{standard_table};
 ghost use Rattle.apd_ops.specs.Table.{prefix_in, infix_in, IsTable, IsMade, IsRefused, IsFixed, WouldClash, defined, clashes, clashes_unless, Sets};
 
@@ -141,13 +142,8 @@ impl Ops {
         Ok(())
     }
 
-    /// Gives the name this meaning in place of the one that it has before its operand or between
-    /// its operands, as the kind says; priority 0 takes that meaning away.
-    ///
-    /// `BadPriority` where the priority isn't from 0 to 1200, `Fixed` where the name is `,`, the bar,
-    /// `[]` or `{}`, and `Clash` where two operators of one priority would group in different
-    /// directions, the first of these that holds; then the table stays as it was.
-    pub fn define(&mut self, priority: i64, kind: OpKind, name: NameId) -> Result<(), OpFault>
+    /// Makes a definition, or tells the first reason why it is refused.
+    fn change(&mut self, priority: i64, kind: OpKind, name: NameId) -> Result<(), OpFault>
         ensures made { OnOk result (IsMade self.old priority kind name self.new) }
         ensures refused { IfErr result (IsRefused self.old priority kind name) }
         ensures unchanged { OnErr result (self.new ≡ self.old) }
@@ -164,5 +160,23 @@ impl Ops {
         }
         self.replace(new, name)?;
         Ok(())
+    }
+
+    /// Gives the name this meaning in place of the one that it has before its operand or between
+    /// its operands, as the kind says; priority 0 takes that meaning away.
+    ///
+    /// `BadPriority` where the priority isn't from 0 to 1200, `Fixed` where the name is `,`, the bar,
+    /// `[]` or `{}`, and `Clash` where two operators of one priority would group in different
+    /// directions, the first of these that holds; then the table stays as it was.
+    #[tactic(auto, using(crate::proofs::Tested::made_is, crate::proofs::Tested::refused_is))]
+    pub fn define(&mut self, priority: i64, kind: OpKind, name: NameId) -> Result<(), OpFault>
+        ensures defined { OnOk result (definition self.old priority kind name ≡ Ok self.new) }
+        ensures refused { IfErr result (λ f. f ≢ OpFault.Memory → definition self.old priority kind name ≡ Err f) }
+        ensures unchanged { OnErr result (self.new ≡ self.old) }
+    {
+        match self.change(priority, kind, name) {
+            Ok(()) => Ok(()),
+            Err(fault) => Err(fault),
+        }
     }
 }

@@ -1,0 +1,7 @@
+use crate::read_words;
+use std::test::Fail;
+
+#[test]
+fn nothing(_rt: HostRuntime) -> Result<(), Fail> {
+    Ok(())
+}

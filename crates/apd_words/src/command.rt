@@ -1,7 +1,7 @@
 //! The command that the words are for.
 
 ghost use Rattle.std.specs.Prelude.{◌≡◌, IfOk};
-ghost use Rattle.clap.specs.Words.{app_of, fields_of};
+ghost use Rattle.clap.specs.Words.{app_of};
 ghost use Rattle.apd_words.specs.Words.{command};
 
 use clap::{Arg, ArgAction, Command};

@@ -50,7 +50,7 @@ fn limit_of(word: &str) -> Option<u32>
 /// The limit that a value gives, or the usual one where there is no value.
 pub(crate) fn limit_or(usual: u32, value: Option<&str>) -> Option<u32>
     requires { (0 < usual) × (usual ≤ 1000000) }
-    ensures limit { result ≡ limit_or usual (option_map (λ s. s.now) value) }
+    ensures limit { result ≡ limit_or usual (option_map (λ s. s.now) value.entry) }
     ensures within { IfSome result (λ n. (0 < n) × (n ≤ 1000000)) }
 {
     match value {

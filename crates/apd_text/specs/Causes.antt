@@ -1,5 +1,5 @@
 -- How faults and causes are named in a text.
-use Rattle.std.specs.Prelude.{ℕ, List, [], ◌++◌, Option, None, Some, codes}
+use Rattle.std.specs.Prelude.{ℕ, List, ◌++◌, Option, None, Some, codes}
 use Rattle.std.specs.Fmt.{decimal}
 use Rattle.apd_term.specs.Names.{text_of_name}
 use Rattle.apd_term.specs.declared.term.Pred.{Pred}
@@ -71,7 +71,7 @@ op_name op.Fixed = codes "Fixed"
 op_name op.Clash = codes "Clash"
 
 -- the fault's name, with the predicate's indicator in parentheses where it has one
-abbrev pub body_text : List (List ℕ) → BodyFault → List ℕ
+unfoldable pub body_text : List (List ℕ) → BodyFault → List ℕ
 body_text names body.Dcg = codes "Dcg"
 body_text names body.NotCallable = codes "NotCallable"
 body_text names (body.HeadIsBuiltin p) = codes "HeadIsBuiltin(" ++ indicator names p ++ codes ")"
@@ -85,7 +85,7 @@ body_text names body.BodyOver = codes "BodyOver"
 body_text names body.Memory = codes "Memory"
 
 -- the name of what is wrong, without its place
-abbrev pub cause_text : List (List ℕ) → LoadCause → List ℕ
+unfoldable pub cause_text : List (List ℕ) → LoadCause → List ℕ
 cause_text names NotBuilt = codes "NotBuilt"
 cause_text names (Token f) = token_name f
 cause_text names (Read f) = read_name f

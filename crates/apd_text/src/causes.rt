@@ -113,7 +113,7 @@ fn add_of_pred(
     pred: Pred,
     out: &mut Text,
 ) -> Result<(), AllocError>
-    ensures { OnOk result (out.new ≡ out.old ++ name.now ++ codes "(" ++ indicator names.now pred ++ codes ")") }
+    ensures { OnOk result (out.new ≡ out.old ++ (name.now ++ codes "(" ++ indicator names.now pred ++ codes ")")) }
 {
     out.extend(name)?;
     out.extend(b"(")?;
@@ -123,6 +123,7 @@ fn add_of_pred(
 }
 
 /// Adds the variant's name, and its predicate in parentheses where it has one.
+#[tactic(auto, unfolding(crate::specs::Causes::body_text))]
 pub(crate) fn add_body_fault(
     alloc: Global,
     names: &Names,
@@ -147,6 +148,7 @@ pub(crate) fn add_body_fault(
 }
 
 /// Adds the name of what is wrong, without its place.
+#[tactic(auto, unfolding(crate::specs::Causes::cause_text))]
 pub(crate) fn add_cause(
     alloc: Global,
     names: &Names,

@@ -1,9 +1,9 @@
 -- In a table without a clash, reading by the grammar is reading by the main operators.
-use Rattle.std.proofs.Common.{◌≡◌, ℕ, ◌≤◌, Some, inl, inr, Result, Ok, Err, List, [], ◌∷◌, ◌++◌, refl, subst}
+use Rattle.std.proofs.Common.{◌≡◌, ℕ, ◌≤◌, Some, inl, inr, Result, Ok, Err, List, [], ◌∷◌, ◌++◌, refl, subst, sym, ◌∙◌, ap, true≢false}
 use Rattle.apd_read.specs.declared.phrase.Phrase.{Phrase}
 use Rattle.apd_ops.specs.declared.op.Op.{Op}
 use Rattle.apd_ops.specs.declared.op.OpKind.TheVariants.{Yfx}
-use Rattle.apd_ops.specs.Operators.{prefix_kind}
+use Rattle.apd_ops.specs.Operators.{is_prefix_kind}
 use Rattle.apd_ops.specs.Table.{Table, IsTable, infix_in}
 use Rattle.apd_read.specs.declared.lexeme.Lexeme.{Lexeme}
 use Rattle.apd_read.specs.Reading.{Piece, Operand, Operator}
@@ -63,7 +63,7 @@ positive_in ops o c i = elim i [ inl p ↦ (c.prefixes_are o.name.0 (o.priority,
 -- a yfx operator is an infix one
 infix_yfx : (ops : Table) (q : Op) → IsTable ops → IsIn q ops → q.kind ≡ Yfx → infix_in ops q.name.0 ≡ Some (q.priority, q.kind)
 infix_yfx ops q c i e = elim i [
-  | inl p ↦ let pre : prefix_kind q.kind = (c.prefixes_are q.name.0 (q.priority, q.kind) p).0 in absurd (subst prefix_kind e pre)
+  | inl p ↦ absurd (true≢false (sym (c.prefixes_are q.name.0 (q.priority, q.kind) p).0 ∙ ap is_prefix_kind e))
   | inr f ↦ f
 ]
 

@@ -1,1 +1,4 @@
+pub mod Words
+pub mod Laid
+pub mod Chained
 pub mod Divided

@@ -1,5 +1,5 @@
 -- How a term may be laid out in words, rule by rule.
-use Rattle.std.proofs.Common.{◌≡◌, ℕ, ◌+◌, ◌<◌, ◌≤◌, ◌^◌, ◌∷◌, [], ◌++◌, List, length, Option, Some, None, suc, ◌⊎◌}
+use Rattle.std.proofs.Common.{◌≡◌, ℕ, ◌+◌, ◌<◌, ◌≤◌, ◌^◌, ◌∷◌, [], ◌++◌, List, length, Bool, true, false, Option, Some, None, suc, ◌⊎◌}
 use Rattle.std.specs.Prelude.{pos, negsuc}
 use Rattle.apd_term.specs.declared.term.NameId.{NameId}
 use Rattle.apd_term.specs.declared.standard.TheConstants.{NIL, CURLY, COMMA, MINUS}
@@ -16,10 +16,19 @@ use Rattle.apd_reading_back.proofs.Words.{Word, Blank, Token, name_sort}
 abbrev pub parenthesized : List Word → List Word
 parenthesized ws = Token Open ∷ (ws ++ Token Close ∷ [])
 
--- a name at the front that is an infix operator is a prefix operator too, or has its arguments behind it
+abbrev pub is_open : Word → Bool
+is_open Blank = false
+is_open (Token Open) = true
+is_open (Token s) = false
+
+-- an opening parenthesis stands at the front
+abbrev pub opens : List Word → Bool
+opens [] = false
+opens (w ∷ ws) = is_open w
+
+-- a name that is an infix operator is a prefix operator too, or has its arguments behind it
 abbrev pub NameBegins : Table → NameId → List Word → Type 0
-NameBegins ops f (Token Open ∷ ws) = Unit {0}
-NameBegins ops f ws = (infix_in ops f.0 ≡ None) ⊎ ((m : Meaning) × (prefix_in ops f.0 ≡ Some m))
+NameBegins ops f ws = (opens ws ≡ true) ⊎ ((infix_in ops f.0 ≡ None) ⊎ ((m : Meaning) × (prefix_in ops f.0 ≡ Some m)))
 
 -- the words may stand behind a prefix operator
 abbrev pub BeginsOperand : Table → List Word → Type 0

@@ -85,7 +85,7 @@ no_clash {ops} c h = record {
 }
 
 mutual
-  scans_by_main : {ops : Table} {ts : List Lexeme} {k : Inside} {from at : ℕ} {ps : List Piece} {place : Place}
+  pub scans_by_main : {ops : Table} {ts : List Lexeme} {k : Inside} {from at : ℕ} {ps : List Piece} {place : Place}
       → IsTable ops → Scans Reads ops ts k from ps place at → Scans Splits ops ts k from ps place at
   scans_by_main c item_begins = item_begins
   scans_by_main c (then_word t n s e) = then_word t n (scans_by_main c s) e
@@ -99,7 +99,7 @@ mutual
   elements_by_main c (then_element t e s g r h) = then_element t (elements_by_main c e) (scans_by_main c s) g (Splits_from_Reads (no_clash c (from_scans c s)) r) h
   elements_by_main c (then_tail t e s g r) = then_tail t (elements_by_main c e) (scans_by_main c s) g (Splits_from_Reads (no_clash c (from_scans c s)) r)
 
-  fills_by_main : {ops : Table} {ts : List Lexeme} {k : Inside} {from next : ℕ} {t : Phrase}
+  pub fills_by_main : {ops : Table} {ts : List Lexeme} {k : Inside} {from next : ℕ} {t : Phrase}
       → IsTable ops → Fills Reads ops ts k from t next → Fills Splits ops ts k from t next
   fills_by_main c (filled t e s g r) = filled t (elements_by_main c e) (scans_by_main c s) g (Splits_from_Reads (no_clash c (from_scans c s)) r)
 

@@ -1,3 +1,3 @@
-pub mod Places
-pub mod Adding
+pub mod Listed
+pub mod Newlines
 pub mod Calling

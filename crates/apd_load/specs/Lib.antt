@@ -1,4 +1,5 @@
-pub mod Directives
-pub mod Program
+pub mod Listed
+pub mod Lines
+pub mod OpTerms
 pub mod Warnings
 pub mod Calls

@@ -1,15 +1,14 @@
 //! From the text of a file to a program, and what there is to warn of.
 #![tactic(auto)]
 
-mod lines;
-mod reading;
+mod op_terms;
+mod places;
 mod warnings;
 
 use apd_clauses::program::Program;
 pub use apd_term::faults::LoadCause;
 use apd_term::list::ListOf;
 use apd_term::term::Pred;
-pub use reading::load;
 pub use warnings::query_warnings;
 
 /// Why there is no program.
@@ -42,6 +41,3 @@ pub struct Loaded {
     /// the clause of that call.
     pub warnings: Notes,
 }
-
-#[cfg(test)]
-mod tests;

@@ -1,16 +1,13 @@
--- What a directive does: it defines operators (ISO/IEC 13211-1 section 8.14.3), or it is passed over.
-use Rattle.std.specs.Prelude.{ℕ, ℤ, pos, ◌≤ℤ◌, ◌==◌, ◌++◌, List, [], ◌∷◌, Option, None, Some, Result, Ok, Err, if◌then◌else◌, nat_le}
+-- What the terms of `op(P, T, N)` tell: the priority P, the kind T and the names N (ISO/IEC 13211-1 section 8.14.3).
+use Rattle.std.specs.Prelude.{ℕ, pos, ◌==◌, List, [], ◌∷◌, Option, None, Some, Result, Ok, Err, if◌then◌else◌, nat_le}
 use Rattle.std.specs.Option.{option_map}
-use Rattle.std.specs.Result.{result_and_then}
-use Rattle.apd_term.specs.Term.{Term, Terms, variable, integer, compound, none, more, list_of}
+use Rattle.apd_term.specs.Term.{Term, Terms, variable, integer, compound, none, more}
 use Rattle.apd_term.specs.declared.term.NameId.{NameId}
-use Rattle.apd_term.specs.declared.term.Pred.{Pred}
-use Rattle.apd_term.specs.declared.standard.TheConstants.{CELL, NIL, OP, XFX, XFY, YFX, FX, FY, XF, YF}
+use Rattle.apd_term.specs.declared.standard.TheConstants.{CELL, NIL, XFX, XFY, YFX, FX, FY, XF, YF}
 use Rattle.apd_term.specs.declared.faults.OpCause.{OpCause}
-use Rattle.apd_term.specs.declared.faults.OpCause.TheVariants.{BadPriority, Postfix, BadKind, BadName, Fixed, Clash}
+use Rattle.apd_term.specs.declared.faults.OpCause.TheVariants.{BadPriority, Postfix, BadKind, BadName}
 use Rattle.apd_ops.specs.declared.op.OpKind.{OpKind}
 use Rattle.apd_ops.specs.declared.op.OpKind.TheVariants.{Xfx, Xfy, Yfx, Fx, Fy}
-use Rattle.apd_ops.specs.Table.{Table, is_fixed, would_clash, defined}
 
 -- the priority that a term tells: an integer from 0 to 1200
 abbrev pub priority_from : Term → Result ℕ OpCause
@@ -63,23 +60,3 @@ names_or (Some fs) = Ok fs
 abbrev pub names_from : Term → Result (List NameId) OpCause
 names_from (compound f none) = Ok (f ∷ [])
 names_from t = names_or (listed_names t)
-
--- the operators after the definition of a name
-abbrev pub define_one : Table → ℕ → OpKind → NameId → Result Table OpCause
-define_one ops p k f = if is_fixed f then Err Fixed else (if would_clash ops p k f.0 then Err Clash else Ok (defined ops p k f.0))
-
--- the names are defined in turn
-abbrev pub define_all : Table → ℕ → OpKind → List NameId → Result Table OpCause
-define_all ops p k [] = Ok ops
-define_all ops p k (f ∷ fs) = result_and_then (λ (t : Table). define_all t p k fs) (define_one ops p k f)
-
-abbrev pub define_by : Table → Result ℕ OpCause → Result OpKind OpCause → Result (List NameId) OpCause → Result Table OpCause
-define_by ops (Err cause) kind names = Err cause
-define_by ops (Ok p) (Err cause) names = Err cause
-define_by ops (Ok p) (Ok k) (Err cause) = Err cause
-define_by ops (Ok p) (Ok k) (Ok fs) = define_all ops p k fs
-
--- The operators after `op(P, T, N)`, or the first cause why there are none: the priority, the kind and the names are looked at
--- in this order, then each name in turn.
-unfoldable pub op_defined : Table → Term → Term → Term → Result Table OpCause
-op_defined ops p t n = define_by ops (priority_from p) (kind_from t) (names_from n)

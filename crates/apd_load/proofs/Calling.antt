@@ -5,8 +5,9 @@ use Rattle.std.specs.List.{list_any, slice_get}
 use Rattle.std.proofs.lemmas.List.{drop_more, drop_all, map-append}
 use Rattle.std.proofs.lemmas.Option.{get_or_from_slice_get, slice_get_within}
 use Rattle.apd_term.specs.Named.{AllNamed, AllTuplesNamed}
-use Rattle.apd_term.specs.Term.{Term, variable, integer, compound, predicate_of}
+use Rattle.apd_term.specs.Term.{Term, variable, integer, compound, predicate_of, list_of}
 use Rattle.apd_term.specs.declared.term.Pred.{Pred}
+use Rattle.apd_arith.specs.Builtins.{builtin_of}
 use Rattle.apd_clauses.specs.declared.clause.Clause.{Clause}
 use Rattle.apd_clauses.specs.Clauses.{is_for, same_pred, numbers_from, numbers_of, tuples_of}
 use Rattle.apd_load.specs.declared.Note.{Note}
@@ -51,11 +52,11 @@ is_noted (e ∷ es) p = either (same_pred p e.0) (is_noted es p)
     either true h = refl
     either false h = h
 
-pub call_again : (es : List (Pred × ℕ)) (line : ℕ) (p : Pred) → is_some (lookup (same_pred p) es) ≡ true → notes_of es ≡ with_calls (notes_of es) (call_of line (Some p))
-call_again es line p there = let e = is_noted es p ∙ there in rw e refl
+pub call_again : (es : List (Pred × ℕ)) (line : ℕ) (p : Pred) → is_some (builtin_of p) ≡ false → is_some (lookup (same_pred p) es) ≡ true → notes_of es ≡ with_calls (notes_of es) (call_of line (Some p))
+call_again es line p user there = let e = is_noted es p ∙ there in rw (user, e) refl
 
-pub call_first : (es : List (Pred × ℕ)) (line : ℕ) (p : Pred) → is_some (lookup (same_pred p) es) ≡ false → notes_of (es ++ (p, line) ∷ []) ≡ with_calls (notes_of es) (call_of line (Some p))
-call_first es line p new = let e = is_noted es p ∙ new in rw e (map-append note_at es ((p, line) ∷ []))
+pub call_first : (es : List (Pred × ℕ)) (line : ℕ) (p : Pred) → is_some (builtin_of p) ≡ false → is_some (lookup (same_pred p) es) ≡ false → notes_of (es ++ (p, line) ∷ []) ≡ with_calls (notes_of es) (call_of line (Some p))
+call_first es line p user new = let e = is_noted es p ∙ new in rw (user, e) (map-append note_at es ((p, line) ∷ []))
 
 -- what isn't there is none
 pub no_value : {X : Type 0} (o : Option X) → is_some o ≡ false → o ≡ None
@@ -95,7 +96,11 @@ calls_named : (n line : ℕ) (goals : List Term) → AllNamed n goals → NotesA
 calls_named n line [] named = tt
 calls_named n line (variable v ∷ gs) named = calls_named n line gs named.1
 calls_named n line (integer i ∷ gs) named = calls_named n line gs named.1
-calls_named n line (compound f ts ∷ gs) named = (named.0.0, calls_named n line gs named.1)
+calls_named n line (compound f ts ∷ gs) named = either (is_some (builtin_of (record { name = f; arity = length (list_of ts) }))) (calls_named n line gs named.1)
+  where
+    either : (b : Bool) → NotesAreNamed n (calls_in line gs) → NotesAreNamed n ((if b then [] else record { line = line; pred = record { name = f; arity = length (list_of ts) } } ∷ []) ++ calls_in line gs)
+    either true rest = rest
+    either false rest = (named.0.0, rest)
 
 notes_append : (n : ℕ) (ms ns : List Note) → NotesAreNamed n ms → NotesAreNamed n ns → NotesAreNamed n (ms ++ ns)
 notes_append n [] ns first second = second

@@ -1,3 +1,4 @@
+pub mod Directing
 pub mod Listed
 pub mod Newlines
 pub mod Calling

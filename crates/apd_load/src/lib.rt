@@ -1,8 +1,11 @@
 //! From the text of a file to a program, and what there is to warn of.
 #![tactic(auto)]
 
+mod directives;
+mod loading;
 mod op_terms;
 mod places;
+mod stop;
 mod warnings;
 
 use apd_clauses::program::Program;

@@ -1,9 +1,11 @@
 //! What the three terms of `op(P, T, N)` tell.
 
-ghost use Rattle.std.specs.Prelude.{◌≡◌, IfOk};
-ghost use Rattle.apd_load.specs.OpTerms.{priority_from, kind_named, kind_from, listed_names, names_from, names_or};
+ghost use Rattle.std.specs.Prelude.{◌≡◌, IfOk, IfErr, Ok};
+ghost use Rattle.apd_load.specs.OpTerms.{priority_from, kind_named, kind_from, listed_names, names_from};
 ghost use Rattle.apd_load.specs.Listed.{first_name, is_ended};
+ghost use Rattle.apd_load.specs.Steps.{OpStops};
 
+use crate::stop::Stop;
 use apd_ops::OpKind;
 use apd_term::list::ListOf;
 use apd_term::standard::{CELL, FX, FY, NIL, XF, XFX, XFY, YF, YFX};
@@ -82,4 +84,20 @@ fn listed_names(alloc: Global, list: &Flat) -> Result<Option<NameIds>, AllocErro
         return Ok(Some(names));
     }
     Ok(None)
+}
+
+/// The names that a term tells: one name, `[]` too, or a list of names.
+pub(crate) fn names_of(alloc: Global, term: &Flat) -> Result<NameIds, Stop>
+    ensures ok { IfOk result (λ names. names_from term.now ≡ Ok names) }
+    ensures err { IfErr result (OpStops (names_from term.now)) }
+{
+    if let [Sym::Fun(name, 0), ..] = term.symbols() {
+        let mut names = NameIds::new(alloc);
+        names.push(*name)?;
+        return Ok(names);
+    }
+    match listed_names(alloc, term)? {
+        Some(names) => Ok(names),
+        None => Err(Stop::from(OpCause::BadName)),
+    }
 }

@@ -1,1 +1,4 @@
 pub mod Indexing
+pub mod Conjuncts
+pub mod Faults
+pub mod Parts

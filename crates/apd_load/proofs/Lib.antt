@@ -1,3 +1,4 @@
+pub mod Adding
 pub mod Directing
 pub mod Listed
 pub mod Newlines

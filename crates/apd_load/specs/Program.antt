@@ -1,5 +1,5 @@
 -- The program that a text is: its clauses, each read with the operators that stand before it.
-use Rattle.std.specs.Prelude.{ℕ, ◌==◌, ◌||◌, List, [], ◌∷◌, ◌++◌, length, nat_le, nat_lt, Result, Ok, Err, if◌then◌else◌}
+use Rattle.std.specs.Prelude.{ℕ, ◌==◌, ◌||◌, List, [], ◌∷◌, ◌++◌, length, nat_le, nat_lt, Option, Some, None, Result, Ok, Err, if◌then◌else◌}
 use Rattle.std.proofs.Common.{zero, suc}
 use Rattle.apd_term.specs.Term.{Term, Terms, variable, integer, compound, none, more, list_of}
 use Rattle.apd_term.specs.declared.term.NameId.{NameId}
@@ -18,7 +18,7 @@ use Rattle.apd_term.specs.declared.faults.TokenFault.TheVariants as dividing
 use Rattle.apd_token.specs.declared.items.Token.{Token}
 use Rattle.apd_ops.specs.Table.{Table}
 use Rattle.apd_ops.specs.Standard.{standard_table}
-use Rattle.apd_load.specs.Stubs.{Reader}
+use Rattle.apd_read.specs.Reader.{Reader}
 use Rattle.apd_clauses.specs.Bodies.{clause_from, conjuncts}
 use Rattle.apd_clauses.specs.declared.clause.Clause.{Clause}
 use Rattle.apd_load.specs.Results.{◌>>=◌}
@@ -68,11 +68,18 @@ abbrev pub body_added : ℕ → Loading → Result Tuple BodyFault → Result Lo
 body_added line s (Err fault) = Err (causes.Body fault)
 body_added line s (Ok t) = clause_added line s t
 
--- A term that was read in a line: `:- D` and `?- D` are directives, any other term is a clause.
+-- D of a directive `:- D` or `?- D`
+abbrev pub directive_of : Term → Option Term
+directive_of (compound f (more d none)) = if (f.0 == NECK.0) || (f.0 == QUERY.0) then Some d else None
+directive_of t = None
+
+abbrev pub loaded_as : ℕ → Loading → Option Term → Result Tuple BodyFault → Result Loading LoadCause
+loaded_as line s (Some d) clause = goals_obeyed line s (conjuncts d)
+loaded_as line s None clause = body_added line s clause
+
+-- a term that was read in a line: the goals of a directive are obeyed, any other term is a clause
 unfoldable pub term_loaded : ℕ → Loading → Term → Result Loading LoadCause
-term_loaded line s (compound f (more d none)) =
-    if (f.0 == NECK.0) || (f.0 == QUERY.0) then goals_obeyed line s (conjuncts d) else body_added line s (clause_from (compound f (more d none)))
-term_loaded line s t = body_added line s (clause_from t)
+term_loaded line s t = loaded_as line s (directive_of t) (clause_from t)
 
 -- where a fault is told
 abbrev pub place_of_fault : ReadFault → ℕ

@@ -6,6 +6,7 @@ mod loading;
 mod op_terms;
 mod places;
 mod stop;
+mod terms;
 mod warnings;
 
 use apd_clauses::program::Program;

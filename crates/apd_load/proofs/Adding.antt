@@ -8,7 +8,7 @@ use Rattle.apd_term.specs.declared.faults.LoadCause.TheVariants as causes
 use Rattle.apd_clauses.specs.declared.clause.Clause.{Clause}
 use Rattle.apd_clauses.specs.declared.program.AddFault.{AddFault}
 use Rattle.apd_clauses.specs.declared.program.AddFault.TheVariants as adding
-use Rattle.apd_load.specs.Program.{body_added, clause_added}
+use Rattle.apd_load.specs.Terms.{body_added, clause_added}
 use Rattle.apd_load.specs.Steps.{IsStep}
 use Rattle.apd_load.specs.Stops.{stop_of_body_fault, stop_of_add_fault}
 use Rattle.apd_load.specs.declared.loading.Loading.{Loading}

@@ -1,3 +1,4 @@
+pub mod NamedTerms
 pub mod Adding
 pub mod Directing
 pub mod Listed

@@ -6,6 +6,7 @@ pub mod Stops
 pub mod OpTerms
 pub mod Listed
 pub mod Directives
+pub mod Terms
 pub mod Program
 pub mod Warnings
 pub mod Calls

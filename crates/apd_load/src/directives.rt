@@ -3,7 +3,7 @@
 ghost use Rattle.std.specs.Prelude.{◌≤◌};
 ghost use Rattle.apd_clauses.specs.Bodies.{conjuncts};
 ghost use Rattle.apd_load.specs.Directives.{define_one, define_all, op_defined};
-ghost use Rattle.apd_load.specs.Program.{goal_obeyed, goals_obeyed};
+ghost use Rattle.apd_load.specs.Terms.{goal_obeyed, goals_obeyed};
 ghost use Rattle.apd_load.specs.Steps.{Defines, IsStep};
 
 use crate::Note;

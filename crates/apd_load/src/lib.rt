@@ -5,14 +5,17 @@ mod directives;
 mod loading;
 mod op_terms;
 mod places;
+mod reading;
 mod stop;
 mod terms;
 mod warnings;
 
-use apd_clauses::program::Program;
+use apd_clauses::Program;
+use apd_ops::Ops;
 pub use apd_term::faults::LoadCause;
 use apd_term::list::ListOf;
 use apd_term::term::Pred;
+pub use reading::load;
 pub use warnings::query_warnings;
 
 /// Why there is no program.
@@ -41,7 +44,11 @@ pub type Notes = ListOf<Note>;
 pub struct Loaded {
     /// The clauses, each with its line.
     pub program: Program,
-    /// Each predicate that a clause calls and that has no clauses, once, in the order of the first calls, with the line of
-    /// the clause of that call.
+    /// The operators after the last directive.
+    pub ops: Ops,
+    /// The goals of directives that were passed over, in order, each by its predicate with the line of its directive.
+    pub passed: Notes,
+    /// Each user predicate that a clause calls and that has no clauses, once, in the order of the first calls, with the
+    /// line of the clause of that call.
     pub warnings: Notes,
 }

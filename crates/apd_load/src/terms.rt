@@ -3,7 +3,7 @@
 ghost use Rattle.std.specs.Prelude.{◌≡◌, ◌≤◌, IfOk};
 ghost use Rattle.apd_term.specs.Term.{size};
 ghost use Rattle.apd_clauses.specs.Bodies.{clause_from};
-ghost use Rattle.apd_load.specs.Program.{body_added, directive_of, term_loaded};
+ghost use Rattle.apd_load.specs.Terms.{body_added, directive_of, term_loaded};
 ghost use Rattle.apd_load.specs.Steps.{IsStep};
 
 use crate::directives::obey_all;

@@ -1,5 +1,5 @@
 use Rattle.std.proofs.Common.{◌≡◌, ap, sym, ◌∙◌, Some, None}
-use Rattle.apd_load.specs.Program.{term_loaded, loaded_as}
+use Rattle.apd_load.specs.Terms.{term_loaded, loaded_as}
 use Rattle.apd_load.proofs.terms.load_term.Goals as goal
 
 pub returns-in-Some : goal.returns-in-Some

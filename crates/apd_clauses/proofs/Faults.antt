@@ -68,3 +68,19 @@ clean_body gs i l m h =
     let a : take i gs ≡ gs = take_all i gs m in
     let b : take 64 gs ≡ gs = take_all 64 gs (omega arith) in
     or_none (first_fault (take 64 gs)) _ (ap first_fault (b ∙ sym a) ∙ h) (few (length gs) (omega arith))
+
+pub fault_among : (gs : List Term) (i : ℕ) (d : Term) (f : BodyFault) → i < length gs → first_fault (take i gs) ≡ None → goal_fault (get_or gs i d) ≡ Some f → first_fault gs ≡ Some f
+fault_among gs i d f l h e = ap first_fault (sym (take_all (length gs) gs (omega arith))) ∙ fault_at gs i (length gs) d f l l h e
+
+pub fault_of_few : (gs : List Term) → length gs ≤ 64 → first_fault gs ≡ body_fault gs
+fault_of_few gs l =
+    ap first_fault (sym (take_all 64 gs l))
+    ∙ sym (or_nothing (first_fault (take 64 gs)))
+    ∙ ap (option_or (first_fault (take 64 gs))) (sym (few (length gs) l))
+  where
+    or_nothing : {A : Type 0} (o : Option A) → option_or o None ≡ o
+    or_nothing None = refl
+    or_nothing (Some x) = refl
+
+pub fault_of_many : (gs : List Term) → 64 < length gs → option_or (first_fault (take 64 gs)) (Some BodyOver) ≡ body_fault gs
+fault_of_many gs l = ap (option_or (first_fault (take 64 gs))) (sym (over (length gs) l))

@@ -2,3 +2,5 @@ pub mod Indexing
 pub mod Conjuncts
 pub mod Faults
 pub mod Parts
+pub mod Shown
+pub mod Asked

@@ -25,6 +25,7 @@ use Rattle.apd_clauses.specs.Kinds.{◌∕◌, kind_of, kind_by, control_of, oth
 use Rattle.apd_clauses.specs.Bodies.{conjuncts, conjuncts_all, goal_fault, goal_fault_of_kind, first_fault, body_fault, head_fault, head_fault_of_kind, tuple_fault, fact, parts_of, unless_fault, clause_from, IsPure}
 use Rattle.apd_clauses.specs.Walk.{with_first_goals}
 use Rattle.apd_clauses.proofs.Indexing.{same_pred-true}
+use Rattle.apd_clauses.proofs.Conjuncts.{two_sides}
 use Rattle.apd_clauses.proofs.Faults.{none_or}
 
 -- what holds of a fact and of a rule holds of each term's parts
@@ -336,19 +337,4 @@ fact_parts t = by_parts (λ u c. is_pred (predicate_of u) (NECK ∕ 2) ≡ false
 
 pub rule_parts : (t h b : Term) → is_pred (predicate_of t) (NECK ∕ 2) ≡ true → slice_get (arguments t) 0 ≡ Some h → slice_get (arguments t) 1 ≡ Some b
     → parts_of t ≡ record { head = h; body = conjuncts b }
-rule_parts (variable v) h b e p q = cc
-rule_parts (integer i) h b e p q = cc
-rule_parts (compound f none) h b e p q = cc
-rule_parts (compound f (more x none)) h b e p q = cc
-rule_parts (compound f (more x (more y none))) h b e p q =
-    let r : f ∕ 2 ≡ NECK ∕ 2 = same_pred-true (f ∕ 2) (NECK ∕ 2) e in
-    let m : (f.0 == NECK.0) ≡ true = ap (λ (s : Pred). s.name.0 == NECK.0) r in
-    let j : x ≡ h = cc in
-    let k : y ≡ b = cc in
-    ap (λ c. let d : Tuple = if c then record { head = x; body = conjuncts y } else fact (compound f (more x (more y none))) in d) m
-    ∙ ap (λ u. let d : Tuple = record { head = u; body = conjuncts y } in d) j
-    ∙ ap (λ u. let d : Tuple = record { head = h; body = conjuncts u } in d) k
-rule_parts (compound f (more x (more y (more z ts)))) h b e p q =
-    let n : ℕ = length (list_of (more x (more y (more z ts)))) in
-    let r : f ∕ length (list_of (more x (more y (more z ts)))) ≡ NECK ∕ 2 = same_pred-true (f ∕ length (list_of (more x (more y (more z ts))))) (NECK ∕ 2) e in
-    absurd (omega (arith, ap (λ (s : Pred). s.arity) r))
+rule_parts t h b e p q = ap parts_of (two_sides t h b NECK e p q)

@@ -67,7 +67,7 @@ pub fn goals_of(alloc: Global, term: &Flat) -> Result<Atoms, AllocError>
 }
 
 /// Why a goal isn't run.
-fn goal_fault(goal: &Flat) -> Option<BodyFault>
+pub(crate) fn goal_fault(goal: &Flat) -> Option<BodyFault>
     ensures { result ≡ goal_fault goal.now }
 {
     match goal.symbols()[0] {
@@ -103,7 +103,7 @@ pub(crate) fn body_fault(goals: &[Flat]) -> Option<BodyFault>
 }
 
 /// Why a term is no head: only a program's own predicate has clauses.
-fn head_fault(head: &Flat) -> Option<BodyFault>
+pub(crate) fn head_fault(head: &Flat) -> Option<BodyFault>
     ensures { result ≡ head_fault head.now }
 {
     match head.pred() {
@@ -123,7 +123,7 @@ fn tuple_fault(tuple: &Tuple) -> Option<BodyFault>
 }
 
 /// Whether the term is this name with so many arguments.
-fn begins_with(term: &Flat, name: NameId, arity: u8) -> bool
+pub(crate) fn begins_with(term: &Flat, name: NameId, arity: u8) -> bool
     ensures { result ≡ is_pred (predicate_of term.now) (name ∕ arity) }
 {
     match term.pred() {

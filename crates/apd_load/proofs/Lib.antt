@@ -1,3 +1,5 @@
+pub mod Dividing
+pub mod Reaching
 pub mod NamedTerms
 pub mod Adding
 pub mod Directing

@@ -16,6 +16,7 @@ pub use apd_term::faults::LoadCause;
 use apd_term::list::ListOf;
 use apd_term::term::Pred;
 pub use reading::load;
+use std::alloc::AllocError;
 pub use warnings::query_warnings;
 
 /// Why there is no program.
@@ -25,6 +26,17 @@ pub enum LoadText {
     Refused { line: u32, cause: LoadCause },
     /// There was no memory.
     Memory,
+}
+
+impl From<AllocError> for LoadText {
+    ghost use Rattle.std.specs.Prelude.{◌≡◌};
+    ghost use Rattle.apd_load.specs.declared.LoadText.TheVariants.{Memory};
+
+    ghost from_gives = { λ _ e. e ≡ Memory };
+
+    fn from(_: AllocError) -> Self {
+        LoadText::Memory
+    }
 }
 
 /// What is noted of a predicate in a line.

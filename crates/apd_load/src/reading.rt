@@ -23,7 +23,7 @@ use apd_ops::Ops;
 use apd_read::read_clause;
 use apd_term::{Names, ReadFault, TokenFault};
 use apd_token::{Tokens, tokens};
-use std::alloc::Global;
+use std::alloc::{AllocError, Global};
 
 /// Where a fault is told.
 fn place_of_fault(fault: ReadFault) -> u32
@@ -69,17 +69,14 @@ fn told(line: u32, stop: Stop) -> LoadText
 }
 
 /// No clause yet, and the standard operators.
-fn at_first(alloc: Global) -> Result<Loading, LoadText>
+fn at_first(alloc: Global) -> Result<Loading, AllocError>
     ensures { IfOk result (λ s. s ≡ at_first) }
 {
-    match Ops::standard(alloc) {
-        Ok(ops) => Ok(Loading {
-            program: Program::new(alloc),
-            ops,
-            passed: Notes::new(alloc),
-        }),
-        Err(_) => Err(LoadText::Memory),
-    }
+    Ok(Loading {
+        program: Program::new(alloc),
+        ops: Ops::standard(alloc)?,
+        passed: Notes::new(alloc),
+    })
 }
 
 /// Loads the clauses and directives that the tokens of a text are, one after the other, each read with the operators that
@@ -102,6 +99,7 @@ fn load_clauses(
     let mut last = FIRST;
     let mut at = 0;
     'clauses: while at < tokens.len() {
+        loading.ops.has_no_clash();
         let read = match read_clause(alloc, &loading.ops, names, text, tokens, at) {
             Ok(read) => read,
             Err(fault) => {
@@ -160,13 +158,11 @@ pub fn load(alloc: Global, text: &[u8], names: &mut Names) -> Result<Loaded, Loa
         ops,
         passed,
     } = load_text(alloc, text, names)?;
-    match warnings(alloc, &program) {
-        Ok(warnings) => Ok(Loaded {
-            program,
-            ops,
-            passed,
-            warnings,
-        }),
-        Err(_) => Err(LoadText::Memory),
-    }
+    let warnings = warnings(alloc, &program)?;
+    Ok(Loaded {
+        program,
+        ops,
+        passed,
+        warnings,
+    })
 }

@@ -20,10 +20,12 @@ fn directive_of(alloc: Global, term: &Flat) -> Result<Option<Flat>, AllocError>
     ensures { IfOk result (λ body. body ≡ directive_of term.now) }
 {
     match term.pred() {
-        Some(Pred {
-            name: NECK | QUERY,
-            arity: 1,
-        }) => Ok(Some(term.arg(alloc, 0)?)),
+        Some(
+            Pred {
+                name: NECK | QUERY,
+                arity: 1,
+            },
+        ) => Ok(Some(term.arg(alloc, 0)?)),
         _ => Ok(None),
     }
 }

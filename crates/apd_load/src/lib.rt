@@ -64,3 +64,6 @@ pub struct Loaded {
     /// line of the clause of that call.
     pub warnings: Notes,
 }
+
+#[cfg(test)]
+mod tests;

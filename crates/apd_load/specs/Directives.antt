@@ -5,14 +5,14 @@ use Rattle.apd_term.specs.declared.term.NameId.{NameId}
 use Rattle.apd_term.specs.declared.faults.OpCause.{OpCause}
 use Rattle.apd_term.specs.declared.faults.OpCause.TheVariants.{Fixed, Clash}
 use Rattle.apd_ops.specs.declared.op.OpKind.{OpKind}
-use Rattle.apd_ops.specs.Table.{Table}
-use Rattle.apd_load.specs.Stubs.{is_fixed, would_clash, defined}
+use Rattle.apd_ops.specs.Table.{Table, defined}
+use Rattle.apd_ops.specs.Definition.{is_fixed, has_clash}
 use Rattle.apd_load.specs.Results.{◌>>=◌}
 use Rattle.apd_load.specs.OpTerms.{priority_from, kind_from, names_from}
 
 -- the operators after the definition of a name
 abbrev pub define_one : Table → ℕ → OpKind → NameId → Result Table OpCause
-define_one ops p k f = if is_fixed f then Err Fixed else (if would_clash ops p k f.0 then Err Clash else Ok (defined ops p k f.0))
+define_one ops p k f = if is_fixed f then Err Fixed else (if has_clash (defined ops p k f.0) then Err Clash else Ok (defined ops p k f.0))
 
 -- the names are defined in turn
 abbrev pub define_all : Table → ℕ → OpKind → List NameId → Result Table OpCause

@@ -1,4 +1,3 @@
-pub mod Stubs
 pub mod Lines
 pub mod Steps
 pub mod Results

@@ -6,3 +6,4 @@ pub mod Directing
 pub mod Listed
 pub mod Newlines
 pub mod Calling
+pub mod Defining

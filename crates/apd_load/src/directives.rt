@@ -17,6 +17,7 @@ use apd_term::{BodyFault, Flat, LoadCause, NameId, Pred};
 use std::alloc::Global;
 
 /// Defines a name as an operator of this priority and kind.
+#[tactic(auto, using(crate::proofs::Defining::one_made, crate::proofs::Defining::one_refused))]
 fn define_one(ops: &mut Ops, priority: u16, kind: OpKind, name: NameId) -> Result<(), Stop>
     requires { priority ≤ 1200 }
     ensures { Defines (define_one ops.old priority kind name) ops.new result }

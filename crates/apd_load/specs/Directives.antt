@@ -5,8 +5,8 @@ use Rattle.apd_term.specs.declared.term.NameId.{NameId}
 use Rattle.apd_term.specs.declared.faults.OpCause.{OpCause}
 use Rattle.apd_term.specs.declared.faults.OpCause.TheVariants.{Fixed, Clash}
 use Rattle.apd_ops.specs.declared.op.OpKind.{OpKind}
-use Rattle.apd_ops.specs.Definition.{is_fixed, has_clash}
 use Rattle.apd_ops.specs.Table.{Table, defined}
+use Rattle.apd_ops.specs.Definition.{is_fixed, has_clash}
 use Rattle.apd_load.specs.Results.{◌>>=◌}
 use Rattle.apd_load.specs.OpTerms.{priority_from, kind_from, names_from}
 

@@ -13,7 +13,7 @@ use Rattle.apd_ops.specs.declared.op.OpFault.{OpFault}
 use Rattle.apd_ops.specs.declared.op.OpFault.TheVariants as faults
 use Rattle.apd_ops.specs.declared.op.OpKind.{OpKind}
 use Rattle.apd_ops.specs.declared.op.OpKind.TheVariants.{Xfx, Xfy, Yfx, Fx, Fy}
-use Rattle.apd_ops.specs.Operators.{groups_right, groups_left, right_kind}
+use Rattle.apd_ops.specs.Operators.{groups_right, groups_left}
 use Rattle.apd_ops.specs.Table.{Meaning, Meanings, Table, HasClash, Clash, prefix_in, infix_in, defined, IsFixed, IsPriority, IsMade, IsRefused}
 use Rattle.apd_ops.specs.Definition.{is_clash, has_clash, is_fixed, definition, definition_by}
 

@@ -1,23 +1,27 @@
 //! Entries in order, their texts, and the end of the last run.
 
 use crate::tests::lines::query;
-use crate::tests::terms::A;
+use crate::tests::terms::{A, id};
 use crate::{Entries, Entry, Log, Refusal, text_of};
 use apd_ports::Filter;
 use apd_term::faults::LoadCause;
-use apd_term::{Pred, Ran, RunEnd, Text};
+use apd_term::standard::NIL;
+use apd_term::{Names, Pred, Ran, RunEnd, Text};
 use std::alloc::{AllocError, Global};
 use std::process::Abort;
 use std::test::Fail;
 
 /// The texts of some entries, by number.
-const TEXTS: [&str; 10] = [
+const TEXTS: [&str; 13] = [
+    "passed over: line 4: edge/2\n",
     "warning: line 3: no clauses for edge/2\n",
-    "warning: no clauses for edge/2\n",
+    "warning: no clauses for 'It\\'s'/0\n",
+    "warning: no clauses for []/1\n",
     "loaded: 12 clauses\n",
     "E0 not built\n",
+    "E2 too long\n",
+    "E3 not a command\n",
     "usage: apd [--budget N] [--answers N] [--trace] [--strategy divide|single|top] [--oracle FILE] PROGRAM or apd --demo N\n",
-    "program refused: line 3: NotBuilt\n",
     "program refused: line 20001: ClausesOver\n",
     "file too long\n",
     "read fault\n",
@@ -29,36 +33,58 @@ fn texts() -> &'static [&'static str] {
 }
 
 /// The entry with this number.
-fn entry(i: usize, pred: Pred) -> Entry {
-    match i {
-        0 => Entry::Warning {
+fn entry(rt: &impl Abort, names: &mut Names, i: usize) -> Result<Entry, AllocError> {
+    let edge = Pred {
+        name: id(rt, names, "edge")?,
+        arity: 2,
+    };
+    let its = Pred {
+        name: id(rt, names, "It's")?,
+        arity: 0,
+    };
+    Ok(match i {
+        0 => Entry::PassedOver {
+            line: 4,
+            pred: edge,
+        },
+        1 => Entry::Warning {
             line: Some(3),
-            pred,
+            pred: edge,
         },
-        1 => Entry::Warning { line: None, pred },
-        2 => Entry::Loaded { clauses: 12 },
-        3 => Entry::Refused {
-            refusal: Refusal::NotBuilt,
+        2 => Entry::Warning {
+            line: None,
+            pred: its,
         },
-        4 => Entry::UsageRefused,
-        5 => Entry::ProgramRefused {
-            line: 3,
-            cause: LoadCause::NotBuilt,
+        3 => Entry::Warning {
+            line: None,
+            pred: Pred {
+                name: NIL,
+                arity: 1,
+            },
         },
-        6 => Entry::ProgramRefused {
+        4 => Entry::Loaded { clauses: 12 },
+        5 => refused(Refusal::NotBuilt),
+        6 => refused(Refusal::TooLong),
+        7 => refused(Refusal::NotACommand),
+        8 => Entry::UsageRefused,
+        9 => Entry::ProgramRefused {
             line: 20001,
             cause: LoadCause::ClausesOver,
         },
-        7 => Entry::FileTooLong { length: 1048577 },
-        8 => Entry::InputFault,
+        10 => Entry::FileTooLong { length: 1048577 },
+        11 => Entry::InputFault,
         _ => Entry::InputOver,
-    }
+    })
+}
+
+pub fn refused(refusal: Refusal) -> Entry {
+    Entry::Refused { refusal }
 }
 
 /// A run that has no end yet.
-fn run(rt: &impl Abort, alloc: Global) -> Result<Entry, AllocError> {
+fn run(rt: &impl Abort, alloc: Global, names: &mut Names) -> Result<Entry, AllocError> {
     Ok(Entry::Run {
-        query: query(rt, alloc, &[&[A]])?,
+        query: query(rt, alloc, names, &[&[A]])?,
         budget: 7,
         answers: 5,
         filter: Filter::All,
@@ -77,15 +103,16 @@ fn end_of(entry: &Entry) -> Option<Ran> {
 fn entries_keep_their_order_and_have_their_texts(rt: HostRuntime) -> Result<(), Fail> {
     let mut log = Log::new(rt.alloc())?;
     assert!(rt; log.entries.len() == 0);
-    assert!(rt; log.names.count() < 1000);
-    let name = log.names.intern(b"edge")?;
     for i in 0..texts().len() {
-        log.entries.push(entry(i, Pred { name, arity: 2 }))?;
+        let entry = entry(&rt, &mut log.names, i)?;
+        log.entries.push(entry)?;
     }
-    log.entries.push(run(&rt, rt.alloc())?)?;
+    let last = run(&rt, rt.alloc(), &mut log.names)?;
+    log.entries.push(last)?;
     let mut said = Text::new(rt.alloc());
     for i in 0..log.entries.len() {
-        text_of(rt.alloc(), log.entries.entry(i), &log.names, &mut said)?;
+        let entry = log.entries.entry(i);
+        text_of(rt.alloc(), entry, &log.names, &log.ops, &mut said)?;
     }
     let mut rest = said.bytes();
     for text in texts() {
@@ -102,11 +129,13 @@ fn only_the_last_run_is_finished(rt: HostRuntime) -> Result<(), Fail> {
         ports: 6,
         answers: 2,
     };
+    let mut names = Names::standard(rt.alloc())?;
     let mut entries = Entries::new(rt.alloc());
     entries.finish(ran);
     assert!(rt; entries.len() == 0);
-    entries.push(run(&rt, rt.alloc())?)?;
-    entries.push(run(&rt, rt.alloc())?)?;
+    entries.reserve(2)?;
+    entries.push(run(&rt, rt.alloc(), &mut names)?)?;
+    entries.push(run(&rt, rt.alloc(), &mut names)?)?;
     entries.finish(ran);
     assert!(rt; entries.len() == 2);
     assert!(rt; end_of(entries.entry(0)).is_none());

@@ -8,7 +8,7 @@ use Rattle.apd_term.proofs.Named.{TupleIsNamed-canonical}
 use Rattle.apd_term.proofs.Naming.{text_of_name-append}
 use Rattle.apd_term.specs.declared.run.Query.{Query}
 use Rattle.apd_term.specs.declared.faults.LoadCause.{LoadCause}
-use Rattle.apd_term.specs.declared.faults.LoadCause.TheVariants.{NotBuilt, Token, Read, Op, Body, ClausesOver}
+use Rattle.apd_term.specs.declared.faults.LoadCause.TheVariants.{Token, Read, Op, Body, ClausesOver}
 use Rattle.apd_term.specs.declared.faults.BodyFault.{BodyFault}
 use Rattle.apd_term.specs.declared.faults.BodyFault.TheVariants as body
 use Rattle.apd_ops.specs.Table.{Table}
@@ -78,7 +78,6 @@ body_text-more names others body.Memory named = refl
 
 cause_text-more : (names others : List (List ℕ)) (c : LoadCause) → CauseIsNamed (length names) c → cause_text (names ++ others) c ≡ cause_text names c
 unfolding cause_text
-cause_text-more names others NotBuilt named = refl
 cause_text-more names others (Token f) named = refl
 cause_text-more names others (Read f) named = refl
 cause_text-more names others (Op c) named = refl
@@ -87,7 +86,6 @@ cause_text-more names others ClausesOver named = refl
 
 refusal_text-more : (names others : List (List ℕ)) (r : Refusal) → RefusalIsNamed (length names) r → refusal_text (names ++ others) r ≡ refusal_text names r
 unfolding refusal_text
-refusal_text-more names others refusal.NotBuilt named = refl
 refusal_text-more names others (refusal.Syntax c) named = rw (cause_text-more names others c named) refl
 refusal_text-more names others refusal.TooLong named = refl
 refusal_text-more names others refusal.NotACommand named = refl

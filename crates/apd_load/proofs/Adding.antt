@@ -1,14 +1,13 @@
 -- What the clause that a term is adds.
 use Rattle.std.proofs.Common.{◌≡◌, ◌≢◌, ℕ, ◌<◌, List, [], ◌∷◌, ◌++◌, length, Result, Ok, Err, refl, ap}
-use Rattle.std.proofs.lemmas.Bool.{le-leb, lt-leb}
+use Rattle.std.proofs.lemmas.Bool.{lt-leb}
 use Rattle.apd_term.specs.declared.tuple.Tuple.{Tuple}
 use Rattle.apd_term.specs.declared.faults.BodyFault.{BodyFault}
 use Rattle.apd_term.specs.declared.faults.BodyFault.TheVariants as bodies
-use Rattle.apd_term.specs.declared.faults.LoadCause.TheVariants as causes
 use Rattle.apd_clauses.specs.declared.clause.Clause.{Clause}
 use Rattle.apd_clauses.specs.declared.program.AddFault.{AddFault}
 use Rattle.apd_clauses.specs.declared.program.AddFault.TheVariants as adding
-use Rattle.apd_load.specs.Terms.{body_added, clause_added}
+use Rattle.apd_load.specs.Terms.{body_added}
 use Rattle.apd_load.specs.Steps.{IsStep}
 use Rattle.apd_load.specs.Stops.{stop_of_body_fault, stop_of_add_fault}
 use Rattle.apd_load.specs.declared.loading.Loading.{Loading}

@@ -1,5 +1,5 @@
 -- What the operator table answers to a definition, as the loader wants it.
-use Rattle.std.proofs.Common.{rules, ◌≡◌, ◌≢◌, ◌≤◌, ℕ, pos, Bool, true, false, Result, Ok, Err, refl, sym, ◌∙◌, ap, arith, leb-true}
+use Rattle.std.proofs.Common.{rules, ◌≡◌, ◌≢◌, ◌≤◌, ℕ, pos, Bool, true, false, Result, Ok, Err, refl, sym, ◌∙◌, ap, arith}
 use Rattle.std.proofs.lemmas.Bool.{leb-false}
 use Rattle.std.specs.Prelude.{nat_le, if◌then◌else◌}
 use Rattle.apd_term.specs.declared.term.NameId.{NameId}

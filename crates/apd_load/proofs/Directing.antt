@@ -1,5 +1,5 @@
 -- The parts of `op(P, T, N)` one after another.
-use Rattle.std.proofs.Common.{◌≡◌, ℕ, List, Result, Ok, Err, refl, ◌∙◌, subst, sym}
+use Rattle.std.proofs.Common.{◌≡◌, ℕ, List, Ok, Err, refl}
 use Rattle.apd_term.specs.Term.{Term}
 use Rattle.apd_term.specs.declared.term.NameId.{NameId}
 use Rattle.apd_term.specs.declared.faults.OpCause.{OpCause}
@@ -8,7 +8,7 @@ use Rattle.apd_ops.specs.declared.op.OpKind.{OpKind}
 use Rattle.apd_ops.specs.Table.{Table}
 use Rattle.apd_load.specs.OpTerms.{priority_from, kind_from, names_from}
 use Rattle.apd_load.specs.Directives.{define_all, op_defined}
-use Rattle.apd_load.specs.Steps.{OpStops, Defines}
+use Rattle.apd_load.specs.Steps.{OpStops}
 use Rattle.apd_load.specs.declared.stop.Stop.{Stop}
 use Rattle.apd_load.specs.declared.stop.Stop.TheVariants.{Cause, Memory}
 

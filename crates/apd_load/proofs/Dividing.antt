@@ -10,7 +10,7 @@ use Rattle.apd_token.specs.Grammar.{HasTokens, IsFaultOf}
 use Rattle.apd_read.specs.Reader.{Reader}
 use Rattle.apd_read.proofs.Readers.{reader_divides, reader_refuses}
 use Rattle.apd_load.specs.Lines.{line_at}
-use Rattle.apd_load.specs.Program.{Loads, refused, loads, place_of_token_fault, after_division, all_loaded, program_of}
+use Rattle.apd_load.specs.Program.{Loads, refused, place_of_token_fault, after_division, all_loaded, program_of}
 use Rattle.apd_load.specs.Steps.{IsLoaded, told_of}
 use Rattle.apd_load.specs.Stops.{stop_of_token_fault}
 use Rattle.apd_load.specs.declared.LoadText.{LoadText}

@@ -1,5 +1,5 @@
 -- What a named term makes is named.
-use Rattle.std.proofs.Common.{◌≡◌, ℕ, ◌<◌, ◌≤◌, ◌==◌, ◌||◌, nat_le, Bool, true, false, List, [], ◌∷◌, ◌++◌, length, map, Option, Some, None, Result, Ok, Err, if◌then◌else◌, refl, sym, ◌∙◌, ap, subst}
+use Rattle.std.proofs.Common.{◌≡◌, ℕ, ◌<◌, ◌≤◌, ◌==◌, ◌||◌, nat_le, Bool, true, false, List, [], ◌∷◌, ◌++◌, length, Option, Some, None, Result, Ok, Err, if◌then◌else◌, refl, subst}
 use Rattle.apd_term.specs.Term.{Term, Terms, variable, integer, compound, none, more, predicate_of, list_of}
 use Rattle.apd_term.specs.Named.{IsNamed, AreNamed, AllNamed, TupleIsNamed, AllTuplesNamed}
 use Rattle.apd_term.proofs.Named.{TupleIsNamed-more}
@@ -18,10 +18,8 @@ use Rattle.apd_clauses.specs.Kinds.{◌∕◌}
 use Rattle.apd_clauses.specs.Bodies.{conjuncts, conjuncts_all, fact, parts_of, clause_from, unless_fault, tuple_fault}
 use Rattle.apd_load.specs.Results.{◌>>=◌}
 use Rattle.apd_load.specs.Directives.{op_defined}
-use Rattle.apd_load.specs.Terms.{with_ops, passes_over, goal_obeyed, goals_obeyed, clause_added, body_added, directive_of, loaded_as, term_loaded}
-use Rattle.apd_load.specs.Warnings.{NotesAreNamed}
+use Rattle.apd_load.specs.Terms.{with_ops, passes_over, goal_obeyed, goals_obeyed, body_added, directive_of, loaded_as, term_loaded}
 use Rattle.apd_load.specs.Steps.{LoadingIsNamed}
-use Rattle.apd_load.specs.declared.Note.{Note}
 use Rattle.apd_load.specs.declared.loading.Loading.{Loading}
 use Rattle.apd_load.proofs.Calling.{notes_append, notes_more}
 

@@ -1,12 +1,11 @@
 -- A text, clause by clause.
-use Rattle.std.proofs.Common.{◌≡◌, ◌≢◌, ℕ, ◌+◌, ◌-◌, ◌<◌, ◌≤◌, zero, suc, Bool, true, false, List, [], ◌∷◌, ◌++◌, length, Option, Some, Result, Ok, Err, nat_lt, refl, sym, ◌∙◌, ap, subst, arith, append_assoc, length-append}
+use Rattle.std.proofs.Common.{◌≡◌, ◌≢◌, ℕ, ◌+◌, ◌-◌, ◌<◌, ◌≤◌, zero, suc, List, [], ◌++◌, length, Some, Result, Ok, Err, refl, sym, ◌∙◌, ap, subst, arith, append_assoc, length-append}
 use Rattle.std.specs.List.{slice_get}
 use Rattle.std.proofs.lemmas.Bool.{lt-ltb, le-ltb}
 use Rattle.std.proofs.lemmas.List.{append-nil}
 use Rattle.apd_term.specs.Growth.{Grown, GrowsBy}
 use Rattle.apd_term.specs.Named.{IsNamed}
 use Rattle.apd_term.specs.declared.reading.Read.{Read}
-use Rattle.apd_term.specs.declared.faults.LoadCause.{LoadCause}
 use Rattle.apd_term.specs.declared.faults.LoadCause.TheVariants as causes
 use Rattle.apd_term.specs.declared.faults.ReadFault.{ReadFault}
 use Rattle.apd_term.specs.declared.faults.ReadFault.TheVariants as reading

@@ -1,4 +1,4 @@
-use Rattle.std.proofs.Common.{◌≡◌, ◌≤◌, ◌<◌, ◌-◌, ◌∙◌, sym, subst, length, arith}
+use Rattle.std.proofs.Common.{◌-◌, length, arith}
 use Rattle.apd_term.specs.StandardNames.{standard_names}
 use Rattle.apd_load.proofs.Reaching.{goes_first, goes_next, all_grow, grows_all, has_room, names_stay, reaches_last, term_told, fault_told}
 use Rattle.apd_load.proofs.reading.load_clauses.Goals as goal

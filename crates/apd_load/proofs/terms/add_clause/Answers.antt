@@ -1,4 +1,4 @@
-use Rattle.std.proofs.Common.{◌≡◌, ◌≢◌, ap, sym, ◌∙◌, Err, length, ◌<◌, arith}
+use Rattle.std.proofs.Common.{◌≢◌, ap, sym, ◌∙◌, Err, length, ◌<◌, arith}
 use Rattle.std.proofs.lemmas.Result.{err_from_is_err_and}
 use Rattle.apd_clauses.specs.Bodies.{clause_from}
 use Rattle.apd_load.proofs.Adding.{added, not_added, no_clause}

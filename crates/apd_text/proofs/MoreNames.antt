@@ -16,7 +16,8 @@ use Rattle.apd_ports.specs.declared.event.Event.{Event}
 use Rattle.apd_write.proofs.MoreNames.{written-more}
 use Rattle.apd_text.specs.Causes.{body_text, cause_text}
 use Rattle.apd_text.specs.Entries.{refusal_text, text_of}
-use Rattle.apd_text.specs.Named.{FaultIsNamed, CauseIsNamed, RefusalIsNamed, EntryIsNamed}
+use Rattle.apd_term.specs.Faults.{FaultIsNamed, CauseIsNamed}
+use Rattle.apd_text.specs.Named.{RefusalIsNamed, EntryIsNamed}
 use Rattle.apd_text.specs.Lines.{goal_text, goals_of, head_text, elements, elements_of, bindings, answer_text, port_text}
 use Rattle.apd_text.specs.declared.entry.Refusal.{Refusal}
 use Rattle.apd_text.specs.declared.entry.Refusal.TheVariants as refusal

@@ -1,35 +1,52 @@
--- The step for each command.
-use Rattle.std.specs.Prelude.{ℕ, ◌≡◌, ◌<◌, ◌≤◌, ◌+◌, List, [], ◌∷◌, length}
+-- What a line in a command's place asks for.
+use Rattle.std.specs.Prelude.{ℕ, ◌==◌, List, [], ◌∷◌, slice_get, if◌then◌else◌, Option, None, Some, Result, Ok, Err}
+use Rattle.apd_term.specs.Term.{Term, compound, none, more}
+use Rattle.apd_term.specs.declared.standard.TheConstants.{QUERY, QUIT}
+use Rattle.apd_term.specs.declared.faults.BodyFault.{BodyFault}
+use Rattle.apd_term.specs.declared.faults.LoadCause.TheVariants as causes
+use Rattle.apd_term.specs.declared.faults.ReadFault.{ReadFault}
+use Rattle.apd_term.specs.declared.faults.ReadFault.TheVariants.{Stray}
+use Rattle.apd_term.specs.declared.faults.TokenFault.{TokenFault}
+use Rattle.apd_term.specs.declared.reading.Read.{Read}
+use Rattle.apd_term.specs.declared.run.Query.{Query}
+use Rattle.apd_token.specs.declared.items.Token.{Token}
+use Rattle.apd_ops.specs.Table.{Table}
+use Rattle.apd_read.specs.Reader.{Reader}
+use Rattle.apd_clauses.specs.Bodies.{query_from}
 use Rattle.apd_console.specs.declared.line.Line.{Line}
 use Rattle.apd_console.specs.declared.line.Line.TheVariants.{Text, TooLong}
-use Rattle.apd_term.specs.Growth.{GrowsBy}
-use Rattle.apd_clauses.specs.Clauses.{IsRunnable}
-use Rattle.apd_console.specs.Talk.{Step}
-use Rattle.apd_term.specs.Named.{TupleIsNamed}
-use Rattle.apd_text.specs.declared.entry.Entry.{Entry}
-use Rattle.apd_text.specs.declared.entry.Entry.TheVariants.{Refused}
-use Rattle.apd_session.specs.Steps.{plain, stays, query_said}
-use Rattle.apd_session.specs.declared.state.State.{State}
+use Rattle.apd_text.specs.declared.entry.Refusal.TheVariants as refusal
 use Rattle.apd_session.specs.declared.commands.Command.{Command}
 use Rattle.apd_session.specs.declared.commands.Command.TheVariants as command
 
-abbrev pub step_for : List (List ℕ) → State → Command → Step Entry State
-step_for names s command.Nothing = stays s []
-step_for names s (command.Refused r) = stays s (plain names (Refused r) ∷ [])
-step_for names s (command.Query q) = stays s (query_said names s q)
+-- the query that was read, or the first fault of its goals
+abbrev pub query_asked : Result Query BodyFault → Command
+query_asked (Err fault) = command.Refused (refusal.GoalRefused fault)
+query_asked (Ok q) = command.Query q
 
--- a query can be run, and its names are among the first n
-abbrev pub CanObey : ℕ → Command → Type 0
-CanObey n command.Nothing = Unit {0}
-CanObey n (command.Refused r) = Unit {0}
-CanObey n (command.Query q) = IsRunnable q.tuple × TupleIsNamed n q.tuple
+-- the command that a term is: `quit`, or a query
+abbrev pub command_of : Read → Term → Command
+command_of r (compound f none) = if f.0 == QUIT.0 then command.Quit else command.Refused refusal.NotACommand
+command_of r (compound f (more t none)) = if f.0 == QUERY.0 then query_asked (query_from r) else command.Refused refusal.NotACommand
+command_of r t = command.Refused refusal.NotACommand
 
--- with the bytes of a line there are fewer names than may be kept
-abbrev pub LineFits : ℕ → Line → Type 0
-LineFits count TooLong = Unit {0}
-LineFits count (Text bytes) = (count + length bytes < 4000000000) × (length bytes ≤ 1000000000)
+-- a token behind the clause is stray
+abbrev pub command_before : Read → Option Token → Command
+command_before r None = command_of r r.term
+command_before r (Some t) = command.Refused (refusal.Syntax (causes.Read (Stray t.start)))
 
--- the names grew at their end, by at most as many as the line has bytes
-abbrev pub LineGrows : Line → List (List ℕ) → List (List ℕ) → Type 0
-LineGrows TooLong names later = later ≡ names
-LineGrows (Text bytes) names later = GrowsBy (length bytes) names later
+abbrev pub command_read : List Token → Result Read ReadFault → Command
+command_read tokens (Err fault) = command.Refused (refusal.Syntax (causes.Read fault))
+command_read tokens (Ok r) = command_before r (slice_get tokens r.next)
+
+-- a line without a token asks for nothing
+abbrev pub command_from : {names : List (List ℕ)} → Reader names → Table → List ℕ → Result (List Token) TokenFault → Command
+command_from reader ops line (Err fault) = command.Refused (refusal.Syntax (causes.Token fault))
+command_from reader ops line (Ok []) = command.Nothing
+command_from reader ops line (Ok (t ∷ tokens)) = command_read (t ∷ tokens) (reader.clause ops line (t ∷ tokens) 0)
+
+-- what a line in a command's place asks for
+unfoldable pub command_in : {names : List (List ℕ)} → Reader names → Table → Line → Command
+command_in reader ops TooLong = command.Refused refusal.TooLong
+command_in reader ops (Text line) = command_from reader ops line (reader.division line)
+

@@ -1,3 +1,6 @@
 pub mod Clauses
 pub mod Codes
 pub mod Index
+pub mod Kinds
+pub mod Bodies
+pub mod Queries

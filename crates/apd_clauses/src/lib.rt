@@ -1,12 +1,19 @@
-//! Programs of pure Prolog: clauses in order, with an index by predicate.
+//! Programs of pure Prolog: clauses in order, with an index by predicate; and the clauses and queries that terms are.
 #![tactic(auto)]
 
+pub mod body;
 pub mod clause;
+pub mod kinds;
 pub mod program;
+pub mod query;
 
-pub use apd_term::Query;
+pub use apd_arith::Builtin;
+pub use apd_term::{BodyFault, Query, Read};
+pub use body::{clause_of, goals_of};
 pub use clause::{Clause, is_clause, is_runnable};
+pub use kinds::{Kind, builtin};
 pub use program::{AddFault, Program};
+pub use query::{is_query, query_of};
 
 #[cfg(test)]
 mod tests;

@@ -12,9 +12,10 @@ use Rattle.apd_token.specs.Grammar.{HasTokens, IsTokenOf}
 use Rattle.apd_read.specs.declared.lexeme.Sort.{Sort}
 use Rattle.apd_read.specs.declared.lexeme.Lexeme.{Lexeme}
 use Rattle.apd_term.specs.Names.{with_name}
+use Rattle.apd_term.specs.Growth.{GrowsBy}
 use Rattle.apd_term.proofs.Naming.{length-with_name}
-use Rattle.apd_read.specs.Lexemes.{is_anonymous, with_variable, IsSort, IsLexeme, AreLexemes, no_lexeme, then_lexeme, to_end, ends_clause, ends_sort, NoneEnd, EndsLast, IsGrown}
-use Rattle.apd_read.proofs.Growing.{grown_start, grown_at_most, grown_both, lexemes_kept}
+use Rattle.apd_read.specs.Lexemes.{is_anonymous, with_variable, IsSort, IsLexeme, AreLexemes, no_lexeme, then_lexeme, to_end, ends_clause, ends_sort, NoneEnd, EndsLast, SortIsNamed, LexemesAreNamed}
+use Rattle.apd_read.proofs.Growing.{grown_start, grown_at_most, grown_both, lexemes_kept, named_grown}
 
 -- none of the tokens ends a clause
 abbrev pub NoneEnds : List Token → Type 0
@@ -57,7 +58,7 @@ variables_step vars v = by (is_anonymous v)
 same_length : (vars after : List (List ℕ)) → after ≡ vars → length after ≤ length vars + 1
 same_length vars after e = let h : length after ≡ length vars = ap length e in omega arith
 
-sort_variables : (k : Kind) (names : List (List ℕ)) (bytes : List ℕ) (vars : List (List ℕ)) (s : Sort) (after : List (List ℕ)) → IsSort k names bytes vars s after → length after ≤ length vars + 1
+pub sort_variables : (k : Kind) (names : List (List ℕ)) (bytes : List ℕ) (vars : List (List ℕ)) (s : Sort) (after : List (List ℕ)) → IsSort k names bytes vars s after → length after ≤ length vars + 1
 sort_variables kinds.Name names bytes vars s after h = same_length vars after h.5
 sort_variables kinds.Quoted names bytes vars s after h = same_length vars after h.5
 sort_variables kinds.Codes names bytes vars s after h = same_length vars after h.3
@@ -101,7 +102,8 @@ pub record IsTaken (old names : List (List ℕ)) (text : List ℕ) (tokens : Lis
   pub are : AreLexemes names text (slice_range tokens at i) ls vars
   pub none : NoneEnds (slice_range tokens at i)
   pub open_yet : NoneEnd ls
-  pub grown : IsGrown old (i - at) names
+  pub named : LexemesAreNamed (length names) ls
+  pub grown : GrowsBy (i - at) old names
   pub count : length ls ≡ i - at
   pub few : length vars ≤ i - at
 
@@ -115,7 +117,8 @@ taken_start names text tokens at le = record {
   are = subst (λ (w : List Token). AreLexemes names text w [] []) (sym (slice_none tokens at)) no_lexeme;
   none = subst NoneEnds (sym (slice_none tokens at)) tt;
   open_yet = tt;
-  grown = grown_at_most 0 (at - at) (omega arith) (grown_start names);
+  named = tt;
+  grown = grown_at_most names names 0 (at - at) (omega arith) (grown_start names);
   count = omega arith;
   few = omega arith;
 }
@@ -130,14 +133,14 @@ slice_more ts a e d le lt =
 
 -- one more token and what it stands for
 more_lexemes : {old names new : List (List ℕ)} {text : List ℕ} {tokens : List Token} {at i : ℕ} {ls : List Lexeme} {vars : List (List ℕ)} → IsTaken old names text tokens at i ls vars
-    → IsGrown names 1 new → (t : Token) (l : Lexeme) (after : List (List ℕ)) → i < length tokens → t ≡ get_or tokens i t → IsLexeme new text vars t l after
+    → GrowsBy 1 names new → (t : Token) (l : Lexeme) (after : List (List ℕ)) → i < length tokens → t ≡ get_or tokens i t → IsLexeme new text vars t l after
     → AreLexemes new text (slice_range tokens at i ++ t ∷ []) (ls ++ l ∷ []) after
-more_lexemes k g t l after lt e is = then_lexeme t l after (lexemes_kept g k.are) is
+more_lexemes {names = names} {new} k g t l after lt e is = then_lexeme t l after (lexemes_kept names new 1 g k.named k.are) is
 
 pub taken_more : {old names new : List (List ℕ)} {text : List ℕ} {tokens : List Token} {at i : ℕ} {ls : List Lexeme} {vars : List (List ℕ)} → IsTaken old names text tokens at i ls vars
-    → IsGrown names 1 new → (t : Token) (l : Lexeme) (after : List (List ℕ)) → i < length tokens → t ≡ get_or tokens i t → IsLexeme new text vars t l after → ends_clause t.kind ≡ false
+    → GrowsBy 1 names new → (t : Token) (l : Lexeme) (after : List (List ℕ)) → i < length tokens → t ≡ get_or tokens i t → IsLexeme new text vars t l after → SortIsNamed (length new) l.sort → ends_clause t.kind ≡ false
     → IsTaken old new text tokens at (i + 1) (ls ++ l ∷ []) after
-taken_more {old} {names} {new} {text} {tokens} {at} {i} {ls} {vars} k g t l after lt e is no_end =
+taken_more {old} {names} {new} {text} {tokens} {at} {i} {ls} {vars} k g t l after lt e is named no_end =
     let from = k.from in
     let slice : slice_range tokens at (i + 1) ≡ slice_range tokens at i ++ t ∷ [] = slice_more tokens at i t from lt ∙ ap (λ (w : Token). slice_range tokens at i ++ w ∷ []) (sym e) in
     let count = k.count in
@@ -150,7 +153,8 @@ taken_more {old} {names} {new} {text} {tokens} {at} {i} {ls} {vars} k g t l afte
       are = subst (λ (w : List Token). AreLexemes new text w (ls ++ l ∷ []) after) (sym slice) (more_lexemes k g t l after lt e is);
       none = subst NoneEnds (sym slice) (NoneEnds-push (slice_range tokens at i) t k.none no_end);
       open_yet = NoneEnd-push ls l k.open_yet (sort_ends t.kind new (slice_range text t.start t.end) vars l.sort after is.0 ∙ no_end);
-      grown = grown_at_most (i - at + 1) (i + 1 - at) (omega arith) (grown_both k.grown g);
+      named = named_grown names new 1 g ls l k.named named;
+      grown = grown_at_most old new (i - at + 1) (i + 1 - at) (omega arith) (grown_both old names new (i - at) 1 k.grown g);
       count = omega arith;
       few = omega arith;
     }
@@ -160,7 +164,7 @@ rest_is tokens at i le = drop_split tokens at i le
 
 -- the token that ends the clause
 pub taken_end : {old names new : List (List ℕ)} {text : List ℕ} {tokens : List Token} {at i : ℕ} {ls : List Lexeme} {vars : List (List ℕ)} → IsTaken old names text tokens at i ls vars
-    → IsGrown names 1 new → (t : Token) (l : Lexeme) (after : List (List ℕ)) → i < length tokens → t ≡ get_or tokens i t → IsLexeme new text vars t l after → ends_clause t.kind ≡ true
+    → GrowsBy 1 names new → (t : Token) (l : Lexeme) (after : List (List ℕ)) → i < length tokens → t ≡ get_or tokens i t → IsLexeme new text vars t l after → ends_clause t.kind ≡ true
     → AreLexemes new text (to_end (drop at tokens)) (ls ++ l ∷ []) after
 taken_end {old} {names} {new} {text} {tokens} {at} {i} {ls} k g t l after lt e is ends =
     let tail : drop i tokens ≡ t ∷ drop (i + 1) tokens = drop_more tokens i t lt ∙ ap (λ (w : Token). w ∷ drop (i + 1) tokens) (sym e) in
@@ -168,8 +172,22 @@ taken_end {old} {names} {new} {text} {tokens} {at} {i} {ls} k g t l after lt e i
     subst (λ (w : List Token). AreLexemes new text w (ls ++ l ∷ []) after) (sym (ap to_end whole ∙ to_end_at (slice_range tokens at i) t (drop (i + 1) tokens) k.none ends)) (more_lexemes k g t l after lt e is)
 
 pub taken_grown : {old names new : List (List ℕ)} {text : List ℕ} {tokens : List Token} {at i : ℕ} {ls : List Lexeme} {vars : List (List ℕ)} → IsTaken old names text tokens at i ls vars
-    → IsGrown names 1 new → (l : Lexeme) → IsGrown old (length (ls ++ l ∷ [])) new
-taken_grown {at = at} {i} {ls} k g l = let c = k.count in let s = length-append ls (l ∷ []) in grown_at_most (i - at + 1) (length (ls ++ l ∷ [])) (omega arith) (grown_both k.grown g)
+    → GrowsBy 1 names new → (l : Lexeme) → GrowsBy (length (ls ++ l ∷ [])) old new
+taken_grown {old} {names} {new} {at = at} {i} {ls} k g l =
+    let c = k.count in
+    let s = length-append ls (l ∷ []) in
+    grown_at_most old new (i - at + 1) (length (ls ++ l ∷ [])) (omega arith) (grown_both old names new (i - at) 1 k.grown g)
+
+-- the names with those of one more token
+pub taken_kept : {old names new : List (List ℕ)} {text : List ℕ} {tokens : List Token} {at i : ℕ} {ls : List Lexeme} {vars : List (List ℕ)} → IsTaken old names text tokens at i ls vars
+    → GrowsBy 1 names new → i < length tokens → GrowsBy (length tokens - at) old new
+taken_kept {old} {names} {new} {tokens = tokens} {at} {i} k g lt =
+    let from = k.from in
+    grown_at_most old new (i - at + 1) (length tokens - at) (omega arith) (grown_both old names new (i - at) 1 k.grown g)
+
+pub taken_named : {old names new : List (List ℕ)} {text : List ℕ} {tokens : List Token} {at i : ℕ} {ls : List Lexeme} {vars : List (List ℕ)} → IsTaken old names text tokens at i ls vars
+    → GrowsBy 1 names new → (l : Lexeme) → SortIsNamed (length new) l.sort → LexemesAreNamed (length new) (ls ++ l ∷ [])
+taken_named {names = names} {new} {ls = ls} k g l named = named_grown names new 1 g ls l k.named named
 
 -- all tokens are taken, and none ends the clause
 pub taken_all : {old names : List (List ℕ)} {text : List ℕ} {tokens : List Token} {at i : ℕ} {ls : List Lexeme} {vars : List (List ℕ)} → IsTaken old names text tokens at i ls vars
@@ -192,11 +210,11 @@ abbrev pub blank : Token
 blank = record { kind = kinds.Name; start = 0; «end» = 0; spaced = false }
 
 -- as many lexemes as tokens, and no more than the text has
-lexemes_as_tokens : {names : List (List ℕ)} {text : List ℕ} {ts : List Token} {ls : List Lexeme} {vars : List (List ℕ)} → AreLexemes names text ts ls vars → length ls ≡ length ts
+pub lexemes_as_tokens : {names : List (List ℕ)} {text : List ℕ} {ts : List Token} {ls : List Lexeme} {vars : List (List ℕ)} → AreLexemes names text ts ls vars → length ls ≡ length ts
 lexemes_as_tokens no_lexeme = refl
 lexemes_as_tokens (then_lexeme {ts} {ls} t l after a is) = let h = lexemes_as_tokens a in let m = length-append ls (l ∷ []) in let n = length-append ts (t ∷ []) in omega arith
 
-to_end_few : (ts : List Token) → length (to_end ts) ≤ length ts
+pub to_end_few : (ts : List Token) → length (to_end ts) ≤ length ts
 to_end_few [] = omega arith
 to_end_few (t ∷ ts) = by (ends_clause t.kind) (to_end_few ts)
   where
@@ -206,6 +224,9 @@ to_end_few (t ∷ ts) = by (ends_clause t.kind) (to_end_few ts)
 
 pub lexemes_few : {names : List (List ℕ)} {text : List ℕ} {ls : List Lexeme} {vars : List (List ℕ)} (tokens : List Token) (at : ℕ) → AreLexemes names text (to_end (drop at tokens)) ls vars → length ls ≤ length tokens
 lexemes_few tokens at a = let e = lexemes_as_tokens a in let f = to_end_few (drop at tokens) in let g = length-drop at tokens in omega arith
+
+pub lexemes_from : {names : List (List ℕ)} {text : List ℕ} {ls : List Lexeme} {vars : List (List ℕ)} (tokens : List Token) (at : ℕ) → AreLexemes names text (to_end (drop at tokens)) ls vars → length ls ≤ length tokens - at
+lexemes_from tokens at a = let e = lexemes_as_tokens a in let f = to_end_few (drop at tokens) in let g = length-drop at tokens in omega arith
 
 pub ends_last : {old names : List (List ℕ)} {text : List ℕ} {tokens : List Token} {at i : ℕ} {ls : List Lexeme} {vars : List (List ℕ)} → IsTaken old names text tokens at i ls vars → (l : Lexeme) → EndsLast (ls ++ l ∷ [])
 ends_last {ls = ls} k l = inr (ls, l, refl, k.open_yet)

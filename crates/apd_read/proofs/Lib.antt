@@ -14,3 +14,5 @@ pub mod Placed
 pub mod Ending
 pub mod Size
 pub mod Weights
+pub mod Parts
+pub mod Numbers

@@ -1,5 +1,5 @@
 -- Faults in their places, and how far a clause goes.
-use Rattle.std.proofs.Common.{◌≡◌, ℕ, ◌<◌, ◌≤◌, List, refl, arith}
+use Rattle.std.proofs.Common.{◌≡◌, ℕ, ◌<◌, ◌≤◌, List, ◌++◌, drop, refl, arith}
 use Rattle.apd_ops.specs.Table.{Table}
 use Rattle.apd_read.specs.declared.lexeme.Lexeme.{Lexeme}
 use Rattle.apd_read.specs.declared.phrase.Phrase.{Phrase}
@@ -14,7 +14,9 @@ use Rattle.apd_term.specs.declared.faults.ReadFault.TheVariants as faults
 use Rattle.apd_term.specs.declared.reading.Read.{Read}
 use Rattle.apd_token.specs.declared.items.Token.{Token}
 use Rattle.apd_read.specs.Answer.{IsFaultIn, placed, HasLexemes, HasReading, IsReadFault, IsReadAs}
+use Rattle.apd_read.specs.Lexemes.{AreLexemes, to_end, LexemesAreNamed}
 use Rattle.apd_read.proofs.Tables.{goes_within}
+use Rattle.apd_read.proofs.Growing.{lexemes_kept}
 use Rattle.std.proofs.Common.{length}
 
 pub placed_is : (ops : Table) (ls : List Lexeme) (text_end : ℕ) (f : ClauseFault) → IsClauseFault Splits ops ls f → IsFaultIn ops ls text_end (placed ls text_end f)
@@ -32,11 +34,11 @@ pub fills_within : {reads : ℕ → List Piece → Phrase → Type 0} {ops : Tab
 fills_within {reads} {ops} {ls} (filled {next = next} {j} t e s g r) =
     let lt : next < length ls = goes_within ops j ls next Closes g (λ f. let h : Ends ≡ Closes = f in cc) in omega arith
 
-pub reading_of : (ops : Table) (names : List (List ℕ)) (text : List ℕ) (tokens : List Token) (at : ℕ) (c : HasLexemes names text tokens at) (r : Read)
+reading_of : (ops : Table) (names : List (List ℕ)) (text : List ℕ) (tokens : List Token) (at : ℕ) (c : HasLexemes names text tokens at) (r : Read)
     → IsReadAs ops c.lexemes c.vars (length text) at r → HasReading ops names text tokens at r
 reading_of ops names text tokens at c r h = record { clause = c; phrase = h.phrase; count = h.count; fills = h.fills; shallow = h.shallow; term = h.term; vars = h.names; start = h.start; next = h.next }
 
-pub fault_of : (ops : Table) (names : List (List ℕ)) (text : List ℕ) (tokens : List Token) (at : ℕ) (c : HasLexemes names text tokens at) (f : ReadFault)
+fault_of : (ops : Table) (names : List (List ℕ)) (text : List ℕ) (tokens : List Token) (at : ℕ) (c : HasLexemes names text tokens at) (f : ReadFault)
     → IsFaultIn ops c.lexemes (length text) f → IsReadFault ops names text tokens at f
 fault_of ops names text tokens at c (faults.NoTerm k) h = record { clause = c; fault = h }
 fault_of ops names text tokens at c (faults.Priority k) h = record { clause = c; fault = h }
@@ -47,3 +49,16 @@ fault_of ops names text tokens at c (faults.ArityOver k) h = record { clause = c
 fault_of ops names text tokens at c (faults.Wide k) h = record { clause = c; fault = h }
 fault_of ops names text tokens at c (faults.TooDeep k) h = record { clause = c; fault = h }
 fault_of ops names text tokens at c faults.Memory h = tt
+
+-- the lexemes stay under more names, and what they read as
+abbrev clause_under : (names more : List (List ℕ)) (text : List ℕ) (tokens : List Token) (at : ℕ) (ls : List Lexeme) (vars : List (List ℕ))
+    → LexemesAreNamed (length names) ls → AreLexemes names text (to_end (drop at tokens)) ls vars → HasLexemes (names ++ more) text tokens at
+clause_under names more text tokens at ls vars named are = record { lexemes = ls; vars = vars; are = lexemes_kept names (names ++ more) (length more) (more, refl, omega arith) named are }
+
+pub reading_under : (ops : Table) (names more : List (List ℕ)) (text : List ℕ) (tokens : List Token) (at : ℕ) (ls : List Lexeme) (vars : List (List ℕ)) (r : Read)
+    → LexemesAreNamed (length names) ls → AreLexemes names text (to_end (drop at tokens)) ls vars → IsReadAs ops ls vars (length text) at r → HasReading ops (names ++ more) text tokens at r
+reading_under ops names more text tokens at ls vars r named are h = reading_of ops (names ++ more) text tokens at (clause_under names more text tokens at ls vars named are) r h
+
+pub fault_under : (ops : Table) (names more : List (List ℕ)) (text : List ℕ) (tokens : List Token) (at : ℕ) (ls : List Lexeme) (vars : List (List ℕ)) (f : ReadFault)
+    → LexemesAreNamed (length names) ls → AreLexemes names text (to_end (drop at tokens)) ls vars → IsFaultIn ops ls (length text) f → IsReadFault ops (names ++ more) text tokens at f
+fault_under ops names more text tokens at ls vars f named are h = fault_of ops (names ++ more) text tokens at (clause_under names more text tokens at ls vars named are) f h

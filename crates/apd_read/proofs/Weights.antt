@@ -118,7 +118,7 @@ within_to_end m (t ∷ ts) h = (h.0, h.1, by (ends_clause t.kind) (within_to_end
     by true h = tt
     by false h = h
 
-filled_some : {ops : Table} {ls : List Lexeme} {n : ℕ} {p : Phrase} → Fills Splits ops ls Clause 0 p n → 1 ≤ n
+pub filled_some : {ops : Table} {ls : List Lexeme} {n : ℕ} {p : Phrase} → Fills Splits ops ls Clause 0 p n → 1 ≤ n
 filled_some (filled t e s g r) = omega arith
 
 pub term_few : (ops : Table) (names : List (List ℕ)) (text : List ℕ) (tokens : List Token) (at : ℕ) (c : HasLexemes names text tokens at) (p : Phrase) (n : ℕ) → HasTokens text tokens → Fills Splits ops c.lexemes Clause 0 p n → size p.term ≤ 2 * length text

@@ -1,5 +1,5 @@
 -- What the tokens of a clause stand for.
-use Rattle.std.specs.Prelude.{◌≡◌, ◌==◌, ℕ, ◌+◌, ◌<◌, ◌≤◌, ◌⊎◌, take, Bool, true, false, List, [], ◌∷◌, ◌++◌, length, if◌then◌else◌}
+use Rattle.std.specs.Prelude.{◌≡◌, ◌==◌, ℕ, ◌+◌, ◌<◌, ◌⊎◌, Bool, true, false, List, [], ◌∷◌, ◌++◌, length, if◌then◌else◌}
 use Rattle.std.specs.List.{slice_range}
 use Rattle.std.specs.Str.{chars}
 use Rattle.apd_term.specs.declared.term.NameId.{NameId}
@@ -12,9 +12,9 @@ use Rattle.apd_read.specs.declared.lexeme.Sort.{Sort}
 use Rattle.apd_read.specs.declared.lexeme.Sort.TheVariants as sorts
 use Rattle.apd_read.specs.declared.lexeme.Lexeme.{Lexeme}
 
--- the text is a name's, with this id
+-- the id is the text's number among the names, which is their count where it isn't one of them
 abbrev pub IsNameOf : List (List ℕ) → NameId → List ℕ → Type 0
-IsNameOf names f v = (f.0 ≡ number_of names v) × (f.0 < length names)
+IsNameOf names f v = f.0 ≡ number_of names v
 
 -- `_` alone is a new variable each time
 abbrev pub is_anonymous : List ℕ → Bool
@@ -66,10 +66,16 @@ abbrev pub to_end : List Token → List Token
 to_end [] = []
 to_end (t ∷ ts) = t ∷ (if ends_clause t.kind then [] else to_end ts)
 
--- the names stay, with at most so many more at their end
-pub record IsGrown (old : List (List ℕ)) (count : ℕ) (new : List (List ℕ)) : Type 0 where
-  pub kept : take (length old) new ≡ old
-  pub few : length new ≤ length old + count
+-- a name that the lexeme stands for has a number below n
+abbrev pub SortIsNamed : ℕ → Sort → Type 0
+SortIsNamed n (sorts.Name f) = f.0 < n
+SortIsNamed n (sorts.Quoted f) = f.0 < n
+SortIsNamed n _ = Unit {0}
+
+-- each name of the lexemes has one
+abbrev pub LexemesAreNamed : ℕ → List Lexeme → Type 0
+LexemesAreNamed n [] = Unit {0}
+LexemesAreNamed n (l ∷ ls) = SortIsNamed n l.sort × LexemesAreNamed n ls
 
 abbrev pub ends_sort : Sort → Bool
 ends_sort sorts.End = true

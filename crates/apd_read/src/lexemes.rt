@@ -1,6 +1,7 @@
 ghost use Rattle.std.specs.Prelude.{◌≡◌, ◌+◌, ◌-◌, ◌<◌, ◌≤◌, length, slice_range, IfOk, drop, ℕ, List};
 ghost use Rattle.apd_token.specs.Grammar.{IsTokenOf, HasTokens, HasText, ContentOf};
-ghost use Rattle.apd_read.specs.Lexemes.{IsNameOf, IsSort, AreLexemes, to_end, ends_clause, EndsLast, IsGrown};
+ghost use Rattle.apd_term.specs.Growth.{GrowsBy};
+ghost use Rattle.apd_read.specs.Lexemes.{IsNameOf, IsSort, AreLexemes, to_end, ends_clause, EndsLast, SortIsNamed, LexemesAreNamed};
 ghost use Rattle.apd_read.specs.Variables.{IsIndexed};
 
 use crate::codes::codes;
@@ -24,7 +25,8 @@ fn named(alloc: Global, names: &mut Names, text: &[u8], token: &Token) -> Result
     requires kind { HasText token.now.kind }
     requires room { length names.old < 4000000000 }
     ensures name { IfOk result (λ f. (v : List ℕ) × ContentOf token.now.kind (slice_range text.now token.now.start token.now.end) v × IsNameOf names.new f v) }
-    ensures grown { IsGrown names.old 1 names.new }
+    ensures named { IfOk result (λ f. f.0 < length names.new) }
+    ensures grown { GrowsBy 1 names.old names.new }
 {
     let value = content(alloc, text, token)?;
     let name = names.intern(value.bytes())?;
@@ -47,7 +49,8 @@ fn sort_of(
     requires indexed { IsIndexed vars.old.named vars.old.places.items vars.old.texts }
     ensures sort { IfOk result (λ s. IsSort token.now.kind names.new (slice_range text.now token.now.start token.now.end) vars.old.texts s vars.new.texts) }
     ensures indexed { IfOk result (λ _. IsIndexed vars.new.named vars.new.places.items vars.new.texts) }
-    ensures grown { IsGrown names.old 1 names.new }
+    ensures named { IfOk result (SortIsNamed (length names.new)) }
+    ensures grown { GrowsBy 1 names.old names.new }
 {
     match token.kind {
         Kind::Name => Ok(Sort::Name(named(alloc, names, text, token)?)),
@@ -96,9 +99,10 @@ pub(crate) fn lexemes(
     requires within { at ≤ length tokens.now }
     requires room { length names.old + (length tokens.now - at) < 4000000000 }
     ensures lexemes { IfOk result (λ c. AreLexemes names.new text.now (to_end (drop at tokens.now)) c.lexemes.items c.vars) }
+    ensures named { IfOk result (λ c. LexemesAreNamed (length names.new) c.lexemes.items) }
     ensures last { IfOk result (λ c. EndsLast c.lexemes.items) }
-    ensures grown { IfOk result (λ c. IsGrown names.old (length c.lexemes.items) names.new) }
-    ensures kept { IsGrown names.old (length tokens.now - at) names.new }
+    ensures grown { IfOk result (λ c. GrowsBy (length c.lexemes.items) names.old names.new) }
+    ensures kept { GrowsBy (length tokens.now - at) names.old names.new }
 {
     let mut lexemes = Vec::new(alloc);
     let mut vars = Variables::new(alloc);

@@ -1,10 +1,12 @@
-ghost use Rattle.std.specs.Prelude.{◌≡◌, ◌+◌, ◌-◌, ◌*◌, ◌<◌, ◌≤◌, ℕ, length, List, Some, IfOk, IfErr, slice_get, Result, Err};
-ghost use Rattle.apd_term.specs.Term.{size};
+ghost use Rattle.std.specs.Prelude.{◌≡◌, ◌+◌, ◌-◌, ◌*◌, ◌<◌, ◌≤◌, ℕ, length, List, ◌++◌, Some, IfOk, IfErr, slice_get, Result, Err};
+ghost use Rattle.apd_term.specs.Term.{size, Occurs};
+ghost use Rattle.apd_term.specs.Growth.{GrowsBy};
+ghost use Rattle.apd_term.specs.Named.{IsNamed};
+ghost use Rattle.apd_term.specs.StandardNames.{standard_names};
 ghost use Rattle.apd_token.specs.Grammar.{HasTokens};
 ghost use Rattle.apd_token.specs.declared.items.Token.{Token};
 ghost use Rattle.apd_read.specs.Reading.{Splits};
 ghost use Rattle.apd_read.specs.Clause.{IsReading, IsOnly};
-ghost use Rattle.apd_read.specs.Lexemes.{IsGrown};
 ghost use Rattle.apd_read.specs.Answer.{HasReading, IsReadFault, IsFaultIn, IsReadAs, place_of, placed};
 ghost use Rattle.apd_read.specs.declared.lexeme.Lexeme.{Lexeme};
 ghost use Rattle.apd_read.specs.declared.brackets.Whole.{Whole};
@@ -94,8 +96,9 @@ fn answer(alloc: Global, ops: &Ops, clause: Clause, at: usize, end: u32) -> Resu
 /// Variables are numbered from 1 by their first places in the clause, and each `_` is a new one. A
 /// fault is the first one from the left; `TooDeep` comes only where there is no other. `Memory` is
 /// the one answer that any clause may get. New names are put at the end of the names, at most one
-/// for each token from that one on, also where a fault is told. The term has at most twice as many symbols as the
-/// text has bytes.
+/// for each token from that one on, also where a fault is told; names that come later change no
+/// answer. The term has at most twice as many symbols as the text has bytes, and its names are among
+/// these if the standard ones were.
 pub fn read_clause(
     alloc: Global,
     ops: &Ops,
@@ -108,11 +111,15 @@ pub fn read_clause(
     requires tokens { HasTokens text.now tokens.now }
     requires within { at < length tokens.now }
     requires room { (t : Token) → slice_get tokens.now at ≡ Some t → length names.old + (length text.now - t.start) < 4000000000 }
-    ensures ok { IfOk result (HasReading ops.now names.new text.now tokens.now at) }
-    ensures err { IfErr result (IsReadFault ops.now names.new text.now tokens.now at) }
+    ensures ok { IfOk result (λ r. (more : List (List ℕ)) → HasReading ops.now (names.new ++ more) text.now tokens.now at r) }
+    ensures err { IfErr result (λ f. (more : List (List ℕ)) → IsReadFault ops.now (names.new ++ more) text.now tokens.now at f) }
     ensures size { IfOk result (λ r. size r.term ≤ 2 * length text.now) }
-    ensures names { IfOk result (λ r. IsGrown names.old (r.next - at) names.new) }
-    ensures kept { IsGrown names.old (length tokens.now - at) names.new }
+    ensures forward { IfOk result (λ r. (at < r.next) × (r.next ≤ length tokens.now)) }
+    ensures few_vars { IfOk result (λ r. length r.vars ≤ length text.now) }
+    ensures vars { IfOk result (λ r. (v : ℕ) → Occurs v r.term → (1 ≤ v) × (v ≤ length r.vars)) }
+    ensures named { length standard_names ≤ length names.old → IfOk result (λ r. IsNamed (length names.new) r.term) }
+    ensures names { IfOk result (λ r. GrowsBy (r.next - at) names.old names.new) }
+    ensures kept { GrowsBy (length tokens.now - at) names.old names.new }
 {
     let clause = lexemes(alloc, names, text, tokens.as_slice(), at)?;
     match answer(alloc, ops, clause, at, text.len() as u32) {

@@ -7,7 +7,7 @@ use Rattle.apd_term.specs.declared.run.Query.{Query}
 use Rattle.apd_ports.specs.declared.filter.Filter.{Filter}
 use Rattle.apd_text.specs.Entries.{with_end}
 use Rattle.apd_text.specs.declared.entry.Entry.{Entry}
-use Rattle.apd_text.specs.declared.entry.Entry.TheVariants.{Warning, Loaded, Run, Refused, UsageRefused, ProgramRefused, FileTooLong, InputFault, InputOver}
+use Rattle.apd_text.specs.declared.entry.Entry.TheVariants.{PassedOver, Warning, Loaded, Run, Refused, UsageRefused, ProgramRefused, FileTooLong, InputFault, InputOver}
 
 pub last_is : (items before : List Entry) (x d : Entry) (n : ℕ) → items ≡ before ++ x ∷ [] → n ≡ length items → get_or items (n - 1) d ≡ x
 last_is items before x d n is size =
@@ -23,6 +23,7 @@ set_last items before x y n is size =
 
 -- any other entry stays
 pub with_end-other : (ran : Ran) (e : Entry) → ((q : Query) (b a : ℕ) (f : Filter) (s : Option Ran) → e ≡ Run q b a f s → ⊥) → with_end ran e ≡ e
+with_end-other ran (PassedOver line pred) not = refl
 with_end-other ran (Warning line pred) not = refl
 with_end-other ran (Loaded clauses) not = refl
 with_end-other ran (Run query budget answers filter end) not = absurd (not query budget answers filter end refl)

@@ -1,6 +1,6 @@
-pub mod Written
-pub mod Pieces
+pub mod Causes
 pub mod Entries
+pub mod EntryList
 pub mod Named
 pub mod Lines
 pub mod Elements

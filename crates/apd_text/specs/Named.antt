@@ -1,16 +1,33 @@
 -- Entries whose names are among the first n names.
 use Rattle.std.specs.Prelude.{ℕ, ◌<◌}
 use Rattle.apd_term.specs.Named.{TupleIsNamed}
+use Rattle.apd_term.specs.declared.faults.LoadCause.{LoadCause}
+use Rattle.apd_term.specs.declared.faults.LoadCause.TheVariants.{Body}
+use Rattle.apd_term.specs.declared.faults.BodyFault.{BodyFault}
+use Rattle.apd_term.specs.declared.faults.BodyFault.TheVariants.{HeadIsBuiltin, Impure}
+use Rattle.apd_text.specs.declared.entry.Refusal.{Refusal}
+use Rattle.apd_text.specs.declared.entry.Refusal.TheVariants.{Syntax, GoalRefused}
 use Rattle.apd_text.specs.declared.entry.Entry.{Entry}
-use Rattle.apd_text.specs.declared.entry.Entry.TheVariants.{Warning, Loaded, Run, Refused, UsageRefused, ProgramRefused, FileTooLong, InputFault, InputOver}
+use Rattle.apd_text.specs.declared.entry.Entry.TheVariants.{PassedOver, Warning, Run, Refused, ProgramRefused}
+
+abbrev pub FaultIsNamed : ℕ → BodyFault → Type 0
+FaultIsNamed n (HeadIsBuiltin pred) = pred.name.0 < n
+FaultIsNamed n (Impure pred) = pred.name.0 < n
+FaultIsNamed n fault = Unit {0}
+
+abbrev pub CauseIsNamed : ℕ → LoadCause → Type 0
+CauseIsNamed n (Body fault) = FaultIsNamed n fault
+CauseIsNamed n cause = Unit {0}
+
+abbrev pub RefusalIsNamed : ℕ → Refusal → Type 0
+RefusalIsNamed n (Syntax cause) = CauseIsNamed n cause
+RefusalIsNamed n (GoalRefused fault) = FaultIsNamed n fault
+RefusalIsNamed n refusal = Unit {0}
 
 abbrev pub EntryIsNamed : ℕ → Entry → Type 0
+EntryIsNamed n (PassedOver line pred) = pred.name.0 < n
 EntryIsNamed n (Warning line pred) = pred.name.0 < n
-EntryIsNamed n (Loaded clauses) = Unit {0}
 EntryIsNamed n (Run query budget answers filter end) = TupleIsNamed n query.tuple
-EntryIsNamed n (Refused r) = Unit {0}
-EntryIsNamed n UsageRefused = Unit {0}
-EntryIsNamed n (ProgramRefused line cause) = Unit {0}
-EntryIsNamed n (FileTooLong length) = Unit {0}
-EntryIsNamed n InputFault = Unit {0}
-EntryIsNamed n InputOver = Unit {0}
+EntryIsNamed n (Refused r) = RefusalIsNamed n r
+EntryIsNamed n (ProgramRefused line cause) = CauseIsNamed n cause
+EntryIsNamed n entry = Unit {0}

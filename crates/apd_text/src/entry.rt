@@ -1,7 +1,7 @@
 //! What a session says, as data.
 
 use apd_ports::Filter;
-use apd_term::faults::LoadCause;
+use apd_term::faults::{BodyFault, LoadCause};
 use apd_term::{Pred, Query, Ran};
 
 /// Why a command was refused.
@@ -9,11 +9,24 @@ use apd_term::{Pred, Query, Ran};
 pub enum Refusal {
     /// The line is not of a form that is read.
     NotBuilt,
+    /// The line has no reading: a token's or a reading's fault, at its byte in the line, counted from 0.
+    Syntax(LoadCause),
+    /// The line has more bytes than are read.
+    TooLong,
+    /// The term is no command.
+    NotACommand,
+    /// The term of a query is refused for this fault.
+    GoalRefused(BodyFault),
 }
 
 /// One thing that a session says.
 #[derive(Drop)]
 pub enum Entry {
+    /// A directive of this predicate, in this line of the program, counted from 1, was passed over.
+    PassedOver {
+        line: u32,
+        pred: Pred,
+    },
     /// A predicate is called and has no clauses: by the clause in this line of the program, counted from 1, or by a query.
     Warning {
         line: Option<u32>,

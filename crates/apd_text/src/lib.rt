@@ -1,11 +1,12 @@
 //! The log of a session: its entries as data, and the text of each.
 //!
 //! Every line that a session prints is the text of an entry, or a line of a run: its goals, a port (Byrd 1980), an
-//! answer or its end. Each text ends with a newline, and each number is decimal. Terms are written in functional notation
-//! (ISO/IEC 13211-1, section 6.3.3), with each name as it is kept, without quotes. Want of memory is the one error.
+//! answer or its end. Each text ends with a newline, and each number is decimal. Terms are written by a table of operators
+//! as Prolog reads them (ISO/IEC 13211-1, section 7.10.5). Want of memory is the one error.
 #![tactic(auto)]
 
 mod answer;
+mod causes;
 mod elements;
 mod end;
 mod entry;
@@ -15,7 +16,6 @@ mod log;
 pub mod plain;
 mod port;
 mod text;
-mod written;
 
 pub use answer::answer_line;
 pub use end::end_line;
@@ -24,7 +24,6 @@ pub use head::head_line;
 pub use log::{Entries, Log};
 pub use port::port_line;
 pub use text::text_of;
-pub use written::write_term;
 
 #[cfg(test)]
 mod tests;

@@ -1,11 +1,14 @@
 //! The text of each entry but a run.
 
-ghost use Rattle.std.specs.Prelude.{◌≡◌, ◌++◌, OnOk, OnErr, IfOk, codes};
+ghost use Rattle.std.specs.Prelude.{◌≡◌, ◌++◌, OnOk, OnErr, IfOk, Some, codes};
 ghost use Rattle.std.specs.Fmt.{decimal};
-ghost use Rattle.apd_text.specs.Entries.{text_of, cause_name, refusal_text, in_line, indicator, usage};
+ghost use Rattle.apd_text.specs.Causes.{indicator, cause_text};
+ghost use Rattle.apd_text.specs.Entries.{text_of, refusal_text, in_line, at_byte, usage};
 
+use crate::causes::{add_body_fault, add_cause, add_indicator, cause_place};
 use crate::entry::{Entry, Refusal};
 use crate::line::add_number;
+use apd_ops::Ops;
 use apd_term::faults::LoadCause;
 use apd_term::names::Names;
 use apd_term::{Pred, Text};
@@ -15,55 +18,73 @@ use std::alloc::{AllocError, Global};
 const USAGE: &[u8] =
     b"usage: apd [--budget N] [--answers N] [--trace] [--strategy divide|single|top] [--oracle FILE] PROGRAM or apd --demo N\n";
 
-/// The variant's name.
-fn cause_name(cause: LoadCause) -> &'static [u8]
-    ensures { result.now ≡ cause_name cause }
+/// Adds `line L: `.
+fn add_line(alloc: Global, line: u32, out: &mut Text) -> Result<(), AllocError>
+    ensures { OnOk result (out.new ≡ out.old ++ in_line (Some line)) }
 {
-    match cause {
-        LoadCause::NotBuilt => b"NotBuilt",
-        LoadCause::ClausesOver => b"ClausesOver",
-    }
+    out.extend(b"line ")?;
+    add_number(alloc, line as u64, out)?;
+    out.extend(b": ")?;
+    Ok(())
 }
 
-fn refusal_text(refusal: Refusal) -> &'static [u8]
-    ensures { result.now ≡ refusal_text refusal }
+/// Adds ` at byte N`, where there is a place.
+fn add_place(alloc: Global, place: Option<u32>, out: &mut Text) -> Result<(), AllocError>
+    ensures { OnOk result (out.new ≡ out.old ++ at_byte place) }
+{
+    if let Some(place) = place {
+        out.extend(b" at byte ")?;
+        add_number(alloc, place as u64, out)?;
+    }
+    Ok(())
+}
+
+/// Adds why a command is refused.
+fn add_refusal(
+    alloc: Global,
+    names: &Names,
+    refusal: Refusal,
+    out: &mut Text,
+) -> Result<(), AllocError>
+    ensures { OnOk result (out.new ≡ out.old ++ refusal_text names.now refusal) }
 {
     match refusal {
-        Refusal::NotBuilt => b"E0 not built\n",
+        Refusal::NotBuilt => out.extend(b"E0 not built"),
+        Refusal::Syntax(cause) => {
+            out.extend(b"E1 syntax: ")?;
+            add_cause(alloc, names, cause, out)?;
+            add_place(alloc, cause_place(cause), out)
+        }
+        Refusal::TooLong => out.extend(b"E2 too long"),
+        Refusal::NotACommand => out.extend(b"E3 not a command"),
+        Refusal::GoalRefused(fault) => {
+            out.extend(b"E4 goal refused: ")?;
+            add_body_fault(alloc, names, fault, out)
+        }
     }
 }
 
-/// A predicate's name, `/` and the number of its arguments.
-fn indicator(alloc: Global, names: &Names, pred: &Pred) -> Result<Text, AllocError>
-    ensures { IfOk result (λ t. t ≡ indicator names.now pred.now) }
+/// The line that tells of a directive that was passed over.
+fn passed_over(alloc: Global, names: &Names, line: u32, pred: Pred) -> Result<Text, AllocError>
+    ensures { IfOk result (λ t. t ≡ codes "passed over: " ++ in_line (Some line) ++ indicator names.now pred ++ codes "\n") }
 {
-    let mut text = Text::copy_of(alloc, names.text(pred.name))?;
-    text.extend(b"/")?;
-    add_number(alloc, pred.arity as u64, &mut text)?;
-    Ok(text)
-}
-
-/// What a warning says of the line of the clause.
-fn in_line(alloc: Global, line: Option<u32>) -> Result<Text, AllocError>
-    ensures { IfOk result (λ t. t ≡ in_line line) }
-{
-    let Some(line) = line else {
-        return Ok(Text::new(alloc));
-    };
-    let mut text = Text::copy_of(alloc, b"line ")?;
-    add_number(alloc, line as u64, &mut text)?;
-    text.extend(b": ")?;
+    let mut text = Text::copy_of(alloc, b"passed over: ")?;
+    add_line(alloc, line, &mut text)?;
+    add_indicator(alloc, names, pred, &mut text)?;
+    text.extend(b"\n")?;
     Ok(text)
 }
 
 /// The line that tells of a predicate without clauses.
-fn warning(alloc: Global, names: &Names, line: Option<u32>, pred: &Pred) -> Result<Text, AllocError>
-    ensures { IfOk result (λ t. t ≡ codes "warning: " ++ in_line line ++ codes "no clauses for " ++ indicator names.now pred.now ++ codes "\n") }
+fn warning(alloc: Global, names: &Names, line: Option<u32>, pred: Pred) -> Result<Text, AllocError>
+    ensures { IfOk result (λ t. t ≡ codes "warning: " ++ in_line line ++ codes "no clauses for " ++ indicator names.now pred ++ codes "\n") }
 {
     let mut text = Text::copy_of(alloc, b"warning: ")?;
-    text.extend(in_line(alloc, line)?.bytes())?;
+    if let Some(line) = line {
+        add_line(alloc, line, &mut text)?;
+    }
     text.extend(b"no clauses for ")?;
-    text.extend(indicator(alloc, names, pred)?.bytes())?;
+    add_indicator(alloc, names, pred, &mut text)?;
     text.extend(b"\n")?;
     Ok(text)
 }
@@ -78,48 +99,64 @@ fn loaded(alloc: Global, clauses: u32) -> Result<Text, AllocError>
     Ok(text)
 }
 
-/// The line that tells where and why a program is refused.
-fn program_refused(alloc: Global, line: u32, cause: LoadCause) -> Result<Text, AllocError>
-    ensures { IfOk result (λ t. t ≡ codes "program refused: line " ++ decimal line ++ codes ": " ++ cause_name cause ++ codes "\n") }
+/// The line that tells why a command is refused.
+fn refused(alloc: Global, names: &Names, refusal: Refusal) -> Result<Text, AllocError>
+    ensures { IfOk result (λ t. t ≡ refusal_text names.now refusal ++ codes "\n") }
 {
-    let mut text = Text::copy_of(alloc, b"program refused: line ")?;
-    add_number(alloc, line as u64, &mut text)?;
-    text.extend(b": ")?;
-    text.extend(cause_name(cause))?;
+    let mut text = Text::new(alloc);
+    add_refusal(alloc, names, refusal, &mut text)?;
+    text.extend(b"\n")?;
+    Ok(text)
+}
+
+/// The line that tells where and why a program is refused.
+fn program_refused(
+    alloc: Global,
+    names: &Names,
+    line: u32,
+    cause: LoadCause,
+) -> Result<Text, AllocError>
+    ensures { IfOk result (λ t. t ≡ codes "program refused: " ++ in_line (Some line) ++ cause_text names.now cause ++ codes "\n") }
+{
+    let mut text = Text::copy_of(alloc, b"program refused: ")?;
+    add_line(alloc, line, &mut text)?;
+    add_cause(alloc, names, cause, &mut text)?;
     text.extend(b"\n")?;
     Ok(text)
 }
 
 /// The text of an entry by itself.
 #[tactic(auto, unfolding(crate::specs::Entries::text_of, crate::specs::Entries::usage))]
-fn entry_text(alloc: Global, entry: &Entry, names: &Names) -> Result<Text, AllocError>
-    ensures { IfOk result (λ t. t ≡ text_of names.now entry.now) }
+fn entry_text(alloc: Global, entry: &Entry, names: &Names, ops: &Ops) -> Result<Text, AllocError>
+    ensures { IfOk result (λ t. t ≡ text_of ops.now names.now entry.now) }
 {
     match entry {
-        Entry::Warning { line, pred } => warning(alloc, names, *line, pred),
+        Entry::PassedOver { line, pred } => passed_over(alloc, names, *line, *pred),
+        Entry::Warning { line, pred } => warning(alloc, names, *line, *pred),
         Entry::Loaded { clauses } => loaded(alloc, *clauses),
         Entry::Run { .. } => Ok(Text::new(alloc)),
-        Entry::Refused { refusal } => Text::copy_of(alloc, refusal_text(*refusal)),
+        Entry::Refused { refusal } => refused(alloc, names, *refusal),
         Entry::UsageRefused => Text::copy_of(alloc, USAGE),
-        Entry::ProgramRefused { line, cause } => program_refused(alloc, *line, *cause),
+        Entry::ProgramRefused { line, cause } => program_refused(alloc, names, *line, *cause),
         Entry::FileTooLong { length: _ } => Text::copy_of(alloc, b"file too long\n"),
         Entry::InputFault => Text::copy_of(alloc, b"read fault\n"),
         Entry::InputOver => Text::copy_of(alloc, b"input limit\n"),
     }
 }
 
-/// Adds the text of an entry; of a run it adds nothing, since its lines are written while it goes.
-/// After want of memory the text is as before.
+/// Adds the text of an entry, whose terms are written by the operators; of a run it adds nothing, since its lines are
+/// written while it goes. After want of memory the text is as before.
 pub fn text_of(
     alloc: Global,
     entry: &Entry,
     names: &Names,
+    ops: &Ops,
     out: &mut Text,
 ) -> Result<(), AllocError>
-    ensures text { OnOk result (out.new ≡ out.old ++ text_of names.now entry.now) }
+    ensures text { OnOk result (out.new ≡ out.old ++ text_of ops.now names.now entry.now) }
     ensures same { OnErr result (out.new ≡ out.old) }
 {
-    let text = entry_text(alloc, entry, names)?;
+    let text = entry_text(alloc, entry, names, ops)?;
     out.extend(text.bytes())?;
     Ok(())
 }

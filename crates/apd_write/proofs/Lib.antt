@@ -3,3 +3,4 @@ pub mod Frames
 pub mod Opened
 pub mod Closed
 pub mod Standing
+pub mod MoreNames

@@ -4,6 +4,8 @@ use Rattle.apd_read.proofs.Growing.{is_name_of}
 use Rattle.apd_read.proofs.lexemes.named.Goals as goal
 
 pub returns-clause-name : goal.returns-clause-name
-returns-clause-name c =
-    let value = c.in_ok-value.value in
-    (value, c.in_ok-value.ensures, is_name_of c.args.names.now c.intern.new.self value c.in_ok-name.name (c.in_ok-name.ensures.names ∙ ap (with_name c.args.names.now) c.bytes.ensures) (rw c.bytes.ensures at c.in_ok-name.ensures.id))
+returns-clause-name c = (c.in_ok-value.value, c.in_ok-value.ensures, rw c.bytes.ensures at c.in_ok-name.ensures.id)
+
+pub returns-clause-named : goal.returns-clause-named
+returns-clause-named c =
+    is_name_of c.args.names.now c.intern.new.self c.in_ok-value.value c.in_ok-name.name (c.in_ok-name.ensures.names ∙ ap (with_name c.args.names.now) c.bytes.ensures) (rw c.bytes.ensures at c.in_ok-name.ensures.id)

@@ -1,5 +1,5 @@
 pub mod Saying
-pub mod Warning
+pub mod Noting
 pub mod Printing
 pub mod Passing
 pub mod Running

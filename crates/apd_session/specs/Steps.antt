@@ -11,14 +11,14 @@ use Rattle.apd_load.specs.declared.Note.{Note}
 use Rattle.apd_load.specs.Warnings.{query_warnings}
 use Rattle.apd_text.specs.Entries.{text_of}
 use Rattle.apd_text.specs.declared.entry.Entry.{Entry}
-use Rattle.apd_text.specs.declared.entry.Entry.TheVariants.{PassedOver, Warning, Loaded, Run, Refused, UsageRefused, ProgramRefused, FileTooLong, InputFault, InputOver}
+use Rattle.apd_text.specs.declared.entry.Entry.TheVariants.{PassedOver, Warning, Loaded, Run, Refused, InputFault, InputOver}
 use Rattle.apd_session.specs.Commands.{command_in}
 use Rattle.apd_session.specs.Runs.{run_said}
 use Rattle.apd_session.specs.declared.commands.Command.{Command}
 use Rattle.apd_session.specs.declared.commands.Command.TheVariants as command
 use Rattle.apd_session.specs.declared.state.State.{State}
-use Rattle.apd_session.specs.declared.warnings.Caller.{Caller}
-use Rattle.apd_session.specs.declared.warnings.Caller.TheVariants as callers
+use Rattle.apd_session.specs.declared.notes.Noted.{Noted}
+use Rattle.apd_session.specs.declared.notes.Noted.TheVariants as noted
 
 -- an entry whose text follows from it alone
 abbrev pub plain : Table → List (List ℕ) → Entry → Utterance Entry
@@ -26,37 +26,26 @@ plain ops names entry = record { entry = entry; text = text_of ops names entry }
 
 -- an entry while its text is printed: the end of a run is set when it has ended
 abbrev pub begun : Entry → Entry
-begun (PassedOver line pred) = PassedOver line pred
-begun (Warning line pred) = Warning line pred
-begun (Loaded clauses) = Loaded clauses
 begun (Run query budget answers filter end) = Run query budget answers filter None
-begun (Refused r) = Refused r
-begun UsageRefused = UsageRefused
-begun (ProgramRefused line cause) = ProgramRefused line cause
-begun (FileTooLong n) = FileTooLong n
-begun InputFault = InputFault
-begun InputOver = InputOver
+begun entry = entry
 
--- the line that a warning tells: that of the clause that calls, and none where a query calls
-abbrev pub line_told : Caller → Note → Option ℕ
-line_told callers.Clause n = Some n.line
-line_told callers.Query n = None
+-- what is said of a predicate that is noted with a line
+abbrev pub remark : Noted → Note → Entry
+remark noted.PassedOver n = PassedOver n.line n.pred
+remark noted.Called n = Warning (Some n.line) n.pred
+remark noted.Asked n = Warning None n.pred
 
--- a warning for each note
-abbrev pub warned : Table → List (List ℕ) → Caller → List Note → List (Utterance Entry)
-warned ops names caller notes = map (λ (n : Note). plain ops names (Warning (line_told caller n) n.pred)) notes
+-- a remark on each note
+abbrev pub remarks : Table → List (List ℕ) → Noted → List Note → List (Utterance Entry)
+remarks ops names why notes = map (λ (n : Note). plain ops names (remark why n)) notes
 
--- the directives that were passed over
-abbrev pub passed_over : Table → List (List ℕ) → List Note → List (Utterance Entry)
-passed_over ops names notes = map (λ (n : Note). plain ops names (PassedOver n.line n.pred)) notes
-
--- the directives of a program that were passed over, its warnings, and that it is loaded
+-- the directives of a program that were passed over, the predicates that its clauses call and that have no clauses, and that it is loaded
 unfoldable pub load_said : Table → List (List ℕ) → List Clause → List Note → List Note → List (Utterance Entry)
-load_said ops names program passed notes = passed_over ops names passed ++ (warned ops names callers.Clause notes ++ plain ops names (Loaded (length program)) ∷ [])
+load_said ops names program passed called = remarks ops names noted.PassedOver passed ++ (remarks ops names noted.Called called ++ plain ops names (Loaded (length program)) ∷ [])
 
--- a warning for each predicate that the query calls and that has no clauses
+-- the predicates that the query calls and that have no clauses
 unfoldable pub warnings_for : Table → List (List ℕ) → List Clause → Query → List (Utterance Entry)
-warnings_for ops names program q = warned ops names callers.Query (query_warnings program q.tuple.body)
+warnings_for ops names program q = remarks ops names noted.Asked (query_warnings program q.tuple.body)
 
 -- a query's warnings and its run
 unfoldable pub query_said : Table → List (List ℕ) → State → Query → List (Utterance Entry)

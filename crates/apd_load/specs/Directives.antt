@@ -10,7 +10,8 @@ use Rattle.apd_term.specs.declared.faults.OpCause.{OpCause}
 use Rattle.apd_term.specs.declared.faults.OpCause.TheVariants.{BadPriority, Postfix, BadKind, BadName, Fixed, Clash}
 use Rattle.apd_ops.specs.declared.op.OpKind.{OpKind}
 use Rattle.apd_ops.specs.declared.op.OpKind.TheVariants.{Xfx, Xfy, Yfx, Fx, Fy}
-use Rattle.apd_ops.specs.Table.{Table, is_fixed, would_clash, defined}
+use Rattle.apd_ops.specs.Table.{Table, defined}
+use Rattle.apd_ops.specs.Definition.{is_fixed, has_clash}
 
 -- the priority that a term tells: an integer from 0 to 1200
 abbrev pub priority_from : Term → Result ℕ OpCause
@@ -66,7 +67,7 @@ names_from t = names_or (listed_names t)
 
 -- the operators after the definition of a name
 abbrev pub define_one : Table → ℕ → OpKind → NameId → Result Table OpCause
-define_one ops p k f = if is_fixed f then Err Fixed else (if would_clash ops p k f.0 then Err Clash else Ok (defined ops p k f.0))
+define_one ops p k f = if is_fixed f then Err Fixed else (if has_clash (defined ops p k f.0) then Err Clash else Ok (defined ops p k f.0))
 
 -- the names are defined in turn
 abbrev pub define_all : Table → ℕ → OpKind → List NameId → Result Table OpCause

@@ -1,13 +1,14 @@
 -- When a definition would make two operators clash.
-use Rattle.std.proofs.Common.{◌≡◌, ℕ, ◌≤◌, List, Bool, true, false, Option, None, Some, ◌⊎◌, inl, inr, refl, sym, ◌∙◌, ap, subst, arith, eq-eqb}
-use borrow.Author.Tests.{eqb-true, eqb-false}
+use Rattle.std.proofs.Common.{◌≡◌, ℕ, ◌≤◌, Bool, true, false, Option, None, Some, ◌⊎◌, inl, inr, refl, sym, ◌∙◌, ap, subst, arith, eq-eqb}
+use borrow.Author.Tests.{eqb-true}
 use Rattle.std.specs.Prelude.{nat_eq, ◌||◌, ◌&&◌, not, if◌then◌else◌, IsTrue}
 use Rattle.std.specs.List.{list_any, IsDistinct}
 use Rattle.std.specs.Map.{keys_of}
 use Rattle.apd_ops.specs.declared.op.OpKind.{OpKind}
 use Rattle.apd_ops.specs.declared.op.OpKind.TheVariants.{Xfx, Xfy, Yfx, Fx, Fy}
-use Rattle.apd_ops.specs.Operators.{is_prefix_kind, prefix_kind, infix_kind, right_kind, groups_right, groups_left}
-use Rattle.apd_ops.specs.Table.{Meaning, Table, prefix_in, infix_in, HasClash, IsTable, given, prefixes_after, infixes_after, WouldClash, clashes, clashes_unless, Sets, Defines}
+use Rattle.apd_ops.specs.Operators.{is_prefix_kind, prefix_kind, right_kind, groups_right, groups_left}
+use Rattle.apd_ops.specs.Table.{Meaning, Table, prefix_in, infix_in, IsTable, WouldClash, defined, clashes, clashes_unless}
+use Rattle.apd_ops.proofs.Looked.{Lists, table_of, meaning_at, given, prefix_at, infix_at}
 use Rattle.apd_ops.proofs.Entries.{any_found, any_of, lookup_among, among_lookup}
 
 -- a meaning after the definition is the new one or an old one of another name or place
@@ -20,7 +21,13 @@ module _ (b : Bool) (f g p : ℕ) (k : OpKind) (m : Meaning) (old : Option Meani
       by true false e = inr (refl, e)
       by false d e = inr (refl, e)
 
-given_is : (p : ℕ) (k : OpKind) (m : Meaning) → given p k ≡ Some m → (p, k) ≡ m
+pub which_prefix : (t : Table) (p : ℕ) (k : OpKind) (f g : ℕ) (m : Meaning) → prefix_in (defined t p k f) g ≡ Some m → ((is_prefix_kind k ≡ true) × (given p k ≡ Some m)) ⊎ (((is_prefix_kind k && nat_eq f g) ≡ false) × (prefix_in t g ≡ Some m))
+which_prefix t p k f g m h = which (is_prefix_kind k) f g p k m (prefix_in t g) (sym (prefix_at t p k f g) ∙ h)
+
+pub which_infix : (t : Table) (p : ℕ) (k : OpKind) (f g : ℕ) (m : Meaning) → infix_in (defined t p k f) g ≡ Some m → ((not (is_prefix_kind k) ≡ true) × (given p k ≡ Some m)) ⊎ (((not (is_prefix_kind k) && nat_eq f g) ≡ false) × (infix_in t g ≡ Some m))
+which_infix t p k f g m h = which (not (is_prefix_kind k)) f g p k m (infix_in t g) (sym (infix_at t p k f g) ∙ h)
+
+pub given_is : (p : ℕ) (k : OpKind) (m : Meaning) → given p k ≡ Some m → (p, k) ≡ m
 given_is p k m h = by (nat_eq p 0) h
   where
     by : (b : Bool) → (if b then None else Some (p, k)) ≡ Some m → (p, k) ≡ m
@@ -78,7 +85,7 @@ unless skip guard c f g free is = step (skip && nat_eq f g) c free is
     step false false x y = absurd cc
 
 -- any entry of the map that clashes
-abbrev pub any_clash : Table → ℕ → OpKind → ℕ → Bool
+abbrev pub any_clash : Lists → ℕ → OpKind → ℕ → Bool
 any_clash t p k f = list_any (clashes_unless (is_prefix_kind k) f (p, k)) t.prefixes || list_any (clashes_unless (not (is_prefix_kind k)) f (p, k)) t.infixes
 
 or_left : (a b : Bool) → a ≡ true → (a || b) ≡ true
@@ -89,11 +96,11 @@ or_right : (a b : Bool) → b ≡ true → (a || b) ≡ true
 or_right true b h = refl
 or_right false b h = h
 
-in_prefixes : (t : Table) (p : ℕ) (k : OpKind) (f g : ℕ) (m : Meaning) → prefix_in t g ≡ Some m → (is_prefix_kind k && nat_eq f g) ≡ false → clashes (p, k) m ≡ true → any_clash t p k f ≡ true
-in_prefixes t p k f g m there free is = or_left _ _ (any_of (clashes_unless (is_prefix_kind k) f (p, k)) t.prefixes (g, m) (lookup_among g t.prefixes m there) (unless (is_prefix_kind k) true (clashes (p, k) m) f g free is))
+in_prefixes : (t : Lists) (p : ℕ) (k : OpKind) (f g : ℕ) (m : Meaning) → prefix_in (table_of t) g ≡ Some m → (is_prefix_kind k && nat_eq f g) ≡ false → clashes (p, k) m ≡ true → any_clash t p k f ≡ true
+in_prefixes t p k f g m there free is = or_left _ _ (any_of (clashes_unless (is_prefix_kind k) f (p, k)) t.prefixes (g, m) (lookup_among g t.prefixes m (sym (meaning_at t.prefixes g) ∙ there)) (unless (is_prefix_kind k) true (clashes (p, k) m) f g free is))
 
-in_infixes : (t : Table) (p : ℕ) (k : OpKind) (f g : ℕ) (m : Meaning) → infix_in t g ≡ Some m → (not (is_prefix_kind k) && nat_eq f g) ≡ false → clashes (p, k) m ≡ true → any_clash t p k f ≡ true
-in_infixes t p k f g m there free is = or_right _ _ (any_of (clashes_unless (not (is_prefix_kind k)) f (p, k)) t.infixes (g, m) (lookup_among g t.infixes m there) (unless (not (is_prefix_kind k)) true (clashes (p, k) m) f g free is))
+in_infixes : (t : Lists) (p : ℕ) (k : OpKind) (f g : ℕ) (m : Meaning) → infix_in (table_of t) g ≡ Some m → (not (is_prefix_kind k) && nat_eq f g) ≡ false → clashes (p, k) m ≡ true → any_clash t p k f ≡ true
+in_infixes t p k f g m there free is = or_right _ _ (any_of (clashes_unless (not (is_prefix_kind k)) f (p, k)) t.infixes (g, m) (lookup_among g t.infixes m (sym (meaning_at t.infixes g) ∙ there)) (unless (not (is_prefix_kind k)) true (clashes (p, k) m) f g free is))
 
 right_not_yfx : (k : OpKind) → right_kind k → k ≡ Yfx → ⊥
 right_not_yfx k r e = subst right_kind e r
@@ -103,34 +110,34 @@ not_both true x y = cc
 not_both false x y = cc
 
 -- the new operator is the one that groups to the left
-new_left : (t : Table) (p : ℕ) (k : OpKind) (f : ℕ) (h : HasClash (prefixes_after t p k f) (infixes_after t p k f)) → not (is_prefix_kind k) ≡ true → (p, k) ≡ h.grouping → any_clash t p k f ≡ true
+new_left : (t : Lists) (p : ℕ) (k : OpKind) (f : ℕ) (h : WouldClash (table_of t) p k f) → not (is_prefix_kind k) ≡ true → (p, k) ≡ h.grouping → any_clash t p k f ≡ true
 new_left t p k f h is_new same =
     let left : k ≡ Yfx = ap (λ (m : Meaning). m.1) same ∙ h.clash.to_left in
     let level : h.meaning.0 ≡ p = h.clash.same ∙ ap (λ (m : Meaning). m.0) (sym same) in
     elim h.is_meaning [
-      | inl pre ↦ elim (which (is_prefix_kind k) f h.name p k h.meaning (prefix_in t h.name) pre) [
+      | inl pre ↦ elim (which_prefix (table_of t) p k f h.name h.meaning pre) [
         | inl n ↦ absurd (not_both (is_prefix_kind k) n.0 is_new)
         | inr o ↦ in_prefixes t p k f h.name h.meaning o.1 o.0 (left_clash p k h.meaning level h.clash.to_right left)
       ]
-      | inr inf ↦ elim (which (not (is_prefix_kind k)) f h.name p k h.meaning (infix_in t h.name) inf) [
+      | inr inf ↦ elim (which_infix (table_of t) p k f h.name h.meaning inf) [
         | inl n ↦ absurd (right_not_yfx k (subst (λ (m : Meaning). right_kind m.1) (sym (given_is p k h.meaning n.1)) h.clash.to_right) left)
         | inr o ↦ in_infixes t p k f h.name h.meaning o.1 o.0 (left_clash p k h.meaning level h.clash.to_right left)
       ]
     ]
 
 -- an old operator groups to the left
-old_left : (t : Table) (p : ℕ) (k : OpKind) (f : ℕ) → IsTable t → (h : HasClash (prefixes_after t p k f) (infixes_after t p k f)) → (not (is_prefix_kind k) && nat_eq f h.left) ≡ false → infix_in t h.left ≡ Some h.grouping → any_clash t p k f ≡ true
+old_left : (t : Lists) (p : ℕ) (k : OpKind) (f : ℕ) → IsTable (table_of t) → (h : WouldClash (table_of t) p k f) → (not (is_prefix_kind k) && nat_eq f h.left) ≡ false → infix_in (table_of t) h.left ≡ Some h.grouping → any_clash t p k f ≡ true
 old_left t p k f table h free there =
     let new : (p, k) ≡ h.meaning → any_clash t p k f ≡ true = λ same.
     in_infixes t p k f h.left h.grouping there free (right_clash p k h.grouping (ap (λ (m : Meaning). m.0) same ∙ h.clash.same) (subst (λ (m : Meaning). right_kind m.1) (sym same) h.clash.to_right) h.clash.to_left) in
-    let old : (prefix_in t h.name ≡ Some h.meaning) ⊎ (infix_in t h.name ≡ Some h.meaning) → any_clash t p k f ≡ true = λ is. absurd (table.apart (record { name = h.name; left = h.left; meaning = h.meaning; grouping = h.grouping; is_meaning = is; is_infix = there; clash = h.clash })) in
+    let old : (prefix_in (table_of t) h.name ≡ Some h.meaning) ⊎ (infix_in (table_of t) h.name ≡ Some h.meaning) → any_clash t p k f ≡ true = λ is. absurd (table.apart (record { name = h.name; left = h.left; meaning = h.meaning; grouping = h.grouping; is_meaning = is; is_infix = there; clash = h.clash })) in
     elim h.is_meaning [
-      | inl pre ↦ elim (which (is_prefix_kind k) f h.name p k h.meaning (prefix_in t h.name) pre) [ inl n ↦ new (given_is p k h.meaning n.1) | inr o ↦ old (inl o.1) ]
-      | inr inf ↦ elim (which (not (is_prefix_kind k)) f h.name p k h.meaning (infix_in t h.name) inf) [ inl n ↦ new (given_is p k h.meaning n.1) | inr o ↦ old (inr o.1) ]
+      | inl pre ↦ elim (which_prefix (table_of t) p k f h.name h.meaning pre) [ inl n ↦ new (given_is p k h.meaning n.1) | inr o ↦ old (inl o.1) ]
+      | inr inf ↦ elim (which_infix (table_of t) p k f h.name h.meaning inf) [ inl n ↦ new (given_is p k h.meaning n.1) | inr o ↦ old (inr o.1) ]
     ]
 
-pub clash_complete : (t : Table) (p : ℕ) (k : OpKind) (f : ℕ) → IsTable t → WouldClash t p k f → any_clash t p k f ≡ true
-clash_complete t p k f table h = elim (which (not (is_prefix_kind k)) f h.left p k h.grouping (infix_in t h.left) h.is_infix) [
+pub clash_complete : (t : Lists) (p : ℕ) (k : OpKind) (f : ℕ) → IsTable (table_of t) → WouldClash (table_of t) p k f → any_clash t p k f ≡ true
+clash_complete t p k f table h = elim (which_infix (table_of t) p k f h.left h.grouping h.is_infix) [
   | inl n ↦ new_left t p k f h n.0 (given_is p k h.grouping n.1)
   | inr o ↦ old_left t p k f table h o.0 o.1
 ]
@@ -139,14 +146,14 @@ clash_complete t p k f table h = elim (which (not (is_prefix_kind k)) f h.left p
 pub no_clash_at_none : (t : Table) (k : OpKind) (f : ℕ) → IsTable t → WouldClash t 0 k f → ⊥
 no_clash_at_none t k f table h =
     let none : (m : Meaning) → given 0 k ≡ Some m → ⊥ = λ m e. cc in
-    elim (which (not (is_prefix_kind k)) f h.left 0 k h.grouping (infix_in t h.left) h.is_infix) [
+    elim (which_infix t 0 k f h.left h.grouping h.is_infix) [
       | inl n ↦ none h.grouping n.1
       | inr o ↦ elim h.is_meaning [
-        | inl pre ↦ elim (which (is_prefix_kind k) f h.name 0 k h.meaning (prefix_in t h.name) pre) [
+        | inl pre ↦ elim (which_prefix t 0 k f h.name h.meaning pre) [
           | inl n ↦ none h.meaning n.1
           | inr q ↦ table.apart (record { name = h.name; left = h.left; meaning = h.meaning; grouping = h.grouping; is_meaning = inl q.1; is_infix = o.1; clash = h.clash })
         ]
-        | inr inf ↦ elim (which (not (is_prefix_kind k)) f h.name 0 k h.meaning (infix_in t h.name) inf) [
+        | inr inf ↦ elim (which_infix t 0 k f h.name h.meaning inf) [
           | inl n ↦ none h.meaning n.1
           | inr q ↦ table.apart (record { name = h.name; left = h.left; meaning = h.meaning; grouping = h.grouping; is_meaning = inr q.1; is_infix = o.1; clash = h.clash })
         ]
@@ -213,11 +220,11 @@ puts b f p k old is le = by (b && nat_eq f f) (step b (nat_eq f f) is (eq-eqb f 
 prefix_not_yfx : (m : Meaning) → prefix_kind m.1 → m.1 ≡ Yfx → ⊥
 prefix_not_yfx m pre e = subst prefix_kind e pre
 
-from_prefixes : (t : Table) (p : ℕ) (k : OpKind) (f : ℕ) → IsTable t → IsDistinct nat_eq (keys_of t.prefixes) → 1 ≤ p → list_any (clashes_unless (is_prefix_kind k) f (p, k)) t.prefixes ≡ true → WouldClash t p k f
+from_prefixes : (t : Lists) (p : ℕ) (k : OpKind) (f : ℕ) → IsTable (table_of t) → IsDistinct nat_eq (keys_of t.prefixes) → 1 ≤ p → list_any (clashes_unless (is_prefix_kind k) f (p, k)) t.prefixes ≡ true → WouldClash (table_of t) p k f
 from_prefixes t p k f table distinct le h =
     let found = any_found (clashes_unless (is_prefix_kind k) f (p, k)) t.prefixes h in
     let e = found.0 in
-    let there : prefix_in t e.0 ≡ Some e.1 = among_lookup t.prefixes e distinct found.1 in
+    let there : prefix_in (table_of t) e.0 ≡ Some e.1 = meaning_at t.prefixes e.0 ∙ among_lookup t.prefixes e distinct found.1 in
     let says = unless_says (is_prefix_kind k && nat_eq f e.0) (clashes (p, k) e.1) found.2 in
     let c = clash_says p k e.1 says.1 in
     elim c.1 [
@@ -227,26 +234,26 @@ from_prefixes t p k f table distinct le h =
         left = f;
         meaning = e.1;
         grouping = (p, k);
-        is_meaning = inl (keeps (is_prefix_kind k) f e.0 p k (Some e.1) (prefix_in t e.0) says.0 there);
-        is_infix = puts (not (is_prefix_kind k)) f p k (infix_in t f) (ap (λ j. not (is_prefix_kind j)) l.0) le;
+        is_meaning = inl (prefix_at (table_of t) p k f e.0 ∙ keeps (is_prefix_kind k) f e.0 p k (Some e.1) (prefix_in (table_of t) e.0) says.0 there);
+        is_infix = infix_at (table_of t) p k f f ∙ puts (not (is_prefix_kind k)) f p k (infix_in (table_of t) f) (ap (λ j. not (is_prefix_kind j)) l.0) le;
         clash = record { same = sym c.0; to_right = l.1; to_left = l.0 };
       }
     ]
 
-new_meaning : (t : Table) (p : ℕ) (k : OpKind) (f : ℕ) → 1 ≤ p → (prefixes_after t p k f f ≡ Some (p, k)) ⊎ (infixes_after t p k f f ≡ Some (p, k))
+new_meaning : (t : Table) (p : ℕ) (k : OpKind) (f : ℕ) → 1 ≤ p → (prefix_in (defined t p k f) f ≡ Some (p, k)) ⊎ (infix_in (defined t p k f) f ≡ Some (p, k))
 new_meaning t p k f le = by (is_prefix_kind k) refl
   where
-    by : (b : Bool) → is_prefix_kind k ≡ b → (prefixes_after t p k f f ≡ Some (p, k)) ⊎ (infixes_after t p k f f ≡ Some (p, k))
-    by true is = inl (puts (is_prefix_kind k) f p k (prefix_in t f) is le)
-    by false is = inr (puts (not (is_prefix_kind k)) f p k (infix_in t f) (ap not is) le)
+    by : (b : Bool) → is_prefix_kind k ≡ b → (prefix_in (defined t p k f) f ≡ Some (p, k)) ⊎ (infix_in (defined t p k f) f ≡ Some (p, k))
+    by true is = inl (prefix_at t p k f f ∙ puts (is_prefix_kind k) f p k (prefix_in t f) is le)
+    by false is = inr (infix_at t p k f f ∙ puts (not (is_prefix_kind k)) f p k (infix_in t f) (ap not is) le)
 
-from_infixes : (t : Table) (p : ℕ) (k : OpKind) (f : ℕ) → IsDistinct nat_eq (keys_of t.infixes) → 1 ≤ p → list_any (clashes_unless (not (is_prefix_kind k)) f (p, k)) t.infixes ≡ true → WouldClash t p k f
+from_infixes : (t : Lists) (p : ℕ) (k : OpKind) (f : ℕ) → IsDistinct nat_eq (keys_of t.infixes) → 1 ≤ p → list_any (clashes_unless (not (is_prefix_kind k)) f (p, k)) t.infixes ≡ true → WouldClash (table_of t) p k f
 from_infixes t p k f distinct le h =
     let found = any_found (clashes_unless (not (is_prefix_kind k)) f (p, k)) t.infixes h in
     let e = found.0 in
-    let there : infix_in t e.0 ≡ Some e.1 = among_lookup t.infixes e distinct found.1 in
+    let there : infix_in (table_of t) e.0 ≡ Some e.1 = meaning_at t.infixes e.0 ∙ among_lookup t.infixes e distinct found.1 in
     let says = unless_says (not (is_prefix_kind k) && nat_eq f e.0) (clashes (p, k) e.1) found.2 in
-    let kept = keeps (not (is_prefix_kind k)) f e.0 p k (Some e.1) (infix_in t e.0) says.0 there in
+    let kept = keeps (not (is_prefix_kind k)) f e.0 p k (Some e.1) (infix_in (table_of t) e.0) says.0 there in
     let c = clash_says p k e.1 says.1 in
     elim c.1 [
       | inl r ↦ record {
@@ -254,8 +261,8 @@ from_infixes t p k f distinct le h =
         left = e.0;
         meaning = (p, k);
         grouping = e.1;
-        is_meaning = new_meaning t p k f le;
-        is_infix = kept;
+        is_meaning = new_meaning (table_of t) p k f le;
+        is_infix = infix_at (table_of t) p k f e.0 ∙ kept;
         clash = record { same = c.0; to_right = r.0; to_left = r.1 };
       }
       | inr l ↦ record {
@@ -263,100 +270,22 @@ from_infixes t p k f distinct le h =
         left = f;
         meaning = e.1;
         grouping = (p, k);
-        is_meaning = inr kept;
-        is_infix = puts (not (is_prefix_kind k)) f p k (infix_in t f) (ap (λ j. not (is_prefix_kind j)) l.0) le;
+        is_meaning = inr (infix_at (table_of t) p k f e.0 ∙ kept);
+        is_infix = infix_at (table_of t) p k f f ∙ puts (not (is_prefix_kind k)) f p k (infix_in (table_of t) f) (ap (λ j. not (is_prefix_kind j)) l.0) le;
         clash = record { same = sym c.0; to_right = l.1; to_left = l.0 };
       }
     ]
 
-pub clash_sound : (t : Table) (p : ℕ) (k : OpKind) (f : ℕ) → IsTable t → IsDistinct nat_eq (keys_of t.prefixes) → IsDistinct nat_eq (keys_of t.infixes) → 1 ≤ p → any_clash t p k f ≡ true → WouldClash t p k f
-clash_sound t p k f table pre inf le h = elim (or_says (list_any (clashes_unless (is_prefix_kind k) f (p, k)) t.prefixes) (list_any (clashes_unless (not (is_prefix_kind k)) f (p, k)) t.infixes) h) [
-  | inl a ↦ from_prefixes t p k f table pre le a
-  | inr b ↦ from_infixes t p k f inf le b
-]
-
--- the table stays one
-pub stays : (t new : Table) (p : ℕ) (k : OpKind) (f : ℕ) → IsTable t → p ≤ 1200 → (WouldClash t p k f → ⊥)
-    → ((g : ℕ) → prefix_in new g ≡ prefixes_after t p k f g) → ((g : ℕ) → infix_in new g ≡ infixes_after t p k f g) → IsTable new
-stays t new p k f table le apart pre inf = record {
-  prefixes_are = λ g m h. elim (which (is_prefix_kind k) f g p k m (prefix_in t g) (sym (pre g) ∙ h)) [
-    | inl n ↦ subst (λ (w : Meaning). prefix_kind w.1 × (1 ≤ w.0) × (w.0 ≤ 1200)) (given_is p k m n.1) (is_pre k n.0, positive p k m n.1, le)
-    | inr o ↦ table.prefixes_are g m o.1
-  ];
-  infixes_are = λ g m h. elim (which (not (is_prefix_kind k)) f g p k m (infix_in t g) (sym (inf g) ∙ h)) [
-    | inl n ↦ subst (λ (w : Meaning). infix_kind w.1 × (1 ≤ w.0) × (w.0 ≤ 1200)) (given_is p k m n.1) (is_inf k n.0, positive p k m n.1, le)
-    | inr o ↦ table.infixes_are g m o.1
-  ];
-  apart = λ h. apart (record {
-    name = h.name;
-    left = h.left;
-    meaning = h.meaning;
-    grouping = h.grouping;
-    is_meaning = elim h.is_meaning [ inl a ↦ inl (sym (pre h.name) ∙ a) | inr b ↦ inr (sym (inf h.name) ∙ b) ];
-    is_infix = sym (inf h.left) ∙ h.is_infix;
-    clash = h.clash;
-  });
-}
-  where
-    is_pre : (j : OpKind) → is_prefix_kind j ≡ true → prefix_kind j
-    is_pre Xfx e = absurd cc
-    is_pre Xfy e = absurd cc
-    is_pre Yfx e = absurd cc
-    is_pre Fx e = tt
-    is_pre Fy e = tt
-
-    is_inf : (j : OpKind) → not (is_prefix_kind j) ≡ true → infix_kind j
-    is_inf Xfx e = tt
-    is_inf Xfy e = tt
-    is_inf Yfx e = tt
-    is_inf Fx e = absurd cc
-    is_inf Fy e = absurd cc
-
-    positive : (q : ℕ) (j : OpKind) (m : Meaning) → given q j ≡ Some m → 1 ≤ q
-    positive q j m e = by (nat_eq q 0) refl e
-      where
-        by : (b : Bool) → nat_eq q 0 ≡ b → (if b then None else Some (q, j)) ≡ Some m → 1 ≤ q
-        by true is z = absurd cc
-        by false is z = above q is
-          where
-            above : (n : ℕ) → nat_eq n 0 ≡ false → 1 ≤ n
-            above n isnt = let not_zero = eqb-false n 0 isnt in omega arith
-
--- one map changes and the other stays
-module _ (t : Table) (p : ℕ) (k : OpKind) (f : ℕ) where
-  guarded : (b c : Bool) (x y : Option Meaning) → b ≡ true → (if c then x else y) ≡ (if b && c then x else y)
-  guarded true c x y e = refl
-  guarded false c x y e = absurd cc
-
-  unguarded : (b c : Bool) (x y : Option Meaning) → b ≡ false → y ≡ (if b && c then x else y)
-  unguarded true c x y e = absurd cc
-  unguarded false c x y e = refl
-
-  pub prefix_defined : (new : List (ℕ × Meaning)) → is_prefix_kind k ≡ true → Sets t.prefixes p k f new → Defines t p k f (record { prefixes = new; infixes = t.infixes })
-  prefix_defined new is sets = record {
-    prefixes = λ g. sets g ∙ guarded (is_prefix_kind k) (nat_eq f g) (given p k) (prefix_in t g) is;
-    infixes = λ g. unguarded (not (is_prefix_kind k)) (nat_eq f g) (given p k) (infix_in t g) (ap not is);
-  }
-
-  pub infix_defined : (new : List (ℕ × Meaning)) → is_prefix_kind k ≡ false → Sets t.infixes p k f new → Defines t p k f (record { prefixes = t.prefixes; infixes = new })
-  infix_defined new is sets = record {
-    prefixes = λ g. unguarded (is_prefix_kind k) (nat_eq f g) (given p k) (prefix_in t g) is;
-    infixes = λ g. sets g ∙ guarded (not (is_prefix_kind k)) (nat_eq f g) (given p k) (infix_in t g) (ap not is);
-  }
-
-  pub stays_table : (new : Table) → IsTable t → p ≤ 1200 → (WouldClash t p k f → ⊥) → Defines t p k f new → IsTable new
-  stays_table new table le apart d = stays t new p k f table le apart d.prefixes d.infixes
-
 -- what the table's test says, where the first map has no clash and where it has one
-module _ (t : Table) (p : ℕ) (k : OpKind) (f : ℕ) where
-  pub says_first : (a r : Bool) → IsTable t → IsDistinct nat_eq (keys_of t.prefixes) → 1 ≤ p
-      → a ≡ list_any (clashes_unless (is_prefix_kind k) f (p, k)) t.prefixes → a ≡ true → r ≡ true → (IsTrue r → WouldClash t p k f) × (WouldClash t p k f → IsTrue r)
+module _ (t : Lists) (p : ℕ) (k : OpKind) (f : ℕ) where
+  pub says_first : (a r : Bool) → IsTable (table_of t) → IsDistinct nat_eq (keys_of t.prefixes) → 1 ≤ p
+      → a ≡ list_any (clashes_unless (is_prefix_kind k) f (p, k)) t.prefixes → a ≡ true → r ≡ true → (IsTrue r → WouldClash (table_of t) p k f) × (WouldClash (table_of t) p k f → IsTrue r)
   says_first a r table distinct le is found out =
       (λ h. from_prefixes t p k f table distinct le (sym is ∙ found), λ h. out)
 
-  pub says_second : (a r : Bool) → IsTable t → IsDistinct nat_eq (keys_of t.infixes) → 1 ≤ p
+  pub says_second : (a r : Bool) → IsTable (table_of t) → IsDistinct nat_eq (keys_of t.infixes) → 1 ≤ p
       → a ≡ list_any (clashes_unless (is_prefix_kind k) f (p, k)) t.prefixes → a ≡ false
-      → r ≡ list_any (clashes_unless (not (is_prefix_kind k)) f (p, k)) t.infixes → (IsTrue r → WouldClash t p k f) × (WouldClash t p k f → IsTrue r)
+      → r ≡ list_any (clashes_unless (not (is_prefix_kind k)) f (p, k)) t.infixes → (IsTrue r → WouldClash (table_of t) p k f) × (WouldClash (table_of t) p k f → IsTrue r)
   says_second a r table distinct le is no_first out =
       (λ h. from_infixes t p k f distinct le (sym out ∙ h), λ h. sym (second h))
     where
@@ -364,5 +293,5 @@ module _ (t : Table) (p : ℕ) (k : OpKind) (f : ℕ) where
       other true y e h = absurd cc
       other false y e h = sym h
 
-      second : WouldClash t p k f → true ≡ r
+      second : WouldClash (table_of t) p k f → true ≡ r
       second h = other (list_any (clashes_unless (is_prefix_kind k) f (p, k)) t.prefixes) (list_any (clashes_unless (not (is_prefix_kind k)) f (p, k)) t.infixes) (sym is ∙ no_first) (clash_complete t p k f table h) ∙ sym out

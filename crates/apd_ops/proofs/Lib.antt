@@ -1,3 +1,6 @@
 pub mod Entries
+pub mod Looked
 pub mod Clashes
+pub mod Defining
 pub mod StandardTable
+pub mod Tested

@@ -1,13 +1,15 @@
 -- The standard operators are a table.
-use Rattle.std.proofs.Common.{◌≡◌, ◌≤◌, List, [], ◌∷◌, Bool, true, false, inl, inr, refl, sym, ◌∙◌, ap, eq-eqb}
+use Rattle.std.proofs.Common.{◌≡◌, ◌≤◌, ℕ, Some, List, [], ◌∷◌, Bool, true, false, inl, inr, refl, sym, ◌∙◌, ap, eq-eqb}
 use borrow.Author.Tests.{leb-true}
 use Rattle.std.specs.Prelude.{nat_le, ◌==◌, ◌&&◌, not}
 use Rattle.std.specs.List.{list_all}
+use Rattle.apd_term.specs.declared.standard.TheConstants.{COMMA, BAR, NIL, CURLY}
 use Rattle.apd_ops.specs.declared.op.OpKind.{OpKind}
 use Rattle.apd_ops.specs.declared.op.OpKind.TheVariants.{Xfx, Xfy, Yfx, Fx, Fy}
 use Rattle.apd_ops.specs.Operators.{is_prefix_kind, prefix_kind, infix_kind, right_kind, groups_right, groups_left}
-use Rattle.apd_ops.specs.Table.{IsTable}
+use Rattle.apd_ops.specs.Table.{Meaning, IsTable, prefix_in, infix_in}
 use Rattle.apd_ops.specs.Standard.{standard_prefixes, standard_infixes, standard_table}
+use Rattle.apd_ops.proofs.Looked.{meaning_at}
 use Rattle.apd_ops.proofs.Entries.{Entry, Among, lookup_among}
 
 and_first : (a b : Bool) → (a && b) ≡ true → a ≡ true
@@ -81,14 +83,25 @@ no_clash e g all there same right left =
     not_all (e.1.0 == g.1.0) (groups_right e.1.1) (groups_left g.1.1) (eq-eqb e.1.0 g.1.0 same) (right_groups e.1.1 right) (ap groups_left left)
     (all_of (apart_from e) standard_infixes g all there)
 
+in_prefixes : (f : ℕ) (m : Meaning) → prefix_in standard_table f ≡ Some m → Among (f, m) standard_prefixes
+in_prefixes f m h = lookup_among f standard_prefixes m (sym (meaning_at standard_prefixes f) ∙ h)
+
+in_infixes : (f : ℕ) (m : Meaning) → infix_in standard_table f ≡ Some m → Among (f, m) standard_infixes
+in_infixes f m h = lookup_among f standard_infixes m (sym (meaning_at standard_infixes f) ∙ h)
+
 pub standard_is_table : IsTable standard_table
 standard_is_table = record {
-  prefixes_are = λ f m h. prefix_says (f, m) (all_of prefix_fine standard_prefixes (f, m) refl (lookup_among f standard_prefixes m h));
-  infixes_are = λ f m h. infix_says (f, m) (all_of infix_fine standard_infixes (f, m) refl (lookup_among f standard_infixes m h));
+  prefixes_are = λ f m h. prefix_says (f, m) (all_of prefix_fine standard_prefixes (f, m) refl (in_prefixes f m h));
+  infixes_are = λ f m h. infix_says (f, m) (all_of infix_fine standard_infixes (f, m) refl (in_infixes f m h));
   apart = λ h. elim h.is_meaning [
-    | inl p ↦ no_clash (h.name, h.meaning) (h.left, h.grouping) (all_of apart_from_infixes standard_prefixes (h.name, h.meaning) refl (lookup_among h.name standard_prefixes h.meaning p))
-        (lookup_among h.left standard_infixes h.grouping h.is_infix) h.clash.same h.clash.to_right h.clash.to_left
-    | inr i ↦ no_clash (h.name, h.meaning) (h.left, h.grouping) (all_of apart_from_infixes standard_infixes (h.name, h.meaning) refl (lookup_among h.name standard_infixes h.meaning i))
-        (lookup_among h.left standard_infixes h.grouping h.is_infix) h.clash.same h.clash.to_right h.clash.to_left
+    | inl p ↦ no_clash (h.name, h.meaning) (h.left, h.grouping) (all_of apart_from_infixes standard_prefixes (h.name, h.meaning) refl (in_prefixes h.name h.meaning p))
+        (in_infixes h.left h.grouping h.is_infix) h.clash.same h.clash.to_right h.clash.to_left
+    | inr i ↦ no_clash (h.name, h.meaning) (h.left, h.grouping) (all_of apart_from_infixes standard_infixes (h.name, h.meaning) refl (in_infixes h.name h.meaning i))
+        (in_infixes h.left h.grouping h.is_infix) h.clash.same h.clash.to_right h.clash.to_left
   ];
+  comma = meaning_at standard_infixes COMMA.0;
+  comma_alone = meaning_at standard_prefixes COMMA.0;
+  bar = (meaning_at standard_prefixes BAR.0, meaning_at standard_infixes BAR.0);
+  nil = (meaning_at standard_prefixes NIL.0, meaning_at standard_infixes NIL.0);
+  curly = (meaning_at standard_prefixes CURLY.0, meaning_at standard_infixes CURLY.0);
 }

@@ -1,3 +1,4 @@
 pub mod Operators
 pub mod Table
 pub mod Standard
+pub mod Definition

@@ -1,5 +1,6 @@
 -- The standard operators (ISO/IEC 13211-1 section 6.3.4.4), and the prefix operators of directives.
 use Rattle.std.specs.Prelude.{ℕ, List, [], ◌∷◌}
+use Rattle.std.specs.FinMap.{from_entries}
 use Rattle.apd_term.specs.declared.standard.TheConstants.{NECK, QUERY, GRAMMAR_ARROW, DYNAMIC, DISCONTIGUOUS, MULTIFILE, INITIALIZATION, SEMICOLON, ARROW, COMMA, NOT_PROVABLE, UNIFY, NOT_UNIFIABLE, IDENTICAL, NOT_IDENTICAL, BEFORE, BEFORE_EQUAL, AFTER, AFTER_EQUAL, UNIV, IS, EQUAL, DIFFERENT, LESS, LESS_EQUAL, GREATER, GREATER_EQUAL, PLUS, MINUS, BIT_AND, BIT_OR, TIMES, DIVIDE, QUOTIENT, REM, MOD, SHIFT_LEFT, SHIFT_RIGHT, POWER, CARET, BIT_NOT}
 use Rattle.apd_ops.specs.declared.op.OpKind.TheVariants.{Xfx, Xfy, Yfx, Fx, Fy}
 use Rattle.apd_ops.specs.Table.{Meaning, Table}
@@ -24,4 +25,4 @@ standard_infixes =
     ∷ (POWER.0, (200, Xfx)) ∷ (CARET.0, (200, Xfy)) ∷ []
 
 abbrev pub standard_table : Table
-standard_table = record { prefixes = standard_prefixes; infixes = standard_infixes }
+standard_table = record { prefixes = from_entries standard_prefixes; infixes = from_entries standard_infixes }

@@ -1,9 +1,12 @@
 -- The table of operators and its change by one definition.
-use Rattle.std.specs.Prelude.{◌==◌, ◌||◌, ◌≡◌, ℕ, ℤ, pos, ◌≤◌, ◌<ℤ◌, ◌⊎◌, List, Bool, Option, None, Some, nat_eq, if◌then◌else◌, ◌&&◌, not}
-use Rattle.std.specs.Map.{lookup}
+use Rattle.std.specs.Prelude.{◌==◌, ◌||◌, ◌≡◌, ℕ, ℤ, pos, ◌≤◌, ◌<ℤ◌, ◌⊎◌, List, Bool, Option, None, Some, nat_eq, if◌then◌else◌, ◌&&◌, not, refl}
+use Rattle.std.specs.Ordering.{nat_cmp}
+use Rattle.std.specs.Coded.{Coded, code_by, coded×, coded_ℕ}
+use Rattle.apd_ops.specs.contracts.op.OpKind as kinds
+use Rattle.std.specs.FinMap.{FinMap, code, get, insert, remove, from_entries}
 use Rattle.apd_term.specs.declared.term.NameId.{NameId}
 use Rattle.apd_ops.specs.declared.op.OpKind.{OpKind}
-use Rattle.apd_ops.specs.declared.op.OpKind.TheVariants.{Yfx}
+use Rattle.apd_ops.specs.declared.op.OpKind.TheVariants.{Xfy, Yfx}
 use Rattle.apd_ops.specs.declared.op.OpFault.{OpFault}
 use Rattle.apd_ops.specs.declared.op.OpFault.TheVariants as faults
 use Rattle.apd_term.specs.declared.standard.TheConstants.{COMMA, BAR, NIL, CURLY}
@@ -13,22 +16,29 @@ use Rattle.apd_ops.specs.Operators.{is_prefix_kind, prefix_kind, infix_kind, rig
 abbrev pub Meaning : Type 0
 Meaning = ℕ × OpKind
 
--- the meanings that names have as operators, by the names' numbers
+-- the meanings that names have as operators: a finite map from the names' numbers
 abbrev pub Meanings : Type 0
-Meanings = ℕ → Option Meaning
+Meanings = FinMap nat_cmp Meaning
 
--- the operators that are known: two finite maps from the numbers of names to meanings
+abbrev meanings_code : Coded Meanings
+meanings_code = code coded_ℕ (coded× coded_ℕ kinds.the_row.coded)
+
+-- the operators that are known
 pub record Table : Type 0 where
-  pub prefixes : List (ℕ × Meaning)
-  pub infixes : List (ℕ × Meaning)
+  pub prefixes : Meanings
+  pub infixes : Meanings
+
+-- a table is stored as the pair of its maps
+abbrev pub table_code : Coded Table
+table_code = code_by (Meanings × Meanings) (coded× meanings_code meanings_code) (λ t. (t.prefixes, t.infixes)) (λ p. record { prefixes = p.0; infixes = p.1 }) (λ _. refl)
 
 -- a name's meaning as a prefix operator
-abbrev pub prefix_in : Table → Meanings
-prefix_in t f = lookup (nat_eq f) t.prefixes
+abbrev pub prefix_in : Table → ℕ → Option Meaning
+prefix_in t f = get t.prefixes f
 
 -- a name's meaning as an infix operator
-abbrev pub infix_in : Table → Meanings
-infix_in t f = lookup (nat_eq f) t.infixes
+abbrev pub infix_in : Table → ℕ → Option Meaning
+infix_in t f = get t.infixes f
 
 -- an xfy or fy operator and a yfx operator have the same priority
 pub record Clash (m n : Meaning) : Type 0 where
@@ -37,41 +47,44 @@ pub record Clash (m n : Meaning) : Type 0 where
   pub to_left : n.1 ≡ Yfx
 
 -- some operator clashes with an infix operator
-pub record HasClash (prefixes infixes : Meanings) : Type 0 where
+pub record HasClash (t : Table) : Type 0 where
   pub name : ℕ
   pub left : ℕ
   pub meaning : Meaning
   pub grouping : Meaning
-  pub is_meaning : (prefixes name ≡ Some meaning) ⊎ (infixes name ≡ Some meaning)
-  pub is_infix : infixes left ≡ Some grouping
+  pub is_meaning : (prefix_in t name ≡ Some meaning) ⊎ (infix_in t name ≡ Some meaning)
+  pub is_infix : infix_in t left ≡ Some grouping
   pub clash : Clash meaning grouping
 
--- each meaning is of its place and has a priority from 1 to 1200, and no two clash
+abbrev pub IsNoOperator : Table → NameId → Type 0
+IsNoOperator t f = (prefix_in t f.0 ≡ None) × (infix_in t f.0 ≡ None)
+
+-- each meaning is of its place and has a priority from 1 to 1200, and no two clash; the comma is an infix operator alone,
+-- and the bar, [] and {} are none
 pub record IsTable (t : Table) : Type 0 where
   pub prefixes_are : (f : ℕ) (m : Meaning) → prefix_in t f ≡ Some m → prefix_kind m.1 × (1 ≤ m.0) × (m.0 ≤ 1200)
   pub infixes_are : (f : ℕ) (m : Meaning) → infix_in t f ≡ Some m → infix_kind m.1 × (1 ≤ m.0) × (m.0 ≤ 1200)
-  pub apart : HasClash (prefix_in t) (infix_in t) → ⊥
+  pub apart : HasClash t → ⊥
+  pub comma : infix_in t COMMA.0 ≡ Some (1000, Xfy)
+  pub comma_alone : prefix_in t COMMA.0 ≡ None
+  pub bar : IsNoOperator t BAR
+  pub nil : IsNoOperator t NIL
+  pub curly : IsNoOperator t CURLY
 
--- what a definition with this priority gives a name; priority 0 takes a meaning away
-abbrev pub given : ℕ → OpKind → Option Meaning
-given p k = if nat_eq p 0 then None else Some (p, k)
+-- The name has this meaning in place of the one that it had; priority 0 takes that away.
+abbrev pub with_meaning : Meanings → ℕ → OpKind → ℕ → Meanings
+with_meaning ms p k f = if nat_eq p 0 then remove ms f else insert ms f (p, k)
 
--- the prefix meanings after a definition: it replaces the name's meaning if its kind is a prefix one
-abbrev pub prefixes_after : Table → ℕ → OpKind → ℕ → Meanings
-prefixes_after t p k f g = if is_prefix_kind k && nat_eq f g then given p k else prefix_in t g
-
--- the infix meanings after a definition
-abbrev pub infixes_after : Table → ℕ → OpKind → ℕ → Meanings
-infixes_after t p k f g = if not (is_prefix_kind k) && nat_eq f g then given p k else infix_in t g
-
--- the new table has just the meanings after the definition
-pub record Defines (old : Table) (p : ℕ) (k : OpKind) (f : ℕ) (new : Table) : Type 0 where
-  pub prefixes : (g : ℕ) → prefix_in new g ≡ prefixes_after old p k f g
-  pub infixes : (g : ℕ) → infix_in new g ≡ infixes_after old p k f g
+-- the table after a definition, which changes the name's meaning in the place of the kind
+abbrev pub defined : Table → ℕ → OpKind → ℕ → Table
+defined t p k f = record {
+  prefixes = if is_prefix_kind k then with_meaning t.prefixes p k f else t.prefixes;
+  infixes = if is_prefix_kind k then t.infixes else with_meaning t.infixes p k f;
+}
 
 -- after the definition two operators would clash
 abbrev pub WouldClash : Table → ℕ → OpKind → ℕ → Type 0
-WouldClash t p k f = HasClash (prefixes_after t p k f) (infixes_after t p k f)
+WouldClash t p k f = HasClash (defined t p k f)
 
 -- a priority of an operator, or 0
 abbrev pub IsPriority : ℤ → ℕ → Type 0
@@ -83,7 +96,7 @@ IsFixed f = (f ≡ COMMA) ⊎ (f ≡ BAR) ⊎ (f ≡ NIL) ⊎ (f ≡ CURLY)
 
 -- The definition is made.
 abbrev pub IsMade : Table → ℤ → OpKind → NameId → Table → Type 0
-IsMade old z k f new = (p : ℕ) × IsPriority z p × (¬ IsFixed f) × (¬ WouldClash old p k f.0) × Defines old p k f.0 new
+IsMade old z k f new = (p : ℕ) × IsPriority z p × (¬ IsFixed f) × (¬ WouldClash old p k f.0) × (new ≡ defined old p k f.0)
 
 -- The definition is refused for this reason, which is the first that holds. Want of memory may come at any.
 abbrev pub IsRefused : Table → ℤ → OpKind → NameId → OpFault → Type 0
@@ -102,4 +115,4 @@ clashes_unless skip f m e = not (skip && nat_eq f e.0) && clashes m e.1
 
 -- the entries of a map after a definition for its place
 abbrev pub Sets : List (ℕ × Meaning) → ℕ → OpKind → ℕ → List (ℕ × Meaning) → Type 0
-Sets old p k f new = (g : ℕ) → lookup (nat_eq g) new ≡ (if nat_eq f g then given p k else lookup (nat_eq g) old)
+Sets old p k f new = from_entries new ≡ with_meaning (from_entries old) p k f

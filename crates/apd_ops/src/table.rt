@@ -1,8 +1,9 @@
-ghost use Rattle.std.specs.Prelude.{◌≡◌, ◌≤◌, nat_eq, IfErr, [], OnOk, OnErr, IfOk, IsTrue, ◌↔◌};
+ghost use Rattle.std.specs.Prelude.{◌≡◌, ◌≢◌, Ok, Err, ◌≤◌, nat_eq, IfErr, OnOk, OnErr, IfOk, IsTrue, ◌↔◌};
 ghost use Rattle.std.specs.List.{list_any, IsDistinct};
 ghost use Rattle.std.specs.Map.{keys_of};
+ghost use Rattle.apd_ops.specs.Definition.{definition};
 ghost use Rattle.apd_ops.specs.Standard.{standard_table};
-ghost use Rattle.apd_ops.specs.Table.{prefix_in, infix_in, IsTable, IsMade, IsRefused, IsFixed, WouldClash, Defines, clashes, clashes_unless, Sets};
+ghost use Rattle.apd_ops.specs.Table.{prefix_in, infix_in, IsTable, IsMade, IsRefused, IsFixed, WouldClash, defined, clashes, clashes_unless, Sets};
 
 use crate::op::{OpFault, OpKind};
 use crate::standard::{infixes, prefixes};
@@ -20,13 +21,16 @@ pub struct Ops {
 }
 
 impl Model for Ops {
-    ghost use Rattle.apd_ops.specs.Table.{Table, IsTable};
+    ghost use Rattle.std.specs.FinMap.{from_entries};
+    ghost use Rattle.apd_ops.specs.Table.{Table, table_code, IsTable};
 
     ghost Value = { Table };
 
-    ghost view = { λ s. record { prefixes = s.prefixes.entries; infixes = s.infixes.entries } };
+    ghost coded = { table_code };
 
-    ghost invariant = { λ s. IsTable (record { prefixes = s.prefixes.entries; infixes = s.infixes.entries }) };
+    ghost view = { λ s. record { prefixes = from_entries s.prefixes.entries; infixes = from_entries s.infixes.entries } };
+
+    ghost invariant = { λ s. IsTable (record { prefixes = from_entries s.prefixes.entries; infixes = from_entries s.infixes.entries }) };
 }
 
 fn is_fixed(name: NameId) -> bool
@@ -77,16 +81,6 @@ fn set_meaning(
 }
 
 impl Ops {
-    /// No operator.
-    pub fn new(alloc: Global) -> Ops
-        ensures { result ≡ record { prefixes = []; infixes = [] } }
-    {
-        Ops {
-            prefixes: IndexMap::new(alloc),
-            infixes: IndexMap::new(alloc),
-        }
-    }
-
     /// The standard operators.
     pub fn standard(alloc: Global) -> Result<Ops, AllocError>
         ensures { IfOk result (λ t. t ≡ standard_table) }
@@ -111,7 +105,8 @@ impl Ops {
         self.infixes.get(&name.0).copied()
     }
 
-    /// The law of the table: its meanings are of their places, and no two of them clash.
+    /// The law of the table: its meanings are of their places, and no two of them clash; the comma is an infix operator
+    /// of 1000, and the bar, `[]` and `{}` are no operators.
     pub fn has_no_clash(&self)
         ensures { IsTable self.now }
     {
@@ -119,40 +114,36 @@ impl Ops {
     }
 
     /// Whether after this definition two operators would clash.
-    fn would_clash(&self, new: (u16, OpKind), name: u32) -> bool
-        ensures { IsTrue result ↔ WouldClash self.now new.0 new.1 name }
+    fn would_clash(&self, new: (u16, OpKind), name: NameId) -> bool
+        ensures { IsTrue result ↔ WouldClash self.now new.0 new.1 name.0 }
     {
         self.has_no_clash();
         if new.0 == 0 {
             return false;
         }
         let is_prefix = new.1.is_prefix();
-        clashes_with(&self.prefixes, is_prefix, name, new)
-            || clashes_with(&self.infixes, !is_prefix, name, new)
+        clashes_with(&self.prefixes, is_prefix, name.0, new)
+            || clashes_with(&self.infixes, !is_prefix, name.0, new)
     }
 
     /// Gives the name this meaning in its place; priority 0 takes it away.
-    fn replace(&mut self, new: (u16, OpKind), name: u32) -> Result<(), AllocError>
+    fn replace(&mut self, new: (u16, OpKind), name: NameId) -> Result<(), AllocError>
         requires priority { new.0 ≤ 1200 }
-        requires apart { WouldClash self.old new.0 new.1 name → ⊥ }
-        ensures done { OnOk result (Defines self.old new.0 new.1 name self.new) }
+        requires free { ¬ IsFixed name }
+        requires apart { ¬ WouldClash self.old new.0 new.1 name.0 }
+        ensures done { OnOk result (self.new ≡ defined self.old new.0 new.1 name.0) }
         ensures unchanged { OnErr result (self.new ≡ self.old) }
     {
         if new.1.is_prefix() {
-            set_meaning(&mut self.prefixes, new, name)?;
+            set_meaning(&mut self.prefixes, new, name.0)?;
         } else {
-            set_meaning(&mut self.infixes, new, name)?;
+            set_meaning(&mut self.infixes, new, name.0)?;
         }
         Ok(())
     }
 
-    /// Gives the name this meaning in place of the one that it has before its operand or between
-    /// its operands, as the kind says; priority 0 takes that meaning away.
-    ///
-    /// `BadPriority` where the priority isn't from 0 to 1200, `Fixed` where the name is `,`, the bar,
-    /// `[]` or `{}`, and `Clash` where two operators of one priority would group in different
-    /// directions, the first of these that holds; then the table stays as it was.
-    pub fn define(&mut self, priority: i64, kind: OpKind, name: NameId) -> Result<(), OpFault>
+    /// Makes a definition, or tells the first reason why it is refused.
+    fn change(&mut self, priority: i64, kind: OpKind, name: NameId) -> Result<(), OpFault>
         ensures made { OnOk result (IsMade self.old priority kind name self.new) }
         ensures refused { IfErr result (IsRefused self.old priority kind name) }
         ensures unchanged { OnErr result (self.new ≡ self.old) }
@@ -164,10 +155,28 @@ impl Ops {
             return Err(OpFault::Fixed);
         }
         let new = (priority as u16, kind);
-        if self.would_clash(new, name.0) {
+        if self.would_clash(new, name) {
             return Err(OpFault::Clash);
         }
-        self.replace(new, name.0)?;
+        self.replace(new, name)?;
         Ok(())
+    }
+
+    /// Gives the name this meaning in place of the one that it has before its operand or between
+    /// its operands, as the kind says; priority 0 takes that meaning away.
+    ///
+    /// `BadPriority` where the priority isn't from 0 to 1200, `Fixed` where the name is `,`, the bar,
+    /// `[]` or `{}`, and `Clash` where two operators of one priority would group in different
+    /// directions, the first of these that holds; then the table stays as it was.
+    #[tactic(auto, using(crate::proofs::Tested::made_is, crate::proofs::Tested::refused_is))]
+    pub fn define(&mut self, priority: i64, kind: OpKind, name: NameId) -> Result<(), OpFault>
+        ensures defined { OnOk result (definition self.old priority kind name ≡ Ok self.new) }
+        ensures refused { IfErr result (λ f. f ≢ OpFault.Memory → definition self.old priority kind name ≡ Err f) }
+        ensures unchanged { OnErr result (self.new ≡ self.old) }
+    {
+        match self.change(priority, kind, name) {
+            Ok(()) => Ok(()),
+            Err(fault) => Err(fault),
+        }
     }
 }

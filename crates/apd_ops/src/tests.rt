@@ -109,7 +109,9 @@ fn knows_the_standard_operators(rt: HostRuntime) -> Result<(), Fail> {
     assert!(rt; ops.prefix(MINUS) == Some((200, OpKind::Fy)));
     assert!(rt; ops.infix(MINUS) == Some((500, OpKind::Yfx)));
     assert!(rt; ops.prefix(TRUE) == None);
-    assert!(rt; Ops::new(rt.alloc()).infix(MINUS) == None);
+    assert!(rt; ops.infix(COMMA) == Some((1000, OpKind::Xfy)));
+    assert!(rt; ops.prefix(COMMA) == None);
+    assert!(rt; ops.infix(BAR) == None);
     Ok(())
 }
 

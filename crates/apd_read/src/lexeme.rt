@@ -2,7 +2,7 @@ use apd_term::{Ids, NameId};
 
 /// What a token stands for in its clause.
 #[derive(Drop)]
-pub(crate) enum Sort {
+pub enum Sort {
     Name(NameId),
     /// A name in single quotes.
     Quoted(NameId),
@@ -24,7 +24,7 @@ pub(crate) enum Sort {
 
 /// A token of a clause by what it stands for.
 #[derive(Drop)]
-pub(crate) struct Lexeme {
+pub struct Lexeme {
     pub sort: Sort,
     /// Whether layout or a comment stands directly before it.
     pub spaced: bool,

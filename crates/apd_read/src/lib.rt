@@ -19,4 +19,7 @@ mod tests;
 mod variables;
 
 pub use apd_term::{Read, ReadFault};
+pub use lexeme::{Lexeme, Sort};
+pub use phrase::Phrase;
+pub use places::{Begin, Go, Inside};
 pub use reader::{one_reading, read_clause};

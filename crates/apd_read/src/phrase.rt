@@ -11,7 +11,7 @@ use std::alloc::{AllocError, Global};
 ///
 /// Where that is 1,000 or more it is 1,000, and the term is left out.
 #[derive(Drop)]
-pub(crate) struct Phrase {
+pub struct Phrase {
     pub term: Flat,
     pub height: u16,
 }

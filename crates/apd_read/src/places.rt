@@ -12,7 +12,7 @@ use std::alloc::{AllocError, Global};
 
 /// What an item stands in.
 #[derive(Clone, Copy, PartialEq, Eq, Debug)]
-pub(crate) enum Inside {
+pub enum Inside {
     Clause,
     Paren,
     Curly,
@@ -24,7 +24,7 @@ pub(crate) enum Inside {
 
 /// What begins in operand place; the number counts its tokens.
 #[derive(Drop)]
-pub(crate) enum Begin {
+pub enum Begin {
     Word(Phrase, usize),
     Opens(Inside, usize),
     Prefix(Op),
@@ -35,7 +35,7 @@ pub(crate) enum Begin {
 
 /// What goes on in operator place.
 #[derive(Clone, Copy)]
-pub(crate) enum Go {
+pub enum Go {
     Infix(Op),
     /// A comma between arguments or elements.
     Separates,

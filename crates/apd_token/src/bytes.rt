@@ -6,7 +6,7 @@ use crate::items::Kind;
 
 /// What a byte begins outside quotes and comments.
 #[derive(Clone, Copy, Debug, PartialEq, Eq)]
-pub(crate) enum Class {
+pub enum Class {
     Layout,
     Small,
     Capital,
@@ -21,7 +21,7 @@ pub(crate) enum Class {
 
 /// The bytes that a run goes over.
 #[derive(Clone, Copy, Debug, PartialEq, Eq)]
-pub(crate) enum Set {
+pub enum Set {
     Word,
     Symbols,
     Digits,
@@ -33,7 +33,7 @@ pub(crate) enum Set {
 
 /// What a byte behind a 0 begins.
 #[derive(Clone, Copy, Debug, PartialEq, Eq)]
-pub(crate) enum Mark {
+pub enum Mark {
     Hex,
     Octal,
     Binary,
@@ -43,7 +43,7 @@ pub(crate) enum Mark {
 
 /// What a byte begins behind a backslash.
 #[derive(Clone, Copy, Debug, PartialEq, Eq)]
-pub(crate) enum Escape {
+pub enum Escape {
     Newline,
     Octal,
     Hex,

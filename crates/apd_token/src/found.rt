@@ -11,7 +11,7 @@ use apd_term::faults::TokenFault;
 
 /// What stands at a place: layout or a comment, an item, or a fault.
 #[derive(Clone, Copy, Debug, PartialEq, Eq)]
-pub(crate) enum Found {
+pub enum Found {
     Passed,
     Item(Kind),
     Bad(TokenFault),

@@ -16,7 +16,8 @@ mod tests;
 mod texts;
 
 pub use apd_term::faults::TokenFault;
-pub use bytes::{is_graphic, is_small, is_word};
+pub use bytes::{Class, Escape, Mark, Set, is_graphic, is_small, is_word};
+pub use found::Found;
 pub use items::{Kind, Token, Tokens};
 pub use scanner::{one_division, tokens};
 pub use texts::{content, one_content};

@@ -1,19 +1,23 @@
 //! Laws of traces.
 
-ghost use Rattle.std.specs.Prelude.{◌≡◌, ◌≢◌, ℕ, ◌+◌, ◌≤◌, ◌<◌, List, Option, Some, None, ◌∷◌, []};
+ghost use Rattle.std.specs.Prelude.{◌≡◌, ◌≢◌, ◌↔◌, ℕ, ◌+◌, ◌≤◌, ◌<◌, List, Option, Some, None, ◌∷◌, []};
 ghost use Rattle.apd_term.specs.Canonical.{canonical};
 ghost use Rattle.apd_term.specs.Named.{TupleIsNamed, AllTuplesNamed};
-ghost use Rattle.apd_term.specs.Term.{Term, predicate_of};
+ghost use Rattle.apd_term.specs.Substitution.{IsInstance};
+ghost use Rattle.apd_term.specs.Term.{Term, apply, predicate_of};
+ghost use Rattle.apd_term.specs.declared.run.RunError.{RunError};
 ghost use Rattle.apd_term.specs.Tuple.{apply_tuple};
 ghost use Rattle.apd_term.specs.declared.term.Pred.{Pred};
 ghost use Rattle.apd_term.specs.declared.tuple.Tuple.{Tuple};
+ghost use Rattle.apd_arith.specs.Builtins.{builtin_of_atom};
+ghost use Rattle.apd_arith.specs.Truth.{IsTrueAtom, Faults};
 ghost use Rattle.apd_unify.specs.Unifier.{IsAnswer};
 ghost use Rattle.apd_trace.specs.declared.frame.Frame.{Frame};
 ghost use Rattle.apd_trace.specs.declared.frame.Called.{Called};
 ghost use Rattle.apd_trace.specs.Frames.{entering, entered, under, shifted_tuple, next_goal, query_frame};
 ghost use Rattle.apd_trace.specs.Named.{AllItemsNamed, AllShownNamed};
 ghost use Rattle.apd_trace.specs.Renaming.{IsRenamed, AreRenamed, IsBelow, whole_term, HaveSameMarks, AreLinked};
-ghost use Rattle.apd_trace.specs.BuiltIn.{solution, solved};
+ghost use Rattle.apd_trace.specs.BuiltIn.{solution, of_program, faulted, failed, solved};
 ghost use Rattle.apd_trace.specs.Trace.{search_from, trace};
 ghost use Rattle.apd_trace.specs.Run.{up_to, run_of, shown_of};
 
@@ -60,4 +64,18 @@ pub fn frames_stay_linked()
 pub fn names_are_kept()
     ensures trace { (n : ℕ) (P : List Tuple) (query : Tuple) (k : ℕ) → AllTuplesNamed n P → TupleIsNamed n query → AllItemsNamed n (trace P query k) }
     ensures run { (n : ℕ) (P : List Tuple) (query : Tuple) (budget answers : ℕ) → AllTuplesNamed n P → TupleIsNamed n query → AllShownNamed n (shown_of (run_of (trace P query (budget + 1)) budget answers).passed) }
+{}
+
+/// A goal is built in, and then no clause is tried for it, or it is one of the program's.
+pub fn a_goal_is_built_in_or_the_programs()
+    ensures { (F : List Frame) (g : Called) (m : ℕ) (a : Term) → next_goal F ≡ Some a → (solution F g m ≡ of_program) ↔ (builtin_of_atom a ≡ None) }
+{}
+
+/// A built-in goal exits as an atom each instance of which is true, and of which each true instance of the goal is one. It
+/// fails only where it has no true instance, and it ends in an error exactly where its evaluation has a fault.
+pub fn built_in_goals_exit_where_they_are_true()
+    ensures sound { (F H : List Frame) (f : Frame) (g : Called) (m : ℕ) (a : Term) (s : ℕ → Term) → next_goal F ≡ Some a → solution F g m ≡ solved (f ∷ H) → IsTrueAtom (apply s f.tuple.head) }
+    ensures complete { (F H : List Frame) (f : Frame) (g : Called) (m : ℕ) (a : Term) (s : ℕ → Term) → next_goal F ≡ Some a → solution F g m ≡ solved (f ∷ H) → IsTrueAtom (apply s a) → IsInstance (apply s a) f.tuple.head }
+    ensures failed { (F : List Frame) (g : Called) (m : ℕ) (a : Term) (s : ℕ → Term) → next_goal F ≡ Some a → solution F g m ≡ failed → ¬ IsTrueAtom (apply s a) }
+    ensures faulted { (F : List Frame) (g : Called) (m : ℕ) (a : Term) → next_goal F ≡ Some a → Faults a ↔ ((e : RunError) × (solution F g m ≡ faulted e)) }
 {}

@@ -63,6 +63,7 @@ unfolding port_text
 port_text-more ops names others e named = rw (written-more ops names others e.atom 999 named) refl
 
 body_text-more : (names others : List (List ℕ)) (f : BodyFault) → FaultIsNamed (length names) f → body_text (names ++ others) f ≡ body_text names f
+unfolding body_text
 body_text-more names others body.Dcg named = refl
 body_text-more names others body.NotCallable named = refl
 body_text-more names others (body.HeadIsBuiltin p) named = rw (text_of_name-append names others p.name named) refl
@@ -76,6 +77,7 @@ body_text-more names others body.BodyOver named = refl
 body_text-more names others body.Memory named = refl
 
 cause_text-more : (names others : List (List ℕ)) (c : LoadCause) → CauseIsNamed (length names) c → cause_text (names ++ others) c ≡ cause_text names c
+unfolding cause_text
 cause_text-more names others NotBuilt named = refl
 cause_text-more names others (Token f) named = refl
 cause_text-more names others (Read f) named = refl
@@ -84,6 +86,7 @@ cause_text-more names others (Body f) named = body_text-more names others f name
 cause_text-more names others ClausesOver named = refl
 
 refusal_text-more : (names others : List (List ℕ)) (r : Refusal) → RefusalIsNamed (length names) r → refusal_text (names ++ others) r ≡ refusal_text names r
+unfolding refusal_text
 refusal_text-more names others refusal.NotBuilt named = refl
 refusal_text-more names others (refusal.Syntax c) named = rw (cause_text-more names others c named) refl
 refusal_text-more names others refusal.TooLong named = refl

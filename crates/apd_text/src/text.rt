@@ -2,14 +2,14 @@
 
 ghost use Rattle.std.specs.Prelude.{◌≡◌, ◌++◌, OnOk, OnErr, IfOk, Some, codes};
 ghost use Rattle.std.specs.Fmt.{decimal};
-ghost use Rattle.apd_text.specs.Causes.{indicator, cause_text};
+ghost use Rattle.apd_text.specs.Causes.{indicator, body_text, cause_text, cause_place};
 ghost use Rattle.apd_text.specs.Entries.{text_of, refusal_text, in_line, at_byte, usage};
 
 use crate::causes::{add_body_fault, add_cause, add_indicator, cause_place};
 use crate::entry::{Entry, Refusal};
 use crate::line::add_number;
 use apd_ops::Ops;
-use apd_term::faults::LoadCause;
+use apd_term::faults::{BodyFault, LoadCause};
 use apd_term::names::Names;
 use apd_term::{Pred, Text};
 use std::alloc::{AllocError, Global};
@@ -39,28 +39,36 @@ fn add_place(alloc: Global, place: Option<u32>, out: &mut Text) -> Result<(), Al
     Ok(())
 }
 
-/// Adds why a command is refused.
-fn add_refusal(
-    alloc: Global,
-    names: &Names,
-    refusal: Refusal,
-    out: &mut Text,
-) -> Result<(), AllocError>
-    ensures { OnOk result (out.new ≡ out.old ++ refusal_text names.now refusal) }
+/// What a refusal says of a line without a reading.
+fn syntax(alloc: Global, names: &Names, cause: LoadCause) -> Result<Text, AllocError>
+    ensures { IfOk result (λ t. t ≡ codes "E1 syntax: " ++ cause_text names.now cause ++ at_byte (cause_place cause)) }
+{
+    let mut text = Text::copy_of(alloc, b"E1 syntax: ")?;
+    add_cause(alloc, names, cause, &mut text)?;
+    add_place(alloc, cause_place(cause), &mut text)?;
+    Ok(text)
+}
+
+/// What a refusal says of a query.
+fn goal_refused(alloc: Global, names: &Names, fault: BodyFault) -> Result<Text, AllocError>
+    ensures { IfOk result (λ t. t ≡ codes "E4 goal refused: " ++ body_text names.now fault) }
+{
+    let mut text = Text::copy_of(alloc, b"E4 goal refused: ")?;
+    add_body_fault(alloc, names, fault, &mut text)?;
+    Ok(text)
+}
+
+/// Why a command is refused.
+#[tactic(auto, unfolding(crate::specs::Entries::refusal_text))]
+fn refusal_text(alloc: Global, names: &Names, refusal: Refusal) -> Result<Text, AllocError>
+    ensures { IfOk result (λ t. t ≡ refusal_text names.now refusal) }
 {
     match refusal {
-        Refusal::NotBuilt => out.extend(b"E0 not built"),
-        Refusal::Syntax(cause) => {
-            out.extend(b"E1 syntax: ")?;
-            add_cause(alloc, names, cause, out)?;
-            add_place(alloc, cause_place(cause), out)
-        }
-        Refusal::TooLong => out.extend(b"E2 too long"),
-        Refusal::NotACommand => out.extend(b"E3 not a command"),
-        Refusal::GoalRefused(fault) => {
-            out.extend(b"E4 goal refused: ")?;
-            add_body_fault(alloc, names, fault, out)
-        }
+        Refusal::NotBuilt => Text::copy_of(alloc, b"E0 not built"),
+        Refusal::Syntax(cause) => syntax(alloc, names, cause),
+        Refusal::TooLong => Text::copy_of(alloc, b"E2 too long"),
+        Refusal::NotACommand => Text::copy_of(alloc, b"E3 not a command"),
+        Refusal::GoalRefused(fault) => goal_refused(alloc, names, fault),
     }
 }
 
@@ -103,8 +111,7 @@ fn loaded(alloc: Global, clauses: u32) -> Result<Text, AllocError>
 fn refused(alloc: Global, names: &Names, refusal: Refusal) -> Result<Text, AllocError>
     ensures { IfOk result (λ t. t ≡ refusal_text names.now refusal ++ codes "\n") }
 {
-    let mut text = Text::new(alloc);
-    add_refusal(alloc, names, refusal, &mut text)?;
+    let mut text = refusal_text(alloc, names, refusal)?;
     text.extend(b"\n")?;
     Ok(text)
 }

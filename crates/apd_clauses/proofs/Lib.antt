@@ -1,1 +1,6 @@
 pub mod Indexing
+pub mod Conjuncts
+pub mod Faults
+pub mod Parts
+pub mod Shown
+pub mod Asked

@@ -1,5 +1,5 @@
 -- Clauses as terms, and the goals of their bodies (ISO/IEC 13211-1, sections 6.2 and 7.6).
-use Rattle.std.specs.Prelude.{ℕ, ◌==◌, nat_le, Option, Some, None, Result, Ok, Err, List, [], ◌∷◌, ◌++◌, length, take, All, if◌then◌else◌}
+use Rattle.std.specs.Prelude.{◌==◌, nat_le, Option, Some, None, Result, Ok, Err, List, [], ◌∷◌, ◌++◌, length, take, All, if◌then◌else◌}
 use Rattle.std.specs.Option.{option_or}
 use Rattle.apd_term.specs.Term.{Term, Terms, variable, integer, compound, none, more, list_of, predicate_of}
 use Rattle.apd_term.specs.declared.faults.BodyFault.{BodyFault}

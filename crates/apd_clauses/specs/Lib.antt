@@ -4,3 +4,4 @@ pub mod Index
 pub mod Kinds
 pub mod Bodies
 pub mod Queries
+pub mod Walk

@@ -1,22 +1,150 @@
 //! The clause that a term is.
 
-ghost use Rattle.std.specs.Prelude.{◌≡◌, ◌≢◌, ◌≤◌, ℕ, IfOk, IfErr, Ok, Err};
-ghost use Rattle.apd_term.specs.Term.{size, Occurs, IsAmong};
+ghost use Rattle.std.specs.Prelude.{◌≡◌, ◌≢◌, ◌<◌, ◌≤◌, ◌↔◌, ◌∷◌, [], ℕ, IfOk, IfErr, IsTrue, Ok, Err, take, drop, length};
+ghost use Rattle.apd_term.specs.Term.{size, variables, predicate_of, IsTerms, first_of, read_all};
 ghost use Rattle.apd_term.specs.Tuple.{size_of_tuple, variables_of_tuple};
 ghost use Rattle.apd_term.specs.Named.{IsNamed, TupleIsNamed};
-ghost use Rattle.apd_clauses.specs.Clauses.{IsClause};
-ghost use Rattle.apd_clauses.specs.Bodies.{conjuncts, clause_from, IsPure};
+ghost use Rattle.apd_clauses.specs.Clauses.{is_pred, IsClause};
+ghost use Rattle.apd_clauses.specs.Bodies.{conjuncts, goal_fault, body_fault, head_fault, tuple_fault, parts_of, clause_from, IsPure};
+ghost use Rattle.apd_clauses.specs.Kinds.{◌∕◌};
+ghost use Rattle.apd_clauses.specs.Walk.{goals_in, with_first_goals, IsComma};
 
-use apd_term::{Atoms, BodyFault, Flat, Tuple};
+use crate::clause::MOST_GOALS;
+use crate::kinds::{Kind, kind_of};
+use apd_term::standard::{COMMA, GRAMMAR_ARROW, NECK};
+use apd_term::term::term_end;
+use apd_term::{Atoms, BodyFault, Flat, NameId, Pred, Sym, Tuple};
 use std::alloc::{AllocError, Global};
+
+fn is_comma(symbol: Sym) -> bool
+    ensures { IsTrue result ↔ IsComma symbol }
+{
+    match symbol {
+        Sym::Fun(COMMA, 2) => true,
+        _ => false,
+    }
+}
+
+/// Where the next goal begins: behind the commas that begin at a place. A comma's two sides stand behind it, the left one
+/// first, so the goals are passed from the left however they are nested.
+fn goal_start(symbols: &[Sym], from: usize) -> usize
+    requires whole { IsTerms (drop from symbols.now) }
+    requires there { from < length symbols.now }
+    ensures further { from ≤ result }
+    ensures whole { IsTerms (drop result symbols.now) }
+    ensures there { result < length symbols.now }
+    ensures goals { goals_in (drop result symbols.now) ≡ goals_in (drop from symbols.now) }
+    ensures goal { let t = first_of (read_all (drop result symbols.now)) in conjuncts t ≡ t ∷ [] }
+{
+    let mut at = from;
+    'commas: while is_comma(symbols[at]) {
+        at += 1;
+    }
+    at
+}
+
+/// The first goals of a term from the left, at most so many.
+pub(crate) fn first_goals(alloc: Global, term: &Flat, most: usize) -> Result<Atoms, AllocError>
+    ensures { IfOk result (λ goals. goals ≡ take most (conjuncts term.now)) }
+{
+    let symbols = term.symbols();
+    let mut goals = Atoms::new(alloc);
+    let mut at: usize = 0;
+    'goals: while at < symbols.len() && goals.len() < most {
+        let start = goal_start(symbols, at);
+        let end = term_end(symbols, start);
+        goals.push(Flat::copy_of(alloc, &symbols[start..end])?)?;
+        at = end;
+    }
+    Ok(goals)
+}
 
 /// The goals of a term from the left: those of both sides of a conjunction; any other term is one goal.
 pub fn goals_of(alloc: Global, term: &Flat) -> Result<Atoms, AllocError>
     ensures { IfOk result (λ goals. goals ≡ conjuncts term.now) }
 {
-    let _ = alloc;
-    let _ = term;
-    Err(AllocError)
+    first_goals(alloc, term, term.symbols().len())
+}
+
+/// Why a goal isn't run.
+pub(crate) fn goal_fault(goal: &Flat) -> Option<BodyFault>
+    ensures { result ≡ goal_fault goal.now }
+{
+    match goal.symbols()[0] {
+        Sym::Var(_) => Some(BodyFault::VariableGoal),
+        Sym::Int(_) => Some(BodyFault::NotCallable),
+        Sym::Fun(name, arity) => {
+            let pred = Pred { name, arity };
+            match kind_of(pred) {
+                Kind::User | Kind::Builtin(_) | Kind::Conjunction => None,
+                Kind::Cut => Some(BodyFault::Cut),
+                Kind::Negation => Some(BodyFault::Negation),
+                Kind::Disjunction => Some(BodyFault::Disjunction),
+                Kind::IfThen => Some(BodyFault::IfThen),
+                Kind::Impure => Some(BodyFault::Impure(pred)),
+            }
+        }
+    }
+}
+
+/// The first fault of a body: that of its first 64 goals, or that there is another.
+pub(crate) fn body_fault(goals: &[Flat]) -> Option<BodyFault>
+    ensures { result ≡ body_fault goals.now }
+{
+    'goals: for (place, goal) in goals.iter().enumerate() {
+        if place == MOST_GOALS {
+            return Some(BodyFault::BodyOver);
+        }
+        if let Some(fault) = goal_fault(goal) {
+            return Some(fault);
+        }
+    }
+    None
+}
+
+/// Why a term is no head: only a program's own predicate has clauses.
+pub(crate) fn head_fault(head: &Flat) -> Option<BodyFault>
+    ensures { result ≡ head_fault head.now }
+{
+    match head.pred() {
+        None => Some(BodyFault::NotCallable),
+        Some(pred) => match kind_of(pred) {
+            Kind::User => None,
+            _ => Some(BodyFault::HeadIsBuiltin(pred)),
+        },
+    }
+}
+
+/// The first fault of a head and a body: that of the head comes first.
+fn tuple_fault(tuple: &Tuple) -> Option<BodyFault>
+    ensures { result ≡ tuple_fault tuple.now }
+{
+    head_fault(&tuple.head).or(body_fault(tuple.body.as_slice()))
+}
+
+/// Whether the term is this name with so many arguments.
+pub(crate) fn begins_with(term: &Flat, name: NameId, arity: u8) -> bool
+    ensures { result ≡ is_pred (predicate_of term.now) (name ∕ arity) }
+{
+    match term.pred() {
+        Some(pred) => pred.name.0 == name.0 && pred.arity == arity,
+        None => false,
+    }
+}
+
+/// The head H and the first 65 goals of B in `H :- B`; any other term is a head without goals.
+fn parts_of(alloc: Global, term: &Flat) -> Result<Tuple, AllocError>
+    ensures { IfOk result (λ c. c ≡ with_first_goals (parts_of term.now)) }
+{
+    if begins_with(term, NECK, 2) {
+        let head = term.arg(alloc, 0)?;
+        let body = term.arg(alloc, 1)?;
+        let goals = first_goals(alloc, &body, MOST_GOALS + 1)?;
+        return Ok(Tuple { head, body: goals });
+    }
+    let head = term.copy(alloc)?;
+    let none = Atoms::new(alloc);
+    Ok(Tuple { head, body: none })
 }
 
 /// The clause that a term is: `H :- B`, or `H` alone. The first fault is told, the head's before those of the goals from
@@ -28,9 +156,14 @@ pub fn clause_of(alloc: Global, term: &Flat) -> Result<Tuple, BodyFault>
     ensures clause { size term.now ≤ 4294967295 → IfOk result IsClause }
     ensures size { IfOk result (λ c. size_of_tuple c ≤ size term.now) }
     ensures named { (n : ℕ) → IsNamed n term.now → IfOk result (TupleIsNamed n) }
-    ensures variables { IfOk result (λ c. (v : ℕ) → IsAmong (variables_of_tuple c) v → Occurs v term.now) }
+    ensures variables { IfOk result (λ c. variables_of_tuple c ≡ variables term.now) }
 {
-    let _ = alloc;
-    let _ = term;
-    Err(BodyFault::Memory)
+    if begins_with(term, GRAMMAR_ARROW, 2) {
+        return Err(BodyFault::Dcg);
+    }
+    let tuple = parts_of(alloc, term)?;
+    match tuple_fault(&tuple) {
+        Some(fault) => Err(fault),
+        None => Ok(tuple),
+    }
 }

@@ -4,6 +4,7 @@
 pub mod body;
 pub mod clause;
 pub mod kinds;
+pub mod plain;
 pub mod program;
 pub mod query;
 
@@ -11,7 +12,7 @@ pub use apd_arith::Builtin;
 pub use apd_term::{BodyFault, Query, Read};
 pub use body::{clause_of, goals_of};
 pub use clause::{Clause, is_clause, is_runnable};
-pub use kinds::{Kind, builtin};
+pub use kinds::{Kind, builtin, kind_of};
 pub use program::{AddFault, Program};
 pub use query::{is_query, query_of};
 

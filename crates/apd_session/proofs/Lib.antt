@@ -8,3 +8,4 @@ pub mod Worlds
 pub mod Loading
 pub mod Causing
 pub mod Digits
+pub mod Commanding

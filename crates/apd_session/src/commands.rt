@@ -1,5 +1,5 @@
 // What a line asks for in a command's place.
-ghost use Rattle.std.specs.Prelude.{◌≡◌, ◌<◌, ◌≤◌, ◌+◌, ◌*◌, List, ℕ, length, IfOk, Ok};
+ghost use Rattle.std.specs.Prelude.{◌≡◌, ◌≢◌, ◌<◌, ◌≤◌, ◌+◌, List, ℕ, length, IfOk, OnOk, Ok};
 ghost use Rattle.apd_clauses.specs.Queries.{IsQueryTerm, query_from};
 ghost use Rattle.apd_read.specs.Reader.{Reader};
 ghost use Rattle.apd_term.specs.Growth.{Grown, GrowsBy};
@@ -35,6 +35,39 @@ pub enum Command {
     Query(Query),
 }
 
+/// What is said to a term that is refused for this fault, which want of memory is not.
+fn goal_refused(fault: BodyFault) -> Result<Command, AllocError>
+    ensures command { IfOk result (λ c. c ≡ Command.Refused (Refusal.GoalRefused fault)) }
+    ensures fault { OnOk result (fault ≢ BodyFault.Memory) }
+{
+    match fault {
+        BodyFault::Memory => Err(AllocError),
+        _ => Ok(Command::Refused(Refusal::GoalRefused(fault))),
+    }
+}
+
+/// What is said to a line that has no reading, for this fault, which want of memory is not.
+fn reading_refused(fault: ReadFault) -> Result<Command, AllocError>
+    ensures command { IfOk result (λ c. c ≡ Command.Refused (Refusal.Syntax (LoadCause.Read fault))) }
+    ensures fault { OnOk result (fault ≢ ReadFault.Memory) }
+{
+    match fault {
+        ReadFault::Memory => Err(AllocError),
+        _ => Ok(Command::Refused(Refusal::Syntax(LoadCause::Read(fault)))),
+    }
+}
+
+/// What is said to a line that has no division into tokens, for this fault, which want of memory is not.
+fn division_refused(fault: TokenFault) -> Result<Command, AllocError>
+    ensures command { IfOk result (λ c. c ≡ Command.Refused (Refusal.Syntax (LoadCause.Token fault))) }
+    ensures fault { OnOk result (fault ≢ TokenFault.Memory) }
+{
+    match fault {
+        TokenFault::Memory => Err(AllocError),
+        _ => Ok(Command::Refused(Refusal::Syntax(LoadCause::Token(fault)))),
+    }
+}
+
 /// The query of a term `?- B`, or why it is refused.
 fn query_command(alloc: Global, read: &Read) -> Result<Command, AllocError>
     requires { IsQueryTerm read.now.term }
@@ -43,8 +76,7 @@ fn query_command(alloc: Global, read: &Read) -> Result<Command, AllocError>
 {
     match query_of(alloc, read) {
         Ok(query) => Ok(Command::Query(query)),
-        Err(BodyFault::Memory) => Err(AllocError),
-        Err(fault) => Ok(Command::Refused(Refusal::GoalRefused(fault))),
+        Err(fault) => goal_refused(fault),
     }
 }
 
@@ -101,10 +133,10 @@ fn tokens_command(
     ensures command { IfOk result (λ c. (n : List (List ℕ)) → Grown names.new n → (reader : Reader n) → c ≡ command_read tokens.now (reader.clause ops.now line.now tokens.now 0)) }
     ensures can { IfOk result (CanObey (length names.new)) }
 {
+    ops.has_no_clash();
     match read_clause(alloc, ops, names, line, tokens, 0) {
         Ok(read) => whole_command(alloc, &read, tokens.as_slice()),
-        Err(ReadFault::Memory) => Err(AllocError),
-        Err(fault) => Ok(Command::Refused(Refusal::Syntax(LoadCause::Read(fault)))),
+        Err(fault) => reading_refused(fault),
     }
 }
 
@@ -129,8 +161,7 @@ fn text_command(
             }
             tokens_command(alloc, ops, names, line, &tokens)
         }
-        Err(TokenFault::Memory) => Err(AllocError),
-        Err(fault) => Ok(Command::Refused(Refusal::Syntax(LoadCause::Token(fault)))),
+        Err(fault) => division_refused(fault),
     }
 }
 

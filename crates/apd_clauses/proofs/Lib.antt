@@ -4,3 +4,4 @@ pub mod Faults
 pub mod Parts
 pub mod Shown
 pub mod Asked
+pub mod FaultNames

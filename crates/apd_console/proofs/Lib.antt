@@ -5,3 +5,4 @@ pub mod Printing
 pub mod Uttering
 pub mod Talking
 pub mod Answering
+pub mod Heard

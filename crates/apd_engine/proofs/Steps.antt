@@ -16,7 +16,7 @@ use Rattle.apd_trace.specs.Trace.{Out, Next, nothing, emit, and_then, at_port, h
 use Rattle.apd_term.specs.declared.run.RunError.{RunError}
 use Rattle.apd_term.specs.declared.run.RunError.TheVariants.{Size}
 use Rattle.apd_trace.specs.declared.frame.Outcome.{Outcome}
-use Rattle.apd_trace.specs.declared.frame.Outcome.TheVariants.{User, Faults, Fails, Equates}
+use Rattle.apd_trace.specs.declared.frame.Outcome.TheVariants.{User, Faults, Fails, Succeeds, Equates}
 use Rattle.apd_trace.proofs.Renamed.{renamed_self}
 use Rattle.apd_trace.specs.declared.frame.Frame.{Frame}
 use Rattle.apd_trace.specs.declared.frame.Called.{Called}
@@ -38,7 +38,7 @@ use Rattle.apd_engine.specs.declared.search.Choice.{Choice}
 use Rattle.apd_engine.specs.declared.search.Choice.TheVariants.{Alternatives, Again, Closing, Over}
 use Rattle.apd_engine.specs.declared.search.Mode.{Mode}
 use Rattle.apd_engine.specs.declared.search.Mode.TheVariants.{Forward, Hand, Leave, Back}
-use Rattle.apd_trace.specs.Renaming.{AreAlike, AreRenamed}
+use Rattle.apd_trace.specs.Renaming.{AreAlike, AreRenamed, IsRenamed}
 
 -- what was waiting with n boxes still waits with more
 pub AllWait-more : (n m : ℕ) (F : List Frame) → n ≤ m → AllWait n F → AllWait m F
@@ -148,6 +148,9 @@ seam : (i : Item) (o : Out) (f : ℕ → ℕ → Out) (others : ℕ → ℕ → 
 seam i o f others = ap (λ xs. i ∷ xs) (append_assoc o.items (f o.boxes o.points).items (others (f o.boxes o.points).boxes (f o.boxes o.points).points))
 
 -- a built-in goal that was solved opens its frame
+opened_front : (n : ℕ) (F G : List Frame) → IsRenamed F G → IsOpen n F → IsOpen n G
+opened_front n F G h ready = subst (IsOpen n) h.makes (IsOpen-apply n h.there F ready)
+
 opened_or : (n : ℕ) (x : Option (List (ℕ × Term))) (F G : List Frame) → AreAlike (solved_or (under x F)) (solved G) → IsOpen n F → IsOpen n G
 opened_or n None F G h ready = elim h [ ]
 opened_or n (Some s) F G h ready = opened_under n (Some s) F G h ready
@@ -156,6 +159,7 @@ opened_by : (n : ℕ) (o : Outcome) (a : Term) (F : List Frame) (g : Called) (m 
 opened_by n User a F g m G h deep waits = elim h [ ]
 opened_by n (Faults e) a F g m G h deep waits = elim h [ ]
 opened_by n Fails a F g m G h deep waits = elim h [ ]
+opened_by n Succeeds a F g m G h deep waits = opened_front n (built g a m ∷ F) G h (omega arith, deep, waits)
 opened_by n (Equates l r) a F g m G h deep waits = opened_or n (unifier_of l r) (built g a m ∷ F) G h (omega arith, deep, waits)
 
 pub opened_at : (n : ℕ) (o : Option Term) (F : List Frame) (g : Called) (m : ℕ) (G : List Frame) → AreAlike (solution_at o F g m) (solved G) → g.depth ≤ n → AllWait n F → IsOpen n G
@@ -307,6 +311,7 @@ module _ (P : List Tuple) where
           by_outcome User a rs h = refl
           by_outcome (Faults e) a rs h = elim h [ ]
           by_outcome Fails a rs h = elim h [ ]
+          by_outcome Succeeds a rs h = elim h [ ]
           by_outcome (Equates l r) a rs h = by_unifier (unifier_of l r) h
             where
               by_unifier : (x : Option (List (ℕ × Term))) → AreAlike (solved_or (under x (built g a m ∷ old.current))) of_program → settled (search_from P k) rs old.current g (solved_or (under x (built g a m' ∷ old.current))) n' m' ≡ tries (search_from P k) old.current g rs n' m'

@@ -22,4 +22,6 @@ pub use running::{RunFault, run};
 #[cfg(test)]
 mod alike;
 #[cfg(test)]
+mod built_ins;
+#[cfg(test)]
 mod tests;

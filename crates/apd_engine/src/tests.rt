@@ -32,7 +32,13 @@ pub(crate) const APPEND: Sym = Sym::Fun(NameId(1004), 3);
 
 /// A port, its box, caller and depth, and its atom in prefix order.
 #[derive(Clone, Copy)]
-struct Passed<'a>(Port, u32, u32, u32, &'a [Sym]);
+pub(crate) struct Passed<'a>(
+    pub(crate) Port,
+    pub(crate) u32,
+    pub(crate) u32,
+    pub(crate) u32,
+    pub(crate) &'a [Sym],
+);
 
 /// A hook that keeps what it is shown.
 #[derive(Drop)]
@@ -137,7 +143,7 @@ pub(crate) fn add(
 }
 
 /// Runs a query, and compares what it shows.
-fn check(
+pub(crate) fn check(
     rt: &impl Abort,
     alloc: Global,
     program: &Program,

@@ -1,4 +1,11 @@
+pub mod Lines
+pub mod Steps
+pub mod Results
+pub mod Stops
+pub mod OpTerms
+pub mod Listed
 pub mod Directives
+pub mod Terms
 pub mod Program
 pub mod Warnings
 pub mod Calls

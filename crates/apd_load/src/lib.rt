@@ -1,15 +1,22 @@
 //! From the text of a file to a program, and what there is to warn of.
 #![tactic(auto)]
 
-mod lines;
+mod directives;
+mod loading;
+mod op_terms;
+mod places;
 mod reading;
+mod stop;
+mod terms;
 mod warnings;
 
-use apd_clauses::program::Program;
+use apd_clauses::Program;
+use apd_ops::Ops;
 pub use apd_term::faults::LoadCause;
 use apd_term::list::ListOf;
 use apd_term::term::Pred;
 pub use reading::load;
+use std::alloc::AllocError;
 pub use warnings::query_warnings;
 
 /// Why there is no program.
@@ -19,6 +26,17 @@ pub enum LoadText {
     Refused { line: u32, cause: LoadCause },
     /// There was no memory.
     Memory,
+}
+
+impl From<AllocError> for LoadText {
+    ghost use Rattle.std.specs.Prelude.{◌≡◌};
+    ghost use Rattle.apd_load.specs.declared.LoadText.TheVariants.{Memory};
+
+    ghost from_gives = { λ _ e. e ≡ Memory };
+
+    fn from(_: AllocError) -> Self {
+        LoadText::Memory
+    }
 }
 
 /// What is noted of a predicate in a line.
@@ -38,8 +56,12 @@ pub type Notes = ListOf<Note>;
 pub struct Loaded {
     /// The clauses, each with its line.
     pub program: Program,
-    /// Each predicate that a clause calls and that has no clauses, once, in the order of the first calls, with the line of
-    /// the clause of that call.
+    /// The operators after the last directive.
+    pub ops: Ops,
+    /// The goals of directives that were passed over, in order, each by its predicate with the line of its directive.
+    pub passed: Notes,
+    /// Each user predicate that a clause calls and that has no clauses, once, in the order of the first calls, with the
+    /// line of the clause of that call.
     pub warnings: Notes,
 }
 

@@ -1,103 +1,168 @@
-//! A text's program, line by line.
+//! A text's program, clause by clause.
 
-ghost use Rattle.std.specs.Prelude.{◌≡◌, ℕ, ◌<◌, ◌≤◌, ◌+◌, ◌++◌, List, length, IfOk, OnOk, Err};
-ghost use Rattle.apd_term.specs.Named.{AllTuplesNamed, TupleIsNamed};
+ghost use Rattle.std.specs.Prelude.{◌≡◌, ℕ, ◌<◌, ◌≤◌, ◌+◌, List, length, IfOk, Err};
+ghost use Rattle.apd_term.specs.Growth.{Grown, GrowsBy};
+ghost use Rattle.apd_term.specs.Named.{AllTuplesNamed};
+ghost use Rattle.apd_term.specs.StandardNames.{standard_names};
 ghost use Rattle.apd_term.specs.declared.faults.LoadCause.{LoadCause};
-ghost use Rattle.apd_clauses.specs.Clauses.{IsClause, tuples_of};
-ghost use Rattle.apd_term.specs.Growth.{GrowsBy};
-ghost use Rattle.apd_load.specs.Program.{program_of, loads, refused};
-ghost use Rattle.apd_load.specs.Steps.{AddsClause, AddsLine};
+ghost use Rattle.apd_token.specs.Grammar.{HasTokens};
+ghost use Rattle.apd_read.specs.Reader.{Reader};
+ghost use Rattle.apd_clauses.specs.Clauses.{tuples_of};
+ghost use Rattle.apd_load.specs.Program.{place_of_fault, place_of_token_fault, at_first, all_loaded, program_of, loads, refused};
+ghost use Rattle.apd_load.specs.Steps.{told_of, IsLoaded, LoadingIsNamed};
 ghost use Rattle.apd_load.specs.Warnings.{NotesAreNamed, warnings_of};
 
-use crate::lines::line_end;
+use crate::loading::Loading;
+use crate::places::{FIRST, line_of};
+use crate::stop::Stop;
+use crate::terms::load_term;
 use crate::warnings::warnings;
-use crate::{LoadText, Loaded};
-use apd_clauses::clause::Clause;
-use apd_clauses::program::{AddFault, Program};
-use apd_plain::read_clause;
-use apd_term::faults::LoadCause;
-use apd_term::names::Names;
-use apd_term::tuple::Tuple;
-use std::alloc::Global;
+use crate::{LoadText, Loaded, Notes};
+use apd_clauses::Program;
+use apd_ops::Ops;
+use apd_read::read_clause;
+use apd_term::{Names, ReadFault, TokenFault};
+use apd_token::{Tokens, tokens};
+use std::alloc::{AllocError, Global};
 
-/// Adds a clause with its line.
-fn add_clause(program: &mut Program, tuple: Tuple, line: u32) -> Result<(), LoadText>
-    requires { IsClause tuple }
-    ensures { AddsClause tuple line program.old program.new result }
+/// Where a fault is told.
+fn place_of_fault(fault: ReadFault) -> u32
+    ensures { result ≡ place_of_fault fault }
 {
-    match program.add(Clause { tuple, line }) {
-        Ok(_) => Ok(()),
-        Err(AddFault::ClausesOver) => Err(LoadText::Refused {
-            line,
-            cause: LoadCause::ClausesOver,
-        }),
-        Err(AddFault::Memory) => Err(LoadText::Memory),
+    match fault {
+        ReadFault::NoTerm(at)
+        | ReadFault::Priority(at)
+        | ReadFault::Unclosed(at)
+        | ReadFault::Stray(at)
+        | ReadFault::NoEnd(at)
+        | ReadFault::ArityOver(at)
+        | ReadFault::Wide(at)
+        | ReadFault::TooDeep(at) => at,
+        ReadFault::Memory => 0,
     }
 }
 
-/// Adds the clause that a line is.
-fn add_line(
+/// Where a fault is told.
+fn place_of_token_fault(fault: TokenFault) -> u32
+    ensures { result ≡ place_of_token_fault fault }
+{
+    match fault {
+        TokenFault::NotUtf8(at)
+        | TokenFault::BadChar(at)
+        | TokenFault::OpenQuote(at)
+        | TokenFault::OpenComment(at)
+        | TokenFault::BadEscape(at)
+        | TokenFault::NumberTooWide(at)
+        | TokenFault::FloatLiteral(at) => at,
+        TokenFault::Memory => 0,
+    }
+}
+
+/// The answer where loading stops in a line.
+fn told(line: u32, stop: Stop) -> LoadText
+    ensures { result ≡ told_of line stop }
+{
+    match stop {
+        Stop::Cause(cause) => LoadText::Refused { line, cause },
+        Stop::Memory => LoadText::Memory,
+    }
+}
+
+/// No clause yet, and the standard operators.
+fn at_first(alloc: Global) -> Result<Loading, AllocError>
+    ensures { IfOk result (λ s. s ≡ at_first) }
+{
+    Ok(Loading {
+        program: Program::new(alloc),
+        ops: Ops::standard(alloc)?,
+        passed: Notes::new(alloc),
+    })
+}
+
+/// Loads the clauses and directives that the tokens of a text are, one after the other, each read with the operators that
+/// stand before it.
+fn load_clauses(
     alloc: Global,
-    program: &mut Program,
-    names: &mut Names,
     text: &[u8],
-    line: u32,
-) -> Result<(), LoadText>
-    requires { length names.old + length text.now < 4000000000 }
-    ensures names { GrowsBy (length text.now) names.old names.new }
-    ensures added { AddsLine text.now line names.new program.old program.new result }
-{
-    match read_clause(alloc, names, text) {
-        Ok(Some(tuple)) => add_clause(program, tuple, line),
-        Ok(None) => Err(LoadText::Refused {
-            line,
-            cause: LoadCause::NotBuilt,
-        }),
-        Err(_) => Err(LoadText::Memory),
-    }
-}
-
-/// The program that a text is, without what there is to warn of.
-fn read_program(alloc: Global, text: &[u8], names: &mut Names) -> Result<Program, LoadText>
+    tokens: &Tokens,
+    names: &mut Names,
+) -> Result<Loading, LoadText>
+    requires standard { length standard_names ≤ length names.old }
     requires room { length names.old + length text.now < 4000000000 }
     requires size { length text.now ≤ 1048576 }
+    requires tokens { HasTokens text.now tokens.now }
     ensures grows { GrowsBy (length text.now) names.old names.new }
-    ensures loaded { IfOk result (λ p. (more : List (List ℕ)) → program_of (names.new ++ more) text.now ≡ loads p) }
-    ensures refused { (line : ℕ) (cause : LoadCause) → result ≡ Err (LoadText.Refused line cause) → (more : List (List ℕ)) → program_of (names.new ++ more) text.now ≡ refused line cause }
-    ensures named { IfOk result (λ p. AllTuplesNamed (length names.new) (tuples_of p)) }
+    ensures loaded { IsLoaded (λ n reader. all_loaded reader text.now tokens.now) names.new result }
+    ensures named { IfOk result (LoadingIsNamed (length names.new)) }
 {
-    let mut program = Program::new(alloc);
+    let mut loading = at_first(alloc)?;
+    let mut last = FIRST;
     let mut at = 0;
-    let mut line: u32 = 1;
-    'lines: while at < text.len() {
-        let end = line_end(text, at);
-        if end > at {
-            if let Err(fault) = add_line(alloc, &mut program, names, &text[at..end], line) {
-                return Err(fault);
+    'clauses: while at < tokens.len() {
+        loading.ops.has_no_clash();
+        let read = match read_clause(alloc, &loading.ops, names, text, tokens, at) {
+            Ok(read) => read,
+            Err(fault) => {
+                let line = line_of(text, &mut last, place_of_fault(fault));
+                return Err(told(line, Stop::from(fault)));
             }
+        };
+        let line = line_of(text, &mut last, read.start);
+        if let Err(stop) = load_term(alloc, &mut loading, line, &read.term) {
+            return Err(told(line, stop));
         }
-        at = end + 1;
-        line += 1;
+        at = read.next;
     }
-    Ok(program)
+    Ok(loading)
 }
 
-/// The program that a text is: a clause on each line that isn't empty; and what there is to warn of.
-///
-/// The first line that is no clause, or that has one too many, is told. After a refusal the names have only grown.
-pub fn load(alloc: Global, text: &[u8], names: &mut Names) -> Result<Loaded, LoadText>
+/// What a text makes, without what there is to warn of.
+fn load_text(alloc: Global, text: &[u8], names: &mut Names) -> Result<Loading, LoadText>
+    requires standard { length standard_names ≤ length names.old }
     requires room { length names.old + length text.now < 4000000000 }
     requires size { length text.now ≤ 1048576 }
     ensures grows { GrowsBy (length text.now) names.old names.new }
-    ensures loaded { IfOk result (λ l. (more : List (List ℕ)) → program_of (names.new ++ more) text.now ≡ loads l.program) }
-    ensures refused { (line : ℕ) (cause : LoadCause) → result ≡ Err (LoadText.Refused line cause) → (more : List (List ℕ)) → program_of (names.new ++ more) text.now ≡ refused line cause }
+    ensures loaded { IsLoaded (λ n reader. program_of reader text.now) names.new result }
+    ensures named { IfOk result (LoadingIsNamed (length names.new)) }
+{
+    match tokens(alloc, text) {
+        Ok(tokens) => load_clauses(alloc, text, &tokens, names),
+        Err(fault) => {
+            let mut last = FIRST;
+            let line = line_of(text, &mut last, place_of_token_fault(fault));
+            Err(told(line, Stop::from(fault)))
+        }
+    }
+}
+
+/// The program that a text is: its clauses, each with its line; the operators that its directives leave, the directives
+/// that were passed over, and what there is to warn of.
+///
+/// All tokens come first, then the clauses and directives one after the other, each read with the operators that stand
+/// before it. The first fault is told: a fault of a token or of a reading in the line of its place, any other cause in the
+/// line of the clause's first token. After a refusal the names have only grown.
+pub fn load(alloc: Global, text: &[u8], names: &mut Names) -> Result<Loaded, LoadText>
+    requires standard { length standard_names ≤ length names.old }
+    requires room { length names.old + length text.now < 4000000000 }
+    requires size { length text.now ≤ 1048576 }
+    ensures grows { GrowsBy (length text.now) names.old names.new }
+    ensures loaded { IfOk result (λ l. (n : List (List ℕ)) → Grown names.new n → (reader : Reader n) → program_of reader text.now ≡ loads (record { program = l.program; ops = l.ops; passed = l.passed })) }
+    ensures refused { (line : ℕ) (cause : LoadCause) → result ≡ Err (LoadText.Refused line cause) → (n : List (List ℕ)) → Grown names.new n → (reader : Reader n) → program_of reader text.now ≡ refused line cause }
     ensures named { IfOk result (λ l. AllTuplesNamed (length names.new) (tuples_of l.program)) }
+    ensures passed { IfOk result (λ l. NotesAreNamed (length names.new) l.passed) }
     ensures warnings { IfOk result (λ l. l.warnings ≡ warnings_of l.program) }
     ensures noted { IfOk result (λ l. NotesAreNamed (length names.new) l.warnings) }
 {
-    let program = read_program(alloc, text, names)?;
-    match warnings(alloc, &program) {
-        Ok(warnings) => Ok(Loaded { program, warnings }),
-        Err(_) => Err(LoadText::Memory),
-    }
+    let Loading {
+        program,
+        ops,
+        passed,
+    } = load_text(alloc, text, names)?;
+    let warnings = warnings(alloc, &program)?;
+    Ok(Loaded {
+        program,
+        ops,
+        passed,
+        warnings,
+    })
 }

@@ -1,5 +1,5 @@
 -- When a definition would make two operators clash.
-use Rattle.std.proofs.Common.{◌≡◌, ℕ, ◌≤◌, Bool, true, false, Option, None, Some, ◌⊎◌, inl, inr, refl, sym, ◌∙◌, ap, subst, arith, eq-eqb}
+use Rattle.std.proofs.Common.{◌≡◌, ℕ, ◌≤◌, Bool, true, false, Option, None, Some, ◌⊎◌, inl, inr, refl, sym, ◌∙◌, ap, subst, arith, eq-eqb, true≢false}
 use borrow.Author.Tests.{eqb-true}
 use Rattle.std.specs.Prelude.{nat_eq, ◌||◌, ◌&&◌, not, if◌then◌else◌, IsTrue}
 use Rattle.std.specs.List.{list_any, IsDistinct}
@@ -43,15 +43,8 @@ given_positive p k le = by (p, k) (nat_eq p 0) refl
 
 -- the new operator groups to the right, the other to the left
 right_clash : (p : ℕ) (k : OpKind) (n : Meaning) → p ≡ n.0 → right_kind k → n.1 ≡ Yfx → clashes (p, k) n ≡ true
-right_clash p k n same right left = step (nat_eq p n.0) (groups_right k) (groups_left n.1) (groups_left k && groups_right n.1) (eq-eqb p n.0 same) (is_right k right) (ap groups_left left)
+right_clash p k n same right left = step (nat_eq p n.0) (groups_right k) (groups_left n.1) (groups_left k && groups_right n.1) (eq-eqb p n.0 same) right (ap groups_left left)
   where
-    is_right : (j : OpKind) → right_kind j → groups_right j ≡ true
-    is_right Xfx r = absurd r
-    is_right Xfy r = refl
-    is_right Yfx r = absurd r
-    is_right Fx r = absurd r
-    is_right Fy r = refl
-
     step : (a b c d : Bool) → a ≡ true → b ≡ true → c ≡ true → (a && (b && c || d)) ≡ true
     step true true true d x y z = refl
     step false b c d x y z = absurd cc
@@ -60,15 +53,8 @@ right_clash p k n same right left = step (nat_eq p n.0) (groups_right k) (groups
 
 -- the new operator groups to the left, the other to the right
 left_clash : (p : ℕ) (k : OpKind) (n : Meaning) → n.0 ≡ p → right_kind n.1 → k ≡ Yfx → clashes (p, k) n ≡ true
-left_clash p k n same right left = step (nat_eq p n.0) (groups_right k && groups_left n.1) (groups_left k) (groups_right n.1) (eq-eqb p n.0 (sym same)) (ap groups_left left) (is_right n.1 right)
+left_clash p k n same right left = step (nat_eq p n.0) (groups_right k && groups_left n.1) (groups_left k) (groups_right n.1) (eq-eqb p n.0 (sym same)) (ap groups_left left) right
   where
-    is_right : (j : OpKind) → right_kind j → groups_right j ≡ true
-    is_right Xfx r = absurd r
-    is_right Xfy r = refl
-    is_right Yfx r = absurd r
-    is_right Fx r = absurd r
-    is_right Fy r = refl
-
     step : (a d b c : Bool) → a ≡ true → b ≡ true → c ≡ true → (a && (d || b && c)) ≡ true
     step true true b c x y z = refl
     step true false true true x y z = refl
@@ -103,7 +89,7 @@ in_infixes : (t : Lists) (p : ℕ) (k : OpKind) (f g : ℕ) (m : Meaning) → in
 in_infixes t p k f g m there free is = or_right _ _ (any_of (clashes_unless (not (is_prefix_kind k)) f (p, k)) t.infixes (g, m) (lookup_among g t.infixes m (sym (meaning_at t.infixes g) ∙ there)) (unless (not (is_prefix_kind k)) true (clashes (p, k) m) f g free is))
 
 right_not_yfx : (k : OpKind) → right_kind k → k ≡ Yfx → ⊥
-right_not_yfx k r e = subst right_kind e r
+right_not_yfx k r e = true≢false (sym r ∙ ap groups_right e)
 
 not_both : (b : Bool) → b ≡ true → not b ≡ true → ⊥
 not_both true x y = cc
@@ -173,13 +159,6 @@ or_says : (a b : Bool) → (a || b) ≡ true → (a ≡ true) ⊎ (b ≡ true)
 or_says true b h = inl refl
 or_says false b h = inr h
 
-right_of : (k : OpKind) → groups_right k ≡ true → right_kind k
-right_of Xfx h = absurd cc
-right_of Xfy h = tt
-right_of Yfx h = absurd cc
-right_of Fx h = absurd cc
-right_of Fy h = tt
-
 left_of : (k : OpKind) → groups_left k ≡ true → k ≡ Yfx
 left_of Xfx h = absurd cc
 left_of Xfy h = absurd cc
@@ -192,8 +171,8 @@ clash_says p k n h =
     let a = and_says (nat_eq p n.0) (groups_right k && groups_left n.1 || groups_left k && groups_right n.1) h in (
       eqb-true p n.0 a.0,
       elim (or_says (groups_right k && groups_left n.1) (groups_left k && groups_right n.1) a.1) [
-        | inl r ↦ let s = and_says (groups_right k) (groups_left n.1) r in inl (right_of k s.0, left_of n.1 s.1)
-        | inr l ↦ let s = and_says (groups_left k) (groups_right n.1) l in inr (left_of k s.0, right_of n.1 s.1)
+        | inl r ↦ let s = and_says (groups_right k) (groups_left n.1) r in inl (s.0, left_of n.1 s.1)
+        | inr l ↦ let s = and_says (groups_left k) (groups_right n.1) l in inr (left_of k s.0, s.1)
       ],
     )
 
@@ -218,7 +197,7 @@ puts b f p k old is le = by (b && nat_eq f f) (step b (nat_eq f f) is (eq-eqb f 
     by false e = absurd cc
 
 prefix_not_yfx : (m : Meaning) → prefix_kind m.1 → m.1 ≡ Yfx → ⊥
-prefix_not_yfx m pre e = subst prefix_kind e pre
+prefix_not_yfx m pre e = true≢false (sym pre ∙ ap is_prefix_kind e)
 
 from_prefixes : (t : Lists) (p : ℕ) (k : OpKind) (f : ℕ) → IsTable (table_of t) → IsDistinct nat_eq (keys_of t.prefixes) → 1 ≤ p → list_any (clashes_unless (is_prefix_kind k) f (p, k)) t.prefixes ≡ true → WouldClash (table_of t) p k f
 from_prefixes t p k f table distinct le h =

@@ -5,26 +5,11 @@ use Rattle.std.specs.Prelude.{nat_eq, ◌&&◌, not, if◌then◌else◌}
 use Rattle.apd_term.specs.declared.term.NameId.{NameId}
 use Rattle.apd_term.specs.declared.standard.TheConstants.{COMMA, BAR, NIL, CURLY}
 use Rattle.apd_ops.specs.declared.op.OpKind.{OpKind}
-use Rattle.apd_ops.specs.declared.op.OpKind.TheVariants.{Xfx, Xfy, Yfx, Fx, Fy}
 use Rattle.apd_ops.specs.Operators.{is_prefix_kind, prefix_kind, infix_kind}
 use Rattle.apd_ops.specs.Table.{Meaning, Table, prefix_in, infix_in, IsTable, IsNoOperator, IsFixed, with_meaning, defined, WouldClash, Sets}
 use Rattle.apd_ops.proofs.Entries.{Entry}
 use Rattle.apd_ops.proofs.Looked.{Lists, table_of, given, prefix_at, infix_at}
 use Rattle.apd_ops.proofs.Clashes.{which_prefix, which_infix, given_is}
-
-is_pre : (j : OpKind) → is_prefix_kind j ≡ true → prefix_kind j
-is_pre Xfx e = absurd cc
-is_pre Xfy e = absurd cc
-is_pre Yfx e = absurd cc
-is_pre Fx e = tt
-is_pre Fy e = tt
-
-is_inf : (j : OpKind) → not (is_prefix_kind j) ≡ true → infix_kind j
-is_inf Xfx e = tt
-is_inf Xfy e = tt
-is_inf Yfx e = tt
-is_inf Fx e = absurd cc
-is_inf Fy e = absurd cc
 
 positive : (q : ℕ) (j : OpKind) (m : Meaning) → given q j ≡ Some m → 1 ≤ q
 positive q j m e = by (nat_eq q 0) refl e
@@ -58,11 +43,11 @@ module _ (t : Table) (p : ℕ) (k : OpKind) (f : NameId) where
   pub stays : IsTable t → p ≤ 1200 → (IsFixed f → ⊥) → (WouldClash t p k f.0 → ⊥) → IsTable (defined t p k f.0)
   stays table le free apart = record {
     prefixes_are = λ g m h. elim (which_prefix t p k f.0 g m h) [
-      | inl n ↦ subst (λ (w : Meaning). prefix_kind w.1 × (1 ≤ w.0) × (w.0 ≤ 1200)) (given_is p k m n.1) (is_pre k n.0, positive p k m n.1, le)
+      | inl n ↦ subst (λ (w : Meaning). prefix_kind w.1 × (1 ≤ w.0) × (w.0 ≤ 1200)) (given_is p k m n.1) (n.0, positive p k m n.1, le)
       | inr o ↦ table.prefixes_are g m o.1
     ];
     infixes_are = λ g m h. elim (which_infix t p k f.0 g m h) [
-      | inl n ↦ subst (λ (w : Meaning). infix_kind w.1 × (1 ≤ w.0) × (w.0 ≤ 1200)) (given_is p k m n.1) (is_inf k n.0, positive p k m n.1, le)
+      | inl n ↦ subst (λ (w : Meaning). infix_kind w.1 × (1 ≤ w.0) × (w.0 ≤ 1200)) (given_is p k m n.1) (n.0, positive p k m n.1, le)
       | inr o ↦ table.infixes_are g m o.1
     ];
     apart = apart;

@@ -4,8 +4,7 @@ use borrow.Author.Tests.{leb-true}
 use Rattle.std.specs.Prelude.{nat_le, ◌==◌, ◌&&◌, not}
 use Rattle.std.specs.List.{list_all}
 use Rattle.apd_term.specs.declared.standard.TheConstants.{COMMA, BAR, NIL, CURLY}
-use Rattle.apd_ops.specs.declared.op.OpKind.{OpKind}
-use Rattle.apd_ops.specs.declared.op.OpKind.TheVariants.{Xfx, Xfy, Yfx, Fx, Fy}
+use Rattle.apd_ops.specs.declared.op.OpKind.TheVariants.{Yfx}
 use Rattle.apd_ops.specs.Operators.{is_prefix_kind, prefix_kind, infix_kind, right_kind, groups_right, groups_left}
 use Rattle.apd_ops.specs.Table.{Meaning, IsTable, prefix_in, infix_in}
 use Rattle.apd_ops.specs.Standard.{standard_prefixes, standard_infixes, standard_table}
@@ -42,35 +41,14 @@ apart_from e g = not ((e.1.0 == g.1.0) && (groups_right e.1.1 && groups_left g.1
 abbrev apart_from_infixes : Entry → Bool
 apart_from_infixes e = list_all (apart_from e) standard_infixes
 
-is_prefix : (k : OpKind) → is_prefix_kind k ≡ true → prefix_kind k
-is_prefix Xfx e = absurd cc
-is_prefix Xfy e = absurd cc
-is_prefix Yfx e = absurd cc
-is_prefix Fx e = tt
-is_prefix Fy e = tt
-
-is_infix : (k : OpKind) → not (is_prefix_kind k) ≡ true → infix_kind k
-is_infix Xfx e = tt
-is_infix Xfy e = tt
-is_infix Yfx e = tt
-is_infix Fx e = absurd cc
-is_infix Fy e = absurd cc
-
 bounds : (e : Entry) → has_priority e ≡ true → (1 ≤ e.1.0) × (e.1.0 ≤ 1200)
 bounds e h = (leb-true 1 e.1.0 (and_first (nat_le 1 e.1.0) (nat_le e.1.0 1200) h), leb-true e.1.0 1200 (and_second (nat_le 1 e.1.0) (nat_le e.1.0 1200) h))
 
 prefix_says : (e : Entry) → prefix_fine e ≡ true → prefix_kind e.1.1 × (1 ≤ e.1.0) × (e.1.0 ≤ 1200)
-prefix_says e h = let b = bounds e (and_second (is_prefix_kind e.1.1) (has_priority e) h) in (is_prefix e.1.1 (and_first (is_prefix_kind e.1.1) (has_priority e) h), b.0, b.1)
+prefix_says e h = let b = bounds e (and_second (is_prefix_kind e.1.1) (has_priority e) h) in (and_first (is_prefix_kind e.1.1) (has_priority e) h, b.0, b.1)
 
 infix_says : (e : Entry) → infix_fine e ≡ true → infix_kind e.1.1 × (1 ≤ e.1.0) × (e.1.0 ≤ 1200)
-infix_says e h = let b = bounds e (and_second (not (is_prefix_kind e.1.1)) (has_priority e) h) in (is_infix e.1.1 (and_first (not (is_prefix_kind e.1.1)) (has_priority e) h), b.0, b.1)
-
-right_groups : (k : OpKind) → right_kind k → groups_right k ≡ true
-right_groups Xfx r = absurd r
-right_groups Xfy r = refl
-right_groups Yfx r = absurd r
-right_groups Fx r = absurd r
-right_groups Fy r = refl
+infix_says e h = let b = bounds e (and_second (not (is_prefix_kind e.1.1)) (has_priority e) h) in (and_first (not (is_prefix_kind e.1.1)) (has_priority e) h, b.0, b.1)
 
 not_all : (a b c : Bool) → a ≡ true → b ≡ true → c ≡ true → not (a && (b && c)) ≡ true → ⊥
 not_all true true true x y z h = cc
@@ -80,7 +58,7 @@ not_all true true false x y z h = cc
 
 no_clash : (e g : Entry) → apart_from_infixes e ≡ true → Among g standard_infixes → e.1.0 ≡ g.1.0 → right_kind e.1.1 → g.1.1 ≡ Yfx → ⊥
 no_clash e g all there same right left =
-    not_all (e.1.0 == g.1.0) (groups_right e.1.1) (groups_left g.1.1) (eq-eqb e.1.0 g.1.0 same) (right_groups e.1.1 right) (ap groups_left left)
+    not_all (e.1.0 == g.1.0) (groups_right e.1.1) (groups_left g.1.1) (eq-eqb e.1.0 g.1.0 same) right (ap groups_left left)
     (all_of (apart_from e) standard_infixes g all there)
 
 in_prefixes : (f : ℕ) (m : Meaning) → prefix_in standard_table f ≡ Some m → Among (f, m) standard_prefixes

@@ -13,7 +13,7 @@ use Rattle.apd_ops.specs.declared.op.OpFault.{OpFault}
 use Rattle.apd_ops.specs.declared.op.OpFault.TheVariants as faults
 use Rattle.apd_ops.specs.declared.op.OpKind.{OpKind}
 use Rattle.apd_ops.specs.declared.op.OpKind.TheVariants.{Xfx, Xfy, Yfx, Fx, Fy}
-use Rattle.apd_ops.specs.Operators.{groups_right, groups_left, right_kind}
+use Rattle.apd_ops.specs.Operators.{groups_right, groups_left}
 use Rattle.apd_ops.specs.Table.{Meaning, Meanings, Table, HasClash, Clash, prefix_in, infix_in, defined, IsFixed, IsPriority, IsMade, IsRefused}
 use Rattle.apd_ops.specs.Definition.{is_clash, has_clash, is_fixed, definition, definition_by}
 
@@ -77,20 +77,6 @@ only_yfx Yfx h = refl
 only_yfx Fx h = absurd cc
 only_yfx Fy h = absurd cc
 
-to_right : (k : OpKind) → groups_right k ≡ true → right_kind k
-to_right Xfx h = absurd cc
-to_right Xfy h = tt
-to_right Yfx h = absurd cc
-to_right Fx h = absurd cc
-to_right Fy h = tt
-
-is_right : (k : OpKind) → right_kind k → groups_right k ≡ true
-is_right Xfx h = absurd h
-is_right Xfy h = refl
-is_right Yfx h = absurd h
-is_right Fx h = absurd h
-is_right Fy h = refl
-
 -- two meanings that clash by the test
 pub record Clashing (m n : Option Meaning) : Type 0 where
   pub meaning : Meaning
@@ -110,11 +96,11 @@ clashing (Some m) (Some n) h =
       grouping = n;
       is_meaning = refl;
       is_infix = refl;
-      clash = record { same = eqb-true m.0 n.0 a.0; to_right = to_right m.1 b.0; to_left = only_yfx n.1 b.1 };
+      clash = record { same = eqb-true m.0 n.0 a.0; to_right = b.0; to_left = only_yfx n.1 b.1 };
     }
 
 clash_holds : (m n : Option Meaning) (a b : Meaning) → m ≡ Some a → n ≡ Some b → Clash a b → is_clash m n ≡ true
-clash_holds m n a b p q c = rw (p, q) (and_both (nat_eq a.0 b.0) (groups_right a.1 && groups_left b.1) (eq-eqb a.0 b.0 c.same) (and_both (groups_right a.1) (groups_left b.1) (is_right a.1 c.to_right) (ap groups_left c.to_left)))
+clash_holds m n a b p q c = rw (p, q) (and_both (nat_eq a.0 b.0) (groups_right a.1 && groups_left b.1) (eq-eqb a.0 b.0 c.same) (and_both (groups_right a.1) (groups_left b.1) c.to_right (ap groups_left c.to_left)))
 
 module _ (t : Table) where
   abbrev at : ℕ → ℕ → Bool

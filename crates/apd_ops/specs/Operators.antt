@@ -1,5 +1,5 @@
 -- Operators: their kinds and the priorities of their operands (ISO/IEC 13211-1 section 6.3.4).
-use Rattle.std.specs.Prelude.{ℕ, ◌-◌, Bool, true, false}
+use Rattle.std.specs.Prelude.{ℕ, ◌-◌, Bool, true, false, not, IsTrue}
 use Rattle.apd_ops.specs.declared.op.OpKind.{OpKind}
 use Rattle.apd_ops.specs.declared.op.OpKind.TheVariants.{Xfx, Xfy, Yfx, Fx, Fy}
 use Rattle.apd_ops.specs.declared.op.Op.{Op}
@@ -36,41 +36,28 @@ is_prefix_kind Fx = true
 is_prefix_kind Fy = true
 
 abbrev pub prefix_kind : OpKind → Type 0
-prefix_kind Xfx = ⊥
-prefix_kind Xfy = ⊥
-prefix_kind Yfx = ⊥
-prefix_kind Fx = Unit {0}
-prefix_kind Fy = Unit {0}
+prefix_kind k = IsTrue (is_prefix_kind k)
 
 abbrev pub IsPrefix : Op → Type 0
 IsPrefix o = prefix_kind o.kind
 
 -- the kind stands between its two operands
 abbrev pub infix_kind : OpKind → Type 0
-infix_kind Xfx = Unit {0}
-infix_kind Xfy = Unit {0}
-infix_kind Yfx = Unit {0}
-infix_kind Fx = ⊥
-infix_kind Fy = ⊥
+infix_kind k = IsTrue (not (is_prefix_kind k))
 
 abbrev pub IsInfix : Op → Type 0
 IsInfix o = infix_kind o.kind
 
 -- xfy and fy operators may have an operand of their own priority on the right
-abbrev pub right_kind : OpKind → Type 0
-right_kind Xfx = ⊥
-right_kind Xfy = Unit {0}
-right_kind Yfx = ⊥
-right_kind Fx = ⊥
-right_kind Fy = Unit {0}
-
--- the same, as a test
 abbrev pub groups_right : OpKind → Bool
 groups_right Xfx = false
 groups_right Xfy = true
 groups_right Yfx = false
 groups_right Fx = false
 groups_right Fy = true
+
+abbrev pub right_kind : OpKind → Type 0
+right_kind k = IsTrue (groups_right k)
 
 -- yfx operators may have an operand of their own priority on the left
 abbrev pub groups_left : OpKind → Bool

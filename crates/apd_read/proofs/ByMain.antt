@@ -1,9 +1,9 @@
 -- In a table without a clash, reading by the grammar is reading by the main operators.
-use Rattle.std.proofs.Common.{◌≡◌, ℕ, ◌≤◌, Some, inl, inr, Result, Ok, Err, List, [], ◌∷◌, ◌++◌, refl, subst}
+use Rattle.std.proofs.Common.{◌≡◌, ℕ, ◌≤◌, Some, inl, inr, Result, Ok, Err, List, [], ◌∷◌, ◌++◌, refl, subst, sym, ◌∙◌, ap, true≢false}
 use Rattle.apd_read.specs.declared.phrase.Phrase.{Phrase}
 use Rattle.apd_ops.specs.declared.op.Op.{Op}
 use Rattle.apd_ops.specs.declared.op.OpKind.TheVariants.{Yfx}
-use Rattle.apd_ops.specs.Operators.{prefix_kind}
+use Rattle.apd_ops.specs.Operators.{is_prefix_kind}
 use Rattle.apd_ops.specs.Table.{Table, IsTable, infix_in}
 use Rattle.apd_read.specs.declared.lexeme.Lexeme.{Lexeme}
 use Rattle.apd_read.specs.Reading.{Piece, Operand, Operator}
@@ -63,7 +63,7 @@ positive_in ops o c i = elim i [ inl p ↦ (c.prefixes_are o.name.0 (o.priority,
 -- a yfx operator is an infix one
 infix_yfx : (ops : Table) (q : Op) → IsTable ops → IsIn q ops → q.kind ≡ Yfx → infix_in ops q.name.0 ≡ Some (q.priority, q.kind)
 infix_yfx ops q c i e = elim i [
-  | inl p ↦ let pre : prefix_kind q.kind = (c.prefixes_are q.name.0 (q.priority, q.kind) p).0 in absurd (subst prefix_kind e pre)
+  | inl p ↦ absurd (true≢false (sym (c.prefixes_are q.name.0 (q.priority, q.kind) p).0 ∙ ap is_prefix_kind e))
   | inr f ↦ f
 ]
 
@@ -85,7 +85,7 @@ no_clash {ops} c h = record {
 }
 
 mutual
-  scans_by_main : {ops : Table} {ts : List Lexeme} {k : Inside} {from at : ℕ} {ps : List Piece} {place : Place}
+  pub scans_by_main : {ops : Table} {ts : List Lexeme} {k : Inside} {from at : ℕ} {ps : List Piece} {place : Place}
       → IsTable ops → Scans Reads ops ts k from ps place at → Scans Splits ops ts k from ps place at
   scans_by_main c item_begins = item_begins
   scans_by_main c (then_word t n s e) = then_word t n (scans_by_main c s) e
@@ -99,7 +99,7 @@ mutual
   elements_by_main c (then_element t e s g r h) = then_element t (elements_by_main c e) (scans_by_main c s) g (Splits_from_Reads (no_clash c (from_scans c s)) r) h
   elements_by_main c (then_tail t e s g r) = then_tail t (elements_by_main c e) (scans_by_main c s) g (Splits_from_Reads (no_clash c (from_scans c s)) r)
 
-  fills_by_main : {ops : Table} {ts : List Lexeme} {k : Inside} {from next : ℕ} {t : Phrase}
+  pub fills_by_main : {ops : Table} {ts : List Lexeme} {k : Inside} {from next : ℕ} {t : Phrase}
       → IsTable ops → Fills Reads ops ts k from t next → Fills Splits ops ts k from t next
   fills_by_main c (filled t e s g r) = filled t (elements_by_main c e) (scans_by_main c s) g (Splits_from_Reads (no_clash c (from_scans c s)) r)
 

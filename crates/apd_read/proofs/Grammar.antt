@@ -32,10 +32,10 @@ left_at_most o = left_below o.kind o.priority
 
 right_strict : (k : OpKind) (p : ℕ) → 1 ≤ p → (right_by k p < p) ⊎ right_kind k
 right_strict Xfx p h = inl (omega arith)
-right_strict Xfy p h = inr tt
+right_strict Xfy p h = inr refl
 right_strict Yfx p h = inl (omega arith)
 right_strict Fx p h = inl (omega arith)
-right_strict Fy p h = inr tt
+right_strict Fy p h = inr refl
 
 left_strict : (k : OpKind) (p : ℕ) → 1 ≤ p → (left_by k p < p) ⊎ (k ≡ Yfx)
 left_strict Xfx p h = inl (omega arith)
@@ -45,11 +45,11 @@ left_strict Fx p h = inl (omega arith)
 left_strict Fy p h = inl (omega arith)
 
 kinds_apart : (k : OpKind) → prefix_kind k → infix_kind k → ⊥
-kinds_apart Xfx a b = a
-kinds_apart Xfy a b = a
-kinds_apart Yfx a b = a
-kinds_apart Fx a b = b
-kinds_apart Fy a b = b
+kinds_apart Xfx a b = cc
+kinds_apart Xfy a b = cc
+kinds_apart Yfx a b = cc
+kinds_apart Fx a b = cc
+kinds_apart Fy a b = cc
 
 -- not both
 pub not_both : (o q : Op) → o ≡ q → IsPrefix o → IsInfix q → ⊥

@@ -6,8 +6,6 @@ use std::alloc::AllocError;
 /// Why a program's text is refused.
 #[derive(Clone, Copy, Debug, PartialEq, Eq)]
 pub enum LoadCause {
-    /// The clause has a form that isn't run yet.
-    NotBuilt,
     /// The text has no division into tokens.
     Token(TokenFault),
     /// A clause has no reading.

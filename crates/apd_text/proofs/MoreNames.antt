@@ -8,7 +8,7 @@ use Rattle.apd_term.proofs.Named.{TupleIsNamed-canonical}
 use Rattle.apd_term.proofs.Naming.{text_of_name-append}
 use Rattle.apd_term.specs.declared.run.Query.{Query}
 use Rattle.apd_term.specs.declared.faults.LoadCause.{LoadCause}
-use Rattle.apd_term.specs.declared.faults.LoadCause.TheVariants.{NotBuilt, Token, Read, Op, Body, ClausesOver}
+use Rattle.apd_term.specs.declared.faults.LoadCause.TheVariants.{Token, Read, Op, Body, ClausesOver}
 use Rattle.apd_term.specs.declared.faults.BodyFault.{BodyFault}
 use Rattle.apd_term.specs.declared.faults.BodyFault.TheVariants as body
 use Rattle.apd_ops.specs.Table.{Table}
@@ -16,7 +16,8 @@ use Rattle.apd_ports.specs.declared.event.Event.{Event}
 use Rattle.apd_write.proofs.MoreNames.{written-more}
 use Rattle.apd_text.specs.Causes.{body_text, cause_text}
 use Rattle.apd_text.specs.Entries.{refusal_text, text_of}
-use Rattle.apd_text.specs.Named.{FaultIsNamed, CauseIsNamed, RefusalIsNamed, EntryIsNamed}
+use Rattle.apd_term.specs.Faults.{FaultIsNamed, CauseIsNamed}
+use Rattle.apd_text.specs.Named.{RefusalIsNamed, EntryIsNamed}
 use Rattle.apd_text.specs.Lines.{goal_text, goals_of, head_text, elements, elements_of, bindings, answer_text, port_text}
 use Rattle.apd_text.specs.declared.entry.Refusal.{Refusal}
 use Rattle.apd_text.specs.declared.entry.Refusal.TheVariants as refusal
@@ -78,7 +79,6 @@ body_text-more names others body.Memory named = refl
 
 cause_text-more : (names others : List (List ℕ)) (c : LoadCause) → CauseIsNamed (length names) c → cause_text (names ++ others) c ≡ cause_text names c
 unfolding cause_text
-cause_text-more names others NotBuilt named = refl
 cause_text-more names others (Token f) named = refl
 cause_text-more names others (Read f) named = refl
 cause_text-more names others (Op c) named = refl
@@ -87,7 +87,6 @@ cause_text-more names others ClausesOver named = refl
 
 refusal_text-more : (names others : List (List ℕ)) (r : Refusal) → RefusalIsNamed (length names) r → refusal_text (names ++ others) r ≡ refusal_text names r
 unfolding refusal_text
-refusal_text-more names others refusal.NotBuilt named = refl
 refusal_text-more names others (refusal.Syntax c) named = rw (cause_text-more names others c named) refl
 refusal_text-more names others refusal.TooLong named = refl
 refusal_text-more names others refusal.NotACommand named = refl

@@ -21,7 +21,6 @@ at_byte (Some place) = codes " at byte " ++ decimal place
 
 -- why a command is refused
 unfoldable pub refusal_text : List (List ℕ) → Refusal → List ℕ
-refusal_text names refusal.NotBuilt = codes "E0 not built"
 refusal_text names (refusal.Syntax cause) = codes "E1 syntax: " ++ cause_text names cause ++ at_byte (cause_place cause)
 refusal_text names refusal.TooLong = codes "E2 too long"
 refusal_text names refusal.NotACommand = codes "E3 not a command"

@@ -1,23 +1,11 @@
 -- Entries whose names are among the first n names.
 use Rattle.std.specs.Prelude.{ℕ, ◌<◌}
 use Rattle.apd_term.specs.Named.{TupleIsNamed}
-use Rattle.apd_term.specs.declared.faults.LoadCause.{LoadCause}
-use Rattle.apd_term.specs.declared.faults.LoadCause.TheVariants.{Body}
-use Rattle.apd_term.specs.declared.faults.BodyFault.{BodyFault}
-use Rattle.apd_term.specs.declared.faults.BodyFault.TheVariants.{HeadIsBuiltin, Impure}
+use Rattle.apd_term.specs.Faults.{FaultIsNamed, CauseIsNamed}
 use Rattle.apd_text.specs.declared.entry.Refusal.{Refusal}
 use Rattle.apd_text.specs.declared.entry.Refusal.TheVariants.{Syntax, GoalRefused}
 use Rattle.apd_text.specs.declared.entry.Entry.{Entry}
 use Rattle.apd_text.specs.declared.entry.Entry.TheVariants.{PassedOver, Warning, Run, Refused, ProgramRefused}
-
-abbrev pub FaultIsNamed : ℕ → BodyFault → Type 0
-FaultIsNamed n (HeadIsBuiltin pred) = pred.name.0 < n
-FaultIsNamed n (Impure pred) = pred.name.0 < n
-FaultIsNamed n fault = Unit {0}
-
-abbrev pub CauseIsNamed : ℕ → LoadCause → Type 0
-CauseIsNamed n (Body fault) = FaultIsNamed n fault
-CauseIsNamed n cause = Unit {0}
 
 abbrev pub RefusalIsNamed : ℕ → Refusal → Type 0
 RefusalIsNamed n (Syntax cause) = CauseIsNamed n cause

@@ -7,8 +7,6 @@ use apd_term::{Pred, Query, Ran};
 /// Why a command was refused.
 #[derive(Clone, Copy, Debug, PartialEq, Eq)]
 pub enum Refusal {
-    /// The line is not of a form that is read.
-    NotBuilt,
     /// The line has no reading: a token's or a reading's fault, at its byte in the line, counted from 0.
     Syntax(LoadCause),
     /// The line has more bytes than are read.

@@ -64,7 +64,6 @@ fn refusal_text(alloc: Global, names: &Names, refusal: Refusal) -> Result<Text, 
     ensures { IfOk result (λ t. t ≡ refusal_text names.now refusal) }
 {
     match refusal {
-        Refusal::NotBuilt => Text::copy_of(alloc, b"E0 not built"),
         Refusal::Syntax(cause) => syntax(alloc, names, cause),
         Refusal::TooLong => Text::copy_of(alloc, b"E2 too long"),
         Refusal::NotACommand => Text::copy_of(alloc, b"E3 not a command"),

@@ -2,5 +2,5 @@ use Rattle.std.proofs.Common.{length}
 use Rattle.apd_load.proofs.Calling.{warnings_named}
 use Rattle.apd_load.proofs.reading.load.Goals as goal
 
-pub returns-in-Ok-clause-noted : goal.returns-in-Ok-clause-noted
-returns-in-Ok-clause-noted c = rw c.in-Ok.ensures (warnings_named (length c.read_program.new.names) c.in_ok-program.program c.in_ok-program.ensures.named)
+pub returns-clause-noted : goal.returns-clause-noted
+returns-clause-noted c = rw c.in_ok-warnings.ensures (warnings_named (length c.load_text.new.names) _ c.in_ok-program.ensures.named.program)

@@ -1,3 +1,4 @@
+use Rattle.std.specs.FinMap.{empty}
 use Rattle.std.proofs.Common.{◌≡◌, ◌∙◌, ap, [], ◌∷◌, ◌++◌, length, length-append, arith, rules, subst}
 use Rattle.std.proofs.lemmas.List.{append-nil}
 use Rattle.std.specs.Prelude.{Option, Some, None, option_to_list}
@@ -17,7 +18,7 @@ returns-in-Some-2 c = λ ops.
 
 pub closing-smaller : goal.closing-smaller
 closing-smaller c =
-    let ops : Table = record { prefixes = []; infixes = [] } in
+    let ops : Table = record { prefixes = empty; infixes = empty } in
     let popped : c.closing.frames.items ≡ c.pop.new.self.items ++ c.in-Some.frame ∷ [] = c.pop.ensures.items ∙ ap (λ (o : Option Frame). c.pop.new.self.items ++ option_to_list o) c.in-Some.is in
     let leaves : Leaves ops c.args.names.now c.in-Some.frame c.pop.new.self.items c.leave.new.frames.items c.closing.out c.leave.new.out None =
     subst (λ (o : Option Place). Leaves ops c.args.names.now c.in-Some.frame c.pop.new.self.items c.leave.new.frames.items c.closing.out c.leave.new.out o) c.in_default-2.is (c.in_ok-place.ensures ops) in

@@ -1,0 +1,44 @@
+use Rattle.std.proofs.Common.{◌-◌, length, arith}
+use Rattle.apd_term.specs.StandardNames.{standard_names}
+use Rattle.apd_load.proofs.Reaching.{goes_first, goes_next, all_grow, grows_all, has_room, names_stay, reaches_last, term_told, fault_told}
+use Rattle.apd_load.proofs.reading.load_clauses.Goals as goal
+
+pub clauses-init : goal.clauses-init
+clauses-init c = goes_first c.args.text.now c.args.tokens.now c.args.names.now _ c.in_ok-loading.ensures
+
+pub read_clause-requires-clause-room : goal.read_clause-requires-clause-room
+read_clause-requires-clause-room c = λ t e.
+    has_room c.args.text.now c.args.tokens.now c.clauses.at c.args.names.now c.clauses.names t c.requires.tokens (omega arith) c.clauses.invariant.grows e c.requires.room
+
+pub returns-in-Err-clause-grows : goal.returns-in-Err-clause-grows
+returns-in-Err-clause-grows c =
+    all_grow c.args.text.now c.args.tokens.now c.clauses.at c.args.names.now c.clauses.names c.read_clause.new.names c.requires.tokens c.clauses.invariant.within c.clauses.invariant.grows c.read_clause.ensures.kept
+
+pub returns-in-Err-clause-loaded : goal.returns-in-Err-clause-loaded
+returns-in-Err-clause-loaded c =
+    fault_told c.args.text.now c.args.tokens.now c.clauses.at (length c.args.tokens.now - c.clauses.at) c.clauses.names c.read_clause.new.names c.clauses.loading
+    c.clauses.invariant.reaches (omega arith) c.read_clause.ensures.kept c.has_no_clash.ensures c.requires.tokens
+    c.in-Err.fault c.place_of_fault.result c.line_of-line.result c.from.result c.told.result c.in-Err.ensures.err c.place_of_fault.ensures c.line_of-line.ensures.line c.from.ensures c.told.ensures
+
+pub returns-in-Err-load_term-clause-grows : goal.returns-in-Err-load_term-clause-grows
+returns-in-Err-load_term-clause-grows c =
+    all_grow c.args.text.now c.args.tokens.now c.clauses.at c.args.names.now c.clauses.names c.read_clause.new.names c.requires.tokens c.clauses.invariant.within c.clauses.invariant.grows c.read_clause.ensures.kept
+
+pub returns-in-Err-load_term-clause-loaded : goal.returns-in-Err-load_term-clause-loaded
+returns-in-Err-load_term-clause-loaded c =
+    term_told c.args.text.now c.args.tokens.now c.clauses.at (length c.args.tokens.now - c.clauses.at) c.clauses.names c.read_clause.new.names c.clauses.loading
+    c.clauses.invariant.reaches (omega arith) c.read_clause.ensures.kept c.has_no_clash.ensures c.requires.tokens
+    c.in-Ok.read c.load_term.new.loading c.line_of-line-in-clauses.result c.in-Err-load_term.stop c.told-in-Err-load_term.result c.in-Ok.ensures.ok c.line_of-line-in-clauses.ensures.line c.in-Err-load_term.ensures c.told-in-Err-load_term.ensures
+
+pub clauses-preserved : goal.clauses-preserved
+clauses-preserved c =
+    let standard = names_stay c.clauses.at (length standard_names) c.args.names.now c.clauses.names c.clauses.invariant.grows c.requires.standard in
+    goes_next c.args.text.now c.args.tokens.now c.clauses.at c.args.names.now c.clauses.names c.read_clause.new.names c.clauses.loading c.clauses.last c.line_of-line-in-clauses.new.last
+    c.clauses.invariant (omega arith) c.has_no_clash.ensures c.requires.tokens c.in-Ok.read c.load_term.new.loading c.line_of-line-in-clauses.result
+    c.in-Ok.ensures.names c.in-Ok.ensures.forward.0 c.in-Ok.ensures.forward.1 c.in-Ok.ensures.ok (c.in-Ok.ensures.named standard) c.line_of-line-in-clauses.ensures.line c.line_of-line-in-clauses.ensures.last c.in_default.ensures
+
+pub returns-clause-grows : goal.returns-clause-grows
+returns-clause-grows c = grows_all c.args.text.now c.args.tokens.now c.clauses.at c.args.names.now c.clauses.names c.requires.tokens c.clauses.invariant.within c.clauses.invariant.grows
+
+pub returns-clause-loaded : goal.returns-clause-loaded
+returns-clause-loaded c = reaches_last c.args.text.now c.args.tokens.now c.clauses.at c.clauses.names c.clauses.loading c.clauses.invariant.reaches (omega arith)

@@ -1,0 +1,55 @@
+-- What the getters of clap's matches give, and when it finds a fault.
+use Rattle.std.proofs.Common.{◌≡◌, ◌≢◌, ◌∙◌, ◌⊎◌, inl, inr, ℕ, List, [], ◌∷◌, Bool, true, false, Option, None, refl, sym, ap, subst, codes}
+use Rattle.std.specs.Prelude.{if◌then◌else◌}
+use Rattle.clap.specs.declared.parser.matches.Found.{Found}
+use Rattle.clap.specs.Words.{App, Kinds, IsAmong, Row, fault_of, first_of, first_value, is_simple_and_free, is_simple, matches_of, rows_of}
+use Rattle.clap.proofs.WalkLemmas.{first_value-rows}
+use Rattle.clap.proofs.OnLiterals.{clap_on_literals}
+use Rattle.clap.specs.declared.error.kind.ErrorKind.{ErrorKind}
+use Rattle.clap.specs.declared.error.kind.ErrorKind.TheVariants.{OutOfMemory}
+use Rattle.apd_ports.specs.declared.filter.Filter.{Filter}
+use Rattle.apd_words.specs.Words.{Options, command, filter_of, is_faultless, limit_or, options_from, options_in, options_of}
+
+-- the options of what the getters give are those of the matches
+pub gathered : (found : Found) (budget answers : Option ℕ) (filter : Filter) (b a t p : Option (List ℕ)) →
+    b ≡ first_value found (codes "budget") → a ≡ first_value found (codes "answers") → t ≡ first_value found (codes "trace") → p ≡ first_value found (codes "program") →
+    budget ≡ limit_or 100000 b → answers ≡ limit_or 1000000 a → filter ≡ filter_of t → options_in (rows_of found) ≡ options_from budget answers filter p
+gathered found budget answers filter b a t p is_b is_a is_t is_p is_budget is_answers is_filter =
+    let same_budget = ap (limit_or 100000) (sym (first_value-rows found (codes "budget")) ∙ sym is_b) ∙ sym is_budget in
+    let same_answers = ap (limit_or 1000000) (sym (first_value-rows found (codes "answers")) ∙ sym is_a) ∙ sym is_answers in
+    let same_filter = ap filter_of (sym (first_value-rows found (codes "trace")) ∙ sym is_t) ∙ sym is_filter in
+    let same_program = sym (first_value-rows found (codes "program")) ∙ sym is_p in
+    λ i. options_from (same_budget i) (same_answers i) (same_filter i) (same_program i)
+
+-- clap tells the matches and the faults of this command
+pub command_is_simple : is_simple command ≡ true
+unfolding clap_on_literals command
+command_is_simple = refl
+
+pub command_is_free : is_simple_and_free command ≡ true
+unfolding clap_on_literals command
+command_is_free = refl
+
+-- an error's kind is among the faults
+pub is_faulty : (kinds : Kinds) (k : ErrorKind) → IsAmong k kinds → is_faultless kinds ≡ false
+is_faulty [] k among = absurd among
+is_faulty (x ∷ kinds) k among = refl
+
+-- words that clap takes ask for what its matches give
+pub taken : (app : App) (words : List (List ℕ)) (rows : List Row) → app ≡ command → (is_simple app ≡ true → rows ≡ matches_of app words) → (is_simple_and_free app ≡ true → fault_of app words ≡ []) →
+    options_of words ≡ options_in rows
+unfolding options_of
+taken app words rows is matches none =
+    let found = subst (λ (a : App). is_simple a ≡ true → rows ≡ matches_of a words) is matches command_is_simple in
+    let faults = subst (λ (a : App). is_simple_and_free a ≡ true → fault_of a words ≡ []) is none command_is_free in
+    ap (λ kinds. if is_faultless kinds then options_in (matches_of command words) else None) faults ∙ ap options_in (sym found)
+
+-- words in which it finds a fault ask for nothing
+pub refused : (app : App) (words : List (List ℕ)) (k : ErrorKind) → app ≡ command → (is_simple_and_free app ≡ true → (k ≡ OutOfMemory) ⊎ IsAmong k (fault_of app words)) → (k ≡ OutOfMemory → ⊥) → options_of words ≡ None
+unfolding options_of
+refused app words k is fails other =
+    let among = subst (λ (a : App). is_simple_and_free a ≡ true → (k ≡ OutOfMemory) ⊎ IsAmong k (fault_of a words)) is fails command_is_free in
+    elim among [
+      | inl memory ↦ absurd (other memory)
+      | inr fault ↦ ap (λ b. if b then options_in (matches_of command words) else None) (is_faulty (fault_of command words) k fault)
+    ]

@@ -1,0 +1,93 @@
+//! What the words ask for.
+
+ghost use Rattle.std.specs.Prelude.{◌≡◌, ◌<◌, ◌≤◌, IfOk, IfSome, MatchOption, Some, None, option_map};
+ghost use Rattle.clap.specs.Words.{found_of, rows_of};
+ghost use Rattle.apd_words.specs.Words.{Options, bytes_of, filter_of, options_from, options_in, options_of};
+
+use crate::command::command;
+use crate::limits::limit_or;
+use apd_ports::Filter;
+use clap::ArgMatches;
+use clap::error::ErrorKind;
+use std::alloc::{AllocError, Global};
+
+/// What the words ask for.
+#[derive(Drop)]
+pub struct Asked<'a> {
+    /// The name of the program's file.
+    pub program: &'a str,
+    /// The most ports that a run shows, from 1 to 1,000,000.
+    pub budget: u32,
+    /// The most answers that a run shows, from 1 to 1,000,000.
+    pub answers: u32,
+    /// Which ports are printed.
+    pub filter: Filter,
+}
+
+/// The most ports that a run shows where the words give no budget.
+const BUDGET: u32 = 100_000;
+
+/// The most answers that a run shows where the words don't limit them.
+const ANSWERS: u32 = 1_000_000;
+
+/// The filter that a flag's value sets.
+fn filter_of(value: Option<&str>) -> Filter
+    ensures { result ≡ filter_of (option_map (λ s. s.now) value.entry) }
+{
+    match value {
+        Some(word) if word == "true" => Filter::All,
+        _ => Filter::Off,
+    }
+}
+
+/// The options that values give, where each limit keeps its rule and a file is named.
+fn options_from<'a>(
+    budget: Option<u32>,
+    answers: Option<u32>,
+    filter: Filter,
+    program: Option<&'a str>,
+) -> Option<Asked<'a>>
+    requires budget { IfSome budget (λ n. (0 < n) × (n ≤ 1000000)) }
+    requires answers { IfSome answers (λ n. (0 < n) × (n ≤ 1000000)) }
+    ensures options { MatchOption result (options_from budget answers filter (option_map (λ s. s.now) program.entry) ≡ None)
+        (λ a. options_from budget answers filter (option_map (λ s. s.now) program.entry) ≡ Some record { program = a.program.now; budget = a.budget; answers = a.answers; filter = a.filter }) }
+    ensures limits { IfSome result (λ a. (a.budget ≤ 1000000) × (0 < a.answers) × (a.answers ≤ 1000000)) }
+{
+    match (budget, answers, program) {
+        (Some(budget), Some(answers), Some(program)) => Some(Asked {
+            program,
+            budget,
+            answers,
+            filter,
+        }),
+        _ => None,
+    }
+}
+
+/// The options that clap's matches give, where each limit keeps its rule and a file is named.
+fn options_in<'a>(matches: &ArgMatches<'a>) -> Option<Asked<'a>>
+    ensures options { MatchOption result (options_in (rows_of (found_of matches.now)) ≡ None)
+        (λ a. options_in (rows_of (found_of matches.now)) ≡ Some record { program = a.program.now; budget = a.budget; answers = a.answers; filter = a.filter }) }
+    ensures limits { IfSome result (λ a. (a.budget ≤ 1000000) × (0 < a.answers) × (a.answers ≤ 1000000)) }
+{
+    let budget = limit_or(BUDGET, matches.get_str("budget"));
+    let answers = limit_or(ANSWERS, matches.get_str("answers"));
+    let filter = filter_of(matches.get_str("trace"));
+    options_from(budget, answers, filter, matches.get_str("program"))
+}
+
+/// The options that the words give, of which the first is the program's own name; none where they break their rules.
+pub fn read_words<'a>(alloc: Global, words: &'a [String]) -> Result<Option<Asked<'a>>, AllocError>
+    ensures options { IfOk result (λ o. MatchOption o (options_of (bytes_of words.entry.now) ≡ None)
+        (λ a. options_of (bytes_of words.entry.now) ≡ Some record { program = a.program.now; budget = a.budget; answers = a.answers; filter = a.filter })) }
+    ensures limits { IfOk result (λ o. IfSome o (λ a. (a.budget ≤ 1000000) × (0 < a.answers) × (a.answers ≤ 1000000))) }
+{
+    let command = command(alloc)?;
+    match command.try_get_matches_from(words) {
+        Ok(matches) => Ok(options_in(&matches)),
+        Err(error) => match error.kind() {
+            ErrorKind::OutOfMemory => Err(AllocError),
+            _ => Ok(None),
+        },
+    }
+}

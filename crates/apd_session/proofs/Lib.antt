@@ -1,5 +1,5 @@
 pub mod Saying
-pub mod Warning
+pub mod Noting
 pub mod Printing
 pub mod Passing
 pub mod Running
@@ -8,3 +8,4 @@ pub mod Worlds
 pub mod Loading
 pub mod Causing
 pub mod Digits
+pub mod Commanding

@@ -12,6 +12,9 @@ use Rattle.apd_console.specs.declared.talk.Ending.TheVariants as ending
 use Rattle.apd_console.specs.declared.talk.Trouble.{Trouble}
 use Rattle.apd_console.specs.declared.talk.Trouble.TheVariants as trouble
 use Rattle.apd_load.specs.Program.{loads, program_of}
+use Rattle.apd_load.specs.declared.Note.{Note}
+use Rattle.apd_ops.specs.Table.{Table}
+use Rattle.apd_read.specs.Reader.{Reader}
 use Rattle.apd_load.specs.Warnings.{warnings_of}
 use Rattle.apd_text.specs.declared.entry.Entry.{Entry}
 use Rattle.apd_session.specs.Outcome.{Answers, IsDeaf, IsSaid, status_of}
@@ -39,24 +42,25 @@ abbrev pub state_for : List Clause → Options → State
 state_for program options = record { program = program; budget = options.budget; answers = options.answers; filter = options.filter }
 
 -- what the whole input means once the program is loaded
-abbrev pub opening : List (List ℕ) → State → Meaning Entry
-opening names s room more ends = onto (load_said names s.program (warnings_of s.program)) (replies (talker names) s room more ends)
+abbrev pub opening : {names : List (List ℕ)} → Reader names → Table → List Note → State → Meaning Entry
+opening {names} reader ops passed s room more ends = onto (load_said ops names s.program passed (warnings_of s.program)) (replies (talker reader ops) s room more ends)
 
-module _ (names : List (List ℕ)) (options : Options) (text : List ℕ) (program : List Clause) (is : program_of names text ≡ loads program) (s : State) (state : s ≡ state_for program options)
+module _ (names : List (List ℕ)) (reader : Reader names) (options : Options) (text : List ℕ) (program : List Clause) (ops : Table) (passed : List Note)
+    (is : program_of reader text ≡ loads record { program = program; ops = ops; passed = passed }) (s : State) (state : s ≡ state_for program options)
     (k l : Kept) (start : k ≡ fresh) (sound : IsKept l) (log log_now : List Entry) (empty : log ≡ []) (x y z w : Option (List ℕ)) (a b c d : ℕ) where
-  pub loaded_ended : (e : Ending) → Ends (opening names s) (at k x a log z c) (at l y b log_now w d) e → Answers x y (Rose a b) (λ input ends. after_load names options input ends (program_of names text)) (status_after e) log_now z w
+  pub loaded_ended : (e : Ending) → Ends (opening reader ops passed s) (at k x a log z c) (at l y b log_now w d) e → Answers x y (Rose a b) (λ input ends. after_load reader options input ends (program_of reader text)) (status_after e) log_now z w
   loaded_ended e ended =
-      let first = subst (λ (p : Kept). Ends (opening names s) (at p x a log z c) (at l y b log_now w d) e) start ended in
-      let second = subst (λ (p : List Entry). Ends (opening names s) (at fresh x a p z c) (at l y b log_now w d) e) empty first in
-      let third = subst (λ (p : State). Ends (opening names p) (at fresh x a [] z c) (at l y b log_now w d) e) state second in
-      rw is (answers_ended (opening names (state_for program options)) l x y z w a b c d log_now e sound (hears_input (talker names) (state_for program options) (load_said names program (warnings_of program))) third)
+      let first = subst (λ (p : Kept). Ends (opening reader ops passed s) (at p x a log z c) (at l y b log_now w d) e) start ended in
+      let second = subst (λ (p : List Entry). Ends (opening reader ops passed s) (at fresh x a p z c) (at l y b log_now w d) e) empty first in
+      let third = subst (λ (p : State). Ends (opening reader ops passed p) (at fresh x a [] z c) (at l y b log_now w d) e) state second in
+      rw is (answers_ended (opening reader ops passed (state_for program options)) l x y z w a b c d log_now e sound (hears_input (talker reader ops) (state_for program options) (load_said ops names program passed (warnings_of program))) third)
 
-  pub loaded_broken : (t : Trouble) → BreaksOff begun (opening names s) (at k x a log z c) (at l y b log_now w d) t → Answers x y (Rose a b) (λ input ends. after_load names options input ends (program_of names text)) (status_of t) log_now z w
+  pub loaded_broken : (t : Trouble) → BreaksOff begun (opening reader ops passed s) (at k x a log z c) (at l y b log_now w d) t → Answers x y (Rose a b) (λ input ends. after_load reader options input ends (program_of reader text)) (status_of t) log_now z w
   loaded_broken t broken =
-      let first = subst (λ (p : Kept). BreaksOff begun (opening names s) (at p x a log z c) (at l y b log_now w d) t) start broken in
-      let second = subst (λ (p : List Entry). BreaksOff begun (opening names s) (at fresh x a p z c) (at l y b log_now w d) t) empty first in
-      let third = subst (λ (p : State). BreaksOff begun (opening names p) (at fresh x a [] z c) (at l y b log_now w d) t) state second in
-      rw is (answers_broken (opening names (state_for program options)) l x y z w a b c d log_now t sound (hears_input (talker names) (state_for program options) (load_said names program (warnings_of program))) third)
+      let first = subst (λ (p : Kept). BreaksOff begun (opening reader ops passed s) (at p x a log z c) (at l y b log_now w d) t) start broken in
+      let second = subst (λ (p : List Entry). BreaksOff begun (opening reader ops passed s) (at fresh x a p z c) (at l y b log_now w d) t) empty first in
+      let third = subst (λ (p : State). BreaksOff begun (opening reader ops passed p) (at fresh x a [] z c) (at l y b log_now w d) t) state second in
+      rw is (answers_broken (opening reader ops passed (state_for program options)) l x y z w a b c d log_now t sound (hears_input (talker reader ops) (state_for program options) (load_said ops names program passed (warnings_of program))) third)
 
 -- which statuses tell of a fault
 pub ended_read : (e : Ending) → status_after e ≡ statuses.ReadFault → e ≡ ending.ReadFault

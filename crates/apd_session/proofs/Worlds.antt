@@ -16,6 +16,8 @@ use Rattle.apd_console.specs.declared.talk.Trouble.TheVariants as trouble
 use Rattle.apd_console.proofs.Answering.{input_ended, input_broken}
 use Rattle.apd_console.proofs.Uttering.{UttersFront-all, UttersFront-none}
 use Rattle.apd_load.specs.Program.{program_of}
+use Rattle.apd_ops.specs.Standard.{standard_table}
+use Rattle.apd_read.specs.Reader.{Reader}
 use Rattle.apd_text.specs.declared.entry.Entry.{Entry}
 use Rattle.apd_text.specs.declared.entry.Entry.TheVariants as entry
 use Rattle.apd_session.specs.Steps.{begun, plain}
@@ -62,13 +64,13 @@ answers_broken f l x y z w a b c d log t sound hears broken =
     (record { input = some.input; ends = some.ends; given = some.given; fails = some.fails; taken = some.taken; holds = said_front t _ log z w some.holds }, λ deaf. absurd (hears deaf))
 
 -- where one thing is said
-pub said_one : (log log_now : List Entry) (x y : Option (List ℕ)) (names : List (List ℕ)) (e : Entry) (st : Status) → log ≡ [] → Utters log log_now x y (plain names e ∷ []) → IsSaid st (tells names e st) log_now x y
+pub said_one : (log log_now : List Entry) (x y : Option (List ℕ)) (names : List (List ℕ)) (e : Entry) (st : Status) → log ≡ [] → Utters log log_now x y (plain standard_table names e ∷ []) → IsSaid st (tells names e st) log_now x y
 said_one log log_now x y names e st empty says =
-    let from = subst (λ (l : List Entry). Utters l log_now x y (plain names e ∷ [])) empty says in
+    let from = subst (λ (l : List Entry). Utters l log_now x y (plain standard_table names e ∷ [])) empty says in
     said_whole st _ log_now x y record { status_is = refl; says = from }
 
-pub front_one : (log log_now : List Entry) (x y : Option (List ℕ)) (names : List (List ℕ)) (e : Entry) (st : Status) (t : Trouble) → log ≡ [] → UttersFront begun log log_now x y (plain names e ∷ []) → IsSaid (status_of t) (tells names e st) log_now x y
-front_one log log_now x y names e st t empty says = said_front t _ log_now x y (subst (λ (l : List Entry). UttersFront begun l log_now x y (plain names e ∷ [])) empty says)
+pub front_one : (log log_now : List Entry) (x y : Option (List ℕ)) (names : List (List ℕ)) (e : Entry) (st : Status) (t : Trouble) → log ≡ [] → UttersFront begun log log_now x y (plain standard_table names e ∷ []) → IsSaid (status_of t) (tells names e st) log_now x y
+front_one log log_now x y names e st t empty says = said_front t _ log_now x y (subst (λ (l : List Entry). UttersFront begun l log_now x y (plain standard_table names e ∷ [])) empty says)
 
 -- where nothing was read
 abbrev rest_of : Option (List ℕ) → List ℕ
@@ -113,20 +115,20 @@ unread_front x y R f log empty = (
 )
 
 -- what the words ask for, and what the load gave
-pub met_answers : (words names : List (List ℕ)) (options : Options) (content : List ℕ → Option (List ℕ)) (left now : Option (List ℕ)) (R Q : Type 0) (loading : Loading) (st : Status) (log : List Entry) (x y : Option (List ℕ)) →
+pub met_answers : (words names : List (List ℕ)) (reader : Reader names) (options : Options) (content : List ℕ → Option (List ℕ)) (left now : Option (List ℕ)) (R Q : Type 0) (loading : Loading) (st : Status) (log : List Entry) (x y : Option (List ℕ)) →
     options_of words ≡ Some options → IsLoading (content options.program) loading → (loading ≡ Breaks → R) →
-    Answers left now Q (λ input ends. after_words names record { program = loading; input = input; ends = ends } options loading) st log x y →
-    Meets (session_of words names) words content left now R Q st log x y
-met_answers words names options content left now R Q loading st log x y named is breaks answers = (
+    Answers left now Q (λ input ends. after_words reader record { program = loading; input = input; ends = ends } options loading) st log x y →
+    Meets (session_of words reader) words content left now R Q st log x y
+met_answers words names reader options content left now R Q loading st log x y named is breaks answers = (
   record { program = loading; input = answers.0.input; ends = answers.0.ends },
   record { program = rw named is; breaks = breaks; given = answers.0.given; fails = answers.0.fails; taken = answers.0.taken },
   rw named answers.0.holds,
   rw named answers.1,
 )
 
-pub met_unnamed : (words names : List (List ℕ)) (content : List ℕ → Option (List ℕ)) (left : Option (List ℕ)) (R Q : Type 0) (st : Status) (log : List Entry) (x y : Option (List ℕ)) →
-    options_of words ≡ None → IsSaid st (tells names entry.UsageRefused statuses.Usage) log x y → Meets (session_of words names) words content left left R Q st log x y
-met_unnamed words names content left R Q st log x y none said = (
+pub met_unnamed : (words names : List (List ℕ)) (reader : Reader names) (content : List ℕ → Option (List ℕ)) (left : Option (List ℕ)) (R Q : Type 0) (st : Status) (log : List Entry) (x y : Option (List ℕ)) →
+    options_of words ≡ None → IsSaid st (tells names entry.UsageRefused statuses.Usage) log x y → Meets (session_of words reader) words content left left R Q st log x y
+met_unnamed words names reader content left R Q st log x y none said = (
   record { program = Gives []; input = rest_of left; ends = Ended },
   record { program = rw none tt; breaks = λ e. absurd (cc); given = given_all left; fails = λ e. absurd (cc); taken = none_taken left },
   rw none said,
@@ -137,22 +139,22 @@ tells_loading : (told : Option (List ℕ)) (bytes : List ℕ) → Tells told byt
 tells_loading None bytes tells = tt
 tells_loading (Some known) bytes tells = tells
 
-pub met_loaded : (words names : List (List ℕ)) (options : Options) (content : List ℕ → Option (List ℕ)) (left now : Option (List ℕ)) (R Q : Type 0) (text : List ℕ) (st : Status) (log : List Entry) (x y : Option (List ℕ)) →
+pub met_loaded : (words names : List (List ℕ)) (reader : Reader names) (options : Options) (content : List ℕ → Option (List ℕ)) (left now : Option (List ℕ)) (R Q : Type 0) (text : List ℕ) (st : Status) (log : List Entry) (x y : Option (List ℕ)) →
     options_of words ≡ Some options → Tells (content options.program) text → length text ≤ 1048576 →
-    Answers left now Q (λ input ends. after_load names options input ends (program_of names text)) st log x y →
-    Meets (session_of words names) words content left now R Q st log x y
-met_loaded words names options content left now R Q text st log x y named tells bound answers =
+    Answers left now Q (λ input ends. after_load reader options input ends (program_of reader text)) st log x y →
+    Meets (session_of words reader) words content left now R Q st log x y
+met_loaded words names reader options content left now R Q text st log x y named tells bound answers =
     let test : leb 1048577 (length text) ≡ false = lt-leb _ _ (omega arith) in
-    met_answers words names options content left now R Q (Gives text) st log x y named (tells_loading (content options.program) text tells) (λ e. absurd (cc)) (rw test answers)
+    met_answers words names reader options content left now R Q (Gives text) st log x y named (tells_loading (content options.program) text tells) (λ e. absurd (cc)) (rw test answers)
 
 breaks_loading : (told : Option (List ℕ)) → IsLoading told Breaks
 breaks_loading None = tt
 breaks_loading (Some known) = tt
 
-pub met_broken : (words names : List (List ℕ)) (options : Options) (content : List ℕ → Option (List ℕ)) (left : Option (List ℕ)) (R Q : Type 0) (st : Status) (log : List Entry) (x y : Option (List ℕ)) →
-    options_of words ≡ Some options → R → IsSaid st (tells names entry.InputFault statuses.ReadFault) log x y → Meets (session_of words names) words content left left R Q st log x y
-met_broken words names options content left R Q st log x y named rose said =
-    met_answers words names options content left left R Q Breaks st log x y named (breaks_loading (content options.program)) (λ e. rose) (unread left x y Q _ st log _ (λ input ends. refl) said)
+pub met_broken : (words names : List (List ℕ)) (reader : Reader names) (options : Options) (content : List ℕ → Option (List ℕ)) (left : Option (List ℕ)) (R Q : Type 0) (st : Status) (log : List Entry) (x y : Option (List ℕ)) →
+    options_of words ≡ Some options → R → IsSaid st (tells names entry.InputFault statuses.ReadFault) log x y → Meets (session_of words reader) words content left left R Q st log x y
+met_broken words names reader options content left R Q st log x y named rose said =
+    met_answers words names reader options content left left R Q Breaks st log x y named (breaks_loading (content options.program)) (λ e. rose) (unread left x y Q _ st log _ (λ input ends. refl) said)
 
 -- a list of each length; abstract, so that no list of a million numbers is computed
 some_list : (n : ℕ) → (bytes : List ℕ) × (length bytes ≡ n)
@@ -163,24 +165,24 @@ long_of : (told : Option (List ℕ)) → TellsLong told → (bytes : List ℕ) �
 long_of None long = let some = some_list 1048577 in (some.0, tt, omega (arith, some.1))
 long_of (Some known) long = (known, refl, long)
 
-pub met_long : (words names : List (List ℕ)) (options : Options) (content : List ℕ → Option (List ℕ)) (left : Option (List ℕ)) (R Q : Type 0) (st : Status) (log : List Entry) (x y : Option (List ℕ)) →
+pub met_long : (words names : List (List ℕ)) (reader : Reader names) (options : Options) (content : List ℕ → Option (List ℕ)) (left : Option (List ℕ)) (R Q : Type 0) (st : Status) (log : List Entry) (x y : Option (List ℕ)) →
     options_of words ≡ Some options → TellsLong (content options.program) → IsSaid st (tells names (entry.FileTooLong 1048577) statuses.FileTooLong) log x y →
-    Meets (session_of words names) words content left left R Q st log x y
-met_long words names options content left R Q st log x y named long said =
+    Meets (session_of words reader) words content left left R Q st log x y
+met_long words names reader options content left R Q st log x y named long said =
     let some = long_of (content options.program) long in
     let test : leb 1048577 (length some.0) ≡ true = le-leb _ _ (omega (arith, some.2)) in
-    met_answers words names options content left left R Q (Gives some.0) st log x y named some.1 (λ e. absurd (cc)) (rw test (unread left x y Q _ st log _ (λ input ends. refl) said))
+    met_answers words names reader options content left left R Q (Gives some.0) st log x y named some.1 (λ e. absurd (cc)) (rw test (unread left x y Q _ st log _ (λ input ends. refl) said))
 
 -- some content for a file that memory did not suffice for
 any_of : (told : Option (List ℕ)) → (bytes : List ℕ) × IsLoading told (Gives bytes)
 any_of None = ([], tt)
 any_of (Some known) = (known, refl)
 
-pub met_memory : (words names : List (List ℕ)) (options : Options) (content : List ℕ → Option (List ℕ)) (left : Option (List ℕ)) (R Q : Type 0) (log : List Entry) (x : Option (List ℕ)) →
-    options_of words ≡ Some options → log ≡ [] → Meets (session_of words names) words content left left R Q statuses.Memory log x x
-met_memory words names options content left R Q log x named empty =
+pub met_memory : (words names : List (List ℕ)) (reader : Reader names) (options : Options) (content : List ℕ → Option (List ℕ)) (left : Option (List ℕ)) (R Q : Type 0) (log : List Entry) (x : Option (List ℕ)) →
+    options_of words ≡ Some options → log ≡ [] → Meets (session_of words reader) words content left left R Q statuses.Memory log x x
+met_memory words names reader options content left R Q log x named empty =
     let some = any_of (content options.program) in
-    met_answers words names options content left left R Q (Gives some.0) statuses.Memory log x x named some.1 (λ e. absurd (cc)) (unread_front left x Q (λ input ends. after_words names record { program = Gives some.0; input = input; ends = ends } options (Gives some.0)) log empty)
+    met_answers words names reader options content left left R Q (Gives some.0) statuses.Memory log x x named some.1 (λ e. absurd (cc)) (unread_front left x Q (λ input ends. after_words reader record { program = Gives some.0; input = input; ends = ends } options (Gives some.0)) log empty)
 
 -- where all is told and nothing fails
 loading_is : (program : List ℕ) (loading : Loading) → IsLoading (Some program) loading → (loading ≡ Breaks → ⊥) → loading ≡ Gives program
@@ -201,11 +203,11 @@ said_is statuses.ReadFault told log x y is not = inr is
 said_is statuses.InputLimit told log x y is not = inr is
 said_is statuses.FileTooLong told log x y is not = inr is
 
-pub world_is : (words names : List (List ℕ)) (content : List ℕ → Option (List ℕ)) (left now : Option (List ℕ)) (R Q : Type 0) (world : World) (program bytes : List ℕ) → (options : Option Options) → options_of words ≡ options →
+pub world_is : (words names : List (List ℕ)) (reader : Reader names) (content : List ℕ → Option (List ℕ)) (left now : Option (List ℕ)) (R Q : Type 0) (world : World) (program bytes : List ℕ) → (options : Option Options) → options_of words ≡ options →
     IsMet words content left now R Q world → IfSome options (λ o. content o.program ≡ Some program) → left ≡ Some bytes → (R → ⊥) → (Q → ⊥) →
-    session_of words names world ≡ session_of words names record { program = Gives program; input = bytes; ends = Ended }
-world_is words names content left now R Q world program bytes None is met told given loads reads = rw is refl
-world_is words names content left now R Q world program bytes (Some options) is met told given loads reads =
+    session_of words reader world ≡ session_of words reader record { program = Gives program; input = bytes; ends = Ended }
+world_is words names reader content left now R Q world program bytes None is met told given loads reads = rw is refl
+world_is words names reader content left now R Q world program bytes (Some options) is met told given loads reads =
     let loading : IsLoading (content options.program) world.program = rw is at met.program in
     let loaded : IsLoading (Some program) world.program = subst (λ (o : Option (List ℕ)). IsLoading o world.program) told loading in
     let p : world.program ≡ Gives program = loading_is program world.program loaded (λ e. loads (met.breaks e)) in
@@ -213,10 +215,10 @@ world_is words names content left now R Q world program bytes (Some options) is 
     let q : (world.input ≡ bytes) × (world.ends ≡ Ended) = given_is bytes world.input world.ends heard (λ e. reads (met.fails e)) in
     rw (is, p, q.0, q.1) refl
 
-pub complete : (words names : List (List ℕ)) (content : List ℕ → Option (List ℕ)) (left now : Option (List ℕ)) (R Q W : Type 0) (st : Status) (log : List Entry) (x y : Option (List ℕ)) →
-    Meets (session_of words names) words content left now R Q st log x y → (st ≡ statuses.WriteFault → W) →
+pub complete : (words names : List (List ℕ)) (reader : Reader names) (content : List ℕ → Option (List ℕ)) (left now : Option (List ℕ)) (R Q W : Type 0) (st : Status) (log : List Entry) (x y : Option (List ℕ)) →
+    Meets (session_of words reader) words content left now R Q st log x y → (st ≡ statuses.WriteFault → W) →
     (program bytes : List ℕ) → IfSome (options_of words) (λ o. content o.program ≡ Some program) → left ≡ Some bytes → NoneFails R Q W →
-    (st ≡ statuses.Memory) ⊎ IsWhole st (session_of words names record { program = Gives program; input = bytes; ends = Ended }) log x y
-complete words names content left now R Q W st log x y meaning write program bytes told given none =
-    let same = world_is words names content left now R Q meaning.0 program bytes (options_of words) refl meaning.1 told given none.0 none.1 in
+    (st ≡ statuses.Memory) ⊎ IsWhole st (session_of words reader record { program = Gives program; input = bytes; ends = Ended }) log x y
+complete words names reader content left now R Q W st log x y meaning write program bytes told given none =
+    let same = world_is words names reader content left now R Q meaning.0 program bytes (options_of words) refl meaning.1 told given none.0 none.1 in
     said_is st _ log x y (rw same at meaning.2) (λ e. none.2 (write e))

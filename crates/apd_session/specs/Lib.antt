@@ -6,4 +6,5 @@ pub mod Session
 pub mod Outcome
 pub mod Running
 pub mod Commands
+pub mod Obeying
 pub mod Causes

@@ -1,4 +1,5 @@
 -- A whole session: from the words, the program's text, the input and the names that are kept in the end to what is said and the status.
+-- Texts are read by a reader, which gives what the definitions of tokens and of reading have.
 use Rattle.std.specs.Prelude.{ℕ, List, [], ◌∷◌, length, if◌then◌else◌, Option, None, Some, nat_lt}
 use Rattle.apd_console.specs.Lines.{InputEnd}
 use Rattle.apd_console.specs.Talk.{Said, onto, replies}
@@ -7,6 +8,8 @@ use Rattle.apd_console.specs.declared.talk.Ending.{Ending}
 use Rattle.apd_console.specs.declared.talk.Ending.TheVariants as ending
 use Rattle.apd_load.specs.Program.{Loads, refused, loads, program_of}
 use Rattle.apd_load.specs.Warnings.{warnings_of}
+use Rattle.apd_ops.specs.Standard.{standard_table}
+use Rattle.apd_read.specs.Reader.{Reader}
 use Rattle.apd_text.specs.declared.entry.Entry.{Entry}
 use Rattle.apd_text.specs.declared.entry.Entry.TheVariants.{UsageRefused, ProgramRefused, FileTooLong, InputFault}
 use Rattle.apd_session.specs.Steps.{load_said, plain, talker}
@@ -49,27 +52,28 @@ status_after ending.InputLimit = status.InputLimit
 abbrev pub told_of : Said Entry → Told
 told_of said = record { utterances = said.utterances; status = status_after said.ending }
 
--- one thing is said
+-- one thing is said, before there are other operators than the standard ones
 abbrev pub tells : List (List ℕ) → Entry → Status → Told
-tells names entry st = record { utterances = plain names entry ∷ []; status = st }
+tells names entry st = record { utterances = plain standard_table names entry ∷ []; status = st }
 
-abbrev pub after_load : List (List ℕ) → Options → List ℕ → InputEnd → Loads → Told
-after_load names options input ends (refused line cause) = tells names (ProgramRefused line cause) status.Program
-after_load names options input ends (loads program) =
-    told_of (onto (load_said names program (warnings_of program))
-    (replies (talker names) (record { program = program; budget = options.budget; answers = options.answers; filter = options.filter }) 16777216 input ends))
+-- what is said of a program, and to the lines of the input
+abbrev pub after_load : {names : List (List ℕ)} → Reader names → Options → List ℕ → InputEnd → Loads → Told
+after_load {names} reader options input ends (refused line cause) = tells names (ProgramRefused line cause) status.Program
+after_load {names} reader options input ends (loads l) =
+    told_of (onto (load_said l.ops names l.program l.passed (warnings_of l.program))
+    (replies (talker reader l.ops) (record { program = l.program; budget = options.budget; answers = options.answers; filter = options.filter }) 16777216 input ends))
 
-abbrev pub after_words : List (List ℕ) → World → Options → Loading → Told
-after_words names world options Breaks = tells names InputFault status.ReadFault
-after_words names world options (Gives text) =
+abbrev pub after_words : {names : List (List ℕ)} → Reader names → World → Options → Loading → Told
+after_words {names} reader world options Breaks = tells names InputFault status.ReadFault
+after_words {names} reader world options (Gives text) =
     if nat_lt 1048576 (length text)
     then tells names (FileTooLong 1048577) status.FileTooLong
-    else after_load names options world.input world.ends (program_of names text)
+    else after_load reader options world.input world.ends (program_of reader text)
 
-abbrev pub after_options : List (List ℕ) → World → Option Options → Told
-after_options names world None = tells names UsageRefused status.Usage
-after_options names world (Some options) = after_words names world options world.program
+abbrev pub after_options : {names : List (List ℕ)} → Reader names → World → Option Options → Told
+after_options {names} reader world None = tells names UsageRefused status.Usage
+after_options reader world (Some options) = after_words reader world options world.program
 
--- the whole
-abbrev pub session_of : List (List ℕ) → List (List ℕ) → World → Told
-session_of words names world = after_options names world (options_of words)
+-- the whole, by a reader of texts under the names that are kept
+abbrev pub session_of : {names : List (List ℕ)} → List (List ℕ) → Reader names → World → Told
+session_of words reader world = after_options reader world (options_of words)

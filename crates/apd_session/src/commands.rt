@@ -1,66 +1,185 @@
-// What a line says in a command's place.
-ghost use Rattle.std.specs.Prelude.{◌≡◌, ◌<◌, ◌≤◌, ◌+◌, ◌++◌, List, ℕ, length, IfOk};
-ghost use Rattle.apd_console.specs.declared.line.Line.TheVariants as lines;
-ghost use Rattle.apd_term.specs.Growth.{GrowsBy};
-ghost use Rattle.apd_session.specs.declared.state.State.{State};
-ghost use Rattle.apd_session.specs.Commands.{CanObey, LineFits, LineGrows, step_for};
-ghost use Rattle.apd_session.specs.Steps.{is_blank, step};
+// What a line asks for in a command's place.
+ghost use Rattle.std.specs.Prelude.{◌≡◌, ◌≢◌, ◌<◌, ◌≤◌, ◌+◌, List, ℕ, length, IfOk, OnOk, Ok};
+ghost use Rattle.apd_clauses.specs.Queries.{IsQueryTerm, query_from};
+ghost use Rattle.apd_read.specs.Reader.{Reader};
+ghost use Rattle.apd_term.specs.Growth.{Grown, GrowsBy};
+ghost use Rattle.apd_term.specs.Named.{IsNamed};
+ghost use Rattle.apd_term.specs.StandardNames.{standard_names};
+ghost use Rattle.apd_term.specs.Term.{predicate_of, size};
+ghost use Rattle.apd_token.specs.Grammar.{HasTokens};
+ghost use Rattle.apd_session.specs.Commands.{command_before, command_from, command_in, command_of, command_read, query_asked};
+ghost use Rattle.apd_session.specs.Obeying.{CanObey, IsOfLine, LineFits, LineGrows};
 
+use apd_clauses::{BodyFault, query_of};
 use apd_console::Line;
-use apd_plain::read_query;
+use apd_ops::Ops;
+use apd_read::{Read, ReadFault, read_clause};
+use apd_term::faults::LoadCause;
 use apd_term::names::Names;
-use apd_term::{Query, Text};
+use apd_term::standard::{QUERY, QUIT};
+use apd_term::{Pred, Query};
 use apd_text::Refusal;
+use apd_token::{Token, TokenFault, Tokens, tokens};
 use std::alloc::{AllocError, Global};
 
 /// A command.
 #[derive(Drop)]
 pub enum Command {
-    /// The line is passed over.
+    /// The line has no token.
     Nothing,
+    /// The session ends.
+    Quit,
     /// The line is no command.
     Refused(Refusal),
     /// A query is run.
     Query(Query),
 }
 
-fn is_blank(line: &[u8]) -> bool
-    ensures { result ≡ is_blank line.now }
+/// What is said to a term that is refused for this fault, which want of memory is not.
+fn goal_refused(fault: BodyFault) -> Result<Command, AllocError>
+    ensures command { IfOk result (λ c. c ≡ Command.Refused (Refusal.GoalRefused fault)) }
+    ensures fault { OnOk result (fault ≢ BodyFault.Memory) }
 {
-    line.iter().all(|b| *b == b' ')
-}
-
-/// The command that a text is.
-fn command_of(alloc: Global, names: &mut Names, text: &Text) -> Result<Command, AllocError>
-    requires room { length names.old + length text.now < 4000000000 }
-    requires size { length text.now ≤ 1000000000 }
-    ensures names { GrowsBy (length text.now) names.old names.new }
-    ensures command { IfOk result (λ c. (more : List (List ℕ)) (s : State) → step_for (names.new ++ more) s c ≡ step (names.new ++ more) s (lines.Text text.now)) }
-    ensures can { IfOk result (λ c. CanObey (length names.new) c) }
-{
-    if is_blank(text.bytes()) {
-        return Ok(Command::Nothing);
-    }
-    match read_query(alloc, names, text.bytes()) {
-        Ok(Some(query)) => Ok(Command::Query(query)),
-        Ok(None) => Ok(Command::Refused(Refusal::NotBuilt)),
-        Err(error) => Err(error),
+    match fault {
+        BodyFault::Memory => Err(AllocError),
+        _ => Ok(Command::Refused(Refusal::GoalRefused(fault))),
     }
 }
 
-/// The command that a line is.
+/// What is said to a line that has no reading, for this fault, which want of memory is not.
+fn reading_refused(fault: ReadFault) -> Result<Command, AllocError>
+    ensures command { IfOk result (λ c. c ≡ Command.Refused (Refusal.Syntax (LoadCause.Read fault))) }
+    ensures fault { OnOk result (fault ≢ ReadFault.Memory) }
+{
+    match fault {
+        ReadFault::Memory => Err(AllocError),
+        _ => Ok(Command::Refused(Refusal::Syntax(LoadCause::Read(fault)))),
+    }
+}
+
+/// What is said to a line that has no division into tokens, for this fault, which want of memory is not.
+fn division_refused(fault: TokenFault) -> Result<Command, AllocError>
+    ensures command { IfOk result (λ c. c ≡ Command.Refused (Refusal.Syntax (LoadCause.Token fault))) }
+    ensures fault { OnOk result (fault ≢ TokenFault.Memory) }
+{
+    match fault {
+        TokenFault::Memory => Err(AllocError),
+        _ => Ok(Command::Refused(Refusal::Syntax(LoadCause::Token(fault)))),
+    }
+}
+
+/// The query of a term `?- B`, or why it is refused.
+fn query_command(alloc: Global, read: &Read) -> Result<Command, AllocError>
+    requires { IsQueryTerm read.now.term }
+    ensures command { IfOk result (λ c. c ≡ query_asked (query_from read.now)) }
+    ensures can { (n : ℕ) → IsOfLine n read.now.term → IfOk result (CanObey n) }
+{
+    match query_of(alloc, read) {
+        Ok(query) => Ok(Command::Query(query)),
+        Err(fault) => goal_refused(fault),
+    }
+}
+
+/// The command that a term is.
+fn term_command(alloc: Global, read: &Read) -> Result<Command, AllocError>
+    ensures command { IfOk result (λ c. c ≡ command_of read.now (predicate_of read.now.term)) }
+    ensures can { (n : ℕ) → IsOfLine n read.now.term → IfOk result (CanObey n) }
+{
+    match read.term.pred() {
+        Some(Pred {
+            name: QUIT,
+            arity: 0,
+        }) => Ok(Command::Quit),
+        Some(Pred {
+            name: QUERY,
+            arity: 1,
+        }) => query_command(alloc, read),
+        _ => Ok(Command::Refused(Refusal::NotACommand)),
+    }
+}
+
+/// The command of a clause behind which no token stands.
+fn whole_command(
+    alloc: Global,
+    read: &Read,
+    tokens: &[Token],
+) -> Result<Command, AllocError>
+    ensures command { IfOk result (λ c. c ≡ command_read tokens.now (Ok read.now)) }
+    ensures can { (n : ℕ) → IsOfLine n read.now.term → IfOk result (CanObey n) }
+{
+    match tokens.get(read.next) {
+        Some(token) => {
+            let fault = ReadFault::Stray(token.start);
+            Ok(Command::Refused(Refusal::Syntax(LoadCause::Read(fault))))
+        }
+        None => term_command(alloc, read),
+    }
+}
+
+/// The command that the tokens of a line are.
+fn tokens_command(
+    alloc: Global,
+    ops: &Ops,
+    names: &mut Names,
+    line: &[u8],
+    tokens: &Tokens,
+) -> Result<Command, AllocError>
+    requires short { length line.now ≤ 65536 }
+    requires tokens { HasTokens line.now tokens.now }
+    requires some { 0 < length tokens.now }
+    requires room { length names.old + length line.now < 4000000000 }
+    requires standard { length standard_names ≤ length names.old }
+    ensures names { GrowsBy (length line.now) names.old names.new }
+    ensures command { IfOk result (λ c. (n : List (List ℕ)) → Grown names.new n → (reader : Reader n) → c ≡ command_read tokens.now (reader.clause ops.now line.now tokens.now 0)) }
+    ensures can { IfOk result (CanObey (length names.new)) }
+{
+    ops.has_no_clash();
+    match read_clause(alloc, ops, names, line, tokens, 0) {
+        Ok(read) => whole_command(alloc, &read, tokens.as_slice()),
+        Err(fault) => reading_refused(fault),
+    }
+}
+
+/// The command that the bytes of a line are.
+fn text_command(
+    alloc: Global,
+    ops: &Ops,
+    names: &mut Names,
+    line: &[u8],
+) -> Result<Command, AllocError>
+    requires short { length line.now ≤ 65536 }
+    requires room { length names.old + length line.now < 4000000000 }
+    requires standard { length standard_names ≤ length names.old }
+    ensures names { GrowsBy (length line.now) names.old names.new }
+    ensures command { IfOk result (λ c. (n : List (List ℕ)) → Grown names.new n → (reader : Reader n) → c ≡ command_from reader ops.now line.now (reader.division line.now)) }
+    ensures can { IfOk result (CanObey (length names.new)) }
+{
+    match tokens(alloc, line) {
+        Ok(tokens) => {
+            if tokens.as_slice().is_empty() {
+                return Ok(Command::Nothing);
+            }
+            tokens_command(alloc, ops, names, line, &tokens)
+        }
+        Err(fault) => division_refused(fault),
+    }
+}
+
+/// The command that a line is, read with these operators. After want of memory, too, the names have only grown.
 pub(crate) fn read_command(
     alloc: Global,
+    ops: &Ops,
     names: &mut Names,
     line: &Line,
 ) -> Result<Command, AllocError>
-    requires { LineFits (length names.old) line.now }
+    requires fits { LineFits (length names.old) line.now }
+    requires standard { length standard_names ≤ length names.old }
     ensures names { LineGrows line.now names.old names.new }
-    ensures command { IfOk result (λ c. (more : List (List ℕ)) (s : State) → step_for (names.new ++ more) s c ≡ step (names.new ++ more) s line.now) }
-    ensures can { IfOk result (λ c. CanObey (length names.new) c) }
+    ensures command { IfOk result (λ c. (n : List (List ℕ)) → Grown names.new n → (reader : Reader n) → c ≡ command_in reader ops.now line.now) }
+    ensures can { IfOk result (CanObey (length names.new)) }
 {
     match line {
-        Line::Text(text) => command_of(alloc, names, text),
-        Line::TooLong => Ok(Command::Refused(Refusal::NotBuilt)),
+        Line::Text(text) => text_command(alloc, ops, names, text.bytes()),
+        Line::TooLong => Ok(Command::Refused(Refusal::TooLong)),
     }
 }

@@ -2,6 +2,7 @@
 #![tactic(auto)]
 
 mod commands;
+mod notes;
 mod printer;
 mod query;
 mod say;
@@ -9,7 +10,6 @@ mod state;
 mod status;
 mod top;
 mod turns;
-mod warnings;
 mod words;
 
 pub use apd_text::{Entry, Log};

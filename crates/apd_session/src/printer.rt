@@ -6,6 +6,7 @@ ghost use Rattle.apd_ports.specs.Filter.{is_admitted};
 
 use apd_console::Console;
 use apd_io::Sink;
+use apd_ops::Ops;
 use apd_ports::{Event, Filter, Hook, HookFault};
 use apd_term::names::Names;
 use apd_term::{Flat, Text, VarNames};
@@ -18,6 +19,7 @@ pub(crate) struct Printer<'a, K: Sink> {
     pub alloc: Global,
     pub out: &'a mut K,
     pub names: &'a Names,
+    pub ops: &'a Ops,
     pub vars: &'a VarNames,
     pub filter: &'a Filter,
     /// How many answers were printed.
@@ -53,20 +55,20 @@ impl<K: Sink> Hook for Printer<'_, K> {
 
     ghost faults = { λ p. K.faults p.out.now };
 
-    ghost step = { λ p x r q. (q.out.ghost_name ≡ p.out.ghost_name) × (q.names.now ≡ p.names.now) × (q.vars.now ≡ p.vars.now) × (q.filter.now ≡ p.filter.now)
-        × Prints p.names.now p.vars.now p.filter.now (K.held p.out.now) (K.held q.out.now) p.answers q.answers x r };
+    ghost step = { λ p x r q. (q.out.ghost_name ≡ p.out.ghost_name) × (q.ops.now ≡ p.ops.now) × (q.names.now ≡ p.names.now) × (q.vars.now ≡ p.vars.now) × (q.filter.now ≡ p.filter.now)
+        × Prints p.ops.now p.names.now p.vars.now p.filter.now (K.held p.out.now) (K.held q.out.now) p.answers q.answers x r };
 
     fn event(&mut self, event: &Event) -> Result<(), HookFault> {
         if !is_printed(self.filter) {
             return Ok(());
         }
-        let line = port_line(self.alloc, self.names, event);
+        let line = port_line(self.alloc, self.names, self.ops, event);
         print_line(self.out, line)
     }
 
     fn answer(&mut self, values: &Flat) -> Result<(), HookFault> {
         let number = self.answers.saturating_add(1);
-        let line = answer_line(self.alloc, self.names, self.vars, number, values);
+        let line = answer_line(self.alloc, self.names, self.ops, self.vars, number, values);
         match print_line(self.out, line) {
             Ok(()) => {
                 self.answers = number;

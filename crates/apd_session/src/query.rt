@@ -19,7 +19,6 @@ use apd_console::{Console, Trouble};
 use apd_engine::{RunFault, run};
 use apd_io::Sink;
 use apd_ports::Filter;
-use apd_term::names::Names;
 use apd_term::{Query, Ran};
 use apd_text::{Entry, Log, end_line, head_line};
 use std::alloc::{Global};
@@ -41,13 +40,14 @@ fn begin_run<K: Sink>(
     out: &mut K,
     log: &mut Log,
 ) -> Result<(), Trouble>
-    ensures pushed { OnOk result (log.new.entries ≡ log.old.entries ++ entered state.now query.now ∷ []) }
-    ensures printed { OnOk result (Adds (K.held out.old) (K.held out.new) (head_text log.old.names query.now)) }
-    ensures err { OnErr result (BeginsFront state.now query.now log.old.names log.old.entries log.new.entries (K.held out.old) (K.held out.new)) }
+    ensures pushed { OnOk result (log.new.entries.list ≡ log.old.entries.list ++ entered state.now query.now ∷ []) }
+    ensures printed { OnOk result (Adds (K.held out.old) (K.held out.new) (head_text log.old.ops log.old.names query.now)) }
+    ensures err { OnErr result (BeginsFront state.now query.now log.old.ops log.old.names log.old.entries.list log.new.entries.list (K.held out.old) (K.held out.new)) }
     ensures names { log.new.names ≡ log.old.names }
+    ensures ops { log.new.ops ≡ log.old.ops }
     ensures cause { HasWriteCause (K.faults out.old) (K.faults out.new) result }
 {
-    let Ok(head) = head_line(alloc, &log.names, query) else {
+    let Ok(head) = head_line(alloc, &log.names, &log.ops, query) else {
         return Err(Trouble::Memory);
     };
     let Ok(kept) = query.copy(alloc) else {
@@ -84,8 +84,8 @@ fn show<K: Sink>(
     requires start { printer.old.answers ≡ 0 }
     ensures same_sink { printer.new.out.ghost_name ≡ printer.old.out.ghost_name }
     ensures ran { IfOk result (λ r. r ≡ ran_of (run_for state.now.program query.now state.now.budget state.now.answers)) }
-    ensures lines { OnOk result (Adds (K.held printer.old.out.now) (K.held printer.new.out.now) (shown_text printer.old.names.now printer.old.vars.now printer.old.filter.now 1 (shown_of (run_for state.now.program query.now state.now.budget state.now.answers).passed))) }
-    ensures err { OnErr result (AddsFront (K.held printer.old.out.now) (K.held printer.new.out.now) (shown_text printer.old.names.now printer.old.vars.now printer.old.filter.now 1 (shown_of (run_for state.now.program query.now state.now.budget state.now.answers).passed))) }
+    ensures lines { OnOk result (Adds (K.held printer.old.out.now) (K.held printer.new.out.now) (shown_text printer.old.ops.now printer.old.names.now printer.old.vars.now printer.old.filter.now 1 (shown_of (run_for state.now.program query.now state.now.budget state.now.answers).passed))) }
+    ensures err { OnErr result (AddsFront (K.held printer.old.out.now) (K.held printer.new.out.now) (shown_text printer.old.ops.now printer.old.names.now printer.old.vars.now printer.old.filter.now 1 (shown_of (run_for state.now.program query.now state.now.budget state.now.answers).passed))) }
     ensures cause { HasWriteCause (K.faults printer.old.out.now) (K.faults printer.new.out.now) result }
 {
     match run(
@@ -107,20 +107,21 @@ fn search<K: Sink>(
     alloc: Global,
     state: &State,
     query: &Query,
-    names: &Names,
+    log: &Log,
     out: &mut K,
 ) -> Result<Ran, Trouble>
-    requires ready { IsReady (length names.now) state.now }
+    requires ready { IsReady (length log.now.names) state.now }
     requires runnable { IsRunnable query.now.tuple }
     ensures ran { IfOk result (λ r. r ≡ ran_of (run_for state.now.program query.now state.now.budget state.now.answers)) }
-    ensures lines { OnOk result (Adds (K.held out.old) (K.held out.new) (shown_text names.now query.now.vars state.now.filter 1 (shown_of (run_for state.now.program query.now state.now.budget state.now.answers).passed))) }
-    ensures err { OnErr result (AddsFront (K.held out.old) (K.held out.new) (shown_text names.now query.now.vars state.now.filter 1 (shown_of (run_for state.now.program query.now state.now.budget state.now.answers).passed))) }
+    ensures lines { OnOk result (Adds (K.held out.old) (K.held out.new) (shown_text log.now.ops log.now.names query.now.vars state.now.filter 1 (shown_of (run_for state.now.program query.now state.now.budget state.now.answers).passed))) }
+    ensures err { OnErr result (AddsFront (K.held out.old) (K.held out.new) (shown_text log.now.ops log.now.names query.now.vars state.now.filter 1 (shown_of (run_for state.now.program query.now state.now.budget state.now.answers).passed))) }
     ensures cause { HasWriteCause (K.faults out.old) (K.faults out.new) result }
 {
     let mut printer = Printer {
         alloc,
         out,
-        names,
+        names: &log.names,
+        ops: &log.ops,
         vars: &query.vars,
         filter: &state.filter,
         answers: 0,
@@ -130,10 +131,11 @@ fn search<K: Sink>(
 
 /// Sets the end of a run in the log, and prints its last line.
 fn end_run<K: Sink>(alloc: Global, ran: Ran, out: &mut K, log: &mut Log) -> Result<(), Trouble>
-    ensures finished { Finishes log.old.entries ran log.new.entries }
+    ensures finished { Finishes log.old.entries.list ran log.new.entries.list }
     ensures ok { OnOk result (Adds (K.held out.old) (K.held out.new) (end_text ran)) }
     ensures err { OnErr result (AddsFront (K.held out.old) (K.held out.new) (end_text ran)) }
     ensures names { log.new.names ≡ log.old.names }
+    ensures ops { log.new.ops ≡ log.old.ops }
     ensures cause { HasWriteCause (K.faults out.old) (K.faults out.new) result }
 {
     log.entries.finish(ran);
@@ -157,16 +159,17 @@ pub(crate) fn run_query<K: Sink>(
     requires ready { IsReady (length log.old.names) state.now }
     requires runnable { IsRunnable query.now.tuple }
     requires named { TupleIsNamed (length log.old.names) query.now.tuple }
-    ensures ok { OnOk result ((more : List (List ℕ)) → Utters log.old.entries log.new.entries (K.held out.old) (K.held out.new) (run_said (log.old.names ++ more) state.now.program query.now state.now.budget state.now.answers state.now.filter ∷ [])) }
-    ensures err { OnErr result ((more : List (List ℕ)) → UttersFront begun log.old.entries log.new.entries (K.held out.old) (K.held out.new) (run_said (log.old.names ++ more) state.now.program query.now state.now.budget state.now.answers state.now.filter ∷ [])) }
+    ensures ok { OnOk result ((more : List (List ℕ)) → Utters log.old.entries.list log.new.entries.list (K.held out.old) (K.held out.new) (run_said log.old.ops (log.old.names ++ more) state.now.program query.now state.now.budget state.now.answers state.now.filter ∷ [])) }
+    ensures err { OnErr result ((more : List (List ℕ)) → UttersFront begun log.old.entries.list log.new.entries.list (K.held out.old) (K.held out.new) (run_said log.old.ops (log.old.names ++ more) state.now.program query.now state.now.budget state.now.answers state.now.filter ∷ [])) }
     ensures names { log.new.names ≡ log.old.names }
+    ensures ops { log.new.ops ≡ log.old.ops }
     ensures cause { HasWriteCause (K.faults out.old) (K.faults out.new) result }
 {
     match begin_run(alloc, state, query, out, log) {
         Ok(()) => {}
         Err(trouble) => return Err(trouble),
     }
-    let ran = match search(alloc, state, query, &log.names, out) {
+    let ran = match search(alloc, state, query, log, out) {
         Ok(ran) => ran,
         Err(trouble) => return Err(trouble),
     };

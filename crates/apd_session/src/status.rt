@@ -7,7 +7,7 @@ use apd_console::{Ending, Trouble};
 /// How a session ended.
 #[derive(Clone, Copy, Debug, PartialEq, Eq)]
 pub enum Status {
-    /// The input was read to its end.
+    /// The input was read to its end, or to `quit.`.
     Done,
     /// The words break their rules.
     Usage,

@@ -5,6 +5,8 @@ ghost use Rattle.apd_console.specs.Lines.{InputEnd, Ended};
 ghost use Rattle.apd_console.specs.Talk.{Breaks, Ends, at, onto, replies};
 ghost use Rattle.apd_io.specs.Outside.{Rose};
 ghost use Rattle.apd_load.specs.Program.{program_of};
+ghost use Rattle.apd_ops.specs.Standard.{standard_table};
+ghost use Rattle.apd_read.specs.Reader.{Reader};
 ghost use Rattle.apd_load.specs.Warnings.{NotesAreNamed, warnings_of};
 ghost use Rattle.apd_term.specs.StandardNames.{standard_names};
 ghost use Rattle.apd_text.specs.Named.{EntryIsNamed};
@@ -16,11 +18,11 @@ ghost use Rattle.apd_session.specs.Session.{Gives, World, after_load, session_of
 ghost use Rattle.apd_session.specs.Steps.{begun, load_said, talker};
 ghost use Rattle.apd_session.specs.Words.{Options, bytes_of, options_of};
 
+use crate::notes::say_loaded;
 use crate::say::say;
 use crate::state::State;
 use crate::status::{Status, status_after, status_of};
 use crate::turns::converse;
-use crate::warnings::say_loaded;
 use crate::words::{Asked, read_words};
 use apd_console::{Console, Ending, Trouble};
 use apd_io::{Files, LoadFault, Sink, Source};
@@ -37,9 +39,10 @@ fn end_with<K: Sink>(
     entry: Entry,
     status: Status,
 ) -> Status
-    requires empty { log.old.entries ≡ [] }
+    requires empty { log.old.entries.list ≡ [] }
+    requires ops { log.old.ops ≡ standard_table }
     requires named { EntryIsNamed (length log.old.names) entry }
-    ensures said { (more : List (List ℕ)) → IsSaid result (tells (log.old.names ++ more) entry status) log.new.entries (K.held out.old) (K.held out.new) }
+    ensures said { (more : List (List ℕ)) → IsSaid result (tells (log.old.names ++ more) entry status) log.new.entries.list (K.held out.old) (K.held out.new) }
     ensures names { log.new.names ≡ log.old.names }
     ensures write { result ≡ Status.WriteFault → (status ≡ Status.WriteFault) ⊎ Rose (K.faults out.old) (K.faults out.new) }
     ensures is { (result ≡ status) ⊎ ((result ≡ Status.WriteFault) ⊎ (result ≡ Status.Memory)) }
@@ -50,32 +53,34 @@ fn end_with<K: Sink>(
     }
 }
 
-/// Says the warnings of the program and that it is loaded, and hears the lines of the input.
+/// Says what there is to say of the program, and hears the lines of the input.
 fn begin<S: Source, K: Sink>(
     alloc: Global,
     state: &State,
-    notes: &[Note],
+    passed: &[Note],
+    called: &[Note],
     console: &mut Console,
     input: &mut S,
     out: &mut K,
     log: &mut Log,
 ) -> Result<Ending, Trouble>
     requires ready { IsReady (length log.old.names) state.now }
-    requires warnings { notes.now ≡ warnings_of state.now.program }
-    requires noted { NotesAreNamed (length log.old.names) notes.now }
+    requires warnings { called.now ≡ warnings_of state.now.program }
+    requires passed { NotesAreNamed (length log.old.names) passed.now }
+    requires called { NotesAreNamed (length log.old.names) called.now }
     requires few { length log.old.names ≤ 1000000000 }
     requires start { console.old ≡ fresh }
-    ensures talk { (names : List (List ℕ)) → Grown log.new.names names → MatchResult result
-        (λ e. Ends (λ room more ends. onto (load_said names state.now.program (warnings_of state.now.program)) (replies (talker names) state.now room more ends))
-        (at console.old (S.left input.old) (S.faults input.old) log.old.entries (K.held out.old) (K.faults out.old))
-        (at console.new (S.left input.new) (S.faults input.new) log.new.entries (K.held out.new) (K.faults out.new)) e)
-        (λ t. Breaks begun (λ room more ends. onto (load_said names state.now.program (warnings_of state.now.program)) (replies (talker names) state.now room more ends))
-        (at console.old (S.left input.old) (S.faults input.old) log.old.entries (K.held out.old) (K.faults out.old))
-        (at console.new (S.left input.new) (S.faults input.new) log.new.entries (K.held out.new) (K.faults out.new)) t) }
+    ensures talk { (names : List (List ℕ)) → Grown log.new.names names → (reader : Reader names) → MatchResult result
+        (λ e. Ends (λ room more ends. onto (load_said log.old.ops names state.now.program passed.now (warnings_of state.now.program)) (replies (talker reader log.old.ops) state.now room more ends))
+        (at console.old (S.left input.old) (S.faults input.old) log.old.entries.list (K.held out.old) (K.faults out.old))
+        (at console.new (S.left input.new) (S.faults input.new) log.new.entries.list (K.held out.new) (K.faults out.new)) e)
+        (λ t. Breaks begun (λ room more ends. onto (load_said log.old.ops names state.now.program passed.now (warnings_of state.now.program)) (replies (talker reader log.old.ops) state.now room more ends))
+        (at console.old (S.left input.old) (S.faults input.old) log.old.entries.list (K.held out.old) (K.faults out.old))
+        (at console.new (S.left input.new) (S.faults input.new) log.new.entries.list (K.held out.new) (K.faults out.new)) t) }
     ensures names { Grown log.old.names log.new.names }
     ensures sound { IsKept console.new }
 {
-    match say_loaded(alloc, &state.program, notes, out, log) {
+    match say_loaded(alloc, &state.program, passed, called, out, log) {
         Ok(()) => converse(alloc, state, console, input, out, log),
         Err(trouble) => Err(trouble),
     }
@@ -90,12 +95,14 @@ fn talk<S: Source, K: Sink>(
     out: &mut K,
     log: &mut Log,
 ) -> Status
-    requires empty { log.old.entries ≡ [] }
+    requires empty { log.old.entries.list ≡ [] }
     requires few { length log.old.names ≤ 1000000 }
+    requires standard { length standard_names ≤ length log.old.names }
+    requires ops { log.old.ops ≡ standard_table }
     requires size { length text.now ≤ 1048576 }
     requires limits { (asked.budget ≤ 1000000) × (0 < asked.answers) × (asked.answers ≤ 1000000) }
-    ensures answers { (names : List (List ℕ)) → Grown log.new.names names → (options : Options) → options ≡ record { program = asked.entry.program.now; budget = asked.entry.budget; answers = asked.entry.answers; filter = asked.entry.filter } →
-        Answers (S.left input.old) (S.left input.new) (Rose (S.faults input.old) (S.faults input.new)) (λ input ends. after_load names options input ends (program_of names text.now)) result log.new.entries (K.held out.old) (K.held out.new) }
+    ensures answers { (names : List (List ℕ)) → Grown log.new.names names → (reader : Reader names) (options : Options) → options ≡ record { program = asked.entry.program.now; budget = asked.entry.budget; answers = asked.entry.answers; filter = asked.entry.filter } →
+        Answers (S.left input.old) (S.left input.new) (Rose (S.faults input.old) (S.faults input.new)) (λ input ends. after_load reader options input ends (program_of reader text.now)) result log.new.entries.list (K.held out.old) (K.held out.new) }
     ensures names { Grown log.old.names log.new.names }
     ensures read { result ≡ Status.ReadFault → Rose (S.faults input.old) (S.faults input.new) }
     ensures write { result ≡ Status.WriteFault → Rose (K.faults out.old) (K.faults out.new) }
@@ -108,7 +115,13 @@ fn talk<S: Source, K: Sink>(
         }
         Err(LoadText::Memory) => return Status::Memory,
     };
-    let Loaded { program, warnings } = loaded;
+    let Loaded {
+        program,
+        ops,
+        passed,
+        warnings,
+    } = loaded;
+    log.ops = ops;
     let state = State {
         program,
         budget: asked.budget,
@@ -121,6 +134,7 @@ fn talk<S: Source, K: Sink>(
     match begin(
         alloc,
         &state,
+        passed.as_slice(),
         warnings.as_slice(),
         &mut console,
         input,
@@ -141,10 +155,11 @@ fn serve<F: Files, S: Source, K: Sink>(
     out: &mut K,
     log: &mut Log,
 ) -> Status
-    requires empty { log.old.entries ≡ [] }
-    requires standard { log.old.names ≡ standard_names }
-    ensures meaning { (names : List (List ℕ)) → Grown log.new.names names → Meets (session_of (bytes_of words.now) names) (bytes_of words.now) (F.content files.old) (S.left input.old) (S.left input.new)
-        (Rose (F.faults files.old) (F.faults files.new)) (Rose (S.faults input.old) (S.faults input.new)) result log.new.entries (K.held out.old) (K.held out.new) }
+    requires empty { log.old.entries.list ≡ [] }
+    requires names { log.old.names ≡ standard_names }
+    requires ops { log.old.ops ≡ standard_table }
+    ensures meaning { (names : List (List ℕ)) → Grown log.new.names names → (reader : Reader names) → Meets (session_of (bytes_of words.now) reader) (bytes_of words.now) (F.content files.old) (S.left input.old) (S.left input.new)
+        (Rose (F.faults files.old) (F.faults files.new)) (Rose (S.faults input.old) (S.faults input.new)) result log.new.entries.list (K.held out.old) (K.held out.new) }
     ensures names { Grown log.old.names log.new.names }
     ensures read { result ≡ Status.ReadFault → Rose (F.faults files.old) (F.faults files.new) ⊎ Rose (S.faults input.old) (S.faults input.new) }
     ensures write { result ≡ Status.WriteFault → Rose (K.faults out.old) (K.faults out.new) }
@@ -165,6 +180,9 @@ fn serve<F: Files, S: Source, K: Sink>(
 
 /// A session: loads the program that the words name, then hears the lines of the input, and says what there is to say.
 ///
+/// A line that has a token is a command: `?- Goals.` runs a query, and `quit.` ends the session. It is read with the
+/// operators that the program has left, and what is said is written with them.
+///
 /// The first word is the program's own name. Then `--budget N`, `--answers N` and `--trace` may follow, in this order, with
 /// N from 1 to 1,000,000 in at most 7 digits, and last the name of a file, which doesn't begin with `-`. Without a budget a
 /// run shows at most 100,000 ports, and without a limit on answers 1,000,000; the ports are printed where `--trace` is given. The log's entries
@@ -179,16 +197,18 @@ pub fn session<F: Files, S: Source, K: Sink>(
     out: &mut K,
     log: &mut Log,
 ) -> Status
-    requires empty { log.old.entries ≡ [] }
-    requires standard { log.old.names ≡ standard_names }
+    requires empty { log.old.entries.list ≡ [] }
+    requires names { log.old.names ≡ standard_names }
+    requires ops { log.old.ops ≡ standard_table }
 
-    // Whatever names are kept later, there is a world, which is what the objects tell where they tell it, fails only where
-    // a count rose, and whose input begins with the bytes that were taken: at most 16,777,216, all of it where a read
-    // failed, and none where what is said doesn't depend on the input. The log has the entries that the definition gives
-    // for this world, and the status is its status, or, after a write fault or want of memory, the front of these entries.
-    // The sink gained the texts of the log; there, the last of them perhaps without its end.
-    ensures meaning { (names : List (List ℕ)) → Grown log.new.names names → Meets (session_of (bytes_of words.now) names) (bytes_of words.now) (F.content files.old) (S.left input.old) (S.left input.new)
-        (Rose (F.faults files.old) (F.faults files.new)) (Rose (S.faults input.old) (S.faults input.new)) result log.new.entries (K.held out.old) (K.held out.new) }
+    // Whatever names are kept later, and whatever reader gives what the definitions of reading have under them, there is a
+    // world, which is what the objects tell where they tell it, fails only where a count rose, and whose input begins with
+    // the bytes that were taken: at most 16,777,216, all of it where a read failed, and none where what is said doesn't
+    // depend on the input. The log has the entries that the definition gives for this world, and the status is its status,
+    // or, after a write fault or want of memory, the front of these entries. The sink gained the texts of the log; there,
+    // the last of them perhaps without its end.
+    ensures meaning { (names : List (List ℕ)) → Grown log.new.names names → (reader : Reader names) → Meets (session_of (bytes_of words.now) reader) (bytes_of words.now) (F.content files.old) (S.left input.old) (S.left input.new)
+        (Rose (F.faults files.old) (F.faults files.new)) (Rose (S.faults input.old) (S.faults input.new)) result log.new.entries.list (K.held out.old) (K.held out.new) }
     ensures names { Grown log.old.names log.new.names }
 
     // A fault is answered only where a count rose in this call.
@@ -197,18 +217,18 @@ pub fn session<F: Files, S: Source, K: Sink>(
 
     // There is such a world, and the status is the one that the first cause met in it calls for, where no write failed and
     // memory sufficed.
-    ensures status { (names : List (List ℕ)) → Grown log.new.names names → (world : World) × IsMet (bytes_of words.now) (F.content files.old) (S.left input.old) (S.left input.new)
-        (Rose (F.faults files.old) (F.faults files.new)) (Rose (S.faults input.old) (S.faults input.new)) world × Comes result (status_for (bytes_of words.now) names world) }
+    ensures status { (names : List (List ℕ)) → Grown log.new.names names → (reader : Reader names) → (world : World) × IsMet (bytes_of words.now) (F.content files.old) (S.left input.old) (S.left input.new)
+        (Rose (F.faults files.old) (F.faults files.new)) (Rose (S.faults input.old) (S.faults input.new)) world × Comes result (status_for (bytes_of words.now) reader world) }
 
     // Where the words name a file that is a program, the input isn't over its limit, all is told and no count rises, the session is done, or memory ran out.
-    ensures done { (text bytes : List ℕ) → FileHas (bytes_of words.now) (F.content files.old) text → length text ≤ 1048576 → IsLoadable (program_of log.new.names text) → S.left input.old ≡ Some bytes → length bytes < 16777216 →
+    ensures done { (reader : Reader log.new.names) (text bytes : List ℕ) → FileHas (bytes_of words.now) (F.content files.old) text → length text ≤ 1048576 → IsLoadable (program_of reader text) → S.left input.old ≡ Some bytes → length bytes < 16777216 →
         NoneFails (Rose (F.faults files.old) (F.faults files.new)) (Rose (S.faults input.old) (S.faults input.new)) (Rose (K.faults out.old) (K.faults out.new)) →
         (result ≡ Status.Done) ⊎ (result ≡ Status.Memory) }
 
     // Where all is told and no count rises, the entries and the status are the definition's, or memory ran out.
-    ensures complete { (names : List (List ℕ)) → Grown log.new.names names → (program bytes : List ℕ) → IfSome (options_of (bytes_of words.now)) (λ o. F.content files.old o.program ≡ Some program) → S.left input.old ≡ Some bytes →
+    ensures complete { (names : List (List ℕ)) → Grown log.new.names names → (reader : Reader names) (program bytes : List ℕ) → IfSome (options_of (bytes_of words.now)) (λ o. F.content files.old o.program ≡ Some program) → S.left input.old ≡ Some bytes →
         NoneFails (Rose (F.faults files.old) (F.faults files.new)) (Rose (S.faults input.old) (S.faults input.new)) (Rose (K.faults out.old) (K.faults out.new)) →
-        (result ≡ Status.Memory) ⊎ IsWhole result (session_of (bytes_of words.now) names record { program = Gives program; input = bytes; ends = Ended }) log.new.entries (K.held out.old) (K.held out.new) }
+        (result ≡ Status.Memory) ⊎ IsWhole result (session_of (bytes_of words.now) reader record { program = Gives program; input = bytes; ends = Ended }) log.new.entries.list (K.held out.old) (K.held out.new) }
 {
     serve(alloc, words, files, input, out, log)
 }

@@ -4,5 +4,6 @@ pub mod Begun
 pub mod Chained
 pub mod Scanned
 pub mod Texts
+pub mod Numbered
 pub mod Shown
 pub mod Divided

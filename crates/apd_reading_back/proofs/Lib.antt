@@ -5,5 +5,7 @@ pub mod Chained
 pub mod Scanned
 pub mod Texts
 pub mod Numbered
+pub mod Lexed
+pub mod Read
 pub mod Shown
 pub mod Divided

@@ -1,6 +1,10 @@
+pub mod Edges
 pub mod Words
 pub mod Laid
 pub mod Begun
 pub mod Chained
 pub mod Scanned
+pub mod SpelledNames
+pub mod SpelledNumbers
+pub mod SpelledQuotes
 pub mod Divided

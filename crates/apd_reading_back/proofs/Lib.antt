@@ -1,9 +1,11 @@
-pub mod Edges
 pub mod Words
 pub mod Laid
 pub mod Begun
 pub mod Chained
 pub mod Scanned
+pub mod Texts
+pub mod Shown
+pub mod Edges
 pub mod SpelledNames
 pub mod SpelledNumbers
 pub mod SpelledQuotes

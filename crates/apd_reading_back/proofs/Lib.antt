@@ -8,4 +8,8 @@ pub mod Numbered
 pub mod Lexed
 pub mod Read
 pub mod Shown
+pub mod Edges
+pub mod SpelledNames
+pub mod SpelledNumbers
+pub mod SpelledQuotes
 pub mod Divided

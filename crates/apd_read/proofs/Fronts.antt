@@ -1,5 +1,5 @@
 -- What reads has fronts that read; and so a text has one answer.
-use Rattle.std.proofs.Common.{◌≡◌, ℕ, ◌≤◌, Result, List, [], ◌∷◌, ◌++◌, refl, sym, ◌∙◌, subst, append_assoc, arith}
+use Rattle.std.proofs.Common.{◌≡◌, ℕ, ◌≤◌, Result, Err, List, [], ◌∷◌, ◌++◌, refl, sym, ◌∙◌, subst, append_assoc, arith}
 use Rattle.std.proofs.lemmas.List.{append-nil}
 use Rattle.apd_read.specs.declared.phrase.Phrase.{Phrase}
 use Rattle.apd_ops.specs.declared.op.Op.{Op}
@@ -8,10 +8,11 @@ use Rattle.apd_read.specs.declared.lexeme.Lexeme.{Lexeme}
 use Rattle.apd_read.specs.Reading.{Piece, Operand, Operator}
 use Rattle.apd_read.specs.declared.brackets.Whole.{Whole}
 use Rattle.apd_read.specs.declared.brackets.ClauseFault.{ClauseFault}
+use Rattle.apd_read.specs.declared.brackets.ClauseFault.TheVariants as fault
 use Rattle.apd_ops.specs.Operators.{left_of}
 use Rattle.apd_read.specs.Phrases.{unary, binary}
 use Rattle.apd_read.specs.Reading.{Reads, one_operand, by_prefix, by_infix, Splits}
-use Rattle.apd_read.specs.Clause.{FrontsRead, no_front, past_operand, past_operator, IsReading, IsOnly}
+use Rattle.apd_read.specs.Clause.{FrontsRead, no_front, past_operand, past_operator, IsReading}
 use Rattle.apd_read.proofs.Grammar.{meets, at_one, earlier, later, no_operator, not_before_first, left_at_most, Splits-unique, Reads_from_Splits}
 use Rattle.apd_read.proofs.Pushing.{raised}
 use Rattle.apd_read.proofs.ByMain.{from_scans, fronts_by_main}
@@ -59,9 +60,9 @@ pub fronts_of : {m : ℕ} {ps : List Piece} {t : Phrase} → Reads m ps t → Fr
 fronts_of {ps = ps} r = fronts_along r [] ps refl no_front
 
 -- in a table without a clash, two answers that are not want of memory are the same
-pub only_answer : (ops : Table) (ts : List Lexeme) (r : Result Whole ClauseFault) → IsTable ops → IsReading Splits ops ts r → IsOnly Splits ops ts r
-only_answer ops ts r c a q b m n =
+pub only_answer : (ops : Table) (ts : List Lexeme) (r q : Result Whole ClauseFault) → IsTable ops → IsReading Splits ops ts r → IsReading Splits ops ts q → (r ≡ Err fault.Memory → ⊥) → (q ≡ Err fault.Memory → ⊥) → r ≡ q
+only_answer ops ts r q c a b m n =
     reading_once Splits ops ts
     (λ p k from at ps place t u s x y. Splits-unique x y refl)
     (λ p k from at ps place t s x. fronts_by_main c (from_scans c s) (fronts_of (Reads_from_Splits x)))
-    q r b a n m
+    r q a b m n

@@ -16,3 +16,5 @@ pub mod Size
 pub mod Weights
 pub mod Parts
 pub mod Numbers
+pub mod Unique
+pub mod Readers

@@ -154,7 +154,3 @@ IsClauseFault reads ops ts fault.Memory = Unit {0}
 abbrev pub IsReading : (ℕ → List Piece → Phrase → Type 0) → Table → List Lexeme → Result Whole ClauseFault → Type 0
 IsReading reads ops ts (Ok w) = Fills reads ops ts Clause 0 w.phrase w.next
 IsReading reads ops ts (Err e) = IsClauseFault reads ops ts e
-
--- any other answer is the same, want of memory aside
-abbrev pub IsOnly : (ℕ → List Piece → Phrase → Type 0) → Table → List Lexeme → Result Whole ClauseFault → Type 0
-IsOnly reads ops ts r = (q : Result Whole ClauseFault) → IsReading reads ops ts q → ¬ (r ≡ Err fault.Memory) → ¬ (q ≡ Err fault.Memory) → q ≡ r

@@ -9,3 +9,4 @@ pub mod Top
 pub mod Lexemes
 pub mod Variables
 pub mod Answer
+pub mod Reader

@@ -1,12 +1,17 @@
-ghost use Rattle.std.specs.Prelude.{◌≡◌, ◌+◌, ◌-◌, ◌*◌, ◌<◌, ◌≤◌, ℕ, length, List, ◌++◌, Some, IfOk, IfErr, slice_get, Result, Err};
+ghost use Rattle.std.specs.Prelude.{◌≡◌, ◌+◌, ◌-◌, ◌*◌, ◌<◌, ◌≤◌, ℕ, length, List, ◌++◌, Some, IfOk, IfErr, slice_get, Result, ◌↔◌};
 ghost use Rattle.apd_term.specs.Term.{size, Occurs};
 ghost use Rattle.apd_term.specs.Growth.{GrowsBy};
 ghost use Rattle.apd_term.specs.Named.{IsNamed};
 ghost use Rattle.apd_term.specs.StandardNames.{standard_names};
 ghost use Rattle.apd_token.specs.Grammar.{HasTokens};
 ghost use Rattle.apd_token.specs.declared.items.Token.{Token};
-ghost use Rattle.apd_read.specs.Reading.{Splits};
-ghost use Rattle.apd_read.specs.Clause.{IsReading, IsOnly};
+ghost use Rattle.apd_ops.specs.Table.{Table, IsTable};
+ghost use Rattle.apd_term.specs.declared.reading.Read.{Read};
+ghost use Rattle.apd_term.specs.declared.faults.ReadFault.{ReadFault};
+ghost use Rattle.apd_read.specs.Reading.{Piece, Reads, Splits, HasNoClash};
+ghost use Rattle.apd_read.specs.Clause.{IsReading};
+ghost use Rattle.apd_read.specs.Reader.{IsRead};
+ghost use Rattle.apd_read.specs.declared.phrase.Phrase.{Phrase};
 ghost use Rattle.apd_read.specs.Answer.{HasReading, IsReadFault, IsFaultIn, IsReadAs, place_of, placed};
 ghost use Rattle.apd_read.specs.declared.lexeme.Lexeme.{Lexeme};
 ghost use Rattle.apd_read.specs.declared.brackets.Whole.{Whole};
@@ -56,13 +61,13 @@ fn read_by_main(alloc: Global, ops: &Ops, lexemes: &[Lexeme]) -> Result<Whole, C
     read(alloc, ops, lexemes)
 }
 
-/// The law of one reading: by a table of operators the tokens of a clause have one reading or one
-/// first fault, and not both.
-pub fn one_reading(ops: &Ops)
-    ensures { (ls : List Lexeme) (r : Result Whole ClauseFault) → IsReading Splits ops.now ls r → IsOnly Splits ops.now ls r }
-{
-    ops.has_no_clash();
-}
+/// The law of one reading: by a table of operators the tokens of a clause have at most one reading,
+/// at most one first fault, and not both. And splitting at main operators is the grammar of the
+/// standard, where no operators clash.
+pub fn one_reading()
+    ensures answers { (ops : Table) (names : List (List ℕ)) (text : List ℕ) (tokens : List Token) (at : ℕ) (a b : Result Read ReadFault) → IsTable ops → IsRead ops names text tokens at a → IsRead ops names text tokens at b → a ≡ b }
+    ensures grammar { (p : ℕ) (ps : List Piece) (t : Phrase) → HasNoClash ps → (Reads p ps t ↔ Splits p ps t) }
+{}
 
 /// What the lexemes of a clause read as, where they begin at a token of the text.
 fn answer(alloc: Global, ops: &Ops, clause: Clause, at: usize, end: u32) -> Result<Read, ReadFault>

@@ -1,6 +1,7 @@
-ghost use Rattle.std.specs.Prelude.{◌≡◌, ℕ, ◌<◌, ◌≤◌, List, length, slice_index, IfOk, IfErr, IsUtf8};
+ghost use Rattle.std.specs.Prelude.{◌≡◌, ℕ, ◌<◌, ◌≤◌, List, length, slice_index, IfOk, IfErr, IsUtf8, Result};
 ghost use Rattle.std.specs.Bool.{OnTrue, OnFalse};
 ghost use Rattle.apd_token.specs.Grammar.{HasTokens, HasFault, IsFaultOf, BeginsScript};
+ghost use Rattle.apd_token.specs.Division.{IsDivided};
 ghost use Rattle.apd_token.specs.Scan.{Scans, HasLead};
 ghost use Rattle.apd_token.specs.declared.items.Token.{Token};
 ghost use Rattle.apd_term.specs.declared.faults.TokenFault.{TokenFault};
@@ -102,9 +103,11 @@ pub fn tokens(alloc: Global, text: &[u8]) -> Result<Tokens, TokenFault>
     Ok(out)
 }
 
-/// The law of one division: a text has one list of tokens or one first fault, and not both.
+/// The law of one division: a text has at most one list of tokens, at most one first fault, and not
+/// both.
 pub fn one_division()
     ensures tokens { (text : List ℕ) (ts us : List Token) → HasTokens text ts → HasTokens text us → ts ≡ us }
     ensures faults { (text : List ℕ) (f g : TokenFault) → HasFault text f → HasFault text g → f ≡ g }
     ensures apart { (text : List ℕ) (ts : List Token) (f : TokenFault) → HasTokens text ts → HasFault text f → ⊥ }
+    ensures answers { (text : List ℕ) (a b : Result (List Token) TokenFault) → IsDivided text a → IsDivided text b → a ≡ b }
 {}

@@ -12,4 +12,5 @@ pub mod Edges
 pub mod SpelledNames
 pub mod SpelledNumbers
 pub mod SpelledQuotes
+pub mod SpelledUtf8
 pub mod Divided

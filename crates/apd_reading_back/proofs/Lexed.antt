@@ -56,7 +56,7 @@ HasPlace seen s = Unit {0}
 sort_of_word : {names : List (List ℕ)} → AreKept names → (seen : List ℕ) (s : Sort) → AreSmall seen → IsLexical names (words.Token s) → HasPlace seen s
     → IsSort (kind_of s) names (bytes_of names s) (texts seen) s (texts (seen_after seen s))
 sort_of_word {names} kept seen (Name f) small w p = (text_of_name names f, f, refl, sym (number_back kept f w.0), refl, refl)
-sort_of_word {names} kept seen (Quoted f) small w p = (text_of_name names f, f, quoted_stands (text_of_name names f), sym (number_back kept f w), refl, refl)
+sort_of_word {names} kept seen (Quoted f) small w p = (text_of_name names f, f, quoted_stands (text_of_name names f), sym (number_back kept f w.kept), refl, refl)
 sort_of_word kept seen (Codes cs) small w p = absurd w
 sort_of_word kept seen (Variable v) small w p = (variable_text v, refl, ap Variable (sym p ∙ sym (place_as seen v small w)), sym (after_as seen v small w))
 sort_of_word kept seen (Integer n) small w p = (refl, refl)

@@ -23,10 +23,10 @@ use Rattle.apd_write.specs.Writing as writing
 use Rattle.apd_write.specs.Writing.{is_same_name, is_operator, is_operator_atom, is_negative_integer, between, right_operand, left_operand, prefix_text, infix_text, further_arguments, arguments_text, function, one_text, two_text, list_text, arranged, rest_after, variable_text, written, rest_text, parts}
 use Rattle.apd_reading_back.specs.Levels as levels
 use Rattle.apd_reading_back.specs.Levels.{right_levels, left_levels, prefix_levels, infix_levels, argument_levels, list_levels, one_levels, two_levels, arranged_levels, rest_levels_of, level_parts}
-use Rattle.apd_reading_back.specs.Law.{IsWord, IsInRange, AreInRange}
+use Rattle.apd_reading_back.specs.Law.{HasUtf8Names, HaveUtf8Names, IsInRange, AreInRange}
 use Rattle.apd_reading_back.proofs.Words.{Word, Blank, Token, name_sort, bytes_of, piece, spelled, variables_in, spelled-append, variables_in-append}
 use Rattle.apd_reading_back.proofs.Laid
-use Rattle.apd_reading_back.proofs.Laid.{BeginsOperand, parenthesized}
+use Rattle.apd_reading_back.proofs.Laid.{IsName, BeginsOperand, parenthesized}
 use Rattle.apd_reading_back.proofs.Begun.{begins-append}
 use Rattle.apd_reading_back.proofs.Chained.{AreKept}
 use Rattle.apd_reading_back.proofs.Texts.{same_name, no_bracket, bytes_of_name, no_variable, name_begins_operand, no_operator, IsOwnName, prefix_own, infix_own, own_text}
@@ -147,12 +147,12 @@ module _ (ops : Table) (names : List (List ℕ)) (table : IsTable ops) (kept : A
           (parens_shown t place text n (record { words = s.words; whole = Laid.of_plain s.plain; spells = s.spells; vars = s.vars }) k).shown
       by false e k = h place (ltb-false place priority e) k
 
-  prefix_words : (f : NameId) (a : Term) (m : Meaning) (text : List ℕ) (n : ℕ) → f.0 < length names → prefix_in ops f.0 ≡ Some m → ShownLeft ops names a (right_by m.1 m.0) text n
+  prefix_words : (f : NameId) (a : Term) (m : Meaning) (text : List ℕ) (n : ℕ) → IsName names f → prefix_in ops f.0 ≡ Some m → ShownLeft ops names a (right_by m.1 m.0) text n
       → (place : ℕ) → m.0 ≤ place → n + 1 < 1000 → ShownPlain ops names (compound f (more a none)) place (name_text (text_of_name names f) ++ codes " " ++ text) (n + 1)
   prefix_words f a m text n k e x place le small =
       let o : Op = record { name = f; priority = m.0; kind = m.1 } in
       let ws : List Word = Token (name_sort names f) ∷ Blank ∷ x.shown.words in
-      let name = bytes_of_name names f ∙ sym (own_text kept f k (prefix_own ops f m table e)) in
+      let name = bytes_of_name names f ∙ sym (own_text kept f k.kept (prefix_own ops f m table e)) in
       record {
         words = ws;
         plain = subst (λ (p : Phrase). Laid.Plain ops names place p ws) (raised_as (compound f (more a none)) n small) (Laid.by_prefix o k (ap (operator f) e) le x.shown.plain x.begins);
@@ -162,7 +162,7 @@ module _ (ops : Table) (names : List (List ℕ)) (table : IsTable ops) (kept : A
         vars = no_variable names f (Blank ∷ x.shown.words) ∙ x.shown.vars ∙ sym (append-nil (variables a));
       }
 
-  prefix_shown : (f : NameId) (a : Term) (m : Meaning) → f.0 < length names → prefix_in ops f.0 ≡ Some m → TermShown ops names a → (place : ℕ) → prefix_levels ops m place (level_part a) < 1000
+  prefix_shown : (f : NameId) (a : Term) (m : Meaning) → IsName names f → prefix_in ops f.0 ≡ Some m → TermShown ops names a → (place : ℕ) → prefix_levels ops m place (level_part a) < 1000
       → ShownPlain ops names (compound f (more a none)) place (prefix_text ops m (name_text (text_of_name names f)) place (text_part a)) (prefix_levels ops m place (level_part a))
   prefix_shown f a m k e h place l =
       let text = left_operand ops (right_by m.1 m.0) (text_part a) in
@@ -171,7 +171,7 @@ module _ (ops : Table) (names : List (List ℕ)) (table : IsTable ops) (kept : A
       (λ q le small. prefix_words f a m text n k e (left_shown a h (right_by m.1 m.0) (omega arith)) q le small) l
 
   -- an infix operator between its operands' words, which is the comma or not
-  infix_words : (f : NameId) (a b : Term) (m : Meaning) (left right : List ℕ) (i j : ℕ) → f.0 < length names → infix_in ops f.0 ≡ Some m
+  infix_words : (f : NameId) (a b : Term) (m : Meaning) (left right : List ℕ) (i j : ℕ) → IsName names f → infix_in ops f.0 ≡ Some m
       → ShownLeft ops names a (left_by m.1 m.0) left i → ShownPlain ops names b (right_by m.1 m.0) right j
       → (place : ℕ) → m.0 ≤ place → max i j + 1 < 1000
       → ShownPlain ops names (compound f (more a (more b none))) place (left ++ between f (name_text (text_of_name names f)) ++ right) (max i j + 1)
@@ -201,7 +201,7 @@ module _ (ops : Table) (names : List (List ℕ)) (table : IsTable ops) (kept : A
       by false c =
           let name = name_text (text_of_name names f) in
           let ws : List Word = us ++ Blank ∷ Token (name_sort names f) ∷ Blank ∷ vs in
-          let is_name = bytes_of_name names f ∙ sym (own_text kept f k (infix_own ops f m table e)) in
+          let is_name = bytes_of_name names f ∙ sym (own_text kept f k.kept (infix_own ops f m table e)) in
           record {
             words = ws;
             plain = subst (λ (p : Phrase). Laid.Plain ops names place p ws) (raised_as t (max i j) small) (Laid.by_infix o us vs k (ap (operator f) e) le x.shown.plain y.plain);
@@ -212,7 +212,7 @@ module _ (ops : Table) (names : List (List ℕ)) (table : IsTable ops) (kept : A
             vars = vars_of (Blank ∷ Token (name_sort names f) ∷ Blank ∷ []) (no_variable names f (Blank ∷ vs));
           }
 
-  infix_shown : (f : NameId) (a b : Term) (m : Meaning) → f.0 < length names → infix_in ops f.0 ≡ Some m → TermShown ops names a → TermShown ops names b
+  infix_shown : (f : NameId) (a b : Term) (m : Meaning) → IsName names f → infix_in ops f.0 ≡ Some m → TermShown ops names a → TermShown ops names b
       → (place : ℕ) → infix_levels ops m place (level_part a) (level_part b) < 1000
       → ShownPlain ops names (compound f (more a (more b none))) place (infix_text ops m f (name_text (text_of_name names f)) place (text_part a) (text_part b)) (infix_levels ops m place (level_part a) (level_part b))
   infix_shown f a b m k e h g place l =
@@ -250,7 +250,7 @@ module _ (ops : Table) (names : List (List ℕ)) (table : IsTable ops) (kept : A
       }
 
   -- functional notation
-  call_shown : (f : NameId) (a : Term) (ts : Terms) → f.0 < length names → length (list_of (more a ts)) < 256 → TermShown ops names a → AllShown ops names ts
+  call_shown : (f : NameId) (a : Term) (ts : Terms) → IsName names f → length (list_of (more a ts)) < 256 → TermShown ops names a → AllShown ops names ts
       → (place : ℕ) → argument_levels (level_parts ops (more a ts)) + 1 < 1000
       → ShownPlain ops names (compound f (more a ts)) place (function (text_of_name names f) (parts ops names (more a ts))) (argument_levels (level_parts ops (more a ts)) + 1)
   call_shown f a ts k few h all place l =
@@ -306,7 +306,7 @@ module _ (ops : Table) (names : List (List ℕ)) (table : IsTable ops) (kept : A
       }
 
   -- an atom
-  atom_shown : (f : NameId) → f.0 < length names → (place : ℕ) → Shown ops names (atom f) place (name_text (text_of_name names f)) 0
+  atom_shown : (f : NameId) → IsName names f → (place : ℕ) → Shown ops names (atom f) place (name_text (text_of_name names f)) 0
   atom_shown f k place = by (is_same_name f NIL) (is_same_name f CURLY) refl refl
     where
       nil : Shown ops names (atom NIL) place (name_text (text_of_name names NIL)) 0
@@ -320,7 +320,7 @@ module _ (ops : Table) (names : List (List ℕ)) (table : IsTable ops) (kept : A
         plain = λ e. record { words = Token OpenCurly ∷ Token CloseCurly ∷ []; plain = Laid.of_curly; begins = λ z. tt; spells = text; vars = refl };
       }
       own : IsOwnName f → Shown ops names (atom f) place (name_text (text_of_name names f)) 0
-      own o = let text = append-nil (bytes_of names (name_sort names f)) ∙ bytes_of_name names f ∙ sym (own_text kept f k o) in record {
+      own o = let text = append-nil (bytes_of names (name_sort names f)) ∙ bytes_of_name names f ∙ sym (own_text kept f k.kept o) in record {
         whole = record { words = Token (name_sort names f) ∷ []; whole = Laid.of_operator f k; spells = text; vars = no_variable names f [] };
         plain = λ e. let none = no_operator ops f e in record {
           words = Token (name_sort names f) ∷ [];
@@ -335,7 +335,7 @@ module _ (ops : Table) (names : List (List ℕ)) (table : IsTable ops) (kept : A
       by false true e d = subst (λ (g : NameId). Shown ops names (atom g) place (name_text (text_of_name names g)) 0) (sym (same_name f CURLY d)) curly
       by false false e d = own (record { nil = e; curly = d })
 
-  one_shown : (f : NameId) (a : Term) (m : Option Meaning) → prefix_in ops f.0 ≡ m → f.0 < length names → TermShown ops names a
+  one_shown : (f : NameId) (a : Term) (m : Option Meaning) → prefix_in ops f.0 ≡ m → IsName names f → TermShown ops names a
       → (place : ℕ) → one_levels ops m f place (level_part a) < 1000
       → ShownPlain ops names (compound f (more a none)) place (one_text ops m f (text_of_name names f) place (text_part a)) (one_levels ops m f place (level_part a))
   one_shown f a (Some m) e k h place l = prefix_shown f a m k e h place l
@@ -349,13 +349,13 @@ module _ (ops : Table) (names : List (List ℕ)) (table : IsTable ops) (kept : A
           (sym (same_name f CURLY c)) (braces_shown a h place s)
       by false c s = call_shown f a none k (omega arith) h tt place s
 
-  two_shown : (f : NameId) (a b : Term) (m : Option Meaning) → infix_in ops f.0 ≡ m → f.0 < length names → TermShown ops names a → TermShown ops names b
+  two_shown : (f : NameId) (a b : Term) (m : Option Meaning) → infix_in ops f.0 ≡ m → IsName names f → TermShown ops names a → TermShown ops names b
       → (place : ℕ) → two_levels ops m place (level_part a) (level_part b) < 1000
       → ShownPlain ops names (compound f (more a (more b none))) place (two_text ops m f (text_of_name names f) place (text_part a) (text_part b)) (two_levels ops m place (level_part a) (level_part b))
   two_shown f a b (Some m) e k h g place l = infix_shown f a b m k e h g place l
   two_shown f a b None e k h g place l = call_shown f a (more b none) k (omega arith) h (g, tt) place l
 
-  pair_shown : (f : NameId) (a b : Term) → f.0 < length names → TermShown ops names a → TermShown ops names b
+  pair_shown : (f : NameId) (a b : Term) → IsName names f → TermShown ops names a → TermShown ops names b
       → (place : ℕ) → arranged_levels ops f place (level_parts ops (more a (more b none))) < 1000
       → ShownPlain ops names (compound f (more a (more b none))) place (arranged ops f (text_of_name names f) place (parts ops names (more a (more b none)))) (arranged_levels ops f place (level_parts ops (more a (more b none))))
   pair_shown f a b k h g place l = by (is_same_name f CELL) refl l
@@ -380,7 +380,7 @@ module _ (ops : Table) (names : List (List ℕ)) (table : IsTable ops) (kept : A
     plain = λ e. s;
   }
 
-  compound_shown : (f : NameId) (ts : Terms) → f.0 < length names → length (list_of ts) < 256 → AllShown ops names ts
+  compound_shown : (f : NameId) (ts : Terms) → IsName names f → length (list_of ts) < 256 → AllShown ops names ts
       → (place : ℕ) → arranged_levels ops f place (level_parts ops ts) < 1000
       → Shown ops names (compound f ts) place (arranged ops f (text_of_name names f) place (parts ops names ts)) (arranged_levels ops f place (level_parts ops ts))
   compound_shown f none k few h place l = atom_shown f k place
@@ -431,7 +431,7 @@ module _ (ops : Table) (names : List (List ℕ)) (table : IsTable ops) (kept : A
         vars = variables_in-append s.words r.words ∙ ap (λ x. x ++ variables_in r.words) s.vars ∙ ap (λ x. variables a ++ x) (r.vars ∙ sym (append-nil (variables b)));
       }
 
-  rest_shown : (f : NameId) (ts : Terms) → f.0 < length names → length (list_of ts) < 256 → AllShown ops names ts → rest_levels_of ops f (level_parts ops ts) < 1000
+  rest_shown : (f : NameId) (ts : Terms) → IsName names f → length (list_of ts) < 256 → AllShown ops names ts → rest_levels_of ops f (level_parts ops ts) < 1000
       → ShownRest ops names (compound f ts) (rest_after ops f (text_of_name names f) (parts ops names ts)) (rest_levels_of ops f (level_parts ops ts))
   rest_shown f none k few h l = by (is_same_name f NIL) refl
     where
@@ -472,15 +472,17 @@ module _ (ops : Table) (names : List (List ℕ)) (table : IsTable ops) (kept : A
       })
 
   mutual
-    pub term_shown : (t : Term) → IsNamed (length names) t → IsInRange t → TermShown ops names t
-    term_shown (variable v) n r = record { at = λ place l. variable_shown v r place; rest = λ l. tail_shown (variable v) (variable_text v) 0 (variable_shown v r 999) }
-    term_shown (integer (pos i)) n r = record { at = λ place l. natural_shown i r place; rest = λ l. tail_shown (integer (pos i)) (decimal i) 0 (natural_shown i r 999) }
-    term_shown (integer (negsuc i)) n r = record { at = λ place l. negative_shown i r place; rest = λ l. tail_shown (integer (negsuc i)) (45 ∷ decimal (suc i)) 0 (negative_shown i r 999) }
-    term_shown (compound f ts) n r = record {
-      at = λ place l. compound_shown f ts n.0 r.0 (terms_shown ts n.1 r.1) place l;
-      rest = λ l. rest_shown f ts n.0 r.0 (terms_shown ts n.1 r.1) l;
-    }
+    pub term_shown : (t : Term) → IsNamed (length names) t → HasUtf8Names names t → IsInRange t → TermShown ops names t
+    term_shown (variable v) n u r = record { at = λ place l. variable_shown v r place; rest = λ l. tail_shown (variable v) (variable_text v) 0 (variable_shown v r 999) }
+    term_shown (integer (pos i)) n u r = record { at = λ place l. natural_shown i r place; rest = λ l. tail_shown (integer (pos i)) (decimal i) 0 (natural_shown i r 999) }
+    term_shown (integer (negsuc i)) n u r = record { at = λ place l. negative_shown i r place; rest = λ l. tail_shown (integer (negsuc i)) (45 ∷ decimal (suc i)) 0 (negative_shown i r 999) }
+    term_shown (compound f ts) n u r =
+        let name : IsName names f = record { kept = n.0; utf8 = u.0 } in
+        record {
+          at = λ place l. compound_shown f ts name r.0 (terms_shown ts n.1 u.1 r.1) place l;
+          rest = λ l. rest_shown f ts name r.0 (terms_shown ts n.1 u.1 r.1) l;
+        }
 
-    terms_shown : (ts : Terms) → AreNamed (length names) ts → AreInRange ts → AllShown ops names ts
-    terms_shown none n r = tt
-    terms_shown (more t ts) n r = (term_shown t n.0 r.0, terms_shown ts n.1 r.1)
+    terms_shown : (ts : Terms) → AreNamed (length names) ts → HaveUtf8Names names ts → AreInRange ts → AllShown ops names ts
+    terms_shown none n u r = tt
+    terms_shown (more t ts) n u r = (term_shown t n.0 u.0 r.0, terms_shown ts n.1 u.1 r.1)

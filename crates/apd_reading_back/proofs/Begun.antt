@@ -254,3 +254,25 @@ pub begins_loose : (ops : Table) (ls : List Lexeme) (at : ℕ) (ws rest : List W
 begins_loose ops ls at [] rest b h = absurd b
 begins_loose ops ls at (Blank ∷ ws) rest b h = absurd b
 begins_loose ops ls at (Token s ∷ ws) rest b h = subst IsLoose (sym h.1) (spaced_loose s h.0)
+
+name_begins-append : (ops : Table) (f : NameId) (us vs : List Word) → NameBegins ops f us → NameBegins ops f (us ++ vs)
+name_begins-append ops f [] vs n = elim n [ inl o ↦ absurd cc | inr i ↦ inr i ]
+name_begins-append ops f (u ∷ us) vs n = n
+
+pub begins-append : (ops : Table) (us vs : List Word) → BeginsOperand ops us → BeginsOperand ops (us ++ vs)
+begins-append ops [] vs b = absurd b
+begins-append ops (Blank ∷ us) vs b = absurd b
+begins-append ops (Token (Name f) ∷ us) vs b = name_begins-append ops f us vs b
+begins-append ops (Token (Quoted f) ∷ us) vs b = name_begins-append ops f us vs b
+begins-append ops (Token (Codes cs) ∷ us) vs b = tt
+begins-append ops (Token (Variable v) ∷ us) vs b = tt
+begins-append ops (Token (Integer n) ∷ us) vs b = tt
+begins-append ops (Token Open ∷ us) vs b = tt
+begins-append ops (Token Close ∷ us) vs b = absurd b
+begins-append ops (Token OpenList ∷ us) vs b = tt
+begins-append ops (Token CloseList ∷ us) vs b = absurd b
+begins-append ops (Token OpenCurly ∷ us) vs b = tt
+begins-append ops (Token CloseCurly ∷ us) vs b = absurd b
+begins-append ops (Token Comma ∷ us) vs b = absurd b
+begins-append ops (Token Bar ∷ us) vs b = absurd b
+begins-append ops (Token End ∷ us) vs b = absurd b

@@ -138,6 +138,7 @@ chained_apart names (w ∷ ws) h = (spelled_word w h.0, next ws h.1, chained_apa
     next : (vs : List Word) → Joins names w vs → IsBefore (piece names w) (pieces names vs)
     next [] j = tt
     next (v ∷ vs) j = j
+
     spelled_word : (x : Word) → IsWord names x → IsSpelled (piece names x).what (piece names x).bytes
     spelled_word Blank i = refl
     spelled_word (Token (Name f)) i = i.1

@@ -185,7 +185,7 @@ module _ (ops : Table) (names : List (List ℕ)) (table : IsTable ops) (kept : A
       let same : ended (pieces names ws) ≡ pieces names (ws ++ stop) = sym (pieces-append names ws stop) in
       let apart = chained_apart names ws h in
       let divided : IsDivided (text_of (ended (pieces names ws))) (Ok (tokens_of 0 true (ended (pieces names ws)))) =
-          (text_utf8 (pieces names ws) apart (chained_utf8 names ws h), apart_have_tokens (pieces names ws) apart) in
+      (text_utf8 (pieces names ws) apart (chained_utf8 names ws h), apart_have_tokens (pieces names ws) apart) in
       subst (λ bytes. IsDivided bytes (Ok (tokens_of 0 true (pieces names (ws ++ stop))))) (text-pieces names (ws ++ stop) ∙ e)
       (subst (λ (ps : List Piece). IsDivided (text_of ps) (Ok (tokens_of 0 true ps))) same divided)
 
@@ -204,8 +204,10 @@ module _ (ops : Table) (names : List (List ℕ)) (table : IsTable ops) (kept : A
     where
       text : List ℕ
       text = clause_text ops names t
+
       order : List ℕ
       order = by_appearance (variables t)
+
       by : (ws : List Word) → Laid.Whole ops names 1200 (phrase t (levels ops t 1200)) ws → spelled names ws ≡ written ops names t 1200 → variables_in ws ≡ variables t → ReadsBack ops names t
       by ws w e v =
           let chained : AreChained names ws = subst (AreChained names) (append-nil ws) (whole_chained ops names kept w [] tt tt) in
@@ -215,10 +217,10 @@ module _ (ops : Table) (names : List (List ℕ)) (table : IsTable ops) (kept : A
           let ls : List Lexeme = lexed names 0 true (ws ++ stop) in
           let numbered : AreNumbered [] (variables_in (ws ++ stop)) = subst (AreNumbered []) (sym vars) (canonical_numbered t r.canonical) in
           let all : AreLexemes names text tokens ls (texts (fold with_new [] (variables_in (ws ++ stop)))) =
-              lexed_along names kept text (ws ++ stop) 0 true [] [] [] [] no_lexeme (sym (append-nil (spelled names (ws ++ stop)) ∙ spells)) (ended_lexical names ws chained) tt numbered in
+          lexed_along names kept text (ws ++ stop) 0 true [] [] [] [] no_lexeme (sym (append-nil (spelled names (ws ++ stop)) ∙ spells)) (ended_lexical names ws chained) tt numbered in
           let are : AreLexemes names text (to_end tokens) ls (texts order) =
-              subst (λ (ts : List Token). AreLexemes names text ts ls (texts order)) (sym (all_tokens names ws 0 true chained))
-              (subst (λ vs. AreLexemes names text tokens ls (texts (fold with_new [] vs))) vars all) in
+          subst (λ (ts : List Token). AreLexemes names text ts ls (texts order)) (sym (all_tokens names ws 0 true chained))
+          (subst (λ vs. AreLexemes names text tokens ls (texts (fold with_new [] vs))) vars all) in
           let f = words_fill (phrase t (levels ops t 1200)) ws w in
           let ends = lexed_ends names ws 0 true chained in
           let whole = all_read f.1 refl (inr (ends.front, ends.last, ends.spelled, ends.none)) in
@@ -226,7 +228,7 @@ module _ (ops : Table) (names : List (List ℕ)) (table : IsTable ops) (kept : A
           let counted = lexemes_as_tokens all in
           let read : Read = record { term = t; vars = texts order; start = place_of ls (length text) 0; next = 0 + f.0 } in
           let is : IsReadAs ops ls (texts order) (length text) 0 read =
-              record { phrase = phrase t (levels ops t 1200); count = f.0; fills = f.1; shallow = r.shallow; term = refl; names = refl; start = refl; next = refl } in
+          record { phrase = phrase t (levels ops t 1200); count = f.0; fills = f.1; shallow = r.shallow; term = refl; names = refl; start = refl; next = refl } in
           record {
             tokens = tokens;
             read = read;

@@ -179,14 +179,19 @@ module _ (ops : Table) (names : List (List ℕ)) (table : IsTable ops) (kept : A
     where
       o : Op
       o = record { name = f; priority = m.0; kind = m.1 }
+
       t : Term
       t = compound f (more a (more b none))
+
       us : List Word
       us = x.shown.words
+
       vs : List Word
       vs = y.words
+
       vars_of : (mid : List Word) → variables_in (mid ++ vs) ≡ variables_in vs → variables_in (us ++ (mid ++ vs)) ≡ variables t
       vars_of mid n = variables_in-append us (mid ++ vs) ∙ ap (λ r. variables_in us ++ r) (n ∙ y.vars ∙ sym (append-nil (variables b))) ∙ ap (λ r. r ++ (variables b ++ [])) x.shown.vars
+
       by : (c : Bool) → is_same_name f COMMA ≡ c
           → ShownPlain ops names t place (left ++ (if c then codes ", " else codes " " ++ name_text (text_of_name names f) ++ codes " ") ++ right) (max i j + 1)
       by true c = record {
@@ -260,8 +265,8 @@ module _ (ops : Table) (names : List (List ℕ)) (table : IsTable ops) (kept : A
       let ws : List Word = Token (name_sort names f) ∷ parenthesized r.words in
       let counted : length r.phrases ≡ length (list_of (more a ts)) = sym (length-map r.phrases (λ (p : Phrase). p.term)) ∙ ap (length {A = Term}) r.terms in
       let is : call f r.phrases ≡ phrase t (n + 1) =
-          ap (λ i. raised i (compound f (terms_of (terms_in r.phrases)))) r.height ∙ ap (λ xs. raised n (compound f (terms_of xs))) r.terms
-          ∙ ap (λ xs. raised n (compound f xs)) (terms_of-list_of (more a ts)) ∙ raised_as t n l in
+      ap (λ i. raised i (compound f (terms_of (terms_in r.phrases)))) r.height ∙ ap (λ xs. raised n (compound f (terms_of xs))) r.terms
+      ∙ ap (λ xs. raised n (compound f xs)) (terms_of-list_of (more a ts)) ∙ raised_as t n l in
       record {
         words = ws;
         plain = subst (λ (p : Phrase). Laid.Plain ops names place p ws) is (Laid.by_call f k (omega arith) r.arguments);
@@ -295,8 +300,8 @@ module _ (ops : Table) (names : List (List ℕ)) (table : IsTable ops) (kept : A
       let ws : List Word = Token OpenList ∷ (s.words ++ r.words) in
       let height : max (max i (highest r.elements)) r.tail.height ≡ n = omega (arith, r.height) in
       let is : listing (phrase a i ∷ r.elements) r.tail ≡ phrase t (n + 1) =
-          ap (λ j. raised j (compound CELL (more a (more (list_term (terms_in r.elements) r.tail.term) none)))) height
-          ∙ ap (λ x. raised n (compound CELL (more a (more x none)))) r.term ∙ raised_as t n l in
+      ap (λ j. raised j (compound CELL (more a (more (list_term (terms_in r.elements) r.tail.term) none)))) height
+      ∙ ap (λ x. raised n (compound CELL (more a (more x none)))) r.term ∙ raised_as t n l in
       record {
         words = ws;
         plain = subst (λ (p : Phrase). Laid.Plain ops names place p ws) is (Laid.by_list s.words r.words s.whole r.rest);
@@ -314,11 +319,13 @@ module _ (ops : Table) (names : List (List ℕ)) (table : IsTable ops) (kept : A
         whole = record { words = Token OpenList ∷ Token CloseList ∷ []; whole = Laid.of_plain Laid.of_nil; spells = text; vars = refl };
         plain = λ e. record { words = Token OpenList ∷ Token CloseList ∷ []; plain = Laid.of_nil; begins = λ z. tt; spells = text; vars = refl };
       }
+
       curly : Shown ops names (atom CURLY) place (name_text (text_of_name names CURLY)) 0
       curly = let text = sym (ap name_text kept.curly) in record {
         whole = record { words = Token OpenCurly ∷ Token CloseCurly ∷ []; whole = Laid.of_plain Laid.of_curly; spells = text; vars = refl };
         plain = λ e. record { words = Token OpenCurly ∷ Token CloseCurly ∷ []; plain = Laid.of_curly; begins = λ z. tt; spells = text; vars = refl };
       }
+
       own : IsOwnName f → Shown ops names (atom f) place (name_text (text_of_name names f)) 0
       own o = let text = append-nil (bytes_of names (name_sort names f)) ∙ bytes_of_name names f ∙ sym (own_text kept f k.kept o) in record {
         whole = record { words = Token (name_sort names f) ∷ []; whole = Laid.of_operator f k; spells = text; vars = no_variable names f [] };
@@ -330,6 +337,7 @@ module _ (ops : Table) (names : List (List ℕ)) (table : IsTable ops) (kept : A
           vars = no_variable names f [];
         };
       }
+
       by : (n c : Bool) → is_same_name f NIL ≡ n → is_same_name f CURLY ≡ c → Shown ops names (atom f) place (name_text (text_of_name names f)) 0
       by true c e d = subst (λ (g : NameId). Shown ops names (atom g) place (name_text (text_of_name names g)) 0) (sym (same_name f NIL e)) nil
       by false true e d = subst (λ (g : NameId). Shown ops names (atom g) place (name_text (text_of_name names g)) 0) (sym (same_name f CURLY d)) curly
@@ -343,8 +351,8 @@ module _ (ops : Table) (names : List (List ℕ)) (table : IsTable ops) (kept : A
     where
       by : (b : Bool) → is_same_name f CURLY ≡ b → (if b then levels.levels ops a 1200 + 1 else argument_levels (level_part a ∷ []) + 1) < 1000
           → ShownPlain ops names (compound f (more a none)) place
-              (if b then codes "{" ++ written ops names a 1200 ++ codes "}" else function (text_of_name names f) (text_part a ∷ []))
-              (if b then levels.levels ops a 1200 + 1 else argument_levels (level_part a ∷ []) + 1)
+          (if b then codes "{" ++ written ops names a 1200 ++ codes "}" else function (text_of_name names f) (text_part a ∷ []))
+          (if b then levels.levels ops a 1200 + 1 else argument_levels (level_part a ∷ []) + 1)
       by true c s = subst (λ (g : NameId). ShownPlain ops names (compound g (more a none)) place (codes "{" ++ written ops names a 1200 ++ codes "}") (levels.levels ops a 1200 + 1))
           (sym (same_name f CURLY c)) (braces_shown a h place s)
       by false c s = call_shown f a none k (omega arith) h tt place s
@@ -362,14 +370,17 @@ module _ (ops : Table) (names : List (List ℕ)) (table : IsTable ops) (kept : A
     where
       t : NameId → Term
       t n = compound n (more a (more b none))
+
       i : ℕ
       i = list_levels (level_part a) (level_part b) + 1
+
       j : ℕ
       j = two_levels ops (infix_in ops f.0) place (level_part a) (level_part b)
+
       by : (c : Bool) → is_same_name f CELL ≡ c → (if c then i else j) < 1000
           → ShownPlain ops names (t f) place
-              (if c then codes "[" ++ list_text (text_part a) (text_part b) else two_text ops (infix_in ops f.0) f (text_of_name names f) place (text_part a) (text_part b))
-              (if c then i else j)
+          (if c then codes "[" ++ list_text (text_part a) (text_part b) else two_text ops (infix_in ops f.0) f (text_of_name names f) place (text_part a) (text_part b))
+          (if c then i else j)
       by true c s = subst (λ (n : NameId). ShownPlain ops names (t n) place (codes "[" ++ list_text (text_part a) (text_part b)) i) (sym (same_name f CELL c)) (list_shown a b h g place s)
       by false c s = two_shown f a b (infix_in ops f.0) refl k h g place s
 
@@ -443,12 +454,14 @@ module _ (ops : Table) (names : List (List ℕ)) (table : IsTable ops) (kept : A
     where
       i : ℕ
       i = list_levels (level_part a) (level_part b)
+
       j : ℕ
       j = arranged_levels ops f 999 (level_parts ops (more a (more b none)))
+
       by : (c : Bool) → is_same_name f CELL ≡ c → (if c then i else j) < 1000
           → ShownRest ops names (compound f (more a (more b none)))
-              (if c then codes "," ++ list_text (text_part a) (text_part b) else codes "|" ++ arranged ops f (text_of_name names f) 999 (parts ops names (more a (more b none))) ++ codes "]")
-              (if c then i else j)
+          (if c then codes "," ++ list_text (text_part a) (text_part b) else codes "|" ++ arranged ops f (text_of_name names f) 999 (parts ops names (more a (more b none))) ++ codes "]")
+          (if c then i else j)
       by true e s = subst (λ (n : NameId). ShownRest ops names (compound n (more a (more b none))) (codes "," ++ list_text (text_part a) (text_part b)) i) (sym (same_name f CELL e)) (more_shown a b h.0 h.1.0 s)
       by false e s = tail_shown _ _ _ (compound_shown f (more a (more b none)) k few h 999 s)
   rest_shown f (more a (more b (more c ts))) k few h l = tail_shown _ _ _ (compound_shown f (more a (more b (more c ts))) k few h 999 l)

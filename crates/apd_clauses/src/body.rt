@@ -1,70 +1,20 @@
-//! The clause that a term is.
+//! The clause that a term is, and why it is none.
 
-ghost use Rattle.std.specs.Prelude.{◌≡◌, ◌≢◌, ◌<◌, ◌≤◌, ◌↔◌, ◌∷◌, [], ℕ, IfOk, IfErr, IsTrue, Ok, Err, take, drop, length};
-ghost use Rattle.apd_term.specs.Term.{size, variables, predicate_of, IsTerms, first_of, read_all};
+ghost use Rattle.std.specs.Prelude.{◌≡◌, ◌≢◌, ◌≤◌, ℕ, IfOk, IfErr, Ok, Err};
+ghost use Rattle.apd_term.specs.Term.{size, variables, predicate_of};
 ghost use Rattle.apd_term.specs.Tuple.{size_of_tuple, variables_of_tuple};
 ghost use Rattle.apd_term.specs.Named.{IsNamed, TupleIsNamed};
 ghost use Rattle.apd_clauses.specs.Clauses.{is_pred, IsClause};
-ghost use Rattle.apd_clauses.specs.Bodies.{conjuncts, goal_fault, body_fault, head_fault, tuple_fault, parts_of, clause_from, IsPure};
+ghost use Rattle.apd_clauses.specs.Bodies.{goal_fault, body_fault, head_fault, tuple_fault, parts_of, clause_from, IsPure};
 ghost use Rattle.apd_clauses.specs.Kinds.{◌∕◌};
-ghost use Rattle.apd_clauses.specs.Walk.{goals_in, with_first_goals, IsComma};
+ghost use Rattle.apd_clauses.specs.Walk.{with_first_goals};
 
 use crate::clause::MOST_GOALS;
+use crate::goals::first_goals;
 use crate::kinds::{Kind, kind_of};
-use apd_term::standard::{COMMA, GRAMMAR_ARROW, NECK};
-use apd_term::term::term_end;
+use apd_term::standard::{GRAMMAR_ARROW, NECK};
 use apd_term::{Atoms, BodyFault, Flat, NameId, Pred, Sym, Tuple};
 use std::alloc::{AllocError, Global};
-
-fn is_comma(symbol: Sym) -> bool
-    ensures { IsTrue result ↔ IsComma symbol }
-{
-    match symbol {
-        Sym::Fun(COMMA, 2) => true,
-        _ => false,
-    }
-}
-
-/// Where the next goal begins: behind the commas that begin at a place. A comma's two sides stand behind it, the left one
-/// first, so the goals are passed from the left however they are nested.
-fn goal_start(symbols: &[Sym], from: usize) -> usize
-    requires whole { IsTerms (drop from symbols.now) }
-    requires there { from < length symbols.now }
-    ensures further { from ≤ result }
-    ensures whole { IsTerms (drop result symbols.now) }
-    ensures there { result < length symbols.now }
-    ensures goals { goals_in (drop result symbols.now) ≡ goals_in (drop from symbols.now) }
-    ensures goal { let t = first_of (read_all (drop result symbols.now)) in conjuncts t ≡ t ∷ [] }
-{
-    let mut at = from;
-    'commas: while is_comma(symbols[at]) {
-        at += 1;
-    }
-    at
-}
-
-/// The first goals of a term from the left, at most so many.
-pub(crate) fn first_goals(alloc: Global, term: &Flat, most: usize) -> Result<Atoms, AllocError>
-    ensures { IfOk result (λ goals. goals ≡ take most (conjuncts term.now)) }
-{
-    let symbols = term.symbols();
-    let mut goals = Atoms::new(alloc);
-    let mut at: usize = 0;
-    'goals: while at < symbols.len() && goals.len() < most {
-        let start = goal_start(symbols, at);
-        let end = term_end(symbols, start);
-        goals.push(Flat::copy_of(alloc, &symbols[start..end])?)?;
-        at = end;
-    }
-    Ok(goals)
-}
-
-/// The goals of a term from the left: those of both sides of a conjunction; any other term is one goal.
-pub fn goals_of(alloc: Global, term: &Flat) -> Result<Atoms, AllocError>
-    ensures { IfOk result (λ goals. goals ≡ conjuncts term.now) }
-{
-    first_goals(alloc, term, term.symbols().len())
-}
 
 /// Why a goal isn't run.
 pub(crate) fn goal_fault(goal: &Flat) -> Option<BodyFault>

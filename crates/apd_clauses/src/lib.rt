@@ -3,6 +3,7 @@
 
 pub mod body;
 pub mod clause;
+pub mod goals;
 pub mod kinds;
 pub mod plain;
 pub mod program;
@@ -10,8 +11,9 @@ pub mod query;
 
 pub use apd_arith::Builtin;
 pub use apd_term::{BodyFault, Query, Read};
-pub use body::{clause_of, goals_of};
+pub use body::clause_of;
 pub use clause::{Clause, is_clause, is_runnable};
+pub use goals::goals_of;
 pub use kinds::{Kind, builtin, kind_of};
 pub use program::{AddFault, Program};
 pub use query::{is_query, query_of};

@@ -10,8 +10,9 @@ ghost use Rattle.apd_clauses.specs.Clauses.{IsRunnable};
 ghost use Rattle.apd_clauses.specs.Kinds.{IsPureGoal};
 ghost use Rattle.apd_clauses.specs.Queries.{IsQueryTerm, list_term, shown, query_from};
 
-use crate::body::{body_fault, first_goals};
+use crate::body::body_fault;
 use crate::clause::MOST_GOALS;
+use crate::goals::first_goals;
 use apd_term::standard::{CELL, NIL, QUERY};
 use apd_term::{BodyFault, Flat, Pred, Query, Read, Sym, Syms, Text, Tuple, VarNames};
 use indexmap::IndexSet;

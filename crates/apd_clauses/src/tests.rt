@@ -1,3 +1,11 @@
+//! Programs, predicates, clauses and queries, with values by hand from the rules.
+
+mod bodies;
+mod long;
+mod predicates;
+mod queries;
+mod terms;
+
 use crate::{AddFault, Clause, Program, is_clause, is_runnable};
 use apd_term::{Atoms, Flat, NameId, Tuple};
 use std::alloc::{AllocError, Global};

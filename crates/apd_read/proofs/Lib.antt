@@ -18,3 +18,5 @@ pub mod Parts
 pub mod Numbers
 pub mod Unique
 pub mod Readers
+pub mod Running
+pub mod Every

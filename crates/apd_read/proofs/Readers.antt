@@ -9,27 +9,17 @@ use Rattle.apd_term.specs.declared.reading.Read.{Read}
 use Rattle.apd_ops.specs.Table.{Table, IsTable}
 use Rattle.apd_token.specs.declared.items.Token.{Token}
 use Rattle.apd_token.specs.Grammar.{HasTokens, IsFaultOf}
-use Rattle.apd_token.specs.Division.{IsDivided}
 use Rattle.apd_token.proofs.Divided.{one_answer as one_division}
+use Rattle.apd_token.proofs.Every.{is_divided}
 use Rattle.apd_read.specs.Answer.{HasReading, IsReadFault}
 use Rattle.apd_read.specs.Reader.{IsRead, Reader}
 use Rattle.apd_read.proofs.Unique.{one_answer}
-
-divided_fault : (text : List ℕ) (f : TokenFault) → (f ≡ divisions.Memory → ⊥) → IsFaultOf text f → IsDivided text (Err f)
-divided_fault text (divisions.NotUtf8 n) m h = h
-divided_fault text (divisions.BadChar n) m h = h
-divided_fault text (divisions.OpenQuote n) m h = h
-divided_fault text (divisions.OpenComment n) m h = h
-divided_fault text (divisions.BadEscape n) m h = h
-divided_fault text (divisions.NumberTooWide n) m h = h
-divided_fault text (divisions.FloatLiteral n) m h = h
-divided_fault text divisions.Memory m h = absurd (m refl)
 
 pub reader_divides : (names : List (List ℕ)) (reader : Reader names) (text : List ℕ) (ts : List Token) → IsUtf8 text → HasTokens text ts → reader.division text ≡ Ok ts
 reader_divides names reader text ts u h = one_division text (reader.division text) (Ok ts) (reader.divides text) (u, h)
 
 pub reader_refuses : (names : List (List ℕ)) (reader : Reader names) (text : List ℕ) (f : TokenFault) → (f ≡ divisions.Memory → ⊥) → IsFaultOf text f → reader.division text ≡ Err f
-reader_refuses names reader text f m h = one_division text (reader.division text) (Err f) (reader.divides text) (divided_fault text f m h)
+reader_refuses names reader text f m h = one_division text (reader.division text) (Err f) (reader.divides text) (is_divided text f m h)
 
 read_fault : (ops : Table) (names : List (List ℕ)) (text : List ℕ) (tokens : List Token) (at : ℕ) (f : ReadFault) → (f ≡ faults.Memory → ⊥)
     → IsReadFault ops names text tokens at f → IsRead ops names text tokens at (Err f)

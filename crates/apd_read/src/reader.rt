@@ -10,7 +10,7 @@ ghost use Rattle.apd_term.specs.declared.reading.Read.{Read};
 ghost use Rattle.apd_term.specs.declared.faults.ReadFault.{ReadFault};
 ghost use Rattle.apd_read.specs.Reading.{Piece, Reads, Splits, HasNoClash};
 ghost use Rattle.apd_read.specs.Clause.{IsReading};
-ghost use Rattle.apd_read.specs.Reader.{IsRead};
+ghost use Rattle.apd_read.specs.Reader.{IsRead, Reader};
 ghost use Rattle.apd_read.specs.declared.phrase.Phrase.{Phrase};
 ghost use Rattle.apd_read.specs.Answer.{HasReading, IsReadFault, IsFaultIn, IsReadAs, place_of, placed};
 ghost use Rattle.apd_read.specs.declared.lexeme.Lexeme.{Lexeme};
@@ -67,6 +67,12 @@ fn read_by_main(alloc: Global, ops: &Ops, lexemes: &[Lexeme]) -> Result<Whole, C
 pub fn one_reading()
     ensures answers { (ops : Table) (names : List (List ℕ)) (text : List ℕ) (tokens : List Token) (at : ℕ) (a b : Result Read ReadFault) → IsTable ops → IsRead ops names text tokens at a → IsRead ops names text tokens at b → a ≡ b }
     ensures grammar { (p : ℕ) (ps : List Piece) (t : Phrase) → HasNoClash ps → (Reads p ps t ↔ Splits p ps t) }
+{}
+
+/// The law of every reading: under any names there is a reader of texts. So each clause of a text has,
+/// by each table of operators, a reading or a first fault.
+pub fn every_clause_reads()
+    ensures { (names : List (List ℕ)) → Reader names }
 {}
 
 /// What the lexemes of a clause read as, where they begin at a token of the text.

@@ -245,3 +245,47 @@ one_content CloseCurly bytes u v h x y = absurd h
 one_content Comma bytes u v h x y = absurd h
 one_content Bar bytes u v h x y = absurd h
 one_content End bytes u v h x y = absurd h
+
+-- a quoted item of a text stands for the meaning of its elements
+quoted_stands : (text : List ℕ) (t : Token) → InText text t → IsQuotedKind t.kind → (q : ℕ) × IsQuote q × (t.kind ≡ quoted_kind q) × ((v : List ℕ) × Stands q (slice_range text t.start t.end) v)
+quoted_stands text t is kind =
+    let item = quoted_item t.start t.kind (slice_range text t.start t.end) (drop t.end text) is.form kind in
+    let form = item.form in
+    let shut = closes t.start (t.start + 1 + length (spelling form.elements)) t.kind item.quote form.stop (drop t.end text) form.stops in (
+      item.quote,
+      item.is_quote,
+      shut.1,
+      (
+        meaning form.elements,
+        record {
+          elements = form.elements;
+          each = form.each;
+          spelled = item.spelled ∙ ap (λ l. item.quote ∷ l) (form.spelled ∙ ap (λ l. spelling form.elements ++ l) shut.0);
+          means = refl;
+        },
+      ),
+    )
+
+-- a token of a kind that stands for characters stands for some
+pub token_content : (text : List ℕ) (t : Token) → IsTokenOf text t → HasText t.kind → (v : List ℕ) × ContentOf t.kind (slice_range text t.start t.end) v
+token_content text t is has = by t.kind refl has
+  where
+    by : (k : Kind) → t.kind ≡ k → HasText k → (v : List ℕ) × ContentOf k (slice_range text t.start t.end) v
+    by Name e h = (slice_range text t.start t.end, refl)
+    by Variable e h = (slice_range text t.start t.end, refl)
+    by Quoted e h =
+        let s = quoted_stands text t (in_text text t is) (subst IsQuotedKind (sym e) tt) in
+        (s.3.0, subst (λ (n : ℕ). Stands n (slice_range text t.start t.end) s.3.0) (quote_of_quoted s.0 s.1 (sym e ∙ s.2)) s.3.1)
+    by Codes e h =
+        let s = quoted_stands text t (in_text text t is) (subst IsQuotedKind (sym e) tt) in
+        (s.3.0, subst (λ (n : ℕ). Stands n (slice_range text t.start t.end) s.3.0) (quote_of_codes s.0 s.1 (sym e ∙ s.2)) s.3.1)
+    by (Integer n) e h = absurd h
+    by Open e h = absurd h
+    by Close e h = absurd h
+    by OpenList e h = absurd h
+    by CloseList e h = absurd h
+    by OpenCurly e h = absurd h
+    by CloseCurly e h = absurd h
+    by Comma e h = absurd h
+    by Bar e h = absurd h
+    by End e h = absurd h

@@ -111,3 +111,8 @@ pub fn one_division()
     ensures apart { (text : List ℕ) (ts : List Token) (f : TokenFault) → HasTokens text ts → HasFault text f → ⊥ }
     ensures answers { (text : List ℕ) (a b : Result (List Token) TokenFault) → IsDivided text a → IsDivided text b → a ≡ b }
 {}
+
+/// The law of every division: each text has a list of tokens or a first fault.
+pub fn every_text_divides()
+    ensures { (text : List ℕ) → (a : Result (List Token) TokenFault) × IsDivided text a }
+{}

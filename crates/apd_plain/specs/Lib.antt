@@ -1,9 +1,0 @@
-pub mod Words
-pub mod Reserved
-pub mod Naming
-pub mod Grammar
-pub mod Lines
-pub mod Marks
-pub mod Frames
-pub mod Steps
-pub mod Readings

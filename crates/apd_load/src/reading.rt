@@ -87,13 +87,12 @@ fn load_clauses(
     tokens: &Tokens,
     names: &mut Names,
 ) -> Result<Loading, LoadText>
-    requires standard { length standard_names ≤ length names.old }
     requires room { length names.old + length text.now < 4000000000 }
     requires size { length text.now ≤ 1048576 }
     requires tokens { HasTokens text.now tokens.now }
     ensures grows { GrowsBy (length text.now) names.old names.new }
     ensures loaded { IsLoaded (λ n reader. all_loaded reader text.now tokens.now) names.new result }
-    ensures named { IfOk result (LoadingIsNamed (length names.new)) }
+    ensures named { length standard_names ≤ length names.old → IfOk result (LoadingIsNamed (length names.new)) }
 {
     let mut loading = at_first(alloc)?;
     let mut last = FIRST;
@@ -118,12 +117,11 @@ fn load_clauses(
 
 /// What a text makes, without what there is to warn of.
 fn load_text(alloc: Global, text: &[u8], names: &mut Names) -> Result<Loading, LoadText>
-    requires standard { length standard_names ≤ length names.old }
     requires room { length names.old + length text.now < 4000000000 }
     requires size { length text.now ≤ 1048576 }
     ensures grows { GrowsBy (length text.now) names.old names.new }
     ensures loaded { IsLoaded (λ n reader. program_of reader text.now) names.new result }
-    ensures named { IfOk result (LoadingIsNamed (length names.new)) }
+    ensures named { length standard_names ≤ length names.old → IfOk result (LoadingIsNamed (length names.new)) }
 {
     match tokens(alloc, text) {
         Ok(tokens) => load_clauses(alloc, text, &tokens, names),
@@ -140,18 +138,18 @@ fn load_text(alloc: Global, text: &[u8], names: &mut Names) -> Result<Loading, L
 ///
 /// All tokens come first, then the clauses and directives one after the other, each read with the operators that stand
 /// before it. The first fault is told: a fault of a token or of a reading in the line of its place, any other cause in the
-/// line of the clause's first token. After a refusal the names have only grown.
+/// line of the clause's first token. After a refusal the names have only grown. The clauses and the notes have no other
+/// names than these, if the standard ones were among them.
 pub fn load(alloc: Global, text: &[u8], names: &mut Names) -> Result<Loaded, LoadText>
-    requires standard { length standard_names ≤ length names.old }
     requires room { length names.old + length text.now < 4000000000 }
     requires size { length text.now ≤ 1048576 }
     ensures grows { GrowsBy (length text.now) names.old names.new }
     ensures loaded { IfOk result (λ l. (n : List (List ℕ)) → Grown names.new n → (reader : Reader n) → program_of reader text.now ≡ loads (record { program = l.program; ops = l.ops; passed = l.passed })) }
     ensures refused { (line : ℕ) (cause : LoadCause) → result ≡ Err (LoadText.Refused line cause) → (n : List (List ℕ)) → Grown names.new n → (reader : Reader n) → program_of reader text.now ≡ refused line cause }
-    ensures named { IfOk result (λ l. AllTuplesNamed (length names.new) (tuples_of l.program)) }
-    ensures passed { IfOk result (λ l. NotesAreNamed (length names.new) l.passed) }
+    ensures named { length standard_names ≤ length names.old → IfOk result (λ l. AllTuplesNamed (length names.new) (tuples_of l.program)) }
+    ensures passed { length standard_names ≤ length names.old → IfOk result (λ l. NotesAreNamed (length names.new) l.passed) }
     ensures warnings { IfOk result (λ l. l.warnings ≡ warnings_of l.program) }
-    ensures noted { IfOk result (λ l. NotesAreNamed (length names.new) l.warnings) }
+    ensures noted { length standard_names ≤ length names.old → IfOk result (λ l. NotesAreNamed (length names.new) l.warnings) }
 {
     let Loading {
         program,

@@ -1,6 +1,5 @@
 use Rattle.std.proofs.Common.{◌-◌, length, arith}
-use Rattle.apd_term.specs.StandardNames.{standard_names}
-use Rattle.apd_load.proofs.Reaching.{goes_first, goes_next, all_grow, grows_all, has_room, names_stay, reaches_last, term_told, fault_told}
+use Rattle.apd_load.proofs.Reaching.{goes_first, goes_next, all_grow, grows_all, has_room, reaches_last, term_told, fault_told}
 use Rattle.apd_load.proofs.reading.load_clauses.Goals as goal
 
 pub clauses-init : goal.clauses-init
@@ -32,10 +31,9 @@ returns-in-Err-load_term-clause-loaded c =
 
 pub clauses-preserved : goal.clauses-preserved
 clauses-preserved c =
-    let standard = names_stay c.clauses.at (length standard_names) c.args.names.now c.clauses.names c.clauses.invariant.grows c.requires.standard in
     goes_next c.args.text.now c.args.tokens.now c.clauses.at c.args.names.now c.clauses.names c.read_clause.new.names c.clauses.loading c.clauses.last c.line_of-line-in-clauses.new.last
     c.clauses.invariant (omega arith) c.has_no_clash.ensures c.requires.tokens c.in-Ok.read c.load_term.new.loading c.line_of-line-in-clauses.result
-    c.in-Ok.ensures.names c.in-Ok.ensures.forward.0 c.in-Ok.ensures.forward.1 c.in-Ok.ensures.ok (c.in-Ok.ensures.named standard) c.line_of-line-in-clauses.ensures.line c.line_of-line-in-clauses.ensures.last c.in_default.ensures
+    c.in-Ok.ensures.names c.in-Ok.ensures.forward.0 c.in-Ok.ensures.forward.1 c.in-Ok.ensures.ok c.in-Ok.ensures.named c.line_of-line-in-clauses.ensures.line c.line_of-line-in-clauses.ensures.last c.in_default.ensures
 
 pub returns-clause-grows : goal.returns-clause-grows
 returns-clause-grows c = grows_all c.args.text.now c.args.tokens.now c.clauses.at c.args.names.now c.clauses.names c.requires.tokens c.clauses.invariant.within c.clauses.invariant.grows

@@ -7,3 +7,4 @@ pub mod Listed
 pub mod Newlines
 pub mod Calling
 pub mod Defining
+pub mod Causes

@@ -41,7 +41,7 @@ grows_more i j k a b c g h e = (g.0 ++ h.0, h.1 ∙ ap (λ s. s ++ h.0) g.1 ∙ 
 pub grown_length : (k : ℕ) (a b : List (List ℕ)) → GrowsBy k a b → (length a ≤ length b) × (length b ≤ length a + k)
 grown_length k a b g = let e = ap length g.1 ∙ length-append a g.0 in let few = g.2 in (omega arith, omega arith)
 
-names_stay : (k least : ℕ) (before names : List (List ℕ)) → GrowsBy k before names → least ≤ length before → least ≤ length names
+pub names_stay : (k least : ℕ) (before names : List (List ℕ)) → GrowsBy k before names → least ≤ length before → least ≤ length names
 names_stay k least before names grows few = let more = (grown_length k before names grows).0 in omega arith
 
 -- from all clauses to those from a token on

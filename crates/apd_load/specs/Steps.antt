@@ -1,5 +1,6 @@
 -- What each part of the loader makes; want of memory may come at any text.
 use Rattle.std.specs.Prelude.{◌≡◌, ℕ, List, Result, Ok, Err}
+use Rattle.apd_term.specs.Faults.{CauseIsNamed}
 use Rattle.apd_term.specs.Growth.{Grown}
 use Rattle.apd_term.specs.Named.{AllTuplesNamed}
 use Rattle.apd_term.specs.declared.faults.LoadCause.{LoadCause}
@@ -42,6 +43,11 @@ abbrev pub IsLoaded : ((n : List (List ℕ)) → Reader n → Loads) → List (L
 IsLoaded wanted names (Ok s) = (n : List (List ℕ)) → Grown names n → (reader : Reader n) → wanted n reader ≡ loads s
 IsLoaded wanted names (Err texts.Memory) = Unit {0}
 IsLoaded wanted names (Err (texts.Refused line cause)) = (n : List (List ℕ)) → Grown names n → (reader : Reader n) → wanted n reader ≡ refused line cause
+
+-- the predicate that a refusal names, if any, has a name among the first n names
+abbrev pub LoadTextIsNamed : ℕ → LoadText → Type 0
+LoadTextIsNamed n (texts.Refused line cause) = CauseIsNamed n cause
+LoadTextIsNamed n texts.Memory = Unit {0}
 
 -- each name of the clauses and the notes is among the first n names
 pub record LoadingIsNamed (n : ℕ) (s : Loading) : Type 0 where

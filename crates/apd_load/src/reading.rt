@@ -1,6 +1,6 @@
 //! A text's program, clause by clause.
 
-ghost use Rattle.std.specs.Prelude.{◌≡◌, ℕ, ◌<◌, ◌≤◌, ◌+◌, List, length, IfOk, Err};
+ghost use Rattle.std.specs.Prelude.{◌≡◌, ℕ, ◌<◌, ◌≤◌, ◌+◌, List, length, IfOk, IfErr, Err};
 ghost use Rattle.apd_term.specs.Growth.{Grown, GrowsBy};
 ghost use Rattle.apd_term.specs.Named.{AllTuplesNamed};
 ghost use Rattle.apd_term.specs.StandardNames.{standard_names};
@@ -9,7 +9,7 @@ ghost use Rattle.apd_token.specs.Grammar.{HasTokens};
 ghost use Rattle.apd_read.specs.Reader.{Reader};
 ghost use Rattle.apd_clauses.specs.Clauses.{tuples_of};
 ghost use Rattle.apd_load.specs.Program.{place_of_fault, place_of_token_fault, at_first, all_loaded, program_of, loads, refused};
-ghost use Rattle.apd_load.specs.Steps.{told_of, IsLoaded, LoadingIsNamed};
+ghost use Rattle.apd_load.specs.Steps.{told_of, IsLoaded, LoadTextIsNamed, LoadingIsNamed};
 ghost use Rattle.apd_load.specs.Warnings.{NotesAreNamed, warnings_of};
 
 use crate::loading::Loading;
@@ -93,6 +93,7 @@ fn load_clauses(
     ensures grows { GrowsBy (length text.now) names.old names.new }
     ensures loaded { IsLoaded (λ n reader. all_loaded reader text.now tokens.now) names.new result }
     ensures named { length standard_names ≤ length names.old → IfOk result (LoadingIsNamed (length names.new)) }
+    ensures cause { length standard_names ≤ length names.old → IfErr result (LoadTextIsNamed (length names.new)) }
 {
     let mut loading = at_first(alloc)?;
     let mut last = FIRST;
@@ -122,6 +123,7 @@ fn load_text(alloc: Global, text: &[u8], names: &mut Names) -> Result<Loading, L
     ensures grows { GrowsBy (length text.now) names.old names.new }
     ensures loaded { IsLoaded (λ n reader. program_of reader text.now) names.new result }
     ensures named { length standard_names ≤ length names.old → IfOk result (LoadingIsNamed (length names.new)) }
+    ensures cause { length standard_names ≤ length names.old → IfErr result (LoadTextIsNamed (length names.new)) }
 {
     match tokens(alloc, text) {
         Ok(tokens) => load_clauses(alloc, text, &tokens, names),
@@ -138,14 +140,15 @@ fn load_text(alloc: Global, text: &[u8], names: &mut Names) -> Result<Loading, L
 ///
 /// All tokens come first, then the clauses and directives one after the other, each read with the operators that stand
 /// before it. The first fault is told: a fault of a token or of a reading in the line of its place, any other cause in the
-/// line of the clause's first token. After a refusal the names have only grown. The clauses and the notes have no other
-/// names than these, if the standard ones were among them.
+/// line of the clause's first token. After a refusal the names have only grown. The clauses, the notes and the refusal have
+/// no other names than these, if the standard ones were among them.
 pub fn load(alloc: Global, text: &[u8], names: &mut Names) -> Result<Loaded, LoadText>
     requires room { length names.old + length text.now < 4000000000 }
     requires size { length text.now ≤ 1048576 }
     ensures grows { GrowsBy (length text.now) names.old names.new }
     ensures loaded { IfOk result (λ l. (n : List (List ℕ)) → Grown names.new n → (reader : Reader n) → program_of reader text.now ≡ loads (record { program = l.program; ops = l.ops; passed = l.passed })) }
     ensures refused { (line : ℕ) (cause : LoadCause) → result ≡ Err (LoadText.Refused line cause) → (n : List (List ℕ)) → Grown names.new n → (reader : Reader n) → program_of reader text.now ≡ refused line cause }
+    ensures cause { length standard_names ≤ length names.old → IfErr result (LoadTextIsNamed (length names.new)) }
     ensures named { length standard_names ≤ length names.old → IfOk result (λ l. AllTuplesNamed (length names.new) (tuples_of l.program)) }
     ensures passed { length standard_names ≤ length names.old → IfOk result (λ l. NotesAreNamed (length names.new) l.passed) }
     ensures warnings { IfOk result (λ l. l.warnings ≡ warnings_of l.program) }

@@ -4,7 +4,7 @@ use Rattle.std.proofs.lemmas.Bool.{lt-leb}
 use Rattle.std.proofs.Math.Dec.{leb}
 use Rattle.std.specs.List.{list_any}
 use Rattle.std.specs.Prelude.{IfSome, if◌then◌else◌}
-use Rattle.apd_console.specs.Lines.{InputEnd, Ended, Fails, Close, AtEnd, AtFault, AtLimit, Heard, hear}
+use Rattle.apd_console.specs.Lines.{InputEnd, Ended, Close, AtEnd, AtFault, AtLimit, Heard, hear}
 use Rattle.apd_console.specs.Talk.{run, replies, ending_of}
 use Rattle.apd_console.specs.declared.line.Line.{Line}
 use Rattle.apd_console.specs.declared.talk.Ending.TheVariants as endings
@@ -39,11 +39,12 @@ some_quits reader ops lines = list_any (λ line. is_quit (command_in reader ops 
 run_ends : (names : List (List ℕ)) (reader : Reader names) (ops : Table) (s : State) (lines : List Line) (close : Close) →
     (run (talker reader ops) s lines close).ending ≡ (if some_quits reader ops lines then endings.Done else ending_of close)
 run_ends names reader ops s [] close = refl
-run_ends names reader ops s (line ∷ lines) close = by_quit (is_quit (command_in reader ops line)) refl
+run_ends names reader ops s (line ∷ lines) close = by_quit (is_quit (command_in reader ops line)) refl (run_ends names reader ops (step_for ops names s (command_in reader ops line)).next lines close)
   where
-    by_quit : (b : Bool) → is_quit (command_in reader ops line) ≡ b → (run (talker reader ops) s (line ∷ lines) close).ending ≡ (if some_quits reader ops (line ∷ lines) then endings.Done else ending_of close)
-    by_quit true is = rw (quits_by ops names s (command_in reader ops line), is) refl
-    by_quit false is = rw (quits_by ops names s (command_in reader ops line), is) (run_ends names reader ops (step_for ops names s (command_in reader ops line)).next lines close)
+    by_quit : (b : Bool) → is_quit (command_in reader ops line) ≡ b → (run (talker reader ops) (step_for ops names s (command_in reader ops line)).next lines close).ending ≡ (if some_quits reader ops lines then endings.Done else ending_of close) →
+        (run (talker reader ops) s (line ∷ lines) close).ending ≡ (if some_quits reader ops (line ∷ lines) then endings.Done else ending_of close)
+    by_quit true is rest = rw (quits_by ops names s (command_in reader ops line), is) refl
+    by_quit false is rest = rw (quits_by ops names s (command_in reader ops line), is) rest
 
 status_is : (b : Bool) (close : Close) → status_after (if b then endings.Done else ending_of close) ≡ (if b then statuses.Done else status_at_close close)
 status_is true close = refl

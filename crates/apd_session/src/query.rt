@@ -21,7 +21,7 @@ use apd_io::Sink;
 use apd_ports::Filter;
 use apd_term::{Query, Ran};
 use apd_text::{Entry, Log, end_line, head_line};
-use std::alloc::{Global};
+use std::alloc::Global;
 
 fn same_filter(filter: &Filter) -> Filter
     ensures { result ≡ filter.now }

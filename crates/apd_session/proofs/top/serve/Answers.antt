@@ -1,5 +1,6 @@
 use Rattle.std.proofs.Common.{◌≡◌, ◌∙◌, ap, refl, subst, arith, List, ℕ, length, Err}
 use Rattle.apd_term.proofs.FirstNames.{length-standard_names}
+use Rattle.apd_term.specs.StandardNames.{standard_names}
 use Rattle.apd_text.specs.declared.entry.Entry.TheVariants as entries
 use Rattle.apd_session.specs.Outcome.{IsSaid}
 use Rattle.apd_session.specs.Session.{tells}
@@ -14,6 +15,9 @@ returns-in_default-clause-meaning g c = λ names grew reader. met_unnamed _ _ re
 
 pub talk-requires-clause-few : goal.talk-requires-clause-few
 talk-requires-clause-few g c = let e : length c.args.log.now.names ≡ 132 = ap (λ (l : List (List ℕ)). length l) c.requires.names ∙ length-standard_names in omega (arith, e)
+
+pub talk-requires-clause-standard : goal.talk-requires-clause-standard
+talk-requires-clause-standard g c = let e : length c.args.log.now.names ≡ length standard_names = ap (λ (l : List (List ℕ)). length l) c.requires.names in omega (arith, e)
 
 pub returns-in-Ok-clause-meaning : goal.returns-in-Ok-clause-meaning
 returns-in-Ok-clause-meaning g c = λ names grew reader.
@@ -35,6 +39,3 @@ returns-in-Err-TooLong-clause-meaning g c = λ names grew reader.
 
 pub returns-in-Err-Memory-clause-meaning : goal.returns-in-Err-Memory-clause-meaning
 returns-in-Err-Memory-clause-meaning g c = λ names grew reader. met_memory _ _ reader record { program = c.in-Some.asked.program.now; budget = c.in-Some.asked.budget; answers = c.in-Some.asked.answers; filter = c.in-Some.asked.filter } _ _ _ _ _ _ c.in-Some.ensures.options c.requires.empty
-
-pub returns-in_default-in-Ok-clause-meaning : goal.returns-in_default-in-Ok-clause-meaning
-returns-in_default-in-Ok-clause-meaning g c = ?

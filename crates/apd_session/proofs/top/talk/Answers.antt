@@ -1,6 +1,8 @@
-use Rattle.std.proofs.Common.{◌≡◌, ◌∙◌, sym, ap, refl, subst, arith, List, ℕ, length, Err}
+use Rattle.std.proofs.Common.{◌≡◌, ◌∙◌, sym, ap, refl, subst, arith, List, ℕ, Err}
 use Rattle.apd_load.specs.Program.{Loads, loads, refused, program_of}
 use Rattle.apd_text.specs.declared.entry.Entry.TheVariants as entries
+use Rattle.apd_read.specs.Reader.{Reader}
+use Rattle.apd_read.proofs.Every.{every_reader}
 use Rattle.apd_term.specs.Growth.{Grown}
 use Rattle.apd_session.specs.Outcome.{IsSaid}
 use Rattle.apd_session.specs.Session.{after_load, tells}
@@ -9,6 +11,9 @@ use Rattle.apd_session.proofs.Loading.{loaded_ended, loaded_broken, ended_read, 
 use Rattle.apd_session.proofs.Turning.{Grown-length, Grown-self, Grown-more}
 use Rattle.apd_session.proofs.Worlds.{unread, unread_front}
 use Rattle.apd_session.proofs.top.talk.Goals as goal
+
+pub end_with-requires-clause-named : goal.end_with-requires-clause-named
+end_with-requires-clause-named g c = rw c.in-Err-Refused.field-0-is at (c.in-Err-Refused.ensures.cause c.requires.standard)
 
 pub returns-in-Err-Refused-clause-answers : goal.returns-in-Err-Refused-clause-answers
 returns-in-Err-Refused-clause-answers g c = λ names grew reader options is.
@@ -32,7 +37,7 @@ begin-requires-clause-ready g c = record {
   some_answers = c.requires.limits.1;
   answers = c.requires.limits.2;
   standard = let few = c.requires.standard in let more = Grown-length _ _ (grew_by _ _ _ c.load.ensures.grows) in omega (arith, few, more);
-  named = c.in-Ok.ensures.named;
+  named = c.in-Ok.ensures.named c.requires.standard;
 }
 
 pub begin-requires-clause-warnings : goal.begin-requires-clause-warnings
@@ -46,3 +51,24 @@ returns-in-Ok-begin-clause-answers g c = λ names grew reader options is.
     rw c.status_after.ensures
     (loaded_ended names reader options c.args.text.now c.in-Ok.loaded.program c.in-Ok.loaded.ops c.as_slice.result.now reads _ (rw is refl) c.in-Ok-new.console c.begin.new.console c.in-Ok-new.ensures c.begin.ensures.sound
     c.args.log.now.entries.list c.begin.new.log.entries.list c.requires.empty _ _ _ _ _ _ _ _ c.in-Ok-begin.ending (c.in-Ok-begin.ensures.talk names grew reader))
+
+pub returns-in-Ok-begin-clause-read : goal.returns-in-Ok-begin-clause-read
+returns-in-Ok-begin-clause-read g c = λ is.
+    let some : Reader c.begin.new.log.names = every_reader c.begin.new.log.names in
+    let ends = c.in-Ok-begin.ensures.talk c.begin.new.log.names (Grown-self c.begin.new.log.names) some in
+    ends.rose (ended_read c.in-Ok-begin.ending (sym c.status_after.ensures ∙ is))
+
+pub returns-clause-answers : goal.returns-clause-answers
+returns-clause-answers g c = λ names grew reader options is.
+    let grown : Grown c.load.new.names names = Grown-more c.load.new.names c.begin.new.log.names names c.begin.ensures.names grew in
+    let reads : program_of reader c.args.text.now ≡ loads record { program = c.in-Ok.loaded.program; ops = c.in-Ok.loaded.ops; passed = c.as_slice.result.now } =
+    rw (← c.bytes.ensures, c.as_slice.ensures) (c.in-Ok.ensures.loaded names grown reader) in
+    rw c.status_of.ensures
+    (loaded_broken names reader options c.args.text.now c.in-Ok.loaded.program c.in-Ok.loaded.ops c.as_slice.result.now reads _ (rw is refl) c.in-Ok-new.console c.begin.new.console c.in-Ok-new.ensures c.begin.ensures.sound
+    c.args.log.now.entries.list c.begin.new.log.entries.list c.requires.empty _ _ _ _ _ _ _ _ c.in-Err.trouble (c.in-Err.ensures.talk names grew reader))
+
+pub returns-clause-write : goal.returns-clause-write
+returns-clause-write g c = λ is.
+    let some : Reader c.begin.new.log.names = every_reader c.begin.new.log.names in
+    let breaks = c.in-Err.ensures.talk c.begin.new.log.names (Grown-self c.begin.new.log.names) some in
+    breaks.write_rose (broken_write c.in-Err.trouble (sym c.status_of.ensures ∙ is))

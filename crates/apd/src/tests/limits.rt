@@ -13,6 +13,15 @@ fn newlines(alloc: Global, count: u32) -> Result<Text, AllocError> {
     Ok(text)
 }
 
+/// So many bytes of lines that have only spaces.
+fn blank_lines(alloc: Global, count: u32) -> Result<Text, AllocError> {
+    let mut text = Text::new(alloc);
+    for i in 0..count {
+        text.push(if i % 1024 == 1023 { b'\n' } else { b' ' })?;
+    }
+    Ok(text)
+}
+
 #[test]
 fn a_file_of_one_byte_too_many_is_too_long(rt: HostRuntime) -> Result<(), Fail> {
     let alloc = rt.alloc();
@@ -30,7 +39,7 @@ fn a_file_of_one_byte_too_many_is_too_long(rt: HostRuntime) -> Result<(), Fail> 
 #[test]
 fn an_input_over_its_limit_is_told(rt: HostRuntime) -> Result<(), Fail> {
     let alloc = rt.alloc();
-    let input = newlines(alloc, 16_777_216)?;
+    let input = blank_lines(alloc, 16_777_216)?;
     let (status, printed) = run(alloc, &Met::of(PROGRAM, input.bytes()))?;
     assert_eq!(rt; status, Status::InputLimit);
     let mut expected = Text::copy_of(alloc, LOADED)?;

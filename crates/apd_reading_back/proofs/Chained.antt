@@ -14,6 +14,8 @@ use Rattle.apd_write.specs.NameTexts.{is_bare}
 use Rattle.apd_reading_back.specs.Pieces.{Precedes, separate_first, separate_second, minus_number, is_separate, IsSpelled, IsBefore, AreApart}
 use Rattle.apd_reading_back.proofs.Words.{Word, Blank, Token, name_sort, kind_of, bytes_of, piece, pieces}
 use Rattle.apd_reading_back.proofs.Laid
+use Rattle.apd_reading_back.proofs.Laid.{IsName}
+use Rattle.apd_reading_back.proofs.SpelledUtf8.{HaveUtf8Names}
 
 -- the texts of the brackets and of the minus are their own, and no text stands twice
 pub record AreKept (names : List (List ℕ)) : Type 0 where
@@ -27,7 +29,7 @@ pub record AreKept (names : List (List ℕ)) : Type 0 where
 abbrev pub IsWord : List (List ℕ) → Word → Type 0
 IsWord names Blank = Unit {0}
 IsWord names (Token (Name f)) = (f.0 < length names) × (is_bare (text_of_name names f) ≡ true)
-IsWord names (Token (Quoted f)) = f.0 < length names
+IsWord names (Token (Quoted f)) = IsName names f
 IsWord names (Token (Codes cs)) = ⊥
 IsWord names (Token (Variable v)) = v < 2 ^ 64
 IsWord names (Token (Integer n)) = n ≤ 2 ^ 63
@@ -56,11 +58,11 @@ joins_behind : (names : List (List ℕ)) (w : Word) (rest : List Word) → is_se
 joins_behind names w [] s = tt
 joins_behind names w (v ∷ rest) s = separate_first s
 
-pub named_word : (names : List (List ℕ)) (f : NameId) → f.0 < length names → IsWord names (Token (name_sort names f))
+pub named_word : (names : List (List ℕ)) (f : NameId) → IsName names f → IsWord names (Token (name_sort names f))
 named_word names f l = go (is_bare (text_of_name names f)) refl
   where
     go : (b : Bool) → is_bare (text_of_name names f) ≡ b → IsWord names (Token (if b then Name f else Quoted f))
-    go true e = (l, e)
+    go true e = (l.kept, e)
     go false e = l
 
 module _ (ops : Table) (names : List (List ℕ)) (kept : AreKept names) where
@@ -136,6 +138,7 @@ chained_apart names (w ∷ ws) h = (spelled_word w h.0, next ws h.1, chained_apa
     next : (vs : List Word) → Joins names w vs → IsBefore (piece names w) (pieces names vs)
     next [] j = tt
     next (v ∷ vs) j = j
+
     spelled_word : (x : Word) → IsWord names x → IsSpelled (piece names x).what (piece names x).bytes
     spelled_word Blank i = refl
     spelled_word (Token (Name f)) i = i.1
@@ -152,3 +155,10 @@ chained_apart names (w ∷ ws) h = (spelled_word w h.0, next ws h.1, chained_apa
     spelled_word (Token Comma) i = refl
     spelled_word (Token Bar) i = refl
     spelled_word (Token End) i = absurd i
+
+-- and their names are UTF-8
+pub chained_utf8 : (names : List (List ℕ)) (ws : List Word) → AreChained names ws → HaveUtf8Names (pieces names ws)
+chained_utf8 names [] h = tt
+chained_utf8 names (Blank ∷ ws) h = (tt, chained_utf8 names ws h.2)
+chained_utf8 names (Token (Quoted f) ∷ ws) h = ((text_of_name names f, refl, h.0.utf8), chained_utf8 names ws h.2)
+chained_utf8 names (Token s ∷ ws) h = (tt, chained_utf8 names ws h.2)

@@ -3,4 +3,14 @@ pub mod Laid
 pub mod Begun
 pub mod Chained
 pub mod Scanned
+pub mod Texts
+pub mod Numbered
+pub mod Lexed
+pub mod Read
+pub mod Shown
+pub mod Edges
+pub mod SpelledNames
+pub mod SpelledNumbers
+pub mod SpelledQuotes
+pub mod SpelledUtf8
 pub mod Divided

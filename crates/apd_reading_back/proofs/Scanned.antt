@@ -64,7 +64,7 @@ module _ (ops : Table) (names : List (List ℕ)) (ls : List Lexeme) (table : IsT
   one_bracket place j n p rest s e f = record { pieces = Operand p ∷ []; next = f.next; reads = one_operand; scans = then_bracket j n p s e f.fills; behind = f.behind }
 
   -- a bracket with one item
-  fill_one : {k : Inside} {from : ℕ} (p : Phrase) (c : Sort) (rest : List Word) → go_by ops k c ≡ go.Closes → Scanned ops ls k from [] (most k) p (Token c ∷ rest)
+  pub fill_one : {k : Inside} {from : ℕ} (p : Phrase) (c : Sort) (rest : List Word) → go_by ops k c ≡ go.Closes → Scanned ops ls k from [] (most k) p (Token c ∷ rest)
       → Filled ops ls k from (made k [] p) rest
   fill_one {k} p c rest e q = record {
     next = q.next + 1;

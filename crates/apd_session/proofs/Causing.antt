@@ -16,7 +16,7 @@ use Rattle.apd_session.specs.Causes.{Comes, FileHas, IsLoadable, is_quit, status
 use Rattle.apd_session.specs.Commands.{command_in}
 use Rattle.apd_session.specs.Outcome.{IsMet, IsSaid, Meets, NoneFails}
 use Rattle.apd_session.specs.Session.{World, Loading, Gives, Breaks, Told, after_load, after_options, after_words, session_of, status_after}
-use Rattle.apd_session.specs.Words.{Options, options_of}
+use Rattle.apd_words.specs.Words.{Options, options_of}
 use Rattle.apd_session.specs.Steps.{step_for, talker}
 use Rattle.apd_session.specs.declared.commands.Command.{Command}
 use Rattle.apd_session.specs.declared.commands.Command.TheVariants as command

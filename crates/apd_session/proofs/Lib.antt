@@ -7,5 +7,4 @@ pub mod Turning
 pub mod Worlds
 pub mod Loading
 pub mod Causing
-pub mod Digits
 pub mod Commanding

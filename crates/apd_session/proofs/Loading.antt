@@ -20,7 +20,7 @@ use Rattle.apd_text.specs.declared.entry.Entry.{Entry}
 use Rattle.apd_session.specs.Outcome.{Answers, IsDeaf, IsSaid, status_of}
 use Rattle.apd_session.specs.Session.{Told, told_of, after_load, status_after, tells}
 use Rattle.apd_session.specs.Steps.{begun, load_said, talker}
-use Rattle.apd_session.specs.Words.{Options}
+use Rattle.apd_words.specs.Words.{Options}
 use Rattle.apd_session.specs.declared.state.State.{State}
 use Rattle.apd_session.specs.declared.status.Status.{Status}
 use Rattle.apd_session.specs.declared.status.Status.TheVariants as statuses

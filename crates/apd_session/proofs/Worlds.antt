@@ -22,7 +22,7 @@ use Rattle.apd_text.specs.declared.entry.Entry.{Entry}
 use Rattle.apd_text.specs.declared.entry.Entry.TheVariants as entry
 use Rattle.apd_session.specs.Steps.{begun, plain}
 use Rattle.apd_session.specs.Session.{World, Loading, Gives, Breaks, Told, tells, told_of, status_after, after_load, after_words, session_of}
-use Rattle.apd_session.specs.Words.{Options, options_of}
+use Rattle.apd_words.specs.Words.{Options, options_of}
 use Rattle.apd_session.specs.Outcome.{Answers, IsDeaf, IsLoading, IsMet, IsSaid, IsWhole, Meets, NoneFails, status_of}
 use Rattle.apd_session.specs.declared.status.Status.{Status}
 use Rattle.apd_session.specs.declared.status.Status.TheVariants as statuses
@@ -183,6 +183,15 @@ pub met_memory : (words names : List (List ℕ)) (reader : Reader names) (option
 met_memory words names reader options content left R Q log x named empty =
     let some = any_of (content options.program) in
     met_answers words names reader options content left left R Q (Gives some.0) statuses.Memory log x x named some.1 (λ e. absurd (cc)) (unread_front left x Q (λ input ends. after_words reader record { program = Gives some.0; input = input; ends = ends } options (Gives some.0)) log empty)
+
+-- memory did not suffice for the words
+pub met_wanting : (words names : List (List ℕ)) (reader : Reader names) (content : List ℕ → Option (List ℕ)) (left : Option (List ℕ)) (R Q : Type 0) (log : List Entry) (x : Option (List ℕ)) →
+    log ≡ [] → Meets (session_of words reader) words content left left R Q statuses.Memory log x x
+met_wanting words names reader content left R Q log x empty = by (options_of words) refl
+  where
+    by : (o : Option Options) → options_of words ≡ o → Meets (session_of words reader) words content left left R Q statuses.Memory log x x
+    by (Some options) is = met_memory words names reader options content left R Q log x is empty
+    by None is = met_unnamed words names reader content left R Q statuses.Memory log x x is (UttersFront-none begun [] log x (tells names entry.UsageRefused statuses.Usage).utterances empty)
 
 -- where all is told and nothing fails
 loading_is : (program : List ℕ) (loading : Loading) → IsLoading (Some program) loading → (loading ≡ Breaks → ⊥) → loading ≡ Gives program

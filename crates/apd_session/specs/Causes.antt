@@ -9,7 +9,7 @@ use Rattle.apd_session.specs.Commands.{command_in}
 use Rattle.apd_session.specs.declared.commands.Command.{Command}
 use Rattle.apd_session.specs.declared.commands.Command.TheVariants as command
 use Rattle.apd_session.specs.Session.{World, Loading, Gives, Breaks}
-use Rattle.apd_session.specs.Words.{Options, options_of}
+use Rattle.apd_words.specs.Words.{Options, options_of}
 use Rattle.apd_session.specs.declared.status.Status.{Status}
 use Rattle.apd_session.specs.declared.status.Status.TheVariants as status
 

@@ -9,7 +9,7 @@ use Rattle.apd_console.specs.declared.talk.Trouble.TheVariants as trouble
 use Rattle.apd_text.specs.declared.entry.Entry.{Entry}
 use Rattle.apd_session.specs.Steps.{begun}
 use Rattle.apd_session.specs.Session.{World, Loading, Gives, Breaks, Told}
-use Rattle.apd_session.specs.Words.{options_of}
+use Rattle.apd_words.specs.Words.{options_of}
 use Rattle.apd_session.specs.declared.status.Status.{Status}
 use Rattle.apd_session.specs.declared.status.Status.TheVariants.{WriteFault, Memory}
 

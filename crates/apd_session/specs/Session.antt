@@ -13,7 +13,7 @@ use Rattle.apd_read.specs.Reader.{Reader}
 use Rattle.apd_text.specs.declared.entry.Entry.{Entry}
 use Rattle.apd_text.specs.declared.entry.Entry.TheVariants.{UsageRefused, ProgramRefused, FileTooLong, InputFault}
 use Rattle.apd_session.specs.Steps.{load_said, plain, talker}
-use Rattle.apd_session.specs.Words.{Options, options_of}
+use Rattle.apd_words.specs.Words.{Options, options_of}
 use Rattle.apd_session.specs.declared.status.Status.{Status}
 use Rattle.apd_session.specs.declared.status.Status.TheVariants as status
 

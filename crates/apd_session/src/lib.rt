@@ -10,7 +10,6 @@ mod state;
 mod status;
 mod top;
 mod turns;
-mod words;
 
 pub use apd_text::{Entry, Log};
 pub use status::Status;

@@ -16,19 +16,19 @@ ghost use Rattle.apd_session.specs.Outcome.{Answers, IsMet, IsSaid, IsWhole, Mee
 ghost use Rattle.apd_session.specs.Running.{IsReady};
 ghost use Rattle.apd_session.specs.Session.{Gives, World, after_load, session_of, tells};
 ghost use Rattle.apd_session.specs.Steps.{begun, load_said, talker};
-ghost use Rattle.apd_session.specs.Words.{Options, bytes_of, options_of};
+ghost use Rattle.apd_words.specs.Words.{Options, bytes_of, options_of};
 
 use crate::notes::say_loaded;
 use crate::say::say;
 use crate::state::State;
 use crate::status::{Status, status_after, status_of};
 use crate::turns::converse;
-use crate::words::{Asked, read_words};
 use apd_console::{Console, Ending, Trouble};
 use apd_io::{Files, LoadFault, Sink, Source};
 use apd_load::{LoadText, Loaded, Note, load};
 use apd_term::Text;
 use apd_text::{Entry, Log};
+use apd_words::{Asked, read_words};
 use std::alloc::Global;
 
 /// Says one thing and ends.
@@ -164,7 +164,10 @@ fn serve<F: Files, S: Source, K: Sink>(
     ensures read { result ≡ Status.ReadFault → Rose (F.faults files.old) (F.faults files.new) ⊎ Rose (S.faults input.old) (S.faults input.new) }
     ensures write { result ≡ Status.WriteFault → Rose (K.faults out.old) (K.faults out.new) }
 {
-    let Some(asked) = read_words(words) else {
+    let Ok(asked) = read_words(alloc, words) else {
+        return Status::Memory;
+    };
+    let Some(asked) = asked else {
         return end_with(alloc, out, log, Entry::UsageRefused, Status::Usage);
     };
     match files.load(alloc, asked.program) {

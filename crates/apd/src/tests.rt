@@ -7,6 +7,7 @@ mod facts;
 mod faults;
 mod limits;
 mod rules;
+mod texts;
 mod words;
 
 const OWN: [&str; 2] = ["apd", "p"];

@@ -11,7 +11,7 @@ fn texts_and_lines(rt: HostRuntime) -> Result<(), Fail> {
             b"q(1) :- 2.\n",
             b"?- a.",
             Status::Program,
-            b"program refused: line 1: NotBuilt\n",
+            b"program refused: line 1: NotCallable\n",
         ),
         (
             b"p(X, f(X)).",
@@ -35,7 +35,7 @@ fn texts_and_lines(rt: HostRuntime) -> Result<(), Fail> {
             b"q(1).\n\nQ(1).\n",
             b"",
             Status::Program,
-            b"program refused: line 3: NotBuilt\n",
+            b"program refused: line 3: Stray\n",
         ),
     ];
     for (program, input, status, text) in table {

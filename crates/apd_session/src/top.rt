@@ -146,6 +146,37 @@ fn talk<S: Source, K: Sink>(
     }
 }
 
+/// Loads the file that the words name, and goes on with its text.
+fn serve_file<F: Files, S: Source, K: Sink>(
+    alloc: Global,
+    asked: Asked<'_>,
+    files: &mut F,
+    input: &mut S,
+    out: &mut K,
+    log: &mut Log,
+) -> Status
+    requires empty { log.old.entries.list ≡ [] }
+    requires names { log.old.names ≡ standard_names }
+    requires ops { log.old.ops ≡ standard_table }
+    requires limits { (asked.budget ≤ 1000000) × (0 < asked.answers) × (asked.answers ≤ 1000000) }
+    ensures meaning { (words : List (List ℕ)) → options_of words ≡ Some record { program = asked.entry.program.now; budget = asked.entry.budget; answers = asked.entry.answers; filter = asked.entry.filter } →
+        (names : List (List ℕ)) → Grown log.new.names names → (reader : Reader names) → Meets (session_of words reader) words (F.content files.old) (S.left input.old) (S.left input.new)
+        (Rose (F.faults files.old) (F.faults files.new)) (Rose (S.faults input.old) (S.faults input.new)) result log.new.entries.list (K.held out.old) (K.held out.new) }
+    ensures names { Grown log.old.names log.new.names }
+    ensures read { result ≡ Status.ReadFault → Rose (F.faults files.old) (F.faults files.new) ⊎ Rose (S.faults input.old) (S.faults input.new) }
+    ensures write { result ≡ Status.WriteFault → Rose (K.faults out.old) (K.faults out.new) }
+{
+    match files.load(alloc, asked.program) {
+        Ok(text) => talk(alloc, asked, &text, input, out, log),
+        Err(LoadFault::Failed) => end_with(alloc, out, log, Entry::InputFault, Status::ReadFault),
+        Err(LoadFault::TooLong(length)) => {
+            let entry = Entry::FileTooLong { length };
+            end_with(alloc, out, log, entry, Status::FileTooLong)
+        }
+        Err(LoadFault::Memory) => Status::Memory,
+    }
+}
+
 /// A session without the clause that follows from the others.
 fn serve<F: Files, S: Source, K: Sink>(
     alloc: Global,
@@ -164,20 +195,10 @@ fn serve<F: Files, S: Source, K: Sink>(
     ensures read { result ≡ Status.ReadFault → Rose (F.faults files.old) (F.faults files.new) ⊎ Rose (S.faults input.old) (S.faults input.new) }
     ensures write { result ≡ Status.WriteFault → Rose (K.faults out.old) (K.faults out.new) }
 {
-    let Ok(asked) = read_words(alloc, words) else {
-        return Status::Memory;
-    };
-    let Some(asked) = asked else {
-        return end_with(alloc, out, log, Entry::UsageRefused, Status::Usage);
-    };
-    match files.load(alloc, asked.program) {
-        Ok(text) => talk(alloc, asked, &text, input, out, log),
-        Err(LoadFault::Failed) => end_with(alloc, out, log, Entry::InputFault, Status::ReadFault),
-        Err(LoadFault::TooLong(length)) => {
-            let entry = Entry::FileTooLong { length };
-            end_with(alloc, out, log, entry, Status::FileTooLong)
-        }
-        Err(LoadFault::Memory) => Status::Memory,
+    match read_words(alloc, words) {
+        Ok(Some(asked)) => serve_file(alloc, asked, files, input, out, log),
+        Ok(None) => end_with(alloc, out, log, Entry::UsageRefused, Status::Usage),
+        Err(_) => Status::Memory,
     }
 }
 

@@ -1,45 +1,12 @@
-use Rattle.std.proofs.Common.{◌≡◌, ◌∙◌, ap, refl, subst, arith, List, ℕ, length, Err}
-use Rattle.apd_term.proofs.FirstNames.{length-standard_names}
-use Rattle.apd_term.specs.StandardNames.{standard_names}
 use Rattle.apd_text.specs.declared.entry.Entry.TheVariants as entries
-use Rattle.apd_session.specs.Outcome.{IsSaid}
-use Rattle.apd_session.specs.Session.{tells}
 use Rattle.apd_session.specs.declared.status.Status.TheVariants as statuses
 use Rattle.apd_session.proofs.Loading.{said_now}
-use Rattle.apd_session.proofs.Worlds.{met_unnamed, met_loaded, met_broken, met_long, met_memory, met_wanting}
+use Rattle.apd_session.proofs.Worlds.{met_unnamed, met_wanting}
 use Rattle.apd_session.proofs.top.serve.Goals as goal
 
-pub returns-in_default-clause-meaning : goal.returns-in_default-clause-meaning
-returns-in_default-clause-meaning g c = λ names grew reader. met_wanting _ _ reader _ _ _ _ _ _ c.requires.empty
-
-pub talk-requires-clause-few : goal.talk-requires-clause-few
-talk-requires-clause-few g c = let e : length c.args.log.now.names ≡ 132 = ap (λ (l : List (List ℕ)). length l) c.requires.names ∙ length-standard_names in omega (arith, e)
-
-pub talk-requires-clause-standard : goal.talk-requires-clause-standard
-talk-requires-clause-standard g c = let e : length c.args.log.now.names ≡ length standard_names = ap (λ (l : List (List ℕ)). length l) c.requires.names in omega (arith, e)
-
-pub returns-in-Ok-load-clause-meaning : goal.returns-in-Ok-load-clause-meaning
-returns-in-Ok-load-clause-meaning g c = λ names grew reader.
-    met_loaded _ names reader record { program = c.in-Some.asked.program.now; budget = c.in-Some.asked.budget; answers = c.in-Some.asked.answers; filter = c.in-Some.asked.filter } _ _ _ _ _ c.in-Ok-load.text _ _ _ _
-    (rw c.in-Some.is at c.in-Ok.ensures.options) c.in-Ok-load.ensures.whole c.in-Ok-load.ensures.bound (c.talk.ensures.answers names grew reader _ refl)
-
-pub returns-in-Err-Failed-clause-meaning : goal.returns-in-Err-Failed-clause-meaning
-returns-in-Err-Failed-clause-meaning g c = λ names grew reader.
-    let rose = c.load.ensures.cause.failed (c.in-Err-Failed.is ∙ ap Err c.in-Err-Failed.field-0-is) in
-    met_broken _ _ reader record { program = c.in-Some.asked.program.now; budget = c.in-Some.asked.budget; answers = c.in-Some.asked.answers; filter = c.in-Some.asked.filter } _ _ _ _ _ _ _ _ (rw c.in-Some.is at c.in-Ok.ensures.options) rose
-    (said_now _ _ names entries.InputFault statuses.ReadFault _ _ _ _ c.end_with-in-Err-Failed.ensures.names grew c.end_with-in-Err-Failed.ensures.said)
-
-pub returns-in-Err-TooLong-clause-meaning : goal.returns-in-Err-TooLong-clause-meaning
-returns-in-Err-TooLong-clause-meaning g c = λ names grew reader.
-    let n : c.in-Err-TooLong.length ≡ 1048577 = c.in-Err-TooLong.ensures.number c.in-Err-TooLong.length c.in-Err-TooLong.field-0-is in
-    met_long _ _ reader record { program = c.in-Some.asked.program.now; budget = c.in-Some.asked.budget; answers = c.in-Some.asked.answers; filter = c.in-Some.asked.filter } _ _ _ _ _ _ _ _ (rw c.in-Some.is at c.in-Ok.ensures.options)
-    (c.in-Err-TooLong.ensures.long c.in-Err-TooLong.length c.in-Err-TooLong.field-0-is)
-    (subst (λ (m : ℕ). IsSaid c.end_with-in-Err-TooLong.result (tells names (entries.FileTooLong m) statuses.FileTooLong) c.end_with-in-Err-TooLong.new.log.entries.list (g.K.Sink.held c.args.out.now) (g.K.Sink.held c.end_with-in-Err-TooLong.new.out)) (c.in-Err-TooLong.length-is ∙ n) (said_now _ _ names _ statuses.FileTooLong _ _ _ _ c.end_with-in-Err-TooLong.ensures.names grew c.end_with-in-Err-TooLong.ensures.said))
-
-pub returns-in-Err-Memory-clause-meaning : goal.returns-in-Err-Memory-clause-meaning
-returns-in-Err-Memory-clause-meaning g c = λ names grew reader. met_memory _ _ reader record { program = c.in-Some.asked.program.now; budget = c.in-Some.asked.budget; answers = c.in-Some.asked.answers; filter = c.in-Some.asked.filter } _ _ _ _ _ _ (rw c.in-Some.is at c.in-Ok.ensures.options) c.requires.empty
-
-pub returns-in_default-asked-clause-meaning : goal.returns-in_default-asked-clause-meaning
-returns-in_default-asked-clause-meaning g c = λ names grew reader.
-    met_unnamed _ _ reader _ _ _ _ _ _ _ _ (rw c.in_default-asked.is at c.in-Ok.ensures.options)
+pub returns-in-Ok-None-clause-meaning : goal.returns-in-Ok-None-clause-meaning
+returns-in-Ok-None-clause-meaning g c = λ names grew reader. met_unnamed _ _ reader _ _ _ _ _ _ _ _ (rw c.in-Ok-None.field-0-is at c.in-Ok-None.ensures.options)
     (said_now _ _ names entries.UsageRefused statuses.Usage _ _ _ _ c.end_with.ensures.names grew c.end_with.ensures.said)
+
+pub returns-in-Err-clause-meaning : goal.returns-in-Err-clause-meaning
+returns-in-Err-clause-meaning g c = λ names grew reader. met_wanting _ names reader _ _ _ _ _ _ c.requires.empty

@@ -1,8 +1,7 @@
 -- The status of a session is the one that its causes call for.
-use Rattle.std.proofs.Common.{◌≡◌, ℕ, ◌<◌, ◌≤◌, List, [], ◌∷◌, length, refl, ap, sym, ◌∙◌, arith, Option, Some, None, subst, Bool, true, false, ◌⊎◌, inl, inr}
+use Rattle.std.proofs.Common.{◌≡◌, ℕ, ◌≤◌, List, [], ◌∷◌, length, refl, ap, sym, ◌∙◌, arith, Option, Some, None, subst, Bool, true, false, ◌⊎◌, inl, inr}
 use Rattle.std.proofs.lemmas.Bool.{lt-leb}
 use Rattle.std.proofs.Math.Dec.{leb}
-use Rattle.std.specs.List.{list_any}
 use Rattle.std.specs.Prelude.{IfSome, if◌then◌else◌}
 use Rattle.apd_console.specs.Lines.{InputEnd, Ended, Close, AtEnd, AtFault, AtLimit, Heard, hear}
 use Rattle.apd_console.specs.Talk.{run, replies, ending_of}
@@ -12,7 +11,7 @@ use Rattle.apd_load.specs.Program.{Loads, refused, loads, program_of}
 use Rattle.apd_ops.specs.Table.{Table}
 use Rattle.apd_read.specs.Reader.{Reader}
 use Rattle.apd_text.specs.declared.entry.Entry.{Entry}
-use Rattle.apd_session.specs.Causes.{Comes, FileHas, IsLoadable, is_quit, status_at_close, status_for, status_of_heard, status_of_load, status_of_options, status_of_text}
+use Rattle.apd_session.specs.Causes.{Comes, EndsInTime, FileHas, IsLoadable, is_quit, some_quits, status_at_close, status_for, status_of_heard, status_of_load, status_of_options, status_of_text}
 use Rattle.apd_session.specs.Commands.{command_in}
 use Rattle.apd_session.specs.Outcome.{IsMet, IsSaid, Meets, NoneFails}
 use Rattle.apd_session.specs.Session.{World, Loading, Gives, Breaks, Told, after_load, after_options, after_words, session_of, status_after}
@@ -31,10 +30,6 @@ quits_by ops names s command.Nothing = refl
 quits_by ops names s command.Quit = refl
 quits_by ops names s (command.Refused r) = refl
 quits_by ops names s (command.Query q) = refl
-
--- some line asks to quit
-abbrev some_quits : {names : List (List ℕ)} → Reader names → Table → List Line → Bool
-some_quits reader ops lines = list_any (λ line. is_quit (command_in reader ops line)) lines
 
 run_ends : (names : List (List ℕ)) (reader : Reader names) (ops : Table) (s : State) (lines : List Line) (close : Close) →
     (run (talker reader ops) s lines close).ending ≡ (if some_quits reader ops lines then endings.Done else ending_of close)
@@ -104,17 +99,18 @@ either_done : (b : Bool) (close : Close) → close ≡ AtEnd → (if b then stat
 either_done true close is = refl
 either_done false close is = rw is refl
 
-text_done : (names : List (List ℕ)) (reader : Reader names) (input : List ℕ) (o : Loads) → IsLoadable o → length input < 16777216 → status_of_text reader input Ended o ≡ statuses.Done
-text_done names reader input (refused line cause) is few = absurd is
-text_done names reader input (loads l) is few =
+text_done : (names : List (List ℕ)) (reader : Reader names) (input : List ℕ) (o : Loads) → IsLoadable o → EndsInTime reader o input → status_of_text reader input Ended o ≡ statuses.Done
+text_done names reader input (refused line cause) is in_time = absurd is
+text_done names reader input (loads l) is (inl few) =
     let heard : Heard = hear 16777216 input Ended in
     either_done (some_quits reader l.ops heard.lines) heard.close (ends_well input (lt-leb _ _ few))
+text_done names reader input (loads l) is (inr quits) = rw quits refl
 
-file_done : (words names : List (List ℕ)) (reader : Reader names) (content : List ℕ → Option (List ℕ)) (text input : List ℕ) → FileHas words content text → length text ≤ 1048576 → IsLoadable (program_of reader text) → length input < 16777216 →
+file_done : (words names : List (List ℕ)) (reader : Reader names) (content : List ℕ → Option (List ℕ)) (text input : List ℕ) → FileHas words content text → length text ≤ 1048576 → IsLoadable (program_of reader text) → EndsInTime reader (program_of reader text) input →
     status_for words reader record { program = Gives text; input = input; ends = Ended } ≡ statuses.Done
-file_done words names reader content text input file size is few =
+file_done words names reader content text input file size is in_time =
     let test : leb 1048577 (length text) ≡ false = lt-leb _ _ (omega (arith, size)) in
-    rw (file.1, test) (text_done names reader input (program_of reader text) is few)
+    rw (file.1, test) (text_done names reader input (program_of reader text) is in_time)
 
 some_content : (o : Option Options) (options : Options) (content : List ℕ → Option (List ℕ)) (text : List ℕ) → o ≡ Some options → content options.program ≡ Some text → IfSome o (λ p. content p.program ≡ Some text)
 some_content o options content text is has = rw is has
@@ -126,10 +122,10 @@ not_write st (inr (inr is)) never = inr is
 
 pub session_done : (words names : List (List ℕ)) (reader : Reader names) (content : List ℕ → Option (List ℕ)) (left now : Option (List ℕ)) (R Q W : Type 0) (st : Status) (log : List Entry) (x y : Option (List ℕ)) →
     Meets (session_of words reader) words content left now R Q st log x y → (st ≡ statuses.WriteFault → W) →
-    (text input : List ℕ) → FileHas words content text → length text ≤ 1048576 → IsLoadable (program_of reader text) → left ≡ Some input → length input < 16777216 → NoneFails R Q W →
+    (text input : List ℕ) → FileHas words content text → length text ≤ 1048576 → IsLoadable (program_of reader text) → left ≡ Some input → EndsInTime reader (program_of reader text) input → NoneFails R Q W →
     (st ≡ statuses.Done) ⊎ (st ≡ statuses.Memory)
-session_done words names reader content left now R Q W st log x y meaning write text input file size is given few none =
+session_done words names reader content left now R Q W st log x y meaning write text input file size is given in_time none =
     let same = world_is words names reader content left now R Q meaning.0 text input (options_of words) refl meaning.1 (some_content (options_of words) file.0 content text file.1 file.2) given none.0 none.1 in
     let due : (session_of words reader meaning.0).status ≡ statuses.Done =
-    ap (λ (t : Told). t.status) same ∙ options_status names reader record { program = Gives text; input = input; ends = Ended } (options_of words) ∙ file_done words names reader content text input file size is few in
+    ap (λ (t : Told). t.status) same ∙ options_status names reader record { program = Gives text; input = input; ends = Ended } (options_of words) ∙ file_done words names reader content text input file size is in_time in
     not_write st (subst (λ (d : Status). Comes st d) due (comes st _ log x y meaning.2)) (λ e. none.2 (write e))

@@ -1,9 +1,10 @@
 -- When each status comes: by the first cause that a session meets.
-use Rattle.std.specs.Prelude.{ℕ, ◌≡◌, ◌⊎◌, List, length, if◌then◌else◌, Bool, true, false, Option, None, Some, nat_lt, ⊤}
+use Rattle.std.specs.Prelude.{ℕ, ◌≡◌, ◌<◌, ◌⊎◌, List, length, if◌then◌else◌, Bool, true, false, Option, None, Some, nat_lt, ⊤}
 use Rattle.std.specs.List.{list_any}
 use Rattle.apd_ops.specs.Table.{Table}
 use Rattle.apd_read.specs.Reader.{Reader}
-use Rattle.apd_console.specs.Lines.{InputEnd, Close, AtEnd, AtFault, AtLimit, Heard, hear}
+use Rattle.apd_console.specs.Lines.{InputEnd, Ended, Close, AtEnd, AtFault, AtLimit, Heard, hear}
+use Rattle.apd_console.specs.declared.line.Line.{Line}
 use Rattle.apd_load.specs.Program.{Loads, refused, loads, program_of}
 use Rattle.apd_session.specs.Commands.{command_in}
 use Rattle.apd_session.specs.declared.commands.Command.{Command}
@@ -24,9 +25,13 @@ abbrev pub is_quit : Command → Bool
 is_quit command.Quit = true
 is_quit c = false
 
+-- some line asks to quit
+abbrev pub some_quits : {names : List (List ℕ)} → Reader names → Table → List Line → Bool
+some_quits reader ops lines = list_any (λ line. is_quit (command_in reader ops line)) lines
+
 -- a line quits, or the input ends, fails or is over its limit
 abbrev pub status_of_heard : {names : List (List ℕ)} → Reader names → Table → Heard → Status
-status_of_heard reader ops heard = if list_any (λ line. is_quit (command_in reader ops line)) heard.lines then status.Done else status_at_close heard.close
+status_of_heard reader ops heard = if some_quits reader ops heard.lines then status.Done else status_at_close heard.close
 
 -- the text is refused, or the input is heard, of which 16,777,216 bytes may be taken
 abbrev pub status_of_text : {names : List (List ℕ)} → Reader names → List ℕ → InputEnd → Loads → Status
@@ -54,6 +59,11 @@ Comes result due = (result ≡ due) ⊎ ((result ≡ status.WriteFault) ⊎ (res
 abbrev pub IsLoadable : Loads → Type 0
 IsLoadable (refused line cause) = ⊥
 IsLoadable (loads l) = ⊤
+
+-- the input ends before its limit, or a line before that asks to quit
+abbrev pub EndsInTime : {names : List (List ℕ)} → Reader names → Loads → List ℕ → Type 0
+EndsInTime reader (refused line cause) input = ⊤
+EndsInTime reader (loads l) input = (length input < 16777216) ⊎ (some_quits reader l.ops (hear 16777216 input Ended).lines ≡ true)
 
 -- the words name a file, whose content is this text
 abbrev pub FileHas : List (List ℕ) → (List ℕ → Option (List ℕ)) → List ℕ → Type 0

@@ -11,7 +11,7 @@ ghost use Rattle.apd_load.specs.Warnings.{NotesAreNamed, warnings_of};
 ghost use Rattle.apd_term.specs.StandardNames.{standard_names};
 ghost use Rattle.apd_text.specs.Named.{EntryIsNamed};
 ghost use Rattle.apd_term.specs.Growth.{Grown};
-ghost use Rattle.apd_session.specs.Causes.{Comes, FileHas, IsLoadable, status_for};
+ghost use Rattle.apd_session.specs.Causes.{Comes, EndsInTime, FileHas, IsLoadable, status_for};
 ghost use Rattle.apd_session.specs.Outcome.{Answers, IsMet, IsSaid, IsWhole, Meets, NoneFails};
 ghost use Rattle.apd_session.specs.Running.{IsReady};
 ghost use Rattle.apd_session.specs.Session.{Gives, World, after_load, session_of, tells};
@@ -207,9 +207,9 @@ fn serve<F: Files, S: Source, K: Sink>(
 /// A line that has a token is a command: `?- Goals.` runs a query, and `quit.` ends the session. It is read with the
 /// operators that the program has left, and what is said is written with them.
 ///
-/// The first word is the program's own name. Then `--budget N`, `--answers N` and `--trace` may follow, in this order, with
-/// N from 1 to 1,000,000 in at most 7 digits, and last the name of a file, which doesn't begin with `-`. Without a budget a
-/// run shows at most 100,000 ports, and without a limit on answers 1,000,000; the ports are printed where `--trace` is given. The log's entries
+/// The first word is the program's own name. The others are the name of a file and, in any order, `--budget N`,
+/// `--answers N` and `--trace`, with N from 1 to 1,000,000 in at most 7 digits. Without a budget a run shows at most 100,000
+/// ports, and without a limit on answers 1,000,000; the ports are printed where `--trace` is given. The log's entries
 /// are what was said, and the sink has their texts. The status tells how the session ended;
 /// [`Status::ReadFault`] where a load or a read failed, [`Status::WriteFault`] where a write failed,
 /// and [`Status::Memory`] where there was no memory.
@@ -244,8 +244,9 @@ pub fn session<F: Files, S: Source, K: Sink>(
     ensures status { (names : List (List ℕ)) → Grown log.new.names names → (reader : Reader names) → (world : World) × IsMet (bytes_of words.now) (F.content files.old) (S.left input.old) (S.left input.new)
         (Rose (F.faults files.old) (F.faults files.new)) (Rose (S.faults input.old) (S.faults input.new)) world × Comes result (status_for (bytes_of words.now) reader world) }
 
-    // Where the words name a file that is a program, the input isn't over its limit, all is told and no count rises, the session is done, or memory ran out.
-    ensures done { (reader : Reader log.new.names) (text bytes : List ℕ) → FileHas (bytes_of words.now) (F.content files.old) text → length text ≤ 1048576 → IsLoadable (program_of reader text) → S.left input.old ≡ Some bytes → length bytes < 16777216 →
+    // Where the words name a file that is a program, the input ends or a line quits before its limit, all is told and no count
+    // rises, the session is done, or memory ran out.
+    ensures done { (reader : Reader log.new.names) (text bytes : List ℕ) → FileHas (bytes_of words.now) (F.content files.old) text → length text ≤ 1048576 → IsLoadable (program_of reader text) → S.left input.old ≡ Some bytes → EndsInTime reader (program_of reader text) bytes →
         NoneFails (Rose (F.faults files.old) (F.faults files.new)) (Rose (S.faults input.old) (S.faults input.new)) (Rose (K.faults out.old) (K.faults out.new)) →
         (result ≡ Status.Done) ⊎ (result ≡ Status.Memory) }
 

@@ -1,14 +1,15 @@
 -- A written term's text reads as the term.
 use Rattle.std.proofs.Common.{◌≡◌, ℕ, ◌+◌, ◌<◌, ◌≤◌, ◌^◌, List, [], ◌∷◌, ◌++◌, length, map, drop, Bool, true, false, Option, Some, None, refl, inr, sym, ◌∙◌, ap, subst, arith, append_assoc, length-append}
-use Rattle.std.specs.Prelude.{codes, slice_get, if◌then◌else◌, Ok}
+use Rattle.std.specs.Prelude.{codes, slice_get, if◌then◌else◌, Result, Ok}
 use Rattle.std.specs.List.{fold}
 use Rattle.std.proofs.lemmas.List.{append-nil}
 use Rattle.apd_term.specs.declared.term.NameId.{NameId}
 use Rattle.apd_term.specs.declared.standard.TheConstants.{NIL, CURLY, MINUS}
+use Rattle.apd_term.specs.declared.faults.ReadFault.{ReadFault}
 use Rattle.apd_term.specs.declared.reading.Read.{Read}
 use Rattle.apd_term.specs.Canonical.{with_new, by_appearance}
 use Rattle.apd_term.specs.Growth.{Grown}
-use Rattle.apd_term.specs.Names.{text_of_name, HasDistinctTexts}
+use Rattle.apd_term.specs.Names.{text_of_name}
 use Rattle.apd_term.specs.StandardNames.{standard_names}
 use Rattle.apd_term.specs.Term.{Term, variables}
 use Rattle.apd_term.proofs.FirstNames.{length-standard_names}
@@ -16,7 +17,8 @@ use Rattle.apd_term.proofs.Naming.{text_of_name-append}
 use Rattle.apd_ops.specs.Table.{Table, IsTable}
 use Rattle.apd_token.specs.declared.items.Token.{Token}
 use Rattle.apd_token.specs.Division.{IsDivided}
-use Rattle.apd_token.specs.Grammar.{Piece, tokens_of}
+use Rattle.apd_token.proofs.Unique.{one_tokens}
+use Rattle.apd_token.specs.Grammar.{Piece, HasTokens, tokens_of}
 use Rattle.apd_read.specs.declared.phrase.Phrase.{Phrase}
 use Rattle.apd_read.specs.declared.lexeme.Sort.{Sort}
 use Rattle.apd_read.specs.declared.lexeme.Sort.TheVariants.{Name, Quoted, Codes, Variable, Integer, Open, Close, OpenList, CloseList, OpenCurly, CloseCurly, Comma, Bar, End}
@@ -25,6 +27,8 @@ use Rattle.apd_read.specs.declared.places.Inside.TheVariants.{Clause}
 use Rattle.apd_read.specs.Reading.{Reads, Splits}
 use Rattle.apd_read.specs.Clause.{Fills, item_begins, no_element, filled}
 use Rattle.apd_read.specs.Lexemes.{AreLexemes, no_lexeme, to_end, ends_clause, ends_sort, NoneEnd, SortIsNamed, LexemesAreNamed}
+use Rattle.apd_read.specs.Reader.{IsRead}
+use Rattle.apd_read.proofs.Unique.{one_answer}
 use Rattle.apd_read.specs.Answer.{IsReadAs, place_of}
 use Rattle.apd_read.proofs.Clauses.{lexemes_as_tokens}
 use Rattle.apd_read.proofs.Ending.{all_read}
@@ -32,7 +36,7 @@ use Rattle.apd_read.proofs.Placed.{reading_under, fills_within}
 use Rattle.apd_read.proofs.ByMain.{fills_by_main}
 use Rattle.apd_write.specs.Writing.{written, variable_text}
 use Rattle.apd_reading_back.specs.Levels.{levels}
-use Rattle.apd_reading_back.specs.Law.{IsReadable, clause_text, ReadsBack}
+use Rattle.apd_reading_back.specs.Law.{AreNames, IsReadable, clause_text, ReadsBack, IsTermRead}
 use Rattle.apd_reading_back.specs.Pieces.{ended, text_of}
 use Rattle.apd_reading_back.proofs.Words as words
 use Rattle.apd_reading_back.proofs.Words.{Word, Blank, kind_of, bytes_of, piece, pieces, spelled, variables_in, lexed, StandAt, pieces-append, spelled-append, text-pieces, variables_in-append}
@@ -41,7 +45,8 @@ use Rattle.apd_reading_back.proofs.Chained.{AreKept, IsWord, AreChained, whole_c
 use Rattle.apd_reading_back.proofs.SpelledUtf8.{text_utf8}
 use Rattle.apd_reading_back.proofs.Begun.{goes_by}
 use Rattle.apd_reading_back.proofs.Scanned.{Scanned, scan_whole}
-use Rattle.apd_reading_back.proofs.Shown.{phrase, ShownWhole, term_shown}
+use Rattle.apd_reading_back.proofs.Shown.{phrase}
+use Rattle.apd_reading_back.proofs.ShownTerms.{term_shown}
 use Rattle.apd_reading_back.proofs.Numbered.{AreNumbered, canonical_numbered, texts}
 use Rattle.apd_reading_back.proofs.Lexed.{IsLexical, AreLexical, lexed_along, lexed_stand}
 use Rattle.apd_reading_back.proofs.Divided.{apart_have_tokens}
@@ -64,9 +69,9 @@ standard_text names f bytes grown l e =
     ap (λ ns. text_of_name ns f) grown.1 ∙ text_of_name-append standard_names grown.0 f (omega (arith, length-standard_names)) ∙ e
 
 -- names that begin with the standard ones
-pub kept_names : (names : List (List ℕ)) → HasDistinctTexts names → Grown standard_names names → AreKept names
-kept_names names distinct grown = record {
-  distinct = distinct;
+kept_names : (names : List (List ℕ)) → AreNames names → AreKept names
+kept_names names all = let grown = all.standard in record {
+  distinct = all.distinct;
   many = omega (arith, ap (length {A = List ℕ}) grown.1, length-append standard_names grown.0, length-standard_names);
   nil = standard_text names NIL (codes "[]") grown (omega arith) standard_nil;
   curly = standard_text names CURLY (codes "{}") grown (omega arith) standard_curly;
@@ -238,3 +243,17 @@ module _ (ops : Table) (names : List (List ℕ)) (table : IsTable ops) (kept : A
             vars = refl;
             all = omega arith;
           }
+
+pub reads_back : (ops : Table) (names : List (List ℕ)) (t : Term) → IsTable ops → AreNames names → IsReadable ops names t → ReadsBack ops names t
+reads_back ops names t table all r = term_reads_back ops names table (kept_names names all) t r
+
+-- and as nothing else
+pub only_reads_back : (ops : Table) (names : List (List ℕ)) (t : Term) → IsTable ops → AreNames names → IsReadable ops names t
+    → (later : List (List ℕ)) (tokens : List Token) (answer : Result Read ReadFault) → HasTokens (clause_text ops names t) tokens
+    → IsRead ops (names ++ later) (clause_text ops names t) tokens 0 answer → IsTermRead t answer
+only_reads_back ops names t table all r later tokens answer divided is =
+    let text = clause_text ops names t in
+    let back = reads_back ops names t table all r in
+    let same : back.tokens ≡ tokens = one_tokens text back.tokens tokens back.divided.1 divided in
+    let reading = subst (λ (ts : List Token). IsRead ops (names ++ later) text ts 0 (Ok back.read)) same (back.reading later) in
+    (back.read, one_answer ops (names ++ later) text tokens 0 answer (Ok back.read) table is reading, back.same)

@@ -4,7 +4,10 @@ use Rattle.apd_term.specs.declared.term.NameId.{NameId}
 use Rattle.apd_term.specs.Term.{Term, Terms, variable, integer, compound, none, more, list_of, variables}
 use Rattle.apd_term.specs.Canonical.{canonical, by_appearance}
 use Rattle.apd_term.specs.Named.{IsNamed}
-use Rattle.apd_term.specs.Names.{text_of_name}
+use Rattle.apd_term.specs.Names.{text_of_name, HasDistinctTexts}
+use Rattle.apd_term.specs.Growth.{Grown}
+use Rattle.apd_term.specs.StandardNames.{standard_names}
+use Rattle.apd_term.specs.declared.faults.ReadFault.{ReadFault}
 use Rattle.apd_term.specs.declared.reading.Read.{Read}
 use Rattle.apd_ops.specs.Table.{Table}
 use Rattle.apd_token.specs.declared.items.Token.{Token}
@@ -12,6 +15,11 @@ use Rattle.apd_token.specs.Division.{IsDivided}
 use Rattle.apd_read.specs.Reader.{IsRead}
 use Rattle.apd_write.specs.Writing.{written, variable_text}
 use Rattle.apd_reading_back.specs.Levels.{levels}
+
+-- the texts of names: no two are the same, and the standard ones come first
+pub record AreNames (names : List (List ℕ)) : Type 0 where
+  pub distinct : HasDistinctTexts names
+  pub standard : Grown standard_names names
 
 -- the texts of the term's names are UTF-8
 abbrev mutual
@@ -62,3 +70,7 @@ pub record ReadsBack (ops : Table) (names : List (List ℕ)) (t : Term) : Type 0
   pub same : read.term ≡ t
   pub vars : read.vars ≡ map variable_text (by_appearance (variables t))
   pub all : read.next ≡ length tokens
+
+-- the answer is the term
+abbrev pub IsTermRead : Term → Result Read ReadFault → Type 0
+IsTermRead t answer = (r : Read) × (answer ≡ Ok r) × (r.term ≡ t)

@@ -1,23 +1,28 @@
-//! The law of reading back.
+//! The law of reading back: what `apd_write` writes of a term is read by `apd_token` and `apd_read`
+//! as that term.
+//!
+//! The law is the contract of [`reading_back`]; no code here runs but the tests.
 #![tactic(auto)]
 
-ghost use Rattle.std.specs.Prelude.{List};
+ghost use Rattle.std.specs.Prelude.{ℕ, List, ◌++◌, Result};
 ghost use Rattle.apd_term.specs.Term.{Term};
-ghost use Rattle.apd_term.specs.Growth.{Grown};
-ghost use Rattle.apd_term.specs.StandardNames.{standard_names};
-ghost use Rattle.apd_reading_back.specs.Law.{IsReadable, ReadsBack};
-
-use apd_ops::Ops;
-use apd_term::Names;
+ghost use Rattle.apd_term.specs.declared.faults.ReadFault.{ReadFault};
+ghost use Rattle.apd_term.specs.declared.reading.Read.{Read};
+ghost use Rattle.apd_ops.specs.Table.{Table, IsTable};
+ghost use Rattle.apd_token.specs.declared.items.Token.{Token};
+ghost use Rattle.apd_token.specs.Grammar.{HasTokens};
+ghost use Rattle.apd_read.specs.Reader.{IsRead};
+ghost use Rattle.apd_reading_back.specs.Law.{AreNames, IsReadable, clause_text, ReadsBack, IsTermRead};
 
 #[cfg(test)]
 mod tests;
 
-/// The law of reading back.
-pub fn reads_back(ops: &Ops, names: &Names)
-    requires { Grown standard_names names.now }
-    ensures { (t : Term) → IsReadable ops.now names.now t → ReadsBack ops.now names.now t }
-{
-    ops.has_no_clash();
-    let _count = names.count();
-}
+/// The law of reading back. The text of a term as a clause, by a table of operators, has tokens,
+/// which read by the same table as the term, and as nothing else.
+///
+/// The term is canonical, its names are kept and are UTF-8, its numbers are those of symbols, and its
+/// text has no term at level 1,000. Names may come later.
+pub fn reading_back()
+    ensures reads { (ops : Table) (names : List (List ℕ)) (t : Term) → IsTable ops → AreNames names → IsReadable ops names t → ReadsBack ops names t }
+    ensures only { (ops : Table) (names : List (List ℕ)) (t : Term) → IsTable ops → AreNames names → IsReadable ops names t → (later : List (List ℕ)) (tokens : List Token) (answer : Result Read ReadFault) → HasTokens (clause_text ops names t) tokens → IsRead ops (names ++ later) (clause_text ops names t) tokens 0 answer → IsTermRead t answer }
+{}

@@ -72,7 +72,7 @@ fn wanted(indicator: &[u8]) -> Kind {
 #[test]
 fn predicates_are_what_their_names_say(rt: HostRuntime) -> Result<(), Fail> {
     let names = Names::standard(rt.alloc())?;
-    let mut counted = [0, 0];
+    let (mut impure_ones, mut users) = (0u32, 0u32);
     for id in 0..133 {
         for (arity, digit) in b"0123456789".iter().enumerate() {
             let mut indicator = Vec::from_slice(rt.alloc(), names.text(NameId(id)))?;
@@ -87,12 +87,12 @@ fn predicates_are_what_their_names_say(rt: HostRuntime) -> Result<(), Fail> {
             match (kind, builtin(pred)) {
                 (Kind::Builtin(goal), Some(other)) => assert!(rt; goal == other),
                 (Kind::Builtin(_), None) | (_, Some(_)) => panic!(rt; "another built-in goal"),
-                (Kind::Impure, None) => counted[0] += 1,
-                (Kind::User, None) => counted[1] += 1,
+                (Kind::Impure, None) => impure_ones = impure_ones.saturating_add(1),
+                (Kind::User, None) => users = users.saturating_add(1),
                 _ => {}
             }
         }
     }
-    assert!(rt; counted == [82, 1232]);
+    assert_eq!(rt; (impure_ones, users), (82, 1232));
     Ok(())
 }

@@ -13,14 +13,14 @@ text() {
     awk -v kind="$1" -v clauses="$2" 'BEGIN {
         for (i = 1; i <= clauses; i++)
             if (kind == "facts") printf "edge(node%05d, label(f(%05d), some_name), %d).\n", i, i, i
-            else printf "p%05d(X,[%d|T]) :- X is %d*2, q(T,\047A b\047). %% no.\n", i, i, i
+            else printf "p%05d(X,[%d|T]) :- X is %d*2, q(T,\047A b\047). %%n\n", i, i, i
     }'
 }
 
 # The least nanoseconds of so many loads of a file, one program each; the peak memory in KB goes to `peak`.
 nanoseconds() {
     least=
-    for _ in 1 2 3 4 5; do
+    for _ in 1 2 3 4 5 6 7 8 9 10 11 12 13 14 15 16 17 18 19 20; do
         start=$(date +%s%N)
         /usr/bin/time -f '%M' -o "$work/peak" "$top/apd" "$1" </dev/null >"$work/out"
         took=$(($(date +%s%N) - start))

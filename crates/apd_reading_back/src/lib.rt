@@ -1,7 +1,7 @@
 //! The law of reading back: what `apd_write` writes of a term is read by `apd_token` and `apd_read`
 //! as that term.
 //!
-//! The law is the contract of [`reading_back`]; no code here runs.
+//! The law is the contract of [`reading_back`]; no code here runs but the tests.
 #![tactic(auto)]
 
 ghost use Rattle.std.specs.Prelude.{ℕ, List, ◌++◌, Result};
@@ -13,6 +13,9 @@ ghost use Rattle.apd_token.specs.declared.items.Token.{Token};
 ghost use Rattle.apd_token.specs.Grammar.{HasTokens};
 ghost use Rattle.apd_read.specs.Reader.{IsRead};
 ghost use Rattle.apd_reading_back.specs.Law.{AreNames, IsReadable, clause_text, ReadsBack, IsTermRead};
+
+#[cfg(test)]
+mod tests;
 
 /// The law of reading back. The text of a term as a clause, by a table of operators, has tokens,
 /// which read by the same table as the term, and as nothing else.

@@ -4,6 +4,7 @@ pub mod Printing
 pub mod Passing
 pub mod Running
 pub mod Turning
+pub mod Statuses
 pub mod Worlds
 pub mod Loading
 pub mod Causing

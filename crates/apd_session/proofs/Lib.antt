@@ -9,3 +9,4 @@ pub mod Worlds
 pub mod Loading
 pub mod Causing
 pub mod Commanding
+pub mod Readers

@@ -83,6 +83,11 @@ ended_read ending.Done is = absurd (cc)
 ended_read ending.ReadFault is = refl
 ended_read ending.InputLimit is = absurd (cc)
 
+pub ended_over : (e : Ending) → status_after e ≡ statuses.InputLimit → e ≡ ending.InputLimit
+ended_over ending.Done is = absurd (cc)
+ended_over ending.ReadFault is = absurd (cc)
+ended_over ending.InputLimit is = refl
+
 pub ended_no_write : (e : Ending) → status_after e ≡ statuses.WriteFault → ⊥
 ended_no_write ending.Done is = absurd (cc)
 ended_no_write ending.ReadFault is = absurd (cc)

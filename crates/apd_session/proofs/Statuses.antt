@@ -45,7 +45,7 @@ status_is false AtEnd = refl
 status_is false AtFault = refl
 status_is false AtLimit = refl
 
-replies_end : (names : List (List ℕ)) (reader : Reader names) (ops : Table) (s : State) (input : List ℕ) (ends : InputEnd) →
+pub replies_end : (names : List (List ℕ)) (reader : Reader names) (ops : Table) (s : State) (input : List ℕ) (ends : InputEnd) →
     status_after (replies (talker reader ops) s 16777216 input ends).ending ≡ status_of_heard reader ops (hear 16777216 input ends)
 unfolding replies
 replies_end names reader ops s input ends =

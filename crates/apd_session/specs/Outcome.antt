@@ -1,5 +1,5 @@
 -- What a session met outside, and what it said.
-use Rattle.std.specs.Prelude.{ℕ, ◌≡◌, ◌⊎◌, List, [], Option, None, Some, ⊤, IfSome, Result, IsErrOf, ◌≤◌}
+use Rattle.std.specs.Prelude.{ℕ, ◌≡◌, ◌⊎◌, List, [], length, Option, None, Some, ⊤, IfSome, Result, IsErrOf, ◌≤◌}
 use Rattle.apd_io.specs.Outside.{Rose, Takes}
 use Rattle.apd_console.specs.Lines.{InputEnd, Fails}
 use Rattle.apd_console.specs.Outcome.{IsGiven, IsTaken, SomeInput}
@@ -29,6 +29,12 @@ pub record IsMet (words : List (List ℕ)) (content : List ℕ → Option (List 
   pub given : IsGiven left world.input world.ends
   pub fails : world.ends ≡ Fails → read_failed
   pub taken : IsTaken left left_now world.input world.ends
+
+-- just so many bytes were taken, where they are told
+pub record TakesCount (count : ℕ) (left left_now : Option (List ℕ)) : Type 0 where
+  pub bytes : List ℕ
+  pub takes : Takes left left_now bytes
+  pub count_is : length bytes ≡ count
 
 -- no load, no read and no write failed
 abbrev pub NoneFails : Type 0 → Type 0 → Type 0 → Type 0

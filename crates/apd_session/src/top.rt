@@ -12,7 +12,7 @@ ghost use Rattle.apd_term.specs.StandardNames.{standard_names};
 ghost use Rattle.apd_text.specs.Named.{EntryIsNamed};
 ghost use Rattle.apd_term.specs.Growth.{Grown, GrowsBy};
 ghost use Rattle.apd_session.specs.Causes.{EndsInTime, FileHas, IsLoadable};
-ghost use Rattle.apd_session.specs.Outcome.{Answers, IsSaid, IsWhole, Meets, NoneFails};
+ghost use Rattle.apd_session.specs.Outcome.{Answers, IsSaid, IsWhole, Meets, NoneFails, TakesCount};
 ghost use Rattle.apd_session.specs.Running.{IsReady};
 ghost use Rattle.apd_session.specs.Session.{Gives, after_load, most_names, session_of, tells};
 ghost use Rattle.apd_session.specs.Steps.{begun, load_said, talker};
@@ -106,6 +106,7 @@ fn talk<S: Source, K: Sink>(
     ensures answers { (names : List (List ℕ)) → Grown log.new.names names → (reader : Reader names) (options : Options) → options ≡ record { program = asked.entry.program.now; budget = asked.entry.budget; answers = asked.entry.answers; filter = asked.entry.filter } →
         Answers (S.left input.old) (S.left input.new) (Rose (S.faults input.old) (S.faults input.new)) (λ input ends. after_load reader options input ends (program_of reader text.now)) result log.new (K.held out.old) (K.held out.new) }
     ensures names { GrowsBy most_names log.old.names log.new.names }
+    ensures limit { result ≡ Status.InputLimit → TakesCount 16777216 (S.left input.old) (S.left input.new) }
     ensures read { result ≡ Status.ReadFault → Rose (S.faults input.old) (S.faults input.new) }
     ensures write { result ≡ Status.WriteFault → Rose (K.faults out.old) (K.faults out.new) }
 {
@@ -165,6 +166,7 @@ fn serve_file<F: Files, S: Source, K: Sink>(
         (names : List (List ℕ)) → Grown log.new.names names → (reader : Reader names) → Meets words reader (F.content files.old) (S.left input.old) (S.left input.new)
         (Rose (F.faults files.old) (F.faults files.new)) (Rose (S.faults input.old) (S.faults input.new)) result log.new (K.held out.old) (K.held out.new) }
     ensures names { GrowsBy most_names log.old.names log.new.names }
+    ensures limit { result ≡ Status.InputLimit → TakesCount 16777216 (S.left input.old) (S.left input.new) }
     ensures read { result ≡ Status.ReadFault → Rose (F.faults files.old) (F.faults files.new) ⊎ Rose (S.faults input.old) (S.faults input.new) }
     ensures write { result ≡ Status.WriteFault → Rose (K.faults out.old) (K.faults out.new) }
 {
@@ -194,6 +196,7 @@ fn serve<F: Files, S: Source, K: Sink>(
     ensures meaning { (names : List (List ℕ)) → Grown log.new.names names → (reader : Reader names) → Meets (bytes_of words.now) reader (F.content files.old) (S.left input.old) (S.left input.new)
         (Rose (F.faults files.old) (F.faults files.new)) (Rose (S.faults input.old) (S.faults input.new)) result log.new (K.held out.old) (K.held out.new) }
     ensures names { GrowsBy most_names log.old.names log.new.names }
+    ensures limit { result ≡ Status.InputLimit → TakesCount 16777216 (S.left input.old) (S.left input.new) }
     ensures read { result ≡ Status.ReadFault → Rose (F.faults files.old) (F.faults files.new) ⊎ Rose (S.faults input.old) (S.faults input.new) }
     ensures write { result ≡ Status.WriteFault → Rose (K.faults out.old) (K.faults out.new) }
 {
@@ -230,16 +233,20 @@ pub fn session<F: Files, S: Source, K: Sink>(
     // Whatever names are kept later, and whatever reader gives what the definitions of reading have under them, there is a
     // world, which is what the objects tell where they tell it, fails only where a count rose, and whose input begins with
     // the bytes that were taken: at most 16,777,216, all of it where a read failed, and none where what is said doesn't
-    // depend on the input. The log has the entries that the definition gives for this world, and the status is its status,
-    // or, after a write fault or want of memory, the front of these entries. The sink gained the texts of the log; there,
-    // the last of them perhaps without its end. The log's operators are those that the program of this world has left, the
-    // standard ones where none was loaded; where memory ran out, perhaps still the standard ones. The status is the one that
-    // the first cause met in this world calls for, where no write failed and memory sufficed.
+    // depend on the input. They are taken by blocks of up to 8,192, so how many behind a line that quits isn't said.
+    // The log has the entries that the definition gives for this world, and the status is its status, or, after a write fault
+    // or want of memory, the front of these entries. The sink gained the texts of the log; there, the last of them perhaps
+    // without its end. The log's operators are those that the program of this world has left, the standard ones where none
+    // was loaded; where memory ran out, perhaps still the standard ones. The status is the one that the first cause met in
+    // this world calls for, where no write failed and memory sufficed.
     ensures meaning { (names : List (List ℕ)) → Grown log.new.names names → (reader : Reader names) → Meets (bytes_of words.now) reader (F.content files.old) (S.left input.old) (S.left input.new)
         (Rose (F.faults files.old) (F.faults files.new)) (Rose (S.faults input.old) (S.faults input.new)) result log.new (K.held out.old) (K.held out.new) }
 
-    // Names are only added at the end, at most one for each byte that was read.
+    // Names are only added at the end, at most as many as bytes may be read.
     ensures names { GrowsBy most_names log.old.names log.new.names }
+
+    // At the limit of the input just as many bytes were taken as may be, where they are told.
+    ensures limit { result ≡ Status.InputLimit → TakesCount 16777216 (S.left input.old) (S.left input.new) }
 
     // A fault is answered only where a count rose in this call.
     ensures read { result ≡ Status.ReadFault → Rose (F.faults files.old) (F.faults files.new) ⊎ Rose (S.faults input.old) (S.faults input.new) }

@@ -7,7 +7,8 @@ use Rattle.apd_term.specs.Growth.{Grown, GrowsBy}
 use Rattle.apd_session.specs.Outcome.{IsSaid}
 use Rattle.apd_session.specs.Session.{after_load, most_names, tells}
 use Rattle.apd_session.specs.declared.status.Status.TheVariants as statuses
-use Rattle.apd_session.proofs.Loading.{loaded_ended, loaded_broken, ended_read, broken_write, said_now, grew_after, grew_by, grew_first}
+use Rattle.apd_session.proofs.Limit.{takes_limit}
+use Rattle.apd_session.proofs.Loading.{loaded_ended, loaded_broken, ended_over, ended_read, broken_write, said_now, grew_after, grew_by, grew_first}
 use Rattle.apd_session.proofs.Turning.{Grown-length, Grown-self, Grown-more}
 use Rattle.apd_session.proofs.Worlds.{unread, unread_front}
 use Rattle.apd_session.proofs.top.talk.Goals as goal
@@ -91,3 +92,11 @@ returns-in-Ok-begin-clause-names g c = grew_after _ _ _ _ _ c.in-Ok-new.console 
 
 pub returns-clause-names : goal.returns-clause-names
 returns-clause-names g c = grew_after _ _ _ _ _ c.in-Ok-new.console c.begin.new.console c.requires.size c.bytes.ensures c.load.ensures.grows c.begin.ensures.names c.in-Ok-new.ensures c.begin.ensures.room
+
+pub returns-in-Ok-begin-clause-limit : goal.returns-in-Ok-begin-clause-limit
+returns-in-Ok-begin-clause-limit g c = λ is.
+    let names : List (List ℕ) = c.begin.new.log.names in
+    let some : Reader names = every_reader names in
+    let ends = c.in-Ok-begin.ensures.talk names (Grown-self names) some in
+    takes_limit names some c.in-Ok.loaded.ops _ _ c.in-Ok-new.console c.begin.new.console _ _ _ _ _ _ _ _ c.args.log.now.entries.list c.begin.new.log.entries.list c.in-Ok-new.ensures c.begin.ensures.sound
+    (rw (ended_over c.in-Ok-begin.ending (sym c.status_after.ensures ∙ is)) at ends)

@@ -10,3 +10,4 @@ pub mod Defining
 pub mod Causes
 pub mod Tables
 pub mod Making
+pub mod Leaving

@@ -7,6 +7,7 @@ mod facts;
 mod faults;
 mod limits;
 mod rules;
+mod syntax;
 mod texts;
 mod words;
 

@@ -1,8 +1,6 @@
-mod plain;
-mod words;
 mod written;
 
-use crate::tests::written::{difference, first_read, nested};
+use crate::tests::written::{first_read, nested};
 use apd_ops::{OpKind, Ops};
 use apd_term::standard::{MINUS, PLUS, TRUE};
 use std::alloc::{AllocError, Global};
@@ -224,26 +222,6 @@ fn tells_each_fault_at_its_byte(rt: HostRuntime) -> Result<(), Fail> {
     for (text, want) in faults() {
         let got = first_read(rt.alloc(), &ops, text)?;
         assert!(rt; got.as_str() == *want, "{text}: {got}");
-    }
-    Ok(())
-}
-
-#[test]
-fn reads_terms_as_the_plain_program(rt: HostRuntime) -> Result<(), Fail> {
-    let ops = Ops::standard(rt.alloc())?;
-    for (text, _) in readings() {
-        let apart = difference(rt.alloc(), &ops, text)?;
-        assert!(rt; apart.is_empty(), "{text}: {apart}");
-    }
-    Ok(())
-}
-
-#[test]
-fn tells_faults_as_the_plain_program(rt: HostRuntime) -> Result<(), Fail> {
-    let ops = Ops::standard(rt.alloc())?;
-    for (text, _) in faults() {
-        let apart = difference(rt.alloc(), &ops, text)?;
-        assert!(rt; apart.is_empty(), "{text}: {apart}");
     }
     Ok(())
 }

@@ -1,7 +1,6 @@
 //! Terms in functional notation, and texts with a part that is repeated.
 
 use crate::read_clause;
-use crate::tests::plain::plain_read;
 use apd_ops::Ops;
 use apd_term::standard::COMMA;
 use apd_term::{Names, Sym};
@@ -90,27 +89,4 @@ pub fn nested(
         text.push_str(back)?;
     }
     Ok(text)
-}
-
-/// The first clause of a text as the plain program reads it.
-fn plainly_read(alloc: Global, ops: &Ops, text: &str) -> Result<String, AllocError> {
-    let text = text.as_bytes();
-    let mut names = Names::standard(alloc)?;
-    if text.len() > 1_048_576 {
-        return Ok(String::new(alloc));
-    }
-    match tokens(alloc, text) {
-        Err(fault) => format!(in alloc; "{fault:?}"),
-        Ok(tokens) => plain_read(alloc, ops, &mut names, text, &tokens),
-    }
-}
-
-/// How the two readings of a text differ; nothing where they don't.
-pub fn difference(alloc: Global, ops: &Ops, text: &str) -> Result<String, AllocError> {
-    let read = first_read(alloc, ops, text)?;
-    let plain = plainly_read(alloc, ops, text)?;
-    if read == plain {
-        return Ok(String::new(alloc));
-    }
-    format!(in alloc; "{read}, but plainly {plain}")
 }

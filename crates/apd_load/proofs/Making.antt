@@ -1,6 +1,7 @@
 -- A text makes one thing, which each reader gives.
-use Rattle.std.proofs.Common.{◌≡◌, ℕ, ◌+◌, ◌<◌, ◌≤◌, zero, suc, nat_lt, Bool, true, false, List, length, Result, Ok, Err, if◌then◌else◌, refl, ◌∙◌, ap, arith}
+use Rattle.std.proofs.Common.{◌≡◌, ℕ, ◌+◌, ◌<◌, ◌≤◌, zero, suc, nat_lt, Bool, true, false, List, length, Result, Ok, Err, if◌then◌else◌, refl, subst, ◌∙◌, ap, arith}
 use borrow.Author.Tests.{ltb-true, ltb-false}
+use Rattle.apd_term.specs.Growth.{Grown}
 use Rattle.apd_term.specs.declared.reading.Read.{Read}
 use Rattle.apd_term.specs.declared.faults.LoadCause.{LoadCause}
 use Rattle.apd_term.specs.declared.faults.ReadFault.{ReadFault}
@@ -13,6 +14,7 @@ use Rattle.apd_ops.specs.Table.{IsTable}
 use Rattle.apd_ops.proofs.StandardTable.{standard_is_table}
 use Rattle.apd_read.specs.Answer.{HasReading}
 use Rattle.apd_read.specs.Reader.{IsRead, Reader}
+use Rattle.apd_read.proofs.Every.{every_reader}
 use Rattle.apd_read.proofs.Unique.{one_answer}
 use Rattle.apd_read.proofs.Weights.{filled_some}
 use Rattle.apd_load.specs.Lines.{line_at}
@@ -103,3 +105,8 @@ module _ (names : List (List ℕ)) (reader : Reader names) (text : List ℕ) whe
 -- two readers give the same program
 pub one_program : (names : List (List ℕ)) (r s : Reader names) (text : List ℕ) → program_of r text ≡ program_of s text
 one_program names r s text = only names r text (program_of s text) (makes names s text)
+
+-- what each reader gives under later names is what the text makes under them
+pub makes_later : (names : List (List ℕ)) (text : List ℕ) (result : Loads) → ((n : List (List ℕ)) → Grown names n → (reader : Reader n) → program_of reader text ≡ result)
+    → (n : List (List ℕ)) → Grown names n → Makes n text result
+makes_later names text result is n grown = subst (λ (r : Loads). Makes n text r) (is n grown (every_reader n)) (makes n (every_reader n) text)

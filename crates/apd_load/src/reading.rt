@@ -10,6 +10,7 @@ ghost use Rattle.apd_read.specs.Reader.{Reader};
 ghost use Rattle.apd_clauses.specs.Clauses.{tuples_of};
 ghost use Rattle.apd_load.specs.Program.{place_of_fault, place_of_token_fault, at_first, all_loaded, program_of, loads, refused};
 ghost use Rattle.apd_load.specs.Steps.{told_of, IsLoaded, LoadTextIsNamed, LoadingIsNamed};
+ghost use Rattle.apd_load.specs.Texts.{Makes};
 ghost use Rattle.apd_load.specs.Warnings.{NotesAreNamed, warnings_of};
 
 use crate::loading::Loading;
@@ -146,8 +147,8 @@ pub fn load(alloc: Global, text: &[u8], names: &mut Names) -> Result<Loaded, Loa
     requires room { length names.old + length text.now < 4000000000 }
     requires size { length text.now ≤ 1048576 }
     ensures grows { GrowsBy (length text.now) names.old names.new }
-    ensures loaded { IfOk result (λ l. (n : List (List ℕ)) → Grown names.new n → (reader : Reader n) → program_of reader text.now ≡ loads (record { program = l.program; ops = l.ops; passed = l.passed })) }
-    ensures refused { (line : ℕ) (cause : LoadCause) → result ≡ Err (LoadText.Refused line cause) → (n : List (List ℕ)) → Grown names.new n → (reader : Reader n) → program_of reader text.now ≡ refused line cause }
+    ensures loaded { IfOk result (λ l. (n : List (List ℕ)) → Grown names.new n → Makes n text.now (loads (record { program = l.program; ops = l.ops; passed = l.passed }))) }
+    ensures refused { (line : ℕ) (cause : LoadCause) → result ≡ Err (LoadText.Refused line cause) → (n : List (List ℕ)) → Grown names.new n → Makes n text.now (refused line cause) }
     ensures cause { length standard_names ≤ length names.old → IfErr result (LoadTextIsNamed (length names.new)) }
     ensures named { length standard_names ≤ length names.old → IfOk result (λ l. AllTuplesNamed (length names.new) (tuples_of l.program)) }
     ensures passed { length standard_names ≤ length names.old → IfOk result (λ l. NotesAreNamed (length names.new) l.passed) }

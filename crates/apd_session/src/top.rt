@@ -216,8 +216,8 @@ fn serve<F: Files, S: Source, K: Sink>(
 /// `--answers N` and `--trace`, with N from 1 to 1,000,000 in at most 7 digits. Without a budget a run shows at most 100,000
 /// ports, and without a limit on answers 1,000,000; the ports are printed where `--trace` is given. The log's entries
 /// are what was said, and the sink has their texts. The status tells how the session ended;
-/// [`Status::ReadFault`] where a load or a read failed, [`Status::WriteFault`] where a write failed,
-/// and [`Status::Memory`] where there was no memory.
+/// [`Status::ReadFault`] only where a load or a read failed, [`Status::WriteFault`] only where a write
+/// failed, and [`Status::Memory`] where there was no memory.
 pub fn session<F: Files, S: Source, K: Sink>(
     alloc: Global,
     words: &[String],

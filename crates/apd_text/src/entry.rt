@@ -60,6 +60,6 @@ pub enum Entry {
     },
     /// A read of a file or of the input failed.
     InputFault,
-    /// The input has more bytes than are taken.
+    /// As many bytes of the input were taken as may be, and another was needed.
     InputOver,
 }

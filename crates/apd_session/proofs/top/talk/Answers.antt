@@ -1,5 +1,6 @@
 use Rattle.std.proofs.Common.{◌≡◌, ◌∙◌, sym, ap, refl, subst, arith, List, ℕ, Err, inl, inr}
 use Rattle.apd_load.specs.Program.{Loads, loads, refused, program_of}
+use Rattle.apd_load.proofs.Making.{only}
 use Rattle.apd_text.specs.declared.entry.Entry.TheVariants as entries
 use Rattle.apd_read.specs.Reader.{Reader}
 use Rattle.apd_read.proofs.Every.{every_reader}
@@ -20,7 +21,7 @@ pub returns-in-Err-Refused-clause-answers : goal.returns-in-Err-Refused-clause-a
 returns-in-Err-Refused-clause-answers g c = λ names grew reader options is.
     let grown : Grown c.load.new.names names = subst (λ (l : List (List ℕ)). Grown l names) c.end_with.ensures.names grew in
     let refuses : program_of reader c.args.text.now ≡ refused c.in-Err-Refused.line c.in-Err-Refused.cause =
-    rw (← c.bytes.ensures) (c.load.ensures.refused c.in-Err-Refused.line c.in-Err-Refused.cause (c.in-Err-Refused.is ∙ ap Err c.in-Err-Refused.field-0-is) names grown reader) in
+    rw (← c.bytes.ensures) (only names reader _ _ (c.load.ensures.refused c.in-Err-Refused.line c.in-Err-Refused.cause (c.in-Err-Refused.is ∙ ap Err c.in-Err-Refused.field-0-is) names grown)) in
     let said : IsSaid c.end_with.result (tells names (entries.ProgramRefused c.in-Err-Refused.line c.in-Err-Refused.cause) statuses.Program) c.end_with.new.log (g.K.Sink.held c.args.out.now) (g.K.Sink.held c.end_with.new.out) =
     said_now _ _ names _ statuses.Program _ _ _ _ c.end_with.ensures.names grew c.end_with.ensures.said in
     unread _ _ _ _ (λ input ends. after_load reader options input ends (program_of reader c.args.text.now)) _ _ (tells names (entries.ProgramRefused c.in-Err-Refused.line c.in-Err-Refused.cause) statuses.Program)
@@ -32,7 +33,7 @@ returns-in-Err-Memory-clause-answers g c = λ names grew reader options is. unre
 pub returns-in_default-clause-answers : goal.returns-in_default-clause-answers
 returns-in_default-clause-answers g c = λ names grew reader options is.
     let reads : program_of reader c.args.text.now ≡ loads record { program = c.in-Ok.loaded.program; ops = c.in-Ok.loaded.ops; passed = c.in-Ok.loaded.passed } =
-    rw (← c.bytes.ensures) (c.in-Ok.ensures.loaded names grew reader) in
+    rw (← c.bytes.ensures) (only names reader _ _ (c.in-Ok.ensures.loaded names grew)) in
     unread_front _ _ _ (λ input ends. after_load reader options input ends (program_of reader c.args.text.now)) record { names = c.load.new.names; ops = c.in-Ok.loaded.ops; entries = c.args.log.now.entries } c.requires.empty (λ input ends. inl (rw reads refl))
 
 pub begin-requires-clause-ready : goal.begin-requires-clause-ready
@@ -51,7 +52,7 @@ pub returns-in-Ok-begin-clause-answers : goal.returns-in-Ok-begin-clause-answers
 returns-in-Ok-begin-clause-answers g c = λ names grew reader options is.
     let grown : Grown c.load.new.names names = Grown-more c.load.new.names c.begin.new.log.names names c.begin.ensures.names grew in
     let reads : program_of reader c.args.text.now ≡ loads record { program = c.in-Ok.loaded.program; ops = c.in-Ok.loaded.ops; passed = c.as_slice.result.now } =
-    rw (← c.bytes.ensures, c.as_slice.ensures) (c.in-Ok.ensures.loaded names grown reader) in
+    rw (← c.bytes.ensures, c.as_slice.ensures) (only names reader _ _ (c.in-Ok.ensures.loaded names grown)) in
     rw c.status_after.ensures
     (loaded_ended names reader options c.args.text.now c.in-Ok.loaded.program c.in-Ok.loaded.ops c.as_slice.result.now reads _ (rw is refl) c.in-Ok-new.console c.begin.new.console c.in-Ok-new.ensures c.begin.ensures.sound
     c.args.log.now c.begin.new.log c.requires.empty c.begin.ensures.ops _ _ _ _ _ _ _ _ c.in-Ok-begin.ending (c.in-Ok-begin.ensures.talk names grew reader))
@@ -66,7 +67,7 @@ pub returns-clause-answers : goal.returns-clause-answers
 returns-clause-answers g c = λ names grew reader options is.
     let grown : Grown c.load.new.names names = Grown-more c.load.new.names c.begin.new.log.names names c.begin.ensures.names grew in
     let reads : program_of reader c.args.text.now ≡ loads record { program = c.in-Ok.loaded.program; ops = c.in-Ok.loaded.ops; passed = c.as_slice.result.now } =
-    rw (← c.bytes.ensures, c.as_slice.ensures) (c.in-Ok.ensures.loaded names grown reader) in
+    rw (← c.bytes.ensures, c.as_slice.ensures) (only names reader _ _ (c.in-Ok.ensures.loaded names grown)) in
     rw c.status_of.ensures
     (loaded_broken names reader options c.args.text.now c.in-Ok.loaded.program c.in-Ok.loaded.ops c.as_slice.result.now reads _ (rw is refl) c.in-Ok-new.console c.begin.new.console c.in-Ok-new.ensures c.begin.ensures.sound
     c.args.log.now c.begin.new.log c.requires.empty c.begin.ensures.ops _ _ _ _ _ _ _ _ c.in-Err.trouble (c.in-Err.ensures.talk names grew reader))

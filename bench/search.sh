@@ -88,7 +88,7 @@ for kind in queens colours; do
     [ "$cost" -le $((first * 3 / 2)) ] || failed=1
 done
 for kind in count hanoi reverse30 reverse100; do
-    for budget in 1000 10000 100000; do
+    for budget in 1000 10000 30000; do
         took=$(nanoseconds $kind $budget)
         awk -v kind=$kind -v took="$took" -v end="$(cat "$work/end")" -v peak="$(cat "$work/peak")" 'BEGIN {
             printf "%s: %s, %.3f s, %s KB\n", kind, end, took / 1e9, peak

@@ -66,7 +66,7 @@ two_arguments (x ∷ y ∷ z ∷ ts) a b l p q = absurd (omega arith)
 
 -- an answer to whether a goal is true
 pub record IsAnswer (goal : Builtin) (ts : List Term) (found : Option Bool) : Type 0 where
-  pub none : IsNone found ↔ FaultsInGoal goal ts
+  pub none : IsNone found ↔ ((fault : ArithFault) × FaultsInGoal goal ts fault)
   pub some : IfSome found (λ holds. IsTrue holds ↔ IsTrueGoal goal ts)
 
 -- the answer, by what was found
@@ -74,16 +74,16 @@ answered : (goal : Builtin) (ts : List Term) (r : Result Bool ArithFault) → (r
 answered goal ts (Ok b) h found e =
     let k : IsFound goal ts (Ok b) = h (λ q. (cc)) in
     let q : Some b ≡ found = cc in
-    subst (IsAnswer goal ts) q (record { none = (λ n. absurd (true≢false n), λ f. absurd (k.1 f)); some = k.0 })
+    subst (IsAnswer goal ts) q (record { none = (λ n. absurd (true≢false n), λ f. absurd (k.1 f.0 f.1)); some = k.0 })
 answered goal ts (Err Memory) h found e = absurd (cc)
 answered goal ts (Err Unbound) h found e =
-    let q : None ≡ found = cc in subst (IsAnswer goal ts) q (record { none = (λ _. h (λ q. (cc)), λ _. refl); some = tt })
+    let q : None ≡ found = cc in subst (IsAnswer goal ts) q (record { none = (λ _. (Unbound, h (λ q. (cc))), λ _. refl); some = tt })
 answered goal ts (Err NotEvaluable) h found e =
-    let q : None ≡ found = cc in subst (IsAnswer goal ts) q (record { none = (λ _. h (λ q. (cc)), λ _. refl); some = tt })
+    let q : None ≡ found = cc in subst (IsAnswer goal ts) q (record { none = (λ _. (NotEvaluable, h (λ q. (cc))), λ _. refl); some = tt })
 answered goal ts (Err Overflow) h found e =
-    let q : None ≡ found = cc in subst (IsAnswer goal ts) q (record { none = (λ _. h (λ q. (cc)), λ _. refl); some = tt })
+    let q : None ≡ found = cc in subst (IsAnswer goal ts) q (record { none = (λ _. (Overflow, h (λ q. (cc))), λ _. refl); some = tt })
 answered goal ts (Err ZeroDivisor) h found e =
-    let q : None ≡ found = cc in subst (IsAnswer goal ts) q (record { none = (λ _. h (λ q. (cc)), λ _. refl); some = tt })
+    let q : None ≡ found = cc in subst (IsAnswer goal ts) q (record { none = (λ _. (ZeroDivisor, h (λ q. (cc))), λ _. refl); some = tt })
 
 -- what an answer says of an atom
 pub record IsAnswerOf (t : Term) (found : Option Bool) : Type 0 where

@@ -1,5 +1,5 @@
--- When an atom of a built-in goal is true, and when its evaluation faults: of atoms without variables.
-use Rattle.std.specs.Prelude.{◌≡◌, ◌↔◌, ℤ, int_lt, int_le, Bool, true, not, IsTrue, List, [], ◌∷◌, Option, Some, None, Result, Ok, Err, IsErr, alloc_error}
+-- When an atom of a built-in goal is true, where it has no variables, and which fault its evaluation has.
+use Rattle.std.specs.Prelude.{◌≡◌, ◌↔◌, ℤ, int_lt, int_le, Bool, true, not, IsTrue, List, [], ◌∷◌, Option, Some, None, Result, Ok, Err, alloc_error}
 use Rattle.std.specs.declared.alloc.AllocError.{AllocError}
 use Rattle.std.specs.Ordering.{int_eq}
 use Rattle.apd_term.specs.Term.{Term, integer, arguments}
@@ -31,9 +31,9 @@ compared comparison (Ok x) (Ok y) = Ok (compares comparison x y)
 abbrev pub IsTrueComparison : Comparison → Term → Term → Type 0
 IsTrueComparison comparison a b = compared comparison (value a) (value b) ≡ Ok true
 
--- one of the two expressions has no value
-abbrev pub FaultsInComparison : Comparison → Term → Term → Type 0
-FaultsInComparison comparison a b = IsErr (compared comparison (value a) (value b))
+-- the first fault of the two expressions is this one
+abbrev pub FaultsInComparison : Comparison → Term → Term → ArithFault → Type 0
+FaultsInComparison comparison a b fault = compared comparison (value a) (value b) ≡ Err fault
 
 -- a goal with these arguments, which have no variables, is true
 abbrev pub IsTrueGoal : Builtin → List Term → Type 0
@@ -48,37 +48,41 @@ IsTrueGoal goals.Greater (a ∷ b ∷ []) = IsTrueComparison Greater a b
 IsTrueGoal goals.GreaterEqual (a ∷ b ∷ []) = IsTrueComparison GreaterEqual a b
 IsTrueGoal _ _ = ⊥
 
--- the evaluation of a goal with these arguments faults
-abbrev pub FaultsInGoal : Builtin → List Term → Type 0
-FaultsInGoal goals.Is (a ∷ e ∷ []) = IsErr (value e)
-FaultsInGoal goals.Equal (a ∷ b ∷ []) = FaultsInComparison Equal a b
-FaultsInGoal goals.Different (a ∷ b ∷ []) = FaultsInComparison Different a b
-FaultsInGoal goals.Less (a ∷ b ∷ []) = FaultsInComparison Less a b
-FaultsInGoal goals.LessEqual (a ∷ b ∷ []) = FaultsInComparison LessEqual a b
-FaultsInGoal goals.Greater (a ∷ b ∷ []) = FaultsInComparison Greater a b
-FaultsInGoal goals.GreaterEqual (a ∷ b ∷ []) = FaultsInComparison GreaterEqual a b
-FaultsInGoal _ _ = ⊥
+-- the first fault in the evaluation of a goal with these arguments is this one
+abbrev pub FaultsInGoal : Builtin → List Term → ArithFault → Type 0
+FaultsInGoal goals.Is (a ∷ e ∷ []) fault = value e ≡ Err fault
+FaultsInGoal goals.Equal (a ∷ b ∷ []) fault = FaultsInComparison Equal a b fault
+FaultsInGoal goals.Different (a ∷ b ∷ []) fault = FaultsInComparison Different a b fault
+FaultsInGoal goals.Less (a ∷ b ∷ []) fault = FaultsInComparison Less a b fault
+FaultsInGoal goals.LessEqual (a ∷ b ∷ []) fault = FaultsInComparison LessEqual a b fault
+FaultsInGoal goals.Greater (a ∷ b ∷ []) fault = FaultsInComparison Greater a b fault
+FaultsInGoal goals.GreaterEqual (a ∷ b ∷ []) fault = FaultsInComparison GreaterEqual a b fault
+FaultsInGoal _ _ fault = ⊥
 
 abbrev pub IsTrueBy : Option Builtin → List Term → Type 0
 IsTrueBy None ts = ⊥
 IsTrueBy (Some goal) ts = IsTrueGoal goal ts
 
-abbrev pub FaultsBy : Option Builtin → List Term → Type 0
-FaultsBy None ts = ⊥
-FaultsBy (Some goal) ts = FaultsInGoal goal ts
+abbrev pub FaultsBy : Option Builtin → List Term → ArithFault → Type 0
+FaultsBy None ts fault = ⊥
+FaultsBy (Some goal) ts fault = FaultsInGoal goal ts fault
 
 -- an atom of a built-in goal, without variables, is true
 abbrev pub IsTrueAtom : Term → Type 0
 IsTrueAtom t = IsTrueBy (builtin_of_atom t) (arguments t)
 
--- the evaluation of an atom of a built-in goal faults
-abbrev pub Faults : Term → Type 0
-Faults t = FaultsBy (builtin_of_atom t) (arguments t)
+-- the first fault in the evaluation of an atom of a built-in goal is this one
+abbrev pub FaultsWith : Term → ArithFault → Type 0
+FaultsWith t fault = FaultsBy (builtin_of_atom t) (arguments t) fault
 
--- what is found of a goal with these arguments: whether it is true, or that its evaluation faults
+-- the evaluation of an atom of a built-in goal has a fault
+abbrev pub Faults : Term → Type 0
+Faults t = (fault : ArithFault) × FaultsWith t fault
+
+-- what is found of a goal with these arguments: whether it is true, or the first fault of its evaluation
 abbrev pub IsFound : Builtin → List Term → Result Bool ArithFault → Type 0
-IsFound goal ts (Err fault) = FaultsInGoal goal ts
-IsFound goal ts (Ok b) = (IsTrue b ↔ IsTrueGoal goal ts) × ¬ FaultsInGoal goal ts
+IsFound goal ts (Err fault) = FaultsInGoal goal ts fault
+IsFound goal ts (Ok b) = (IsTrue b ↔ IsTrueGoal goal ts) × ((fault : ArithFault) → ¬ FaultsInGoal goal ts fault)
 
 -- none in place of a fault, unless it is want of memory
 abbrev pub unless_fault : Result Bool ArithFault → Result (Option Bool) AllocError

@@ -1,9 +1,9 @@
 -- The predicate that the cause of a refusal names is one of the term.
-use Rattle.std.proofs.Common.{◌≡◌, ◌==◌, ℕ, ◌<◌, ◌≤◌, Bool, true, false, List, [], ◌∷◌, ◌++◌, length, Option, Some, None, Result, Ok, Err, refl, sym, subst}
+use Rattle.std.proofs.Common.{◌≡◌, ◌==◌, ℕ, Bool, true, false, List, [], ◌∷◌, ◌++◌, length, Option, Some, None, Result, Ok, Err, refl, subst}
 use Rattle.std.specs.Prelude.{nat_le, if◌then◌else◌}
 use Rattle.apd_term.specs.Faults.{FaultIsNamed, CauseIsNamed}
 use Rattle.apd_term.specs.Named.{IsNamed}
-use Rattle.apd_term.specs.Term.{Term, Terms, variable, integer, compound, none, more}
+use Rattle.apd_term.specs.Term.{Term, variable, integer, compound, none, more}
 use Rattle.apd_term.specs.declared.faults.BodyFault.{BodyFault}
 use Rattle.apd_term.specs.declared.faults.BodyFault.TheVariants.{NotCallable}
 use Rattle.apd_term.specs.declared.faults.LoadCause.{LoadCause}

@@ -15,7 +15,7 @@ use Rattle.apd_load.specs.Steps.{Defines}
 use Rattle.apd_load.specs.Stops.{stop_of_op_fault}
 
 -- a priority that is in the range
-in_range : (t : Table) (p : ℕ) (k : OpKind) (f : NameId) → p ≤ 1200 → definition t (pos p) k f ≡ definition_by t p k f
+pub in_range : (t : Table) (p : ℕ) (k : OpKind) (f : NameId) → p ≤ 1200 → definition t (pos p) k f ≡ definition_by t p k f
 in_range t p k f le = ap (λ b. if b then definition_by t p k f else Err faults.BadPriority) (by (nat_le p 1200) refl)
   where
     by : (b : Bool) → nat_le p 1200 ≡ b → b ≡ true

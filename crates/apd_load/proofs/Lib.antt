@@ -8,3 +8,6 @@ pub mod Newlines
 pub mod Calling
 pub mod Defining
 pub mod Causes
+pub mod Tables
+pub mod Making
+pub mod Leaving

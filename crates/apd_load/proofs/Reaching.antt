@@ -52,12 +52,12 @@ abbrev pub all_wanted : List ℕ → List Token → (n : List (List ℕ)) → Re
 all_wanted text tokens n reader = all_loaded reader text tokens
 
 -- one more clause
-one_more : (n : List (List ℕ)) (reader : Reader n) (text : List ℕ) (tokens : List Token) (k at : ℕ) (s : Loading) → at < length tokens → length tokens ≤ at + k
+pub one_more : (n : List (List ℕ)) (reader : Reader n) (text : List ℕ) (tokens : List Token) (k at : ℕ) (s : Loading) → at < length tokens → length tokens ≤ at + k
     → (j : ℕ) × (length tokens ≤ at + 1 + j) × (loads_from reader text tokens k at s ≡ after_reading text s (reader.clause s.ops text tokens at) (loads_from reader text tokens j))
 one_more n reader text tokens zero at s lt few = absurd (omega arith)
 one_more n reader text tokens (suc j) at s lt few = (j, omega arith, rw (lt-ltb at (length tokens) lt) refl)
 
-no_more : (n : List (List ℕ)) (reader : Reader n) (text : List ℕ) (tokens : List Token) (k at : ℕ) (s : Loading) → length tokens ≤ at → loads_from reader text tokens k at s ≡ loads s
+pub no_more : (n : List (List ℕ)) (reader : Reader n) (text : List ℕ) (tokens : List Token) (k at : ℕ) (s : Loading) → length tokens ≤ at → loads_from reader text tokens k at s ≡ loads s
 no_more n reader text tokens zero at s le = refl
 no_more n reader text tokens (suc j) at s le = rw (le-ltb at (length tokens) le) refl
 

@@ -7,5 +7,6 @@ pub mod Listed
 pub mod Directives
 pub mod Terms
 pub mod Program
+pub mod Texts
 pub mod Warnings
 pub mod Calls

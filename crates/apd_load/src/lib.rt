@@ -2,6 +2,7 @@
 #![tactic(auto)]
 
 mod directives;
+mod laws;
 mod loading;
 mod op_terms;
 mod places;
@@ -15,6 +16,7 @@ use apd_ops::Ops;
 pub use apd_term::faults::LoadCause;
 use apd_term::list::ListOf;
 use apd_term::term::Pred;
+pub use laws::{every_text_makes_one_program, one_program};
 pub use reading::load;
 use std::alloc::AllocError;
 pub use warnings::query_warnings;

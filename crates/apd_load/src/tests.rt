@@ -1,3 +1,6 @@
+mod agreeing;
+mod plain;
+
 use crate::{LoadText, Loaded, Note, load, query_warnings};
 use apd_clauses::goals_of;
 use apd_ops::Ops;

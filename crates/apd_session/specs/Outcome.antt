@@ -1,14 +1,17 @@
 -- What a session met outside, and what it said.
-use Rattle.std.specs.Prelude.{ℕ, ◌≡◌, List, [], Option, None, Some, ⊤, IfSome, Result, IsErrOf, ◌≤◌}
+use Rattle.std.specs.Prelude.{ℕ, ◌≡◌, ◌⊎◌, List, [], length, Option, None, Some, ⊤, IfSome, Result, IsErrOf, ◌≤◌}
 use Rattle.apd_io.specs.Outside.{Rose, Takes}
 use Rattle.apd_console.specs.Lines.{InputEnd, Fails}
 use Rattle.apd_console.specs.Outcome.{IsGiven, IsTaken, SomeInput}
 use Rattle.apd_console.specs.Utterance.{Utters, UttersFront}
 use Rattle.apd_console.specs.declared.talk.Trouble.{Trouble}
 use Rattle.apd_console.specs.declared.talk.Trouble.TheVariants as trouble
-use Rattle.apd_text.specs.declared.entry.Entry.{Entry}
+use Rattle.apd_ops.specs.Standard.{standard_table}
+use Rattle.apd_read.specs.Reader.{Reader}
+use Rattle.apd_text.specs.declared.log.Log.{Log}
+use Rattle.apd_session.specs.Causes.{Comes, status_for}
 use Rattle.apd_session.specs.Steps.{begun}
-use Rattle.apd_session.specs.Session.{World, Loading, Gives, Breaks, Told}
+use Rattle.apd_session.specs.Session.{World, Loading, Gives, Breaks, Told, session_of}
 use Rattle.apd_words.specs.Words.{options_of}
 use Rattle.apd_session.specs.declared.status.Status.{Status}
 use Rattle.apd_session.specs.declared.status.Status.TheVariants.{WriteFault, Memory}
@@ -27,19 +30,31 @@ pub record IsMet (words : List (List ℕ)) (content : List ℕ → Option (List 
   pub fails : world.ends ≡ Fails → read_failed
   pub taken : IsTaken left left_now world.input world.ends
 
+-- just so many bytes were taken, where they are told
+pub record TakesCount (count : ℕ) (left left_now : Option (List ℕ)) : Type 0 where
+  pub bytes : List ℕ
+  pub takes : Takes left left_now bytes
+  pub count_is : length bytes ≡ count
+
 -- no load, no read and no write failed
 abbrev pub NoneFails : Type 0 → Type 0 → Type 0 → Type 0
 NoneFails load_failed read_failed write_failed = (¬ load_failed) × (¬ read_failed) × (¬ write_failed)
 
--- all was said and printed, and this is the status
-pub record IsWhole (status : Status) (told : Told) (log : List Entry) (held held_now : Option (List ℕ)) : Type 0 where
+-- all was said and printed, this is the status, and these operators are left
+pub record IsWhole (status : Status) (told : Told) (log : Log) (held held_now : Option (List ℕ)) : Type 0 where
   pub status_is : told.status ≡ status
-  pub says : Utters [] log held held_now told.utterances
+  pub ops_are : log.ops ≡ told.ops
+  pub says : Utters [] log.entries.list held held_now told.utterances
 
--- after a write fault or want of memory the front was said, and of that the front was printed
-abbrev pub IsSaid : Status → Told → List Entry → Option (List ℕ) → Option (List ℕ) → Type 0
-IsSaid WriteFault told log held held_now = UttersFront begun [] log held held_now told.utterances
-IsSaid Memory told log held held_now = UttersFront begun [] log held held_now told.utterances
+-- the front was said, and of that the front was printed
+abbrev pub IsFront : Told → Log → Option (List ℕ) → Option (List ℕ) → Type 0
+IsFront told log held held_now = UttersFront begun [] log.entries.list held held_now told.utterances
+
+-- after a write fault or want of memory the front was said; where memory ran out before a program was loaded, the operators are still
+-- the standard ones
+abbrev pub IsSaid : Status → Told → Log → Option (List ℕ) → Option (List ℕ) → Type 0
+IsSaid WriteFault told log held held_now = IsFront told log held held_now × (log.ops ≡ told.ops)
+IsSaid Memory told log held held_now = IsFront told log held held_now × ((log.ops ≡ told.ops) ⊎ (log.ops ≡ standard_table))
 IsSaid status told log held held_now = IsWhole status told log held held_now
 
 -- the same is told of every input
@@ -50,14 +65,17 @@ IsDeaf told = (input other : List ℕ) (ends end_of_other : InputEnd) → told i
 abbrev pub told_by_input : (World → Told) → World → List ℕ → InputEnd → Told
 told_by_input session world input ends = session record { program = world.program; input = input; ends = ends }
 
--- there is a world that is met, and what was said is what a session says in it; where that doesn't depend on the input, no byte was taken
-abbrev pub Meets : (World → Told) → List (List ℕ) → (List ℕ → Option (List ℕ)) → Option (List ℕ) → Option (List ℕ) → Type 0 → Type 0 → Status → List Entry → Option (List ℕ) → Option (List ℕ) → Type 0
-Meets session words content left left_now load_failed read_failed status log held held_now =
-    (world : World) × IsMet words content left left_now load_failed read_failed world × IsSaid status (session world) log held held_now
-    × (IsDeaf (told_by_input session world) → Takes left left_now [])
+-- there is a world that is met: what was said is what a session says in it, the status is the one that the first cause met in it calls
+-- for, and where what is said doesn't depend on the input, no byte was taken
+pub record Meets {names : List (List ℕ)} (words : List (List ℕ)) (reader : Reader names) (content : List ℕ → Option (List ℕ)) (left left_now : Option (List ℕ)) (load_failed read_failed : Type 0) (status : Status) (log : Log) (held held_now : Option (List ℕ)) : Type 0 where
+  pub world : World
+  pub met : IsMet words content left left_now load_failed read_failed world
+  pub said : IsSaid status (session_of words reader world) log held held_now
+  pub cause : Comes status (status_for words reader world)
+  pub unread : IsDeaf (told_by_input (session_of words reader) world) → Takes left left_now []
 
 -- there is an input that is given, and what was said is what is told of it; where that doesn't depend on the input, no byte was taken
-abbrev pub Answers : Option (List ℕ) → Option (List ℕ) → Type 0 → (List ℕ → InputEnd → Told) → Status → List Entry → Option (List ℕ) → Option (List ℕ) → Type 0
+abbrev pub Answers : Option (List ℕ) → Option (List ℕ) → Type 0 → (List ℕ → InputEnd → Told) → Status → Log → Option (List ℕ) → Option (List ℕ) → Type 0
 Answers left left_now failed told st log held held_now =
     SomeInput left left_now failed (λ input ends. IsSaid st (told input ends) log held held_now) × (IsDeaf told → Takes left left_now [])
 

@@ -10,11 +10,11 @@ ghost use Rattle.apd_read.specs.Reader.{Reader};
 ghost use Rattle.apd_load.specs.Warnings.{NotesAreNamed, warnings_of};
 ghost use Rattle.apd_term.specs.StandardNames.{standard_names};
 ghost use Rattle.apd_text.specs.Named.{EntryIsNamed};
-ghost use Rattle.apd_term.specs.Growth.{Grown};
-ghost use Rattle.apd_session.specs.Causes.{Comes, EndsInTime, FileHas, IsLoadable, status_for};
-ghost use Rattle.apd_session.specs.Outcome.{Answers, IsMet, IsSaid, IsWhole, Meets, NoneFails};
+ghost use Rattle.apd_term.specs.Growth.{Grown, GrowsBy};
+ghost use Rattle.apd_session.specs.Causes.{EndsInTime, FileHas, IsLoadable};
+ghost use Rattle.apd_session.specs.Outcome.{Answers, IsSaid, IsWhole, Meets, NoneFails, TakesCount};
 ghost use Rattle.apd_session.specs.Running.{IsReady};
-ghost use Rattle.apd_session.specs.Session.{Gives, World, after_load, session_of, tells};
+ghost use Rattle.apd_session.specs.Session.{Gives, after_load, most_names, session_of, tells};
 ghost use Rattle.apd_session.specs.Steps.{begun, load_said, talker};
 ghost use Rattle.apd_words.specs.Words.{Options, bytes_of, options_of};
 
@@ -42,7 +42,7 @@ fn end_with<K: Sink>(
     requires empty { log.old.entries.list ≡ [] }
     requires ops { log.old.ops ≡ standard_table }
     requires named { EntryIsNamed (length log.old.names) entry }
-    ensures said { (more : List (List ℕ)) → IsSaid result (tells (log.old.names ++ more) entry status) log.new.entries.list (K.held out.old) (K.held out.new) }
+    ensures said { (more : List (List ℕ)) → IsSaid result (tells (log.old.names ++ more) entry status) log.new (K.held out.old) (K.held out.new) }
     ensures names { log.new.names ≡ log.old.names }
     ensures write { result ≡ Status.WriteFault → (status ≡ Status.WriteFault) ⊎ Rose (K.faults out.old) (K.faults out.new) }
     ensures is { (result ≡ status) ⊎ ((result ≡ Status.WriteFault) ⊎ (result ≡ Status.Memory)) }
@@ -78,6 +78,8 @@ fn begin<S: Source, K: Sink>(
         (at console.old (S.left input.old) (S.faults input.old) log.old.entries.list (K.held out.old) (K.faults out.old))
         (at console.new (S.left input.new) (S.faults input.new) log.new.entries.list (K.held out.new) (K.faults out.new)) t) }
     ensures names { Grown log.old.names log.new.names }
+    ensures ops { log.new.ops ≡ log.old.ops }
+    ensures room { length log.new.names + room_of console.new ≤ length log.old.names + room_of console.old }
     ensures sound { IsKept console.new }
 {
     match say_loaded(alloc, &state.program, passed, called, out, log) {
@@ -102,8 +104,9 @@ fn talk<S: Source, K: Sink>(
     requires size { length text.now ≤ 1048576 }
     requires limits { (asked.budget ≤ 1000000) × (0 < asked.answers) × (asked.answers ≤ 1000000) }
     ensures answers { (names : List (List ℕ)) → Grown log.new.names names → (reader : Reader names) (options : Options) → options ≡ record { program = asked.entry.program.now; budget = asked.entry.budget; answers = asked.entry.answers; filter = asked.entry.filter } →
-        Answers (S.left input.old) (S.left input.new) (Rose (S.faults input.old) (S.faults input.new)) (λ input ends. after_load reader options input ends (program_of reader text.now)) result log.new.entries.list (K.held out.old) (K.held out.new) }
-    ensures names { Grown log.old.names log.new.names }
+        Answers (S.left input.old) (S.left input.new) (Rose (S.faults input.old) (S.faults input.new)) (λ input ends. after_load reader options input ends (program_of reader text.now)) result log.new (K.held out.old) (K.held out.new) }
+    ensures names { GrowsBy most_names log.old.names log.new.names }
+    ensures limit { result ≡ Status.InputLimit → TakesCount 16777216 (S.left input.old) (S.left input.new) }
     ensures read { result ≡ Status.ReadFault → Rose (S.faults input.old) (S.faults input.new) }
     ensures write { result ≡ Status.WriteFault → Rose (K.faults out.old) (K.faults out.new) }
 {
@@ -160,9 +163,10 @@ fn serve_file<F: Files, S: Source, K: Sink>(
     requires ops { log.old.ops ≡ standard_table }
     requires limits { (asked.budget ≤ 1000000) × (0 < asked.answers) × (asked.answers ≤ 1000000) }
     ensures meaning { (words : List (List ℕ)) → options_of words ≡ Some record { program = asked.entry.program.now; budget = asked.entry.budget; answers = asked.entry.answers; filter = asked.entry.filter } →
-        (names : List (List ℕ)) → Grown log.new.names names → (reader : Reader names) → Meets (session_of words reader) words (F.content files.old) (S.left input.old) (S.left input.new)
-        (Rose (F.faults files.old) (F.faults files.new)) (Rose (S.faults input.old) (S.faults input.new)) result log.new.entries.list (K.held out.old) (K.held out.new) }
-    ensures names { Grown log.old.names log.new.names }
+        (names : List (List ℕ)) → Grown log.new.names names → (reader : Reader names) → Meets words reader (F.content files.old) (S.left input.old) (S.left input.new)
+        (Rose (F.faults files.old) (F.faults files.new)) (Rose (S.faults input.old) (S.faults input.new)) result log.new (K.held out.old) (K.held out.new) }
+    ensures names { GrowsBy most_names log.old.names log.new.names }
+    ensures limit { result ≡ Status.InputLimit → TakesCount 16777216 (S.left input.old) (S.left input.new) }
     ensures read { result ≡ Status.ReadFault → Rose (F.faults files.old) (F.faults files.new) ⊎ Rose (S.faults input.old) (S.faults input.new) }
     ensures write { result ≡ Status.WriteFault → Rose (K.faults out.old) (K.faults out.new) }
 {
@@ -189,9 +193,10 @@ fn serve<F: Files, S: Source, K: Sink>(
     requires empty { log.old.entries.list ≡ [] }
     requires names { log.old.names ≡ standard_names }
     requires ops { log.old.ops ≡ standard_table }
-    ensures meaning { (names : List (List ℕ)) → Grown log.new.names names → (reader : Reader names) → Meets (session_of (bytes_of words.now) reader) (bytes_of words.now) (F.content files.old) (S.left input.old) (S.left input.new)
-        (Rose (F.faults files.old) (F.faults files.new)) (Rose (S.faults input.old) (S.faults input.new)) result log.new.entries.list (K.held out.old) (K.held out.new) }
-    ensures names { Grown log.old.names log.new.names }
+    ensures meaning { (names : List (List ℕ)) → Grown log.new.names names → (reader : Reader names) → Meets (bytes_of words.now) reader (F.content files.old) (S.left input.old) (S.left input.new)
+        (Rose (F.faults files.old) (F.faults files.new)) (Rose (S.faults input.old) (S.faults input.new)) result log.new (K.held out.old) (K.held out.new) }
+    ensures names { GrowsBy most_names log.old.names log.new.names }
+    ensures limit { result ≡ Status.InputLimit → TakesCount 16777216 (S.left input.old) (S.left input.new) }
     ensures read { result ≡ Status.ReadFault → Rose (F.faults files.old) (F.faults files.new) ⊎ Rose (S.faults input.old) (S.faults input.new) }
     ensures write { result ≡ Status.WriteFault → Rose (K.faults out.old) (K.faults out.new) }
 {
@@ -228,32 +233,35 @@ pub fn session<F: Files, S: Source, K: Sink>(
     // Whatever names are kept later, and whatever reader gives what the definitions of reading have under them, there is a
     // world, which is what the objects tell where they tell it, fails only where a count rose, and whose input begins with
     // the bytes that were taken: at most 16,777,216, all of it where a read failed, and none where what is said doesn't
-    // depend on the input. The log has the entries that the definition gives for this world, and the status is its status,
-    // or, after a write fault or want of memory, the front of these entries. The sink gained the texts of the log; there,
-    // the last of them perhaps without its end.
-    ensures meaning { (names : List (List ℕ)) → Grown log.new.names names → (reader : Reader names) → Meets (session_of (bytes_of words.now) reader) (bytes_of words.now) (F.content files.old) (S.left input.old) (S.left input.new)
-        (Rose (F.faults files.old) (F.faults files.new)) (Rose (S.faults input.old) (S.faults input.new)) result log.new.entries.list (K.held out.old) (K.held out.new) }
-    ensures names { Grown log.old.names log.new.names }
+    // depend on the input. They are taken by blocks of up to 8,192, so how many behind a line that quits isn't said.
+    // The log has the entries that the definition gives for this world, and the status is its status, or, after a write fault
+    // or want of memory, the front of these entries. The sink gained the texts of the log; there, the last of them perhaps
+    // without its end. The log's operators are those that the program of this world has left, the standard ones where none
+    // was loaded; where memory ran out, perhaps still the standard ones. The status is the one that the first cause met in
+    // this world calls for, where no write failed and memory sufficed.
+    ensures meaning { (names : List (List ℕ)) → Grown log.new.names names → (reader : Reader names) → Meets (bytes_of words.now) reader (F.content files.old) (S.left input.old) (S.left input.new)
+        (Rose (F.faults files.old) (F.faults files.new)) (Rose (S.faults input.old) (S.faults input.new)) result log.new (K.held out.old) (K.held out.new) }
+
+    // Names are only added at the end, at most as many as bytes may be read.
+    ensures names { GrowsBy most_names log.old.names log.new.names }
+
+    // At the limit of the input just as many bytes were taken as may be, where they are told.
+    ensures limit { result ≡ Status.InputLimit → TakesCount 16777216 (S.left input.old) (S.left input.new) }
 
     // A fault is answered only where a count rose in this call.
     ensures read { result ≡ Status.ReadFault → Rose (F.faults files.old) (F.faults files.new) ⊎ Rose (S.faults input.old) (S.faults input.new) }
     ensures write { result ≡ Status.WriteFault → Rose (K.faults out.old) (K.faults out.new) }
 
-    // There is such a world, and the status is the one that the first cause met in it calls for, where no write failed and
-    // memory sufficed.
-    ensures status { (names : List (List ℕ)) → Grown log.new.names names → (reader : Reader names) → (world : World) × IsMet (bytes_of words.now) (F.content files.old) (S.left input.old) (S.left input.new)
-        (Rose (F.faults files.old) (F.faults files.new)) (Rose (S.faults input.old) (S.faults input.new)) world × Comes result (status_for (bytes_of words.now) reader world) }
-
     // Where the words name a file that is a program, the input ends or a line quits before its limit, all is told and no count
     // rises, the session is done, or memory ran out.
-    ensures done { (reader : Reader log.new.names) (text bytes : List ℕ) → FileHas (bytes_of words.now) (F.content files.old) text → length text ≤ 1048576 → IsLoadable (program_of reader text) → S.left input.old ≡ Some bytes → EndsInTime reader (program_of reader text) bytes →
+    ensures done { (names : List (List ℕ)) → Grown log.new.names names → (reader : Reader names) (text bytes : List ℕ) → FileHas (bytes_of words.now) (F.content files.old) text → length text ≤ 1048576 → IsLoadable (program_of reader text) → S.left input.old ≡ Some bytes → EndsInTime reader (program_of reader text) bytes →
         NoneFails (Rose (F.faults files.old) (F.faults files.new)) (Rose (S.faults input.old) (S.faults input.new)) (Rose (K.faults out.old) (K.faults out.new)) →
         (result ≡ Status.Done) ⊎ (result ≡ Status.Memory) }
 
-    // Where all is told and no count rises, the entries and the status are the definition's, or memory ran out.
+    // Where all is told and no count rises, the entries, the operators and the status are the definition's, or memory ran out.
     ensures complete { (names : List (List ℕ)) → Grown log.new.names names → (reader : Reader names) (program bytes : List ℕ) → IfSome (options_of (bytes_of words.now)) (λ o. F.content files.old o.program ≡ Some program) → S.left input.old ≡ Some bytes →
         NoneFails (Rose (F.faults files.old) (F.faults files.new)) (Rose (S.faults input.old) (S.faults input.new)) (Rose (K.faults out.old) (K.faults out.new)) →
-        (result ≡ Status.Memory) ⊎ IsWhole result (session_of (bytes_of words.now) reader record { program = Gives program; input = bytes; ends = Ended }) log.new.entries.list (K.held out.old) (K.held out.new) }
+        (result ≡ Status.Memory) ⊎ IsWhole result (session_of (bytes_of words.now) reader record { program = Gives program; input = bytes; ends = Ended }) log.new (K.held out.old) (K.held out.new) }
 {
     serve(alloc, words, files, input, out, log)
 }

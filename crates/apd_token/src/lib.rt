@@ -2,6 +2,8 @@
 //!
 //! [`tokens`] divides a text into layout, comments and tokens, each the longest at its place, or
 //! tells the first fault from the left. [`content`] gives the characters that a token stands for.
+//! The laws that each text has a division or a first fault, and not two, are [`every_text_divides`]
+//! and [`one_division`].
 #![tactic(auto)]
 
 mod bytes;
@@ -19,5 +21,5 @@ pub use apd_term::faults::TokenFault;
 pub use bytes::{Class, Escape, Mark, Set, is_graphic, is_small, is_word};
 pub use found::Found;
 pub use items::{Kind, Token, Tokens};
-pub use scanner::{one_division, tokens};
+pub use scanner::{every_text_divides, one_division, tokens};
 pub use texts::{content, one_content};

@@ -1,0 +1,19 @@
+//! Laws of what a text makes, each the contract of a function without a body.
+
+ghost use Rattle.std.specs.Prelude.{◌≡◌, ℕ, List};
+ghost use Rattle.apd_read.specs.Reader.{Reader};
+ghost use Rattle.apd_load.specs.Program.{Loads, program_of};
+ghost use Rattle.apd_load.specs.Texts.{Makes};
+
+/// The law of one program: under the same names all readers of texts give the same program of a text, or the same first fault
+/// with its line.
+pub fn one_program()
+    ensures { (names : List (List ℕ)) (r s : Reader names) (text : List ℕ) → program_of r text ≡ program_of s text }
+{}
+
+/// The law of loading. Each text makes one thing, by its tokens and by its clauses and directives, each read with the operators
+/// that stand before it: a program, or a refusal for its first fault in a line. And this is what each reader of texts gives.
+pub fn every_text_makes_one_program()
+    ensures makes { (names : List (List ℕ)) (reader : Reader names) (text : List ℕ) → Makes names text (program_of reader text) }
+    ensures only { (names : List (List ℕ)) (reader : Reader names) (text : List ℕ) (result : Loads) → Makes names text result → program_of reader text ≡ result }
+{}

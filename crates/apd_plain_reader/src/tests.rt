@@ -125,12 +125,15 @@ fn wide_texts_read_alike(rt: HostRuntime) -> Result<(), Fail> {
     Ok(())
 }
 
-/// So many drawn texts.
-fn check_drawn(rt: &impl Abort, alloc: Global, ops: &Ops, count: u64) -> Result<(), AllocError> {
+/// A text and an item that are drawn from each seed.
+fn check_drawn(rt: &impl Abort, alloc: Global, ops: &Ops, seeds: u64) -> Result<(), AllocError> {
     let mut names = Names::standard(alloc)?;
-    for seed in 0..count {
-        let text = Draw::new(seed).text(alloc, 12)?;
+    for seed in 0..seeds {
+        let mut draw = Draw::new(seed);
+        let text = draw.text(alloc)?;
         assert!(rt; agree(alloc, ops, &mut names, text.as_str()), "{text}");
+        let item = draw.item(alloc)?;
+        assert!(rt; agree(alloc, ops, &mut names, item.as_str()), "{item}");
     }
     Ok(())
 }
@@ -139,8 +142,8 @@ fn check_drawn(rt: &impl Abort, alloc: Global, ops: &Ops, count: u64) -> Result<
 fn drawn_texts_read_alike(rt: HostRuntime) -> Result<(), Fail> {
     let alloc = rt.alloc();
     let standard = Ops::standard(alloc)?;
-    check_drawn(&rt, alloc, &standard, 20_000)?;
+    check_drawn(&rt, alloc, &standard, 10_000)?;
     let other = other_operators(&rt, alloc)?;
-    check_drawn(&rt, alloc, &other, 20_000)?;
+    check_drawn(&rt, alloc, &other, 10_000)?;
     Ok(())
 }

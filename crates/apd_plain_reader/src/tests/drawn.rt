@@ -2,7 +2,7 @@
 
 ghost use Rattle.std.specs.Prelude.{◌<◌};
 
-use crate::tests::texts::tokens;
+use crate::tests::texts::{infixes, operands, prefixes, tokens};
 use std::alloc::{AllocError, Global};
 
 /// A source of numbers that look random.
@@ -27,20 +27,36 @@ impl Draw {
         (self.seed >> 33) as usize % n
     }
 
-    fn token(&mut self) -> &'static str {
-        let tokens = tokens();
-        if tokens.is_empty() {
+    /// One of the choices; nothing where there are none.
+    fn pick(&mut self, choices: &'static [&'static str]) -> &'static str {
+        if choices.is_empty() {
             return "";
         }
-        tokens[self.below(tokens.len())]
+        choices[self.below(choices.len())]
     }
 
-    /// A text of at most so many tokens and a full stop.
-    pub fn text(&mut self, alloc: Global, most: usize) -> Result<String, AllocError> {
+    /// At most 11 tokens and a full stop.
+    pub fn text(&mut self, alloc: Global) -> Result<String, AllocError> {
         let mut text = String::new(alloc);
-        for _ in 0..self.below(most.saturating_add(1).max(1)) {
-            text.push_str(self.token())?;
+        for _ in 0..self.below(12) {
+            text.push_str(self.pick(tokens()))?;
         }
+        text.push_str(" .")?;
+        Ok(text)
+    }
+
+    /// At most 9 operators with their operands, by no priority, and a full stop.
+    pub fn item(&mut self, alloc: Global) -> Result<String, AllocError> {
+        let mut text = String::new(alloc);
+        for _ in 0..self.below(10) {
+            if self.below(3) == 0 {
+                text.push_str(self.pick(prefixes()))?;
+            } else {
+                text.push_str(self.pick(operands()))?;
+                text.push_str(self.pick(infixes()))?;
+            }
+        }
+        text.push_str(self.pick(operands()))?;
         text.push_str(" .")?;
         Ok(text)
     }

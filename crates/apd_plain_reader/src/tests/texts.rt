@@ -192,6 +192,19 @@ const TOKENS: [&str; 32] = [
     "{", "}", "{}", ",", ",", "|", "-", " - ", "'-'", " = ", "\\+ ", " :- ", " ^ ", "**", ". ",
 ];
 
+/// Operators and operands of which items are drawn.
+const PREFIXES: [&str; 6] = ["- ", "\\+ ", "\\ ", ":- ", "?- ", "dynamic "];
+
+const INFIXES: [&str; 14] = [
+    " :- ", " ; ", " -> ", ", ", " = ", " is ", " - ", " + ", " * ", " mod ", " ** ", " ^ ",
+    " \\+ ", " true ",
+];
+
+const OPERANDS: [&str; 16] = [
+    "a", "b", "X", "1", "-1", "\"c\"", "'d'", "(a = b)", "(a :- b)", "[a, b|c]", "[]", "f(-, a)",
+    "{a :- b}", "(-)", "- ", "(\\+)",
+];
+
 pub fn readings() -> &'static [&'static str] {
     &READINGS
 }
@@ -210,4 +223,16 @@ pub fn nests() -> &'static [Nest] {
 
 pub fn tokens() -> &'static [&'static str] {
     &TOKENS
+}
+
+pub fn prefixes() -> &'static [&'static str] {
+    &PREFIXES
+}
+
+pub fn infixes() -> &'static [&'static str] {
+    &INFIXES
+}
+
+pub fn operands() -> &'static [&'static str] {
+    &OPERANDS
 }

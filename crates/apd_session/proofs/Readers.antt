@@ -20,7 +20,7 @@ use Rattle.apd_load.proofs.Leaving.{LeavesTable, leaves_table}
 use Rattle.apd_load.proofs.Making.{one_program}
 use Rattle.apd_text.specs.declared.entry.Entry.{Entry}
 use Rattle.apd_session.specs.Commands.{command_from, command_in, command_read}
-use Rattle.apd_session.specs.Session.{Loading, Gives, Breaks, World, after_load, after_options, after_words, session_of, told_of}
+use Rattle.apd_session.specs.Session.{FileLoad, Gives, Faults, World, after_load, after_options, after_words, session_of, told_of}
 use Rattle.apd_session.specs.Steps.{load_said, step_for, talker}
 use Rattle.apd_session.specs.declared.state.State.{State}
 use Rattle.apd_words.specs.Words.{Options, options_of}
@@ -65,8 +65,8 @@ module _ (names : List (List ℕ)) (r s : Reader names) where
   one_after_text world options text false is =
       rw (is, one_program names r s text) (one_after_load options world.input world.ends (program_of s text) (leaves_table names s text))
 
-  one_after_words : (world : World) (options : Options) (l : Loading) → after_words r world options l ≡ after_words s world options l
-  one_after_words world options Breaks = refl
+  one_after_words : (world : World) (options : Options) (l : FileLoad) → after_words r world options l ≡ after_words s world options l
+  one_after_words world options Faults = refl
   one_after_words world options (Gives text) = one_after_text world options text (nat_lt 1048576 (length text)) refl
 
   one_after_options : (world : World) (o : Option Options) → after_options r world o ≡ after_options s world o

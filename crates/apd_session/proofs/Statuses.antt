@@ -13,7 +13,7 @@ use Rattle.apd_text.specs.declared.log.Log.{Log}
 use Rattle.apd_session.specs.Causes.{Comes, is_quit, some_quits, status_at_close, status_of_heard, status_of_load, status_of_options, status_of_text}
 use Rattle.apd_session.specs.Commands.{command_in}
 use Rattle.apd_session.specs.Outcome.{IsSaid}
-use Rattle.apd_session.specs.Session.{World, Loading, Gives, Breaks, Told, after_load, after_options, after_words, status_after}
+use Rattle.apd_session.specs.Session.{World, FileLoad, Gives, Faults, Told, after_load, after_options, after_words, status_after}
 use Rattle.apd_words.specs.Words.{Options}
 use Rattle.apd_session.specs.Steps.{step_for, talker}
 use Rattle.apd_session.specs.declared.commands.Command.{Command}
@@ -62,8 +62,8 @@ long_status : (names : List (List ℕ)) (reader : Reader names) (world : World) 
 long_status names reader world options text true is = rw is refl
 long_status names reader world options text false is = rw is (text_status names reader options world.input world.ends (program_of reader text))
 
-load_status : (names : List (List ℕ)) (reader : Reader names) (world : World) (options : Options) (l : Loading) → (after_words reader world options l).status ≡ status_of_load reader world l
-load_status names reader world options Breaks = refl
+load_status : (names : List (List ℕ)) (reader : Reader names) (world : World) (options : Options) (l : FileLoad) → (after_words reader world options l).status ≡ status_of_load reader world l
+load_status names reader world options Faults = refl
 load_status names reader world options (Gives text) = long_status names reader world options text (leb 1048577 (length text)) refl
 
 pub options_status : (names : List (List ℕ)) (reader : Reader names) (world : World) (o : Option Options) → (after_options reader world o).status ≡ status_of_options reader world o

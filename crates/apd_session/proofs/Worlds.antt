@@ -23,10 +23,10 @@ use Rattle.apd_text.specs.declared.entry.Entry.{Entry}
 use Rattle.apd_text.specs.declared.entry.Entry.TheVariants as entry
 use Rattle.apd_text.specs.declared.log.Log.{Log}
 use Rattle.apd_session.specs.Steps.{begun, plain}
-use Rattle.apd_session.specs.Session.{World, Loading, Gives, Breaks, Told, tells, told_of, status_after, after_load, after_words, session_of}
+use Rattle.apd_session.specs.Session.{World, FileLoad, Gives, Faults, Told, tells, told_of, status_after, after_load, after_words, session_of}
 use Rattle.apd_words.specs.Words.{Options, options_of}
 use Rattle.apd_session.specs.Causes.{Comes}
-use Rattle.apd_session.specs.Outcome.{Answers, IsDeaf, IsFront, IsLoading, IsMet, IsSaid, IsWhole, Meets, NoneFails, status_of, told_by_input}
+use Rattle.apd_session.specs.Outcome.{Answers, IsDeaf, IsFront, IsFileLoad, IsMet, IsSaid, IsWhole, Meets, NoneFails, status_of, told_by_input}
 use Rattle.apd_session.proofs.Statuses.{comes, options_status}
 use Rattle.apd_session.specs.declared.status.Status.{Status}
 use Rattle.apd_session.specs.declared.status.Status.TheVariants as statuses
@@ -137,21 +137,21 @@ meets words names reader content left now R Q st log x y world met said unread =
 }
 
 -- what the words ask for, and what the load gave
-pub met_answers : (words names : List (List ℕ)) (reader : Reader names) (options : Options) (content : List ℕ → Option (List ℕ)) (left now : Option (List ℕ)) (R Q : Type 0) (loading : Loading) (st : Status) (log : Log) (x y : Option (List ℕ)) →
-    options_of words ≡ Some options → IsLoading (content options.program) loading → (loading ≡ Breaks → R) →
+pub met_answers : (words names : List (List ℕ)) (reader : Reader names) (options : Options) (content : List ℕ → Option (List ℕ)) (left now : Option (List ℕ)) (R Q : Type 0) (loading : FileLoad) (st : Status) (log : Log) (x y : Option (List ℕ)) →
+    options_of words ≡ Some options → IsFileLoad (content options.program) loading → (loading ≡ Faults → R) →
     Answers left now Q (λ input ends. after_words reader record { program = loading; input = input; ends = ends } options loading) st log x y →
     Meets words reader content left now R Q st log x y
-met_answers words names reader options content left now R Q loading st log x y named is breaks answers =
+met_answers words names reader options content left now R Q loading st log x y named is faults answers =
     meets words names reader content left now R Q st log x y record { program = loading; input = answers.0.input; ends = answers.0.ends }
-    record { program = rw named is; breaks = breaks; given = answers.0.given; fails = answers.0.fails; taken = answers.0.taken } (rw named answers.0.holds) (rw named answers.1)
+    record { program = rw named is; faults = faults; given = answers.0.given; fails = answers.0.fails; taken = answers.0.taken } (rw named answers.0.holds) (rw named answers.1)
 
 pub met_unnamed : (words names : List (List ℕ)) (reader : Reader names) (content : List ℕ → Option (List ℕ)) (left : Option (List ℕ)) (R Q : Type 0) (st : Status) (log : Log) (x y : Option (List ℕ)) →
     options_of words ≡ None → IsSaid st (tells names entry.UsageRefused statuses.Usage) log x y → Meets words reader content left left R Q st log x y
 met_unnamed words names reader content left R Q st log x y none said =
     meets words names reader content left left R Q st log x y record { program = Gives []; input = rest_of left; ends = Ended }
-    record { program = rw none tt; breaks = λ e. absurd (cc); given = given_all left; fails = λ e. absurd (cc); taken = none_taken left } (rw none said) (λ deaf. takes_none left)
+    record { program = rw none tt; faults = λ e. absurd (cc); given = given_all left; fails = λ e. absurd (cc); taken = none_taken left } (rw none said) (λ deaf. takes_none left)
 
-tells_loading : (told : Option (List ℕ)) (bytes : List ℕ) → Tells told bytes → IsLoading told (Gives bytes)
+tells_loading : (told : Option (List ℕ)) (bytes : List ℕ) → Tells told bytes → IsFileLoad told (Gives bytes)
 tells_loading None bytes tells = tt
 tells_loading (Some known) bytes tells = tells
 
@@ -163,21 +163,21 @@ met_loaded words names reader options content left now R Q text st log x y named
     let test : leb 1048577 (length text) ≡ false = lt-leb _ _ (omega arith) in
     met_answers words names reader options content left now R Q (Gives text) st log x y named (tells_loading (content options.program) text tells) (λ e. absurd (cc)) (rw test answers)
 
-breaks_loading : (told : Option (List ℕ)) → IsLoading told Breaks
-breaks_loading None = tt
-breaks_loading (Some known) = tt
+faulty_load : (told : Option (List ℕ)) → IsFileLoad told Faults
+faulty_load None = tt
+faulty_load (Some known) = tt
 
 pub met_broken : (words names : List (List ℕ)) (reader : Reader names) (options : Options) (content : List ℕ → Option (List ℕ)) (left : Option (List ℕ)) (R Q : Type 0) (st : Status) (log : Log) (x y : Option (List ℕ)) →
     options_of words ≡ Some options → R → IsSaid st (tells names entry.InputFault statuses.ReadFault) log x y → Meets words reader content left left R Q st log x y
 met_broken words names reader options content left R Q st log x y named rose said =
-    met_answers words names reader options content left left R Q Breaks st log x y named (breaks_loading (content options.program)) (λ e. rose) (unread left x y Q _ st log _ (λ input ends. refl) said)
+    met_answers words names reader options content left left R Q Faults st log x y named (faulty_load (content options.program)) (λ e. rose) (unread left x y Q _ st log _ (λ input ends. refl) said)
 
 -- a list of each length; abstract, so that no list of a million numbers is computed
 some_list : (n : ℕ) → (bytes : List ℕ) × (length bytes ≡ n)
 some_list n = (replicate n 0, length-replicate {A = ℕ} n 0)
 
 -- some content for a file that is too long
-long_of : (told : Option (List ℕ)) → TellsLong told → (bytes : List ℕ) × IsLoading told (Gives bytes) × (1048576 < length bytes)
+long_of : (told : Option (List ℕ)) → TellsLong told → (bytes : List ℕ) × IsFileLoad told (Gives bytes) × (1048576 < length bytes)
 long_of None long = let some = some_list 1048577 in (some.0, tt, omega (arith, some.1))
 long_of (Some known) long = (known, refl, long)
 
@@ -190,7 +190,7 @@ met_long words names reader options content left R Q st log x y named long said 
     met_answers words names reader options content left left R Q (Gives some.0) st log x y named some.1 (λ e. absurd (cc)) (rw test (unread left x y Q _ st log _ (λ input ends. refl) said))
 
 -- some content for a file that memory did not suffice for
-any_of : (told : Option (List ℕ)) → (bytes : List ℕ) × IsLoading told (Gives bytes)
+any_of : (told : Option (List ℕ)) → (bytes : List ℕ) × IsFileLoad told (Gives bytes)
 any_of None = ([], tt)
 any_of (Some known) = (known, refl)
 
@@ -210,9 +210,9 @@ met_wanting words names reader content left R Q log x empty standard = by (optio
     by None is = met_unnamed words names reader content left R Q statuses.Memory log x x is (UttersFront-none begun [] log.entries.list x (tells names entry.UsageRefused statuses.Usage).utterances empty, inr standard)
 
 -- where all is told and nothing fails
-loading_is : (program : List ℕ) (loading : Loading) → IsLoading (Some program) loading → (loading ≡ Breaks → ⊥) → loading ≡ Gives program
+loading_is : (program : List ℕ) (loading : FileLoad) → IsFileLoad (Some program) loading → (loading ≡ Faults → ⊥) → loading ≡ Gives program
 loading_is program (Gives bytes) is not = ap Gives is
-loading_is program Breaks is not = absurd (not refl)
+loading_is program Faults is not = absurd (not refl)
 
 given_is : (bytes input : List ℕ) (ends : InputEnd) → IsGiven (Some bytes) input ends → (ends ≡ Fails → ⊥) → (input ≡ bytes) × (ends ≡ Ended)
 given_is bytes input Ended is not = (is, refl)
@@ -233,9 +233,9 @@ pub world_is : (words names : List (List ℕ)) (reader : Reader names) (content 
     session_of words reader world ≡ session_of words reader record { program = Gives program; input = bytes; ends = Ended }
 world_is words names reader content left now R Q world program bytes None is met told given loads reads = rw is refl
 world_is words names reader content left now R Q world program bytes (Some options) is met told given loads reads =
-    let loading : IsLoading (content options.program) world.program = rw is at met.program in
-    let loaded : IsLoading (Some program) world.program = subst (λ (o : Option (List ℕ)). IsLoading o world.program) told loading in
-    let p : world.program ≡ Gives program = loading_is program world.program loaded (λ e. loads (met.breaks e)) in
+    let loading : IsFileLoad (content options.program) world.program = rw is at met.program in
+    let loaded : IsFileLoad (Some program) world.program = subst (λ (o : Option (List ℕ)). IsFileLoad o world.program) told loading in
+    let p : world.program ≡ Gives program = loading_is program world.program loaded (λ e. loads (met.faults e)) in
     let heard : IsGiven (Some bytes) world.input world.ends = subst (λ (o : Option (List ℕ)). IsGiven o world.input world.ends) given met.given in
     let q : (world.input ≡ bytes) × (world.ends ≡ Ended) = given_is bytes world.input world.ends heard (λ e. reads (met.fails e)) in
     rw (is, p, q.0, q.1) refl

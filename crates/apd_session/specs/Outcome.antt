@@ -11,21 +11,21 @@ use Rattle.apd_read.specs.Reader.{Reader}
 use Rattle.apd_text.specs.declared.log.Log.{Log}
 use Rattle.apd_session.specs.Causes.{Comes, status_for}
 use Rattle.apd_session.specs.Steps.{begun}
-use Rattle.apd_session.specs.Session.{World, Loading, Gives, Breaks, Told, session_of}
+use Rattle.apd_session.specs.Session.{World, FileLoad, Gives, Faults, Told, session_of}
 use Rattle.apd_words.specs.Words.{options_of}
 use Rattle.apd_session.specs.declared.status.Status.{Status}
 use Rattle.apd_session.specs.declared.status.Status.TheVariants.{WriteFault, Memory}
 
 -- where a content is told, this is what a load of it gives
-abbrev pub IsLoading : Option (List ℕ) → Loading → Type 0
-IsLoading None loading = ⊤
-IsLoading (Some known) (Gives bytes) = bytes ≡ known
-IsLoading (Some known) Breaks = ⊤
+abbrev pub IsFileLoad : Option (List ℕ) → FileLoad → Type 0
+IsFileLoad None loading = ⊤
+IsFileLoad (Some known) (Gives bytes) = bytes ≡ known
+IsFileLoad (Some known) Faults = ⊤
 
 -- the world is as far as it is told, it fails only where a count rose, and its input begins with the bytes that were taken
 pub record IsMet (words : List (List ℕ)) (content : List ℕ → Option (List ℕ)) (left left_now : Option (List ℕ)) (load_failed read_failed : Type 0) (world : World) : Type 0 where
-  pub program : IfSome (options_of words) (λ options. IsLoading (content options.program) world.program)
-  pub breaks : world.program ≡ Breaks → load_failed
+  pub program : IfSome (options_of words) (λ options. IsFileLoad (content options.program) world.program)
+  pub faults : world.program ≡ Faults → load_failed
   pub given : IsGiven left world.input world.ends
   pub fails : world.ends ≡ Fails → read_failed
   pub taken : IsTaken left left_now world.input world.ends

@@ -36,13 +36,13 @@ abbrev pub most_names : ℕ
 most_names = 1048576 + 16777216
 
 -- what a load gives: the bytes of a file, or a fault
-pub data Loading : Type 0 where
-  Gives : List ℕ → Loading
-  Breaks : Loading
+pub data FileLoad : Type 0 where
+  Gives : List ℕ → FileLoad
+  Faults : FileLoad
 
 -- what a session meets outside: its program file, and the bytes that its input gives before it ends
 pub record World : Type 0 where
-  pub program : Loading
+  pub program : FileLoad
   pub input : List ℕ
   pub ends : InputEnd
 
@@ -72,8 +72,8 @@ after_load {names} reader options input ends (loads l) =
     told_of l.ops (onto (load_said l.ops names l.program l.passed (warnings_of l.program))
     (replies (talker reader l.ops) (record { program = l.program; budget = options.budget; answers = options.answers; filter = options.filter }) 16777216 input ends))
 
-abbrev pub after_words : {names : List (List ℕ)} → Reader names → World → Options → Loading → Told
-after_words {names} reader world options Breaks = tells names InputFault status.ReadFault
+abbrev pub after_words : {names : List (List ℕ)} → Reader names → World → Options → FileLoad → Told
+after_words {names} reader world options Faults = tells names InputFault status.ReadFault
 after_words {names} reader world options (Gives text) =
     if nat_lt 1048576 (length text)
     then tells names (FileTooLong 1048577) status.FileTooLong

@@ -18,7 +18,7 @@ use crate::state::State;
 use apd_console::{Console, Trouble};
 use apd_engine::{RunFault, run};
 use apd_io::Sink;
-use apd_ports::Filter;
+use apd_ports::{Admit, Filter};
 use apd_term::{Query, Ran};
 use apd_text::{Entry, Log, end_line, head_line};
 use std::alloc::Global;
@@ -84,8 +84,8 @@ fn show<K: Sink>(
     requires start { printer.old.answers ≡ 0 }
     ensures same_sink { printer.new.out.ghost_name ≡ printer.old.out.ghost_name }
     ensures ran { IfOk result (λ r. r ≡ ran_of (run_for state.now.program query.now state.now.budget state.now.answers)) }
-    ensures lines { OnOk result (Adds (K.held printer.old.out.now) (K.held printer.new.out.now) (shown_text printer.old.ops.now printer.old.names.now printer.old.vars.now printer.old.filter.now 1 (shown_of (run_for state.now.program query.now state.now.budget state.now.answers).passed))) }
-    ensures err { OnErr result (AddsFront (K.held printer.old.out.now) (K.held printer.new.out.now) (shown_text printer.old.ops.now printer.old.names.now printer.old.vars.now printer.old.filter.now 1 (shown_of (run_for state.now.program query.now state.now.budget state.now.answers).passed))) }
+    ensures lines { OnOk result (Adds (K.held printer.old.out.now) (K.held printer.new.out.now) (shown_text printer.old.ops.now printer.old.names.now printer.old.vars.now printer.old.admit 1 (shown_of (run_for state.now.program query.now state.now.budget state.now.answers).passed))) }
+    ensures err { OnErr result (AddsFront (K.held printer.old.out.now) (K.held printer.new.out.now) (shown_text printer.old.ops.now printer.old.names.now printer.old.vars.now printer.old.admit 1 (shown_of (run_for state.now.program query.now state.now.budget state.now.answers).passed))) }
     ensures cause { HasWriteCause (K.faults printer.old.out.now) (K.faults printer.new.out.now) result }
 {
     match run(
@@ -117,13 +117,16 @@ fn search<K: Sink>(
     ensures err { OnErr result (AddsFront (K.held out.old) (K.held out.new) (shown_text log.now.ops log.now.names query.now.vars state.now.filter 1 (shown_of (run_for state.now.program query.now state.now.budget state.now.answers).passed))) }
     ensures cause { HasWriteCause (K.faults out.old) (K.faults out.new) result }
 {
+    let Ok(admit) = Admit::new(alloc, &state.filter) else {
+        return Err(Trouble::Memory);
+    };
     let mut printer = Printer {
         alloc,
         out,
         names: &log.names,
         ops: &log.ops,
         vars: &query.vars,
-        filter: &state.filter,
+        admit,
         answers: 0,
     };
     show(alloc, state, query, &mut printer)

@@ -47,3 +47,33 @@ fn an_input_over_its_limit_is_told(rt: HostRuntime) -> Result<(), Fail> {
     assert_eq!(rt; printed.bytes(), expected.bytes());
     Ok(())
 }
+
+/// A fact, and a rule with so many goals.
+fn rule_of(alloc: Global, goals: u32) -> Result<Text, AllocError> {
+    let mut text = Text::copy_of(alloc, b"a.\np :- true")?;
+    for _i in 1..goals {
+        text.extend(b", true")?;
+    }
+    text.extend(b".\n")?;
+    Ok(text)
+}
+
+#[test]
+fn a_body_has_at_most_64_goals(rt: HostRuntime) -> Result<(), Fail> {
+    let alloc = rt.alloc();
+    let longest = rule_of(alloc, 64)?;
+    let (done, answered) = run(alloc, &Met::of(longest.bytes(), b"?- p.\n"))?;
+    assert_eq!(rt; done, Status::Done);
+    assert_eq!(rt;
+        answered.bytes(),
+        b"loaded: 2 clauses\nrun: p\nanswer 1: true\nend: exhausted, 260 ports, 1 answers\n".as_slice()
+    );
+    let longer = rule_of(alloc, 65)?;
+    let (status, printed) = run(alloc, &Met::of(longer.bytes(), b"?- a.\n"))?;
+    assert_eq!(rt; status, Status::Program);
+    assert_eq!(rt;
+        printed.bytes(),
+        b"program refused: line 2: BodyOver\n".as_slice()
+    );
+    Ok(())
+}

@@ -11,7 +11,7 @@ use Rattle.apd_read.specs.Reader.{Reader}
 use Rattle.apd_text.specs.declared.log.Log.{Log}
 use Rattle.apd_session.specs.Causes.{Comes, status_for}
 use Rattle.apd_session.specs.Steps.{begun}
-use Rattle.apd_session.specs.Session.{World, FileLoad, Gives, Faults, Told, session_of}
+use Rattle.apd_session.specs.Session.{World, FileLoad, Gives, Faults, Transcript, session_of}
 use Rattle.apd_words.specs.Words.{options_of}
 use Rattle.apd_session.specs.declared.status.Status.{Status}
 use Rattle.apd_session.specs.declared.status.Status.TheVariants.{WriteFault, Memory}
@@ -41,29 +41,29 @@ abbrev pub NoneFails : Type 0 → Type 0 → Type 0 → Type 0
 NoneFails load_failed read_failed write_failed = (¬ load_failed) × (¬ read_failed) × (¬ write_failed)
 
 -- all was said and printed, this is the status, and these operators are left
-pub record IsWhole (status : Status) (told : Told) (log : Log) (held held_now : Option (List ℕ)) : Type 0 where
-  pub status_is : told.status ≡ status
-  pub ops_are : log.ops ≡ told.ops
-  pub says : Utters [] log.entries.list held held_now told.utterances
+pub record IsWhole (status : Status) (transcript : Transcript) (log : Log) (held held_now : Option (List ℕ)) : Type 0 where
+  pub status_is : transcript.status ≡ status
+  pub ops_are : log.ops ≡ transcript.ops
+  pub says : Utters [] log.entries.list held held_now transcript.utterances
 
 -- the front was said, and of that the front was printed
-abbrev pub IsFront : Told → Log → Option (List ℕ) → Option (List ℕ) → Type 0
-IsFront told log held held_now = UttersFront begun [] log.entries.list held held_now told.utterances
+abbrev pub IsFront : Transcript → Log → Option (List ℕ) → Option (List ℕ) → Type 0
+IsFront transcript log held held_now = UttersFront begun [] log.entries.list held held_now transcript.utterances
 
 -- after a write fault or want of memory the front was said; where memory ran out before a program was loaded, the operators are still
 -- the standard ones
-abbrev pub IsSaid : Status → Told → Log → Option (List ℕ) → Option (List ℕ) → Type 0
-IsSaid WriteFault told log held held_now = IsFront told log held held_now × (log.ops ≡ told.ops)
-IsSaid Memory told log held held_now = IsFront told log held held_now × ((log.ops ≡ told.ops) ⊎ (log.ops ≡ standard_table))
-IsSaid status told log held held_now = IsWhole status told log held held_now
+abbrev pub IsSaid : Status → Transcript → Log → Option (List ℕ) → Option (List ℕ) → Type 0
+IsSaid WriteFault transcript log held held_now = IsFront transcript log held held_now × (log.ops ≡ transcript.ops)
+IsSaid Memory transcript log held held_now = IsFront transcript log held held_now × ((log.ops ≡ transcript.ops) ⊎ (log.ops ≡ standard_table))
+IsSaid status transcript log held held_now = IsWhole status transcript log held held_now
 
--- the same is told of every input
-abbrev pub IsDeaf : (List ℕ → InputEnd → Told) → Type 0
-IsDeaf told = (input other : List ℕ) (ends end_of_other : InputEnd) → told input ends ≡ told other end_of_other
+-- the transcript is the same for every input
+abbrev pub IsDeaf : (List ℕ → InputEnd → Transcript) → Type 0
+IsDeaf transcript = (input other : List ℕ) (ends end_of_other : InputEnd) → transcript input ends ≡ transcript other end_of_other
 
--- what is told of a world by its input, the program being the same
-abbrev pub told_by_input : (World → Told) → World → List ℕ → InputEnd → Told
-told_by_input session world input ends = session record { program = world.program; input = input; ends = ends }
+-- the transcript by a world's input, the program being the same
+abbrev pub transcript_by_input : (World → Transcript) → World → List ℕ → InputEnd → Transcript
+transcript_by_input session world input ends = session record { program = world.program; input = input; ends = ends }
 
 -- there is a world that is met: what was said is what a session says in it, the status is the one that the first cause met in it calls
 -- for, and where what is said doesn't depend on the input, no byte was taken
@@ -72,12 +72,12 @@ pub record Meets {names : List (List ℕ)} (words : List (List ℕ)) (reader : R
   pub met : IsMet words content left left_now load_failed read_failed world
   pub said : IsSaid status (session_of words reader world) log held held_now
   pub cause : Comes status (status_for words reader world)
-  pub unread : IsDeaf (told_by_input (session_of words reader) world) → Takes left left_now []
+  pub unread : IsDeaf (transcript_by_input (session_of words reader) world) → Takes left left_now []
 
--- there is an input that is given, and what was said is what is told of it; where that doesn't depend on the input, no byte was taken
-abbrev pub Answers : Option (List ℕ) → Option (List ℕ) → Type 0 → (List ℕ → InputEnd → Told) → Status → Log → Option (List ℕ) → Option (List ℕ) → Type 0
-Answers left left_now failed told st log held held_now =
-    SomeInput left left_now failed (λ input ends. IsSaid st (told input ends) log held held_now) × (IsDeaf told → Takes left left_now [])
+-- there is an input that is given, and what was said is its transcript; where that doesn't depend on the input, no byte was taken
+abbrev pub Answers : Option (List ℕ) → Option (List ℕ) → Type 0 → (List ℕ → InputEnd → Transcript) → Status → Log → Option (List ℕ) → Option (List ℕ) → Type 0
+Answers left left_now failed transcript st log held held_now =
+    SomeInput left left_now failed (λ input ends. IsSaid st (transcript input ends) log held held_now) × (IsDeaf transcript → Takes left left_now [])
 
 -- the sink's count never falls, and a write fault is answered only where it rose
 pub record HasWriteCause {T : Type 0} (before now : ℕ) (result : Result T Trouble) : Type 0 where

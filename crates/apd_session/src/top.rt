@@ -14,7 +14,7 @@ ghost use Rattle.apd_term.specs.Growth.{Grown, GrowsBy};
 ghost use Rattle.apd_session.specs.Causes.{EndsInTime, FileHas, IsLoadable};
 ghost use Rattle.apd_session.specs.Outcome.{Answers, IsSaid, IsWhole, Meets, NoneFails, TakesCount};
 ghost use Rattle.apd_session.specs.Running.{IsReady};
-ghost use Rattle.apd_session.specs.Session.{Gives, after_load, most_names, session_of, tells};
+ghost use Rattle.apd_session.specs.Session.{Gives, after_load, most_names, session_of, says_one};
 ghost use Rattle.apd_session.specs.Steps.{begun, load_said, talker};
 ghost use Rattle.apd_words.specs.Words.{Options, bytes_of, options_of};
 
@@ -42,7 +42,7 @@ fn end_with<K: Sink>(
     requires empty { log.old.entries.list ≡ [] }
     requires ops { log.old.ops ≡ standard_table }
     requires named { EntryIsNamed (length log.old.names) entry }
-    ensures said { (more : List (List ℕ)) → IsSaid result (tells (log.old.names ++ more) entry status) log.new (K.held out.old) (K.held out.new) }
+    ensures said { (more : List (List ℕ)) → IsSaid result (says_one (log.old.names ++ more) entry status) log.new (K.held out.old) (K.held out.new) }
     ensures names { log.new.names ≡ log.old.names }
     ensures write { result ≡ Status.WriteFault → (status ≡ Status.WriteFault) ⊎ Rose (K.faults out.old) (K.faults out.new) }
     ensures is { (result ≡ status) ⊎ ((result ≡ Status.WriteFault) ⊎ (result ≡ Status.Memory)) }

@@ -1,7 +1,8 @@
 #!/bin/sh
 # Times searches: what a port costs after 10,000, 100,000 and 1,000,000 ports where the search goes back (queens by generate
 # and test, the colouring of a map over facts); programs that nest, as far as they are carried (a counting loop, hanoi, naive
-# reverse of 30 and of 100 elements); and what a printed port costs. Each row has the ports, the time and the peak memory.
+# reverse of 30 and of 100 elements, a goal that calls itself); and what a printed port costs. Each row has the ports, the time
+# and the peak memory.
 # It ends with 1 where a port of 1,000,000 takes more than 1.5 times the time of a port of 10,000.
 top=$(cd "$(dirname "$0")/.." && pwd) || exit 1
 work=$(mktemp -d) || exit 1
@@ -45,6 +46,8 @@ hanoi(0, _, _, _).
 hanoi(N, A, B, C) :- N > 0, M is N - 1, hanoi(M, A, C, B), hanoi(M, C, B, A).
 PROGRAM
 echo '?- hanoi(12, a, b, c).' >"$work/hanoi"
+echo 'p(X) :- p(X).' >"$work/loop.pl"
+echo '?- p(X).' >"$work/loop"
 cat >"$work/reverse.pl" <<'PROGRAM'
 append([], Ys, Ys).
 append([X|Xs], Ys, [X|Zs]) :- append(Xs, Ys, Zs).
@@ -91,15 +94,23 @@ for kind in queens colours; do
     done
     [ "$cost" -le $((first * 3 / 2)) ] || failed=1
 done
-for kind in count hanoi reverse30 reverse100; do
-    for budget in 1000 10000 30000; do
-        took=$(nanoseconds $kind $budget 1)
-        awk -v kind=$kind -v took="$took" -v end="$(cat "$work/end")" -v peak="$(cat "$work/peak")" 'BEGIN {
+# Runs of a program within each of these budgets, up to the first that it doesn't use up.
+nest() {
+    kind=$1
+    shift
+    for budget in "$@"; do
+        took=$(nanoseconds "$kind" "$budget" 1)
+        awk -v kind="$kind" -v took="$took" -v end="$(cat "$work/end")" -v peak="$(cat "$work/peak")" 'BEGIN {
             printf "%s: %s, %.3f s, %s KB\n", kind, end, took / 1e9, peak
         }'
         grep -q budget "$work/end" || break
     done
+}
+
+for program_that_nests in count hanoi reverse30 reverse100; do
+    nest $program_that_nests 1000 10000 30000
 done
+nest loop 1000 2000 4000
 base=$(nanoseconds colours 100000 1)
 took=$(nanoseconds colours 100000 1 --trace)
 awk -v took="$took" -v base="$base" -v ports="$(ports)" 'BEGIN { printf "a printed port takes %.0f ns more\n", (took - base) / ports }'

@@ -1,7 +1,6 @@
 pub mod Integers
 pub mod Signs
 pub mod Values
-pub mod Recursion
 pub mod Memoryless
 pub mod Found
 pub mod Faulting

@@ -10,7 +10,6 @@ pub mod fault;
 pub mod goal;
 pub mod laws;
 pub mod operation;
-pub mod plain;
 pub mod truths;
 
 pub use comparison::{Comparison, compare};
@@ -19,6 +18,3 @@ pub use fault::ArithFault;
 pub use goal::Builtin;
 pub use operation::{BinaryOperation, UnaryOperation};
 pub use truths::truth;
-
-#[cfg(test)]
-mod tests;

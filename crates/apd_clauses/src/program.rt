@@ -5,14 +5,11 @@ ghost use Rattle.apd_clauses.specs.Clauses.{IsClause, IsProgram, numbers_of, cla
 ghost use Rattle.apd_clauses.specs.Index.{Notes, HaveSameNumbers};
 
 use crate::clause::Clause;
-use apd_term::list::ListOf;
+use apd_base::{ListOf, MOST_CLAUSES};
 use apd_term::term::Pred;
 use indexmap::IndexMap;
 use std::alloc::{AllocError, Global};
 use std::marker::Model;
-
-/// The most clauses that a program may have.
-pub const MOST_CLAUSES: u32 = 20000;
 
 /// Why a clause isn't added.
 #[derive(Clone, Copy, Debug, PartialEq, Eq)]
@@ -23,7 +20,7 @@ pub enum AddFault {
     Memory,
 }
 
-/// Clauses in order, numbered from 1, with the numbers of each predicate's clauses. Contracts see the list of the clauses.
+/// Clauses of pure Prolog in order, numbered from 1, with the numbers of each predicate's clauses. Contracts see the list of the clauses.
 #[derive(Drop)]
 pub struct Program {
     alloc: Global,

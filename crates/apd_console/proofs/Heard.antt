@@ -1,9 +1,9 @@
 -- How long the lines are that are heard.
-use Rattle.std.proofs.Common.{◌≡◌, ℕ, ◌≤◌, List, [], ◌∷◌, ◌++◌, length, take, map, ap, refl, sym, ◌∙◌, subst, arith, Bool, true, false, Option}
+use Rattle.std.proofs.Common.{◌≡◌, ℕ, ◌≤◌, List, [], ◌∷◌, ◌++◌, length, take, map, ap, refl, subst, arith, Bool, true, false, Option}
 use Rattle.std.proofs.lemmas.Bool.{leb-false}
 use Rattle.std.proofs.Math.Dec.{leb}
 use Rattle.apd_console.specs.Console.{Kept, HearsLine, CanFollow, room_of}
-use Rattle.apd_console.specs.Lines.{InputEnd, Ended, Heard, hear, lines_of, whole_lines_of, seen}
+use Rattle.apd_console.specs.Lines.{Ended, Heard, hear, lines_of, whole_lines_of, seen}
 use Rattle.apd_console.specs.declared.line.Line.{Line}
 use Rattle.apd_console.specs.declared.line.Line.TheVariants.{Text, TooLong}
 

@@ -1,12 +1,13 @@
 -- What a console does with the bytes of a source.
-use Rattle.std.specs.Prelude.{ℕ, ◌≡◌, ◌+◌, ◌-◌, ◌<◌, ◌≤◌, List, [], ◌++◌, length, Bool, true, false, Option, Result, IsErrOf, ⊤}
-use Rattle.apd_io.specs.Outside.{Rose, Takes, IsOver}
+use Rattle.std.specs.Prelude.{ℕ, ◌≡◌, ◌+◌, ◌-◌, ◌<◌, ◌≤◌, List, [], ◌++◌, length, Bool, true, false, Option, ⊤}
+use Rattle.apd_io.specs.Outside.{Takes, IsOver}
 use Rattle.apd_console.specs.declared.line.Line.{Line}
 use Rattle.apd_console.specs.declared.line.Line.TheVariants.{Text}
 use Rattle.apd_console.specs.declared.line.LineEnd.{LineEnd}
 use Rattle.apd_console.specs.declared.line.LineEnd.TheVariants.{Ended, ReadFault, InputLimit, Memory}
 use Rattle.apd_console.specs.Lines.{InputEnd, AtEnd, AtFault, AtLimit, hear, heard_onto}
 use Rattle.apd_console.specs.Lines as lines
+use Rattle.apd_base.specs.declared.limits.TheConstants.{MAX_INPUT}
 
 -- a console: the bytes that were taken and not yet handed out, how many were taken, and whether
 -- the input has ended
@@ -17,8 +18,8 @@ pub record Kept : Type 0 where
 
 -- what holds of every console
 pub record IsKept (k : Kept) : Type 0 where
-  pub limit : k.taken ≤ 16777216
-  pub below : k.ended ≡ true → k.taken < 16777216
+  pub limit : k.taken ≤ MAX_INPUT
+  pub below : k.ended ≡ true → k.taken < MAX_INPUT
   pub none : k.ended ≡ true → k.kept ≡ []
 
 -- a console that has taken nothing yet
@@ -27,7 +28,7 @@ fresh = record { kept = []; taken = 0; ended = false }
 
 -- how many bytes may still be handed out
 abbrev pub room_of : Kept → ℕ
-room_of k = 16777216 - k.taken + length k.kept
+room_of k = MAX_INPUT - k.taken + length k.kept
 
 -- after the input's end nothing follows
 abbrev pub CanFollow : Bool → List ℕ → InputEnd → Type 0
@@ -66,7 +67,7 @@ pub record HearsEnd (before after : Kept) (left now : Option (List ℕ)) (end : 
   pub shrinks : room_of after ≤ room_of before
   pub is : HearsNone (room_of before) end after heard
 
--- the source's count never falls, and a read fault is answered only where it rose
-pub record HasReadCause {T : Type 0} (before now : ℕ) (result : Result T LineEnd) : Type 0 where
-  pub later : before ≤ now
-  pub failed : IsErrOf result ReadFault → Rose before now
+-- a read that failed is counted
+abbrev pub is_read_fault : LineEnd → Bool
+is_read_fault ReadFault = true
+is_read_fault end = false

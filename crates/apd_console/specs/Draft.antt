@@ -3,11 +3,12 @@ use Rattle.std.specs.Prelude.{ℕ, ◌≡◌, ◌+◌, ◌<◌, ◌≤◌, List,
 use Rattle.apd_console.specs.declared.draft.Draft.{Draft}
 use Rattle.apd_console.specs.Lines.{NoNewline}
 use Rattle.apd_console.specs.Console.{Kept, Hands}
+use Rattle.apd_base.specs.declared.limits.TheConstants.{MAX_LINE}
 
 -- the bytes of the line so far are these, or are known to be too many
 abbrev pub Drafts : List ℕ → Bool → List ℕ → Type 0
-Drafts text true raw = 65536 < length raw
-Drafts text false raw = (text ≡ raw) × (length raw ≤ 65536)
+Drafts text true raw = MAX_LINE < length raw
+Drafts text false raw = (text ≡ raw) × (length raw ≤ MAX_LINE)
 
 -- the first newline of some bytes stands at this place
 pub record IsFirstNewline (bytes : List ℕ) (n : ℕ) : Type 0 where

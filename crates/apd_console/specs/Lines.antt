@@ -1,7 +1,9 @@
 -- The lines that are heard of an input, as a function of its bytes.
-use Rattle.std.specs.Prelude.{ℕ, List, [], ◌∷◌, length, take, map, false, if◌then◌else◌, nat_le, nat_lt, nat_eq, ⊤, ◌≡◌}
+use Rattle.std.specs.Prelude.{ℕ, List, [], ◌∷◌, length, take, map, true, false, if◌then◌else◌, nat_le, nat_lt, nat_eq, ⊤, ◌≡◌}
+use Rattle.std.specs.List.{list_any}
 use Rattle.apd_console.specs.declared.line.Line.{Line}
 use Rattle.apd_console.specs.declared.line.Line.TheVariants.{Text, TooLong}
+use Rattle.apd_base.specs.declared.limits.TheConstants.{MAX_LINE}
 
 -- how the input ends: at its end, or with a read that fails
 pub data InputEnd : Type 0 where
@@ -36,7 +38,7 @@ whole_lines_of (b ∷ bytes) = if nat_eq b 10 then [] ∷ whole_lines_of bytes e
 
 -- a line as it is heard
 abbrev pub seen : List ℕ → Line
-seen line = if nat_lt 65536 (length line) then TooLong else Text line
+seen line = if nat_lt MAX_LINE (length line) then TooLong else Text line
 
 -- the lines that are heard, and what comes then
 pub record Heard : Type 0 where
@@ -59,6 +61,10 @@ hear room input ends =
 -- a line before those that are heard
 abbrev pub heard_onto : Line → Heard → Heard
 heard_onto line heard = record { lines = line ∷ heard.lines; close = heard.close }
+
+-- some byte ends a line
+abbrev pub HasNewline : List ℕ → Type 0
+HasNewline bytes = list_any (λ b. nat_eq b 10) bytes ≡ true
 
 -- no byte ends a line
 abbrev pub NoNewline : List ℕ → Type 0

@@ -1,19 +1,18 @@
 // Lines from a source, and bytes to a sink.
 ghost use Rattle.std.specs.Prelude.{◌≡◌, ◌≢◌, ◌==◌, ◌≤◌, ◌<◌, ◌++◌, List, ℕ, [], ◌∷◌, drop, take, length, true, false, nat_eq, IfOk, IfErr, OnOk, OnErr, IsErrOf, MatchResult, MatchOption};
-ghost use Rattle.apd_io.specs.Outside.{HasCause, Takes, Adds, IsOver};
-ghost use Rattle.apd_console.specs.Lines.{NoNewline};
-ghost use Rattle.apd_console.specs.Console.{Kept, IsKept, fresh, Hands, HearsLine, HearsEnd, HasReadCause};
+ghost use Rattle.apd_io.specs.Outside.{Counts, Takes, Adds, IsOver};
+ghost use Rattle.apd_console.specs.Lines.{HasNewline, NoNewline};
+ghost use Rattle.apd_console.specs.Console.{Kept, IsKept, fresh, Hands, HearsLine, HearsEnd, is_read_fault};
 ghost use Rattle.apd_console.specs.Draft.{IsFirstNewline, TakesPart};
 ghost use Rattle.apd_console.specs.Print.{AddsFront};
+ghost use Rattle.apd_base.specs.declared.limits.TheConstants.{MAX_INPUT};
 
 use crate::draft::Draft;
 use crate::{Line, LineEnd};
+use apd_base::MAX_INPUT;
 use apd_io::{Failed, Sink, Source};
 use std::alloc::{AllocError, Global};
 use std::marker::Model;
-
-/// The most bytes that are taken from an input.
-pub const MAX_INPUT: usize = 16_777_216;
 
 /// How many bytes are read at once.
 pub const CHUNK: usize = 8192;
@@ -63,7 +62,7 @@ impl Console {
         })
     }
 
-    /// The next line.
+    /// The next line. Where the bytes that are kept have one whole, nothing is taken from the source.
     ///
     /// # Errors
     ///
@@ -73,8 +72,9 @@ impl Console {
         ensures line { MatchResult result
             (λ line. HearsLine self.old self.new (S.left source.old) (S.left source.new) line)
             (λ end. HearsEnd self.old self.new (S.left source.old) (S.left source.new) end) }
+        ensures waits { HasNewline self.old.kept → (source.new ≡ source.old) × (self.new.taken ≡ self.old.taken) }
         ensures sound { IsKept self.new }
-        ensures cause { HasReadCause (S.faults source.old) (S.faults source.new) result }
+        ensures cause { Counts is_read_fault (S.faults source.old) (S.faults source.new) result }
     {
         let mut draft = Draft::new(self.alloc);
         'parts: loop {
@@ -103,7 +103,7 @@ impl Console {
     pub fn print<K: Sink>(sink: &mut K, bytes: &[u8]) -> Result<(), Failed>
         ensures ok { OnOk result (Adds (K.held sink.old) (K.held sink.new) bytes.now) }
         ensures err { OnErr result (AddsFront (K.held sink.old) (K.held sink.new) bytes.now) }
-        ensures cause { HasCause (K.faults sink.old) (K.faults sink.new) result }
+        ensures cause { Counts (λ _. true) (K.faults sink.old) (K.faults sink.new) result }
     {
         let mut rest = bytes;
         'bytes: while !rest.is_empty() {
@@ -120,14 +120,15 @@ impl Console {
     fn more<S: Source>(&mut self, source: &mut S) -> Result<bool, LineEnd>
         ensures hands { Hands self.old self.new (S.left source.old) (S.left source.new) [] }
         ensures some { result ≡ Ok true → 0 < length self.new.kept }
+        ensures waits { 0 < length self.old.kept → (source.new ≡ source.old) × (self.new ≡ self.old) }
         ensures over { result ≡ Ok false → (self.new.ended ≡ true) × (self.new.kept ≡ []) }
         ensures none { OnErr result (self.new.kept ≡ []) }
-        ensures limit { IsErrOf result LineEnd.InputLimit → self.new.taken ≡ 16777216 }
-        ensures below { IsErrOf result LineEnd.ReadFault → self.new.taken < 16777216 }
+        ensures limit { IsErrOf result LineEnd.InputLimit → self.new.taken ≡ MAX_INPUT }
+        ensures below { IsErrOf result LineEnd.ReadFault → self.new.taken < MAX_INPUT }
         ensures going { OnErr result (self.new.ended ≡ false) }
         ensures only { IfErr result (λ end. (end ≢ LineEnd.Ended) × (end ≢ LineEnd.Memory)) }
         ensures sound { IsKept self.new }
-        ensures cause { HasReadCause (S.faults source.old) (S.faults source.new) result }
+        ensures cause { Counts is_read_fault (S.faults source.old) (S.faults source.new) result }
     {
         if !self.is_empty() {
             return Ok(true);
@@ -142,12 +143,12 @@ impl Console {
         ensures hands { Hands self.old self.new (S.left source.old) (S.left source.new) [] }
         ensures ok { OnOk result (self.new.ended ≡ nat_eq (length self.new.kept) 0) }
         ensures err { OnErr result (self.new ≡ self.old) }
-        ensures limit { IsErrOf result LineEnd.InputLimit → self.old.taken ≡ 16777216 }
-        ensures below { IsErrOf result LineEnd.ReadFault → self.old.taken < 16777216 }
+        ensures limit { IsErrOf result LineEnd.InputLimit → self.old.taken ≡ MAX_INPUT }
+        ensures below { IsErrOf result LineEnd.ReadFault → self.old.taken < MAX_INPUT }
         ensures going { OnErr result (self.new.ended ≡ false) }
         ensures only { IfErr result (λ end. (end ≢ LineEnd.Ended) × (end ≢ LineEnd.Memory)) }
         ensures sound { IsKept self.new }
-        ensures cause { HasReadCause (S.faults source.old) (S.faults source.new) result }
+        ensures cause { Counts is_read_fault (S.faults source.old) (S.faults source.new) result }
     {
         if self.ended {
             return Ok(());
@@ -239,7 +240,7 @@ fn read_some<S: Source>(source: &mut S, chunk: &mut [u8], want: usize) -> Result
     ensures bytes { IfOk result (λ n. Takes (S.left source.old) (S.left source.new) (take n chunk.new)) }
     ensures end { IfOk result (λ n. n ≡ 0 → IsOver (S.left source.old)) }
     ensures kept { OnErr result (S.left source.new ≡ S.left source.old) }
-    ensures cause { HasCause (S.faults source.old) (S.faults source.new) result }
+    ensures cause { Counts (λ _. true) (S.faults source.old) (S.faults source.new) result }
 {
     match source.read(&mut chunk[..want]) {
         Ok(count) => Ok(count),

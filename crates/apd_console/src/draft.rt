@@ -1,19 +1,17 @@
 // A line while its bytes come in.
 ghost use Rattle.std.specs.Prelude.{◌≡◌, ◌≤◌, ◌<◌, ◌++◌, List, ℕ, [], length, IfOk, OnOk, true, false};
+ghost use Rattle.apd_base.specs.declared.limits.TheConstants.{MAX_LINE};
 
 use crate::Line;
-use apd_term::Text;
+use apd_base::{MAX_LINE, Text};
 use std::alloc::{AllocError, Global};
-
-/// The most bytes that a line may have.
-pub const MAX_LINE: usize = 65_536;
 
 /// The bytes of a line so far, as long as they aren't too many.
 #[derive(Drop)]
 pub struct Draft {
     pub text: Text,
     pub long: bool,
-    ghost short: { length text ≤ 65536 },
+    ghost short: { length text ≤ MAX_LINE },
 }
 
 impl Draft {

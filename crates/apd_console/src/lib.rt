@@ -9,13 +9,7 @@
 mod console;
 mod draft;
 mod line;
-pub mod plain;
-mod talk;
 
-pub use console::{CHUNK, Console, MAX_INPUT};
-pub use draft::MAX_LINE;
+pub use apd_base::{MAX_INPUT, MAX_LINE};
+pub use console::{CHUNK, Console};
 pub use line::{Line, LineEnd};
-pub use talk::{Ending, Next, Trouble};
-
-#[cfg(test)]
-mod tests;

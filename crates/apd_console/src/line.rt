@@ -1,5 +1,5 @@
 // A line of the input, and why there is none.
-use apd_term::Text;
+use apd_base::Text;
 
 /// A line of the input.
 #[derive(Drop)]

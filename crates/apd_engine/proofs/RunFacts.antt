@@ -17,7 +17,7 @@ use Rattle.apd_trace.specs.Trace.{Out, search_from}
 use Rattle.apd_trace.specs.Run.{Run, run_of, query_run, shown_of, ports_of, answers_of, before_event, pass}
 use Rattle.apd_trace.specs.declared.item.Item.{Item}
 use Rattle.apd_trace.specs.declared.item.Item.TheVariants.{Passed, Answer, Made}
-use Rattle.apd_trace.specs.declared.item.Point.{Point}
+use Rattle.apd_ports.specs.declared.point.Point.{Point}
 use Rattle.apd_trace.proofs.Searched.{search_same}
 use Rattle.apd_trace.proofs.Clauses.{canonical_query}
 use Rattle.apd_trace.proofs.Deeper.{run_of-up_to_error}
@@ -37,7 +37,6 @@ pub record Going (P : List Tuple) (budget answers : ℕ) (all : Run) (ports answ
   pub answers_left : answers_of all.passed ≡ answered + answers_of (left P budget answers ports answered s).passed
   pub goes : Goes s.boxes s.mode s.frames.current
   pub waits : AllWaits s.boxes s.stack s.frames.saved
-  pub room : s.frames.fresh ≤ 4294967297 * s.points
   pub height : length s.stack ≤ ports
   pub boxes : s.boxes ≤ ports
   pub points : s.points + may_make s.mode ≤ ports + answered + 1
@@ -54,7 +53,7 @@ pub record Completes {H : Type 0} (step : H → Shown → Result (Unit {0}) Hook
 pub record Showing {H : Type 0} (step : H → Shown → Result (Unit {0}) HookFault → H → Type 0) (faults : H → ℕ) (start : H) (P : List Tuple) (budget answers : ℕ) (all : Run) (ports answered : ℕ) (s : Search) (hook : H) : Type 0 where
   pub going : Going P budget answers all ports answered s
   pub completes : Completes step start (shown_of all.passed) hook (shown_of (left P budget answers ports answered s).passed)
-  pub later : faults start ≤ faults hook
+  pub kept : faults hook ≡ faults start
 
 -- a silent item is no port, no answer, and is not shown
 pub shown_of-hold : (p : Point) (xs : List Item) → shown_of (before_event (Made p) xs) ≡ shown_of xs
@@ -70,12 +69,12 @@ answers_of-hold p [] = refl
 answers_of-hold p (x ∷ xs) = refl
 
 -- what is left of a run before an item, and after it
-left_passed : (P : List Tuple) (budget answers ports answered : ℕ) (s new : Search) (e : Event) → length s.stack ≤ ports → ports < budget → Gives P s.mode s.frames s.stack s.boxes s.points (Passed e) new → left P budget answers ports answered s ≡ pass (Passed e) (left P budget answers (ports + 1) answered new)
+pub left_passed : (P : List Tuple) (budget answers ports answered : ℕ) (s new : Search) (e : Event) → length s.stack ≤ ports → ports < budget → Gives P s.mode s.frames s.stack s.boxes s.points (Passed e) new → left P budget answers ports answered s ≡ pass (Passed e) (left P budget answers (ports + 1) answered new)
 left_passed P budget answers ports answered s new e low within gives =
     let more : budget - ports ≡ suc (budget - (ports + 1)) = omega arith in
     rw (gives.items (budget + 1) (omega arith), more) refl
 
-left_answer : (P : List Tuple) (budget answers ports answered : ℕ) (s new : Search) (a : Term) → length s.stack ≤ ports → ports ≤ budget → answered + 1 < answers → Gives P s.mode s.frames s.stack s.boxes s.points (Answer a) new → left P budget answers ports answered s ≡ pass (Answer a) (left P budget answers ports (answered + 1) new)
+pub left_answer : (P : List Tuple) (budget answers ports answered : ℕ) (s new : Search) (a : Term) → length s.stack ≤ ports → ports ≤ budget → answered + 1 < answers → Gives P s.mode s.frames s.stack s.boxes s.points (Answer a) new → left P budget answers ports answered s ≡ pass (Answer a) (left P budget answers ports (answered + 1) new)
 left_answer P budget answers ports answered s new a low within more gives =
     let two : answers - answered ≡ suc (suc (answers - (answered + 2))) = omega arith in
     let one : answers - (answered + 1) ≡ suc (answers - (answered + 2)) = omega arith in
@@ -83,10 +82,10 @@ left_answer P budget answers ports answered s new a low within more gives =
 
 -- the search that is opened for a query
 abbrev pub opened : Tuple → Search
-opened query = record { frames = record { current = query_frame (canonical_tuple query) ∷ []; saved = []; fresh = 4294967297 }; mode = Forward; stack = []; boxes = 0; points = 1 }
+opened query = record { frames = record { current = query_frame (canonical_tuple query) ∷ []; saved = [] }; mode = Forward; stack = []; boxes = 0; points = 1 }
 
 -- at first all is left
-first_rest : (P : List Tuple) (query : Tuple) (budget : ℕ) → rest P (budget + 1) Forward (opened query).frames [] 0 1 ≡ (search_from P (budget + 1) (query_frame query ∷ []) 0 1).items
+pub first_rest : (P : List Tuple) (query : Tuple) (budget : ℕ) → rest P (budget + 1) Forward (opened query).frames [] 0 1 ≡ (search_from P (budget + 1) (query_frame query ∷ []) 0 1).items
 first_rest P query budget = simp (append-nil, sub-zero) (ap (λ (o : Out). o.items) (sym (search_same P (budget + 1) (query_frame query ∷ []) (query_frame (canonical_tuple query) ∷ []) 0 1 (canonical_query query))))
 
 starts : (P : List Tuple) (query : Tuple) (budget answers : ℕ) (s : Search) → 0 < answers → length query.body ≤ 64 → s ≡ opened query → Going P budget answers (query_run P query budget answers) 0 0 s
@@ -99,7 +98,6 @@ starts P query budget answers s some few is =
       answers_left = rw (cut, items, sub-zero, sub-zero) (rw (answers_of-hold, zero-add) refl);
       goes = (omega (arith, few, length-map query.body (canonical_in (by_appearance (variables_of_tuple query)))), omega arith, tt);
       waits = tt;
-      room = omega arith;
       height = omega arith;
       boxes = omega arith;
       points = omega arith;
@@ -118,7 +116,6 @@ module _ (P : List Tuple) (budget answers : ℕ) (all : Run) (ports answered : �
         answers_left = rw is at going.answers_left;
         goes = gives.goes;
         waits = gives.waits;
-        room = omega (arith, gives.fresh, gives.points_made, going.room);
         height = omega (arith, gives.height, going.height);
         boxes = omega (arith, gives.boxes_made, going.boxes);
         points = omega (arith, gives.points_made, gives.pace, going.points);
@@ -136,7 +133,6 @@ module _ (P : List Tuple) (budget answers : ℕ) (all : Run) (ports answered : �
         answers_left = omega (arith, count);
         goes = gives.goes;
         waits = gives.waits;
-        room = omega (arith, gives.fresh, gives.points_made, going.room);
         height = omega (arith, gives.height, going.height);
         boxes = omega (arith, gives.boxes_made, going.boxes);
         points = omega (arith, gives.points_made, gives.pace, going.points);
@@ -169,7 +165,7 @@ module _ {H : Type 0} (step : H → Shown → Result (Unit {0}) HookFault → H 
       record {
         going = going;
         completes = rw (run_of-up_to_error (search_from P (budget + 1) (query_frame query ∷ []) 0 1).items budget answers, is, first_rest P query budget, sub-zero, sub-zero) (rw shown_of-hold (record { through = λ end h. h; into = λ end h. h; stops = λ fault end h. h }));
-        later = omega arith;
+        kept = refl;
       }
 
   module _ (all : Run) (ports answered : ℕ) (s : Search) (hook : H) (was : Showing step faults start P budget answers all ports answered s hook) where
@@ -181,23 +177,23 @@ module _ {H : Type 0} (step : H → Shown → Result (Unit {0}) HookFault → H 
     completes_as run is = subst (λ (r : Run). Completes step start (shown_of all.passed) hook (shown_of r.passed)) is was.completes
 
     -- a port is shown
-    pub shows_port : (new : Search) (e : Event) (hook' : H) → ports < budget → Gives P s.mode s.frames s.stack s.boxes s.points (Passed e) new → step hook (ShownPort e) (Ok tt) hook' → faults hook ≤ faults hook' → Showing step faults start P budget answers all (ports + 1) answered new hook'
-    shows_port new e hook' within gives shown more =
+    pub shows_port : (new : Search) (e : Event) (hook' : H) → ports < budget → Gives P s.mode s.frames s.stack s.boxes s.points (Passed e) new → step hook (ShownPort e) (Ok tt) hook' → faults hook' ≡ faults hook → Showing step faults start P budget answers all (ports + 1) answered new hook'
+    shows_port new e hook' within gives shown same =
         let later : Run = left P budget answers (ports + 1) answered new in
         record {
           going = goes_passed P budget answers all ports answered s was.going new e within gives;
           completes = shown_next step start (shown_of all.passed) hook hook' (ShownPort e) (shown_of later.passed) (completes_as (pass (Passed e) later) (left_passed P budget answers ports answered s new e was.going.height within gives)) shown;
-          later = omega (arith, was.later);
+          kept = same ∙ was.kept;
         }
 
     -- an answer is shown
-    pub shows_answer : (new : Search) (a : Term) (hook' : H) → answered + 1 < answers → Gives P s.mode s.frames s.stack s.boxes s.points (Answer a) new → step hook (ShownAnswer a) (Ok tt) hook' → faults hook ≤ faults hook' → Showing step faults start P budget answers all ports (answered + 1) new hook'
-    shows_answer new a hook' within gives shown more =
+    pub shows_answer : (new : Search) (a : Term) (hook' : H) → answered + 1 < answers → Gives P s.mode s.frames s.stack s.boxes s.points (Answer a) new → step hook (ShownAnswer a) (Ok tt) hook' → faults hook' ≡ faults hook → Showing step faults start P budget answers all ports (answered + 1) new hook'
+    shows_answer new a hook' within gives shown same =
         let later : Run = left P budget answers ports (answered + 1) new in
         record {
           going = goes_answer P budget answers all ports answered s was.going new a within gives;
           completes = shown_next step start (shown_of all.passed) hook hook' (ShownAnswer a) (shown_of later.passed) (completes_as (pass (Answer a) later) (left_answer P budget answers ports answered s new a was.going.height was.going.within within gives)) shown;
-          later = omega (arith, was.later);
+          kept = same ∙ was.kept;
         }
 
 -- what a search gave, at the item that was matched

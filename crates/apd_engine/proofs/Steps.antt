@@ -10,30 +10,30 @@ use Rattle.apd_term.specs.Canonical.{canonical}
 use Rattle.apd_term.specs.declared.tuple.Tuple.{Tuple}
 use Rattle.apd_unify.specs.Textbook.{unifier_of}
 use Rattle.apd_trace.specs.Frames.{above, variables_of_frames, apply_frames, apart, goal_of, next_goal, entered, entering, resolved, under, outer, look_at, look_of, called, left, point_at}
-use Rattle.apd_engine.specs.Kept.{is_large_of}
+use Rattle.apd_frames.specs.Kept.{is_large_of}
 use Rattle.apd_trace.specs.BuiltIn.{Solution, of_program, faulted, failed, solved, solved_or, solution_by, solution_at, solution, outcome, built}
 use Rattle.apd_trace.specs.Trace.{Out, Next, nothing, emit, and_then, at_port, hand, closing, over, begun, succeeded, tries, settled, search_from}
-use Rattle.apd_term.specs.declared.run.RunError.{RunError}
-use Rattle.apd_term.specs.declared.run.RunError.TheVariants.{Size}
+use Rattle.apd_causes.specs.declared.run.RunError.{RunError}
+use Rattle.apd_causes.specs.declared.run.RunError.TheVariants.{Size}
 use Rattle.apd_trace.specs.declared.frame.Outcome.{Outcome}
 use Rattle.apd_trace.specs.declared.frame.Outcome.TheVariants.{User, Faults, Fails, Succeeds, Equates}
 use Rattle.apd_trace.proofs.Renamed.{renamed_self}
 use Rattle.apd_trace.specs.declared.frame.Frame.{Frame}
 use Rattle.apd_trace.specs.declared.frame.Called.{Called}
-use Rattle.apd_trace.specs.declared.item.Point.{Point}
+use Rattle.apd_ports.specs.declared.point.Point.{Point}
 use Rattle.apd_ports.specs.declared.event.Port.TheVariants.{Call, Exit, Redo, Fail}
 use Rattle.apd_trace.specs.declared.item.Item.{Item}
 use Rattle.apd_trace.specs.declared.item.Item.TheVariants.{Made, Error}
 use Rattle.apd_trace.specs.declared.frame.Look.{Look}
 use Rattle.apd_trace.specs.declared.frame.Look.TheVariants.{Goal, Exit as Exits, Answer as Answers}
 use Rattle.apd_trace.proofs.Searched.{search_same, tried_same, settled_same}
-use Rattle.apd_engine.specs.Kept.{Kept, exit_in, point_in}
+use Rattle.apd_frames.specs.Kept.{Kept, exit_in, point_in}
 use Rattle.apd_engine.specs.Search.{with_saved, forgotten, leaving, Postpones, AllWait, IsOpen, AllWaits, Gives, Skips, Found, back, resume}
 use Rattle.apd_engine.specs.declared.search.Search.{Search}
 use Rattle.apd_engine.proofs.Numbered.{cut}
-use Rattle.apd_engine.specs.Solves.{solution_as, Keeps}
-use Rattle.apd_engine.specs.declared.builtin.Solved.{Solved}
-use Rattle.apd_engine.specs.declared.builtin.Solved.TheVariants.{Program, Entered}
+use Rattle.apd_frames.specs.Solves.{solution_as, Keeps}
+use Rattle.apd_frames.specs.declared.builtin.Solved.{Solved}
+use Rattle.apd_frames.specs.declared.builtin.Solved.TheVariants.{Program, Entered}
 use Rattle.apd_engine.specs.declared.search.Choice.{Choice}
 use Rattle.apd_engine.specs.declared.search.Choice.TheVariants.{Alternatives, Again, Closing, Over}
 use Rattle.apd_engine.specs.declared.search.Mode.{Mode}
@@ -73,7 +73,7 @@ pub outer_waits : (F : List Frame) (n : ℕ) → IsOpen n F → AllWait n (outer
 outer_waits [] n ready = tt
 outer_waits (f ∷ F) n ready = ready.2
 
-pub gives_call : (P : List Tuple) (F F' : Kept) (cs cs' : List Choice) (n m : ℕ) (look : Look) (g : Called) (i : Item) → look ≡ look_of F.current (n + 1) → look ≡ Goal g → IsOpen n F.current → AllWaits n cs F.saved → F' ≡ record { current = []; saved = F.current ∷ F.saved; fresh = F.fresh } → cs' ≡ Alternatives g 0 ∷ cs → i ≡ at_port Call g → Gives P Forward F cs n m i (record { frames = F'; mode = Back; stack = cs'; boxes = n + 1; points = m })
+pub gives_call : (P : List Tuple) (F F' : Kept) (cs cs' : List Choice) (n m : ℕ) (look : Look) (g : Called) (i : Item) → look ≡ look_of F.current (n + 1) → look ≡ Goal g → IsOpen n F.current → AllWaits n cs F.saved → F' ≡ record { current = []; saved = F.current ∷ F.saved } → cs' ≡ Alternatives g 0 ∷ cs → i ≡ at_port Call g → Gives P Forward F cs n m i (record { frames = F'; mode = Back; stack = cs'; boxes = n + 1; points = m })
 gives_call P F F' cs cs' n m look g i looks is ready waits kept pushed told =
     let goal : look_of F.current (n + 1) ≡ Goal g = sym looks ∙ is in
     let wait = goal_waits F.current n g goal ready in
@@ -85,10 +85,9 @@ gives_call P F F' cs cs' n m look g i looks is ready waits kept pushed told =
       pace = omega arith;
       goes = tt;
       waits = (wait.0, wait.1, AllWaits-more n (n + 1) cs F.saved (omega arith) waits);
-      fresh = omega arith;
     })
 
-pub gives_exit : (P : List Tuple) (F F' : Kept) (cs cs' : List Choice) (n m e : ℕ) (look : Look) (g : Called) (i : Item) → look ≡ look_of F.current (n + 1) → look ≡ Exits g e → IsOpen n F.current → AllWaits n cs F.saved → F' ≡ record { current = outer F.current; saved = F.saved; fresh = F.fresh } → cs' ≡ Again g ∷ cs → i ≡ at_port Exit g → Gives P Forward F cs n m i (record { frames = F'; mode = Hand e; stack = cs'; boxes = n; points = m })
+pub gives_exit : (P : List Tuple) (F F' : Kept) (cs cs' : List Choice) (n m e : ℕ) (look : Look) (g : Called) (i : Item) → look ≡ look_of F.current (n + 1) → look ≡ Exits g e → IsOpen n F.current → AllWaits n cs F.saved → F' ≡ record { current = outer F.current; saved = F.saved } → cs' ≡ Again g ∷ cs → i ≡ at_port Exit g → Gives P Forward F cs n m i (record { frames = F'; mode = Hand e; stack = cs'; boxes = n; points = m })
 gives_exit P F F' cs cs' n m e look g i looks is ready waits kept pushed told =
     let exit : look_of F.current (n + 1) ≡ Exits g e = sym looks ∙ is in
     rw (kept, pushed, told) (record {
@@ -99,7 +98,6 @@ gives_exit P F F' cs cs' n m e look g i looks is ready waits kept pushed told =
       pace = omega arith;
       goes = outer_waits F.current n ready;
       waits = waits;
-      fresh = omega arith;
     })
 
 -- frames that wait do so under a substitution
@@ -178,7 +176,7 @@ drop_past (x ∷ xs) (suc j) le = drop_past xs j (omega arith)
 
 module _ (P : List Tuple) where
   -- a built-in goal's exit
-  pub gives_leave : (F F' : Kept) (cs : List Choice) (n m e : ℕ) (l : Called) (i : Item) → Some (l, e) ≡ exit_in F.current → IsOpen n F.current → AllWaits n cs F.saved → F' ≡ record { current = outer F.current; saved = F.saved; fresh = F.fresh } → i ≡ at_port Exit l → Gives P Leave F cs n m i (record { frames = F'; mode = Hand e; stack = cs; boxes = n; points = m })
+  pub gives_leave : (F F' : Kept) (cs : List Choice) (n m e : ℕ) (l : Called) (i : Item) → Some (l, e) ≡ exit_in F.current → IsOpen n F.current → AllWaits n cs F.saved → F' ≡ record { current = outer F.current; saved = F.saved } → i ≡ at_port Exit l → Gives P Leave F cs n m i (record { frames = F'; mode = Hand e; stack = cs; boxes = n; points = m })
   gives_leave F F' cs n m e l i exits ready waits kept told =
       rw (kept, told) (record {
         items = λ K below. ap (λ (o : Out). o.items ++ back P K cs F.saved o.boxes o.points) (leaves (search_from P (K - length cs)) F.current exits);
@@ -188,7 +186,6 @@ module _ (P : List Tuple) where
         pace = omega arith;
         goes = outer_waits F.current n ready;
         waits = waits;
-        fresh = omega arith;
       })
     where
       leaves : (next : Next) (G : List Frame) → Some (l, e) ≡ exit_in G → leaving next G n m ≡ emit (at_port Exit l) (hand next (outer G) e n m)
@@ -210,7 +207,6 @@ module _ (P : List Tuple) where
         pace = omega arith;
         goes = tt;
         waits = waits;
-        fresh = omega arith;
       })
 
   -- what comes of a goal, where that is known up to a renaming
@@ -218,8 +214,8 @@ module _ (P : List Tuple) where
   settled_as k F g i n m x h = settled_same P (search_from P k) (search_same P k) g (drop i (clauses_for g.atom P)) F F (solution F g m) x n m h (renamed_self F)
 
   -- a state that was restored from the frames saved last
-  pub gives_restored : (F old : Kept) (cs : List Choice) (n m : ℕ) (i : Item) (new : Search) (g : Called) (c : ℕ) → F.saved ≡ old.current ∷ old.saved → old.fresh ≡ F.fresh → Gives P Back (with_saved old) (Alternatives g c ∷ cs) n m i new → Gives P Back F (Alternatives g c ∷ cs) n m i new
-  gives_restored F old cs n m i new g c restored numbers gives =
+  pub gives_restored : (F old : Kept) (cs : List Choice) (n m : ℕ) (i : Item) (new : Search) (g : Called) (c : ℕ) → F.saved ≡ old.current ∷ old.saved → Gives P Back (with_saved old) (Alternatives g c ∷ cs) n m i new → Gives P Back F (Alternatives g c ∷ cs) n m i new
+  gives_restored F old cs n m i new g c restored gives =
       record {
         items = λ K below. rw restored (gives.items K below);
         height = gives.height;
@@ -228,7 +224,6 @@ module _ (P : List Tuple) where
         pace = gives.pace;
         goes = gives.goes;
         waits = gives.waits;
-        fresh = rw (← numbers) gives.fresh;
       }
 
   module _ (old : Kept) (cs : List Choice) (n m : ℕ) (g : Called) (from : ℕ) (waiting : AllWaits n (Alternatives g from ∷ cs) (old.current ∷ old.saved)) where
@@ -243,7 +238,6 @@ module _ (P : List Tuple) where
           pace = omega arith;
           goes = tt;
           waits = waiting.2;
-          fresh = omega arith;
         })
 
     pub gives_failed : (new : Kept) (mode : Mode) (i : Item) → AreAlike (solution old.current g m) failed → new ≡ old → mode ≡ Back → i ≡ at_port Fail g → Gives P Back (with_saved old) (Alternatives g from ∷ cs) n m i (record { frames = new; mode = mode; stack = cs; boxes = n; points = m })
@@ -254,8 +248,8 @@ module _ (P : List Tuple) where
         gives_fail new mode i (λ k. settled_as k old.current g from n m of_program alike ∙ skips (search_from P k) n ∙ ap (λ rs. tries (search_from P k) old.current g rs n m) (drop_past (clauses_for g.atom P) at past)) same is told
 
     -- an error
-    pub gives_fault : (new : Kept) (mode : Mode) (e : RunError) → ((k : ℕ) → resume P k g old.current from n m ≡ emit (Error e g.box_no) (nothing n m)) → new.saved ≡ old.saved → new.fresh ≤ old.fresh + 4294967297 → mode ≡ Back → Gives P Back (with_saved old) (Alternatives g from ∷ cs) n m (Error e g.box_no) (record { frames = new; mode = mode; stack = cs; boxes = n; points = m })
-    gives_fault new mode e ends same numbers is =
+    pub gives_fault : (new : Kept) (mode : Mode) (e : RunError) → ((k : ℕ) → resume P k g old.current from n m ≡ emit (Error e g.box_no) (nothing n m)) → new.saved ≡ old.saved → mode ≡ Back → Gives P Back (with_saved old) (Alternatives g from ∷ cs) n m (Error e g.box_no) (record { frames = new; mode = mode; stack = cs; boxes = n; points = m })
+    gives_fault new mode e ends same is =
         rw is (record {
           items = λ K below. rw (ends (K - suc (length cs)), same) refl;
           height = omega arith;
@@ -264,15 +258,14 @@ module _ (P : List Tuple) where
           pace = omega arith;
           goes = tt;
           waits = subst (AllWaits n cs) (sym same) waiting.2;
-          fresh = omega arith;
         })
 
     pub gives_faulted : (new : Kept) (mode : Mode) (e : RunError) → AreAlike (solution old.current g m) (faulted e) → new ≡ old → mode ≡ Back → Gives P Back (with_saved old) (Alternatives g from ∷ cs) n m (Error e g.box_no) (record { frames = new; mode = mode; stack = cs; boxes = n; points = m })
     gives_faulted new mode e alike same is =
-        gives_fault new mode e (λ k. settled_as k old.current g from n m (faulted e) alike) (ap (λ (x : Kept). x.saved) same) (let h : new.fresh ≡ old.fresh = ap (λ (x : Kept). x.fresh) same in omega arith) is
+        gives_fault new mode e (λ k. settled_as k old.current g from n m (faulted e) alike) (ap (λ (x : Kept). x.saved) same) is
 
     -- a built-in goal succeeds
-    module _ (new : Kept) (alike : AreAlike (solution old.current g m) (solved new.current)) (saved : new.saved ≡ old.saved) (numbers : new.fresh ≡ old.fresh) where
+    module _ (new : Kept) (alike : AreAlike (solution old.current g m) (solved new.current)) (saved : new.saved ≡ old.saved) where
       pub gives_solved : (cs' : List Choice) (p : Point) (l : Called) (e : ℕ) → is_large_of new.current ≡ false → Some p ≡ point_in new.current None → Some (l, e) ≡ exit_in new.current → cs' ≡ Over l g ∷ cs → Gives P Back (with_saved old) (Alternatives g from ∷ cs) n m (Made p) (record { frames = new; mode = Leave; stack = cs'; boxes = n; points = m + 1 })
       gives_solved cs' p l e large is exits pushed =
           rw pushed (record {
@@ -287,12 +280,11 @@ module _ (P : List Tuple) where
             pace = omega arith;
             goes = opened_at n (next_goal old.current) old.current g m new.current alike waiting.0 waiting.1;
             waits = subst (AllWaits n cs) (sym saved) waiting.2;
-            fresh = omega arith;
           })
 
       pub gives_oversolved : (mode : Mode) → is_large_of new.current ≡ true → mode ≡ Back → Gives P Back (with_saved old) (Alternatives g from ∷ cs) n m (Error Size g.box_no) (record { frames = new; mode = mode; stack = cs; boxes = n; points = m })
       gives_oversolved mode large is =
-          gives_fault new mode Size (λ k. settled_as k old.current g from n m (solved new.current) alike ∙ succeeded_large (search_from P k) g new.current n m large) saved (omega arith) is
+          gives_fault new mode Size (λ k. settled_as k old.current g from n m (solved new.current) alike ∙ succeeded_large (search_from P k) g new.current n m large) saved is
 
     -- the goal's clauses from an index on, where those before `at` can't be entered and that one was
     module _ (new : Kept) (at : ℕ) (alike : AreAlike (solution old.current g m) of_program) (skips : Skips P old.current g m from at) (found : Found P g m at old new) where
@@ -346,7 +338,6 @@ module _ (P : List Tuple) where
               pace = omega arith;
               goes = goes_on;
               waits = subst (AllWaits n (Alternatives g (at + 1) ∷ cs)) (sym found.entered.saved) waiting;
-              fresh = omega (arith, found.entered.fresh);
             })
 
         -- it was the last one
@@ -365,7 +356,6 @@ module _ (P : List Tuple) where
               pace = omega arith;
               goes = goes_on;
               waits = subst (AllWaits n cs) (sym bare) waiting.2;
-              fresh = omega (arith, found.entered.fresh);
             })
 
         pub gives_made : (count : ℕ) (kept : Kept) (cs' : List Choice) → count ≡ length (clauses_for g.atom P) → Postpones g (at + 1) count new cs kept cs' → Gives P Back (with_saved old) (Alternatives g from ∷ cs) n m (Made p) (record { frames = kept; mode = Forward; stack = cs'; boxes = n; points = m + 1 })
@@ -373,31 +363,31 @@ module _ (P : List Tuple) where
         gives_made count kept cs' all (inr last) = gives_only kept cs' (omega (arith, last.0)) last.2 last.1
 
       -- that one is entered, and too large
-      pub gives_large : (last : Kept) (mode : Mode) → is_large_of new.current ≡ true → new.saved ≡ last.current ∷ last.saved → last.fresh ≡ new.fresh → mode ≡ Back → Gives P Back (with_saved old) (Alternatives g from ∷ cs) n m (Error Size g.box_no) (record { frames = last; mode = mode; stack = cs; boxes = n; points = m })
-      gives_large last mode large restored numbers is =
+      pub gives_large : (last : Kept) (mode : Mode) → is_large_of new.current ≡ true → new.saved ≡ last.current ∷ last.saved → mode ≡ Back → Gives P Back (with_saved old) (Alternatives g from ∷ cs) n m (Error Size g.box_no) (record { frames = last; mode = mode; stack = cs; boxes = n; points = m })
+      gives_large last mode large restored is =
           let same : last.saved ≡ old.saved = let e : old.current ∷ old.saved ≡ last.current ∷ last.saved = sym found.entered.saved ∙ restored in cc in
-          gives_fault last mode Size (λ k. tries_found k ∙ begun_large (search_from P k) g (tries (search_from P k) old.current g (drop (at + 1) (clauses_for g.atom P))) new.current n m large) same (omega (arith, found.entered.fresh)) is
+          gives_fault last mode Size (λ k. tries_found k ∙ begun_large (search_from P k) g (tries (search_from P k) old.current g (drop (at + 1) (clauses_for g.atom P))) new.current n m large) same is
 
 -- the steps of a goal that was restored, and whose solution is told by the program
-module _ (P : List Tuple) (F old new : Kept) (cs : List Choice) (n m : ℕ) (g : Called) (from : ℕ) (told : Solved) (restored : F.saved ≡ old.current ∷ old.saved) (numbers : old.fresh ≡ F.fresh) (alike : AreAlike (solution old.current g m) (solution_as told new.current)) (keeps : Keeps told old new) (waiting : AllWaits n (Alternatives g from ∷ cs) F.saved) where
+module _ (P : List Tuple) (F old new : Kept) (cs : List Choice) (n m : ℕ) (g : Called) (from : ℕ) (told : Solved) (restored : F.saved ≡ old.current ∷ old.saved) (alike : AreAlike (solution old.current g m) (solution_as told new.current)) (keeps : Keeps told old new) (waiting : AllWaits n (Alternatives g from ∷ cs) F.saved) where
   waits_old : AllWaits n (Alternatives g from ∷ cs) (old.current ∷ old.saved)
   waits_old = subst (AllWaits n (Alternatives g from ∷ cs)) restored waiting
 
   pub retries_solved : told ≡ Entered → (cs' : List Choice) (p : Point) (l : Called) (e : ℕ) → is_large_of new.current ≡ false → Some p ≡ point_in new.current None → Some (l, e) ≡ exit_in new.current → cs' ≡ Over l g ∷ cs → Gives P Back F (Alternatives g from ∷ cs) n m (Made p) (record { frames = new; mode = Leave; stack = cs'; boxes = n; points = m + 1 })
   retries_solved is cs' p l e large point exits pushed =
       let a : AreAlike (solution old.current g m) (solved new.current) = subst (λ t. AreAlike (solution old.current g m) (solution_as t new.current)) is alike in
-      let k : (new.saved ≡ old.saved) × (new.fresh ≡ old.fresh) = subst (λ t. Keeps t old new) is keeps in
-      gives_restored P F old cs n m (Made p) (record { frames = new; mode = Leave; stack = cs'; boxes = n; points = m + 1 }) g from restored numbers
-      (gives_solved P old cs n m g from waits_old new a k.0 k.1 cs' p l e large point exits pushed)
+      let k : new.saved ≡ old.saved = subst (λ t. Keeps t old new) is keeps in
+      gives_restored P F old cs n m (Made p) (record { frames = new; mode = Leave; stack = cs'; boxes = n; points = m + 1 }) g from restored
+      (gives_solved P old cs n m g from waits_old new a k cs' p l e large point exits pushed)
 
   pub retries_oversolved : told ≡ Entered → (mode : Mode) → is_large_of new.current ≡ true → mode ≡ Back → Gives P Back F (Alternatives g from ∷ cs) n m (Error Size g.box_no) (record { frames = new; mode = mode; stack = cs; boxes = n; points = m })
   retries_oversolved is mode large at_back =
       let a : AreAlike (solution old.current g m) (solved new.current) = subst (λ t. AreAlike (solution old.current g m) (solution_as t new.current)) is alike in
-      let k : (new.saved ≡ old.saved) × (new.fresh ≡ old.fresh) = subst (λ t. Keeps t old new) is keeps in
-      gives_restored P F old cs n m (Error Size g.box_no) (record { frames = new; mode = mode; stack = cs; boxes = n; points = m }) g from restored numbers
-      (gives_oversolved P old cs n m g from waits_old new a k.0 k.1 mode large at_back)
+      let k : new.saved ≡ old.saved = subst (λ t. Keeps t old new) is keeps in
+      gives_restored P F old cs n m (Error Size g.box_no) (record { frames = new; mode = mode; stack = cs; boxes = n; points = m }) g from restored
+      (gives_oversolved P old cs n m g from waits_old new a k mode large at_back)
 
   pub retries_program : told ≡ Program → (i : Item) (end : Search) → Gives P Back (with_saved new) (Alternatives g from ∷ cs) n m i end → Gives P Back F (Alternatives g from ∷ cs) n m i end
   retries_program is i end gives =
       let same : new ≡ old = subst (λ t. Keeps t old new) is keeps in
-      gives_restored P F old cs n m i end g from restored numbers (subst (λ x. Gives P Back (with_saved x) (Alternatives g from ∷ cs) n m i end) same gives)
+      gives_restored P F old cs n m i end g from restored (subst (λ x. Gives P Back (with_saved x) (Alternatives g from ∷ cs) n m i end) same gives)

@@ -1,10 +1,9 @@
 -- What contracts see of a source, a sink and files that are kept in memory.
-use Rattle.std.specs.Prelude.{ℕ, List, [], ◌∷◌, Option, None, Some, Bool, true, false, if◌then◌else◌, nat_eq, Result, Err, ◌≡◌, ◌<◌, length, take, slice_get, IfSome}
+use Rattle.std.specs.Prelude.{ℕ, List, [], ◌∷◌, Option, None, Some, Bool, true, false, if◌then◌else◌, nat_eq, Result, Ok, Err, ◌≡◌, ◌<◌, length, take, slice_get, IfSome}
 use Rattle.std.specs.List.{list_any}
 use Rattle.std.specs.Str.{bytes_eq}
-use Rattle.apd_io.specs.Outside.{risen}
+use Rattle.apd_io.specs.Outside.{risen, is_load_fault}
 use Rattle.apd_io.specs.declared.fault.LoadFault.{LoadFault}
-use Rattle.apd_io.specs.declared.fault.LoadFault.TheVariants.{Failed}
 use Rattle.apd_io.specs.declared.calls.Calls.{Calls}
 use Rattle.apd_io.specs.declared.mem_files.MemFile.{MemFile}
 
@@ -49,5 +48,5 @@ pub record IsPlaceOf (files : List MemFile) (name : List ℕ) (i : ℕ) : Type 0
 
 -- did the load fail?
 abbrev pub is_failed : {T : Type 0} → Result T LoadFault → Bool
-is_failed (Err Failed) = true
-is_failed r = false
+is_failed (Ok content) = false
+is_failed (Err fault) = is_load_fault fault

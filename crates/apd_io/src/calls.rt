@@ -2,7 +2,7 @@
 ghost use Rattle.std.specs.Prelude.{◌≡◌, ◌≤◌};
 ghost use Rattle.apd_io.specs.Outside.{risen};
 
-use apd_term::Ids;
+use apd_base::Ids;
 
 /// The numbers of the calls that fail, counted from 1, and how many calls were made and failed.
 #[derive(Drop)]

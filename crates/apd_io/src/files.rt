@@ -1,15 +1,13 @@
 ghost use Rattle.std.specs.Prelude.{◌≡◌, ◌<◌, ◌≤◌, List, ℕ, length, IfOk, IfErr, Option};
+ghost use Rattle.apd_base.specs.declared.limits.TheConstants.{MAX_FILE, OVER_MAX_FILE};
 
 use crate::LoadFault;
-use apd_term::Text;
+use apd_base::Text;
 use std::alloc::Global;
-
-/// The most bytes that a file may have.
-pub const MAX_FILE: usize = 1_048_576;
 
 /// Files by name.
 pub trait Files {
-    ghost use Rattle.apd_io.specs.Outside.{HasLoadCause, Tells, TellsLong};
+    ghost use Rattle.apd_io.specs.Outside.{Counts, is_load_fault, Tells, TellsLong};
     ghost use Rattle.apd_io.specs.declared.fault.LoadFault.TheVariants.{TooLong};
 
     /// The content of the file of a name, where that is told.
@@ -27,9 +25,9 @@ pub trait Files {
     /// is longer than [`MAX_FILE`] bytes. [`LoadFault::Memory`] where memory ran out.
     fn load(&mut self, alloc: Global, name: &str) -> Result<Text, LoadFault>
         ensures whole { IfOk result (λ text. Tells (content self.old name.now) text) }
-        ensures bound { IfOk result (λ text. length text ≤ 1048576) }
-        ensures number { IfErr result (λ e. (n : ℕ) → e ≡ TooLong n → n ≡ 1048577) }
+        ensures bound { IfOk result (λ text. length text ≤ MAX_FILE) }
+        ensures number { IfErr result (λ e. (n : ℕ) → e ≡ TooLong n → n ≡ OVER_MAX_FILE) }
         ensures long { IfErr result (λ e. (n : ℕ) → e ≡ TooLong n → TellsLong (content self.old name.now)) }
         ensures same { content self.new ≡ content self.old }
-        ensures cause { HasLoadCause (faults self.old) (faults self.new) result };
+        ensures cause { Counts is_load_fault (faults self.old) (faults self.new) result };
 }

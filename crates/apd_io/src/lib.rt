@@ -17,9 +17,10 @@ mod source;
 mod std_sink;
 mod std_source;
 
+pub use apd_base::MAX_FILE;
 pub use disk_files::DiskFiles;
 pub use fault::{Failed, LoadFault};
-pub use files::{Files, MAX_FILE};
+pub use files::Files;
 pub use mem_files::MemFiles;
 pub use mem_sink::MemSink;
 pub use mem_source::MemSource;
@@ -27,6 +28,3 @@ pub use sink::Sink;
 pub use source::Source;
 pub use std_sink::StdSink;
 pub use std_source::StdSource;
-
-#[cfg(test)]
-mod tests;

@@ -1,11 +1,12 @@
 ghost use Rattle.std.specs.Prelude.{◌≡◌, ◌↔◌, ◌⊎◌, [], ◌<◌, ◌≤◌, ◌||◌, length, IfOk, IfErr, IsErrOf, OnErr, OnOk, IsTrue, MatchOption, None, Some, is_none, ◌≢◌, List, ℕ};
 ghost use Rattle.apd_io.specs.Memory.{Shelf, is_due, called, uncalled, content_of, is_failed, IsPlaceOf};
-ghost use Rattle.apd_io.specs.Outside.{HasLoadCause, Tells, TellsLong};
+ghost use Rattle.apd_io.specs.Outside.{Counts, is_load_fault, Tells, TellsLong};
 ghost use Rattle.apd_io.specs.declared.fault.LoadFault.TheVariants.{Failed, TooLong, Memory};
+ghost use Rattle.apd_base.specs.declared.limits.TheConstants.{MAX_FILE, OVER_MAX_FILE};
 
 use crate::calls::Calls;
 use crate::{Files, LoadFault, MAX_FILE};
-use apd_term::{Ids, Text};
+use apd_base::{Ids, OVER_MAX_FILE, Text};
 use std::alloc::{AllocError, Global};
 use std::marker::Model;
 
@@ -73,11 +74,11 @@ impl Files for MemFiles {
 
     fn load(&mut self, alloc: Global, name: &str) -> Result<Text, LoadFault>
         ensures whole { IfOk result (λ text. Tells (content_of self.old.files name.now) text) }
-        ensures bound { IfOk result (λ text. length text ≤ 1048576) }
-        ensures number { IfErr result (λ e. (n : _) → e ≡ TooLong n → n ≡ 1048577) }
+        ensures bound { IfOk result (λ text. length text ≤ MAX_FILE) }
+        ensures number { IfErr result (λ e. (n : _) → e ≡ TooLong n → n ≡ OVER_MAX_FILE) }
         ensures long { IfErr result (λ e. (n : _) → e ≡ TooLong n → TellsLong (content_of self.old.files name.now)) }
         ensures same { content_of self.new.files ≡ content_of self.old.files }
-        ensures cause { HasLoadCause self.old.calls.faults self.new.calls.faults result }
+        ensures cause { Counts is_load_fault self.old.calls.faults self.new.calls.faults result }
         ensures fails { IsErrOf result Failed ↔ IsTrue (is_due self.old.calls || is_none (content_of self.old.files name.now)) }
         ensures counted { self.new.calls ≡ called self.old.calls (is_failed result) }
     {
@@ -119,11 +120,11 @@ fn find_content<'a>(files: &'a [MemFile], name: &[u8]) -> Option<&'a Text>
 
 // A copy of a content that isn't too long.
 fn copy_content(alloc: Global, content: &Text) -> Result<Text, LoadFault>
-    ensures ok { IfOk result (λ text. (text ≡ content.now) × (length text ≤ 1048576)) }
-    ensures err { IfErr result (λ e. (e ≡ Memory) ⊎ ((e ≡ TooLong 1048577) × (1048576 < length content.now))) }
+    ensures ok { IfOk result (λ text. (text ≡ content.now) × (length text ≤ MAX_FILE)) }
+    ensures err { IfErr result (λ e. (e ≡ Memory) ⊎ ((e ≡ TooLong OVER_MAX_FILE) × (MAX_FILE < length content.now))) }
 {
     if content.len() > MAX_FILE {
-        return Err(LoadFault::TooLong(1_048_577));
+        return Err(LoadFault::TooLong(OVER_MAX_FILE));
     }
     match Text::copy_of(alloc, content.bytes()) {
         Ok(text) => Ok(text),

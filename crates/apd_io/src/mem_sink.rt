@@ -1,11 +1,11 @@
-ghost use Rattle.std.specs.Prelude.{◌≡◌, ◌↔◌, ◌-◌, ◌<◌, ◌≤◌, ◌++◌, ◌||◌, [], take, length, min, nat_le, IfOk, OnErr, IsErr, IsTrue, Some, vec_capacity};
+ghost use Rattle.std.specs.Prelude.{◌≡◌, ◌↔◌, ◌-◌, ◌<◌, ◌≤◌, ◌++◌, ◌||◌, [], take, length, min, nat_le, IfOk, OnErr, IsErr, IsTrue, true, Some, vec_capacity};
 ghost use Rattle.std.specs.Result.{is_err};
-ghost use Rattle.apd_io.specs.Outside.{HasCause};
+ghost use Rattle.apd_io.specs.Outside.{Counts};
 ghost use Rattle.apd_io.specs.Memory.{Store, is_due, called, uncalled};
 
 use crate::calls::Calls;
 use crate::{Failed, Sink};
-use apd_term::Ids;
+use apd_base::Ids;
 use std::alloc::{AllocError, Global};
 use std::marker::Model;
 
@@ -65,7 +65,7 @@ impl Sink for MemSink {
         ensures bytes { IfOk result (λ n. self.new.held ≡ self.old.held ++ take n bytes.now) }
         ensures kept { OnErr result (self.new.held ≡ self.old.held) }
         ensures room { self.new.room ≡ self.old.room }
-        ensures cause { HasCause self.old.calls.faults self.new.calls.faults result }
+        ensures cause { Counts (λ _. true) self.old.calls.faults self.new.calls.faults result }
         ensures fails { IsErr result ↔ IsTrue (is_due self.old.calls || nat_le self.old.room (length self.old.held)) }
         ensures counted { self.new.calls ≡ called self.old.calls (is_err result) }
     {

@@ -1,11 +1,11 @@
-ghost use Rattle.std.specs.Prelude.{◌≡◌, ◌↔◌, ◌<◌, ◌≤◌, ◌++◌, [], drop, take, length, min, IfOk, OnErr, IsErr, IsTrue, Some};
+ghost use Rattle.std.specs.Prelude.{◌≡◌, ◌↔◌, ◌<◌, ◌≤◌, ◌++◌, [], drop, take, length, min, IfOk, OnErr, IsErr, IsTrue, true, Some};
 ghost use Rattle.std.specs.Result.{is_err};
-ghost use Rattle.apd_io.specs.Outside.{HasCause};
+ghost use Rattle.apd_io.specs.Outside.{Counts};
 ghost use Rattle.apd_io.specs.Memory.{Feed, is_due, called, uncalled};
 
 use crate::calls::Calls;
 use crate::{Failed, Source};
-use apd_term::{Ids, Text};
+use apd_base::{Ids, Text};
 use std::marker::Model;
 
 /// A source of bytes that are kept in memory, whose reads of given numbers fail.
@@ -50,7 +50,7 @@ impl Source for MemSource {
         ensures bytes { IfOk result (λ n. self.old.left ≡ take n buf.new ++ self.new.left) }
         ensures end { IfOk result (λ n. n ≡ 0 → self.old.left ≡ []) }
         ensures kept { OnErr result (self.new.left ≡ self.old.left) }
-        ensures cause { HasCause self.old.calls.faults self.new.calls.faults result }
+        ensures cause { Counts (λ _. true) self.old.calls.faults self.new.calls.faults result }
         ensures fails { IsErr result ↔ IsTrue (is_due self.old.calls) }
         ensures counted { self.new.calls ≡ called self.old.calls (is_err result) }
     {

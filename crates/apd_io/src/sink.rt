@@ -1,11 +1,11 @@
-ghost use Rattle.std.specs.Prelude.{◌≡◌, ◌<◌, ◌≤◌, List, ℕ, length, take, IfOk, OnErr, Option};
+ghost use Rattle.std.specs.Prelude.{◌≡◌, ◌<◌, ◌≤◌, List, ℕ, length, take, true, IfOk, OnErr, Option};
 ghost use Rattle.apd_io.specs.Outside.{Adds};
 
 use crate::Failed;
 
 /// Something to write bytes to.
 pub trait Sink {
-    ghost use Rattle.apd_io.specs.Outside.{HasCause};
+    ghost use Rattle.apd_io.specs.Outside.{Counts};
 
     /// The bytes that were written, where that is told.
     ghost held: { Self → Option (List ℕ) };
@@ -25,5 +25,5 @@ pub trait Sink {
         ensures bound { IfOk result (λ n. n ≤ length bytes.now) }
         ensures bytes { IfOk result (λ n. Adds (held self.old) (held self.new) (take n bytes.now)) }
         ensures kept { OnErr result (held self.new ≡ held self.old) }
-        ensures cause { HasCause (faults self.old) (faults self.new) result };
+        ensures cause { Counts (λ _. true) (faults self.old) (faults self.new) result };
 }

@@ -1,11 +1,11 @@
-ghost use Rattle.std.specs.Prelude.{◌≡◌, ◌<◌, ◌≤◌, List, ℕ, length, take, IfOk, OnErr, Option};
+ghost use Rattle.std.specs.Prelude.{◌≡◌, ◌<◌, ◌≤◌, List, ℕ, length, take, true, IfOk, OnErr, Option};
 ghost use Rattle.apd_io.specs.Outside.{Takes, IsOver};
 
 use crate::Failed;
 
 /// Something to read bytes from.
 pub trait Source {
-    ghost use Rattle.apd_io.specs.Outside.{HasCause};
+    ghost use Rattle.apd_io.specs.Outside.{Counts};
 
     /// The bytes that are left to read, where that is told.
     ghost left: { Self → Option (List ℕ) };
@@ -26,5 +26,5 @@ pub trait Source {
         ensures bytes { IfOk result (λ n. Takes (left self.old) (left self.new) (take n buf.new)) }
         ensures end { IfOk result (λ n. n ≡ 0 → IsOver (left self.old)) }
         ensures kept { OnErr result (left self.new ≡ left self.old) }
-        ensures cause { HasCause (faults self.old) (faults self.new) result };
+        ensures cause { Counts (λ _. true) (faults self.old) (faults self.new) result };
 }

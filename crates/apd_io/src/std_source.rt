@@ -1,14 +1,17 @@
-ghost use Rattle.std.specs.Prelude.{◌≡◌, ◌<◌, ◌≤◌, ℕ, length, IfOk, None, if◌then◌else◌};
+ghost use Rattle.std.specs.Prelude.{◌≡◌, ◌<◌, ◌≤◌, ℕ, take, length, true, IfOk, OnErr, None, if◌then◌else◌};
 ghost use Rattle.std.specs.Result.{is_err};
-ghost use Rattle.apd_io.specs.Outside.{HasCause, risen};
+ghost use Rattle.std.specs.Io.KnownBytes.{Consumes, Keeps, IsAtEnd};
+ghost use Rattle.apd_io.specs.Outside.{Counts, risen};
 
 use crate::{Failed, Source};
 use std::io::Read;
 use std::marker::Model;
 
-/// A reader of the standard library as a source, which tells no content.
+/// A reader of the standard library as a source. As a source it tells no content; what it does to a
+/// reader that tells its own stands at `read`.
 ///
-/// In contracts it is the number of its reads that failed.
+/// In contracts it is what its reader has left, where that is told, with the number of its reads that
+/// failed.
 #[derive(Drop)]
 pub struct StdSource<R: Read + Drop> {
     reader: R,
@@ -16,15 +19,17 @@ pub struct StdSource<R: Read + Drop> {
 }
 
 impl<R: Read + Drop> Model for StdSource<R> {
-    ghost Value = { ℕ };
+    ghost use Rattle.apd_io.specs.Wrapped.{Wrapped};
 
-    ghost view = { λ s. s.faults };
+    ghost Value = { Wrapped };
+
+    ghost view = { λ s. record { bytes = R.remaining s.reader; faults = s.faults } };
 }
 
 impl<R: Read + Drop> StdSource<R> {
     /// A source over this reader, without a fault so far.
     pub fn new(reader: R) -> StdSource<R>
-        ensures { result ≡ 0 }
+        ensures { result ≡ record { bytes = R.remaining reader; faults = 0 } }
     {
         StdSource { reader, faults: 0 }
     }
@@ -33,13 +38,16 @@ impl<R: Read + Drop> StdSource<R> {
 impl<R: Read + Drop> Source for StdSource<R> {
     ghost left = { λ _. None };
 
-    ghost faults = { λ count. count };
+    ghost faults = { λ s. s.faults };
 
     fn read(&mut self, buf: &mut [u8]) -> Result<usize, Failed>
         requires { 0 < length buf.old }
         ensures bound { IfOk result (λ n. n ≤ length buf.new) }
-        ensures cause { HasCause self.old self.new result }
-        ensures counted { self.new ≡ (if is_err result then risen self.old else self.old) }
+        ensures consumed { IfOk result (λ n. Consumes self.old.bytes self.new.bytes (take n buf.new)) }
+        ensures over { IfOk result (λ n. n ≡ 0 → IsAtEnd self.new.bytes) }
+        ensures kept { OnErr result (Keeps self.old.bytes self.new.bytes) }
+        ensures cause { Counts (λ _. true) self.old.faults self.new.faults result }
+        ensures counted { self.new.faults ≡ (if is_err result then risen self.old.faults else self.old.faults) }
     {
         match self.reader.read(buf) {
             Ok(count) => Ok(count),

@@ -1,18 +1,18 @@
 -- The predicate that the cause of a refusal names is one of the term.
 use Rattle.std.proofs.Common.{◌≡◌, ◌==◌, ℕ, Bool, true, false, List, [], ◌∷◌, ◌++◌, length, Option, Some, None, Result, Ok, Err, refl, subst}
 use Rattle.std.specs.Prelude.{nat_le, if◌then◌else◌}
-use Rattle.apd_term.specs.Faults.{FaultIsNamed, CauseIsNamed}
+use Rattle.apd_causes.specs.Faults.{FaultIsNamed, CauseIsNamed}
 use Rattle.apd_term.specs.Named.{IsNamed}
 use Rattle.apd_term.specs.Term.{Term, variable, integer, compound, none, more}
-use Rattle.apd_term.specs.declared.faults.BodyFault.{BodyFault}
-use Rattle.apd_term.specs.declared.faults.BodyFault.TheVariants.{NotCallable}
-use Rattle.apd_term.specs.declared.faults.LoadCause.{LoadCause}
-use Rattle.apd_term.specs.declared.faults.LoadCause.TheVariants as causes
-use Rattle.apd_term.specs.declared.faults.OpCause.{OpCause}
-use Rattle.apd_term.specs.declared.faults.ReadFault.{ReadFault}
-use Rattle.apd_term.specs.declared.faults.ReadFault.TheVariants as reading
-use Rattle.apd_term.specs.declared.faults.TokenFault.{TokenFault}
-use Rattle.apd_term.specs.declared.faults.TokenFault.TheVariants as dividing
+use Rattle.apd_causes.specs.declared.faults.BodyFault.{BodyFault}
+use Rattle.apd_causes.specs.declared.faults.BodyFault.TheVariants.{NotCallable}
+use Rattle.apd_causes.specs.declared.faults.LoadCause.{LoadCause}
+use Rattle.apd_causes.specs.declared.faults.LoadCause.TheVariants as causes
+use Rattle.apd_causes.specs.declared.faults.OpCause.{OpCause}
+use Rattle.apd_causes.specs.declared.faults.ReadFault.{ReadFault}
+use Rattle.apd_causes.specs.declared.faults.ReadFault.TheVariants as reading
+use Rattle.apd_causes.specs.declared.faults.TokenFault.{TokenFault}
+use Rattle.apd_causes.specs.declared.faults.TokenFault.TheVariants as dividing
 use Rattle.apd_term.specs.declared.standard.TheConstants.{OP}
 use Rattle.apd_term.specs.declared.tuple.Tuple.{Tuple}
 use Rattle.apd_clauses.specs.Bodies.{clause_from, conjuncts}

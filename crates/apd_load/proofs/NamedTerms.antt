@@ -6,11 +6,11 @@ use Rattle.apd_term.proofs.Named.{TupleIsNamed-more}
 use Rattle.apd_term.specs.declared.term.NameId.{NameId}
 use Rattle.apd_term.specs.declared.tuple.Tuple.{Tuple}
 use Rattle.apd_term.specs.declared.standard.TheConstants.{COMMA, NECK, QUERY, OP, GRAMMAR_ARROW}
-use Rattle.apd_term.specs.declared.faults.BodyFault.{BodyFault}
-use Rattle.apd_term.specs.declared.faults.BodyFault.TheVariants as faults
-use Rattle.apd_term.specs.declared.faults.LoadCause.{LoadCause}
-use Rattle.apd_term.specs.declared.faults.LoadCause.TheVariants as causes
-use Rattle.apd_term.specs.declared.faults.OpCause.{OpCause}
+use Rattle.apd_causes.specs.declared.faults.BodyFault.{BodyFault}
+use Rattle.apd_causes.specs.declared.faults.BodyFault.TheVariants as faults
+use Rattle.apd_causes.specs.declared.faults.LoadCause.{LoadCause}
+use Rattle.apd_causes.specs.declared.faults.LoadCause.TheVariants as causes
+use Rattle.apd_causes.specs.declared.faults.OpCause.{OpCause}
 use Rattle.apd_ops.specs.Table.{Table}
 use Rattle.apd_clauses.specs.Clauses.{is_pred, tuples_of}
 use Rattle.apd_clauses.specs.declared.clause.Clause.{Clause}

@@ -5,11 +5,10 @@ use Rattle.std.proofs.lemmas.Bool.{lt-ltb, le-ltb}
 use Rattle.std.proofs.lemmas.List.{append-nil}
 use Rattle.apd_term.specs.Growth.{Grown, GrowsBy}
 use Rattle.apd_term.specs.Named.{IsNamed}
-use Rattle.apd_term.specs.StandardNames.{standard_names}
-use Rattle.apd_term.specs.declared.reading.Read.{Read}
-use Rattle.apd_term.specs.declared.faults.LoadCause.TheVariants as causes
-use Rattle.apd_term.specs.declared.faults.ReadFault.{ReadFault}
-use Rattle.apd_term.specs.declared.faults.ReadFault.TheVariants as reading
+use Rattle.apd_causes.specs.declared.reading.Read.{Read}
+use Rattle.apd_causes.specs.declared.faults.LoadCause.TheVariants as causes
+use Rattle.apd_causes.specs.declared.faults.ReadFault.{ReadFault}
+use Rattle.apd_causes.specs.declared.faults.ReadFault.TheVariants as reading
 use Rattle.apd_token.specs.declared.items.Token.{Token}
 use Rattle.apd_token.specs.Grammar.{HasTokens}
 use Rattle.apd_token.proofs.Counting.{tokens_few}
@@ -40,9 +39,6 @@ grows_more i j k a b c g h e = (g.0 ++ h.0, h.1 ∙ ap (λ s. s ++ h.0) g.1 ∙ 
 
 pub grown_length : (k : ℕ) (a b : List (List ℕ)) → GrowsBy k a b → (length a ≤ length b) × (length b ≤ length a + k)
 grown_length k a b g = let e = ap length g.1 ∙ length-append a g.0 in let few = g.2 in (omega arith, omega arith)
-
-pub names_stay : (k least : ℕ) (before names : List (List ℕ)) → GrowsBy k before names → least ≤ length before → least ≤ length names
-names_stay k least before names grows few = let more = (grown_length k before names grows).0 in omega arith
 
 -- from all clauses to those from a token on
 abbrev pub Reaches : List ℕ → List Token → ℕ → List (List ℕ) → Loading → Type 0
@@ -119,7 +115,7 @@ pub record Goes (text : List ℕ) (tokens : List Token) (at : ℕ) (before names
   pub within : at ≤ length tokens
   pub grows : GrowsBy at before names
   pub last_is : IsPlace text last
-  pub named : length standard_names ≤ length before → LoadingIsNamed (length names) s
+  pub named : LoadingIsNamed (length names) s
   pub reaches : Reaches text tokens at names s
 
 pub goes_first : (text : List ℕ) (tokens : List Token) (names : List (List ℕ)) (s : Loading) → s ≡ at_first → Goes text tokens 0 names names s (record { at = 0; line = 1 })
@@ -127,19 +123,19 @@ goes_first text tokens names s e = subst (λ x. Goes text tokens 0 names names x
   within = omega arith;
   grows = ([], sym (append-nil names), omega arith);
   last_is = first_place text;
-  named = λ standard. record { program = tt; passed = tt };
+  named = record { program = tt; passed = tt };
   reaches = reaches_first text tokens names;
 })
 
 module _ (text : List ℕ) (tokens : List Token) (at : ℕ) (before names new : List (List ℕ)) (s : Loading) (last later : Place) (goes : Goes text tokens at before names s last)
     (lt : at < length tokens) (table : IsTable s.ops) (are : HasTokens text tokens) where
   pub goes_next : (r : Read) (now : Loading) (line : ℕ) → GrowsBy (r.next - at) names new → at < r.next → r.next ≤ length tokens → ((more : List (List ℕ)) → HasReading s.ops (new ++ more) text tokens at r)
-      → (length standard_names ≤ length names → IsNamed (length new) r.term) → line ≡ line_at text r.start → IsPlace text later → term_loaded line s r.term ≡ Ok now → Goes text tokens r.next before new now later
+      → IsNamed (length new) r.term → line ≡ line_at text r.start → IsPlace text later → term_loaded line s r.term ≡ Ok now → Goes text tokens r.next before new now later
   goes_next r now line grows further within reads named is place e = record {
     within = within;
     grows = grows_more at (r.next - at) r.next before names new goes.grows grows (omega arith);
     last_is = place;
-    named = λ standard. term_named (length new) line s now r.term e (named (names_stay at (length standard_names) before names goes.grows standard)) (loading_more (length names) (length new) s (grown_length (r.next - at) names new grows).0 (goes.named standard));
+    named = term_named (length new) line s now r.term e named (loading_more (length names) (length new) s (grown_length (r.next - at) names new grows).0 goes.named);
     reaches = reaches_next text tokens at (r.next - at) names new s goes.reaches lt grows table are r reads now (subst (λ l. term_loaded l s r.term ≡ Ok now) is e) further;
   }
 

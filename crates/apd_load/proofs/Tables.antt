@@ -6,11 +6,11 @@ use Rattle.apd_term.specs.Term.{Term, Terms, variable, integer, compound, none, 
 use Rattle.apd_term.specs.declared.term.NameId.{NameId}
 use Rattle.apd_term.specs.declared.tuple.Tuple.{Tuple}
 use Rattle.apd_term.specs.declared.standard.TheConstants.{OP}
-use Rattle.apd_term.specs.declared.faults.BodyFault.{BodyFault}
-use Rattle.apd_term.specs.declared.faults.LoadCause.{LoadCause}
-use Rattle.apd_term.specs.declared.faults.LoadCause.TheVariants as causes
-use Rattle.apd_term.specs.declared.faults.OpCause.{OpCause}
-use Rattle.apd_term.specs.declared.faults.OpCause.TheVariants as ops_causes
+use Rattle.apd_causes.specs.declared.faults.BodyFault.{BodyFault}
+use Rattle.apd_causes.specs.declared.faults.LoadCause.{LoadCause}
+use Rattle.apd_causes.specs.declared.faults.LoadCause.TheVariants as causes
+use Rattle.apd_causes.specs.declared.faults.OpCause.{OpCause}
+use Rattle.apd_causes.specs.declared.faults.OpCause.TheVariants as ops_causes
 use Rattle.apd_ops.specs.declared.op.OpKind.{OpKind}
 use Rattle.apd_ops.specs.declared.op.OpFault.TheVariants as faults
 use Rattle.apd_ops.specs.Table.{Table, IsTable, IsFixed, WouldClash, defined}

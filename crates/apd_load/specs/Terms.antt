@@ -4,16 +4,17 @@ use Rattle.apd_term.specs.Term.{Term, Terms, variable, integer, compound, none, 
 use Rattle.apd_term.specs.declared.term.NameId.{NameId}
 use Rattle.apd_term.specs.declared.tuple.Tuple.{Tuple}
 use Rattle.apd_term.specs.declared.standard.TheConstants.{NECK, QUERY, OP}
-use Rattle.apd_term.specs.declared.faults.BodyFault.{BodyFault}
-use Rattle.apd_term.specs.declared.faults.BodyFault.TheVariants.{NotCallable}
-use Rattle.apd_term.specs.declared.faults.LoadCause.{LoadCause}
-use Rattle.apd_term.specs.declared.faults.LoadCause.TheVariants as causes
-use Rattle.apd_term.specs.declared.faults.OpCause.{OpCause}
+use Rattle.apd_causes.specs.declared.faults.BodyFault.{BodyFault}
+use Rattle.apd_causes.specs.declared.faults.BodyFault.TheVariants.{NotCallable}
+use Rattle.apd_causes.specs.declared.faults.LoadCause.{LoadCause}
+use Rattle.apd_causes.specs.declared.faults.LoadCause.TheVariants as causes
+use Rattle.apd_causes.specs.declared.faults.OpCause.{OpCause}
 use Rattle.apd_ops.specs.Table.{Table}
 use Rattle.apd_clauses.specs.Bodies.{clause_from, conjuncts}
 use Rattle.apd_load.specs.Results.{◌>>=◌}
 use Rattle.apd_load.specs.Directives.{op_defined}
 use Rattle.apd_load.specs.declared.loading.Loading.{Loading}
+use Rattle.apd_base.specs.declared.limits.TheConstants.{MOST_CLAUSES}
 
 -- A goal of a directive.
 
@@ -44,7 +45,7 @@ goals_obeyed line s (g ∷ gs) = do
 -- a clause is added, where there are fewer than 20,000
 abbrev pub clause_added : ℕ → Loading → Tuple → Result Loading LoadCause
 clause_added line s t =
-    if nat_le 20000 (length s.program) then Err causes.ClausesOver
+    if nat_le MOST_CLAUSES (length s.program) then Err causes.ClausesOver
     else Ok (record { program = s.program ++ record { tuple = t; line = line } ∷ []; ops = s.ops; passed = s.passed })
 
 abbrev pub body_added : ℕ → Loading → Result Tuple BodyFault → Result Loading LoadCause

@@ -11,10 +11,10 @@ mod stop;
 mod terms;
 mod warnings;
 
+use apd_base::ListOf;
+pub use apd_causes::LoadCause;
 use apd_clauses::Program;
 use apd_ops::Ops;
-pub use apd_term::faults::LoadCause;
-use apd_term::list::ListOf;
 use apd_term::term::Pred;
 pub use laws::{every_text_makes_one_program, one_program};
 pub use reading::load;
@@ -66,6 +66,3 @@ pub struct Loaded {
     /// line of the clause of that call.
     pub warnings: Notes,
 }
-
-#[cfg(test)]
-mod tests;

@@ -3,8 +3,7 @@
 ghost use Rattle.std.specs.Prelude.{◌≡◌, ℕ, ◌<◌, ◌≤◌, ◌+◌, List, length, IfOk, IfErr, Err};
 ghost use Rattle.apd_term.specs.Growth.{Grown, GrowsBy};
 ghost use Rattle.apd_term.specs.Named.{AllTuplesNamed};
-ghost use Rattle.apd_term.specs.StandardNames.{standard_names};
-ghost use Rattle.apd_term.specs.declared.faults.LoadCause.{LoadCause};
+ghost use Rattle.apd_causes.specs.declared.faults.LoadCause.{LoadCause};
 ghost use Rattle.apd_token.specs.Grammar.{HasTokens};
 ghost use Rattle.apd_read.specs.Reader.{Reader};
 ghost use Rattle.apd_clauses.specs.Clauses.{tuples_of};
@@ -12,6 +11,7 @@ ghost use Rattle.apd_load.specs.Program.{place_of_fault, place_of_token_fault, a
 ghost use Rattle.apd_load.specs.Steps.{told_of, IsLoaded, LoadTextIsNamed, LoadingIsNamed};
 ghost use Rattle.apd_load.specs.Texts.{Makes};
 ghost use Rattle.apd_load.specs.Warnings.{NotesAreNamed, warnings_of};
+ghost use Rattle.apd_base.specs.declared.limits.TheConstants.{MAX_FILE, MOST_NAMES};
 
 use crate::loading::Loading;
 use crate::places::{FIRST, line_of};
@@ -19,10 +19,11 @@ use crate::stop::Stop;
 use crate::terms::load_term;
 use crate::warnings::warnings;
 use crate::{LoadText, Loaded, Notes};
+use apd_causes::{ReadFault, TokenFault};
 use apd_clauses::Program;
 use apd_ops::Ops;
 use apd_read::read_clause;
-use apd_term::{Names, ReadFault, TokenFault};
+use apd_term::Names;
 use apd_token::{Tokens, tokens};
 use std::alloc::{AllocError, Global};
 
@@ -88,13 +89,13 @@ fn load_clauses(
     tokens: &Tokens,
     names: &mut Names,
 ) -> Result<Loading, LoadText>
-    requires room { length names.old + length text.now < 4000000000 }
-    requires size { length text.now ≤ 1048576 }
+    requires room { length names.old + length text.now < MOST_NAMES }
+    requires size { length text.now ≤ MAX_FILE }
     requires tokens { HasTokens text.now tokens.now }
     ensures grows { GrowsBy (length text.now) names.old names.new }
     ensures loaded { IsLoaded (λ n reader. all_loaded reader text.now tokens.now) names.new result }
-    ensures named { length standard_names ≤ length names.old → IfOk result (LoadingIsNamed (length names.new)) }
-    ensures cause { length standard_names ≤ length names.old → IfErr result (LoadTextIsNamed (length names.new)) }
+    ensures named { IfOk result (LoadingIsNamed (length names.new)) }
+    ensures cause { IfErr result (LoadTextIsNamed (length names.new)) }
 {
     let mut loading = at_first(alloc)?;
     let mut last = FIRST;
@@ -119,12 +120,12 @@ fn load_clauses(
 
 /// What a text makes, without what there is to warn of.
 fn load_text(alloc: Global, text: &[u8], names: &mut Names) -> Result<Loading, LoadText>
-    requires room { length names.old + length text.now < 4000000000 }
-    requires size { length text.now ≤ 1048576 }
+    requires room { length names.old + length text.now < MOST_NAMES }
+    requires size { length text.now ≤ MAX_FILE }
     ensures grows { GrowsBy (length text.now) names.old names.new }
     ensures loaded { IsLoaded (λ n reader. program_of reader text.now) names.new result }
-    ensures named { length standard_names ≤ length names.old → IfOk result (LoadingIsNamed (length names.new)) }
-    ensures cause { length standard_names ≤ length names.old → IfErr result (LoadTextIsNamed (length names.new)) }
+    ensures named { IfOk result (LoadingIsNamed (length names.new)) }
+    ensures cause { IfErr result (LoadTextIsNamed (length names.new)) }
 {
     match tokens(alloc, text) {
         Ok(tokens) => load_clauses(alloc, text, &tokens, names),
@@ -141,19 +142,20 @@ fn load_text(alloc: Global, text: &[u8], names: &mut Names) -> Result<Loading, L
 ///
 /// All tokens come first, then the clauses and directives one after the other, each read with the operators that stand
 /// before it. The first fault is told: a fault of a token or of a reading in the line of its place, any other cause in the
-/// line of the clause's first token. After a refusal the names have only grown. The clauses, the notes and the refusal have
-/// no other names than these, if the standard ones were among them.
+/// line of the clause's first token. The clauses, the notes and the refusal have no other names than these. Whatever is
+/// answered, the names have only grown, by at most as many as the text has bytes. So after a refusal and after want of
+/// memory the names of what was read till then stay, and no others.
 pub fn load(alloc: Global, text: &[u8], names: &mut Names) -> Result<Loaded, LoadText>
-    requires room { length names.old + length text.now < 4000000000 }
-    requires size { length text.now ≤ 1048576 }
+    requires room { length names.old + length text.now < MOST_NAMES }
+    requires size { length text.now ≤ MAX_FILE }
     ensures grows { GrowsBy (length text.now) names.old names.new }
     ensures loaded { IfOk result (λ l. (n : List (List ℕ)) → Grown names.new n → Makes n text.now (loads (record { program = l.program; ops = l.ops; passed = l.passed }))) }
     ensures refused { (line : ℕ) (cause : LoadCause) → result ≡ Err (LoadText.Refused line cause) → (n : List (List ℕ)) → Grown names.new n → Makes n text.now (refused line cause) }
-    ensures cause { length standard_names ≤ length names.old → IfErr result (LoadTextIsNamed (length names.new)) }
-    ensures named { length standard_names ≤ length names.old → IfOk result (λ l. AllTuplesNamed (length names.new) (tuples_of l.program)) }
-    ensures passed { length standard_names ≤ length names.old → IfOk result (λ l. NotesAreNamed (length names.new) l.passed) }
+    ensures cause { IfErr result (LoadTextIsNamed (length names.new)) }
+    ensures named { IfOk result (λ l. AllTuplesNamed (length names.new) (tuples_of l.program)) }
+    ensures passed { IfOk result (λ l. NotesAreNamed (length names.new) l.passed) }
     ensures warnings { IfOk result (λ l. l.warnings ≡ warnings_of l.program) }
-    ensures noted { length standard_names ≤ length names.old → IfOk result (λ l. NotesAreNamed (length names.new) l.warnings) }
+    ensures noted { IfOk result (λ l. NotesAreNamed (length names.new) l.warnings) }
 {
     let Loading {
         program,

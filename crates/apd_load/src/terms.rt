@@ -5,11 +5,12 @@ ghost use Rattle.apd_term.specs.Term.{size};
 ghost use Rattle.apd_clauses.specs.Bodies.{clause_from};
 ghost use Rattle.apd_load.specs.Terms.{body_added, directive_of, term_loaded};
 ghost use Rattle.apd_load.specs.Steps.{IsStep};
+ghost use Rattle.apd_base.specs.declared.limits.TheConstants.{MOST_CLAUSE_SYMBOLS};
 
 use crate::directives::obey_all;
 use crate::loading::Loading;
 use crate::stop::Stop;
-use apd_clauses::program::MOST_CLAUSES;
+use apd_base::MOST_CLAUSES;
 use apd_clauses::{Clause, clause_of};
 use apd_term::standard::{NECK, QUERY};
 use apd_term::{Flat, Pred};
@@ -32,7 +33,7 @@ fn directive_of(alloc: Global, term: &Flat) -> Result<Option<Flat>, AllocError>
 
 /// Adds the clause that a term is, with its line.
 fn add_clause(alloc: Global, loading: &mut Loading, line: u32, term: &Flat) -> Result<(), Stop>
-    requires { size term.now ≤ 4294967295 }
+    requires { size term.now ≤ MOST_CLAUSE_SYMBOLS }
     ensures { IsStep (body_added line loading.old (clause_from term.now)) loading.new result }
 {
     let tuple = clause_of(alloc, term)?;
@@ -49,7 +50,7 @@ pub(crate) fn load_term(
     line: u32,
     term: &Flat,
 ) -> Result<(), Stop>
-    requires { size term.now ≤ 4294967295 }
+    requires { size term.now ≤ MOST_CLAUSE_SYMBOLS }
     ensures { IsStep (term_loaded line loading.old term.now) loading.new result }
 {
     match directive_of(alloc, term)? {

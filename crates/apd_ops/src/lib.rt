@@ -8,8 +8,6 @@
 mod op;
 mod standard;
 mod table;
-#[cfg(test)]
-mod tests;
 
 pub use op::{Op, OpFault, OpKind};
 pub use table::Ops;

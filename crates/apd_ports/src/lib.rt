@@ -1,13 +1,12 @@
-//! Ports of boxes (Byrd 1980): what a tracer passes, what it is shown to, and which ports are printed.
+//! Ports of boxes (Byrd 1980): what a tracer passes and comes to, what it is shown to, and which ports are printed.
 #![tactic(auto)]
 
 pub mod event;
 pub mod filter;
 pub mod hook;
+pub mod point;
 
 pub use event::{Event, Port};
 pub use filter::{Admit, Filter};
 pub use hook::{Hook, HookFault, Shown};
-
-#[cfg(test)]
-mod tests;
+pub use point::{Point, PointId, Step};

@@ -7,9 +7,9 @@ use Rattle.std.proofs.lemmas.Bool.{ltb-true, ltb-false}
 use Rattle.std.proofs.lemmas.List.{append-nil}
 use Rattle.apd_term.specs.declared.term.NameId.{NameId}
 use Rattle.apd_term.specs.Names.{number_of}
-use Rattle.apd_term.specs.declared.faults.ReadFault.{ReadFault}
-use Rattle.apd_term.specs.declared.faults.ReadFault.TheVariants as faults
-use Rattle.apd_term.specs.declared.reading.Read.{Read}
+use Rattle.apd_causes.specs.declared.faults.ReadFault.{ReadFault}
+use Rattle.apd_causes.specs.declared.faults.ReadFault.TheVariants as faults
+use Rattle.apd_causes.specs.declared.reading.Read.{Read}
 use Rattle.apd_ops.specs.Table.{Table, IsTable}
 use Rattle.apd_token.specs.declared.items.Kind.{Kind}
 use Rattle.apd_token.specs.declared.items.Kind.TheVariants as kinds

@@ -9,9 +9,9 @@ use Rattle.apd_read.specs.declared.brackets.ClauseFault.{ClauseFault}
 use Rattle.apd_read.specs.declared.brackets.ClauseFault.TheVariants as seen
 use Rattle.apd_read.specs.Reading.{Piece, Splits}
 use Rattle.apd_read.specs.Clause.{Fills, filled, IsClauseFault}
-use Rattle.apd_term.specs.declared.faults.ReadFault.{ReadFault}
-use Rattle.apd_term.specs.declared.faults.ReadFault.TheVariants as faults
-use Rattle.apd_term.specs.declared.reading.Read.{Read}
+use Rattle.apd_causes.specs.declared.faults.ReadFault.{ReadFault}
+use Rattle.apd_causes.specs.declared.faults.ReadFault.TheVariants as faults
+use Rattle.apd_causes.specs.declared.reading.Read.{Read}
 use Rattle.apd_token.specs.declared.items.Token.{Token}
 use Rattle.apd_read.specs.Answer.{IsFaultIn, placed, HasLexemes, HasReading, IsReadFault, IsReadAs}
 use Rattle.apd_read.specs.Lexemes.{AreLexemes, to_end, LexemesAreNamed}

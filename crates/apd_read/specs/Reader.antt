@@ -1,9 +1,9 @@
 -- Texts read under some names as the definitions have it, so that definitions above can be functions.
 use Rattle.std.specs.Prelude.{ℕ, ◌<◌, List, length, Result, Ok, Err}
-use Rattle.apd_term.specs.declared.faults.TokenFault.{TokenFault}
-use Rattle.apd_term.specs.declared.faults.ReadFault.{ReadFault}
-use Rattle.apd_term.specs.declared.faults.ReadFault.TheVariants as faults
-use Rattle.apd_term.specs.declared.reading.Read.{Read}
+use Rattle.apd_causes.specs.declared.faults.TokenFault.{TokenFault}
+use Rattle.apd_causes.specs.declared.faults.ReadFault.{ReadFault}
+use Rattle.apd_causes.specs.declared.faults.ReadFault.TheVariants as faults
+use Rattle.apd_causes.specs.declared.reading.Read.{Read}
 use Rattle.apd_ops.specs.Table.{Table, IsTable}
 use Rattle.apd_token.specs.declared.items.Token.{Token}
 use Rattle.apd_token.specs.Grammar.{HasTokens}

@@ -1,7 +1,7 @@
 ghost use Rattle.std.specs.Prelude.{◌≡◌, ◌+◌, ◌*◌, ◌-◌, ◌≤◌, IfOk};
 ghost use Rattle.std.specs.Str.{chars, chars_after, continuation_len, lead_bits};
 
-use apd_term::Ids;
+use apd_base::Ids;
 use std::alloc::{AllocError, Global};
 
 /// How many bytes of a character stand behind its first.

@@ -1,4 +1,5 @@
-use apd_term::{Ids, NameId};
+use apd_base::Ids;
+use apd_term::NameId;
 
 /// What a token stands for in its clause.
 #[derive(Drop)]

@@ -3,11 +3,13 @@ ghost use Rattle.apd_token.specs.Grammar.{IsTokenOf, HasTokens, HasText, Content
 ghost use Rattle.apd_term.specs.Growth.{GrowsBy};
 ghost use Rattle.apd_read.specs.Lexemes.{IsNameOf, IsSort, AreLexemes, to_end, ends_clause, EndsLast, SortIsNamed, LexemesAreNamed};
 ghost use Rattle.apd_read.specs.Variables.{IsIndexed};
+ghost use Rattle.apd_base.specs.declared.limits.TheConstants.{MAX_FILE, MOST_NAMES};
 
 use crate::codes::codes;
 use crate::lexeme::{Lexeme, Sort};
 use crate::variables::Variables;
-use apd_term::{NameId, Names, VarNames};
+use apd_base::VarNames;
+use apd_term::{NameId, Names};
 use apd_token::{Kind, Token, content};
 use std::alloc::{AllocError, Global};
 
@@ -20,10 +22,10 @@ pub(crate) struct Clause {
 
 /// The name that a token's characters are.
 fn named(alloc: Global, names: &mut Names, text: &[u8], token: &Token) -> Result<NameId, AllocError>
-    requires small { length text.now ≤ 1048576 }
+    requires small { length text.now ≤ MAX_FILE }
     requires token { IsTokenOf text.now token.now }
     requires kind { HasText token.now.kind }
-    requires room { length names.old < 4000000000 }
+    requires room { length names.old < MOST_NAMES }
     ensures name { IfOk result (λ f. (v : List ℕ) × ContentOf token.now.kind (slice_range text.now token.now.start token.now.end) v × IsNameOf names.new f v) }
     ensures named { IfOk result (λ f. f.0 < length names.new) }
     ensures grown { GrowsBy 1 names.old names.new }
@@ -42,10 +44,10 @@ fn sort_of(
     token: &Token,
     vars: &mut Variables,
 ) -> Result<Sort, AllocError>
-    requires small { length text.now ≤ 1048576 }
+    requires small { length text.now ≤ MAX_FILE }
     requires token { IsTokenOf text.now token.now }
-    requires room { length names.old < 4000000000 }
-    requires few { length vars.old.texts < 4000000000 }
+    requires room { length names.old < MOST_NAMES }
+    requires few { length vars.old.texts < MOST_NAMES }
     requires indexed { IsIndexed vars.old.named vars.old.places.items vars.old.texts }
     ensures sort { IfOk result (λ s. IsSort token.now.kind names.new (slice_range text.now token.now.start token.now.end) vars.old.texts s vars.new.texts) }
     ensures indexed { IfOk result (λ _. IsIndexed vars.new.named vars.new.places.items vars.new.texts) }
@@ -93,11 +95,11 @@ pub(crate) fn lexemes(
     tokens: &[Token],
     at: usize,
 ) -> Result<Clause, AllocError>
-    requires small { length text.now ≤ 1048576 }
+    requires small { length text.now ≤ MAX_FILE }
     requires tokens { HasTokens text.now tokens.now }
-    requires few { length tokens.now ≤ 1048576 }
+    requires few { length tokens.now ≤ MAX_FILE }
     requires within { at ≤ length tokens.now }
-    requires room { length names.old + (length tokens.now - at) < 4000000000 }
+    requires room { length names.old + (length tokens.now - at) < MOST_NAMES }
     ensures lexemes { IfOk result (λ c. AreLexemes names.new text.now (to_end (drop at tokens.now)) c.lexemes.items c.vars) }
     ensures named { IfOk result (λ c. LexemesAreNamed (length names.new) c.lexemes.items) }
     ensures last { IfOk result (λ c. EndsLast c.lexemes.items) }

@@ -14,11 +14,9 @@ mod phrase;
 mod places;
 mod reader;
 mod stack;
-#[cfg(test)]
-mod tests;
 mod variables;
 
-pub use apd_term::{Read, ReadFault};
+pub use apd_causes::{Read, ReadFault};
 pub use lexeme::{Lexeme, Sort};
 pub use phrase::Phrase;
 pub use places::{Begin, Go, Inside};

@@ -2,12 +2,11 @@ ghost use Rattle.std.specs.Prelude.{◌≡◌, ◌+◌, ◌-◌, ◌*◌, ◌<�
 ghost use Rattle.apd_term.specs.Term.{size, Occurs};
 ghost use Rattle.apd_term.specs.Growth.{GrowsBy};
 ghost use Rattle.apd_term.specs.Named.{IsNamed};
-ghost use Rattle.apd_term.specs.StandardNames.{standard_names};
 ghost use Rattle.apd_token.specs.Grammar.{HasTokens};
 ghost use Rattle.apd_token.specs.declared.items.Token.{Token};
 ghost use Rattle.apd_ops.specs.Table.{Table, IsTable};
-ghost use Rattle.apd_term.specs.declared.reading.Read.{Read};
-ghost use Rattle.apd_term.specs.declared.faults.ReadFault.{ReadFault};
+ghost use Rattle.apd_causes.specs.declared.reading.Read.{Read};
+ghost use Rattle.apd_causes.specs.declared.faults.ReadFault.{ReadFault};
 ghost use Rattle.apd_read.specs.Reading.{Piece, Reads, Splits, HasNoClash};
 ghost use Rattle.apd_read.specs.Clause.{IsReading};
 ghost use Rattle.apd_read.specs.Reader.{IsRead, Reader};
@@ -17,12 +16,14 @@ ghost use Rattle.apd_read.specs.declared.lexeme.Lexeme.{Lexeme};
 ghost use Rattle.apd_read.specs.declared.brackets.Whole.{Whole};
 ghost use Rattle.apd_read.specs.declared.brackets.ClauseFault.{ClauseFault};
 ghost use Rattle.apd_read.specs.declared.brackets.ClauseFault.TheVariants.{Memory};
+ghost use Rattle.apd_base.specs.declared.limits.TheConstants.{MAX_FILE, MOST_NAMES};
 
 use crate::brackets::{ClauseFault, Whole, read};
 use crate::lexeme::Lexeme;
 use crate::lexemes::{Clause, lexemes};
+use apd_causes::{Read, ReadFault};
 use apd_ops::Ops;
-use apd_term::{Names, Read, ReadFault};
+use apd_term::Names;
 use apd_token::Tokens;
 use std::alloc::Global;
 
@@ -77,8 +78,8 @@ pub fn every_clause_reads()
 
 /// What the lexemes of a clause read as, where they begin at a token of the text.
 fn answer(alloc: Global, ops: &Ops, clause: Clause, at: usize, end: u32) -> Result<Read, ReadFault>
-    requires short { length clause.lexemes.items ≤ 1048576 }
-    requires low { at ≤ 1048576 }
+    requires short { length clause.lexemes.items ≤ MAX_FILE }
+    requires low { at ≤ MAX_FILE }
     ensures ok { IfOk result (IsReadAs ops.now clause.lexemes.items clause.vars end at) }
     ensures err { IfErr result (IsFaultIn ops.now clause.lexemes.items end) }
 {
@@ -109,7 +110,7 @@ fn answer(alloc: Global, ops: &Ops, clause: Clause, at: usize, end: u32) -> Resu
 /// the one answer that any clause may get. New names are put at the end of the names, at most one
 /// for each token from that one on, also where a fault is told; names that come later change no
 /// answer. The term has at most twice as many symbols as the text has bytes, and its names are among
-/// these if the standard ones were.
+/// these.
 pub fn read_clause(
     alloc: Global,
     ops: &Ops,
@@ -118,20 +119,21 @@ pub fn read_clause(
     tokens: &Tokens,
     at: usize,
 ) -> Result<Read, ReadFault>
-    requires small { length text.now ≤ 1048576 }
+    requires small { length text.now ≤ MAX_FILE }
     requires tokens { HasTokens text.now tokens.now }
     requires within { at < length tokens.now }
-    requires room { (t : Token) → slice_get tokens.now at ≡ Some t → length names.old + (length text.now - t.start) < 4000000000 }
+    requires room { (t : Token) → slice_get tokens.now at ≡ Some t → length names.old + (length text.now - t.start) < MOST_NAMES }
     ensures ok { IfOk result (λ r. (more : List (List ℕ)) → HasReading ops.now (names.new ++ more) text.now tokens.now at r) }
     ensures err { IfErr result (λ f. (more : List (List ℕ)) → IsReadFault ops.now (names.new ++ more) text.now tokens.now at f) }
     ensures size { IfOk result (λ r. size r.term ≤ 2 * length text.now) }
     ensures forward { IfOk result (λ r. (at < r.next) × (r.next ≤ length tokens.now)) }
     ensures few_vars { IfOk result (λ r. length r.vars ≤ length text.now) }
     ensures vars { IfOk result (λ r. (v : ℕ) → Occurs v r.term → (1 ≤ v) × (v ≤ length r.vars)) }
-    ensures named { length standard_names ≤ length names.old → IfOk result (λ r. IsNamed (length names.new) r.term) }
+    ensures named { IfOk result (λ r. IsNamed (length names.new) r.term) }
     ensures names { IfOk result (λ r. GrowsBy (r.next - at) names.old names.new) }
     ensures kept { GrowsBy (length tokens.now - at) names.old names.new }
 {
+    let _count = names.count();
     let clause = lexemes(alloc, names, text, tokens.as_slice(), at)?;
     match answer(alloc, ops, clause, at, text.len() as u32) {
         Ok(read) => Ok(read),

@@ -5,8 +5,8 @@ use Rattle.std.specs.List.{fold}
 use Rattle.std.proofs.lemmas.List.{append-nil}
 use Rattle.apd_term.specs.declared.term.NameId.{NameId}
 use Rattle.apd_term.specs.declared.standard.TheConstants.{NIL, CURLY, MINUS}
-use Rattle.apd_term.specs.declared.faults.ReadFault.{ReadFault}
-use Rattle.apd_term.specs.declared.reading.Read.{Read}
+use Rattle.apd_causes.specs.declared.faults.ReadFault.{ReadFault}
+use Rattle.apd_causes.specs.declared.reading.Read.{Read}
 use Rattle.apd_term.specs.Canonical.{with_new, by_appearance}
 use Rattle.apd_term.specs.Growth.{Grown}
 use Rattle.apd_term.specs.Names.{text_of_name}

@@ -7,8 +7,8 @@ use Rattle.apd_term.specs.Named.{IsNamed}
 use Rattle.apd_term.specs.Names.{text_of_name, HasDistinctTexts}
 use Rattle.apd_term.specs.Growth.{Grown}
 use Rattle.apd_term.specs.StandardNames.{standard_names}
-use Rattle.apd_term.specs.declared.faults.ReadFault.{ReadFault}
-use Rattle.apd_term.specs.declared.reading.Read.{Read}
+use Rattle.apd_causes.specs.declared.faults.ReadFault.{ReadFault}
+use Rattle.apd_causes.specs.declared.reading.Read.{Read}
 use Rattle.apd_ops.specs.Table.{Table}
 use Rattle.apd_token.specs.declared.items.Token.{Token}
 use Rattle.apd_token.specs.Division.{IsDivided}

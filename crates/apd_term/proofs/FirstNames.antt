@@ -1,6 +1,7 @@
 -- The standard names: how many there are, and that each text stands among them once.
-use Rattle.std.proofs.Common.{◌≡◌, ℕ, List, [], ◌∷◌, length, map, refl, subst}
+use Rattle.std.proofs.Common.{◌≡◌, ◌≤◌, ℕ, List, [], ◌∷◌, length, map, refl, ap, subst, arith, length-append}
 use Rattle.std.specs.List.{fold, IsDistinct}
+use Rattle.apd_term.specs.Growth.{Grown}
 use Rattle.apd_term.specs.Names.{with_name, text_of_name, HasDistinctTexts}
 use Rattle.apd_term.specs.StandardNames.{standard_names}
 use Rattle.apd_term.specs.StandardIds.{standard_ids}
@@ -9,6 +10,10 @@ use Rattle.apd_term.proofs.Naming.{HasDistinctTexts-with_name}
 pub length-standard_names : length standard_names ≡ 132
 unfolding standard_names
 length-standard_names = refl
+
+-- names that begin with them are as many or more
+pub standard_few : (names : List (List ℕ)) → Grown standard_names names → length standard_names ≤ length names
+standard_few names grown = omega (arith, ap length grown.1, length-append standard_names grown.0)
 
 -- putting them in one after another leaves out none
 pub fold-standard_names : fold with_name [] standard_names ≡ standard_names

@@ -1,10 +1,11 @@
 -- Numbers and texts of names: what stays when names are put at the end.
-use Rattle.std.proofs.Common.{◌≡◌, ℕ, ◌+◌, ◌<◌, ◌≤◌, get_or, drop, Bool, true, false, cond, not, List, [], ◌∷◌, ◌++◌, length, slice_index_or, if◌then◌else◌, refl, ap, sym, ◌∙◌, subst, arith, zero, suc, length-append, ◌||◌}
+use Rattle.std.proofs.Common.{◌≡◌, ℕ, ◌+◌, ◌<◌, ◌≤◌, get_or, drop, Bool, true, false, cond, not, List, [], ◌∷◌, ◌++◌, length, slice_index_or, if◌then◌else◌, refl, ap, sym, ◌∙◌, subst, arith, zero, suc, length-append, append_assoc, ◌||◌}
 use Rattle.std.specs.List.{list_any, position_or_len, IsDistinct, AllByRecursion}
 use Rattle.std.specs.Cmp.Lexicographic.{bytes_decides, nat_list_eq_equiv}
 use Rattle.std.proofs.lemmas.List.{get_or_append_left, append-nil, drop_more}
 use Rattle.std.proofs.lemmas.Bool.{true≢false}
 use Rattle.apd_term.specs.declared.term.NameId.{NameId}
+use Rattle.apd_term.specs.Growth.{Grown}
 use Rattle.apd_term.specs.Names.{same_text, is_name, number_of, text_of_name, with_name, HasDistinctTexts}
 
 -- a text has the same bytes as itself, and no other text has
@@ -184,3 +185,11 @@ number_further names text i d l e w =
     let f : number_of (drop i names) text ≡ 1 + number_of (drop (i + 1) names) text =
     ap (λ ns. number_of ns text) (drop_more names i d l) ∙ ap (λ b. cond (not b) (1 + number_of (drop (i + 1) names) text) 0) e in
     omega arith
+
+-- names that begin with others still do with one more text
+pub Grown-with_name : (first names : List (List ℕ)) (text : List ℕ) → Grown first names → Grown first (with_name names text)
+Grown-with_name first names text grown = by (is_name names text)
+  where
+    by : (b : Bool) → Grown first (if b then names else names ++ text ∷ [])
+    by true = grown
+    by false = (grown.0 ++ text ∷ [], ap (λ ns. ns ++ text ∷ []) grown.1 ∙ append_assoc first grown.0 (text ∷ []))

@@ -1,8 +1,9 @@
-//! Laws of names and of canonical forms.
+//! Laws of names, of matching and of canonical forms.
 
-ghost use Rattle.std.specs.Prelude.{◌≡◌, ◌↔◌, map};
-ghost use Rattle.apd_term.specs.Term.{Term};
-ghost use Rattle.apd_term.specs.Substitution.{IsInstance};
+ghost use Rattle.std.specs.Prelude.{◌≡◌, ◌↔◌, IsTrue, ℕ, List, map};
+ghost use Rattle.apd_term.specs.Term.{Term, apply, Occurs, variable};
+ghost use Rattle.apd_term.specs.Substitution.{IsInstance, IsMatch, term_for};
+ghost use Rattle.apd_term.specs.Matching.{same_term, matching, is_instance};
 ghost use Rattle.apd_term.specs.Canonical.{canonical, AreVariants};
 ghost use Rattle.apd_term.specs.Tuple.{IsTupleInstance, canonical_tuple, AreTupleVariants};
 ghost use Rattle.apd_term.specs.Names.{text_of_name, HasDistinctTexts};
@@ -23,4 +24,22 @@ pub fn variants_are_instances_of_each_other()
     ensures tuples { (a b : Tuple) → AreTupleVariants a b ↔ (IsTupleInstance a b × IsTupleInstance b a) }
     ensures of_a_term { (t : Term) → AreVariants (canonical t) t }
     ensures of_a_tuple { (t : Tuple) → AreTupleVariants (canonical_tuple t) t }
+{}
+
+/// What is read off two terms makes the general one into the special one, if any substitution does;
+/// other variables stay.
+pub fn matching_matches()
+    ensures makes { (special general : Term) → IsInstance special general →
+        apply (matching general special) general ≡ special }
+    ensures stays { (special general : Term) (v : ℕ) → ¬ Occurs v general →
+        matching general special v ≡ variable v }
+    ensures test { (special general : Term) →
+        IsTrue (is_instance special general) ↔ IsInstance special general }
+    ensures only { (special general : Term) (s : List (ℕ × Term)) → IsMatch special general s →
+        (v : ℕ) → term_for s v ≡ matching general special v }
+{}
+
+/// The test of equal terms tells whether they are equal.
+pub fn same_terms_are_equal()
+    ensures { (a b : Term) → IsTrue (same_term a b) ↔ (a ≡ b) }
 {}

@@ -2,8 +2,8 @@
 use Rattle.std.proofs.Common.{◌≡◌, ℕ, ◌+◌, ◌-◌, List, [], ◌∷◌, ◌++◌, length, get_or, refl, ap, ◌∙◌, arith, length-append, Option}
 use Rattle.std.proofs.Math.ListN.{set}
 use Rattle.std.proofs.Math.Seq.{get_or-append_seam, set-append_seam}
-use Rattle.apd_term.specs.declared.run.Ran.{Ran}
-use Rattle.apd_term.specs.declared.run.Query.{Query}
+use Rattle.apd_causes.specs.declared.run.Ran.{Ran}
+use Rattle.apd_causes.specs.declared.run.Query.{Query}
 use Rattle.apd_ports.specs.declared.filter.Filter.{Filter}
 use Rattle.apd_text.specs.Entries.{with_end}
 use Rattle.apd_text.specs.declared.entry.Entry.{Entry}

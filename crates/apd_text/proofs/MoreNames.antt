@@ -6,17 +6,17 @@ use Rattle.apd_term.specs.Term.{Term, Terms, variable, integer, compound, none, 
 use Rattle.apd_term.specs.Named.{IsNamed, AreNamed, AllNamed, TupleIsNamed}
 use Rattle.apd_term.proofs.Named.{TupleIsNamed-canonical}
 use Rattle.apd_term.proofs.Naming.{text_of_name-append}
-use Rattle.apd_term.specs.declared.run.Query.{Query}
-use Rattle.apd_term.specs.declared.faults.LoadCause.{LoadCause}
-use Rattle.apd_term.specs.declared.faults.LoadCause.TheVariants.{Token, Read, Op, Body, ClausesOver}
-use Rattle.apd_term.specs.declared.faults.BodyFault.{BodyFault}
-use Rattle.apd_term.specs.declared.faults.BodyFault.TheVariants as body
+use Rattle.apd_causes.specs.declared.run.Query.{Query}
+use Rattle.apd_causes.specs.declared.faults.LoadCause.{LoadCause}
+use Rattle.apd_causes.specs.declared.faults.LoadCause.TheVariants.{Token, Read, Op, Body, ClausesOver}
+use Rattle.apd_causes.specs.declared.faults.BodyFault.{BodyFault}
+use Rattle.apd_causes.specs.declared.faults.BodyFault.TheVariants as body
 use Rattle.apd_ops.specs.Table.{Table}
 use Rattle.apd_ports.specs.declared.event.Event.{Event}
 use Rattle.apd_write.proofs.MoreNames.{written-more}
 use Rattle.apd_text.specs.Causes.{body_text, cause_text}
 use Rattle.apd_text.specs.Entries.{refusal_text, text_of}
-use Rattle.apd_term.specs.Faults.{FaultIsNamed, CauseIsNamed}
+use Rattle.apd_causes.specs.Faults.{FaultIsNamed, CauseIsNamed}
 use Rattle.apd_text.specs.Named.{RefusalIsNamed, EntryIsNamed}
 use Rattle.apd_text.specs.Lines.{goal_text, goals_of, head_text, elements, elements_of, bindings, answer_text, port_text}
 use Rattle.apd_text.specs.declared.entry.Refusal.{Refusal}

@@ -1,7 +1,7 @@
 -- The text of each entry but a run, whose lines are written while it goes.
 use Rattle.std.specs.Prelude.{ℕ, ◌≡◌, List, [], ◌∷◌, ◌++◌, Option, None, Some, codes}
 use Rattle.std.specs.Fmt.{decimal}
-use Rattle.apd_term.specs.declared.run.Ran.{Ran}
+use Rattle.apd_causes.specs.declared.run.Ran.{Ran}
 use Rattle.apd_ops.specs.Table.{Table}
 use Rattle.apd_text.specs.Causes.{indicator, body_text, cause_text, cause_place}
 use Rattle.apd_text.specs.declared.entry.Refusal.{Refusal}

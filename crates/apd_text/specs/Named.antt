@@ -1,7 +1,7 @@
 -- Entries whose names are among the first n names.
 use Rattle.std.specs.Prelude.{ℕ, ◌<◌}
 use Rattle.apd_term.specs.Named.{TupleIsNamed}
-use Rattle.apd_term.specs.Faults.{FaultIsNamed, CauseIsNamed}
+use Rattle.apd_causes.specs.Faults.{FaultIsNamed, CauseIsNamed}
 use Rattle.apd_text.specs.declared.entry.Refusal.{Refusal}
 use Rattle.apd_text.specs.declared.entry.Refusal.TheVariants.{Syntax, GoalRefused}
 use Rattle.apd_text.specs.declared.entry.Entry.{Entry}

@@ -1,8 +1,8 @@
 //! What a session says, as data.
 
+use apd_causes::{BodyFault, LoadCause, Query, Ran};
 use apd_ports::Filter;
-use apd_term::faults::{BodyFault, LoadCause};
-use apd_term::{Pred, Query, Ran};
+use apd_term::Pred;
 
 /// Why a command was refused.
 #[derive(Clone, Copy, Debug, PartialEq, Eq)]

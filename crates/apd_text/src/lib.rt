@@ -13,7 +13,6 @@ mod entry;
 mod head;
 mod line;
 mod log;
-pub mod plain;
 mod port;
 mod text;
 
@@ -24,6 +23,3 @@ pub use head::head_line;
 pub use log::{Entries, Log};
 pub use port::port_line;
 pub use text::text_of;
-
-#[cfg(test)]
-mod tests;

@@ -8,10 +8,11 @@ ghost use Rattle.apd_text.specs.Entries.{text_of, refusal_text, in_line, at_byte
 use crate::causes::{add_body_fault, add_cause, add_indicator, cause_place};
 use crate::entry::{Entry, Refusal};
 use crate::line::add_number;
+use apd_base::Text;
+use apd_causes::{BodyFault, LoadCause};
 use apd_ops::Ops;
-use apd_term::faults::{BodyFault, LoadCause};
+use apd_term::Pred;
 use apd_term::names::Names;
-use apd_term::{Pred, Text};
 use std::alloc::{AllocError, Global};
 
 /// The words that the program takes.

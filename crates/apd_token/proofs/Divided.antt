@@ -4,8 +4,8 @@ use Rattle.std.specs.Prelude.{IsUtf8}
 use Rattle.std.specs.Str.{IsValidUpTo}
 use Rattle.std.proofs.lemmas.List.{take_all}
 use Rattle.std.proofs.lemmas.Bool.Decides.{leb_tells}
-use Rattle.apd_term.specs.declared.faults.TokenFault.{TokenFault}
-use Rattle.apd_term.specs.declared.faults.TokenFault.TheVariants as faults
+use Rattle.apd_causes.specs.declared.faults.TokenFault.{TokenFault}
+use Rattle.apd_causes.specs.declared.faults.TokenFault.TheVariants as faults
 use Rattle.apd_token.specs.declared.items.Token.{Token}
 use Rattle.apd_token.specs.Grammar.{HasTokens, HasFault}
 use Rattle.apd_token.specs.Division.{IsDivided}

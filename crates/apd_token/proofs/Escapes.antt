@@ -17,7 +17,7 @@ use Rattle.apd_token.specs.declared.bytes.Escape.TheVariants.{Newline, Octal, He
 use Rattle.apd_token.specs.declared.bytes.Class.TheVariants as classes
 use Rattle.apd_token.specs.declared.items.Kind.TheVariants.{Quoted, Codes}
 use Rattle.std.proofs.Math.Utf8.{scalar_cases}
-use Rattle.apd_term.specs.declared.faults.TokenFault.TheVariants as faults
+use Rattle.apd_causes.specs.declared.faults.TokenFault.TheVariants as faults
 use Rattle.apd_token.specs.declared.found.Found.{Found}
 use Rattle.apd_token.specs.declared.found.Found.TheVariants.{Item, Bad}
 use Rattle.apd_token.proofs.Slices.{slice_join, slice_first, slice_one, slice_none, slice_more, length-slice, drop_two, scans}

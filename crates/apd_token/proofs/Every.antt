@@ -7,8 +7,8 @@ use Rattle.std.specs.Str.{IsValidUpTo, is_utf8, encode_utf8_all}
 use Rattle.std.proofs.lemmas.Bool.{cases_lt, cases_eq, cases_Bool, true≢false}
 use Rattle.std.proofs.lemmas.List.{take_all, take_at}
 use Rattle.std.proofs.lemmas.Str.{IsUtf8-from_is_utf8, is_utf8-from_IsUtf8, IsUtf8-nil, IsUtf8-drop, IsCharBoundary-after_ascii, length-encode, len_utf8_bounds}
-use Rattle.apd_term.specs.declared.faults.TokenFault.{TokenFault}
-use Rattle.apd_term.specs.declared.faults.TokenFault.TheVariants as faults
+use Rattle.apd_causes.specs.declared.faults.TokenFault.{TokenFault}
+use Rattle.apd_causes.specs.declared.faults.TokenFault.TheVariants as faults
 use Rattle.apd_token.specs.Bytes.{class_of, bracket_of, in_set, is_layout, mark_of}
 use Rattle.apd_token.specs.Quotes.{numeral}
 use Rattle.apd_token.specs.Grammar.{Separates, BeginsComment, IsEnd, number, decimal, quoted_kind, BeginsScript, HasTokens, HasFault, IsFaultOf}

@@ -11,7 +11,7 @@ use Rattle.apd_token.specs.declared.bytes.Class.TheVariants as classes
 use Rattle.apd_token.specs.declared.bytes.Set.{Set}
 use Rattle.apd_token.specs.declared.bytes.Set.TheVariants as sets
 use Rattle.apd_token.specs.declared.items.Kind.{Kind}
-use Rattle.apd_term.specs.declared.faults.TokenFault.TheVariants as faults
+use Rattle.apd_causes.specs.declared.faults.TokenFault.TheVariants as faults
 use Rattle.apd_token.specs.declared.found.Found.{Found}
 use Rattle.apd_token.specs.declared.found.Found.TheVariants.{Passed, Item, Bad}
 use Rattle.apd_token.proofs.Quoting.{no_longer}

@@ -11,7 +11,7 @@ use Rattle.apd_token.specs.declared.bytes.Set.TheVariants as sets
 use Rattle.apd_token.specs.declared.bytes.Mark.{Mark}
 use Rattle.apd_token.specs.declared.bytes.Mark.TheVariants as marks
 use Rattle.apd_token.specs.declared.items.Kind.TheVariants.{Integer}
-use Rattle.apd_term.specs.declared.faults.TokenFault.TheVariants as faults
+use Rattle.apd_causes.specs.declared.faults.TokenFault.TheVariants as faults
 use Rattle.apd_token.specs.declared.found.Found.{Found}
 use Rattle.apd_token.specs.declared.found.Found.TheVariants.{Item, Bad}
 use Rattle.apd_token.proofs.Elements.{one_code}

@@ -16,7 +16,7 @@ use Rattle.apd_token.specs.declared.bytes.Class.{Class}
 use Rattle.apd_token.specs.declared.bytes.Class.TheVariants as classes
 use Rattle.apd_token.specs.declared.items.Kind.{Kind}
 use Rattle.apd_token.specs.declared.items.Kind.TheVariants.{Integer}
-use Rattle.apd_term.specs.declared.faults.TokenFault.TheVariants as faults
+use Rattle.apd_causes.specs.declared.faults.TokenFault.TheVariants as faults
 use Rattle.apd_token.specs.declared.found.Found.{Found}
 use Rattle.apd_token.specs.declared.found.Found.TheVariants.{Passed, Item, Bad}
 use Rattle.apd_token.proofs.Slices.{scans, slice_first, slice_more, slice_none, slice_one, length-slice, one_byte, no_close_in, two_bytes, drop_two, class_digit, class_graphic}

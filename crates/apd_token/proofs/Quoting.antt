@@ -6,7 +6,7 @@ use Rattle.apd_token.specs.Quotes.{ElementOf, Element, spelling, NoElement}
 use Rattle.apd_token.specs.Grammar.{NotNext, StopOf, QuoteForm, FormOf, Begins}
 use Rattle.apd_token.specs.declared.bytes.Class.{Class}
 use Rattle.apd_token.specs.declared.bytes.Class.TheVariants as classes
-use Rattle.apd_term.specs.declared.faults.TokenFault.TheVariants as faults
+use Rattle.apd_causes.specs.declared.faults.TokenFault.TheVariants as faults
 use Rattle.apd_token.specs.declared.found.Found.{Found}
 use Rattle.apd_token.specs.declared.found.Found.TheVariants.{Bad}
 use Rattle.apd_token.proofs.Elements.{one_body}

@@ -8,7 +8,7 @@ use Rattle.apd_token.specs.Bytes.{class_of, mark_of}
 use Rattle.apd_token.specs.declared.bytes.Class.{Class}
 use Rattle.apd_token.specs.declared.bytes.Class.TheVariants as classes
 use Rattle.apd_token.specs.declared.items.Kind.TheVariants.{Integer}
-use Rattle.apd_term.specs.declared.faults.TokenFault.TheVariants as faults
+use Rattle.apd_causes.specs.declared.faults.TokenFault.TheVariants as faults
 use Rattle.apd_token.specs.Grammar.{BeginsScript, EndsLine, IsLead, DigitForm, FormOf, HasForm, decimal, IsFaultOf, Begins, Piece, IsSound, Divides, place_after, token_of, spaced_behind, tokens_of, HasTokens, HasFault}
 use borrow.Author.Tests.{eqb-true}
 use Rattle.apd_token.specs.Quotes.{AllIn}
@@ -16,7 +16,7 @@ use Rattle.apd_token.specs.declared.bytes.Set.TheVariants as sets
 use Rattle.apd_token.specs.Scan.{Scans, StopsRun, HasLead}
 use Rattle.apd_token.specs.declared.items.Kind.{Kind}
 use Rattle.apd_token.specs.declared.items.Token.{Token}
-use Rattle.apd_term.specs.declared.faults.TokenFault.{TokenFault}
+use Rattle.apd_causes.specs.declared.faults.TokenFault.{TokenFault}
 use Rattle.apd_token.specs.declared.found.Found.{Found}
 use Rattle.apd_token.specs.declared.found.Found.TheVariants.{Passed, Item, Bad}
 use Rattle.apd_token.proofs.Marks.{no_utf8_marked}

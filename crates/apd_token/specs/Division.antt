@@ -1,7 +1,7 @@
 -- What a text divides into, want of memory aside.
 use Rattle.std.specs.Prelude.{ℕ, List, Result, Ok, Err, IsUtf8}
-use Rattle.apd_term.specs.declared.faults.TokenFault.{TokenFault}
-use Rattle.apd_term.specs.declared.faults.TokenFault.TheVariants as faults
+use Rattle.apd_causes.specs.declared.faults.TokenFault.{TokenFault}
+use Rattle.apd_causes.specs.declared.faults.TokenFault.TheVariants as faults
 use Rattle.apd_token.specs.declared.items.Token.{Token}
 use Rattle.apd_token.specs.Grammar.{HasTokens, IsFaultOf}
 

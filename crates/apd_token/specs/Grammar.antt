@@ -12,8 +12,8 @@ use Rattle.apd_token.specs.declared.bytes.Set.TheVariants as sets
 use Rattle.apd_token.specs.declared.items.Kind.{Kind}
 use Rattle.apd_token.specs.declared.items.Kind.TheVariants.{Name, Quoted, Codes, Variable, Integer, End}
 use Rattle.apd_token.specs.declared.items.Token.{Token}
-use Rattle.apd_term.specs.declared.faults.TokenFault.{TokenFault}
-use Rattle.apd_term.specs.declared.faults.TokenFault.TheVariants as faults
+use Rattle.apd_causes.specs.declared.faults.TokenFault.{TokenFault}
+use Rattle.apd_causes.specs.declared.faults.TokenFault.TheVariants as faults
 use Rattle.apd_token.specs.declared.found.Found.{Found}
 use Rattle.apd_token.specs.declared.found.Found.TheVariants.{Passed, Item, Bad}
 

@@ -3,11 +3,12 @@ ghost use Rattle.std.specs.Bool.{OnTrue, OnFalse};
 ghost use Rattle.apd_token.specs.Bytes.{class_of};
 ghost use Rattle.apd_token.specs.Grammar.{Separates, BeginsComment, IsEnd};
 ghost use Rattle.apd_token.specs.Scan.{Scans};
+ghost use Rattle.apd_base.specs.declared.limits.TheConstants.{MAX_FILE};
 
 use crate::bytes::{Class, Set, is_layout};
 use crate::items::Kind;
 use crate::runs::{close_at, run_end};
-use apd_term::faults::TokenFault;
+use apd_causes::TokenFault;
 
 /// What stands at a place: layout or a comment, an item, or a fault.
 #[derive(Clone, Copy, Debug, PartialEq, Eq)]
@@ -58,7 +59,7 @@ fn is_end(text: &[u8], at: usize, end: usize) -> bool
 /// A comment, an open comment, a graphic name or an end.
 pub(crate) fn graphic_at(text: &[u8], at: usize) -> (Found, usize)
     requires within { at < length text.now }
-    requires small { length text.now ≤ 1048576 }
+    requires small { length text.now ≤ MAX_FILE }
     requires class { class_of (slice_index text.now at) ≡ Class.Graphic }
     ensures { Scans text.now at result.0 result.1 }
 {

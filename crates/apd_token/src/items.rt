@@ -1,4 +1,4 @@
-use apd_term::list::ListOf;
+use apd_base::ListOf;
 
 /// What a token is.
 #[derive(Clone, Copy, Debug, PartialEq, Eq)]

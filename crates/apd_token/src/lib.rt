@@ -13,11 +13,9 @@ mod numbers;
 mod quoted;
 mod runs;
 mod scanner;
-#[cfg(test)]
-mod tests;
 mod texts;
 
-pub use apd_term::faults::TokenFault;
+pub use apd_causes::TokenFault;
 pub use bytes::{Class, Escape, Mark, Set, is_graphic, is_small, is_word};
 pub use found::Found;
 pub use items::{Kind, Token, Tokens};

@@ -3,13 +3,14 @@ ghost use Rattle.std.specs.Bool.{OnTrue, OnFalse};
 ghost use Rattle.std.specs.Str.{IsCharBoundary};
 ghost use Rattle.apd_token.specs.Bytes.{class_of};
 ghost use Rattle.apd_token.specs.Scan.{StopsRun, Scans, HasFraction, NoMarked, HasRadix, HasChar};
+ghost use Rattle.apd_base.specs.declared.limits.TheConstants.{MAX_FILE};
 
 use crate::bytes::{Class, Mark, Set, is_digit, mark_of};
 use crate::found::Found;
 use crate::items::Kind;
 use crate::quoted::code_at;
 use crate::runs::{numeral_of, run_end};
-use apd_term::faults::TokenFault;
+use apd_causes::TokenFault;
 
 /// Whether a full stop and a digit stand at `at`.
 fn has_fraction(text: &[u8], at: usize) -> bool
@@ -23,7 +24,7 @@ fn has_fraction(text: &[u8], at: usize) -> bool
 /// An integer, or what stands in the place of one.
 pub(crate) fn digits_at(text: &[u8], at: usize) -> (Found, usize)
     requires within { at < length text.now }
-    requires small { length text.now ≤ 1048576 }
+    requires small { length text.now ≤ MAX_FILE }
     requires class { class_of (slice_index text.now at) ≡ Class.Digit }
     requires unmarked { NoMarked at (drop at text.now) }
     ensures { Scans text.now at result.0 result.1 }
@@ -44,7 +45,7 @@ pub(crate) fn digits_at(text: &[u8], at: usize) -> (Found, usize)
 /// The integer of a radix whose 0 is at `at`.
 fn radix_at(text: &[u8], at: usize, radix: u64, set: Set) -> Option<(Found, usize)>
     requires within { at + 2 ≤ length text.now }
-    requires small { length text.now ≤ 1048576 }
+    requires small { length text.now ≤ MAX_FILE }
     requires low { 1 ≤ radix }
     requires high { radix ≤ 16 }
     ensures some { IfSome result (λ r. HasRadix text.now at radix set r.0 r.1) }
@@ -78,7 +79,7 @@ fn char_at(text: &str, at: usize) -> (char, usize)
 fn coded_at(text: &[u8], whole: &str, at: usize) -> (Found, usize)
     requires within { at + 1 < length text.now }
     requires same { whole.now ≡ text.now }
-    requires small { length text.now ≤ 1048576 }
+    requires small { length text.now ≤ MAX_FILE }
     requires digit { slice_index text.now at ≡ 48 }
     requires quote { slice_index text.now (at + 1) ≡ 39 }
     ensures { Scans text.now at result.0 result.1 }
@@ -112,7 +113,7 @@ fn coded_at(text: &[u8], whole: &str, at: usize) -> (Found, usize)
 pub(crate) fn marked_at(text: &[u8], whole: &str, at: usize) -> Option<(Found, usize)>
     requires within { at < length text.now }
     requires same { whole.now ≡ text.now }
-    requires small { length text.now ≤ 1048576 }
+    requires small { length text.now ≤ MAX_FILE }
     ensures some { IfSome result (λ r. Scans text.now at r.0 r.1) }
     ensures none { IfNone result (NoMarked at (drop at text.now)) }
 {

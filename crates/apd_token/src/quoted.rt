@@ -3,12 +3,13 @@ ghost use Rattle.apd_token.specs.Bytes.{class_of, in_set};
 ghost use Rattle.apd_token.specs.Quotes.{NoElement};
 ghost use Rattle.apd_token.specs.Grammar.{quoted_kind};
 ghost use Rattle.apd_token.specs.Scan.{Scans, HasDigits, NoDigits, HasCode, NoCode, HasElement, value_of};
+ghost use Rattle.apd_base.specs.declared.limits.TheConstants.{MAX_FILE};
 
 use crate::bytes::{Class, Escape, Set, escape_of, simple_code};
 use crate::found::Found;
 use crate::items::Kind;
 use crate::runs::{numeral_of, run_end};
-use apd_term::faults::TokenFault;
+use apd_causes::TokenFault;
 
 /// What an element stands for: a byte, a character or nothing.
 #[derive(Clone, Copy, Debug, PartialEq, Eq)]
@@ -127,7 +128,7 @@ fn quoted_kind(q: u8) -> Kind
 /// A quoted item, or what stands in its place.
 pub(crate) fn quoted_at(text: &[u8], at: usize) -> (Found, usize)
     requires within { at < length text.now }
-    requires small { length text.now ≤ 1048576 }
+    requires small { length text.now ≤ MAX_FILE }
     requires class { class_of (slice_index text.now at) ≡ Class.Quote }
     ensures { Scans text.now at result.0 result.1 }
 {

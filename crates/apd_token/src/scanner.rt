@@ -4,7 +4,8 @@ ghost use Rattle.apd_token.specs.Grammar.{HasTokens, HasFault, IsFaultOf, Begins
 ghost use Rattle.apd_token.specs.Division.{IsDivided};
 ghost use Rattle.apd_token.specs.Scan.{Scans, HasLead};
 ghost use Rattle.apd_token.specs.declared.items.Token.{Token};
-ghost use Rattle.apd_term.specs.declared.faults.TokenFault.{TokenFault};
+ghost use Rattle.apd_causes.specs.declared.faults.TokenFault.{TokenFault};
+ghost use Rattle.apd_base.specs.declared.limits.TheConstants.{MAX_FILE};
 
 use crate::bytes::{Class, Set, bracket_of, class_of};
 use crate::found::{Found, graphic_at};
@@ -12,7 +13,7 @@ use crate::items::{Kind, Token, Tokens};
 use crate::numbers::{digits_at, marked_at};
 use crate::quoted::quoted_at;
 use crate::runs::run_end;
-use apd_term::faults::TokenFault;
+use apd_causes::TokenFault;
 use std::alloc::Global;
 use std::str;
 
@@ -20,7 +21,7 @@ use std::str;
 fn piece_at(text: &[u8], whole: &str, at: usize) -> (Found, usize)
     requires within { at < length text.now }
     requires same { whole.now ≡ text.now }
-    requires small { length text.now ≤ 1048576 }
+    requires small { length text.now ≤ MAX_FILE }
     ensures { Scans text.now at result.0 result.1 }
 {
     let first = text[at];
@@ -70,7 +71,7 @@ fn lead_end(text: &[u8]) -> usize
 /// a first line that begins with `#!`. A fault is the first one from the left; whether the bytes are
 /// UTF-8 is looked at before all else. `Memory` is the one answer that any text may get.
 pub fn tokens(alloc: Global, text: &[u8]) -> Result<Tokens, TokenFault>
-    requires { length text.now ≤ 1048576 }
+    requires { length text.now ≤ MAX_FILE }
     ensures ok { IfOk result (λ ts. IsUtf8 text.now × HasTokens text.now ts) }
     ensures err { IfErr result (IsFaultOf text.now) }
 {

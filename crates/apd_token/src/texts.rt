@@ -2,10 +2,11 @@ ghost use Rattle.std.specs.Prelude.{◌≡◌, ℕ, ◌<◌, ◌≤◌, List, �
 ghost use Rattle.apd_token.specs.Grammar.{IsTokenOf, HasText, ContentOf};
 ghost use Rattle.apd_token.specs.Scan.{value_of, Unquotes};
 ghost use Rattle.apd_token.specs.declared.items.Kind.{Kind};
+ghost use Rattle.apd_base.specs.declared.limits.TheConstants.{MAX_FILE};
 
 use crate::items::{Kind, Token};
 use crate::quoted::{Value, element_at};
-use apd_term::list::Text;
+use apd_base::Text;
 use std::alloc::{AllocError, Global};
 
 fn push_value(out: &mut Text, value: Value) -> Result<(), AllocError>
@@ -50,7 +51,7 @@ fn part(alloc: Global, text: &[u8], start: usize, end: usize) -> Result<Text, Al
 /// A name or a variable stands for its own bytes. Between quotes a doubled quote stands for one, an
 /// escape for its character, and each other byte for itself.
 pub fn content(alloc: Global, text: &[u8], token: &Token) -> Result<Text, AllocError>
-    requires small { length text.now ≤ 1048576 }
+    requires small { length text.now ≤ MAX_FILE }
     requires token { IsTokenOf text.now token.now }
     requires kind { HasText token.now.kind }
     ensures { IfOk result (λ v. ContentOf token.now.kind (slice_range text.now token.now.start token.now.end) v) }

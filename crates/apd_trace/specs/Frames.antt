@@ -10,12 +10,13 @@ use Rattle.apd_trace.specs.declared.frame.Frame.{Frame}
 use Rattle.apd_trace.specs.declared.frame.Called.{Called}
 use Rattle.apd_trace.specs.declared.frame.Look.{Look}
 use Rattle.apd_trace.specs.declared.frame.Look.TheVariants.{Nothing, Goal, Exit as Exits, Answer as Answers}
-use Rattle.apd_trace.specs.declared.item.Step.{Step}
-use Rattle.apd_trace.specs.declared.item.Point.{Point}
+use Rattle.apd_ports.specs.declared.point.Step.{Step}
+use Rattle.apd_ports.specs.declared.point.Point.{Point}
+use Rattle.apd_base.specs.declared.limits.TheConstants.{MOST_INSTANCE_SYMBOLS}
 
 -- an instance of a clause may have 1,000,000 symbols
 abbrev pub is_large : Tuple → Bool
-is_large t = nat_lt 1000000 (size_of_tuple t)
+is_large t = nat_lt MOST_INSTANCE_SYMBOLS (size_of_tuple t)
 
 -- a substitution in a frame's tuple
 abbrev pub apply_frame : (ℕ → Term) → Frame → Frame

@@ -6,8 +6,8 @@ use Rattle.apd_term.specs.Term.{Term, Terms, variable, integer, compound, none, 
 use Rattle.apd_term.specs.Substitution.{term_for, single, extended, with_applied}
 use Rattle.apd_term.specs.Named.{IsNamed, AreNamed, AllNamed}
 use Rattle.apd_term.proofs.Named.{IsNamed-apply}
-use Rattle.apd_unify.specs.declared.equations.Rule.{Rule}
-use Rattle.apd_unify.specs.declared.equations.Rule.TheVariants.{Delete, Decompose, Clash, Cycle, Eliminate}
+use Rattle.apd_unify.specs.declared.rule.Rule.{Rule}
+use Rattle.apd_unify.specs.declared.rule.Rule.TheVariants.{Delete, Decompose, Clash, Cycle, Eliminate}
 use Rattle.apd_unify.specs.Textbook.{Equation, apply_equations, size_equations, stands_in, rule_for, rule_for_variable, solution_in, unifier_of}
 use Rattle.apd_unify.proofs.Textbook.{after_rule}
 

@@ -10,8 +10,8 @@ use Rattle.apd_term.specs.Term.{Term, Terms, variable, integer, compound, none, 
 use Rattle.apd_term.proofs.Spelling.{length-apply_all}
 use Rattle.apd_term.specs.Substitution.{Unifies}
 use Rattle.apd_term.proofs.Among.{IsAmong-left, IsAmong-right, IsAmong-append}
-use Rattle.apd_unify.specs.declared.equations.Rule.{Rule}
-use Rattle.apd_unify.specs.declared.equations.Rule.TheVariants.{Delete, Decompose, Clash, Cycle, Eliminate}
+use Rattle.apd_unify.specs.declared.rule.Rule.{Rule}
+use Rattle.apd_unify.specs.declared.rule.Rule.TheVariants.{Delete, Decompose, Clash, Cycle, Eliminate}
 use Rattle.apd_unify.specs.Unifier.{OccursIn, HasNoUnifier}
 use Rattle.apd_unify.specs.Textbook.{size_equations, stands_in, rule_for, rule_for_variable}
 use Rattle.apd_unify.proofs.Rounds.{UnifiesAll, OccursInAll}
@@ -107,6 +107,13 @@ eliminates a b v t s n = record {
   smaller = s.smaller;
 }
 
+-- a variable against a term without it
+pub eliminates_left : (v : ℕ) (t : Term) → ¬ Occurs v t → Eliminates (variable v) t v t
+eliminates_left v t n = eliminates (variable v) t v t (sides_left v t) n
+
+pub eliminates_right : (v : ℕ) (t : Term) → ¬ Occurs v t → Eliminates t (variable v) v t
+eliminates_right v t n = eliminates t (variable v) v t (sides_right v t) n
+
 variable_rule-right : (a b : Term) (v : ℕ) (t : Term) → HasSides a b v t → IsRightRule a b (rule_for_variable v t)
 variable_rule-right a b v (variable w) s = let d = Decides-eqb v w in by_test (v == w) d.0 d.1
   where
@@ -159,7 +166,7 @@ smaller_all none us = omega arith
 smaller_all (more t ts) none = omega arith
 smaller_all (more t ts) (more u us) = omega (arith, smaller_all ts us)
 
-decomposes : (f g : NameId) (ts us : Terms) → f ≡ g → length (list_of ts) ≡ length (list_of us) → Decomposes (compound f ts) (compound g us)
+pub decomposes : (f g : NameId) (ts us : Terms) → f ≡ g → length (list_of ts) ≡ length (list_of us) → Decomposes (compound f ts) (compound g us)
 decomposes f g ts us e l = record {
   same_number = l;
   split = λ u h. split_all u ts us (cc);

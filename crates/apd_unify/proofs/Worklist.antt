@@ -1,16 +1,15 @@
 -- What the program that solves equations by the textbook's rules keeps.
-use Rattle.std.proofs.Common.{◌≡◌, ◌⊎◌, inl, inr, ℕ, zero, suc, ◌+◌, ◌-◌, ◌*◌, ◌<◌, ◌≤◌, Some, None, List, [], ◌∷◌, ◌++◌, length, drop, map, refl, sym, ◌∙◌, ap, subst, arith, mul-le-mul}
+use Rattle.std.proofs.Common.{◌≡◌, ◌⊎◌, inl, inr, ℕ, zero, suc, ◌+◌, ◌-◌, ◌<◌, ◌≤◌, Some, None, List, [], ◌∷◌, ◌++◌, length, drop, map, refl, sym, ◌∙◌, ap, subst, arith}
 use Rattle.std.specs.List.{zip, slice_get}
 use Rattle.std.proofs.lemmas.List.{map-append}
-use Rattle.std.proofs.lemmas.Bool.{cases_eq}
-use Rattle.apd_term.specs.Term.{Term, Terms, variable, integer, compound, none, more, arguments, size, size_all, apply, apply_all, variables}
+use Rattle.apd_term.specs.Term.{Term, arguments, size, apply, variables}
 use Rattle.apd_term.proofs.Spelling.{size_positive}
 use Rattle.apd_term.specs.Substitution.{term_for, IsFree, single, extended}
-use Rattle.apd_term.proofs.Pairs.{term_for-same, term_for-other}
-use Rattle.apd_unify.specs.declared.equations.Rule.{Rule}
-use Rattle.apd_unify.specs.declared.equations.Rule.TheVariants.{Delete, Decompose, Clash, Cycle, Eliminate}
+use Rattle.apd_unify.specs.declared.rule.Rule.{Rule}
+use Rattle.apd_unify.specs.declared.rule.Rule.TheVariants.{Delete, Decompose, Clash, Cycle, Eliminate}
 use Rattle.apd_unify.specs.Textbook.{Equation, apply_equations, size_equations, rule_for, solution_in, unifier_of}
-use Rattle.apd_unify.proofs.Rounds.{IsRound, first_round, fewer_left, length-extended}
+use Rattle.apd_unify.proofs.Measure.{most_steps, most_steps-lt, steps_eliminated}
+use Rattle.apd_unify.proofs.Rounds.{IsRound, apply_equations-append, first_round, fewer_left}
 use Rattle.apd_unify.proofs.Rules.{IsRightRule, rule_for-right}
 use Rattle.apd_unify.proofs.Textbook.{after_rule, deleted_round, decomposed_round, eliminated_round}
 
@@ -108,43 +107,6 @@ under_way_eliminated a b e es found v t w is =
       same = u.same;
     }
 
--- no less than the rules that equations of s symbols take, where n variables may be eliminated
-abbrev pub most_steps : ℕ → ℕ → ℕ
-most_steps zero s = s
-most_steps (suc n) s = s + suc (most_steps n (s * s))
-
-most_steps-le : (n s r : ℕ) → s ≤ r → most_steps n s ≤ most_steps n r
-most_steps-le zero s r l = l
-most_steps-le (suc n) s r l = omega (arith, most_steps-le n (s * s) (r * r) (mul-le-mul l l))
-
-pub most_steps-lt : (n s r : ℕ) → s < r → most_steps n s < most_steps n r
-most_steps-lt zero s r l = l
-most_steps-lt (suc n) s r l =
-    let k : s ≤ r = omega arith in
-    omega (arith, most_steps-le n (s * s) (r * r) (mul-le-mul k k))
-
--- a substitution by terms of at most k symbols
-mutual
-  size-apply : (s : ℕ → Term) (k : ℕ) → 0 < k → ((v : ℕ) → size (s v) ≤ k) → (t : Term) → size (apply s t) ≤ size t * k
-  size-apply s k p h (variable v) = omega (arith, h v)
-  size-apply s k p h (integer i) = omega arith
-  size-apply s k p h (compound f ts) = omega (arith, size_all-apply s k p h ts)
-
-  size_all-apply : (s : ℕ → Term) (k : ℕ) → 0 < k → ((v : ℕ) → size (s v) ≤ k) → (ts : Terms) → size_all (apply_all s ts) ≤ size_all ts * k
-  size_all-apply s k p h none = omega arith
-  size_all-apply s k p h (more t ts) = omega (arith, size-apply s k p h t, size_all-apply s k p h ts)
-
-size_equations-apply : (s : ℕ → Term) (k : ℕ) → 0 < k → ((v : ℕ) → size (s v) ≤ k) → (es : List Equation) → size_equations (apply_equations s es) ≤ size_equations es * k
-size_equations-apply s k p h [] = omega arith
-size_equations-apply s k p h (e ∷ es) =
-    omega (arith, size-apply s k p h e.0, size-apply s k p h e.1, size_equations-apply s k p h es)
-
-size-single : (v : ℕ) (t : Term) (w : ℕ) → size (term_for (single v t) w) ≤ size t
-size-single v t w = elim (cases_eq v w) [
-  | inl e ↦ omega (arith, ap size (term_for-same (v, t) [] w e))
-  | inr n ↦ omega (arith, ap size (term_for-other (v, t) [] w n), size_positive t)
-]
-
 -- each rule leaves fewer steps, although an elimination may make the equations larger
 pub steps_deleted : (a b : Term) (e : Equation) (es : List Equation) (found : List (ℕ × Term))
     → most_steps (length (variables a ++ variables b) - length found) (size_equations es)
@@ -158,26 +120,6 @@ pub steps_decomposed : (a b : Term) (e : Equation) (es : List Equation) (found :
 steps_decomposed a b e es found w is =
     most_steps-lt (length (variables a ++ variables b) - length found) (size_equations (zip (arguments e.0) (arguments e.1) ++ es)) (size_equations (e ∷ es))
     (decomposed_round a b e es found w.round (right_rule e Decompose is)).1
-
-pub steps_eliminated : (a b : Term) (e : Equation) (es : List Equation) (found : List (ℕ × Term)) (v : ℕ) (t : Term) → IsUnderWay a b (e ∷ es) found
-    → Eliminate v t ≡ rule_for e.0 e.1
-    → most_steps (length (variables a ++ variables b) - length (extended found v t)) (size_equations (apply_equations (term_for (single v t)) es))
-    < most_steps (length (variables a ++ variables b) - length found) (size_equations (e ∷ es))
-steps_eliminated a b e es found v t w is =
-    let one = term_for (single v t) in
-    let rest = apply_equations one es in
-    let k = right_rule e (Eliminate v t) is in
-    let grown : size_equations rest ≤ size_equations es * size t = size_equations-apply one (size t) (size_positive t) (size-single v t) es in
-    let es_within : size_equations es ≤ size_equations (e ∷ es) = omega arith in
-    let t_within : size t ≤ size_equations (e ∷ es) = omega (arith, k.smaller) in
-    let within : size_equations es * size t ≤ size_equations (e ∷ es) * size_equations (e ∷ es) = mul-le-mul es_within t_within in
-    fewer (length (variables a ++ variables b) - length found) (length (variables a ++ variables b) - length (extended found v t))
-    (size_equations (e ∷ es)) (size_equations rest)
-    (let l = fewer_left a b rest found v t (eliminated_round a b e es found v t w.round k) in omega (arith, l, length-extended found v t))
-    (omega arith)
-  where
-    fewer : (n m s r : ℕ) → n ≡ suc m → r ≤ s * s → most_steps m r < most_steps n s
-    fewer n m s r q l = rw q (omega (arith, most_steps-le m r (s * s) l))
 
 -- one more place of the arguments
 zip_at : (ts us : List Term) (i : ℕ) (x y : Term) → slice_get ts i ≡ Some x → slice_get us i ≡ Some y
@@ -199,10 +141,6 @@ pushed_place ts us k x y rest before after l e f g h =
     let z : zip (drop (k - 1) ts) (drop (k - 1) us) ≡ (x, y) ∷ zip (drop k ts) (drop k us) =
     zip_at ts us (k - 1) x y e f ∙ ap (λ j. (x, y) ∷ zip (drop j ts) (drop j us)) n in
     h ∙ ap (λ r. (x, y) ∷ r) g ∙ ap (λ r. r ++ rest) (sym z)
-
-apply_equations-append : (s : ℕ → Term) (es ds : List Equation) → apply_equations s (es ++ ds) ≡ apply_equations s es ++ apply_equations s ds
-apply_equations-append s [] ds = refl
-apply_equations-append s (e ∷ es) ds = ap (λ r. (apply s e.0, apply s e.1) ∷ r) (apply_equations-append s es ds)
 
 -- one more equation with the substitution applied
 pub substituted_more : {X : Type 0} (f : X → Equation) (s : ℕ → Term) (ys : List X) (y : X) (before after : List Equation) (l r : Term)
@@ -250,7 +188,7 @@ proceeds_eliminated a b l r items rest items' found found' one rule v t k is o i
     let w = subst (λ es. IsUnderWay a b es found) k.first k.under_way in
     rw (i, f, k.first, o) (record {
       kept = under_way_eliminated a b (l, r) rest found v t w (sym is ∙ k.right);
-      smaller = steps_eliminated a b (l, r) rest found v t w (sym is ∙ k.right);
+      smaller = steps_eliminated a b (l, r) rest found v t w.round (right_rule (l, r) (Eliminate v t) (sym is ∙ k.right));
     })
 
 pub eliminated_free : (a b l r : Term) (items rest : List Equation) (found : List (ℕ × Term)) (rule : Rule) (v : ℕ) (t : Term)

@@ -1,5 +1,5 @@
 -- What the words of the command line ask for, as the crate clap takes them for one simple command.
-use Rattle.std.specs.Prelude.{ℕ, ◌&&◌, List, [], ◌∷◌, length, Bool, true, false, if◌then◌else◌, Option, None, Some, nat_le, codes, map, String, string_bytes}
+use Rattle.std.specs.Prelude.{ℕ, ◌<◌, ◌≤◌, ◌&&◌, List, [], ◌∷◌, length, Bool, true, false, if◌then◌else◌, Option, None, Some, nat_le, codes, map, String, string_bytes}
 use Rattle.std.specs.Option.{option_and_then, option_map}
 use Rattle.std.specs.Char.{is_ascii_digit}
 use Rattle.std.specs.List.{list_all}
@@ -9,6 +9,7 @@ use Rattle.clap.specs.Words.{App, Row, Rule, Kinds, fault_of, first_of, matches_
 use Rattle.clap.specs.declared.builder.ArgAction.TheVariants.{Set, SetTrue}
 use Rattle.apd_ports.specs.declared.filter.Filter.{Filter}
 use Rattle.apd_ports.specs.declared.filter.Filter.TheVariants.{Off, All}
+use Rattle.apd_base.specs.declared.limits.TheConstants.{MOST_SHOWN, USUAL_BUDGET}
 
 -- the bytes of each word
 abbrev pub bytes_of : {A : Type 0} → List (String A) → List (List ℕ)
@@ -38,9 +39,16 @@ pub record Options : Type 0 where
   pub answers : ℕ
   pub filter : Filter
 
+-- limits on ports and on answers are from 1 to 1,000,000
+pub record AreLimits (ports answers : ℕ) : Type 0 where
+  pub some_ports : 0 < ports
+  pub few_ports : ports ≤ MOST_SHOWN
+  pub some_answers : 0 < answers
+  pub few_answers : answers ≤ MOST_SHOWN
+
 -- a limit is from 1 to 1,000,000
 abbrev pub limit_at : ℕ → Option ℕ
-limit_at n = if nat_le 1 n && nat_le n 1000000 then Some n else None
+limit_at n = if nat_le 1 n && nat_le n MOST_SHOWN then Some n else None
 
 -- a word of 1 to 7 decimal digits
 abbrev pub is_number : List ℕ → Bool
@@ -67,7 +75,7 @@ options_from budget answers filter program = None
 
 -- the options that clap's matches give
 abbrev pub options_in : List Row → Option Options
-options_in rows = options_from (limit_or 100000 (first_of (codes "budget") rows)) (limit_or 1000000 (first_of (codes "answers") rows)) (filter_of (first_of (codes "trace") rows)) (first_of (codes "program") rows)
+options_in rows = options_from (limit_or USUAL_BUDGET (first_of (codes "budget") rows)) (limit_or MOST_SHOWN (first_of (codes "answers") rows)) (filter_of (first_of (codes "trace") rows)) (first_of (codes "program") rows)
 
 -- there is no fault
 abbrev pub is_faultless : Kinds → Bool

@@ -4,7 +4,5 @@
 mod command;
 mod limits;
 mod options;
-#[cfg(test)]
-mod tests;
 
 pub use options::{Asked, read_words};

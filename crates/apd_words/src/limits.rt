@@ -4,8 +4,9 @@ ghost use Rattle.std.specs.Prelude.{◌≡◌, ◌<◌, ◌≤◌, IfSome, optio
 ghost use Rattle.std.specs.Char.{is_ascii_digit};
 ghost use Rattle.std.specs.List.{list_all};
 ghost use Rattle.apd_words.specs.Words.{is_number, limit_at, limit_of, limit_or};
+ghost use Rattle.apd_base.specs.declared.limits.TheConstants.{MOST_SHOWN};
 
-const MOST: u32 = 1_000_000;
+use apd_base::MOST_SHOWN;
 
 const MOST_DIGITS: usize = 7;
 
@@ -25,9 +26,9 @@ fn is_number(word: &[u8]) -> bool
 /// The number, where it is from 1 to 1,000,000.
 fn limit_at(number: u32) -> Option<u32>
     ensures limit { result ≡ limit_at number }
-    ensures within { IfSome result (λ n. (0 < n) × (n ≤ 1000000)) }
+    ensures within { IfSome result (λ n. (0 < n) × (n ≤ MOST_SHOWN)) }
 {
-    if 1 <= number && number <= MOST {
+    if 1 <= number && number <= MOST_SHOWN {
         return Some(number);
     }
     None
@@ -36,7 +37,7 @@ fn limit_at(number: u32) -> Option<u32>
 /// The limit that a word of 1 to 7 decimal digits writes.
 fn limit_of(word: &str) -> Option<u32>
     ensures limit { result ≡ limit_of word.now }
-    ensures within { IfSome result (λ n. (0 < n) × (n ≤ 1000000)) }
+    ensures within { IfSome result (λ n. (0 < n) × (n ≤ MOST_SHOWN)) }
 {
     if !is_number(word.as_bytes()) {
         return None;
@@ -49,9 +50,9 @@ fn limit_of(word: &str) -> Option<u32>
 
 /// The limit that a value gives, or the usual one where there is no value.
 pub(crate) fn limit_or(usual: u32, value: Option<&str>) -> Option<u32>
-    requires { (0 < usual) × (usual ≤ 1000000) }
+    requires { (0 < usual) × (usual ≤ MOST_SHOWN) }
     ensures limit { result ≡ limit_or usual (option_map (λ s. s.now) value.entry) }
-    ensures within { IfSome result (λ n. (0 < n) × (n ≤ 1000000)) }
+    ensures within { IfSome result (λ n. (0 < n) × (n ≤ MOST_SHOWN)) }
 {
     match value {
         None => Some(usual),

@@ -2,10 +2,12 @@
 
 ghost use Rattle.std.specs.Prelude.{◌≡◌, ◌<◌, ◌≤◌, IfOk, IfSome, MatchOption, Some, None, option_map};
 ghost use Rattle.clap.specs.Words.{found_of, rows_of};
-ghost use Rattle.apd_words.specs.Words.{Options, bytes_of, filter_of, options_from, options_in, options_of};
+ghost use Rattle.apd_words.specs.Words.{AreLimits, Options, bytes_of, filter_of, options_from, options_in, options_of};
+ghost use Rattle.apd_base.specs.declared.limits.TheConstants.{MOST_SHOWN};
 
 use crate::command::command;
 use crate::limits::limit_or;
+use apd_base::{MOST_SHOWN, USUAL_BUDGET};
 use apd_ports::Filter;
 use clap::ArgMatches;
 use clap::error::ErrorKind;
@@ -24,12 +26,6 @@ pub struct Asked<'a> {
     pub filter: Filter,
 }
 
-/// The most ports that a run shows where the words give no budget.
-const BUDGET: u32 = 100_000;
-
-/// The most answers that a run shows where the words don't limit them.
-const ANSWERS: u32 = 1_000_000;
-
 /// The filter that a flag's value sets.
 fn filter_of(value: Option<&str>) -> Filter
     ensures { result ≡ filter_of (option_map (λ s. s.now) value.entry) }
@@ -47,11 +43,11 @@ fn options_from<'a>(
     filter: Filter,
     program: Option<&'a str>,
 ) -> Option<Asked<'a>>
-    requires budget { IfSome budget (λ n. (0 < n) × (n ≤ 1000000)) }
-    requires answers { IfSome answers (λ n. (0 < n) × (n ≤ 1000000)) }
+    requires budget { IfSome budget (λ n. (0 < n) × (n ≤ MOST_SHOWN)) }
+    requires answers { IfSome answers (λ n. (0 < n) × (n ≤ MOST_SHOWN)) }
     ensures options { MatchOption result (options_from budget answers filter (option_map (λ s. s.now) program.entry) ≡ None)
         (λ a. options_from budget answers filter (option_map (λ s. s.now) program.entry) ≡ Some record { program = a.program.now; budget = a.budget; answers = a.answers; filter = a.filter }) }
-    ensures limits { IfSome result (λ a. (a.budget ≤ 1000000) × (0 < a.answers) × (a.answers ≤ 1000000)) }
+    ensures limits { IfSome result (λ a. AreLimits a.budget a.answers) }
 {
     match (budget, answers, program) {
         (Some(budget), Some(answers), Some(program)) => Some(Asked {
@@ -68,10 +64,10 @@ fn options_from<'a>(
 fn options_in<'a>(matches: &ArgMatches<'a>) -> Option<Asked<'a>>
     ensures options { MatchOption result (options_in (rows_of (found_of matches.now)) ≡ None)
         (λ a. options_in (rows_of (found_of matches.now)) ≡ Some record { program = a.program.now; budget = a.budget; answers = a.answers; filter = a.filter }) }
-    ensures limits { IfSome result (λ a. (a.budget ≤ 1000000) × (0 < a.answers) × (a.answers ≤ 1000000)) }
+    ensures limits { IfSome result (λ a. AreLimits a.budget a.answers) }
 {
-    let budget = limit_or(BUDGET, matches.get_str("budget"));
-    let answers = limit_or(ANSWERS, matches.get_str("answers"));
+    let budget = limit_or(USUAL_BUDGET, matches.get_str("budget"));
+    let answers = limit_or(MOST_SHOWN, matches.get_str("answers"));
     let filter = filter_of(matches.get_str("trace"));
     options_from(budget, answers, filter, matches.get_str("program"))
 }
@@ -80,7 +76,7 @@ fn options_in<'a>(matches: &ArgMatches<'a>) -> Option<Asked<'a>>
 pub fn read_words<'a>(alloc: Global, words: &'a [String]) -> Result<Option<Asked<'a>>, AllocError>
     ensures options { IfOk result (λ o. MatchOption o (options_of (bytes_of words.entry.now) ≡ None)
         (λ a. options_of (bytes_of words.entry.now) ≡ Some record { program = a.program.now; budget = a.budget; answers = a.answers; filter = a.filter })) }
-    ensures limits { IfOk result (λ o. IfSome o (λ a. (a.budget ≤ 1000000) × (0 < a.answers) × (a.answers ≤ 1000000))) }
+    ensures limits { IfOk result (λ o. IfSome o (λ a. AreLimits a.budget a.answers)) }
 {
     let command = command(alloc)?;
     match command.try_get_matches_from(words) {

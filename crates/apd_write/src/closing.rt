@@ -9,9 +9,10 @@ ghost use Rattle.apd_write.specs.Writing.{between};
 
 use crate::names::write_name;
 use crate::pending::{Frame, Place};
+use apd_base::Text;
+use apd_term::NameId;
 use apd_term::names::Names;
 use apd_term::standard::COMMA;
-use apd_term::{NameId, Text};
 use std::alloc::AllocError;
 
 /// Writes an infix operator between its operands: a space on each side, but none before the comma.

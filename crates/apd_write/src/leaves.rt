@@ -6,10 +6,11 @@ ghost use Rattle.apd_write.specs.Writing.{in_parentheses};
 
 use crate::names::write_name;
 use crate::pending::Place;
+use apd_base::Text;
 use apd_ops::Ops;
+use apd_term::Sym;
 use apd_term::names::Names;
 use apd_term::standard::NIL;
-use apd_term::{Sym, Text};
 use std::alloc::{AllocError, Global};
 
 /// Whether the symbol is an atom that is an operator.

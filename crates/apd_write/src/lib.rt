@@ -9,8 +9,6 @@ mod names;
 mod opening;
 mod pending;
 mod terms;
-#[cfg(test)]
-mod tests;
 
 pub use names::write_name;
 pub use terms::write_term;

@@ -6,7 +6,7 @@ ghost use Rattle.apd_term.specs.Names.{same_text};
 ghost use Rattle.apd_token.specs.Bytes.{is_word, is_graphic};
 ghost use Rattle.apd_write.specs.NameTexts.{is_word_name, is_graphic_name, begins_comment, is_solo_name, is_bracket_name, is_bare, hex_digit, quoted_byte, quoted, function_text, name_text};
 
-use apd_term::Text;
+use apd_base::Text;
 use apd_token::{is_graphic, is_small, is_word};
 use std::alloc::AllocError;
 

@@ -10,10 +10,11 @@ ghost use Rattle.apd_write.specs.declared.pending.Frame.TheVariants as pushed;
 
 use crate::names::{write_function_name, write_name};
 use crate::pending::{Frame, Place};
+use apd_base::Text;
 use apd_ops::{Op, OpKind, Ops};
+use apd_term::NameId;
 use apd_term::names::Names;
 use apd_term::standard::{CELL, CURLY};
-use apd_term::{NameId, Text};
 use std::alloc::AllocError;
 
 /// Opens a parenthesis where the priority is above the place's greatest.

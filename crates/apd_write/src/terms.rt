@@ -10,9 +10,10 @@ use crate::closing::close;
 use crate::leaves::write_leaf;
 use crate::opening::open;
 use crate::pending::{Frame, Place};
+use apd_base::Text;
 use apd_ops::Ops;
 use apd_term::names::Names;
-use apd_term::{Flat, Sym, Text};
+use apd_term::{Flat, Sym};
 use std::alloc::{AllocError, Global};
 
 /// Writes what a symbol stands for in its place, and what stands behind it up to the place of the next symbol.

@@ -1,7 +1,6 @@
 use Rattle.std.proofs.Common.{◌-◌, length, arith}
-use Rattle.apd_term.specs.StandardNames.{standard_names}
 use Rattle.apd_load.proofs.Causes.{reading_told_named, term_told_named}
-use Rattle.apd_load.proofs.Reaching.{goes_first, goes_next, all_grow, grows_all, has_room, names_stay, reaches_last, term_told, fault_told}
+use Rattle.apd_load.proofs.Reaching.{goes_first, goes_next, all_grow, grows_all, has_room, reaches_last, term_told, fault_told}
 use Rattle.apd_load.proofs.reading.load_clauses.Goals as goal
 
 pub clauses-init : goal.clauses-init
@@ -22,12 +21,12 @@ returns-in-Err-clause-loaded c =
     c.in-Err.fault c.place_of_fault.result c.line_of-line.result c.from.result c.told.result c.in-Err.ensures.err c.place_of_fault.ensures c.line_of-line.ensures.line c.from.ensures c.told.ensures
 
 pub returns-in-Err-clause-cause : goal.returns-in-Err-clause-cause
-returns-in-Err-clause-cause c = λ standard. reading_told_named (length c.read_clause.new.names) c.line_of-line.result c.in-Err.fault c.from.result c.told.result c.from.ensures c.told.ensures
+returns-in-Err-clause-cause c = reading_told_named (length c.read_clause.new.names) c.line_of-line.result c.in-Err.fault c.from.result c.told.result c.from.ensures c.told.ensures
 
 pub returns-in-Err-load_term-clause-cause : goal.returns-in-Err-load_term-clause-cause
-returns-in-Err-load_term-clause-cause c = λ standard.
+returns-in-Err-load_term-clause-cause c =
     term_told_named (length c.read_clause.new.names) c.line_of-line-in-clauses.result c.clauses.loading c.load_term.new.loading c.in-Ok.read.term c.in-Err-load_term.stop c.told-in-Err-load_term.result
-    (c.in-Ok.ensures.named (names_stay c.clauses.at (length standard_names) c.args.names.now c.clauses.names c.clauses.invariant.grows standard)) c.in-Err-load_term.ensures c.told-in-Err-load_term.ensures
+    c.in-Ok.ensures.named c.in-Err-load_term.ensures c.told-in-Err-load_term.ensures
 
 pub returns-in-Err-load_term-clause-grows : goal.returns-in-Err-load_term-clause-grows
 returns-in-Err-load_term-clause-grows c =

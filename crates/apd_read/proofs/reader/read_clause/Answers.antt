@@ -3,6 +3,7 @@ use Rattle.std.proofs.lemmas.Option.{slice_get-get_or}
 use Rattle.apd_token.proofs.Counting.{tokens_few, tokens_behind}
 use Rattle.apd_term.specs.Term.{Term, size, Occurs}
 use Rattle.apd_term.specs.Named.{IsNamed}
+use Rattle.apd_term.proofs.FirstNames.{standard_few}
 use Rattle.apd_read.specs.Answer.{HasLexemes}
 use Rattle.apd_read.proofs.Clauses.{blank, lexemes_few, lexemes_from}
 use Rattle.apd_read.proofs.Placed.{reading_under, fault_under, fills_within}
@@ -95,6 +96,6 @@ returns-in-Ok-clause-named c =
     let r = c.in-Ok.ensures.ok in
     let names = c.lexemes.new.names in
     let e = c.in_ok-clause.ensures in
-    λ standard.
+    let standard = standard_few c.args.names.now c.count-count.ensures.standard in
     subst (λ (t : Term). IsNamed (length names) t) (sym r.term)
     (named c.args.names.now names (length c.in_ok-clause.clause.lexemes.items) standard e.grown e.named r.fills)

@@ -27,8 +27,8 @@ overflow_add-result-then-order-len c =
     let v = c.args.self.now in
     let named : is_anonymous c.args.text ≡ false = ap is_anonymous (sym c.bytes.ensures) ∙ sym c.is_anonymous.ensures ∙ c.if-is_anonymous.false in
     let len = c.len.ensures in
-    let within : c.in_ok-name.name.0 < length v.places.items = omega arith in
-    let f = found_by v.named v.places.items v.texts c.requires.indexed c.args.text c.intern.new.self c.bytes-2.result.now c.in_ok-name.name.0 c.index.result.now c.bytes-2.ensures c.in_ok-name.ensures.names c.in_ok-name.ensures.id named within c.index.ensures in
+    let within : c.in_ok-place.place < length v.places.items = omega arith in
+    let f = found_by v.named v.places.items v.texts c.requires.indexed c.args.text c.intern.new.self c.bytes-2.result.now c.in_ok-place.place c.index.result.now c.bytes-2.ensures c.in_ok-place.ensures.names c.in_ok-place.ensures.place named within c.index.ensures in
     let place = f.1 in
     let few = place_within v.texts c.args.text in
     let room = c.requires.few in
@@ -39,8 +39,8 @@ returns-then-order-len-clause-number c =
     let v = c.args.self.now in
     let named : is_anonymous c.args.text ≡ false = ap is_anonymous (sym c.bytes.ensures) ∙ sym c.is_anonymous.ensures ∙ c.if-is_anonymous.false in
     let len = c.len.ensures in
-    let within : c.in_ok-name.name.0 < length v.places.items = omega arith in
-    let f = found_by v.named v.places.items v.texts c.requires.indexed c.args.text c.intern.new.self c.bytes-2.result.now c.in_ok-name.name.0 c.index.result.now c.bytes-2.ensures c.in_ok-name.ensures.names c.in_ok-name.ensures.id named within c.index.ensures in
+    let within : c.in_ok-place.place < length v.places.items = omega arith in
+    let f = found_by v.named v.places.items v.texts c.requires.indexed c.args.text c.intern.new.self c.bytes-2.result.now c.in_ok-place.place c.index.result.now c.bytes-2.ensures c.in_ok-place.ensures.names c.in_ok-place.ensures.place named within c.index.ensures in
     ap (λ k. k + 1) f.1
 
 pub returns-then-order-len-clause-all : goal.returns-then-order-len-clause-all
@@ -48,8 +48,8 @@ returns-then-order-len-clause-all c =
     let v = c.args.self.now in
     let named : is_anonymous c.args.text ≡ false = ap is_anonymous (sym c.bytes.ensures) ∙ sym c.is_anonymous.ensures ∙ c.if-is_anonymous.false in
     let len = c.len.ensures in
-    let within : c.in_ok-name.name.0 < length v.places.items = omega arith in
-    let f = found_by v.named v.places.items v.texts c.requires.indexed c.args.text c.intern.new.self c.bytes-2.result.now c.in_ok-name.name.0 c.index.result.now c.bytes-2.ensures c.in_ok-name.ensures.names c.in_ok-name.ensures.id named within c.index.ensures in
+    let within : c.in_ok-place.place < length v.places.items = omega arith in
+    let f = found_by v.named v.places.items v.texts c.requires.indexed c.args.text c.intern.new.self c.bytes-2.result.now c.in_ok-place.place c.index.result.now c.bytes-2.ensures c.in_ok-place.ensures.names c.in_ok-place.ensures.place named within c.index.ensures in
     f.2
 
 pub returns-then-order-len-clause-indexed : goal.returns-then-order-len-clause-indexed
@@ -57,8 +57,8 @@ returns-then-order-len-clause-indexed c =
     let v = c.args.self.now in
     let named : is_anonymous c.args.text ≡ false = ap is_anonymous (sym c.bytes.ensures) ∙ sym c.is_anonymous.ensures ∙ c.if-is_anonymous.false in
     let len = c.len.ensures in
-    let within : c.in_ok-name.name.0 < length v.places.items = omega arith in
-    let f = found_by v.named v.places.items v.texts c.requires.indexed c.args.text c.intern.new.self c.bytes-2.result.now c.in_ok-name.name.0 c.index.result.now c.bytes-2.ensures c.in_ok-name.ensures.names c.in_ok-name.ensures.id named within c.index.ensures in
+    let within : c.in_ok-place.place < length v.places.items = omega arith in
+    let f = found_by v.named v.places.items v.texts c.requires.indexed c.args.text c.intern.new.self c.bytes-2.result.now c.in_ok-place.place c.index.result.now c.bytes-2.ensures c.in_ok-place.ensures.names c.in_ok-place.ensures.place named within c.index.ensures in
     subst (λ ns. IsIndexed ns v.places.items v.texts) (sym f.0) c.requires.indexed
 
 pub returns-clause-number : goal.returns-clause-number
@@ -66,8 +66,8 @@ returns-clause-number c =
     let v = c.args.self.now in
     let named : is_anonymous c.args.text ≡ false = ap is_anonymous (sym c.bytes.ensures) ∙ sym c.is_anonymous.ensures ∙ c.if-is_anonymous.false in
     let len = c.len.ensures in
-    let beyond : length v.places.items ≤ c.in_ok-name.name.0 = omega arith in
-    let f = fresh_by v.named v.places.items v.texts c.requires.indexed c.args.text c.intern.new.self c.bytes-2.result.now c.in_ok-name.name.0 c.bytes-2.ensures c.in_ok-name.ensures.names c.in_ok-name.ensures.id named beyond in
+    let beyond : length v.places.items ≤ c.in_ok-place.place = omega arith in
+    let f = fresh_by v.named v.places.items v.texts c.requires.indexed c.args.text c.intern.new.self c.bytes-2.result.now c.in_ok-place.place c.bytes-2.ensures c.in_ok-place.ensures.names c.in_ok-place.ensures.place named beyond in
     ap (λ k. k + 1) (c.len-count.ensures ∙ f.0)
 
 pub returns-clause-all : goal.returns-clause-all
@@ -75,8 +75,8 @@ returns-clause-all c =
     let v = c.args.self.now in
     let named : is_anonymous c.args.text ≡ false = ap is_anonymous (sym c.bytes.ensures) ∙ sym c.is_anonymous.ensures ∙ c.if-is_anonymous.false in
     let len = c.len.ensures in
-    let beyond : length v.places.items ≤ c.in_ok-name.name.0 = omega arith in
-    let f = fresh_by v.named v.places.items v.texts c.requires.indexed c.args.text c.intern.new.self c.bytes-2.result.now c.in_ok-name.name.0 c.bytes-2.ensures c.in_ok-name.ensures.names c.in_ok-name.ensures.id named beyond in
+    let beyond : length v.places.items ≤ c.in_ok-place.place = omega arith in
+    let f = fresh_by v.named v.places.items v.texts c.requires.indexed c.args.text c.intern.new.self c.bytes-2.result.now c.in_ok-place.place c.bytes-2.ensures c.in_ok-place.ensures.names c.in_ok-place.ensures.place named beyond in
     c.in_ok-push-3.ensures.ok ∙ f.1
 
 pub returns-clause-indexed : goal.returns-clause-indexed
@@ -84,6 +84,6 @@ returns-clause-indexed c =
     let v = c.args.self.now in
     let named : is_anonymous c.args.text ≡ false = ap is_anonymous (sym c.bytes.ensures) ∙ sym c.is_anonymous.ensures ∙ c.if-is_anonymous.false in
     let len = c.len.ensures in
-    let beyond : length v.places.items ≤ c.in_ok-name.name.0 = omega arith in
-    let f = fresh_by v.named v.places.items v.texts c.requires.indexed c.args.text c.intern.new.self c.bytes-2.result.now c.in_ok-name.name.0 c.bytes-2.ensures c.in_ok-name.ensures.names c.in_ok-name.ensures.id named beyond in
+    let beyond : length v.places.items ≤ c.in_ok-place.place = omega arith in
+    let f = fresh_by v.named v.places.items v.texts c.requires.indexed c.args.text c.intern.new.self c.bytes-2.result.now c.in_ok-place.place c.bytes-2.ensures c.in_ok-place.ensures.names c.in_ok-place.ensures.place named beyond in
     rw (c.in_ok-push-2.ensures.items, c.in_ok-push-3.ensures.ok, c.len-count.ensures) f.2

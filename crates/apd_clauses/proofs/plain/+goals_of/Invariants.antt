@@ -1,5 +1,0 @@
-use Rattle.apd_term.specs.Term.{size}
-use Rattle.apd_clauses.proofs.plain.+goals_of.Given as goal
-
-abbrev pub decreases-goals_of : goal.decreases-goals_of
-decreases-goals_of l = size l.term.now

@@ -1,0 +1,16 @@
+pub mod Weights
+pub mod Rows
+pub mod Numbers
+pub mod Kept
+pub mod Clearing
+pub mod Seeking
+pub mod Lighter
+pub mod Branching
+pub mod Choosing
+pub mod Judged
+pub mod Heads
+pub mod Matched
+pub mod Solved
+pub mod Grown
+pub mod Stacked
+pub mod Spanning

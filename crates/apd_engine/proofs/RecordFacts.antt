@@ -1,0 +1,300 @@
+-- What the record keeps of a run on the way.
+use Rattle.std.proofs.Common.{◌≡◌, ℕ, zero, suc, ◌+◌, ◌-◌, ◌*◌, ◌<◌, ◌≤◌, List, [], ◌∷◌, ◌++◌, length, length-append, refl, ap, subst, sym, ◌∙◌, arith, Option, Some, None, Result, Ok, Err, inl, inr}
+use Rattle.std.proofs.Math.Nat.{sub-zero}
+use Rattle.std.specs.Prelude.{is_err, false, OnOk}
+use Rattle.apd_term.specs.Term.{Term}
+use Rattle.apd_causes.specs.declared.run.RunError.{RunError}
+use Rattle.apd_term.specs.declared.tuple.Tuple.{Tuple}
+use Rattle.apd_ports.specs.declared.event.Event.{Event}
+use Rattle.apd_ports.specs.declared.event.Port.{Port}
+use Rattle.apd_ports.specs.declared.event.Port.TheVariants.{Call, Exit, Redo, Fail}
+use Rattle.apd_ports.specs.declared.point.Point.{Point}
+use Rattle.apd_trace.specs.Frames.{query_frame}
+use Rattle.apd_trace.specs.Trace.{search_from, up_to_error}
+use Rattle.apd_trace.specs.Run.{Run, run_of, ran_of, query_run, before_event, pass, hold, shown_of, ports_of, answers_of}
+use Rattle.apd_ports.specs.Hook.{GoesThrough, StopsAt}
+use Rattle.apd_engine.specs.Cut.{IsCut, run_fault}
+use Rattle.apd_trace.specs.declared.item.Item.{Item}
+use Rattle.apd_trace.specs.declared.item.Item.TheVariants.{Passed, Answer, Made, Error}
+use Rattle.apd_trace.proofs.Deeper.{run_of-up_to_error}
+use Rattle.apd_record.specs.Recorded.{Recorded, empty, query_point, opened as box_opened, called_row, with_point, noted, passed_at}
+use Rattle.apd_record.specs.declared.rows.BoxRow.{BoxRow}
+use Rattle.apd_engine.specs.Search.{rest, Gives, Ends, may_make, made_in}
+use Rattle.apd_recorded.specs.Told.{told_port, told, record_from, record_of}
+use Rattle.apd_engine.specs.Recording.{newest, MayPass, MayBeTold, MayBeToldAll, with_held, told_held, MayBeToldHeld, held_count}
+use Rattle.apd_engine.specs.declared.search.Search.{Search}
+use Rattle.apd_engine.specs.declared.search.Mode.{Mode}
+use Rattle.apd_engine.specs.declared.search.Mode.TheVariants.{Forward, Hand, Leave, Back}
+use Rattle.apd_engine.proofs.RunFacts.{left, left_passed, left_answer, opened, first_rest, Showing, Completes, shown_of-hold, ports_of-hold, answers_of-hold}
+use Rattle.apd_ports.specs.declared.hook.HookFault.{HookFault}
+use Rattle.apd_ports.specs.declared.hook.HookFault.TheVariants.{WriteFault as HookWriteFault, Memory as HookMemory}
+use Rattle.apd_ports.specs.declared.hook.Shown.{Shown}
+use Rattle.apd_ports.specs.declared.hook.Shown.TheVariants.{Port as ShownPort, Answer as ShownAnswer}
+use Rattle.apd_causes.specs.declared.run.RunEnd.TheVariants.{Budget}
+
+-- what is left of the run completes the record, which may be told it
+pub record Keeping (P : List Tuple) (budget answers : ℕ) (all : Run) (ports answered : ℕ) (s : Search) (held : Option Point) (R : Recorded) : Type 0 where
+  pub may : MayBeToldAll R (with_held held (left P budget answers ports answered s).passed)
+  pub agrees : record_of all.passed ≡ record_from R (with_held held (left P budget answers ports answered s).passed)
+  pub lone : held_count held + may_make s.mode ≤ 1
+  pub points : length R.points + held_count held ≡ s.points
+  pub boxes : length R.boxes ≤ ports
+  pub begun : 0 < s.points
+
+-- where there was memory
+pub on_ok_from : {T E : Type 0} (r : Result T E) {P : Type 0} → is_err r ≡ false → OnOk r P → P
+on_ok_from (Ok x) e h = h
+on_ok_from (Err x) e h = cc
+
+-- Points that are held back.
+
+recorded_held : (R : Recorded) (held : Option Point) (x : Item) (xs : List Item) → record_from R (with_held held (x ∷ xs)) ≡ record_from (told_held R held) (x ∷ xs)
+recorded_held R None x xs = refl
+recorded_held R (Some p) x xs = refl
+
+may_held : (R : Recorded) (held : Option Point) (x : Item) (xs : List Item) → MayBeToldAll R (with_held held (x ∷ xs)) → MayBeToldHeld R held × MayBeToldAll (told_held R held) (x ∷ xs)
+may_held R None x xs may = (tt, may)
+may_held R (Some p) x xs may = may
+
+-- where nothing is left
+recorded_end : (R : Recorded) (held : Option Point) → record_from R (with_held held []) ≡ R
+recorded_end R None = refl
+recorded_end R (Some p) = refl
+
+held_points : (R : Recorded) (held : Option Point) → length (told_held R held).points ≡ length R.points + held_count held
+held_points R None = omega arith
+held_points R (Some p) = length-append R.points (p ∷ [])
+
+pub held_boxes : (R : Recorded) (held : Option Point) → (told_held R held).boxes ≡ R.boxes
+held_boxes R None = refl
+held_boxes R (Some p) = refl
+
+noted_points : (R : Recorded) (n : ℕ) (port : Port) → (noted R n port).points ≡ R.points
+noted_points R zero port = refl
+noted_points R (suc i) port = refl
+
+passed_count : (port : Port) (i : ℕ) (bs : List BoxRow) → length (passed_at port i bs) ≡ length bs
+passed_count port i [] = refl
+passed_count port zero (b ∷ bs) = refl
+passed_count port (suc i) (b ∷ bs) = omega (arith, passed_count port i bs)
+
+noted_boxes : (R : Recorded) (n : ℕ) (port : Port) → length (noted R n port).boxes ≡ length R.boxes
+noted_boxes R zero port = refl
+noted_boxes R (suc i) port = passed_count port i R.boxes
+
+port_points : (R : Recorded) (e : Event) (port : Port) → (told_port R e port).points ≡ R.points
+port_points R e Call = refl
+port_points R e Exit = noted_points R e.box_no Exit
+port_points R e Redo = noted_points R e.box_no Redo
+port_points R e Fail = noted_points R e.box_no Fail
+
+port_boxes : (R : Recorded) (e : Event) (port : Port) → length (told_port R e port).boxes ≤ length R.boxes + 1
+port_boxes R e Call = omega (arith, length-append R.boxes (called_row e.atom (newest R) ∷ []))
+port_boxes R e Exit = omega (arith, noted_boxes R e.box_no Exit)
+port_boxes R e Redo = omega (arith, noted_boxes R e.box_no Redo)
+port_boxes R e Fail = omega (arith, noted_boxes R e.box_no Fail)
+
+may_make-small : (m : Mode) → may_make m ≤ 1
+may_make-small Forward = omega arith
+may_make-small (Hand e) = omega arith
+may_make-small Leave = omega arith
+may_make-small Back = omega arith
+
+-- Steps of a run.
+
+-- at first the query's point is held back
+pub keeps_first : (P : List Tuple) (query : Tuple) (budget answers : ℕ) (s : Search) → s ≡ opened query → MayBeToldAll empty (query_run P query budget answers).passed → Keeping P budget answers (query_run P query budget answers) 0 0 s (Some (query_point query)) empty
+keeps_first P query budget answers s is may =
+    let later : run_of (search_from P (budget + 1) (query_frame query ∷ []) 0 1).items budget answers ≡ left P budget answers 0 0 s = rw (is, first_rest P query budget, sub-zero, sub-zero) refl in
+    let same : run_of (up_to_error (search_from P (budget + 1) (query_frame query ∷ []) 0 1).items) budget answers ≡ left P budget answers 0 0 s = run_of-up_to_error (search_from P (budget + 1) (query_frame query ∷ []) 0 1).items budget answers ∙ later in
+    let first : (query_run P query budget answers).passed ≡ before_event (Made (query_point query)) (left P budget answers 0 0 s).passed = ap (λ (r : Run). before_event (Made (query_point query)) r.passed) same in
+    record {
+      may = subst (MayBeToldAll empty) first may;
+      agrees = ap record_of first;
+      lone = rw is (omega arith);
+      points = rw is refl;
+      boxes = omega arith;
+      begun = rw is (omega arith);
+    }
+
+module _ (P : List Tuple) (budget answers : ℕ) (all : Run) (ports answered : ℕ) (s : Search) (held : Option Point) (R : Recorded) (was : Keeping P budget answers all ports answered s held R) where
+  -- where a port is passed next
+  module _ (new : Search) (e : Event) (height : length s.stack ≤ ports) (within : ports < budget) (gives : Gives P s.mode s.frames s.stack s.boxes s.points (Passed e) new) where
+    port_left : (left P budget answers ports answered s).passed ≡ Passed e ∷ (left P budget answers (ports + 1) answered new).passed
+    port_left = ap (λ (r : Run). r.passed) (left_passed P budget answers ports answered s new e height within gives)
+
+    port_may : MayBeToldHeld R held × MayBeToldAll (told_held R held) (Passed e ∷ (left P budget answers (ports + 1) answered new).passed)
+    port_may = may_held R held (Passed e) (left P budget answers (ports + 1) answered new).passed (rw port_left at was.may)
+
+    pub port_held : MayBeToldHeld R held
+    port_held = port_may.0
+
+    pub port_next : MayPass (told_held R held) e e.port
+    port_next = port_may.1.0
+
+    pub port_from : new.points - 1 ≡ newest (told_held R held)
+    port_from = ap (λ n. n - 1) (omega (arith, gives.points_made, was.points, held_points R held))
+
+    pub keeps_port : Keeping P budget answers all (ports + 1) answered new None (told_port (told_held R held) e e.port)
+    keeps_port =
+        record {
+          may = port_may.1.1;
+          agrees = was.agrees ∙ rw port_left (recorded_held R held (Passed e) (left P budget answers (ports + 1) answered new).passed);
+          lone = omega (arith, may_make-small new.mode);
+          points = rw port_points (omega (arith, gives.points_made, was.points, held_points R held));
+          boxes = let more = port_boxes (told_held R held) e e.port in let same = ap length (held_boxes R held) in omega (arith, was.boxes, more, same);
+          begun = omega (arith, gives.points_made, was.begun);
+        }
+
+  -- where an answer is given next
+  module _ (new : Search) (a : Term) (height : length s.stack ≤ ports) (within : ports ≤ budget) (gives : Gives P s.mode s.frames s.stack s.boxes s.points (Answer a) new) where
+    answer_items : rest P (budget + 1) s.mode s.frames s.stack s.boxes s.points ≡ Answer a ∷ rest P (budget + 1) new.mode new.frames new.stack new.boxes new.points
+    answer_items = gives.items (budget + 1) (omega (arith, height, within))
+
+    module _ (more : answered + 1 < answers) where
+      answer_left : (left P budget answers ports answered s).passed ≡ Answer a ∷ (left P budget answers ports (answered + 1) new).passed
+      answer_left = ap (λ (r : Run). r.passed) (left_answer P budget answers ports answered s new a height within more gives)
+
+      answer_may : MayBeToldHeld R held × MayBeToldAll (told_held R held) (Answer a ∷ (left P budget answers ports (answered + 1) new).passed)
+      answer_may = may_held R held (Answer a) (left P budget answers ports (answered + 1) new).passed (rw answer_left at was.may)
+
+      pub keeps_answer : Keeping P budget answers all ports (answered + 1) new None (told_held R held)
+      keeps_answer =
+          record {
+            may = answer_may.1.1;
+            agrees = was.agrees ∙ rw answer_left (recorded_held R held (Answer a) (left P budget answers ports (answered + 1) new).passed);
+            lone = omega (arith, may_make-small new.mode);
+            points = omega (arith, gives.points_made, was.points, held_points R held);
+            boxes = rw held_boxes was.boxes;
+            begun = omega (arith, gives.points_made, was.begun);
+          }
+
+    -- the last answer that is allowed
+    last_left : answered + 1 ≡ answers → (left P budget answers ports answered s).passed ≡ Answer a ∷ []
+    last_left last = let one : answers - answered ≡ suc zero = omega (arith, last) in rw (answer_items, one) refl
+
+    -- whether it is the last or not
+    some_left : answered < answers → (xs : List Item) × ((left P budget answers ports answered s).passed ≡ Answer a ∷ xs)
+    some_left below = by_count (answers - answered) refl
+      where
+        by_count : (n : ℕ) → answers - answered ≡ n → (xs : List Item) × ((left P budget answers ports answered s).passed ≡ Answer a ∷ xs)
+        by_count zero e = absurd (omega (arith, below, e))
+        by_count (suc zero) e = ([], rw (answer_items, e) refl)
+        by_count (suc (suc n)) e = ((run_of (rest P (budget + 1) new.mode new.frames new.stack new.boxes new.points) (budget - ports) (suc n)).passed, rw (answer_items, e) refl)
+
+    pub answer_held : answered < answers → MayBeToldHeld R held
+    answer_held below = let xs = some_left below in (may_held R held (Answer a) xs.0 (rw xs.1 at was.may)).0
+
+    pub last_agrees : answered + 1 ≡ answers → record_of all.passed ≡ told_held R held
+    last_agrees last = was.agrees ∙ rw (last_left last) (recorded_held R held (Answer a) [])
+
+  -- where a point is made next
+  module _ (new : Search) (p : Point) (height : length s.stack ≤ ports) (within : ports ≤ budget) (gives : Gives P s.mode s.frames s.stack s.boxes s.points (Made p) new) where
+    none_held : held_count held ≡ 0
+    none_held = omega (arith, gives.pace, was.lone)
+
+    point_left : (left P budget answers ports answered s).passed ≡ before_event (Made p) (left P budget answers ports answered new).passed
+    point_left = rw (gives.items (budget + 1) (omega (arith, height, within))) refl
+
+    pub keeps_point : Keeping P budget answers all ports answered new (Some p) R
+    keeps_point = by_held held none_held was
+      where
+        by_held : (h : Option Point) → held_count h ≡ 0 → Keeping P budget answers all ports answered s h R → Keeping P budget answers all ports answered new (Some p) R
+        by_held None none kept =
+            record {
+              may = rw point_left at kept.may;
+              agrees = rw point_left at kept.agrees;
+              lone = omega (arith, gives.pace, kept.lone);
+              points = omega (arith, gives.points_made, kept.points);
+              boxes = kept.boxes;
+              begun = omega (arith, gives.points_made, kept.begun);
+            }
+        by_held (Some q) none kept = absurd (omega (arith, none))
+
+  -- where nothing is passed any more
+  ends_with : (left P budget answers ports answered s).passed ≡ [] → record_of all.passed ≡ R
+  ends_with none = was.agrees ∙ rw none (recorded_end R held)
+
+  pub ends_exhausted : Ends P s.mode s.frames s.stack s.boxes s.points → record_of all.passed ≡ R
+  ends_exhausted ends = ends_with (rw (ends (budget + 1)) refl)
+
+  pub ends_in_error : (new : Search) (e : RunError) (b : ℕ) → length s.stack ≤ ports → ports ≤ budget → Gives P s.mode s.frames s.stack s.boxes s.points (Error e b) new → record_of all.passed ≡ R
+  ends_in_error new e b height within gives = ends_with (rw (gives.items (budget + 1) (omega (arith, height, within))) refl)
+
+  pub ends_at_budget : (new : Search) (e : Event) → length s.stack ≤ ports → ports ≡ budget → Gives P s.mode s.frames s.stack s.boxes s.points (Passed e) new → record_of all.passed ≡ R
+  ends_at_budget new e height spent gives = let none : budget - ports ≡ zero = omega (arith, spent) in ends_with (rw (gives.items (budget + 1) (omega (arith, height, spent)), none) refl)
+
+-- a run on the way, with its hook and its record
+pub record RunOn {H : Type 0} (step : H → Shown → Result (Unit {0}) HookFault → H → Type 0) (faults : H → ℕ) (start : H) (P : List Tuple) (budget answers : ℕ) (all : Run) (ports answered : ℕ) (s : Search) (hook : H) (held : Option Point) (R : Recorded) : Type 0 where
+  pub showing : Showing step faults start P budget answers all ports answered s hook
+  pub keeping : Keeping P budget answers all ports answered s held R
+
+module _ {H : Type 0} (step : H → Shown → Result (Unit {0}) HookFault → H → Type 0) (faults : H → ℕ) (start : H) (P : List Tuple) (budget answers : ℕ) (all : Run) (ports answered : ℕ) (s : Search) (hook : H) (was : Showing step faults start P budget answers all ports answered s hook) where
+  -- a point is made: nothing is shown
+  pub shows_point : (new : Search) (p : Point) → Gives P s.mode s.frames s.stack s.boxes s.points (Made p) new → Showing step faults start P budget answers all ports answered new hook
+  shows_point new p gives =
+      let later : Run = left P budget answers ports answered new in
+      let is : left P budget answers ports answered s ≡ hold (Made p) later = rw (gives.items (budget + 1) (omega (arith, was.going.height, was.going.within))) refl in
+      let ports_left : ports_of all.passed ≡ ports + ports_of (before_event (Made p) later.passed) = rw is at was.going.ports_left in
+      let answers_left : answers_of all.passed ≡ answered + answers_of (before_event (Made p) later.passed) = rw is at was.going.answers_left in
+      record {
+        going = record {
+          end = was.going.end ∙ ap (λ (r : Run). r.end) is;
+          ports_left = rw ports_of-hold at ports_left;
+          answers_left = rw answers_of-hold at answers_left;
+          goes = gives.goes;
+          waits = gives.waits;
+          height = omega (arith, gives.height, was.going.height);
+          boxes = omega (arith, gives.boxes_made, was.going.boxes);
+          points = omega (arith, gives.points_made, gives.pace, was.going.points);
+          within = was.going.within;
+          below = was.going.below;
+        };
+        completes = subst (λ xs. Completes step start (shown_of all.passed) hook xs) (ap (λ (r : Run). shown_of r.passed) is ∙ shown_of-hold p later.passed) was.completes;
+        kept = was.kept;
+      }
+
+  -- another port would pass the budget: all is shown
+  pub shows_budget : (new : Search) (e : Event) → ports ≡ budget → Gives P s.mode s.frames s.stack s.boxes s.points (Passed e) new → GoesThrough step start (shown_of all.passed) hook
+  shows_budget new e spent gives =
+      let none : budget - ports ≡ zero = omega (arith, spent) in
+      let is : left P budget answers ports answered s ≡ run_of (Passed e ∷ rest P (budget + 1) new.mode new.frames new.stack new.boxes new.points) (budget - ports) (answers - answered) = rw (gives.items (budget + 1) (omega (arith, was.going.height, spent))) refl in
+      let nothing : (left P budget answers ports answered s).passed ≡ [] = ap (λ (r : Run). r.passed) is ∙ rw none refl in
+      (subst (λ xs. Completes step start (shown_of all.passed) hook (shown_of xs)) nothing was.completes).through hook refl
+
+  -- another port would pass the budget: the end and the counts
+  pub budget_ran : (new : Search) (e : Event) → ports ≡ budget → Gives P s.mode s.frames s.stack s.boxes s.points (Passed e) new → record { end = Budget; ports = ports; answers = answered } ≡ ran_of all
+  budget_ran new e spent gives =
+      let none : budget - ports ≡ zero = omega (arith, spent) in
+      let is : left P budget answers ports answered s ≡ run_of (Passed e ∷ rest P (budget + 1) new.mode new.frames new.stack new.boxes new.points) (budget - ports) (answers - answered) = rw (gives.items (budget + 1) (omega (arith, was.going.height, spent))) refl in
+      let nothing : (left P budget answers ports answered s).passed ≡ [] = ap (λ (r : Run). r.passed) is ∙ rw none refl in
+      let end : all.end ≡ Budget = was.going.end ∙ (ap (λ (r : Run). r.end) is ∙ rw none refl) in
+      let ports_are : ports_of all.passed ≡ ports + zero = was.going.ports_left ∙ ap (λ xs. ports + ports_of xs) nothing in
+      let answers_are : answers_of all.passed ≡ answered + zero = was.going.answers_left ∙ ap (λ xs. answered + answers_of xs) nothing in
+      let p : ports_of all.passed ≡ ports = omega (arith, ports_are) in
+      let a : answers_of all.passed ≡ answered = omega (arith, answers_are) in
+      rw (end, p, a) refl
+
+  -- the hook had a fault at one of the things that are left
+  cut_at : (fault : HookFault) (xs : List Shown) (end : H) → StopsAt step fault start xs end → IsCut step start xs end (run_fault fault)
+  cut_at HookWriteFault xs end stops = stops
+  cut_at HookMemory xs end stops = inr stops
+
+  cuts : (x : Item) (y : Shown) (xs : List Item) (hook' : H) (fault : HookFault) → (left P budget answers ports answered s).passed ≡ x ∷ xs → shown_of (x ∷ xs) ≡ y ∷ shown_of xs → step hook y (Err fault) hook'
+      → IsCut step start (shown_of all.passed) hook' (run_fault fault)
+  cuts x y xs hook' fault is shows shown =
+      let completes : Completes step start (shown_of all.passed) hook (y ∷ shown_of xs) = subst (λ ys. Completes step start (shown_of all.passed) hook ys) (ap shown_of is ∙ shows) was.completes in
+      cut_at fault (shown_of all.passed) hook' (completes.stops fault hook' (inl shown))
+
+  -- at a port
+  pub port_cut : (new : Search) (e : Event) (hook' : H) (fault : HookFault) → ports < budget → Gives P s.mode s.frames s.stack s.boxes s.points (Passed e) new → step hook (ShownPort e) (Err fault) hook'
+      → IsCut step start (shown_of all.passed) hook' (run_fault fault)
+  port_cut new e hook' fault within gives shown =
+      cuts (Passed e) (ShownPort e) (left P budget answers (ports + 1) answered new).passed hook' fault (ap (λ (r : Run). r.passed) (left_passed P budget answers ports answered s new e was.going.height within gives)) refl shown
+
+  -- at an answer
+  pub answer_cut : (new : Search) (a : Term) (held : Option Point) (R : Recorded) (hook' : H) (fault : HookFault) → Keeping P budget answers all ports answered s held R → Gives P s.mode s.frames s.stack s.boxes s.points (Answer a) new → step hook (ShownAnswer a) (Err fault) hook'
+      → IsCut step start (shown_of all.passed) hook' (run_fault fault)
+  answer_cut new a held R hook' fault kept gives shown =
+      let xs = some_left P budget answers all ports answered s held R kept new a was.going.height was.going.within gives was.going.below in
+      cuts (Answer a) (ShownAnswer a) xs.0 hook' fault xs.1 refl shown

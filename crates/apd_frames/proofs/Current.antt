@@ -1,0 +1,149 @@
+-- What the innermost link says of the frames.
+use Rattle.std.proofs.lemmas.Bool.{cases_eq}
+use Rattle.std.proofs.Common.{◌≡◌, ◌≢◌, inl, inr, ℕ, zero, suc, ◌+◌, ◌<◌, ◌≤◌, List, [], ◌∷◌, length, map, refl, sym, ◌∙◌, ap, subst, arith, Bool, true, false, Option, Some, None}
+use Rattle.std.specs.Prelude.{slice_get}
+use Rattle.apd_term.specs.Term.{Term, apply}
+use Rattle.apd_term.specs.Canonical.{canonical}
+use Rattle.apd_term.specs.Tuple.{apply_tuple, canonical_tuple}
+use Rattle.apd_term.specs.declared.tuple.Tuple.{Tuple}
+use Rattle.apd_unify.specs.declared.store.Cell.{Cell}
+use Rattle.apd_unify.specs.Stored.{Stored}
+use Rattle.apd_unify.specs.Store.{term_at}
+use Rattle.apd_ports.specs.declared.point.Step.{Step}
+use Rattle.apd_trace.specs.Frames.{apply_frames, is_large, look_at, look_of, next_goal, left, outer, owner_of, entered, handed, handed_all}
+use Rattle.apd_trace.specs.declared.frame.Frame.{Frame}
+use Rattle.apd_trace.specs.declared.frame.Called.{Called}
+use Rattle.apd_trace.specs.declared.frame.Look.TheVariants.{Nothing, Goal, Exit as Exits, Answer as Answers}
+use Rattle.apd_frames.specs.declared.instance.Instance.{Instance}
+use Rattle.apd_frames.specs.declared.links.Link.{Link}
+use Rattle.apd_frames.specs.declared.links.Branch.{Branch}
+use Rattle.apd_frames.specs.Instances.{terms_in, tuple_in, AreInside, IsInside}
+use Rattle.apd_frames.specs.Kept.{Kept, MayCall, Takes, exit_in, is_large_of, newest_of, point_in}
+use Rattle.apd_frames.specs.Linked.{numbered, frame_in, frames_at, saved_of, entered_link, handed_link, ArePlaced, IsFramed, IsGoalAt}
+use Rattle.apd_frames.proofs.Linking.{same_number, other_number, frames_some, frames_none, frames_newest, frames_applied, tuple_of, with_tuple}
+
+-- the view of frames
+abbrev pub view_of : Stored → List Link → ℕ → List Branch → Kept
+view_of s links k bs = record { current = frames_at s links k; saved = saved_of s links bs }
+
+-- the innermost link of frames
+pub record IsInnermost (s : Stored) (links : List Link) (l : Link) (now : Kept) : Type 0 where
+  pub is : now.current ≡ frame_in s l ∷ frames_at s links l.around
+  pub inside : IsInside (length s.cells) l.instance
+  pub older : l.around ≤ length links
+
+pub innermost_some : (s : Stored) (links : List Link) (k : ℕ) (bs : List Branch) (now : Kept) (l : Link) → view_of s links k bs ≡ now → IsFramed s links k bs → numbered links k ≡ Some l → IsInnermost s links l now
+innermost_some s links k bs now l view f e =
+    let h = frames_some s (length s.cells) links k l f.placed e in
+    record { is = ap (λ (x : Kept). x.current) (sym view) ∙ h.frames; inside = h.inside; older = h.older }
+
+pub innermost_none : (s : Stored) (links : List Link) (k : ℕ) (bs : List Branch) (now : Kept) → view_of s links k bs ≡ now → numbered links k ≡ None → now.current ≡ []
+innermost_none s links k bs now view e = ap (λ (x : Kept). x.current) (sym view) ∙ frames_none s links k e
+
+pub get_terms : (s : Stored) (cs : List Cell) (i : ℕ) (c : Cell) → slice_get cs i ≡ Some c → slice_get (terms_in s cs) i ≡ Some (term_at s c.0)
+get_terms s [] i c e = cc
+get_terms s (d ∷ cs) zero c e = let is : d ≡ c = cc in ap (λ (x : Cell). Some (term_at s x.0)) is
+get_terms s (d ∷ cs) (suc i) c e = get_terms s cs i c e
+
+pub get_none : (s : Stored) (cs : List Cell) (i : ℕ) → length cs ≤ i → slice_get (terms_in s cs) i ≡ None
+get_none s [] i h = refl
+get_none s (d ∷ cs) zero h = absurd (omega arith)
+get_none s (d ∷ cs) (suc i) h = get_none s cs i (omega arith)
+
+pub get_inside : (n : ℕ) (cs : List Cell) (i : ℕ) (c : Cell) → AreInside n cs → slice_get cs i ≡ Some c → c.0 < n
+get_inside n [] i c h e = cc
+get_inside n (d ∷ cs) zero c h e = let is : d ≡ c = cc in subst (λ (x : Cell). x.0 < n) is h.0
+get_inside n (d ∷ cs) (suc i) c h e = get_inside n cs i c h.1 e
+
+module _ (s : Stored) (links : List Link) (l : Link) where
+  pub look_goal : (n : ℕ) (c : Cell) (atom : Term) → slice_get l.instance.goals l.done ≡ Some c → atom ≡ canonical (term_at s c.0)
+      → Goal (record { box_no = n; caller = l.box_no; depth = l.depth + 1; atom = atom }) ≡ look_of (frame_in s l ∷ frames_at s links l.around) n
+  look_goal n c atom get e =
+      ap (λ t. Goal (record { box_no = n; caller = l.box_no; depth = l.depth + 1; atom = t })) e
+      ∙ ap (λ o. look_at o (frame_in s l) (frames_at s links l.around) n) (sym (get_terms s l.instance.goals l.done c get))
+
+  done_look : (n : ℕ) → length l.instance.goals ≤ l.done → look_at None (frame_in s l) (frames_at s links l.around) n ≡ look_of (frame_in s l ∷ frames_at s links l.around) n
+  done_look n e = ap (λ o. look_at o (frame_in s l) (frames_at s links l.around) n) (sym (get_none s l.instance.goals l.done e))
+
+  pub look_answer : (n : ℕ) (g : Called) → length l.instance.goals ≤ l.done → l.box_no ≡ 0 → g ≡ left (frame_in s l) (frames_at s links l.around) → Answers g.atom ≡ look_of (frame_in s l ∷ frames_at s links l.around) n
+  look_answer n g e z is =
+      ap (λ (x : Called). Answers x.atom) is
+      ∙ sym (same_number l.box_no 0 (Answers (canonical (term_at s l.instance.head.0))) (Exits (left (frame_in s l) (frames_at s links l.around)) l.point) z)
+      ∙ done_look n e
+
+  pub look_exit : (n : ℕ) (g : Called) → length l.instance.goals ≤ l.done → l.box_no ≢ 0 → g ≡ left (frame_in s l) (frames_at s links l.around) → Exits g l.point ≡ look_of (frame_in s l ∷ frames_at s links l.around) n
+  look_exit n g e z is =
+      ap (λ x. Exits x l.point) is
+      ∙ sym (other_number l.box_no 0 (Answers (canonical (term_at s l.instance.head.0))) (Exits (left (frame_in s l) (frames_at s links l.around)) l.point) z)
+      ∙ done_look n e
+
+module _ (s : Stored) (links : List Link) (l : Link) (now : Kept) (h : IsInnermost s links l now) where
+  pub may_call : MayCall now.current → l.depth + 1 < 4294967296
+  may_call m = subst MayCall h.is m
+
+  pub takes_on : Takes now.current → l.done < 64
+  takes_on m = subst Takes h.is m
+
+  pub exits_so : (g : Called) → g ≡ left (frame_in s l) (frames_at s links l.around) → Some (g, l.point) ≡ exit_in now.current
+  exits_so g is = ap (λ x. Some (x, l.point)) is ∙ ap exit_in (sym h.is)
+
+  pub large_so : (b : Bool) → b ≡ is_large (tuple_in s l.instance) → b ≡ is_large_of now.current
+  large_so b is = is ∙ ap is_large_of (sym h.is)
+
+  pub newest_so : Some (l.box_no, l.point) ≡ newest_of now.current
+  newest_so = ap newest_of (sym h.is)
+
+  pub point_so : (i t : Tuple) (before : Option Step) → i ≡ tuple_in s l.instance → t ≡ canonical_tuple i
+      → Some (record { owner = l.box_no; clause = l.clause; done = l.done; tuple = t; before = before }) ≡ point_in now.current before
+  point_so i t before e f =
+      ap (λ (x : Tuple). Some (record { owner = l.box_no; clause = l.clause; done = l.done; tuple = x; before = before })) (f ∙ ap canonical_tuple e)
+      ∙ ap (λ F. point_in F before) (sym h.is)
+
+-- the first of the frames from a link on
+first_frame : (s : Stored) (links : List Link) (k : ℕ) (l : Link) → numbered links k ≡ Some l → (rest : List Frame) × (frames_at s links k ≡ frame_in s l ∷ rest)
+first_frame s [] k l e = cc
+first_frame s (x ∷ older) k l e = elim (cases_eq k (length older + 1)) [
+  | inl q ↦
+      let f : Some x ≡ Some l = sym (same_number k (length older + 1) (Some x) (numbered older k) q) ∙ e in
+      let is : x ≡ l = cc in (
+        frames_at s older x.around,
+        same_number k (length older + 1) (frame_in s x ∷ frames_at s older x.around) (frames_at s older k) q ∙ ap (λ y. frame_in s y ∷ frames_at s older x.around) is,
+      )
+  | inr d ↦
+      let r = first_frame s older k l (sym (other_number k (length older + 1) (Some x) (numbered older k) d) ∙ e) in (
+        r.0,
+        other_number k (length older + 1) (frame_in s x ∷ frames_at s older x.around) (frames_at s older k) d ∙ r.1,
+      )
+]
+
+link_inside : (n : ℕ) (links : List Link) (k : ℕ) (l : Link) → ArePlaced n links → numbered links k ≡ Some l → IsInside n l.instance
+link_inside n links k l p e = (frames_some (record { cells = []; variables = 0; trail = [] }) n links k l p e).inside
+
+-- the next goal of a link
+pub goal_some : (links : List Link) (k : ℕ) (l : Link) (c : Cell) → numbered links k ≡ Some l → slice_get l.instance.goals l.done ≡ Some c → IsGoalAt links k (Some c)
+goal_some links k l c e h = (
+  λ n p. get_inside n l.instance.goals l.done c (link_inside n links k l p e).goals h,
+  λ s. (let r = first_frame s links k l e in ap next_goal r.1 ∙ get_terms s l.instance.goals l.done c h),
+)
+
+pub goal_none : (links : List Link) (k : ℕ) (l : Link) → numbered links k ≡ Some l → length l.instance.goals ≤ l.done → IsGoalAt links k None
+goal_none links k l e h = λ s. (let r = first_frame s links k l e in ap next_goal r.1 ∙ get_none s l.instance.goals l.done h)
+
+pub goal_nowhere : (links : List Link) (k : ℕ) → numbered links k ≡ None → IsGoalAt links k None
+goal_nowhere links k e = λ s. ap next_goal (frames_none s links k e)
+
+pub owner_some : (links : List Link) (k : ℕ) (l : Link) → numbered links k ≡ Some l → (s : Stored) → l.box_no ≡ owner_of (frames_at s links k)
+owner_some links k l e s = let r = first_frame s links k l e in ap owner_of (sym r.1)
+
+pub owner_none : (links : List Link) (k : ℕ) → numbered links k ≡ None → (s : Stored) → 0 ≡ owner_of (frames_at s links k)
+owner_none links k e s = ap owner_of (sym (frames_none s links k e))
+
+-- a link in front, in a store where a substitution was applied to the older frames
+pub front_applied : (f : ℕ → Term) (old new : Stored) (links : List Link) (g : Called) (c m k : ℕ) (i : Instance) (t : Tuple)
+    → ((d : ℕ) → d < length old.cells → term_at new d ≡ apply f (term_at old d)) → ArePlaced (length old.cells) links → tuple_in new i ≡ apply_tuple f t
+    → frames_at new (entered_link g c i m k ∷ links) (length links + 1) ≡ apply_frames f (entered g t c m ∷ frames_at old links k)
+front_applied f old new links g c m k i t made p e =
+    let l = entered_link g c i m k in
+    frames_newest new l links
+    ∙ ap (λ x. x ∷ frames_at new links k) (ap (with_tuple l) e)
+    ∙ ap (λ F. with_tuple l (apply_tuple f t) ∷ F) (frames_applied f old new (length old.cells) made links k p)

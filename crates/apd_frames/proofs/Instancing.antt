@@ -1,0 +1,250 @@
+-- Loading terms, and what unification makes of them.
+use Rattle.std.proofs.Common.{◌≡◌, ◌≢◌, inl, inr, ℕ, zero, suc, ◌+◌, ◌-◌, ◌<◌, ◌≤◌, ◌^◌, List, [], ◌∷◌, ◌++◌, length, get_or, take, drop, map, refl, sym, ◌∙◌, ap, subst, arith, Bool, true, false, Option, Some, None}
+use Rattle.std.specs.Prelude.{nat_lt}
+use Rattle.std.proofs.lemmas.Bool.Decides.{nat_tests}
+use Rattle.std.specs.List.{flat_map}
+use Rattle.std.proofs.lemmas.List.{take_all, take_more, take-append-drop, map_more, map-append, length-append}
+use Rattle.apd_term.specs.Term.{Term, variable, integer, compound, apply, spell, size, variables, IsAmong, Occurs}
+use Rattle.apd_term.specs.Substitution.{term_for, followed_by}
+use Rattle.apd_term.specs.Canonical.{shifted}
+use Rattle.apd_term.specs.Tuple.{apply_tuple, variables_of_tuple, sizes}
+use Rattle.apd_term.specs.declared.tuple.Tuple.{Tuple}
+use Rattle.apd_term.proofs.Among.{IsAmong-left, IsAmong-right}
+use Rattle.apd_term.proofs.Applying.{apply-followed_by, apply-same, apply-variable}
+use Rattle.apd_term.proofs.Variants.{apply-agree}
+use Rattle.apd_unify.specs.Unifier.{IsUnifier, HasNoUnifier, OccursIn}
+use Rattle.apd_unify.specs.declared.store.Cell.{Cell}
+use Rattle.apd_unify.specs.Stored.{Stored}
+use Rattle.apd_unify.specs.Store.{term_at, meaning, loaded, at_mark, Keeps, IsUnified, IsUnification, SizeWithin}
+use Rattle.apd_unify.specs.Numbered.{IsNumbered}
+use Rattle.apd_unify.proofs.Keeping.{meaning-loaded, Keeps-trans}
+use Rattle.apd_unify.proofs.Rounding.{Keeps-self}
+use Rattle.apd_trace.specs.Frames.{shifted_tuple, is_large}
+use Rattle.apd_frames.specs.declared.instance.Instance.{Instance}
+use Rattle.apd_frames.specs.Instances.{terms_in, tuple_in, raised_in, AreInside, IsInside, HasGrown, IsInstantiated, Instantiates, IsUnited, Unites}
+use Rattle.apd_frames.specs.Kept.{IsSmall}
+use Rattle.apd_frames.proofs.Branching.{inside_more}
+use Rattle.apd_frames.proofs.Linking.{tuple_of}
+
+pub grown_self : (s : Stored) → HasGrown s s
+grown_self s = record { kept = Keeps-self s; cells = omega arith; others = λ c l. refl; means = λ v. refl }
+
+-- one more term was loaded
+pub grown_more : (old s new : Stored) (t : Term) (base : ℕ) → HasGrown old s → new ≡ loaded s t base → Keeps s new
+    → ((c : ℕ) → c < length s.cells → term_at new c ≡ term_at s c) → HasGrown old new
+grown_more old s new t base h is k o =
+    let n : length new.cells ≡ length s.cells + length (spell (shifted base t)) = ap (λ (z : Stored). length z.cells) is ∙ length-append s.cells (spell (shifted base t)) in
+    record {
+      kept = Keeps-trans old s new h.kept k;
+      cells = omega (arith, n, h.cells);
+      others = λ c l. o c (omega (arith, l, h.cells)) ∙ h.others c l;
+      means = λ v. ap (λ (z : Stored). meaning z.cells z.trail v) is ∙ meaning-loaded s t base v ∙ h.means v;
+    }
+
+pub grown_same : (old s new : Stored) → HasGrown old s → new ≡ s → HasGrown old new
+grown_same old s new h is = subst (HasGrown old) (sym is) h
+
+terms_same : (s new : Stored) (cs : List Cell) → AreInside (length s.cells) cs → ((c : ℕ) → c < length s.cells → term_at new c ≡ term_at s c) → terms_in new cs ≡ terms_in s cs
+terms_same s new [] h o = refl
+terms_same s new (c ∷ cs) h o = ap (λ t. t ∷ terms_in new cs) (o c.0 h.0) ∙ ap (λ ts. term_at s c.0 ∷ ts) (terms_same s new cs h.1 o)
+
+pub inside_one : (n : ℕ) (cs : List Cell) (c : Cell) → AreInside n cs → c.0 < n → AreInside n (cs ++ c ∷ [])
+inside_one n [] c h l = (l, tt)
+inside_one n (d ∷ cs) c h l = (h.0, inside_one n cs c h.1 l)
+
+-- so many of the terms were loaded
+pub record AreLoaded (old s : Stored) (base : ℕ) (terms : List Term) (i : ℕ) (cs : List Cell) : Type 0 where
+  pub grown : HasGrown old s
+  pub made : terms_in s cs ≡ map (raised_in old base) (take i terms)
+  pub inside : AreInside (length s.cells) cs
+
+pub loaded_none : (s : Stored) (base : ℕ) (terms : List Term) (cs : List Cell) → cs ≡ [] → AreLoaded s s base terms 0 cs
+loaded_none s base terms cs e = rw e (record { grown = grown_self s; made = refl; inside = tt })
+
+spelled : (t : Term) → 0 < length (spell t)
+spelled (variable v) = omega arith
+spelled (integer i) = omega arith
+spelled (compound f ts) = omega arith
+
+pub loaded_more : (old s new : Stored) (base : ℕ) (terms : List Term) (i : ℕ) (cs out : List Cell) (t : Term) (c : Cell) → AreLoaded old s base terms i cs
+    → i < length terms → t ≡ get_or terms i t → new ≡ loaded s t base → Keeps s new → ((d : ℕ) → d < length s.cells → term_at new d ≡ term_at s d)
+    → c.0 ≡ length s.cells → term_at new c.0 ≡ apply (meaning s.cells s.trail) (shifted base t) → out ≡ cs ++ c ∷ [] → AreLoaded old new base terms (i + 1) out
+loaded_more old s new base terms i cs out t c h l at is k o here made e =
+    let g = grown_more old s new t base h.grown is k o in
+    let n : length new.cells ≡ length s.cells + length (spell (shifted base t)) = ap (λ (z : Stored). length z.cells) is ∙ length-append s.cells (spell (shifted base t)) in
+    let one : term_at new c.0 ≡ raised_in old base t = made ∙ apply-same (meaning s.cells s.trail) (meaning old.cells old.trail) h.grown.means (shifted base t) in
+    rw e (record {
+      grown = g;
+      made = map-append (λ (d : Cell). term_at new d.0) cs (c ∷ [])
+          ∙ ap (λ ts. ts ++ term_at new c.0 ∷ []) (terms_same s new cs h.inside o ∙ h.made)
+          ∙ ap (λ x. map (raised_in old base) (take i terms) ++ x ∷ []) (one ∙ ap (raised_in old base) at)
+          ∙ sym (map_more (raised_in old base) terms i t l);
+      inside = inside_one (length new.cells) cs c (inside_more (length s.cells) (length new.cells) cs (omega (arith, n)) h.inside) (omega (arith, n, here, spelled (shifted base t)));
+    })
+
+pub loaded_all : (old s : Stored) (base : ℕ) (terms : List Term) (i : ℕ) (cs : List Cell) → AreLoaded old s base terms i cs → length terms ≤ i → terms_in s cs ≡ map (raised_in old base) terms
+loaded_all old s base terms i cs h le = h.made ∙ ap (map (raised_in old base)) (take_all i terms le)
+
+pub among_atom : (ts : List Term) (i v : ℕ) (d : Term) → i < length ts → IsAmong (variables (get_or ts i d)) v → IsAmong (flat_map variables ts) v
+among_atom [] i v d lt m = absurd (omega arith)
+among_atom (t ∷ ts) zero v d lt m = IsAmong-left (variables t) (flat_map variables ts) v m
+among_atom (t ∷ ts) (suc i) v d lt m = IsAmong-right (variables t) (flat_map variables ts) v (among_atom ts i v d (omega arith) m)
+
+-- variables that were raised above all others are free
+pub raised_free : (s : Stored) (t : Term) (base : ℕ) → IsNumbered s → base ≡ s.variables → raised_in s base t ≡ shifted s.variables t
+raised_free s t base h e =
+    apply-followed_by (λ v. variable (base + v)) (meaning s.cells s.trail) t
+    ∙ apply-same (followed_by (λ v. variable (base + v)) (meaning s.cells s.trail)) (λ v. variable (s.variables + v))
+    (λ v. h.unused (base + v) (omega arith) ∙ ap (λ b. variable (b + v)) e) t
+
+-- the rule's head was loaded and unified with the goal
+module _ (old s1 s2 : Stored) (goal head base : ℕ) (rule : Tuple) (numbers : IsNumbered old) (is : base ≡ old.variables) (l : goal < length old.cells)
+    (first : s1 ≡ loaded old rule.head base) (others : (c : ℕ) → c < length old.cells → term_at s1 c ≡ term_at old c)
+    (made : term_at s1 head ≡ apply (meaning old.cells old.trail) (shifted base rule.head)) where
+  head_there : term_at s1 head ≡ shifted old.variables rule.head
+  head_there = made ∙ raised_free old rule.head base numbers is
+
+  pub not_instantiated : HasNoUnifier (term_at s1 goal) (term_at s1 head) → HasNoUnifier (term_at old goal) (shifted_tuple old.variables rule).head
+  not_instantiated h = subst (λ t. HasNoUnifier t (shifted old.variables rule.head)) (others goal l) (subst (HasNoUnifier (term_at s1 goal)) head_there h)
+
+  module _ (u : IsUnified s1 s2 goal head) (same : s2.cells ≡ s1.cells) where
+    means_there : (v : ℕ) → meaning s2.cells s2.trail v ≡ apply (term_for u.pairs) (meaning old.cells old.trail v)
+    means_there v = u.means v ∙ ap (apply (term_for u.pairs)) (ap (λ (z : Stored). meaning z.cells z.trail v) first ∙ meaning-loaded old rule.head base v)
+
+    raised_there : (t : Term) → raised_in s2 base t ≡ apply (term_for u.pairs) (shifted old.variables t)
+    raised_there t =
+        apply-same (meaning s2.cells s2.trail) (followed_by (meaning old.cells old.trail) (term_for u.pairs)) means_there (shifted base t)
+        ∙ sym (apply-followed_by (meaning old.cells old.trail) (term_for u.pairs) (shifted base t))
+        ∙ ap (apply (term_for u.pairs)) (raised_free old t base numbers is)
+
+    body_there : (ts : List Term) → map (raised_in s2 base) ts ≡ map (apply (term_for u.pairs)) (map (shifted old.variables) ts)
+    body_there [] = refl
+    body_there (t ∷ ts) = ap (λ x. x ∷ map (raised_in s2 base) ts) (raised_there t) ∙ ap (λ xs. apply (term_for u.pairs) (shifted old.variables t) ∷ xs) (body_there ts)
+
+    cells_there : length s2.cells ≡ length old.cells + length (spell (shifted base rule.head))
+    cells_there = ap length same ∙ ap (λ (z : Stored). length z.cells) first ∙ length-append old.cells (spell (shifted base rule.head))
+
+    pub instantiated : (s3 : Stored) (i : Instance) → head < length s2.cells → HasGrown s2 s3 → terms_in s3 i.goals ≡ map (raised_in s2 base) rule.body → AreInside (length s3.cells) i.goals → i.head.0 ≡ head
+        → IsInstantiated i old s3 goal rule
+    instantiated s3 i inside grown body goals here =
+        let f = term_for u.pairs in record {
+          pairs = u.pairs;
+          unifier = subst (λ t. IsUnifier t (shifted old.variables rule.head) u.pairs) (others goal l) (subst (λ t. IsUnifier (term_at s1 goal) t u.pairs) head_there u.unifier);
+          made = λ c m. grown.others c (omega (arith, m, cells_there)) ∙ u.made c ∙ ap (apply f) (others c m);
+          tuple =
+              ap (λ t. tuple_of t (terms_in s3 i.goals)) (ap (term_at s3) here ∙ grown.others head inside ∙ u.made head ∙ ap (apply f) head_there)
+              ∙ ap (tuple_of (apply f (shifted old.variables rule.head))) (body ∙ body_there rule.body);
+          inside = record { head = omega (arith, here, inside, grown.cells); goals = goals };
+        }
+
+-- a term whose variables are free is loaded as it is
+pub loaded_free : (s : Stored) (t : Term) → ((v : ℕ) → Occurs v t → meaning s.cells s.trail v ≡ variable v) → raised_in s 0 t ≡ t
+loaded_free s t h =
+    apply-followed_by (λ v. variable (0 + v)) (meaning s.cells s.trail) t
+    ∙ apply-agree (followed_by (λ v. variable (0 + v)) (meaning s.cells s.trail)) variable t
+    (λ v o. (let e : 0 + v ≡ v = omega arith in ap (meaning s.cells s.trail) e ∙ h v o))
+    ∙ apply-variable t
+
+-- two such terms were loaded and unified
+module _ (old s1 s2 s3 : Stored) (a b : ℕ) (left right : Term)
+    (free : (v : ℕ) → OccursIn left right v → meaning old.cells old.trail v ≡ variable v)
+    (first : s1 ≡ loaded old left 0) (others1 : (c : ℕ) → c < length old.cells → term_at s1 c ≡ term_at old c) (made1 : term_at s1 a ≡ apply (meaning old.cells old.trail) (shifted 0 left))
+    (inside : a < length s1.cells)
+    (second : s2 ≡ loaded s1 right 0) (others2 : (c : ℕ) → c < length s1.cells → term_at s2 c ≡ term_at s1 c) (made2 : term_at s2 b ≡ apply (meaning s1.cells s1.trail) (shifted 0 right)) where
+  left_there : term_at s2 a ≡ left
+  left_there = others2 a inside ∙ made1 ∙ loaded_free old left (λ v o. free v (IsAmong-left (variables left) (variables right) v o))
+
+  right_there : term_at s2 b ≡ right
+  right_there =
+      made2 ∙ loaded_free s1 right (λ v o. ap (λ (z : Stored). meaning z.cells z.trail v) first ∙ meaning-loaded old left 0 v ∙ free v (IsAmong-right (variables left) (variables right) v o))
+
+  first_cells : length s1.cells ≡ length old.cells + length (spell (shifted 0 left))
+  first_cells = ap (λ (z : Stored). length z.cells) first ∙ length-append old.cells (spell (shifted 0 left))
+
+  pub united : (r : Bool) → IsUnification r s2 s3 a b → Unites r old s3 left right
+  united false h = subst (λ t. HasNoUnifier t right) left_there (subst (HasNoUnifier (term_at s2 a)) right_there h)
+  united true h = record {
+    pairs = h.pairs;
+    unifier = subst (λ t. IsUnifier t right h.pairs) left_there (subst (λ t. IsUnifier (term_at s2 a) t h.pairs) right_there h.unifier);
+    made = λ c l. h.made c ∙ ap (apply (term_for h.pairs)) (others2 c (omega (arith, l, first_cells)) ∙ others1 c l);
+  }
+
+-- both terms' cells are there
+pub record BothInside (old s1 s2 : Stored) (a b : ℕ) : Type 0 where
+  pub first : a < length s1.cells
+  pub one : a < length s2.cells
+  pub other : b < length s2.cells
+  pub more : length old.cells ≤ length s2.cells
+
+pub both_inside : (old s1 s2 : Stored) (left right : Term) (a b : ℕ) → s1 ≡ loaded old left 0 → s2 ≡ loaded s1 right 0 → a ≡ length old.cells → b ≡ length s1.cells → BothInside old s1 s2 a b
+both_inside old s1 s2 left right a b e f ea eb =
+    let n : length s1.cells ≡ length old.cells + length (spell (shifted 0 left)) = ap (λ (z : Stored). length z.cells) e ∙ length-append old.cells (spell (shifted 0 left)) in
+    let m : length s2.cells ≡ length s1.cells + length (spell (shifted 0 right)) = ap (λ (z : Stored). length z.cells) f ∙ length-append s1.cells (spell (shifted 0 right)) in
+    let p = spelled (shifted 0 left) in
+    let q = spelled (shifted 0 right) in
+    record { first = omega arith; one = omega arith; other = omega arith; more = omega arith }
+
+-- back at the mark of a store that was kept
+pub undone : (old mid new : Stored) (k : ℕ) → Keeps old mid → k ≡ length old.trail → new ≡ at_mark k mid → new ≡ old
+undone old mid new k h e is = is ∙ ap (λ j. at_mark j mid) e ∙ h.1
+
+pub inside_at : (n : ℕ) (cs : List Cell) (i : ℕ) (c : Cell) → AreInside n cs → i < length cs → c ≡ get_or cs i c → c.0 < n
+inside_at n [] i c h l e = absurd (omega arith)
+inside_at n (d ∷ cs) zero c h l e = subst (λ (x : Cell). x.0 < n) (sym e) h.0
+inside_at n (d ∷ cs) (suc i) c h l e = inside_at n cs i c h.1 (omega arith) e
+
+pub inside_or : (n : ℕ) (cs : List Cell) (i : ℕ) (d : Cell) → AreInside n cs → i < length cs → (get_or cs i d).0 < n
+inside_or n [] i d h l = absurd (omega arith)
+inside_or n (c ∷ cs) zero d h l = h.0
+inside_or n (c ∷ cs) (suc i) d h l = inside_or n cs i d h.1 (omega arith)
+
+pub inside_new : (old new : Stored) (t : Term) (base c : ℕ) → new ≡ loaded old t base → c ≡ length old.cells → c < length new.cells
+inside_new old new t base c e is =
+    let n : length new.cells ≡ length old.cells + length (spell (shifted base t)) = ap (λ (z : Stored). length z.cells) e ∙ length-append old.cells (spell (shifted base t)) in
+    omega (arith, n, is, spelled (shifted base t))
+
+sizes-append : (xs ys : List Term) → sizes (xs ++ ys) ≡ sizes xs + sizes ys
+sizes-append [] ys = omega arith
+sizes-append (x ∷ xs) ys = omega (arith, sizes-append xs ys)
+
+sizes_more : (s : Stored) (cs : List Cell) (i : ℕ) (d : Cell) → i < length cs → sizes (terms_in s (take (i + 1) cs)) ≡ sizes (terms_in s (take i cs)) + size (term_at s (get_or cs i d).0)
+sizes_more s cs i d l =
+    let x = get_or cs i d in
+    let one : sizes (terms_in s (x ∷ [])) ≡ size (term_at s x.0) = omega arith in
+    ap (λ xs. sizes (terms_in s xs)) (take_more cs i d l)
+    ∙ ap sizes (map-append (λ (c : Cell). term_at s c.0) (take i cs) (x ∷ []))
+    ∙ sizes-append (terms_in s (take i cs)) (terms_in s (x ∷ []))
+    ∙ ap (λ n. sizes (terms_in s (take i cs)) + n) one
+
+sizes_front : (s : Stored) (cs : List Cell) (i : ℕ) → sizes (terms_in s (take i cs)) ≤ sizes (terms_in s cs)
+sizes_front s cs i =
+    let e : sizes (terms_in s cs) ≡ sizes (terms_in s (take i cs)) + sizes (terms_in s (drop i cs)) =
+    ap (λ xs. sizes (terms_in s xs)) (sym (take-append-drop i cs))
+    ∙ ap sizes (map-append (λ (c : Cell). term_at s c.0) (take i cs) (drop i cs))
+    ∙ sizes-append (terms_in s (take i cs)) (terms_in s (drop i cs)) in
+    omega (arith, e)
+
+large_so : (n : ℕ) → 1000000 < n → true ≡ nat_lt 1000000 n
+large_so n h = grind (arith, nat_tests)
+
+-- what is left of the limit is less than the next goal's size
+pub large_goal : (s : Stored) (i : Instance) (items : List Cell) (n k : ℕ) (d : Cell) (o : Option ℕ) → items ≡ i.goals
+    → k + (size (term_at s i.head.0) + sizes (terms_in s (take n i.goals))) ≡ 1000000 → n < length items → SizeWithin (term_at s (get_or items n d).0) k o → o ≡ None → true ≡ is_large (tuple_in s i)
+large_goal s i items n k d o e count l within is =
+    let more : k < size (term_at s (get_or i.goals n d).0) = subst (λ cs. k < size (term_at s (get_or cs n d).0)) e (subst (SizeWithin (term_at s (get_or items n d).0) k) is within) in
+    let m : n < length i.goals = subst (λ cs. n < length cs) e l in
+    large_so (size (term_at s i.head.0) + sizes (terms_in s i.goals)) (omega (arith, count, more, sizes_more s i.goals n d m, sizes_front s i.goals (n + 1)))
+
+-- the next goal's size is within what is left
+pub left_after : (s : Stored) (i : Instance) (items : List Cell) (n k : ℕ) (d : Cell) (o : Option ℕ) (j : ℕ) → items ≡ i.goals
+    → k + (size (term_at s i.head.0) + sizes (terms_in s (take n i.goals))) ≡ 1000000 → n < length items → SizeWithin (term_at s (get_or items n d).0) k o → o ≡ Some j
+    → k - j + (size (term_at s i.head.0) + sizes (terms_in s (take (n + 1) i.goals))) ≡ 1000000
+left_after s i items n k d o j e count l within is =
+    let w : (j ≡ size (term_at s (get_or i.goals n d).0)) × (j ≤ k) = subst (λ cs. (j ≡ size (term_at s (get_or cs n d).0)) × (j ≤ k)) e (subst (SizeWithin (term_at s (get_or items n d).0) k) is within) in
+    let m : n < length i.goals = subst (λ cs. n < length cs) e l in
+    omega (arith, count, w.0, w.1, sizes_more s i.goals n d m)
+
+-- an instance that isn't there
+pub no_instance : (o : Option Instance) (old new : Stored) (goal : ℕ) (rule : Tuple) → ((i : Instance) → ¬ (o ≡ Some i)) → Instantiates o old new goal rule → HasNoUnifier (term_at old goal) (shifted_tuple old.variables rule).head
+no_instance None old new goal rule n h = h
+no_instance (Some i) old new goal rule n h = absurd (n i refl)

@@ -1,0 +1,9 @@
+pub mod Outcomes
+pub mod Numbers
+pub mod Linking
+pub mod Branching
+pub mod Instancing
+pub mod Current
+pub mod Entering
+pub mod Solving
+pub mod Moving

@@ -1,0 +1,220 @@
+-- What the calls that change frames make of them.
+use Rattle.std.proofs.Common.{◌≡◌, ◌≢◌, ◌⊎◌, inl, inr, ℕ, ◌+◌, ◌<◌, ◌≤◌, List, [], ◌∷◌, length, drop, map, refl, sym, ◌∙◌, ap, subst, arith, Bool, true, false, Option, Some, None}
+use Rattle.std.specs.Prelude.{MatchOption}
+use Rattle.apd_term.specs.Term.{Term, variable, apply}
+use Rattle.apd_term.specs.Substitution.{term_for}
+use Rattle.apd_term.specs.Canonical.{shifted}
+use Rattle.apd_term.specs.Tuple.{apply_tuple, canonical_tuple}
+use Rattle.apd_term.specs.declared.tuple.Tuple.{Tuple}
+use Rattle.apd_unify.specs.Unifier.{HasNoUnifier}
+use Rattle.apd_unify.specs.declared.store.Cell.{Cell}
+use Rattle.apd_unify.specs.Stored.{Stored}
+use Rattle.apd_unify.specs.Store.{term_at, meaning, at_mark, loaded, Keeps}
+use Rattle.apd_unify.specs.Numbered.{IsNumbered}
+use Rattle.apd_unify.specs.First.{AreApart}
+use Rattle.apd_unify.proofs.Keeping.{meaning-loaded}
+use Rattle.apd_unify.proofs.Rounding.{Keeps-self}
+use Rattle.apd_trace.specs.Frames.{apply_frames, entering, entered, shifted_tuple, next_goal, outer, handed_all, query_frame}
+use Rattle.apd_trace.specs.BuiltIn.{built, solution, of_program}
+use Rattle.apd_trace.specs.Renaming.{AreRenamed, AreAlike}
+use Rattle.apd_trace.specs.declared.frame.Frame.{Frame}
+use Rattle.apd_trace.specs.declared.frame.Called.{Called}
+use Rattle.apd_frames.specs.declared.builtin.Solved.{Solved}
+use Rattle.apd_frames.specs.declared.builtin.Solved.TheVariants.{Program, Fault, Failed, Entered}
+use Rattle.apd_frames.specs.declared.instance.Instance.{Instance}
+use Rattle.apd_frames.specs.declared.links.Link.{Link}
+use Rattle.apd_frames.specs.declared.links.Branch.{Branch}
+use Rattle.apd_frames.specs.Instances.{terms_in, tuple_in, raised_in, AreInside, IsInside, HasGrown, IsInstantiated, IsUnited}
+use Rattle.apd_frames.specs.Kept.{Kept, HasEntered, Enters}
+use Rattle.apd_frames.specs.Solves.{solution_as, Settles}
+use Rattle.apd_frames.specs.Linked.{numbered, frame_in, frames_at, oldest, saved_of, entered_link, handed_link, IsFramed, IsGoalAt, IsBranchAt}
+use Rattle.apd_frames.proofs.Linking.{frames_none, frames_newest, frames_below, numbered-zero, tuple_of, with_tuple}
+use Rattle.apd_frames.proofs.Branching.{framed_kept, framed_link, framed_at, framed_back, saved-branch, framed_branch, saved-link, saved-kept, saved-forgotten, marked-forgotten}
+use Rattle.apd_frames.proofs.Instancing.{loaded_free}
+use Rattle.apd_frames.proofs.Current.{view_of, IsInnermost, front_applied}
+use Rattle.apd_frames.proofs.Entering.{enters_apart, enters_none, enters_some}
+use Rattle.apd_frames.proofs.Solving.{solves_entered, solves_other}
+
+-- the frames of a view
+abbrev pub kept_of : List Frame → List (List Frame) → Kept
+kept_of F S = record { current = F; saved = S }
+
+pub kept_so : (F G : List Frame) (S T : List (List Frame)) → F ≡ G → S ≡ T → kept_of F S ≡ kept_of G T
+kept_so F G S T e f = ap (λ x. kept_of x S) e ∙ ap (kept_of G) f
+
+-- the store did more
+pub view_kept : (s s' : Stored) (links : List Link) (k : ℕ) (bs : List Branch) → s' ≡ s → view_of s' links k bs ≡ view_of s links k bs
+view_kept s s' links k bs e = ap (λ (x : Stored). view_of x links k bs) e
+
+module _ (s : Stored) (links : List Link) (k : ℕ) (bs : List Branch) (now : Kept) (view : view_of s links k bs ≡ now) (f : IsFramed s links k bs) (g : Called) (r : Tuple) (c m : ℕ) where
+  -- no goal is next, or its first argument differs from the clause's, or it doesn't unify with the clause's head
+  pub enters_nowhere : IsGoalAt links k None → Enters (entering now.current g r c m) false now now
+  enters_nowhere h =
+      let none : entering (frames_at s links k) g r c m ≡ None = rw (h s) refl in
+      (ap (λ (x : Kept). entering x.current g r c m) (sym view) ∙ none, refl)
+
+  pub enters_no : (goal : Cell) → IsGoalAt links k (Some goal) → AreApart (term_at s goal.0) r.head → Enters (entering now.current g r c m) false now now
+  enters_no goal h a =
+      (ap (λ (x : Kept). entering x.current g r c m) (sym view) ∙ enters_apart (frames_at s links k) g r c m (term_at s goal.0) (h.1 s) a, refl)
+
+  pub enters_back : (goal : Cell) (q : Tuple) (s' : Stored) → IsGoalAt links k (Some goal) → IsNumbered s → q ≡ canonical_tuple r → HasNoUnifier (term_at s goal.0) (shifted_tuple s.variables q).head
+      → s' ≡ s → Enters (entering now.current g r c m) false now (view_of s' links k bs)
+  enters_back goal q s' h numbers e none same = (
+    ap (λ (x : Kept). entering x.current g r c m) (sym view)
+        ∙ enters_none (frames_at s links k) g r c m (term_at s goal.0) (h.1 s) s.variables (frames_below s numbers links k f.placed)
+        (subst (λ (t : Tuple). HasNoUnifier (term_at s goal.0) (shifted_tuple s.variables t).head) e none),
+    view_kept s s' links k bs same ∙ view,
+  )
+
+  module _ (s' : Stored) (b : Branch) (kept : Keeps s s') (more : length s.cells ≤ length s'.cells) (at : IsBranchAt s links k b) where
+    pub branch_framed : IsFramed s' links k (b ∷ bs)
+    branch_framed = framed_branch s s' links k bs b at kept f k more f.within
+
+    pub entered_framed : (l : Link) (n : ℕ) → IsInside (length s'.cells) l.instance → l.around ≡ b.innermost → n ≡ length links + 1 → IsFramed s' (l ∷ links) n (b ∷ bs)
+    entered_framed l n i a e = framed_link s' l links k n (b ∷ bs) branch_framed i (omega (arith, a, at.innermost, f.within)) (omega arith)
+
+    pub entered_framed_so : (l : Link) (i : Instance) (links' : List Link) (n : ℕ) (bs' : List Branch) → IsInside (length s'.cells) i → l ≡ entered_link g c i m b.innermost
+        → links' ≡ l ∷ links → n ≡ length links + 1 → bs' ≡ b ∷ bs → IsFramed s' links' n bs'
+    entered_framed_so l i links' n bs' inside is le ne be = rw (le, be, is) (entered_framed (entered_link g c i m b.innermost) n inside refl ne)
+
+    has_entered : (goal : Cell) (i : Instance) → IsGoalAt links k (Some goal) → IsNumbered s → IsInstantiated i s s' goal.0 (canonical_tuple r)
+        → HasEntered (entering (frames_at s links k) g r c m) (view_of s links k bs) (view_of s' (entered_link g c i m b.innermost ∷ links) (length links + 1) (b ∷ bs))
+    has_entered goal i h numbers inst =
+        let l = entered_link g c i m b.innermost in
+        let t = shifted_tuple s.variables (canonical_tuple r) in
+        let e : frames_at s' (l ∷ links) (length links + 1) ≡ apply_frames (term_for inst.pairs) (entered g t c m ∷ frames_at s links k) =
+        front_applied (term_for inst.pairs) s s' links g c m b.innermost i t inst.made f.placed inst.tuple
+        ∙ ap (λ j. apply_frames (term_for inst.pairs) (entered g t c m ∷ frames_at s links j)) at.innermost in
+        record {
+          renamed = enters_some (frames_at s links k) g r c m (term_at s goal.0) (h.1 s) s.variables (frames_below s numbers links k f.placed) inst.pairs (frames_at s' (l ∷ links) (length links + 1)) inst.unifier e;
+          saved = saved-link s' l links (b ∷ bs) branch_framed.marked ∙ saved-branch s s' links k bs b at kept f;
+        }
+
+    pub enters_so : (goal : Cell) (i : Instance) (q : Tuple) (links' : List Link) (n : ℕ) (bs' : List Branch) → IsGoalAt links k (Some goal) → IsNumbered s → q ≡ canonical_tuple r
+        → IsInstantiated i s s' goal.0 q → links' ≡ entered_link g c i m b.innermost ∷ links → n ≡ length links + 1 → bs' ≡ b ∷ bs
+        → HasEntered (entering now.current g r c m) now (view_of s' links' n bs')
+    enters_so goal i q links' n bs' h numbers e inst le ne be =
+        let k : HasEntered (entering (frames_at s links k) g r c m) (view_of s links k bs) (view_of s' (entered_link g c i m b.innermost ∷ links) (length links + 1) (b ∷ bs)) =
+        has_entered goal i h numbers (subst (IsInstantiated i s s' goal.0) e inst) in
+        rw (le, ne, be) (subst (λ (x : Kept). HasEntered (entering x.current g r c m) x (view_of s' (entered_link g c i m b.innermost ∷ links) (length links + 1) (b ∷ bs))) view k)
+
+-- a built-in goal
+module _ (s : Stored) (links : List Link) (k : ℕ) (bs : List Branch) (now : Kept) (view : view_of s links k bs ≡ now) (f : IsFramed s links k bs) (g : Called) (m : ℕ) where
+  pub solves_nowhere : IsGoalAt links k None → AreAlike (solution now.current g m) of_program
+  solves_nowhere h = subst (λ (x : Kept). AreAlike (solution x.current g m) of_program) view (rw (h s) tt)
+
+  module _ (goal : Cell) (h : IsGoalAt links k (Some goal)) (s' : Stored) where
+    pub solves_without : (r : Solved) (G : List Frame) → r ≢ Entered → Settles r s s' (term_at s goal.0) → AreAlike (solution now.current g m) (solution_as r G)
+    solves_without r G n a = subst (λ (x : Kept). AreAlike (solution x.current g m) (solution_as r G)) view (solves_other (frames_at s links k) g m (term_at s goal.0) (h.1 s) r s s' G n a)
+
+    pub solves_with : (i : Instance) (links' : List Link) (n : ℕ) → i ≡ record { head = goal; goals = [] } → links' ≡ entered_link g 4294967295 i m k ∷ links → n ≡ length links + 1
+        → Settles Entered s s' (term_at s goal.0) → AreAlike (solution now.current g m) (solution_as Entered (frames_at s' links' n))
+    solves_with i links' n ie le ne a =
+        let t : Tuple = record { head = term_at s goal.0; body = [] } in
+        let there : (u : ℕ → Term) → ((d : ℕ) → d < length s.cells → term_at s' d ≡ apply u (term_at s d)) → frames_at s' links' n ≡ apply_frames u (built g (term_at s goal.0) m ∷ frames_at s links k) =
+        λ u made.
+        rw (le, ne) (front_applied u s s' links g 4294967295 m k i t made f.placed
+        (ap (tuple_in s') ie ∙ ap (λ x. tuple_of x []) (made goal.0 (h.0 (length s.cells) f.placed)))) in
+        subst (λ (x : Kept). AreAlike (solution x.current g m) (solution_as Entered (frames_at s' links' n))) view
+        (solves_entered (frames_at s links k) g m (term_at s goal.0) (h.1 s) s s' (frames_at s' links' n) there a)
+
+  -- one more link, in a store that did more
+  pub pushed_framed : (s' : Stored) (l : Link) (n : ℕ) → Keeps s s' → length s.cells ≤ length s'.cells → IsInside (length s'.cells) l.instance → l.around ≤ length links → n ≡ length links + 1 → IsFramed s' (l ∷ links) n bs
+  pushed_framed s' l n kept more i a e = framed_link s' l links k n bs (framed_kept s s' links k bs kept more f) i a (omega arith)
+
+  pub pushed_saved : (s' : Stored) (l : Link) → Keeps s s' → length s.cells ≤ length s'.cells → saved_of s' (l ∷ links) bs ≡ now.saved
+  pushed_saved s' l kept more =
+      saved-link s' l links bs (framed_kept s s' links k bs kept more f).marked ∙ saved-kept s s' links bs kept f.marked ∙ ap (λ (x : Kept). x.saved) view
+
+  pub solved_framed : (goal : Cell) → IsGoalAt links k (Some goal) → (s' : Stored) (l : Link) (gs : List Cell) (links' : List Link) (n : ℕ) → Keeps s s' → length s.cells ≤ length s'.cells → gs ≡ []
+      → l ≡ entered_link g 4294967295 (record { head = goal; goals = gs }) m k → links' ≡ l ∷ links → n ≡ length links + 1 → IsFramed s' links' n bs
+  solved_framed goal h s' l gs links' n kept more none is le ne =
+      let inside : goal.0 < length s.cells = h.0 (length s.cells) f.placed in
+      rw (le, is, none) (pushed_framed s' (entered_link g 4294967295 (record { head = goal; goals = [] }) m k) n kept more (record { head = omega arith; goals = tt }) f.within ne)
+
+-- the innermost link gives way to one that is handed an exit, or to the one around it
+pub takes_over : (s : Stored) (links : List Link) (k : ℕ) (bs : List Branch) (now : Kept) (l : Link) (m n : ℕ) (links' : List Link) → view_of s links k bs ≡ now → IsFramed s links k bs → IsInnermost s links l now
+    → links' ≡ handed_link l m ∷ links → n ≡ length links + 1 → view_of s links' n bs ≡ kept_of (handed_all now.current m) now.saved
+takes_over s links k bs now l m n links' view f h le ne =
+    rw (le, ne) (kept_so (frames_at s (handed_link l m ∷ links) (length links + 1)) (handed_all now.current m) (saved_of s (handed_link l m ∷ links) bs) now.saved
+    (frames_newest s (handed_link l m) links ∙ ap (λ F. handed_all F m) (sym h.is))
+    (saved-link s (handed_link l m) links bs f.marked ∙ ap (λ (x : Kept). x.saved) view))
+
+pub takes_framed : (s : Stored) (links : List Link) (k : ℕ) (bs : List Branch) (now : Kept) (l l' : Link) (m n : ℕ) (links' : List Link) → IsFramed s links k bs → IsInnermost s links l now
+    → l' ≡ handed_link l m → links' ≡ l' ∷ links → n ≡ length links + 1 → IsFramed s links' n bs
+takes_framed s links k bs now l l' m n links' f h is le ne = rw (le, is) (framed_link s (handed_link l m) links k n bs f h.inside h.older (omega arith))
+
+pub takes_nothing : (now : Kept) (m : ℕ) → now.current ≡ [] → now ≡ kept_of (handed_all now.current m) now.saved
+takes_nothing now m e = kept_so now.current (handed_all now.current m) now.saved now.saved (e ∙ ap (λ F. handed_all F m) (sym e)) refl
+
+pub leaves : (s : Stored) (links : List Link) (k : ℕ) (bs : List Branch) (now : Kept) (l : Link) → view_of s links k bs ≡ now → IsInnermost s links l now → view_of s links l.around bs ≡ kept_of (outer now.current) now.saved
+leaves s links k bs now l view h = kept_so (frames_at s links l.around) (outer now.current) (saved_of s links bs) now.saved (ap outer (sym h.is)) (ap (λ (x : Kept). x.saved) view)
+
+pub leaves_nothing : (now : Kept) → now.current ≡ [] → now ≡ kept_of (outer now.current) now.saved
+leaves_nothing now e = kept_so now.current (outer now.current) now.saved now.saved (e ∙ ap outer (sym e)) refl
+
+pub saves : (s : Stored) (links : List Link) (k : ℕ) (bs bs' : List Branch) (now : Kept) (b : Branch) → view_of s links k bs ≡ now → IsFramed s links k bs → IsBranchAt s links k b → bs' ≡ b ∷ bs
+    → view_of s links 0 bs' ≡ kept_of [] (now.current ∷ now.saved)
+saves s links k bs bs' now b view f at e =
+    rw e (kept_so (frames_at s links 0) [] (saved_of s links (b ∷ bs)) (now.current ∷ now.saved)
+    (frames_none s links 0 (numbered-zero links))
+    (saved-branch s s links k bs b at (Keeps-self s) f ∙ ap (λ (x : Kept). x.current ∷ x.saved) view))
+
+pub saves_framed : (s : Stored) (links : List Link) (k n : ℕ) (bs bs' : List Branch) (b : Branch) → IsFramed s links k bs → IsBranchAt s links k b → bs' ≡ b ∷ bs → n ≤ length links → IsFramed s links n bs'
+saves_framed s links k n bs bs' b f at e le = rw e (framed_branch s s links k bs b at (Keeps-self s) f n (omega arith) le)
+
+pub restores : (s s' : Stored) (links links' : List Link) (k : ℕ) (bs bs' : List Branch) (now : Kept) (b : Branch) → view_of s links k bs ≡ now → bs ≡ b ∷ bs' → s' ≡ at_mark b.mark.0 s → links' ≡ oldest b.links links
+    → now.saved ≡ frames_at s' links' b.innermost ∷ saved_of s' links' bs'
+restores s s' links links' k bs bs' now b view e se le =
+    ap (λ (x : Kept). x.saved) (sym view) ∙ ap (saved_of s links) e ∙ sym (rw (se, le) refl)
+
+pub restores_framed : (s s' : Stored) (links links' : List Link) (k : ℕ) (bs bs' : List Branch) (b : Branch) → IsFramed s links k bs → bs ≡ b ∷ bs' → s' ≡ at_mark b.mark.0 s → links' ≡ oldest b.links links
+    → IsFramed s' links' b.innermost bs'
+restores_framed s s' links links' k bs bs' b f e se le = rw (se, le) (framed_back s links k b bs' (subst (IsFramed s links k) e f))
+
+pub forgets_framed : (s : Stored) (links : List Link) (k : ℕ) (bs bs' : List Branch) (o : Option Branch) → IsFramed s links k bs → MatchOption o ((bs ≡ []) × (bs' ≡ [])) (λ b. bs ≡ b ∷ bs') → IsFramed s links k bs'
+forgets_framed s links k bs bs' None f h = rw h.1 (record { placed = f.placed; within = f.within; marked = tt })
+forgets_framed s links k bs bs' (Some b) f h =
+    let k' : IsFramed s links k (b ∷ bs') = subst (IsFramed s links k) h f in
+    record { placed = f.placed; within = f.within; marked = marked-forgotten s links b k'.marked.0 k'.marked.1 bs' k'.marked.4 }
+
+pub forgets : (s : Stored) (links : List Link) (k : ℕ) (bs bs' : List Branch) (now : Kept) (o : Option Branch) → view_of s links k bs ≡ now → IsFramed s links k bs → 0 < length now.saved
+    → MatchOption o ((bs ≡ []) × (bs' ≡ [])) (λ b. bs ≡ b ∷ bs') → view_of s links k bs' ≡ kept_of now.current (drop 1 now.saved)
+forgets s links k bs bs' now None view f l h =
+    let z : now.saved ≡ [] = ap (λ (x : Kept). x.saved) (sym view) ∙ ap (saved_of s links) h.0 in
+    absurd (omega (arith, l, ap length z))
+forgets s links k bs bs' now (Some b) view f l h =
+    let k' : IsFramed s links k (b ∷ bs') = subst (IsFramed s links k) h f in
+    let e : now.saved ≡ saved_of s links (b ∷ bs') = ap (λ (x : Kept). x.saved) (sym view) ∙ ap (saved_of s links) h in
+    kept_so (frames_at s links k) now.current (saved_of s links bs') (drop 1 now.saved) (ap (λ (x : Kept). x.current) view)
+    (sym (saved-forgotten s links b k'.marked.0 k'.marked.1 bs' k'.marked.4) ∙ ap (drop 1) (sym e))
+
+-- the frame of a query, whose terms are loaded into an empty store
+module _ (s0 s1 s2 : Stored) (t q : Tuple) (head : ℕ) (i : Instance) (empty : s0 ≡ record { cells = []; variables = 0; trail = [] }) (is : t ≡ canonical_tuple q)
+    (first : s1 ≡ loaded s0 t.head 0) (there : head < length s1.cells) (made : term_at s1 head ≡ apply (meaning s0.cells s0.trail) (shifted 0 t.head))
+    (grown : HasGrown s1 s2) (goals : terms_in s2 i.goals ≡ map (raised_in s1 0) t.body) (here : i.head.0 ≡ head) where
+  free0 : (v : ℕ) → meaning s0.cells s0.trail v ≡ variable v
+  free0 v = ap (λ (z : Stored). meaning z.cells z.trail v) empty
+
+  free1 : (v : ℕ) → meaning s1.cells s1.trail v ≡ variable v
+  free1 v = ap (λ (z : Stored). meaning z.cells z.trail v) first ∙ meaning-loaded s0 t.head 0 v ∙ free0 v
+
+  bodies : (ts : List Term) → map (raised_in s1 0) ts ≡ ts
+  bodies [] = refl
+  bodies (x ∷ xs) = ap (λ y. y ∷ map (raised_in s1 0) xs) (loaded_free s1 x (λ v o. free1 v)) ∙ ap (λ ys. x ∷ ys) (bodies xs)
+
+  pub opened_tuple : tuple_in s2 i ≡ canonical_tuple q
+  opened_tuple =
+      ap (λ h. tuple_of (term_at s2 h) (terms_in s2 i.goals)) here
+      ∙ ap (λ x. tuple_of x (terms_in s2 i.goals)) (grown.others head there ∙ made ∙ loaded_free s0 t.head (λ v o. free0 v))
+      ∙ ap (tuple_of t.head) (goals ∙ bodies t.body)
+      ∙ is
+
+  pub opened : (l : Link) (links : List Link) (bs : List Branch) → links ≡ l ∷ [] → bs ≡ [] → l ≡ record { box_no = 0; depth = 0; clause = 0; instance = i; done = 0; point = 0; around = 0 }
+      → view_of s2 links 1 bs ≡ kept_of (query_frame (canonical_tuple q) ∷ []) []
+  opened l links bs le be e =
+      let l0 : Link = record { box_no = 0; depth = 0; clause = 0; instance = i; done = 0; point = 0; around = 0 } in
+      rw (le, be, e) (ap (λ (x : Tuple). kept_of (with_tuple l0 x ∷ []) []) opened_tuple)
+
+pub opened_framed : (s : Stored) (l : Link) (links : List Link) (bs : List Branch) → links ≡ l ∷ [] → bs ≡ [] → l.around ≡ 0 → IsInside (length s.cells) l.instance → IsFramed s links 1 bs
+opened_framed s l links bs le be a i = rw (le, be) (record { placed = (i, omega arith, tt); within = omega arith; marked = tt })

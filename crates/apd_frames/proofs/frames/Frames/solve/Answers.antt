@@ -1,0 +1,53 @@
+use Rattle.std.proofs.Common.{◌≡◌, ◌≢◌, ◌∷◌, ◌∙◌, [], length, ap, sym, subst, rules}
+use Rattle.apd_trace.specs.BuiltIn.{solution}
+use Rattle.apd_trace.specs.Renaming.{AreAlike}
+use Rattle.apd_frames.specs.declared.builtin.Solved.TheVariants.{Entered}
+use Rattle.apd_frames.specs.declared.instance.Instance.{Instance}
+use Rattle.apd_frames.specs.Linked.{frames_at, saved_of, IsFramed}
+use Rattle.apd_unify.specs.Store.{term_at}
+use Rattle.apd_frames.specs.Solves.{Settles, solution_as, Keeps}
+use Rattle.apd_frames.proofs.Branching.{framed_kept}
+use Rattle.apd_frames.proofs.Current.{view_of}
+use Rattle.apd_frames.proofs.Moving.{solves_without, solves_with, solved_framed, pushed_saved}
+use Rattle.apd_frames.proofs.frames.Frames.solve.Goals as goal
+
+pub settle-requires : goal.settle-requires
+settle-requires c = c.in-Some.ensures.0 (length c.self.inside.store.cells) c.self.invariant.placed
+
+pub invariant_of-self : goal.invariant_of-self
+invariant_of-self c =
+    framed_kept c.self.inside.store c.settle.new.store c.self.inside.links c.self.inside.innermost c.self.inside.branches c.settle.ensures.kept c.settle.ensures.cells c.self.invariant
+
+pub returns-then-ne-clause-alike : goal.returns-then-ne-clause-alike
+returns-then-ne-clause-alike c =
+    let n : c.in_ok-solved.solved ≢ Entered = search rules in
+    solves_without c.self.inside.store c.self.inside.links c.self.inside.innermost c.self.inside.branches c.args.self.now c.self.view_is c.self.invariant c.args.called.now c.args.point c.in-Some.goal c.in-Some.ensures c.settle.new.store c.in_ok-solved.solved
+    (frames_at c.settle.new.store c.self.inside.links c.self.inside.innermost) n c.in_ok-solved.ensures.answer
+
+pub invariant_of-self-in_err-self-inside : goal.invariant_of-self-in_err-self-inside
+invariant_of-self-in_err-self-inside c =
+    subst (λ ls. IsFramed c.settle.new.store ls c.self.inside.innermost c.self.inside.branches) (sym c.in_err-self-inside.ensures.err)
+    (framed_kept c.self.inside.store c.settle.new.store c.self.inside.links c.self.inside.innermost c.self.inside.branches c.settle.ensures.kept c.settle.ensures.cells c.self.invariant)
+
+pub invariant_of-self-2 : goal.invariant_of-self-2
+invariant_of-self-2 c =
+    solved_framed c.self.inside.store c.self.inside.links c.self.inside.innermost c.self.inside.branches c.args.self.now c.self.view_is c.self.invariant c.args.called.now c.args.point c.in-Some.goal c.in-Some.ensures c.settle.new.store c.entered-link.result c.new.result c.push.new.self c.in_ok-self-inside.field-0
+    c.settle.ensures.kept c.settle.ensures.cells c.new.ensures c.entered-link.ensures c.in_ok-self-inside.ensures.ok c.in_ok-self-inside.ensures.number
+
+pub returns-clause-alike : goal.returns-clause-alike
+returns-clause-alike c =
+    let e : c.in_ok-solved.solved ≡ Entered = search rules in
+    let i : Instance = record { head = c.in-Some.goal; goals = c.new.result } in
+    let b : Instance = record { head = c.in-Some.goal; goals = [] } in
+    let ie : i ≡ b = ap (λ gs. record { head = c.in-Some.goal; goals = gs }) c.new.ensures in
+    subst (λ r. AreAlike (solution c.args.self.now.current c.args.called.now c.args.point) (solution_as r (frames_at c.settle.new.store c.push.new.self c.in_ok-self-inside.field-0))) (sym e)
+    (solves_with c.self.inside.store c.self.inside.links c.self.inside.innermost c.self.inside.branches c.args.self.now c.self.view_is c.self.invariant c.args.called.now c.args.point c.in-Some.goal c.in-Some.ensures c.settle.new.store i c.push.new.self c.in_ok-self-inside.field-0 ie
+    (c.in_ok-self-inside.ensures.ok ∙ ap (λ l. l ∷ c.self.inside.links) c.entered-link.ensures) c.in_ok-self-inside.ensures.number
+    (subst (λ r. Settles r c.self.inside.store c.settle.new.store (term_at c.self.inside.store c.in-Some.goal.0)) e c.in_ok-solved.ensures.answer))
+
+pub returns-clause-kept : goal.returns-clause-kept
+returns-clause-kept c =
+    let e : c.in_ok-solved.solved ≡ Entered = search rules in
+    subst (λ r. Keeps r c.args.self.now (view_of c.settle.new.store c.push.new.self c.in_ok-self-inside.field-0 c.self.inside.branches)) (sym e)
+    (ap (λ ls. saved_of c.settle.new.store ls c.self.inside.branches) c.in_ok-self-inside.ensures.ok
+    ∙ pushed_saved c.self.inside.store c.self.inside.links c.self.inside.innermost c.self.inside.branches c.args.self.now c.self.view_is c.self.invariant c.args.called.now c.args.point c.settle.new.store c.entered-link.result c.settle.ensures.kept c.settle.ensures.cells)

@@ -1,0 +1,65 @@
+-- Instances of clauses in a store.
+use Rattle.std.specs.Prelude.{◌≡◌, ℕ, ◌<◌, ◌≤◌, List, [], ◌∷◌, length, map, Option, Some, None, Bool, true, false}
+use Rattle.apd_term.specs.Term.{Term, apply}
+use Rattle.apd_term.specs.Substitution.{term_for}
+use Rattle.apd_term.specs.Canonical.{shifted}
+use Rattle.apd_term.specs.Tuple.{apply_tuple}
+use Rattle.apd_term.specs.declared.tuple.Tuple.{Tuple}
+use Rattle.apd_unify.specs.Unifier.{IsUnifier, HasNoUnifier}
+use Rattle.apd_unify.specs.declared.store.Cell.{Cell}
+use Rattle.apd_unify.specs.Stored.{Stored}
+use Rattle.apd_unify.specs.Store.{term_at, meaning, Keeps}
+use Rattle.apd_trace.specs.Frames.{shifted_tuple}
+use Rattle.apd_frames.specs.declared.instance.Instance.{Instance}
+
+-- the terms at some cells
+abbrev pub terms_in : Stored → List Cell → List Term
+terms_in s cs = map (λ (c : Cell). term_at s c.0) cs
+
+-- the tuple that an instance is
+abbrev pub tuple_in : Stored → Instance → Tuple
+tuple_in s i = record { head = term_at s i.head.0; body = terms_in s i.goals }
+
+-- the cells are among the first n
+abbrev pub AreInside : ℕ → List Cell → Type 0
+AreInside n [] = Unit {0}
+AreInside n (c ∷ cs) = (c.0 < n) × AreInside n cs
+
+pub record IsInside (n : ℕ) (i : Instance) : Type 0 where
+  pub head : i.head.0 < n
+  pub goals : AreInside n i.goals
+
+-- what the bindings make of a term whose variables are raised
+abbrev pub raised_in : Stored → ℕ → Term → Term
+raised_in s base t = apply (meaning s.cells s.trail) (shifted base t)
+
+-- terms were loaded, and nothing else was done
+pub record HasGrown (old new : Stored) : Type 0 where
+  pub kept : Keeps old new
+  pub cells : length old.cells ≤ length new.cells
+  pub others : (c : ℕ) → c < length old.cells → term_at new c ≡ term_at old c
+  pub means : (v : ℕ) → meaning new.cells new.trail v ≡ meaning old.cells old.trail v
+
+-- the rule's variables were raised above all others, its head was unified with the goal, and this is its instance then
+pub record IsInstantiated (i : Instance) (old new : Stored) (goal : ℕ) (rule : Tuple) : Type 0 where
+  pub pairs : List (ℕ × Term)
+  pub unifier : IsUnifier (term_at old goal) (shifted_tuple old.variables rule).head pairs
+  pub made : (c : ℕ) → c < length old.cells → term_at new c ≡ apply (term_for pairs) (term_at old c)
+  pub tuple : tuple_in new i ≡ apply_tuple (term_for pairs) (shifted_tuple old.variables rule)
+  pub inside : IsInside (length new.cells) i
+
+-- the rule's instance, or none where its head doesn't unify with the goal
+abbrev pub Instantiates : Option Instance → Stored → Stored → ℕ → Tuple → Type 0
+Instantiates None old new goal rule = HasNoUnifier (term_at old goal) (shifted_tuple old.variables rule).head
+Instantiates (Some i) old new goal rule = IsInstantiated i old new goal rule
+
+-- two terms were made equal by a most general unifier, which was applied to the terms of all cells
+pub record IsUnited (old new : Stored) (a b : Term) : Type 0 where
+  pub pairs : List (ℕ × Term)
+  pub unifier : IsUnifier a b pairs
+  pub made : (c : ℕ) → c < length old.cells → term_at new c ≡ apply (term_for pairs) (term_at old c)
+
+-- they were, or they have no unifier
+abbrev pub Unites : Bool → Stored → Stored → Term → Term → Type 0
+Unites true old new a b = IsUnited old new a b
+Unites false old new a b = HasNoUnifier a b

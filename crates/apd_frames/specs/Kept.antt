@@ -1,0 +1,72 @@
+-- The frames that a search keeps.
+use Rattle.std.specs.Prelude.{◌≡◌, ℕ, ◌+◌, ◌<◌, List, [], ◌∷◌, Option, Some, None, Bool, true, false, refl}
+use Rattle.std.specs.Coded.{Coded, code_by, coded_list, coded×}
+use Rattle.apd_term.specs.Term.{IsAmong}
+use Rattle.apd_frames.specs.Codes.{frame_code}
+use Rattle.apd_term.specs.Tuple.{variables_of_tuple}
+use Rattle.apd_term.specs.declared.tuple.Tuple.{Tuple}
+use Rattle.apd_trace.specs.Frames.{is_large, left, point_at}
+use Rattle.apd_trace.specs.declared.frame.Frame.{Frame}
+use Rattle.apd_trace.specs.declared.frame.Called.{Called}
+use Rattle.apd_ports.specs.declared.point.Step.{Step}
+use Rattle.apd_ports.specs.declared.point.Point.{Point}
+use Rattle.apd_trace.specs.Renaming.{AreRenamed}
+
+-- the current frames, and those saved at earlier choices, the newest first
+pub record Kept : Type 0 where
+  pub current : List Frame
+  pub saved : List (List Frame)
+
+-- a clause's variables have small numbers
+abbrev pub IsSmall : Tuple → Type 0
+IsSmall r = (v : ℕ) → IsAmong (variables_of_tuple r) v → v < 4294967297
+
+-- a clause was entered: the frames are those, renamed, and the frames before are saved
+pub record HasEntered (entered : Option (List Frame)) (old new : Kept) : Type 0 where
+  pub renamed : AreRenamed entered (Some new.current)
+  pub saved : new.saved ≡ old.current ∷ old.saved
+
+-- it was, or it can't be and nothing changed
+abbrev pub Enters : Option (List Frame) → Bool → Kept → Kept → Type 0
+Enters entered true old new = HasEntered entered old new
+Enters entered false old new = (entered ≡ None) × (new ≡ old)
+
+-- whether the innermost frame's instance is too large
+abbrev pub is_large_of : List Frame → Bool
+is_large_of [] = false
+is_large_of (f ∷ F) = is_large f.tuple
+
+-- a goal of the innermost frame may have one more as its depth
+abbrev pub MayCall : List Frame → Type 0
+MayCall [] = Unit {0}
+MayCall (f ∷ F) = f.depth + 1 < 4294967296
+
+-- the innermost frame has fewer than 64 goals solved
+abbrev pub Takes : List Frame → Type 0
+Takes [] = Unit {0}
+Takes (f ∷ F) = f.done < 64
+
+-- the innermost frame's box and newest point
+abbrev pub newest_of : List Frame → Option (ℕ × ℕ)
+newest_of [] = None
+newest_of (f ∷ F) = Some (f.box_no, f.point)
+
+-- the innermost frame's head in its box, and its newest point
+abbrev pub exit_in : List Frame → Option (Called × ℕ)
+exit_in [] = None
+exit_in (f ∷ F) = Some (left f F, f.point)
+
+-- the innermost frame as a point
+abbrev pub point_in : List Frame → Option Step → Option Point
+point_in [] before = None
+point_in (f ∷ F) before = Some (point_at f before)
+
+-- kept frames are stored as the pair of their parts
+abbrev pub kept_code : Coded Kept
+kept_code =
+    code_by
+    (List Frame × List (List Frame))
+    (coded× (coded_list frame_code) (coded_list (coded_list frame_code)))
+    (λ k. (k.current, k.saved))
+    (λ p. record { current = p.0; saved = p.1 })
+    (λ _. refl)

@@ -1,0 +1,5 @@
+pub mod Codes
+pub mod Kept
+pub mod Solves
+pub mod Instances
+pub mod Linked

@@ -1,0 +1,98 @@
+-- Frames that are linked over a store.
+use Rattle.std.specs.Prelude.{◌≡◌, ℕ, ◌+◌, ◌-◌, ◌<◌, ◌≤◌, ◌==◌, List, [], ◌∷◌, length, drop, Option, Some, None, if◌then◌else◌}
+use Rattle.apd_unify.specs.Stored.{Stored}
+use Rattle.apd_unify.specs.declared.store.Cell.{Cell}
+use Rattle.apd_unify.specs.Store.{term_at, at_mark}
+use Rattle.apd_trace.specs.Frames.{next_goal}
+use Rattle.apd_trace.specs.declared.frame.Called.{Called}
+use Rattle.apd_frames.specs.declared.instance.Instance.{Instance}
+use Rattle.apd_trace.specs.declared.frame.Frame.{Frame}
+use Rattle.apd_frames.specs.declared.links.Link.{Link}
+use Rattle.apd_frames.specs.declared.links.Branch.{Branch}
+use Rattle.apd_frames.specs.Instances.{tuple_in, IsInside}
+
+-- the link with this number, counted from 1 at the oldest; the links are given the newest first
+abbrev pub numbered : List Link → ℕ → Option Link
+numbered [] k = None
+numbered (l ∷ older) k = if k == length older + 1 then Some l else numbered older k
+
+-- the frame of a link, with all bindings applied
+abbrev pub frame_in : Stored → Link → Frame
+frame_in s l =
+    record {
+      box_no = l.box_no;
+      depth = l.depth;
+      clause = l.clause;
+      tuple = tuple_in s l.instance;
+      done = l.done;
+      point = l.point;
+    }
+
+-- the link of a clause, or of a built-in goal, for the called goal
+abbrev pub entered_link : Called → ℕ → Instance → ℕ → ℕ → Link
+entered_link g c i m k =
+    record {
+      box_no = g.box_no;
+      depth = g.depth;
+      clause = c;
+      instance = i;
+      done = 0;
+      point = m;
+      around = k;
+    }
+
+-- the link with one more goal solved, at point m
+abbrev pub handed_link : Link → ℕ → Link
+handed_link l m =
+    record {
+      box_no = l.box_no;
+      depth = l.depth;
+      clause = l.clause;
+      instance = l.instance;
+      done = l.done + 1;
+      point = m;
+      around = l.around;
+    }
+
+-- the frames from the link with this number outwards
+abbrev pub frames_at : Stored → List Link → ℕ → List Frame
+frames_at s [] k = []
+frames_at s (l ∷ older) k = if k == length older + 1 then frame_in s l ∷ frames_at s older l.around else frames_at s older k
+
+-- each link's instance is in the first n cells, and the link around it is older
+abbrev pub ArePlaced : ℕ → List Link → Type 0
+ArePlaced n [] = Unit {0}
+ArePlaced n (l ∷ older) = IsInside n l.instance × (l.around ≤ length older) × ArePlaced n older
+
+-- the cell of the next goal of the link with this number, if it has one
+abbrev pub IsGoalAt : List Link → ℕ → Option Cell → Type 0
+IsGoalAt links k None = (s : Stored) → next_goal (frames_at s links k) ≡ None
+IsGoalAt links k (Some c) = ((n : ℕ) → ArePlaced n links → c.0 < n) × ((s : Stored) → next_goal (frames_at s links k) ≡ Some (term_at s c.0))
+
+-- the oldest k of the links
+abbrev pub oldest : ℕ → List Link → List Link
+oldest k links = drop (length links - k) links
+
+-- the frames at each branch, the newest first: those of its link, in the store and the links as they were there
+abbrev pub saved_of : Stored → List Link → List Branch → List (List Frame)
+saved_of s links [] = []
+saved_of s links (b ∷ bs) = frames_at (at_mark b.mark.0 s) (oldest b.links links) b.innermost ∷ saved_of (at_mark b.mark.0 s) (oldest b.links links) bs
+
+-- the branches' marks and numbers of links are of earlier and earlier times, when all links were in their places
+abbrev pub AreMarked : Stored → List Link → List Branch → Type 0
+AreMarked s links [] = Unit {0}
+AreMarked s links (b ∷ bs) =
+    (b.mark.0 ≤ length s.trail) × (b.links ≤ length links) × (b.innermost ≤ b.links) × ArePlaced (length (at_mark b.mark.0 s).cells) (oldest b.links links)
+    × AreMarked (at_mark b.mark.0 s) (oldest b.links links) bs
+
+-- the links and branches of frames are right
+pub record IsFramed (s : Stored) (links : List Link) (innermost : ℕ) (bs : List Branch) : Type 0 where
+  pub placed : ArePlaced (length s.cells) links
+  pub within : innermost ≤ length links
+  pub marked : AreMarked s links bs
+
+-- a branch at a store, links and the innermost of them
+pub record IsBranchAt (s : Stored) (links : List Link) (k : ℕ) (b : Branch) : Type 0 where
+  pub mark : b.mark.0 ≡ length s.trail
+  pub links_then : b.links ≡ length links
+  pub innermost : b.innermost ≡ k

@@ -1,0 +1,114 @@
+//! Instances of clauses in a store.
+
+ghost use Rattle.std.specs.Prelude.{◌≡◌, ℕ, ◌+◌, ◌<◌, ◌≤◌, ◌^◌, length, map, IfOk};
+ghost use Rattle.std.specs.List.{flat_map};
+ghost use Rattle.apd_term.specs.Term.{variables, IsAmong, Occurs};
+ghost use Rattle.apd_unify.specs.Unifier.{OccursIn};
+ghost use Rattle.apd_unify.specs.Numbered.{IsNumbered};
+ghost use Rattle.apd_unify.specs.Store.{term_at, Keeps};
+ghost use Rattle.apd_frames.specs.Kept.{IsSmall};
+ghost use Rattle.apd_frames.specs.Instances.{terms_in, tuple_in, raised_in, AreInside, IsInside, HasGrown, Instantiates, Unites};
+ghost use Rattle.apd_trace.specs.Frames.{is_large};
+
+use apd_base::{ListOf, MOST_INSTANCE_SYMBOLS};
+use apd_term::{Atoms, Flat, Tuple};
+use apd_unify::store::{Cell, Store};
+use std::alloc::{AllocError, Global};
+
+/// The cells of a clause's head and of its body's goals.
+#[derive(Drop)]
+pub struct Instance {
+    pub head: Cell,
+    pub goals: ListOf<Cell>,
+}
+
+/// Loads the terms, their variables raised by `base`.
+pub fn load_all(
+    store: &mut Store,
+    alloc: Global,
+    terms: &[Flat],
+    base: u64,
+) -> Result<ListOf<Cell>, AllocError>
+    requires { (v : ℕ) → IsAmong (flat_map variables terms.now) v → base + v < 2 ^ 64 }
+    ensures grown { HasGrown store.old store.new }
+    ensures made { IfOk result (λ cs. terms_in store.new cs ≡ map (raised_in store.old base) terms.now) }
+    ensures inside { IfOk result (λ cs. AreInside (length store.new.cells) cs) }
+{
+    let mut cells = ListOf::new(alloc);
+    'terms: for term in terms {
+        let cell = store.load(term, base)?;
+        cells.push(cell)?;
+    }
+    Ok(cells)
+}
+
+/// The clause's instance for the goal at a cell, where its head unifies with it. The clause's variables are raised above
+/// all others. After none or want of memory more terms may be there, and some variables may be bound.
+pub fn instantiate(
+    store: &mut Store,
+    alloc: Global,
+    goal: Cell,
+    rule: &Tuple,
+) -> Result<Option<Instance>, AllocError>
+    requires goal { goal.0 < length store.old.cells }
+    requires small { IsSmall rule.now }
+    ensures kept { Keeps store.old store.new }
+    ensures cells { length store.old.cells ≤ length store.new.cells }
+    ensures numbered { IsNumbered store.old }
+    ensures answer { IfOk result (λ o. Instantiates o store.old store.new goal.0 rule.now) }
+{
+    let base = store.variables() as u64;
+    let head = store.load(&rule.head, base)?;
+    if !store.unify(goal, head)? {
+        return Ok(None);
+    }
+    let goals = load_all(store, alloc, rule.body.as_slice(), base)?;
+    Ok(Some(Instance { head, goals }))
+}
+
+/// Makes two terms equal whose variables stand in the term at a cell, where they have a unifier.
+pub fn equate(store: &mut Store, goal: Cell, left: &Flat, right: &Flat) -> Result<bool, AllocError>
+    requires goal { goal.0 < length store.old.cells }
+    requires within { (v : ℕ) → OccursIn left.now right.now v → Occurs v (term_at store.old goal.0) }
+    ensures kept { Keeps store.old store.new }
+    ensures cells { length store.old.cells ≤ length store.new.cells }
+    ensures answer { IfOk result (λ b. Unites b store.old store.new left.now right.now) }
+{
+    // All these variables are free, and their numbers fit.
+    let _variables = store.variables();
+    let a = store.load(left, 0)?;
+    let b = store.load(right, 0)?;
+    store.unify(a, b)
+}
+
+/// The instance's tuple, with all bindings applied.
+pub fn resolved(store: &Store, alloc: Global, instance: &Instance) -> Result<Tuple, AllocError>
+    requires { IsInside (length store.now.cells) instance.now }
+    ensures { IfOk result (λ t. t ≡ tuple_in store.now instance.now) }
+{
+    let head = store.resolve(instance.head)?;
+    let mut body = Atoms::new(alloc);
+    'goals: for goal in instance.goals.as_slice() {
+        let atom = store.resolve(*goal)?;
+        body.push(atom)?;
+    }
+    Ok(Tuple { head, body })
+}
+
+/// Whether the instance has more symbols than it may have. No more than these are passed.
+pub fn is_large(store: &Store, instance: &Instance) -> Result<bool, AllocError>
+    requires { IsInside (length store.now.cells) instance.now }
+    ensures { IfOk result (λ b. b ≡ is_large (tuple_in store.now instance.now)) }
+{
+    let Some(size) = store.size_within(instance.head, MOST_INSTANCE_SYMBOLS)? else {
+        return Ok(true);
+    };
+    let mut left = MOST_INSTANCE_SYMBOLS - size;
+    'goals: for goal in instance.goals.as_slice() {
+        match store.size_within(*goal, left)? {
+            None => return Ok(true),
+            Some(more) => left -= more,
+        }
+    }
+    Ok(false)
+}

@@ -1,0 +1,10 @@
+//! The clause instances that a search is in, over a store of cells with a trail.
+//!
+//! Frames are links to each other and to cells. A choice keeps marks only, and nothing is copied.
+#![tactic(auto)]
+
+pub mod builtin;
+pub mod frames;
+pub mod instance;
+pub mod links;
+pub mod settling;

@@ -1,0 +1,169 @@
+-- A body that is closed by the tests is closed by the replies; so where no clause is left, the goal is uncovered by them.
+use Rattle.std.proofs.Common.{◌≡◌, ◌≢◌, ◌⊎◌, inl, inr, ℕ, ◌+◌, ◌&&◌, ◌||◌, not, Bool, true, false, if◌then◌else◌, List, [], ◌∷◌, Option, Some, None, Result, Ok, Err, refl, sym, ◌∙◌, ap, subst}
+use Rattle.std.specs.Prelude.{IsSome, ℤ}
+use Rattle.std.specs.Bool.{then_some}
+use Rattle.std.specs.List.{list_any, list_all, AllByRecursion}
+use Rattle.apd_term.specs.Term.{Term, variables, arguments, integer, IsGround}
+use Rattle.apd_term.specs.Tuple.{canonical_tuple}
+use Rattle.apd_term.specs.Substitution.{IsInstance}
+use Rattle.apd_term.specs.declared.tuple.Tuple.{Tuple}
+use Rattle.apd_arith.specs.declared.fault.ArithFault.{ArithFault}
+use Rattle.apd_arith.specs.declared.goal.Builtin.{Builtin}
+use Rattle.apd_arith.specs.declared.goal.Builtin.TheVariants as goals
+use Rattle.apd_arith.specs.declared.comparison.Comparison.{Comparison}
+use Rattle.apd_arith.specs.declared.comparison.Comparison.TheVariants.{Equal, Different, Less, LessEqual, Greater, GreaterEqual}
+use Rattle.apd_arith.specs.Builtins.{builtin_of_atom, IsBuiltin}
+use Rattle.apd_arith.specs.Value.{Value, value}
+use Rattle.apd_arith.specs.Truth.{compared, IsTrueComparison, IsTrueGoal, IsTrueBy, IsTrueAtom}
+use Rattle.apd_term.specs.Matching.{same_term, is_instance}
+use Rattle.apd_term.proofs.Opposite.{same_term-is, is_instance-is}
+use Rattle.apd_record.specs.Recorded.{Recorded, is_none, is_user_atom}
+use Rattle.apd_answers.specs.declared.question.Question.{Question}
+use Rattle.apd_answers.specs.declared.question.Question.TheVariants as asking
+use Rattle.apd_answers.specs.declared.question.Reply.{Reply}
+use Rattle.apd_answers.specs.declared.question.Reply.TheVariants.{Yes, No, Values}
+use Rattle.apd_answers.specs.declared.finding.Finding.{Finding}
+use Rattle.apd_answers.specs.declared.finding.Finding.TheVariants.{Uncovered}
+use Rattle.apd_answers.specs.declared.store.Pair.{Pair}
+use Rattle.apd_answers.specs.Questions.{canonical_question}
+use Rattle.apd_answers.specs.Store.{decided, told, same_question, SaysYes, SaysNo, SaysUncovered, TellsUncovered, SomePair, SomeTerm}
+use Rattle.apd_answers.specs.Findings.{IsByReplies, IsUncoveredByReplies, IsClosed, IsDenied, IsFalseBuiltin, instance_for}
+use Rattle.apd_answers.specs.Dialogue.{Turn, asks, goes, ends}
+use Rattle.apd_answers.proofs.Tests.{both, then_some-is, same_question-equal, some_passes}
+use Rattle.apd_answers.proofs.Decided.{decided-no, first_there}
+use Rattle.apd_missing.specs.Truths.{unless_fault, is_value, is_true_goal, is_true_by, is_true_atom}
+use Rattle.apd_missing.specs.Missing.{Unanswered, Looked, is_nil, is_ground, is_false_builtin, is_no, is_denied, is_closed, first_open, first_undecided, turn_of_ground, turn_of, missing}
+
+by_test : {C : Type 0} (b : Bool) → (b ≡ true → C) → (b ≡ false → C) → C
+by_test true f g = f refl
+by_test false f g = g refl
+
+not_true : (b : Bool) → not b ≡ true → b ≡ false
+not_true true e = absurd (cc)
+not_true false e = refl
+
+either : (a b : Bool) → (a || b) ≡ true → (a ≡ true) ⊎ (b ≡ true)
+either true b e = inl refl
+either false b e = inr e
+
+-- what is true passes the test
+true_comparison : (c : Comparison) (a b : Term) → IsTrueComparison c a b → unless_fault (compared c (value a) (value b)) ≡ true
+true_comparison c a b h = ap unless_fault h
+
+true_value : (a : Term) (v : Value) (i : ℤ) → a ≡ integer i → v ≡ Ok i → is_value a v ≡ true
+true_value a v i e f = ap (is_value a) f ∙ (same_term-is a (integer i)).1 e
+
+true_goal : (g : Builtin) (ts : List Term) → IsTrueGoal g ts → is_true_goal g ts ≡ true
+true_goal goals.True [] h = refl
+true_goal goals.Unify (a ∷ b ∷ []) h = (same_term-is a b).1 h
+true_goal goals.Is (a ∷ e ∷ []) h = true_value a (value e) h.0 h.1 h.2
+true_goal goals.Equal (a ∷ b ∷ []) h = true_comparison Equal a b h
+true_goal goals.Different (a ∷ b ∷ []) h = true_comparison Different a b h
+true_goal goals.Less (a ∷ b ∷ []) h = true_comparison Less a b h
+true_goal goals.LessEqual (a ∷ b ∷ []) h = true_comparison LessEqual a b h
+true_goal goals.Greater (a ∷ b ∷ []) h = true_comparison Greater a b h
+true_goal goals.GreaterEqual (a ∷ b ∷ []) h = true_comparison GreaterEqual a b h
+true_goal g ts h = absurd h
+
+true_by : (o : Option Builtin) (ts : List Term) → IsTrueBy o ts → is_true_by o ts ≡ true
+true_by None ts h = absurd h
+true_by (Some g) ts h = true_goal g ts h
+
+ground_is : (vs : List ℕ) → is_nil vs ≡ true → vs ≡ []
+ground_is [] e = refl
+ground_is (v ∷ vs) e = absurd (cc)
+
+builtin_is : (o : Option Builtin) → is_none o ≡ false → IsSome o
+builtin_is None e = absurd (cc)
+builtin_is (Some g) e = refl
+
+false_builtin : (a : Term) → is_false_builtin a ≡ true → IsFalseBuiltin a
+false_builtin a e =
+    let p = both (not (is_user_atom a)) (is_ground a && not (is_true_atom a)) e in
+    let q = both (is_ground a) (not (is_true_atom a)) p.1 in
+    record {
+      builtin = builtin_is (builtin_of_atom a) (not_true (is_user_atom a) p.0);
+      has_no_variable = ground_is (variables a) q.0;
+      untrue = λ h. let f = sym (not_true (is_true_atom a) q.1) ∙ true_by (builtin_of_atom a) (arguments a) h in absurd (cc);
+    }
+
+no_is : (o : Option Reply) → is_no o ≡ true → o ≡ Some No
+no_is None e = absurd (cc)
+no_is (Some Yes) e = absurd (cc)
+no_is (Some No) e = refl
+no_is (Some (Values vs)) e = absurd (cc)
+
+tells_uncovered : (t : Tuple) (q : Question) (r : Reply) → r ≡ No → same_question (canonical_question q) (asking.Covers (canonical_tuple t)) ≡ true → TellsUncovered t q r
+tells_uncovered t (asking.True a) r n e = absurd (cc)
+tells_uncovered t (asking.Below x y) r n e = absurd (cc)
+tells_uncovered t (asking.Covers u) Yes n e = absurd (cc)
+tells_uncovered t (asking.Covers u) (Values vs) n e = absurd (cc)
+tells_uncovered t (asking.Covers u) No n e = let f = same_question-equal (asking.Covers (canonical_tuple u)) (asking.Covers (canonical_tuple t)) e in cc
+
+decided-uncovered : (pairs : List Pair) (t : Tuple) → decided pairs (asking.Covers t) ≡ Some No → SaysUncovered pairs t
+decided-uncovered [] t e = absurd (cc)
+decided-uncovered (pair ∷ pairs) t e = elim (first_there (told pair (asking.Covers t)) (decided pairs (asking.Covers t)) No e) [
+  | inl h ↦
+      let p = then_some-is (same_question (canonical_question pair.question) (asking.Covers (canonical_tuple t))) pair.reply No h in
+      inl (tells_uncovered t pair.question pair.reply p.1 p.0)
+  | inr h ↦ inr (decided-uncovered pairs t h.1)
+]
+
+all_ground : (ts : List Term) → list_all is_ground ts ≡ true → AllByRecursion IsGround ts
+all_ground [] e = tt
+all_ground (t ∷ ts) e = let p = both (is_ground t) (list_all is_ground ts) e in (ground_is (variables t) p.0, all_ground ts p.1)
+
+user_is : (o : Option Builtin) → is_none o ≡ true → o ≡ None
+user_is None e = refl
+user_is (Some g) e = absurd (cc)
+
+denied_is : (pairs : List Pair) (body : List Term) → is_denied pairs body ≡ true → IsDenied pairs body
+denied_is pairs body e =
+    let p = both (list_all is_ground body) (list_any (λ a. is_user_atom a && is_no (decided pairs (asking.True a))) body) e in
+    record {
+      has_no_variable = all_ground body p.0;
+      denied = some_passes (λ a. is_user_atom a && is_no (decided pairs (asking.True a))) (λ a. (builtin_of_atom a ≡ None) × SaysNo pairs a)
+          (λ a f. let q = both (is_user_atom a) (is_no (decided pairs (asking.True a))) f in (user_is (builtin_of_atom a) q.0, decided-no pairs a (no_is (decided pairs (asking.True a)) q.1)))
+          body p.1;
+    }
+
+pub closed_is : (pairs : List Pair) (t : Tuple) → is_closed pairs t ≡ true → IsClosed pairs t
+closed_is pairs t e = elim (either (list_any is_false_builtin t.body) (is_no (decided pairs (asking.Covers t)) || is_denied pairs t.body) e) [
+  | inl f ↦ inl (some_passes is_false_builtin IsFalseBuiltin false_builtin t.body f)
+  | inr f ↦ (elim (either (is_no (decided pairs (asking.Covers t))) (is_denied pairs t.body) f) [
+    | inl g ↦ inr (inl (decided-uncovered pairs t (no_is (decided pairs (asking.Covers t)) g)))
+    | inr g ↦ inr (inr (denied_is pairs t.body g))
+  ])
+]
+
+-- where no clause is open, each is closed
+all_closed : (pairs : List Pair) (goal : Term) (n : ℕ) (P : List Tuple) → first_open pairs goal n P ≡ None → AllByRecursion (λ (c : Tuple). IsInstance goal c.head → IsClosed pairs (instance_for c goal)) P
+all_closed pairs goal n [] e = tt
+all_closed pairs goal n (c ∷ cs) e =
+    by_test (is_closed pairs (instance_for c goal))
+    (λ k. (
+      λ i. closed_is pairs (instance_for c goal) k,
+      by_test (is_instance goal c.head)
+          (λ h. all_closed pairs goal (n + 1) cs (rw (h, k) at e))
+          (λ h. all_closed pairs goal (n + 1) cs (rw h at e)),
+    ))
+    (λ k. by_test (is_instance goal c.head)
+    (λ h. let f : Some (record { clause = n; instance = instance_for c goal }) ≡ None = rw (h, k) at e in absurd (cc))
+    (λ h. (λ i. let f = sym h ∙ (is_instance-is goal c.head).1 i in absurd (cc), all_closed pairs goal (n + 1) cs (rw h at e))))
+
+-- the turn at which the diagnosis ends
+no_end_of_ground : (R : Recorded) (s : Unanswered) (l : Looked) (o : Option Term) (f : Finding) → turn_of_ground R s l o ≡ ends f → ⊥
+no_end_of_ground R s l None f e = cc
+no_end_of_ground R s l (Some a) f e = cc
+
+pub ended-uncovered : (P : List Tuple) (R : Recorded) (pairs : List Pair) (s : Unanswered) (f : Finding) → builtin_of_atom s.goal ≡ None → IsGround s.goal → SaysYes pairs s.goal
+    → (missing P R).turn pairs s ≡ ends f → IsByReplies P R pairs f
+ended-uncovered P R pairs s f u g y e = by (first_open pairs s.goal 1 P) refl e
+  where
+    by : (o : Option Looked) → first_open pairs s.goal 1 P ≡ o → turn_of R pairs s o ≡ ends f → IsByReplies P R pairs f
+    by None n t =
+        let same : Uncovered s.goal ≡ f = cc in
+        subst (IsByReplies P R pairs) same (record { of_program = u; has_no_variable = g; says = y; closed = all_closed pairs s.goal 1 P n })
+    by (Some l) n t = by_test (list_all is_ground l.instance.body)
+        (λ h. let k : turn_of_ground R s l (first_undecided pairs l.instance.body) ≡ ends f = rw h at t in absurd (no_end_of_ground R s l (first_undecided pairs l.instance.body) f k))
+        (λ h. let k = rw h at t in absurd (cc))

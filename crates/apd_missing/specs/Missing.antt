@@ -1,0 +1,130 @@
+-- The diagnosis of a missing answer (Shapiro 1983). Its state is a ground goal that is true, and a box that has no exit for
+-- it. The clauses for the goal are taken in order; where the body of one is true, the record is followed to the next goal.
+use Rattle.std.specs.Prelude.{ℕ, ◌+◌, ◌-◌, ◌&&◌, ◌||◌, not, Bool, true, false, if◌then◌else◌, List, [], ◌∷◌, length, Option, Some, None}
+use Rattle.std.specs.List.{list_any, list_all}
+use Rattle.apd_term.specs.Term.{Term, variables}
+use Rattle.apd_term.specs.declared.tuple.Tuple.{Tuple}
+use Rattle.apd_term.specs.Matching.{is_instance}
+use Rattle.apd_record.specs.Recorded.{Recorded, is_user_atom, child, exits, first_point, follow}
+use Rattle.apd_record.specs.Reading.{point_of}
+use Rattle.apd_answers.specs.declared.question.Question.{Question}
+use Rattle.apd_answers.specs.declared.question.Question.TheVariants as asking
+use Rattle.apd_answers.specs.declared.question.Reply.{Reply}
+use Rattle.apd_answers.specs.declared.question.Reply.TheVariants.{Yes, No, Values}
+use Rattle.apd_answers.specs.declared.question.Asked.{Asked}
+use Rattle.apd_answers.specs.declared.finding.Finding.{Finding}
+use Rattle.apd_answers.specs.declared.finding.Finding.TheVariants.{Uncovered}
+use Rattle.apd_answers.specs.declared.store.Pair.{Pair}
+use Rattle.apd_answers.specs.Questions.{with_values}
+use Rattle.apd_answers.specs.Store.{decided}
+use Rattle.apd_answers.specs.Findings.{instance_for}
+use Rattle.apd_answers.specs.Dialogue.{Turn, asks, goes, ends, Diagnosis}
+use Rattle.apd_missing.specs.Truths.{is_true_atom}
+
+-- a goal that has no answer in a box
+pub record Unanswered : Type 0 where
+  pub box_no : ℕ
+  pub goal : Term
+
+-- a clause that is looked at: its number, and its instance for the goal
+pub record Looked : Type 0 where
+  pub clause : ℕ
+  pub instance : Tuple
+
+abbrev pub is_nil : List ℕ → Bool
+is_nil [] = true
+is_nil (v ∷ vs) = false
+
+abbrev pub is_ground : Term → Bool
+is_ground t = is_nil (variables t)
+
+abbrev pub is_false_builtin : Term → Bool
+is_false_builtin a = not (is_user_atom a) && (is_ground a && not (is_true_atom a))
+
+abbrev pub is_no : Option Reply → Bool
+is_no (Some No) = true
+is_no _ = false
+
+-- No to an atom of a ground body
+abbrev pub is_denied : List Pair → List Term → Bool
+is_denied pairs body = list_all is_ground body && list_any (λ a. is_user_atom a && is_no (decided pairs (asking.True a))) body
+
+-- the body has no solution by the replies
+abbrev pub is_closed : List Pair → Tuple → Bool
+is_closed pairs t = list_any is_false_builtin t.body || (is_no (decided pairs (asking.Covers t)) || is_denied pairs t.body)
+
+-- the first clause for the goal whose body isn't closed, where the first of these has number n
+abbrev pub first_open : List Pair → Term → ℕ → List Tuple → Option Looked
+first_open pairs goal n [] = None
+first_open pairs goal n (c ∷ cs) =
+    if is_instance goal c.head && not (is_closed pairs (instance_for c goal))
+    then Some (record { clause = n; instance = instance_for c goal })
+    else first_open pairs goal (n + 1) cs
+
+abbrev pub is_undecided : Option Reply → Bool
+is_undecided None = true
+is_undecided (Some r) = false
+
+-- the leftmost atom that isn't decided
+abbrev pub first_undecided : List Pair → List Term → Option Term
+first_undecided pairs [] = None
+first_undecided pairs (a ∷ atoms) = if is_user_atom a && is_undecided (decided pairs (asking.True a)) then Some a else first_undecided pairs atoms
+
+-- the first of these exits whose head has the atom as an instance
+abbrev pub first_exit : Recorded → Term → List ℕ → Option ℕ
+first_exit R a [] = None
+first_exit R a (e ∷ es) = if is_instance a (point_of R e).tuple.head then Some e else first_exit R a es
+
+-- the first of the atoms for which a box that was called from the points on the way has no exit
+abbrev pub after_exit : (ℕ → Option Unanswered) → Option ℕ → Option Unanswered
+after_exit go None = None
+after_exit go (Some q) = go q
+
+abbrev pub at_child : Recorded → (ℕ → Option Unanswered) → ℕ → Term → ℕ → Option ℕ → Option Unanswered
+at_child R go p a m None = Some (record { box_no = m; goal = a })
+at_child R go p a m (Some e) = after_exit go (follow R p e)
+
+abbrev pub from_child : Recorded → (ℕ → Option Unanswered) → ℕ → Term → Option ℕ → Option Unanswered
+from_child R go p a None = None
+from_child R go p a (Some m) = at_child R go p a m (first_exit R a (exits R m))
+
+abbrev pub walk : Recorded → List Term → ℕ → Option Unanswered
+walk R [] p = None
+walk R (a ∷ atoms) p = from_child R (walk R atoms) p a (child R p)
+
+abbrev pub followed : Recorded → Unanswered → ℕ → List Term → Option Unanswered
+followed R s c atoms = after_exit (walk R atoms) (first_point R s.box_no c)
+
+-- the next goal; a record that is full has one
+abbrev pub state_after : Unanswered → Option Unanswered → Unanswered
+state_after s None = s
+state_after s (Some t) = t
+
+-- values lead to the next goal; with No the clause is closed
+abbrev pub after_values : Recorded → Unanswered → Looked → Reply → Unanswered
+after_values R s l (Values values) = state_after s (followed R s l.clause (with_values l.instance values))
+after_values R s l Yes = s
+after_values R s l No = s
+
+abbrev pub alone : Question → Asked
+alone question = record { question = question; suspects = None }
+
+-- an atom of a ground body; where all are true, the record is followed
+abbrev pub turn_of_ground : Recorded → Unanswered → Looked → Option Term → Turn Unanswered Finding
+turn_of_ground R s l (Some a) = asks (alone (asking.True a)) (λ reply. s)
+turn_of_ground R s l None = goes (state_after s (followed R s l.clause l.instance.body))
+
+abbrev pub turn_of : Recorded → List Pair → Unanswered → Option Looked → Turn Unanswered Finding
+turn_of R pairs s None = ends (Uncovered s.goal)
+turn_of R pairs s (Some l) =
+    if list_all is_ground l.instance.body
+    then turn_of_ground R s l (first_undecided pairs l.instance.body)
+    else asks (alone (asking.Covers l.instance)) (after_values R s l)
+
+-- the boxes that are looked at have rising numbers
+abbrev pub missing : List Tuple → Recorded → Diagnosis Unanswered Finding
+missing P R = record {
+  turn = λ pairs s. turn_of R pairs s (first_open pairs s.goal 1 P);
+  left = λ s. None;
+  bound = λ pairs s. length R.boxes - s.box_no;
+}

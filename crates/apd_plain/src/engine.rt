@@ -1,0 +1,11 @@
+//! The trace and the run of a query, by recursion over the depth of the search.
+
+mod frames;
+mod goals;
+pub mod run;
+pub mod search;
+mod searched;
+mod tuples;
+
+pub use run::{PlainRun, plain_run};
+pub use search::trace;

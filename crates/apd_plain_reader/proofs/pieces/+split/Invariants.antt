@@ -1,5 +1,0 @@
-use Rattle.std.proofs.Common.{length}
-use Rattle.apd_plain_reader.proofs.pieces.+split.Given as goal
-
-abbrev pub decreases-split : goal.decreases-split
-decreases-split l = length l.pieces.now

@@ -1,0 +1,13 @@
+use Rattle.std.proofs.Common.{refl}
+use Rattle.apd_query.proofs.Printing.{answer_fails}
+use Rattle.apd_query.proofs.printer.PrinterHook.answer.Goals as goal
+
+pub returns-in-Err-clause-step : goal.returns-in-Err-clause-step
+returns-in-Err-clause-step g c = (
+  refl,
+  refl,
+  refl,
+  refl,
+  refl,
+  answer_fails c.args.self.now.ops.now c.args.self.now.names.now c.args.self.now.vars.now c.args.self.now.admit _ _ c.args.self.now.answers c.saturating_add-number.result c.args.values.now c.answer_line-line.result c.in-Err.fault c.saturating_add-number.ensures c.answer_line-line.ensures c.in-Err.ensures.line,
+)

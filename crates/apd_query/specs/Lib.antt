@@ -1,0 +1,4 @@
+pub mod Runs
+pub mod Printing
+pub mod Printed
+pub mod Running

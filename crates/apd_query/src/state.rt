@@ -1,0 +1,30 @@
+use apd_causes::{Query, RunEnd};
+use apd_clauses::Program;
+use apd_ports::Filter;
+use apd_record::Record;
+
+/// The last run of a session.
+#[derive(Drop)]
+pub struct LastRun {
+    /// What was asked.
+    pub query: Query,
+    /// The boxes and points of its search.
+    pub history: Record,
+    /// How it ended.
+    pub end: RunEnd,
+}
+
+/// What a session keeps from line to line.
+#[derive(Drop)]
+pub struct State {
+    /// The program that was loaded.
+    pub program: Program,
+    /// The most ports that a run shows, from 1 to 1,000,000.
+    pub budget: u32,
+    /// The most answers that a run shows, from 1 to 1,000,000.
+    pub answers: u32,
+    /// Which ports are printed.
+    pub filter: Filter,
+    /// The run of the last query that was run.
+    pub last: Option<LastRun>,
+}

@@ -1,0 +1,12 @@
+//! The record of a run: the boxes and points that its search made.
+#![tactic(auto)]
+
+mod active;
+mod beside;
+pub mod laws;
+pub mod record;
+pub mod rows;
+mod slot;
+
+pub use apd_ports::{Point, PointId, Step};
+pub use record::Record;

@@ -1,0 +1,40 @@
+-- Turns of a session: what is said to the lines of the input, one by one.
+use Rattle.std.specs.Prelude.{◌≡◌, ◌+◌, ◌<◌, ◌≤◌, List, length, Result, Ok, OnOk, MatchResult}
+use Rattle.apd_console.specs.Console.{room_of}
+use Rattle.apd_talk.specs.Talk.{Breaks, Continues, onto, replies}
+use Rattle.apd_talk.specs.declared.talk.Next.{Next}
+use Rattle.apd_talk.specs.declared.talk.Next.TheVariants.{Goes}
+use Rattle.apd_talk.specs.declared.talk.Trouble.{Trouble}
+use Rattle.apd_load.specs.declared.Note.{Note}
+use Rattle.apd_load.specs.Warnings.{warnings_of}
+use Rattle.apd_read.specs.Reader.{Reader}
+use Rattle.apd_talk.specs.Moment.{Keeps, Moment, Script, place}
+use Rattle.apd_query.specs.Running.{IsReady}
+use Rattle.apd_talk.specs.Speech.{Lasting, begun}
+use Rattle.apd_session.specs.Steps.{load_said, talker}
+use Rattle.apd_query.specs.declared.state.State.{State}
+use Rattle.apd_base.specs.declared.limits.TheConstants.{MOST_NAMES}
+
+-- a session in this state answers the lines of the input
+abbrev pub conversation : State → Script
+conversation s ops names reader = replies (talker reader ops) s
+
+-- it says first what there is to say of its program
+abbrev pub opening : List Note → State → Script
+opening passed s ops names reader room more ends =
+    onto (load_said ops names s.program passed (warnings_of s.program)) (conversation s ops names reader room more ends)
+
+-- the state is ready, and with the bytes that may still be handed out there are fewer names than may be kept
+pub record CanConverse (s : State) (p : Moment) : Type 0 where
+  pub ready : IsReady (length p.spoken.log.names) s
+  pub room : length p.spoken.log.names + room_of p.console < MOST_NAMES
+  pub few : room_of p.console ≤ 1000000000
+
+-- from s at p a line was heard and answered: the conversation goes on from t at q, or has ended there, or broke off
+pub record Turns (s t : State) (p q : Moment) (result : Result Next Trouble) : Type 0 where
+  pub keeps : Keeps p q
+  pub course : Lasting q.spoken.log.names (λ names. (reader : Reader names) → MatchResult result
+      (λ n. Continues (conversation s p.spoken.log.ops names reader) (place p) (place q) (conversation t p.spoken.log.ops names reader) n)
+      (λ e. Breaks begun (conversation s p.spoken.log.ops names reader) (place p) (place q) e))
+  pub ready : OnOk result (IsReady (length q.spoken.log.names) t)
+  pub less : result ≡ Ok Goes → room_of q.console < room_of p.console

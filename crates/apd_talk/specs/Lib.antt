@@ -1,0 +1,5 @@
+pub mod Utterance
+pub mod Talk
+pub mod Outcome
+pub mod Speech
+pub mod Moment

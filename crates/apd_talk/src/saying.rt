@@ -1,0 +1,37 @@
+// What is said: an entry of the log, and its text on the sink.
+ghost use Rattle.std.specs.Prelude.{◌≡◌, List, ℕ, length, IfOk};
+ghost use Rattle.apd_text.specs.Entries.{text_of};
+ghost use Rattle.apd_text.specs.Named.{EntryIsNamed};
+ghost use Rattle.apd_talk.specs.Speech.{Says, one, spoken};
+
+use crate::talk::Trouble;
+use apd_base::Text;
+use apd_console::Console;
+use apd_io::Sink;
+use apd_text::{Entry, Log, text_of};
+use std::alloc::{AllocError, Global};
+
+fn text(alloc: Global, entry: &Entry, log: &Log) -> Result<Text, AllocError>
+    ensures { IfOk result (λ t. t ≡ text_of log.now.ops log.now.names entry.now) }
+{
+    let mut text = Text::new(alloc);
+    text_of(alloc, entry, &log.names, &log.ops, &mut text)?;
+    Ok(text)
+}
+
+/// Puts an entry into the log and prints its text.
+///
+/// # Errors
+///
+/// [`Trouble::Memory`] where there was no memory for the text or the entry: nothing was said. [`Trouble::WriteFault`] where
+/// a write failed: the entry is in the log, and the front of its text was printed.
+pub fn say<K: Sink>(alloc: Global, out: &mut K, log: &mut Log, entry: Entry) -> Result<(), Trouble>
+    requires { EntryIsNamed (length log.old.names) entry }
+    ensures { Says (one entry)
+        (spoken K.Sink log.old out.old) (spoken K.Sink log.new out.new) result }
+{
+    let text = text(alloc, &entry, log)?;
+    log.entries.push(entry)?;
+    Console::print(out, text.bytes())?;
+    Ok(())
+}

@@ -1,0 +1,16 @@
+use Rattle.std.proofs.Common.{◌≡◌, length, subst, sym, arith, ◌∙◌, inl, inr}
+use Rattle.apd_unify.specs.Stored.{Stored}
+use Rattle.apd_unify.specs.Store.{MayBind}
+use Rattle.apd_unify.proofs.Touching.{heap_bound, marked_bound_by}
+use Rattle.apd_unify.proofs.heap.Heap.bind.Goals as goal
+
+pub invariant_of-self-2 : goal.invariant_of-self-2
+invariant_of-self-2 c =
+    let may : MayBind c.self.inside.cells.items (length c.self.inside.bindings.items) c.self.inside.trail c.args.v c.args.to =
+    subst (λ (s : Stored). MayBind s.cells s.variables s.trail c.args.v c.args.to) (sym c.self.view_is) c.requires in
+    let count : c.len-count.result ≡ length c.self.inside.bindings.items = omega arith in (
+      heap_bound c.self.inside.cells.items c.self.inside.bindings.items c.self.inside.trail c.push.new.self c.args.v c.args.to c.self.invariant.0 may c.in_ok-push.ensures.ok,
+      marked_bound_by c.self.inside.cells.items (length c.self.inside.bindings.items) c.self.inside.trail c.push.new.self c.self.inside.touched _ c.above_term-above.result
+          c.self.inside.front c.args.v c.args.to c.self.invariant.0.kept c.self.invariant.1 may.inside c.in_ok-push.ensures.ok c.greater-self-inside.ensures
+          (elim c.above_term-above.ensures [ inl p ↦ inl p | inr q ↦ inr (q ∙ count) ]),
+    )

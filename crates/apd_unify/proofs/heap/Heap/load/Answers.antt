@@ -1,0 +1,19 @@
+use Rattle.std.proofs.Common.{◌≡◌, ◌∙◌, length, arith, refl}
+use Rattle.apd_term.specs.Term.{spell}
+use Rattle.apd_term.specs.Canonical.{shifted}
+use Rattle.apd_unify.proofs.Loading.{heap_loaded}
+use Rattle.apd_unify.proofs.Touching.{marked_loaded}
+use Rattle.apd_unify.proofs.heap.Heap.load.Goals as goal
+
+pub invariant_of-self-2 : goal.invariant_of-self-2
+invariant_of-self-2 c =
+    let e : c.len-cells.result ≡ length c.self.inside.cells.items = omega arith in
+    let f : c.len-variables.result ≡ length c.self.inside.bindings.items = omega arith in
+    let g = c.in_ok-push.ensures.ok ∙ rw (e, f) refl in (
+      heap_loaded c.self.inside.cells.items c.append.new.cells.items c.self.inside.bindings.items c.append.new.bindings.items
+          c.self.inside.trail c.push.new.self c.args.t.now c.args.base
+          c.self.invariant.0 c.in_default.ensures.cells c.in_default.ensures.variables c.in_default.ensures.more g,
+      marked_loaded c.self.inside.cells.items c.append.new.cells.items (spell (shifted c.args.base c.args.t.now)) (length c.self.inside.bindings.items)
+          c.self.inside.trail c.push.new.self c.self.inside.touched c.self.inside.front _
+          c.self.invariant.0.kept c.self.invariant.1 c.in_default.ensures.cells g (rw (e, f) refl),
+    )

@@ -1,0 +1,315 @@
+//! Cells, bindings and the trail.
+
+ghost use Rattle.std.specs.Prelude.{◌≡◌, ℕ, ◌+◌, ◌<◌, ◌≤◌, ◌^◌, ◌⊎◌, ◌++◌, [], length, min, max, IfOk, OnOk, OnErr, take};
+ghost use Rattle.std.specs.Bool.{OnTrue};
+ghost use Rattle.apd_term.specs.Term.{Occurs, spell, variables, size};
+ghost use Rattle.apd_term.specs.Canonical.{shifted};
+ghost use Rattle.apd_term.specs.declared.term.Sym.TheVariants.{Var};
+ghost use Rattle.apd_term.specs.Spelling.{variable_in};
+ghost use Rattle.apd_unify.specs.Heap.{HasMore, IsVariable, raised};
+ghost use Rattle.apd_unify.specs.Store.{term_at, written, symbol_at, MayBind, bound, loaded, above, before_note, at_mark, IsSound, IsEnd};
+
+use crate::stack::Stack;
+use apd_term::term::term_end;
+use apd_term::{Flat, Sym};
+use std::alloc::{AllocError, Global};
+use std::marker::Model;
+
+/// What a variable is bound to.
+#[derive(Clone, Copy, PartialEq, Eq, Debug)]
+pub enum Binding {
+    Free,
+    /// The term at a cell.
+    At(usize),
+}
+
+/// A note of the trail.
+#[derive(Clone, Copy, PartialEq, Eq, Debug)]
+pub enum Note {
+    /// A term was loaded where so many cells and so many variables were.
+    Loaded(usize, usize),
+    /// A variable was bound to a cell.
+    Bound(u64, usize),
+}
+
+/// Terms in cells, with their bindings.
+#[derive(Drop)]
+pub struct Heap {
+    cells: Vec<Sym>,
+    bindings: Vec<Binding>,
+    trail: Stack<Note>,
+    /// No binding's term has a variable from this number on.
+    touched: usize,
+    /// A front of the cells: those before the newest load, or none.
+    front: Front,
+}
+
+/// So many of the first cells, and a number above their variables.
+#[derive(Clone, Copy, PartialEq, Eq, Debug)]
+pub struct Front {
+    pub cells: usize,
+    pub variables: usize,
+}
+
+impl Model for Heap {
+    ghost use Rattle.std.specs.Prelude.{length};
+    ghost use Rattle.apd_unify.specs.Stored.{Stored, stored_code};
+    ghost use Rattle.apd_unify.specs.Heap.{IsHeap, IsMarked};
+
+    ghost Value = { Stored };
+
+    ghost coded = { stored_code };
+
+    ghost view = { λ h. record { cells = h.cells.items; variables = length h.bindings.items; trail = h.trail } };
+
+    ghost invariant = { λ h. IsHeap h.cells.items h.bindings.items h.trail × IsMarked h.cells.items h.trail h.touched h.front };
+}
+
+/// Free variables behind those that are there, so that this one is there too.
+fn make_room(bindings: &mut Vec<Binding>, v: u64) -> Result<(), AllocError>
+    ensures more { HasMore bindings.old.items bindings.new.items }
+    ensures ok { OnOk result
+        (length bindings.new.items ≡ max (length bindings.old.items) (v + 1)) }
+{
+    let v = v as usize;
+    'room: while bindings.len() <= v {
+        bindings.push(Binding::Free)?;
+    }
+    Ok(())
+}
+
+/// The same for the variable that a symbol is, if it is one.
+fn make_room_for(bindings: &mut Vec<Binding>, symbol: Sym) -> Result<(), AllocError>
+    ensures more { HasMore bindings.old.items bindings.new.items }
+    ensures ok { OnOk result
+        (length bindings.new.items ≡ above (length bindings.old.items) (variable_in symbol)) }
+{
+    match symbol {
+        Sym::Var(v) => make_room(bindings, v),
+        _ => Ok(()),
+    }
+}
+
+/// The symbol with its variable raised by `base`.
+fn raised(symbol: Sym, base: u64) -> Sym
+    requires { (v : ℕ) → symbol ≡ Var v → base + v < 2 ^ 64 }
+    ensures { result ≡ raised base symbol }
+{
+    match symbol {
+        Sym::Var(v) => Sym::Var(base + v),
+        other => other,
+    }
+}
+
+/// Puts the term behind the cells, its variables raised by `base`.
+fn append(
+    cells: &mut Vec<Sym>,
+    bindings: &mut Vec<Binding>,
+    t: &Flat,
+    base: u64,
+) -> Result<(), AllocError>
+    requires { (v : ℕ) → Occurs v t.now → base + v < 2 ^ 64 }
+    ensures cells { OnOk result
+        (cells.new.items ≡ cells.old.items ++ spell (shifted base t.now)) }
+    ensures variables { OnOk result
+        (length bindings.new.items ≡ above (length bindings.old.items) (variables (shifted base t.now))) }
+    ensures front { take (length cells.old.items) cells.new.items ≡ cells.old.items }
+    ensures more { HasMore bindings.old.items bindings.new.items }
+{
+    for symbol in t.symbols() {
+        let moved = raised(*symbol, base);
+        make_room_for(bindings, moved)?;
+        cells.push(moved)?;
+    }
+    Ok(())
+}
+
+fn greater(a: usize, b: usize) -> usize
+    ensures { result ≡ max a b }
+{
+    if a < b {
+        return b;
+    }
+    a
+}
+
+fn smaller(a: usize, b: usize) -> usize
+    ensures { result ≡ min a b }
+{
+    if b < a {
+        return b;
+    }
+    a
+}
+
+/// A number above the variables of the term at a cell, where so many variables are there.
+fn above_term(front: Front, to: usize, variables: usize) -> usize
+    ensures { ((to < front.cells) × (result ≡ front.variables)) ⊎ (result ≡ variables) }
+{
+    if to < front.cells {
+        return front.variables;
+    }
+    variables
+}
+
+impl Heap {
+    /// No term.
+    pub fn new(alloc: Global) -> Heap
+        ensures { result ≡ record { cells = []; variables = 0; trail = [] } }
+    {
+        Heap {
+            cells: Vec::new(alloc),
+            bindings: Vec::new(alloc),
+            trail: Stack::new(alloc),
+            touched: 0,
+            front: Front {
+                cells: 0,
+                variables: 0,
+            },
+        }
+    }
+
+    /// How many cells there are.
+    pub fn cells(&self) -> usize
+        ensures { result ≡ length self.now.cells }
+    {
+        self.cells.len()
+    }
+
+    /// How many variables there are.
+    pub fn variables(&self) -> usize
+        ensures count { result ≡ self.now.variables }
+        ensures room { result < 2 ^ 63 }
+        ensures store { IsSound self.now }
+    {
+        self.bindings.len()
+    }
+
+    /// The symbol at a cell.
+    pub fn symbol(&self, at: usize) -> Sym
+        requires { at < length self.now.cells }
+        ensures symbol { result ≡ symbol_at self.now at }
+        ensures store { IsSound self.now }
+    {
+        self.cells[at]
+    }
+
+    /// The cell that a cell leads to through variables that are bound.
+    pub fn follow(&self, from: usize) -> usize
+        requires { from < length self.now.cells }
+        ensures inside { result < length self.now.cells }
+        ensures same { term_at self.now result ≡ term_at self.now from }
+        ensures end { IsEnd self.now result }
+        ensures start { (result ≡ from) ⊎ IsVariable (symbol_at self.now from) }
+        ensures store { IsSound self.now }
+        ensures fits { length self.now.cells < 2 ^ 64 }
+    {
+        let mut at = from;
+        'bindings: while let Sym::Var(v) = self.cells[at] {
+            match self.bindings[v as usize] {
+                Binding::Free => return at,
+                Binding::At(next) => at = next,
+            }
+        }
+        at
+    }
+
+    /// The cell behind the term that is written at a cell.
+    pub fn end(&self, at: usize) -> usize
+        requires { at < length self.now.cells }
+        ensures end { result ≡ at + size (written self.now.cells at) }
+        ensures store { IsSound self.now }
+    {
+        term_end(self.cells.as_slice(), at)
+    }
+
+    /// Whether the variable is so new that it can't stand in the term at a cell; false says
+    /// nothing.
+    pub fn is_apart(&self, v: u64, at: usize) -> bool
+        requires { at < length self.now.cells }
+        ensures { OnTrue result (¬ Occurs v (term_at self.now at)) }
+    {
+        if at >= self.front.cells {
+            return false;
+        }
+        if v < self.front.variables as u64 {
+            return false;
+        }
+        if v < self.touched as u64 {
+            return false;
+        }
+        true
+    }
+
+    /// Binds a free variable to the term at a cell.
+    pub fn bind(&mut self, v: u64, to: usize) -> Result<(), AllocError>
+        requires { MayBind self.old.cells self.old.variables self.old.trail v to }
+        ensures ok { OnOk result (self.new ≡ bound self.old v to) }
+        ensures err { OnErr result (self.new ≡ self.old) }
+    {
+        let count = self.bindings.len();
+        let above = above_term(self.front, to, count);
+        self.trail.push(Note::Bound(v, to))?;
+        self.bindings[v as usize] = Binding::At(to);
+        self.touched = greater(self.touched, above);
+        Ok(())
+    }
+
+    /// Puts a term behind the others, its variables raised by `base`. After want of memory nothing
+    /// has changed.
+    pub fn load(&mut self, t: &Flat, base: u64) -> Result<usize, AllocError>
+        requires { (v : ℕ) → Occurs v t.now → base + v < 2 ^ 64 }
+        ensures cell { IfOk result (λ c. c ≡ length self.old.cells) }
+        ensures ok { OnOk result (self.new ≡ loaded self.old t.now base) }
+        ensures store { IsSound self.old }
+        ensures err { OnErr result (self.new ≡ self.old) }
+    {
+        let cells = self.cells.len();
+        let variables = self.bindings.len();
+        self.trail.push(Note::Loaded(cells, variables))?;
+        if let Err(e) = append(&mut self.cells, &mut self.bindings, t, base) {
+            self.cells.truncate(cells);
+            self.bindings.truncate(variables);
+            let _ = self.trail.pop();
+            return Err(e);
+        }
+        self.front = Front { cells, variables };
+        Ok(cells)
+    }
+
+    /// How many notes the trail has.
+    pub fn mark(&self) -> usize
+        ensures { result ≡ length self.now.trail }
+    {
+        self.trail.len()
+    }
+
+    /// Takes back what the newest note says.
+    fn undo_note(&mut self)
+        ensures { self.new ≡ before_note self.old.cells self.old.variables self.old.trail }
+    {
+        match self.trail.pop() {
+            None => {}
+            Some(Note::Loaded(cells, variables)) => {
+                self.cells.truncate(cells);
+                self.bindings.truncate(variables);
+                self.front = Front {
+                    cells: 0,
+                    variables: 0,
+                };
+                self.touched = smaller(self.touched, variables);
+            }
+            Some(Note::Bound(v, _to)) => self.bindings[v as usize] = Binding::Free,
+        }
+    }
+
+    /// Takes back all that was done since the trail had so many notes.
+    pub fn undo(&mut self, mark: usize)
+        requires { mark ≤ length self.old.trail }
+        ensures { self.new ≡ at_mark mark self.old }
+    {
+        'notes: while self.trail.len() > mark {
+            self.undo_note();
+        }
+    }
+}

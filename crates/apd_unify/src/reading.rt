@@ -1,0 +1,59 @@
+//! What the term at a cell is, with all bindings applied.
+
+ghost use Rattle.std.specs.Prelude.{◌≡◌, ◌<◌, ◌↔◌, length, IfOk, IsTrue};
+ghost use Rattle.apd_term.specs.Term.{Occurs};
+ghost use Rattle.apd_unify.specs.Store.{term_at, SizeWithin};
+
+use crate::heap::Heap;
+use crate::walk::Walk;
+use apd_term::{Flat, Sym, Syms};
+use std::alloc::{AllocError, Global};
+
+/// The term at a cell.
+pub fn resolved(heap: &Heap, alloc: Global, at: usize) -> Result<Flat, AllocError>
+    requires { at < length heap.now.cells }
+    ensures { IfOk result (λ t. t ≡ term_at heap.now at) }
+{
+    let mut walk = Walk::over(heap, alloc, at);
+    let mut symbols = Syms::new(alloc);
+    'symbols: while let Some(symbol) = walk.next(heap)? {
+        symbols.push(symbol)?;
+    }
+    Ok(Flat::of_symbols(symbols))
+}
+
+/// The size of the term at a cell; none exactly where it is over the limit. It passes at most one
+/// symbol more than that.
+pub fn size_within(
+    heap: &Heap,
+    alloc: Global,
+    at: usize,
+    limit: u64,
+) -> Result<Option<u64>, AllocError>
+    requires { at < length heap.now.cells }
+    ensures { IfOk result (SizeWithin (term_at heap.now at) limit) }
+{
+    let mut walk = Walk::over(heap, alloc, at);
+    let mut count: u64 = 0;
+    'symbols: while let Some(_symbol) = walk.next(heap)? {
+        if count == limit {
+            return Ok(None);
+        }
+        count += 1;
+    }
+    Ok(Some(count))
+}
+
+/// Whether the variable stands in the term at a cell.
+pub fn mentions(walk: &mut Walk, heap: &Heap, at: usize, v: u64) -> Result<bool, AllocError>
+    requires { at < length heap.now.cells }
+    ensures { IfOk result (λ b. IsTrue b ↔ Occurs v (term_at heap.now at)) }
+{
+    walk.start(heap, at);
+    'symbols: while let Some(symbol) = walk.next(heap)? {
+        if symbol == Sym::Var(v) {
+            return Ok(true);
+        }
+    }
+    Ok(false)
+}

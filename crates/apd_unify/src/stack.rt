@@ -1,0 +1,62 @@
+//! A stack.
+
+ghost use Rattle.std.specs.Prelude.{◌≡◌, ◌∷◌, [], length, OnOk, OnErr, MatchOption};
+
+use std::alloc::{AllocError, Global};
+use std::marker::Model;
+
+/// A stack. Clauses see its list, the newest first.
+#[derive(Drop)]
+pub struct Stack<T> {
+    oldest_first: Vec<T>,
+}
+
+impl<T> Model for Stack<T> {
+    ghost use Rattle.std.specs.Prelude.{List, reverse};
+
+    ghost Value = { List T };
+
+    ghost view = { λ s. reverse s.oldest_first.items };
+}
+
+impl<T> Stack<T> {
+    pub fn new(alloc: Global) -> Stack<T>
+        ensures { result ≡ [] }
+    {
+        Stack {
+            oldest_first: Vec::new(alloc),
+        }
+    }
+
+    pub fn push(&mut self, x: T) -> Result<(), AllocError>
+    where
+        T: Drop,
+        ensures ok { OnOk result (self.new ≡ x ∷ self.old) }
+        ensures err { OnErr result (self.new ≡ self.old) }
+    {
+        self.oldest_first.push(x)?;
+        Ok(())
+    }
+
+    pub fn pop(&mut self) -> Option<T>
+        ensures { MatchOption result
+            ((self.old ≡ []) × (self.new ≡ []))
+            (λ x. self.old ≡ x ∷ self.new) }
+    {
+        self.oldest_first.pop()
+    }
+
+    pub fn len(&self) -> usize
+        ensures { result ≡ length self.now }
+    {
+        self.oldest_first.len()
+    }
+
+    pub fn clear(&mut self)
+    where
+        T: Drop,
+        ensures { self.new ≡ [] }
+    {
+        self.oldest_first.clear();
+    }
+}

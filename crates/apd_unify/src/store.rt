@@ -1,0 +1,151 @@
+//! The store: terms in cells, which unification binds and which can be taken back.
+
+ghost use Rattle.std.specs.Prelude.{◌≡◌, ℕ, ◌+◌, ◌<◌, ◌≤◌, ◌^◌, [], length, IfOk, OnOk, OnErr};
+ghost use Rattle.std.specs.Bool.{OnTrue};
+ghost use Rattle.apd_term.specs.Term.{Occurs};
+ghost use Rattle.apd_term.specs.Canonical.{shifted};
+ghost use Rattle.apd_unify.specs.First.{AreApart};
+ghost use Rattle.apd_unify.specs.Numbered.{IsNumbered};
+ghost use Rattle.apd_unify.specs.Store.{term_at, under_bindings, loaded, at_mark, Keeps, IsUnification, SizeWithin};
+
+use crate::first::{are_clashing, key_at, key_of};
+use crate::heap::Heap;
+use crate::reading::{resolved, size_within};
+use crate::stack::Stack;
+use crate::unify::{Pairs, unify};
+use crate::walk::Walk;
+use apd_term::Flat;
+use std::alloc::{AllocError, Global};
+use std::marker::Model;
+
+/// The place of a term in a store.
+#[derive(Clone, Copy, PartialEq, Eq, Debug)]
+pub struct Cell(pub usize);
+
+/// A place in a store's trail: how many notes stand before it.
+#[derive(Clone, Copy, PartialEq, Eq, Debug)]
+pub struct Mark(pub usize);
+
+/// Terms in cells, with their bindings and a trail. Where a call answers an error, it is want of
+/// memory.
+#[derive(Drop)]
+pub struct Store {
+    heap: Heap,
+    walk: Walk,
+    pairs: Stack<Pairs>,
+    alloc: Global,
+}
+
+impl Model for Store {
+    ghost use Rattle.apd_unify.specs.Stored.{Stored, stored_code};
+
+    ghost Value = { Stored };
+
+    ghost coded = { stored_code };
+
+    ghost view = { λ s. s.heap };
+}
+
+impl Store {
+    /// The store without a term.
+    pub fn new(alloc: Global) -> Store
+        ensures { result ≡ record { cells = []; variables = 0; trail = [] } }
+    {
+        Store {
+            heap: Heap::new(alloc),
+            walk: Walk {
+                at: 0,
+                left: 0,
+                rest: Stack::new(alloc),
+            },
+            pairs: Stack::new(alloc),
+            alloc,
+        }
+    }
+
+    /// Loads a term: its variable `v` is the store's variable `base + v`, and memory is taken for all
+    /// variables up to the greatest. All other cells keep their terms. After want of memory nothing
+    /// has changed.
+    pub fn load(&mut self, t: &Flat, base: u64) -> Result<Cell, AllocError>
+        requires { (v : ℕ) → Occurs v t.now → base + v < 2 ^ 64 }
+        ensures ok { OnOk result (self.new ≡ loaded self.old t.now base) }
+        ensures cell { IfOk result (λ c. c.0 ≡ length self.old.cells) }
+        ensures made { IfOk result
+            (λ c. term_at self.new c.0 ≡ under_bindings self.old (shifted base t.now)) }
+        ensures others { (c : ℕ) → c < length self.old.cells →
+            term_at self.new c ≡ term_at self.old c }
+        ensures kept { Keeps self.old self.new }
+        ensures err { OnErr result (self.new ≡ self.old) }
+    {
+        let cell = self.heap.load(t, base)?;
+        Ok(Cell(cell))
+    }
+
+    /// Applies a most general unifier of the terms at two cells to the terms of all cells; false
+    /// exactly where they have none. After false or want of memory some variables may be bound.
+    pub fn unify(&mut self, a: Cell, b: Cell) -> Result<bool, AllocError>
+        requires a { a.0 < length self.old.cells }
+        requires b { b.0 < length self.old.cells }
+        ensures answer { IfOk result (λ r. IsUnification r self.old self.new a.0 b.0) }
+        ensures cells { self.new.cells ≡ self.old.cells }
+        ensures kept { Keeps self.old self.new }
+    {
+        unify(&mut self.heap, &mut self.walk, &mut self.pairs, a.0, b.0)
+    }
+
+    /// How many cells there are.
+    pub fn cells(&self) -> usize
+        ensures { result ≡ length self.now.cells }
+    {
+        self.heap.cells()
+    }
+
+    /// How many variables there are: a number above those of all terms.
+    pub fn variables(&self) -> usize
+        ensures count { result ≡ self.now.variables }
+        ensures room { result < 2 ^ 63 }
+        ensures numbered { IsNumbered self.now }
+    {
+        self.heap.variables()
+    }
+
+    /// Whether the first arguments of the term at a cell and of another begin so differently that
+    /// no term is an instance of both; false says nothing of instances.
+    pub fn differs(&self, cell: Cell, other: &Flat) -> bool
+        requires { cell.0 < length self.now.cells }
+        ensures { OnTrue result (AreApart (term_at self.now cell.0) other.now) }
+    {
+        are_clashing(key_at(&self.heap, cell.0), key_of(other))
+    }
+
+    /// Where the trail ends.
+    pub fn mark(&self) -> Mark
+        ensures { result.0 ≡ length self.now.trail }
+    {
+        Mark(self.heap.mark())
+    }
+
+    /// Gives the store at a mark back, so that every cell is as it was there.
+    pub fn undo(&mut self, mark: Mark)
+        requires { mark.0 ≤ length self.old.trail }
+        ensures { self.new ≡ at_mark mark.0 self.old }
+    {
+        self.heap.undo(mark.0);
+    }
+
+    /// The size of the term at a cell; none exactly where it is over the limit.
+    pub fn size_within(&self, cell: Cell, limit: u64) -> Result<Option<u64>, AllocError>
+        requires { cell.0 < length self.now.cells }
+        ensures { IfOk result (SizeWithin (term_at self.now cell.0) limit) }
+    {
+        size_within(&self.heap, self.alloc, cell.0, limit)
+    }
+
+    /// The term at a cell, with all bindings applied.
+    pub fn resolve(&self, cell: Cell) -> Result<Flat, AllocError>
+        requires { cell.0 < length self.now.cells }
+        ensures { IfOk result (λ t. t ≡ term_at self.now cell.0) }
+    {
+        resolved(&self.heap, self.alloc, cell.0)
+    }
+}

@@ -1,0 +1,4 @@
+pub mod Support
+pub mod Found
+pub mod Judging
+pub mod Recorded

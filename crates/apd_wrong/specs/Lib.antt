@@ -1,0 +1,4 @@
+pub mod Wrong
+pub mod Support
+pub mod Verdicts
+pub mod Judging

@@ -5,7 +5,7 @@ ghost use Rattle.std.specs.Prelude.{◌≡◌, ◌≢◌};
 ghost use Rattle.std.specs.IoError.{error_kind};
 
 use apd_io::{DiskFiles, StdSink, StdSource};
-use apd_session::{Log, session};
+use apd_session::{Log, Untold, session};
 use std::io;
 use std::io::ErrorKind;
 use std::process::ExitCode;
@@ -42,6 +42,7 @@ fn main(rt: HostRuntime) -> ExitCode {
     let mut out = StdSink::new(io::writer(&rt));
     let status = session(
         alloc,
+        &Untold,
         words.as_slice(),
         &mut files,
         &mut input,

@@ -33,7 +33,7 @@ fn numbered(alloc: Global, values: &Atoms) -> Result<Subst, AllocError>
 }
 
 /// The body in canonical form with these values in place of its variables.
-fn with_values(alloc: Global, tuple: &Tuple, values: &Atoms) -> Result<Atoms, AllocError>
+pub fn with_values(alloc: Global, tuple: &Tuple, values: &Atoms) -> Result<Atoms, AllocError>
     ensures { IfOk result (λ body. body ≡ with_values tuple.now values.now) }
 {
     let form = canonical_tuple(alloc, tuple)?;

@@ -1,23 +1,21 @@
 -- What a line in a command's place asks for.
-use Rattle.std.specs.Prelude.{ℕ, List, [], ◌∷◌, slice_get, if◌then◌else◌, Option, None, Some, Result, Ok, Err}
-use Rattle.apd_term.specs.Term.{predicate_of}
-use Rattle.apd_term.specs.declared.standard.TheConstants.{QUERY, QUIT}
+use Rattle.std.specs.Prelude.{ℕ, ℤ, List, slice_get, if◌then◌else◌, Option, None, Some, Result, Ok, Err}
+use Rattle.std.specs.Option.{option_and_then}
+use Rattle.apd_term.specs.Term.{Term, variable, integer, compound, arguments, predicate_of}
+use Rattle.apd_term.specs.declared.standard.TheConstants.{QUERY, QUIT, WRONG}
 use Rattle.apd_causes.specs.declared.faults.BodyFault.{BodyFault}
-use Rattle.apd_causes.specs.declared.faults.LoadCause.TheVariants as causes
-use Rattle.apd_causes.specs.declared.faults.ReadFault.{ReadFault}
-use Rattle.apd_causes.specs.declared.faults.ReadFault.TheVariants.{Stray}
-use Rattle.apd_causes.specs.declared.faults.TokenFault.{TokenFault}
 use Rattle.apd_causes.specs.declared.reading.Read.{Read}
 use Rattle.apd_causes.specs.declared.run.Query.{Query}
 use Rattle.apd_term.specs.declared.term.Pred.{Pred}
-use Rattle.apd_token.specs.declared.items.Token.{Token}
 use Rattle.apd_ops.specs.Table.{Table}
 use Rattle.apd_read.specs.Reader.{Reader}
 use Rattle.apd_clauses.specs.Clauses.{is_pred}
 use Rattle.apd_clauses.specs.Kinds.{◌∕◌}
 use Rattle.apd_clauses.specs.Queries.{query_from}
 use Rattle.apd_console.specs.declared.line.Line.{Line}
-use Rattle.apd_console.specs.declared.line.Line.TheVariants.{Text, TooLong}
+use Rattle.apd_lines.specs.Lines.{line_in}
+use Rattle.apd_lines.specs.declared.lines.LineRead.{LineRead}
+use Rattle.apd_lines.specs.declared.lines.LineRead.TheVariants as lines
 use Rattle.apd_text.specs.declared.entry.Refusal.TheVariants as refusal
 use Rattle.apd_commands.specs.declared.commands.Command.{Command}
 use Rattle.apd_commands.specs.declared.commands.Command.TheVariants as command
@@ -27,28 +25,37 @@ abbrev pub query_asked : Result Query BodyFault → Command
 query_asked (Err fault) = command.Refused (refusal.GoalRefused fault)
 query_asked (Ok q) = command.Query q
 
--- what a term of this predicate asks for: `quit`, or `?- B`
-abbrev pub command_of : Read → Option Pred → Command
-command_of r p =
+-- the integer that a term is
+abbrev pub integer_of : Term → Option ℤ
+integer_of (variable v) = None
+integer_of (integer i) = Some i
+integer_of (compound f ts) = None
+
+-- the integer that an argument of a term is; the arguments are counted from 0
+abbrev pub integer_at : Term → ℕ → Option ℤ
+integer_at t i = option_and_then integer_of (slice_get (arguments t) i)
+
+-- the box and the number of its exit in `wrong(B, K)`, where both are integers
+abbrev pub wrong_asked : Option ℤ → Option ℤ → Command
+wrong_asked (Some b) (Some k) = command.Wrong b k
+wrong_asked (Some b) None = command.Refused refusal.NotACommand
+wrong_asked None k = command.Refused refusal.NotACommand
+
+-- what a term of this predicate asks for: `quit`, `?- B`, or `wrong(B, K)`
+abbrev pub term_asked : Read → Option Pred → Command
+term_asked r p =
     if is_pred p (QUIT ∕ 0) then command.Quit
-    else (if is_pred p (QUERY ∕ 1) then query_asked (query_from r) else command.Refused refusal.NotACommand)
+    else (if is_pred p (QUERY ∕ 1) then query_asked (query_from r)
+    else (if is_pred p (WRONG ∕ 2) then wrong_asked (integer_at r.term 0) (integer_at r.term 1)
+    else command.Refused refusal.NotACommand))
 
--- a token behind the clause is stray
-abbrev pub command_before : Read → Option Token → Command
-command_before r None = command_of r (predicate_of r.term)
-command_before r (Some t) = command.Refused (refusal.Syntax (causes.Read (Stray t.start)))
-
-abbrev pub command_read : List Token → Result Read ReadFault → Command
-command_read tokens (Err fault) = command.Refused (refusal.Syntax (causes.Read fault))
-command_read tokens (Ok r) = command_before r (slice_get tokens r.next)
-
--- a line without a token asks for nothing
-abbrev pub command_from : {names : List (List ℕ)} → Reader names → Table → List ℕ → Result (List Token) TokenFault → Command
-command_from reader ops line (Err fault) = command.Refused (refusal.Syntax (causes.Token fault))
-command_from reader ops line (Ok []) = command.Nothing
-command_from reader ops line (Ok (t ∷ tokens)) = command_read (t ∷ tokens) (reader.clause ops line (t ∷ tokens) 0)
+-- what a line asks for of which this was read; one without a token asks for nothing
+abbrev pub command_of : LineRead → Command
+command_of lines.Empty = command.Nothing
+command_of lines.TooLong = command.Refused refusal.TooLong
+command_of (lines.Bad cause) = command.Refused (refusal.Syntax cause)
+command_of (lines.Clause r) = term_asked r (predicate_of r.term)
 
 -- what a line in a command's place asks for
 unfoldable pub command_in : {names : List (List ℕ)} → Reader names → Table → Line → Command
-command_in reader ops TooLong = command.Refused refusal.TooLong
-command_in reader ops (Text line) = command_from reader ops line (reader.division line)
+command_in reader ops line = command_of (line_in reader ops line)

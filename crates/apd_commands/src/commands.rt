@@ -1,27 +1,24 @@
 // What a line asks for in a command's place.
-ghost use Rattle.std.specs.Prelude.{◌≡◌, ◌≢◌, ◌<◌, ◌≤◌, ◌+◌, List, ℕ, length, IfOk, OnOk, Ok};
+ghost use Rattle.std.specs.Prelude.{◌≡◌, ◌≢◌, ◌<◌, ◌≤◌, List, ℕ, length, IfOk, OnOk};
 ghost use Rattle.apd_clauses.specs.Queries.{IsQueryTerm, query_from};
 ghost use Rattle.apd_read.specs.Reader.{Reader};
-ghost use Rattle.apd_term.specs.Growth.{GrowsBy};
-ghost use Rattle.apd_term.specs.Named.{IsNamed};
 ghost use Rattle.apd_term.specs.StandardNames.{standard_names};
-ghost use Rattle.apd_term.specs.Term.{predicate_of, size};
-ghost use Rattle.apd_token.specs.Grammar.{HasTokens};
-ghost use Rattle.apd_commands.specs.Commands.{command_before, command_from, command_in, command_of, command_read, query_asked};
+ghost use Rattle.apd_term.specs.Term.{arguments, predicate_of};
+ghost use Rattle.apd_lines.specs.Lines.{IsOfLine, LineFits, LineGrows, LineIsNamed};
+ghost use Rattle.apd_commands.specs.Commands.{command_in, command_of, integer_at, integer_of, query_asked, term_asked, wrong_asked};
 ghost use Rattle.apd_talk.specs.Speech.{Lasting};
-ghost use Rattle.apd_commands.specs.Obeying.{CanObey, IsOfLine, LineFits, LineGrows};
-ghost use Rattle.apd_base.specs.declared.limits.TheConstants.{MAX_LINE, MOST_NAMES};
+ghost use Rattle.apd_commands.specs.Obeying.{CanObey};
 
-use apd_causes::{LoadCause, Query};
+use apd_causes::Query;
 use apd_clauses::{BodyFault, query_of};
 use apd_console::Line;
+use apd_lines::{LineRead, read_line};
 use apd_ops::Ops;
-use apd_read::{Read, ReadFault, read_clause};
-use apd_term::Pred;
+use apd_read::Read;
 use apd_term::names::Names;
-use apd_term::standard::{QUERY, QUIT};
+use apd_term::standard::{QUERY, QUIT, WRONG};
+use apd_term::{Flat, Pred, Sym};
 use apd_text::Refusal;
-use apd_token::{Token, TokenFault, Tokens, tokens};
 use std::alloc::{AllocError, Global};
 
 /// A command.
@@ -35,6 +32,8 @@ pub enum Command {
     Refused(Refusal),
     /// A query is run.
     Query(Query),
+    /// An exit of a box isn't true; both are told by their numbers, counted from 1.
+    Wrong { box_no: i64, exit: i64 },
 }
 
 /// What is said to a term that is refused for this fault, which want of memory is not.
@@ -45,30 +44,6 @@ fn goal_refused(fault: BodyFault) -> Result<Command, AllocError>
     match fault {
         BodyFault::Memory => Err(AllocError),
         _ => Ok(Command::Refused(Refusal::GoalRefused(fault))),
-    }
-}
-
-/// What is said to a line that has no reading, for this fault, which want of memory is not.
-fn reading_refused(fault: ReadFault) -> Result<Command, AllocError>
-    ensures command { IfOk result (λ c.
-        c ≡ Command.Refused (Refusal.Syntax (LoadCause.Read fault))) }
-    ensures fault { OnOk result (fault ≢ ReadFault.Memory) }
-{
-    match fault {
-        ReadFault::Memory => Err(AllocError),
-        _ => Ok(Command::Refused(Refusal::Syntax(LoadCause::Read(fault)))),
-    }
-}
-
-/// What is said to a line that has no division into tokens, for this fault, which want of memory is not.
-fn division_refused(fault: TokenFault) -> Result<Command, AllocError>
-    ensures command { IfOk result (λ c.
-        c ≡ Command.Refused (Refusal.Syntax (LoadCause.Token fault))) }
-    ensures fault { OnOk result (fault ≢ TokenFault.Memory) }
-{
-    match fault {
-        TokenFault::Memory => Err(AllocError),
-        _ => Ok(Command::Refused(Refusal::Syntax(LoadCause::Token(fault)))),
     }
 }
 
@@ -84,9 +59,42 @@ fn query_command(alloc: Global, read: &Read) -> Result<Command, AllocError>
     }
 }
 
+/// The integer that a term is.
+fn integer_of(term: &Flat) -> Option<i64>
+    ensures { result ≡ integer_of term.now }
+{
+    match term.symbols() {
+        [Sym::Int(value), ..] => Some(*value),
+        _ => None,
+    }
+}
+
+/// The integer that an argument of a term is.
+fn integer_at(alloc: Global, term: &Flat, place: u8) -> Result<Option<i64>, AllocError>
+    requires { place < length (arguments term.now) }
+    ensures { IfOk result (λ i. i ≡ integer_at term.now place) }
+{
+    let argument = term.arg(alloc, place)?;
+    Ok(integer_of(&argument))
+}
+
+/// The command of a term `wrong(B, K)`.
+fn wrong_command(alloc: Global, term: &Flat) -> Result<Command, AllocError>
+    requires { length (arguments term.now) ≡ 2 }
+    ensures command { IfOk result (λ c.
+        c ≡ wrong_asked (integer_at term.now 0) (integer_at term.now 1)) }
+    ensures can { (n : ℕ) → IfOk result (CanObey n) }
+{
+    let (Some(box_no), Some(exit)) = (integer_at(alloc, term, 0)?, integer_at(alloc, term, 1)?)
+    else {
+        return Ok(Command::Refused(Refusal::NotACommand));
+    };
+    Ok(Command::Wrong { box_no, exit })
+}
+
 /// The command that a term is.
 fn term_command(alloc: Global, read: &Read) -> Result<Command, AllocError>
-    ensures command { IfOk result (λ c. c ≡ command_of read.now (predicate_of read.now.term)) }
+    ensures command { IfOk result (λ c. c ≡ term_asked read.now (predicate_of read.now.term)) }
     ensures can { (n : ℕ) → IsOfLine n read.now.term → IfOk result (CanObey n) }
 {
     match read.term.pred() {
@@ -102,72 +110,26 @@ fn term_command(alloc: Global, read: &Read) -> Result<Command, AllocError>
                 arity: 1,
             },
         ) => query_command(alloc, read),
+        Some(
+            Pred {
+                name: WRONG,
+                arity: 2,
+            },
+        ) => wrong_command(alloc, &read.term),
         _ => Ok(Command::Refused(Refusal::NotACommand)),
     }
 }
 
-/// The command of a clause behind which no token stands.
-fn whole_command(alloc: Global, read: &Read, tokens: &[Token]) -> Result<Command, AllocError>
-    ensures command { IfOk result (λ c. c ≡ command_read tokens.now (Ok read.now)) }
-    ensures can { (n : ℕ) → IsOfLine n read.now.term → IfOk result (CanObey n) }
+/// The command that a line is of which this was read.
+fn line_command(alloc: Global, read: LineRead) -> Result<Command, AllocError>
+    ensures command { IfOk result (λ c. c ≡ command_of read) }
+    ensures can { (n : ℕ) → LineIsNamed n read → IfOk result (CanObey n) }
 {
-    match tokens.get(read.next) {
-        Some(token) => {
-            let fault = ReadFault::Stray(token.start);
-            Ok(Command::Refused(Refusal::Syntax(LoadCause::Read(fault))))
-        }
-        None => term_command(alloc, read),
-    }
-}
-
-/// The command that the tokens of a line are.
-fn tokens_command(
-    alloc: Global,
-    ops: &Ops,
-    names: &mut Names,
-    line: &[u8],
-    tokens: &Tokens,
-) -> Result<Command, AllocError>
-    requires short { length line.now ≤ MAX_LINE }
-    requires tokens { HasTokens line.now tokens.now }
-    requires some { 0 < length tokens.now }
-    requires room { length names.old + length line.now < MOST_NAMES }
-    requires standard { length standard_names ≤ length names.old }
-    ensures names { GrowsBy (length line.now) names.old names.new }
-    ensures command { IfOk result (λ c. Lasting names.new (λ n. (reader : Reader n) →
-        c ≡ command_read tokens.now (reader.clause ops.now line.now tokens.now 0))) }
-    ensures can { IfOk result (CanObey (length names.new)) }
-{
-    ops.has_no_clash();
-    match read_clause(alloc, ops, names, line, tokens, 0) {
-        Ok(read) => whole_command(alloc, &read, tokens.as_slice()),
-        Err(fault) => reading_refused(fault),
-    }
-}
-
-/// The command that the bytes of a line are.
-fn text_command(
-    alloc: Global,
-    ops: &Ops,
-    names: &mut Names,
-    line: &[u8],
-) -> Result<Command, AllocError>
-    requires short { length line.now ≤ MAX_LINE }
-    requires room { length names.old + length line.now < MOST_NAMES }
-    requires standard { length standard_names ≤ length names.old }
-    ensures names { GrowsBy (length line.now) names.old names.new }
-    ensures command { IfOk result (λ c. Lasting names.new (λ n. (reader : Reader n) →
-        c ≡ command_from reader ops.now line.now (reader.division line.now))) }
-    ensures can { IfOk result (CanObey (length names.new)) }
-{
-    match tokens(alloc, line) {
-        Ok(tokens) => {
-            if tokens.as_slice().is_empty() {
-                return Ok(Command::Nothing);
-            }
-            tokens_command(alloc, ops, names, line, &tokens)
-        }
-        Err(fault) => division_refused(fault),
+    match read {
+        LineRead::Empty => Ok(Command::Nothing),
+        LineRead::TooLong => Ok(Command::Refused(Refusal::TooLong)),
+        LineRead::Bad(cause) => Ok(Command::Refused(Refusal::Syntax(cause))),
+        LineRead::Clause(read) => term_command(alloc, &read),
     }
 }
 
@@ -189,8 +151,6 @@ pub fn read_command(
         c ≡ command_in reader ops.now line.now)) }
     ensures can { IfOk result (CanObey (length names.new)) }
 {
-    match line {
-        Line::Text(text) => text_command(alloc, ops, names, text.bytes()),
-        Line::TooLong => Ok(Command::Refused(Refusal::TooLong)),
-    }
+    let read = read_line(alloc, ops, names, line)?;
+    line_command(alloc, read)
 }

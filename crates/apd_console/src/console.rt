@@ -62,6 +62,13 @@ impl Console {
         })
     }
 
+    /// The law of the console: it stays within the limits of what may be taken.
+    pub fn keeps_its_limits(&self)
+        ensures { IsKept self.now }
+    {
+        let _ = &self.chunk;
+    }
+
     /// The next line. Where the bytes that are kept have one whole, nothing is taken from the source.
     ///
     /// # Errors

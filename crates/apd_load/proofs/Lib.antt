@@ -11,3 +11,4 @@ pub mod Causes
 pub mod Tables
 pub mod Making
 pub mod Leaving
+pub mod Programs

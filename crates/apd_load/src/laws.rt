@@ -1,8 +1,10 @@
 //! Laws of what a text makes, each the contract of a function without a body.
 
-ghost use Rattle.std.specs.Prelude.{◌≡◌, ℕ, List};
+ghost use Rattle.std.specs.Prelude.{◌≡◌, ◌≤◌, ℕ, List, length};
 ghost use Rattle.apd_read.specs.Reader.{Reader};
+ghost use Rattle.apd_base.specs.declared.limits.TheConstants.{MAX_FILE};
 ghost use Rattle.apd_load.specs.Program.{Loads, program_of};
+ghost use Rattle.apd_load.specs.Programs.{IsProgramIn};
 ghost use Rattle.apd_load.specs.Texts.{Makes};
 
 /// The law of one program: under the same names all readers of texts give the same program of a text, or the same first fault
@@ -16,4 +18,11 @@ pub fn one_program()
 pub fn every_text_makes_one_program()
     ensures makes { (names : List (List ℕ)) (reader : Reader names) (text : List ℕ) → Makes names text (program_of reader text) }
     ensures only { (names : List (List ℕ)) (reader : Reader names) (text : List ℕ) (result : Loads) → Makes names text result → program_of reader text ≡ result }
+{}
+
+/// What a text makes that is short enough to be read is a program: it has few enough clauses, and each has an atom of a
+/// program's own predicate as its head and only goals that may be run in its body.
+pub fn what_is_loaded_is_a_program()
+    ensures { (names : List (List ℕ)) (reader : Reader names) (text : List ℕ) →
+        length text ≤ MAX_FILE → IsProgramIn (program_of reader text) }
 {}

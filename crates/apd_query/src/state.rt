@@ -1,5 +1,7 @@
+use apd_answers::Answers;
 use apd_causes::{Query, RunEnd};
 use apd_clauses::Program;
+use apd_divide::Strategy;
 use apd_ports::Filter;
 use apd_record::Record;
 
@@ -25,6 +27,12 @@ pub struct State {
     pub answers: u32,
     /// Which ports are printed.
     pub filter: Filter,
+    /// How it is chosen which suspect is asked about.
+    pub strategy: Strategy,
     /// The run of the last query that was run.
     pub last: Option<LastRun>,
+    /// The symptoms and the replies of all diagnoses.
+    pub replies: Answers,
+    /// How many questions were asked.
+    pub asked: u64,
 }

@@ -19,7 +19,7 @@ use Rattle.apd_talk.specs.Speech.{Lasting, Says, begun}
 use Rattle.apd_session.specs.Steps.{load_said}
 use Rattle.apd_session.specs.Turns.{CanConverse, Turns, conversation, opening}
 use Rattle.apd_query.specs.declared.state.State.{State}
-use Rattle.apd_session.proofs.Turning.{Grown-more, Grown-same, Grown-self}
+use Rattle.apd_lines.proofs.Growing.{Grown-more, Grown-same, Grown-self}
 
 -- what was said so far comes first, whatever names are kept in the end
 pub record IsGoing (s t : State) (p q : Moment) : Type 0 where
@@ -50,34 +50,35 @@ pub IsGoing-more : (s t r : State) (p q m : Moment) → IsGoing s t p q → Turn
 IsGoing-more s t r p q m before turn = record {
   talks = λ names grew reader.
       Talks-more (conversation s p.spoken.log.ops names reader) (conversation t p.spoken.log.ops names reader) (conversation r p.spoken.log.ops names reader) (place p) (place q) (place m)
-      (before.talks names (Grown-more q.spoken.log.names m.spoken.log.names names turn.keeps.names grew) reader)
-      (subst (λ (ops : Table). Talks (conversation t ops names reader) (place q) (place m) (conversation r ops names reader)) before.ops (turn.course names grew reader));
-  names = (keeps_more s t p q m before turn.keeps).names;
-  few = (keeps_more s t p q m before turn.keeps).few;
-  ops = (keeps_more s t p q m before turn.keeps).ops;
+      (before.talks names (Grown-more q.spoken.log.names m.spoken.log.names names turn.leads.keeps.names grew) reader)
+      (subst (λ (ops : Table). Talks (conversation t ops names reader) (place q) (place m) (conversation r ops names reader)) before.ops (turn.leads.course names grew reader));
+  names = (keeps_more s t p q m before turn.leads.keeps).names;
+  few = (keeps_more s t p q m before turn.leads.keeps).few;
+  ops = (keeps_more s t p q m before turn.leads.keeps).ops;
   can = record {
-    ready = turn.ready;
-    room = let a = before.can.room in let b = turn.keeps.few in omega (arith, a, b);
+    ready = turn.leads.ready;
+    room = let a = before.can.room in let b = turn.leads.keeps.few in omega (arith, a, b);
     few = let a = before.can.few in let b = turn.less refl in omega (arith, a, b);
+    sound = turn.leads.keeps.sound;
   };
 }
 
 pub ends_all : (s t r : State) (p q m : Moment) (ending : Ending) → IsGoing s t p q → Turns t r q m (Ok (nexts.Ends ending)) → Converses (conversation s) p m (Ok ending)
 ends_all s t r p q m ending before turn = record {
-  keeps = keeps_more s t p q m before turn.keeps;
+  keeps = keeps_more s t p q m before turn.leads.keeps;
   course = λ names grew reader.
       Ends-more (conversation s p.spoken.log.ops names reader) (conversation t p.spoken.log.ops names reader) (place p) (place q) (place m) ending
-      (before.talks names (Grown-more q.spoken.log.names m.spoken.log.names names turn.keeps.names grew) reader)
-      (subst (λ (ops : Table). Ends (conversation t ops names reader) (place q) (place m) ending) before.ops (turn.course names grew reader));
+      (before.talks names (Grown-more q.spoken.log.names m.spoken.log.names names turn.leads.keeps.names grew) reader)
+      (subst (λ (ops : Table). Ends (conversation t ops names reader) (place q) (place m) ending) before.ops (turn.leads.course names grew reader));
 }
 
 pub breaks_all : (s t r : State) (p q m : Moment) (e : Trouble) → IsGoing s t p q → Turns t r q m (Err e) → Converses (conversation s) p m (Err e)
 breaks_all s t r p q m e before turn = record {
-  keeps = keeps_more s t p q m before turn.keeps;
+  keeps = keeps_more s t p q m before turn.leads.keeps;
   course = λ names grew reader.
       Breaks-more begun (conversation s p.spoken.log.ops names reader) (conversation t p.spoken.log.ops names reader) (place p) (place q) (place m) e
-      (before.talks names (Grown-more q.spoken.log.names m.spoken.log.names names turn.keeps.names grew) reader)
-      (subst (λ (ops : Table). Breaks begun (conversation t ops names reader) (place q) (place m) e) before.ops (turn.course names grew reader));
+      (before.talks names (Grown-more q.spoken.log.names m.spoken.log.names names turn.leads.keeps.names grew) reader)
+      (subst (λ (ops : Table). Breaks begun (conversation t ops names reader) (place q) (place m) e) before.ops (turn.leads.course names grew reader));
 }
 
 -- a session begins with a console that has taken nothing
@@ -90,7 +91,7 @@ kept_at_first k start = rw start fresh_kept
 pub can_begin : (s : State) (p : Moment) → IsReady (length p.spoken.log.names) s → length p.spoken.log.names ≤ 1000000000 → p.console ≡ fresh → CanConverse s p
 can_begin s p ready few start =
     let room : room_of p.console ≡ 16777216 = ap room_of start in
-    record { ready = ready; room = omega (arith, few, room); few = omega (arith, room) }
+    record { ready = ready; room = omega (arith, few, room); few = omega (arith, room); sound = kept_at_first p.console start }
 
 -- what is said of the program, and then the lines of the input
 module _ (s : State) (passed : List Note) (p m : Moment) (console : m.console ≡ p.console) (left : m.left ≡ p.left) (reads : m.read_faults ≡ p.read_faults) where

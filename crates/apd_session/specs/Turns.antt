@@ -1,23 +1,34 @@
 -- Turns of a session: what is said to the lines of the input, one by one.
-use Rattle.std.specs.Prelude.{◌≡◌, ◌+◌, ◌<◌, ◌≤◌, List, length, Result, Ok, OnOk, MatchResult}
-use Rattle.apd_console.specs.Console.{room_of}
-use Rattle.apd_talk.specs.Talk.{Breaks, Continues, onto, replies}
+use Rattle.std.specs.Prelude.{ℕ, ◌≡◌, ◌+◌, ◌<◌, ◌≤◌, List, length, Result, Ok, OnOk, MatchResult}
+use Rattle.apd_console.specs.Console.{IsKept, room_of}
+use Rattle.apd_talk.specs.Talk.{Breaks, Continues, Step, after_step, onto, replies}
 use Rattle.apd_talk.specs.declared.talk.Next.{Next}
 use Rattle.apd_talk.specs.declared.talk.Next.TheVariants.{Goes}
 use Rattle.apd_talk.specs.declared.talk.Trouble.{Trouble}
+use Rattle.apd_commands.specs.declared.commands.Command.{Command}
 use Rattle.apd_load.specs.declared.Note.{Note}
 use Rattle.apd_load.specs.Warnings.{warnings_of}
+use Rattle.apd_ops.specs.Table.{Table}
 use Rattle.apd_read.specs.Reader.{Reader}
+use Rattle.apd_text.specs.declared.entry.Entry.{Entry}
 use Rattle.apd_talk.specs.Moment.{Keeps, Moment, Script, place}
 use Rattle.apd_query.specs.Running.{IsReady}
 use Rattle.apd_talk.specs.Speech.{Lasting, begun}
-use Rattle.apd_session.specs.Steps.{load_said, talker}
+use Rattle.apd_session.specs.Steps.{Situation, command_step, load_said, ready_in, talker}
 use Rattle.apd_query.specs.declared.state.State.{State}
 use Rattle.apd_base.specs.declared.limits.TheConstants.{MOST_NAMES}
 
 -- a session in this state answers the lines of the input
 abbrev pub conversation : State → Script
-conversation s ops names reader = replies (talker reader ops) s
+conversation s ops names reader = replies (talker reader ops) (ready_in s)
+
+-- and after a step
+abbrev pub after : (Table → List (List ℕ) → Step Entry Situation) → Script
+after step ops names reader = after_step (talker reader ops) (step ops names)
+
+-- a session in this state does what a command says
+abbrev pub obeying : State → Command → Script
+obeying s c = after (λ ops names. command_step ops names s c)
 
 -- it says first what there is to say of its program
 abbrev pub opening : List Note → State → Script
@@ -29,12 +40,17 @@ pub record CanConverse (s : State) (p : Moment) : Type 0 where
   pub ready : IsReady (length p.spoken.log.names) s
   pub room : length p.spoken.log.names + room_of p.console < MOST_NAMES
   pub few : room_of p.console ≤ 1000000000
+  pub sound : IsKept p.console
+
+-- by this script, from p to q, the conversation goes on from the state t, has ended, or broke off
+pub record Leads (script : Script) (t : State) (p q : Moment) (result : Result Next Trouble) : Type 0 where
+  pub keeps : Keeps p q
+  pub course : Lasting q.spoken.log.names (λ names. (reader : Reader names) → MatchResult result
+      (λ n. Continues (script p.spoken.log.ops names reader) (place p) (place q) (conversation t p.spoken.log.ops names reader) n)
+      (λ e. Breaks begun (script p.spoken.log.ops names reader) (place p) (place q) e))
+  pub ready : OnOk result (IsReady (length q.spoken.log.names) t)
 
 -- from s at p a line was heard and answered: the conversation goes on from t at q, or has ended there, or broke off
 pub record Turns (s t : State) (p q : Moment) (result : Result Next Trouble) : Type 0 where
-  pub keeps : Keeps p q
-  pub course : Lasting q.spoken.log.names (λ names. (reader : Reader names) → MatchResult result
-      (λ n. Continues (conversation s p.spoken.log.ops names reader) (place p) (place q) (conversation t p.spoken.log.ops names reader) n)
-      (λ e. Breaks begun (conversation s p.spoken.log.ops names reader) (place p) (place q) e))
-  pub ready : OnOk result (IsReady (length q.spoken.log.names) t)
+  pub leads : Leads (conversation s) t p q result
   pub less : result ≡ Ok Goes → room_of q.console < room_of p.console

@@ -1,5 +1,5 @@
 -- What counts of faults say of a part of a conversation.
-use Rattle.std.proofs.Common.{◌≡◌, ℕ, ◌≤◌, arith, refl, true, false, Bool}
+use Rattle.std.proofs.Common.{◌≡◌, ℕ, ◌≤◌, arith, true, false, Bool}
 use Rattle.std.specs.Prelude.{Result, Ok, Err}
 use Rattle.apd_io.specs.Outside.{Rose, Counted, Counts, is_load_fault}
 use Rattle.apd_io.specs.declared.fault.LoadFault.{LoadFault}

@@ -2,6 +2,7 @@
 use Rattle.std.proofs.Common.{◌≡◌, ℕ, ◌≤◌, List, [], ◌∷◌, ◌++◌, length, refl, sym, ◌∙◌, arith, subst}
 use Rattle.std.specs.Prelude.{Result, Ok, Err}
 use Rattle.apd_io.specs.Outside.{Adds, Counted, Rose}
+use Rattle.apd_console.proofs.Printing.{Adds-self}
 use Rattle.apd_console.specs.Print.{AddsFront}
 use Rattle.apd_talk.specs.Utterance.{Utterance, Utters, UttersFront}
 use Rattle.apd_talk.specs.declared.talk.Trouble.{Trouble}
@@ -10,6 +11,7 @@ use Rattle.apd_talk.proofs.Uttering.{Utters-nothing, Utters-one, Utters-more, Ut
 use Rattle.apd_ops.specs.Table.{Table}
 use Rattle.apd_term.specs.Growth.{Grown}
 use Rattle.apd_text.specs.Entries.{text_of}
+use Rattle.apd_text.specs.EntryList.{EntryList}
 use Rattle.apd_text.specs.Named.{EntryIsNamed}
 use Rattle.apd_text.proofs.MoreNames.{text_of-more}
 use Rattle.apd_text.specs.declared.entry.Entry.{Entry}
@@ -66,6 +68,38 @@ Says-front e p q text named is pushed adds names ops later rose = record {
   names = names;
   ops = ops;
   cause = (rose, later);
+}
+
+-- there was no memory for its text
+pub Says-unprinted : {T : Type 0} (e : Entry) (p q : Spoken) → q.log.entries.list ≡ p.log.entries.list ++ e ∷ [] → q.held ≡ p.held → q.log.names ≡ p.log.names → q.log.ops ≡ p.log.ops → q.write_faults ≡ p.write_faults → Says {T = T} (one e) p q (Err Memory)
+Says-unprinted e p q pushed held names ops same = record {
+  all = tt;
+  front = λ all grew.
+      let text = text_of p.log.ops all e in
+      rw held (UttersFront-one begun p.log.entries.list q.log.entries.list p.held p.held (plain p.log.ops all e) pushed (text, record { shown = []; parts = refl; adds = Adds-self p.held }));
+  names = names;
+  ops = ops;
+  cause = same;
+}
+
+-- places for entries change nothing of what is said
+abbrev pub with_entries : Spoken → EntryList → Spoken
+with_entries p e = record { log = record { names = p.log.names; ops = p.log.ops; entries = e }; held = p.held; write_faults = p.write_faults }
+
+pub Says-with : {T : Type 0} (speech : Speech) (p q : Spoken) (e : EntryList) (result : Result T Trouble) → e.list ≡ p.log.entries.list → Says speech (with_entries p e) q result → Says speech p q result
+Says-with speech p q e (Ok t) same says = record {
+  all = λ all grew. subst (λ (l : List Entry). Utters l q.log.entries.list p.held q.held (speech p.log.ops all)) same (says.all all grew);
+  front = tt;
+  names = says.names;
+  ops = says.ops;
+  cause = says.cause;
+}
+Says-with speech p q e (Err t) same says = record {
+  all = tt;
+  front = λ all grew. subst (λ (l : List Entry). UttersFront begun l q.log.entries.list p.held q.held (speech p.log.ops all)) same (says.front all grew);
+  names = says.names;
+  ops = says.ops;
+  cause = says.cause;
 }
 
 -- what was said from q, told from p

@@ -7,7 +7,7 @@ use Rattle.apd_causes.specs.declared.run.Query.{Query}
 use Rattle.apd_ports.specs.declared.filter.Filter.{Filter}
 use Rattle.apd_text.specs.Entries.{with_end}
 use Rattle.apd_text.specs.declared.entry.Entry.{Entry}
-use Rattle.apd_text.specs.declared.entry.Entry.TheVariants.{PassedOver, Warning, Loaded, Run, Refused, UsageRefused, ProgramRefused, FileTooLong, InputFault, InputOver}
+use Rattle.apd_text.specs.declared.entry.Entry.TheVariants.{PassedOver, Warning, Loaded, OracleLoaded, Run, Symptom, Question, Replied, BadReply, Found, AllDescend, Unanswered, Refused, Demo, UsageRefused, ProgramRefused, FileTooLong, InputFault, InputOver}
 
 pub last_is : (items before : List Entry) (x d : Entry) (n : ℕ) → items ≡ before ++ x ∷ [] → n ≡ length items → get_or items (n - 1) d ≡ x
 last_is items before x d n is size =
@@ -26,8 +26,17 @@ pub with_end-other : (ran : Ran) (e : Entry) → ((q : Query) (b a : ℕ) (f : F
 with_end-other ran (PassedOver line pred) not = refl
 with_end-other ran (Warning line pred) not = refl
 with_end-other ran (Loaded clauses) not = refl
+with_end-other ran (OracleLoaded statements) not = refl
 with_end-other ran (Run query budget answers filter end) not = absurd (not query budget answers filter end refl)
+with_end-other ran (Symptom what) not = refl
+with_end-other ran (Question number asked) not = refl
+with_end-other ran (Replied reply left) not = refl
+with_end-other ran (BadReply reason) not = refl
+with_end-other ran (Found finding line) not = refl
+with_end-other ran (AllDescend calls) not = refl
+with_end-other ran (Unanswered stopped) not = refl
 with_end-other ran (Refused r) not = refl
+with_end-other ran (Demo nodes questions clause) not = refl
 with_end-other ran UsageRefused not = refl
 with_end-other ran (ProgramRefused line cause) not = refl
 with_end-other ran (FileTooLong n) not = refl

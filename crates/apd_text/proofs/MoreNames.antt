@@ -1,10 +1,15 @@
 -- A text stays where names are put at the end.
-use Rattle.std.proofs.Common.{◌≡◌, ℕ, List, [], ◌∷◌, ◌++◌, length, refl, map}
+use Rattle.std.proofs.Common.{◌≡◌, ℕ, ◌<◌, List, [], ◌∷◌, ◌++◌, length, refl, map, arith}
 use Rattle.std.specs.Prelude.{pos, Bool, true, false, nat_eq, if◌then◌else◌}
-use Rattle.apd_term.specs.declared.standard.TheConstants.{CELL}
+use Rattle.apd_term.specs.declared.standard.TheConstants.{CELL, COMMA, NECK}
 use Rattle.apd_term.specs.Term.{Term, Terms, variable, integer, compound, none, more}
 use Rattle.apd_term.specs.Named.{IsNamed, AreNamed, AllNamed, TupleIsNamed}
-use Rattle.apd_term.proofs.Named.{TupleIsNamed-canonical}
+use Rattle.apd_term.specs.Canonical.{canonical}
+use Rattle.apd_term.specs.Tuple.{canonical_tuple}
+use Rattle.apd_term.specs.declared.tuple.Tuple.{Tuple}
+use Rattle.apd_term.specs.declared.term.NameId.{NameId}
+use Rattle.apd_term.proofs.FirstNames.{length-standard_names}
+use Rattle.apd_term.proofs.Named.{IsNamed-canonical, TupleIsNamed-canonical}
 use Rattle.apd_term.proofs.Naming.{text_of_name-append}
 use Rattle.apd_causes.specs.declared.run.Query.{Query}
 use Rattle.apd_causes.specs.declared.faults.LoadCause.{LoadCause}
@@ -15,14 +20,24 @@ use Rattle.apd_ops.specs.Table.{Table}
 use Rattle.apd_ports.specs.declared.event.Event.{Event}
 use Rattle.apd_write.proofs.MoreNames.{written-more}
 use Rattle.apd_text.specs.Causes.{body_text, cause_text}
+use Rattle.apd_answers.specs.declared.question.Question.{Question}
+use Rattle.apd_answers.specs.declared.question.Question.TheVariants.{True, Covers, Below}
+use Rattle.apd_answers.specs.declared.question.Reply.{Reply}
+use Rattle.apd_answers.specs.declared.question.Reply.TheVariants.{Yes, No, Values}
+use Rattle.apd_answers.specs.declared.finding.Finding.{Finding}
+use Rattle.apd_answers.specs.declared.finding.Finding.TheVariants.{WrongInstance, Uncovered, Violation}
+use Rattle.apd_text.specs.ClauseTerms.{pair, conjunction, with_body, clause_term, list_term}
+use Rattle.apd_text.specs.Dialogues.{atom_text, clause_text, told_text, asked_text, reply_text, finding_text}
+use Rattle.apd_text.specs.declared.entry.Told.{Told}
+use Rattle.apd_text.specs.declared.entry.Told.TheVariants.{Wrong, Missing, NoEnd}
 use Rattle.apd_text.specs.Entries.{refusal_text, text_of}
 use Rattle.apd_causes.specs.Faults.{FaultIsNamed, CauseIsNamed}
-use Rattle.apd_text.specs.Named.{RefusalIsNamed, EntryIsNamed}
+use Rattle.apd_text.specs.Named.{RefusalIsNamed, ToldIsNamed, QuestionIsNamed, ReplyIsNamed, FindingIsNamed, HasStandardNames, EntryIsNamed}
 use Rattle.apd_text.specs.Lines.{goal_text, goals_of, head_text, elements, elements_of, bindings, answer_text, port_text}
 use Rattle.apd_text.specs.declared.entry.Refusal.{Refusal}
 use Rattle.apd_text.specs.declared.entry.Refusal.TheVariants as refusal
 use Rattle.apd_text.specs.declared.entry.Entry.{Entry}
-use Rattle.apd_text.specs.declared.entry.Entry.TheVariants.{PassedOver, Warning, Loaded, Run, Refused, UsageRefused, ProgramRefused, FileTooLong, InputFault, InputOver}
+use Rattle.apd_text.specs.declared.entry.Entry.TheVariants.{PassedOver, Warning, Loaded, OracleLoaded, Run, Symptom, Question as Asks, Replied, BadReply, Found, AllDescend, Unanswered, Refused, Demo, UsageRefused, ProgramRefused, FileTooLong, InputFault, InputOver}
 
 all_written-more : (ops : Table) (names others : List (List ℕ)) (ts : List Term) → AllNamed (length names) ts → map (goal_text ops (names ++ others)) ts ≡ map (goal_text ops names) ts
 all_written-more ops names others [] named = refl
@@ -91,14 +106,87 @@ refusal_text-more names others (refusal.Syntax c) named = rw (cause_text-more na
 refusal_text-more names others refusal.TooLong named = refl
 refusal_text-more names others refusal.NotACommand named = refl
 refusal_text-more names others (refusal.GoalRefused f) named = rw (body_text-more names others f named) refl
+refusal_text-more names others refusal.NoRun named = refl
+refusal_text-more names others (refusal.NoSuchBox n) named = refl
+refusal_text-more names others (refusal.NoSuchExit n) named = refl
+refusal_text-more names others (refusal.NotUserBox n) named = refl
+refusal_text-more names others (refusal.NotComplete n) named = refl
+refusal_text-more names others refusal.NotGround named = refl
+refusal_text-more names others refusal.NotInstance named = refl
+refusal_text-more names others (refusal.Answered n) named = refl
+refusal_text-more names others refusal.NotStopped named = refl
+refusal_text-more names others refusal.NoChain named = refl
+
+pair_named : (n : ℕ) (f : NameId) (a b : Term) → f.0 < n → IsNamed n a → IsNamed n b → IsNamed n (pair f a b)
+pair_named n f a b name left right = (name, (left, (right, tt)))
+
+conjunction_named : (n : ℕ) (g : Term) (gs : List Term) → NECK.0 < n → IsNamed n g → AllNamed n gs → IsNamed n (conjunction g gs)
+conjunction_named n g [] neck first others = first
+conjunction_named n g (h ∷ gs) neck first others = pair_named n COMMA g (conjunction h gs) (omega (arith, neck)) first (conjunction_named n h gs neck others.0 others.1)
+
+clause_named : (n : ℕ) (head : Term) (body : List Term) → NECK.0 < n → IsNamed n head → AllNamed n body → IsNamed n (with_body head body)
+clause_named n head [] neck first others = first
+clause_named n head (g ∷ gs) neck first others = pair_named n NECK head (conjunction g gs) neck first (conjunction_named n g gs neck others.0 others.1)
+
+list_named : (n : ℕ) (ts : List Term) → NECK.0 < n → AllNamed n ts → IsNamed n (list_term ts)
+list_named n [] neck named = (omega (arith, neck), tt)
+list_named n (t ∷ ts) neck named = pair_named n CELL t (list_term ts) (omega (arith, neck)) named.0 (list_named n ts neck named.1)
+
+neck_named : (n : ℕ) → HasStandardNames n → NECK.0 < n
+neck_named n standard = omega (arith, standard, length-standard_names)
+
+atom_text-more : (ops : Table) (names others : List (List ℕ)) (a : Term) → IsNamed (length names) a → atom_text ops (names ++ others) a ≡ atom_text ops names a
+atom_text-more ops names others a named = written-more ops names others (canonical a) 999 (IsNamed-canonical (length names) a named)
+
+clause_text-more : (ops : Table) (names others : List (List ℕ)) (t : Tuple) → HasStandardNames (length names) → TupleIsNamed (length names) t → clause_text ops (names ++ others) t ≡ clause_text ops names t
+clause_text-more ops names others t standard named =
+    let numbered : TupleIsNamed (length names) (canonical_tuple t) = TupleIsNamed-canonical (length names) t named in
+    written-more ops names others (clause_term (canonical_tuple t)) 1200
+    (clause_named (length names) (canonical_tuple t).head (canonical_tuple t).body (neck_named (length names) standard) numbered.0 numbered.1)
+
+told_text-more : (ops : Table) (names others : List (List ℕ)) (w : Told) → ToldIsNamed (length names) w → told_text ops (names ++ others) w ≡ told_text ops names w
+unfolding told_text
+told_text-more ops names others (Wrong a) named = rw (atom_text-more ops names others a named) refl
+told_text-more ops names others (Missing a) named = rw (atom_text-more ops names others a named) refl
+told_text-more ops names others (NoEnd calls) named = refl
+
+asked_text-more : (ops : Table) (names others : List (List ℕ)) (q : Question) → HasStandardNames (length names) → QuestionIsNamed (length names) q → asked_text ops (names ++ others) q ≡ asked_text ops names q
+unfolding asked_text
+asked_text-more ops names others (True a) standard named = rw (atom_text-more ops names others a named) refl
+asked_text-more ops names others (Covers t) standard named = rw (clause_text-more ops names others t standard named) refl
+asked_text-more ops names others (Below q p) standard named = rw (atom_text-more ops names others q named.0, atom_text-more ops names others p named.1) refl
+
+reply_text-more : (ops : Table) (names others : List (List ℕ)) (r : Reply) → HasStandardNames (length names) → ReplyIsNamed (length names) r → reply_text ops (names ++ others) r ≡ reply_text ops names r
+unfolding reply_text
+reply_text-more ops names others Yes standard named = refl
+reply_text-more ops names others No standard named = refl
+reply_text-more ops names others (Values values) standard named =
+    let list : IsNamed (length names) (list_term values) = list_named (length names) values (neck_named (length names) standard) named in
+    rw (atom_text-more ops names others (list_term values) list) refl
+
+finding_text-more : (ops : Table) (names others : List (List ℕ)) (f : Finding) (line : ℕ) → HasStandardNames (length names) → FindingIsNamed (length names) f → finding_text ops (names ++ others) f line ≡ finding_text ops names f line
+unfolding finding_text
+finding_text-more ops names others (WrongInstance clause t) line standard named = rw (clause_text-more ops names others t standard named) refl
+finding_text-more ops names others (Uncovered goal) line standard named = rw (atom_text-more ops names others goal named) refl
+finding_text-more ops names others (Violation clause goal caller_no callee_no caller callee) line standard named =
+    rw (atom_text-more ops names others caller named.0, atom_text-more ops names others callee named.1) refl
 
 pub text_of-more : (ops : Table) (names others : List (List ℕ)) (e : Entry) → EntryIsNamed (length names) e → text_of ops (names ++ others) e ≡ text_of ops names e
 unfolding text_of
 text_of-more ops names others (PassedOver line pred) named = rw (text_of_name-append names others pred.name named) refl
 text_of-more ops names others (Warning line pred) named = rw (text_of_name-append names others pred.name named) refl
 text_of-more ops names others (Loaded clauses) named = refl
+text_of-more ops names others (OracleLoaded statements) named = refl
 text_of-more ops names others (Run query budget answers filter end) named = refl
+text_of-more ops names others (Symptom what) named = rw (told_text-more ops names others what named) refl
+text_of-more ops names others (Asks number asked) named = rw (asked_text-more ops names others asked.question named.0 named.1) refl
+text_of-more ops names others (Replied reply left) named = rw (reply_text-more ops names others reply named.0 named.1) refl
+text_of-more ops names others (BadReply reason) named = refl
+text_of-more ops names others (Found finding line) named = rw (finding_text-more ops names others finding line named.0 named.1) refl
+text_of-more ops names others (AllDescend calls) named = refl
+text_of-more ops names others (Unanswered stopped) named = refl
 text_of-more ops names others (Refused r) named = rw (refusal_text-more names others r named) refl
+text_of-more ops names others (Demo nodes questions clause) named = refl
 text_of-more ops names others UsageRefused named = refl
 text_of-more ops names others (ProgramRefused line cause) named = rw (cause_text-more names others cause named) refl
 text_of-more ops names others (FileTooLong n) named = refl

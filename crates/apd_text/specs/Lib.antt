@@ -1,4 +1,6 @@
 pub mod Causes
+pub mod ClauseTerms
+pub mod Dialogues
 pub mod Entries
 pub mod EntryList
 pub mod Named

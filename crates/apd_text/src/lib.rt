@@ -7,18 +7,22 @@
 
 mod answer;
 mod causes;
+mod clause;
+mod dialogue;
 mod elements;
 mod end;
 mod entry;
+mod finding;
 mod head;
 mod line;
 mod log;
 mod port;
+mod refusal;
 mod text;
 
 pub use answer::answer_line;
 pub use end::end_line;
-pub use entry::{Entry, Refusal};
+pub use entry::{Entry, Reason, Refusal, Told};
 pub use head::head_line;
 pub use log::{Entries, Log};
 pub use port::port_line;

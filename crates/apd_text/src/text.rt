@@ -2,14 +2,17 @@
 
 ghost use Rattle.std.specs.Prelude.{◌≡◌, ◌++◌, OnOk, OnErr, IfOk, Some, codes};
 ghost use Rattle.std.specs.Fmt.{decimal};
-ghost use Rattle.apd_text.specs.Causes.{indicator, body_text, cause_text, cause_place};
-ghost use Rattle.apd_text.specs.Entries.{text_of, refusal_text, in_line, at_byte, usage};
+ghost use Rattle.apd_text.specs.Causes.{indicator, cause_text};
+ghost use Rattle.apd_text.specs.Entries.{text_of, refusal_text, in_line, usage};
 
-use crate::causes::{add_body_fault, add_cause, add_indicator, cause_place};
+use crate::causes::{add_cause, add_indicator};
+use crate::dialogue::{bad_reply, question, replied, symptom, unanswered};
 use crate::entry::{Entry, Refusal};
+use crate::finding::{all_descend, demo, found};
 use crate::line::add_number;
+use crate::refusal::refusal_text;
 use apd_base::Text;
-use apd_causes::{BodyFault, LoadCause};
+use apd_causes::LoadCause;
 use apd_ops::Ops;
 use apd_term::Pred;
 use apd_term::names::Names;
@@ -27,49 +30,6 @@ fn add_line(alloc: Global, line: u32, out: &mut Text) -> Result<(), AllocError>
     add_number(alloc, line as u64, out)?;
     out.extend(b": ")?;
     Ok(())
-}
-
-/// Adds ` at byte N`, where there is a place.
-fn add_place(alloc: Global, place: Option<u32>, out: &mut Text) -> Result<(), AllocError>
-    ensures { OnOk result (out.new ≡ out.old ++ at_byte place) }
-{
-    if let Some(place) = place {
-        out.extend(b" at byte ")?;
-        add_number(alloc, place as u64, out)?;
-    }
-    Ok(())
-}
-
-/// What a refusal says of a line without a reading.
-fn syntax(alloc: Global, names: &Names, cause: LoadCause) -> Result<Text, AllocError>
-    ensures { IfOk result (λ t. t ≡ codes "E1 syntax: " ++ cause_text names.now cause ++ at_byte (cause_place cause)) }
-{
-    let mut text = Text::copy_of(alloc, b"E1 syntax: ")?;
-    add_cause(alloc, names, cause, &mut text)?;
-    add_place(alloc, cause_place(cause), &mut text)?;
-    Ok(text)
-}
-
-/// What a refusal says of a query.
-fn goal_refused(alloc: Global, names: &Names, fault: BodyFault) -> Result<Text, AllocError>
-    ensures { IfOk result (λ t. t ≡ codes "E4 goal refused: " ++ body_text names.now fault) }
-{
-    let mut text = Text::copy_of(alloc, b"E4 goal refused: ")?;
-    add_body_fault(alloc, names, fault, &mut text)?;
-    Ok(text)
-}
-
-/// Why a command is refused.
-#[tactic(auto, unfolding(crate::specs::Entries::refusal_text))]
-fn refusal_text(alloc: Global, names: &Names, refusal: Refusal) -> Result<Text, AllocError>
-    ensures { IfOk result (λ t. t ≡ refusal_text names.now refusal) }
-{
-    match refusal {
-        Refusal::Syntax(cause) => syntax(alloc, names, cause),
-        Refusal::TooLong => Text::copy_of(alloc, b"E2 too long"),
-        Refusal::NotACommand => Text::copy_of(alloc, b"E3 not a command"),
-        Refusal::GoalRefused(fault) => goal_refused(alloc, names, fault),
-    }
 }
 
 /// The line that tells of a directive that was passed over.
@@ -107,6 +67,16 @@ fn loaded(alloc: Global, clauses: u32) -> Result<Text, AllocError>
     Ok(text)
 }
 
+/// The line that tells how many statements an oracle file has.
+fn oracle_loaded(alloc: Global, statements: u32) -> Result<Text, AllocError>
+    ensures { IfOk result (λ t. t ≡ codes "oracle: " ++ decimal statements ++ codes " statements\n") }
+{
+    let mut text = Text::copy_of(alloc, b"oracle: ")?;
+    add_number(alloc, statements as u64, &mut text)?;
+    text.extend(b" statements\n")?;
+    Ok(text)
+}
+
 /// The line that tells why a command is refused.
 fn refused(alloc: Global, names: &Names, refusal: Refusal) -> Result<Text, AllocError>
     ensures { IfOk result (λ t. t ≡ refusal_text names.now refusal ++ codes "\n") }
@@ -141,8 +111,21 @@ fn entry_text(alloc: Global, entry: &Entry, names: &Names, ops: &Ops) -> Result<
         Entry::PassedOver { line, pred } => passed_over(alloc, names, *line, *pred),
         Entry::Warning { line, pred } => warning(alloc, names, *line, *pred),
         Entry::Loaded { clauses } => loaded(alloc, *clauses),
+        Entry::OracleLoaded { statements } => oracle_loaded(alloc, *statements),
         Entry::Run { .. } => Ok(Text::new(alloc)),
+        Entry::Symptom { what } => symptom(alloc, names, ops, what),
+        Entry::Question { number, asked } => question(alloc, names, ops, *number, asked),
+        Entry::Replied { reply, left } => replied(alloc, names, ops, reply, *left),
+        Entry::BadReply { reason } => bad_reply(alloc, *reason),
+        Entry::Found { finding, line } => found(alloc, names, ops, finding, *line),
+        Entry::AllDescend { calls } => all_descend(alloc, *calls),
+        Entry::Unanswered { stopped } => unanswered(alloc, *stopped),
         Entry::Refused { refusal } => refused(alloc, names, *refusal),
+        Entry::Demo {
+            nodes,
+            questions,
+            clause,
+        } => demo(alloc, *nodes, *questions, *clause),
         Entry::UsageRefused => Text::copy_of(alloc, USAGE),
         Entry::ProgramRefused { line, cause } => program_refused(alloc, names, *line, *cause),
         Entry::FileTooLong { length: _ } => Text::copy_of(alloc, b"file too long\n"),

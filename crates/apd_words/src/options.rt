@@ -2,12 +2,13 @@
 
 ghost use Rattle.std.specs.Prelude.{◌≡◌, ◌<◌, ◌≤◌, IfOk, IfSome, MatchOption, Some, None, option_map};
 ghost use Rattle.clap.specs.Words.{found_of, rows_of};
-ghost use Rattle.apd_words.specs.Words.{AreLimits, Options, bytes_of, filter_of, options_from, options_in, options_of};
+ghost use Rattle.apd_words.specs.Words.{AreLimits, Options, asked_options, bytes_of, filter_of, options_from, options_in, options_of, strategy_named, strategy_or};
 ghost use Rattle.apd_base.specs.declared.limits.TheConstants.{MOST_SHOWN};
 
 use crate::command::command;
 use crate::limits::limit_or;
 use apd_base::{MOST_SHOWN, USUAL_BUDGET};
+use apd_divide::Strategy;
 use apd_ports::Filter;
 use clap::ArgMatches;
 use clap::error::ErrorKind;
@@ -24,6 +25,8 @@ pub struct Asked<'a> {
     pub answers: u32,
     /// Which ports are printed.
     pub filter: Filter,
+    /// How a diagnosis chooses what it asks about.
+    pub strategy: Strategy,
 }
 
 /// The filter that a flag's value sets.
@@ -36,46 +39,72 @@ fn filter_of(value: Option<&str>) -> Filter
     }
 }
 
-/// The options that values give, where each limit keeps its rule and a file is named.
+/// The strategy of this name.
+fn strategy_named(word: &str) -> Option<Strategy>
+    ensures { result ≡ strategy_named word.now }
+{
+    match word {
+        "divide" => Some(Strategy::Divide),
+        "single" => Some(Strategy::Single),
+        "top" => Some(Strategy::Top),
+        _ => None,
+    }
+}
+
+/// The strategy that a value names, or the usual one where there is no value.
+fn strategy_or(value: Option<&str>) -> Option<Strategy>
+    ensures { result ≡ strategy_or (option_map (λ s. s.now) value.entry) }
+{
+    match value {
+        None => Some(Strategy::Divide),
+        Some(word) => strategy_named(word),
+    }
+}
+
+/// The options that values give, where each limit keeps its rule, the strategy is known and a file is named.
 fn options_from<'a>(
     budget: Option<u32>,
     answers: Option<u32>,
     filter: Filter,
+    strategy: Option<Strategy>,
     program: Option<&'a str>,
 ) -> Option<Asked<'a>>
     requires budget { IfSome budget (λ n. (0 < n) × (n ≤ MOST_SHOWN)) }
     requires answers { IfSome answers (λ n. (0 < n) × (n ≤ MOST_SHOWN)) }
-    ensures options { MatchOption result (options_from budget answers filter (option_map (λ s. s.now) program.entry) ≡ None)
-        (λ a. options_from budget answers filter (option_map (λ s. s.now) program.entry) ≡ Some record { program = a.program.now; budget = a.budget; answers = a.answers; filter = a.filter }) }
+    ensures options { let options = options_from budget answers filter strategy (option_map (λ s. s.now) program.entry) in
+        MatchOption result (options ≡ None) (λ a. options ≡ Some (asked_options a)) }
     ensures limits { IfSome result (λ a. AreLimits a.budget a.answers) }
 {
-    match (budget, answers, program) {
-        (Some(budget), Some(answers), Some(program)) => Some(Asked {
+    match (budget, answers, strategy, program) {
+        (Some(budget), Some(answers), Some(strategy), Some(program)) => Some(Asked {
             program,
             budget,
             answers,
             filter,
+            strategy,
         }),
         _ => None,
     }
 }
 
-/// The options that clap's matches give, where each limit keeps its rule and a file is named.
+/// The options that clap's matches give, where each limit keeps its rule, the strategy is known and a file is named.
 fn options_in<'a>(matches: &ArgMatches<'a>) -> Option<Asked<'a>>
-    ensures options { MatchOption result (options_in (rows_of (found_of matches.now)) ≡ None)
-        (λ a. options_in (rows_of (found_of matches.now)) ≡ Some record { program = a.program.now; budget = a.budget; answers = a.answers; filter = a.filter }) }
+    ensures options { let options = options_in (rows_of (found_of matches.now)) in
+        MatchOption result (options ≡ None) (λ a. options ≡ Some (asked_options a)) }
     ensures limits { IfSome result (λ a. AreLimits a.budget a.answers) }
 {
     let budget = limit_or(USUAL_BUDGET, matches.get_str("budget"));
     let answers = limit_or(MOST_SHOWN, matches.get_str("answers"));
     let filter = filter_of(matches.get_str("trace"));
-    options_from(budget, answers, filter, matches.get_str("program"))
+    let strategy = strategy_or(matches.get_str("strategy"));
+    let program = matches.get_str("program");
+    options_from(budget, answers, filter, strategy, program)
 }
 
 /// The options that the words give, of which the first is the program's own name; none where they break their rules.
 pub fn read_words<'a>(alloc: Global, words: &'a [String]) -> Result<Option<Asked<'a>>, AllocError>
-    ensures options { IfOk result (λ o. MatchOption o (options_of (bytes_of words.entry.now) ≡ None)
-        (λ a. options_of (bytes_of words.entry.now) ≡ Some record { program = a.program.now; budget = a.budget; answers = a.answers; filter = a.filter })) }
+    ensures options { let options = options_of (bytes_of words.entry.now) in
+        IfOk result (λ o. MatchOption o (options ≡ None) (λ a. options ≡ Some (asked_options a))) }
     ensures limits { IfOk result (λ o. IfSome o (λ a. AreLimits a.budget a.answers)) }
 {
     let command = command(alloc)?;

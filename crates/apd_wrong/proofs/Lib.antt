@@ -2,3 +2,4 @@ pub mod Support
 pub mod Found
 pub mod Judging
 pub mod Recorded
+pub mod Next

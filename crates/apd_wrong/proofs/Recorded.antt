@@ -1,6 +1,6 @@
 -- The tree of an exit of a sound record is a proof tree of its program.
-use Rattle.std.proofs.Common.{◌≡◌, ◌⊎◌, inl, inr, ℕ, zero, suc, ◌+◌, ◌<◌, ◌≤◌, Bool, true, false, List, [], ◌∷◌, ◌++◌, map, length, take, Option, Some, None, refl, sym, ◌∙◌, ap, subst, arith}
-use Rattle.std.specs.Prelude.{slice_get, nat_le, if◌then◌else◌}
+use Rattle.std.proofs.Common.{◌≡◌, ℕ, zero, suc, ◌<◌, ◌≤◌, Bool, true, false, List, [], ◌∷◌, length, Some, refl, sym, ◌∙◌, ap, subst, arith}
+use Rattle.std.specs.Prelude.{nat_le, if◌then◌else◌}
 use Rattle.std.proofs.lemmas.List.{take_all}
 use Rattle.std.proofs.lemmas.Option.{slice_get-get_or}
 use Rattle.apd_divide.proofs.Weights.{by_test, le_true, le_false}
@@ -11,21 +11,19 @@ use Rattle.apd_answers.specs.declared.question.Reply.TheVariants.{Yes, No, Value
 use Rattle.apd_answers.specs.declared.store.Pair.{Pair}
 use Rattle.apd_answers.specs.Store.{TellsNo, SaysNo}
 use Rattle.apd_wrong.proofs.Support.{some_pair-map}
-use Rattle.apd_term.specs.Term.{Term, apply}
+use Rattle.apd_term.specs.Term.{Term}
 use Rattle.apd_term.specs.Canonical.{canonical}
 use Rattle.apd_term.specs.Substitution.{IsInstance}
-use Rattle.apd_term.specs.Tuple.{IsTupleInstance}
 use Rattle.apd_term.specs.declared.tuple.Tuple.{Tuple}
 use Rattle.apd_term.proofs.Tuples.{IsTupleInstance-trans}
 use Rattle.apd_term.proofs.Variants.{IsInstance_from_variants, IsInstance-trans, IsInstance-canonical, canonical-canonical}
 use Rattle.apd_ports.specs.declared.point.Point.{Point}
-use Rattle.apd_record.specs.Recorded.{Recorded, box_at, point_at, goal_left, IsExit, is_user_atom}
+use Rattle.apd_record.specs.Recorded.{Recorded, box_at, point_at, IsExit, is_user_atom}
 use Rattle.apd_record.specs.declared.rows.BoxRow.{BoxRow}
-use Rattle.apd_record.specs.Sound.{IsSound, IsSuccess, IsAlwaysTrue}
+use Rattle.apd_record.specs.Sound.{IsSound}
 use Rattle.apd_record.specs.Reading.{point_of, exits_to, exits_in}
 use Rattle.apd_answers.specs.Bugs.{IsInstanceOfClause}
-use Rattle.apd_divide.specs.declared.node.Standing.TheVariants.{Open}
-use Rattle.apd_divide.specs.Tree.{Tree, Forest, node, bare, beside, label}
+use Rattle.apd_divide.specs.Tree.{Tree, Forest, bare, beside, label}
 use Rattle.apd_divide.specs.Recorded.{instance_with, nodes_for, tree_in, tree}
 use Rattle.apd_divide.specs.Exits.{IsUserExit}
 use Rattle.apd_wrong.specs.Support.{IsForAtom, AreForAtoms, IsProofTree, AreProofTrees, IsJudgedBy, AreJudgedBy, IsWrongTree}

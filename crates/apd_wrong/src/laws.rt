@@ -1,26 +1,29 @@
 //! Laws of the diagnosis of a wrong answer.
 
-ghost use Rattle.std.specs.Prelude.{◌≡◌, ℕ, List, Some};
+ghost use Rattle.std.specs.Prelude.{◌≡◌, ℕ, ◌≤◌, List, Some};
 ghost use Rattle.std.specs.List.{AllByRecursion};
 ghost use Rattle.apd_term.specs.declared.tuple.Tuple.{Tuple};
 ghost use Rattle.apd_record.specs.Recorded.{Recorded};
 ghost use Rattle.apd_answers.specs.declared.question.Reply.{Reply};
 ghost use Rattle.apd_answers.specs.declared.finding.Finding.{Finding};
 ghost use Rattle.apd_answers.specs.declared.store.Pair.{Pair};
-ghost use Rattle.apd_answers.specs.Dialogue.{dialogue, ends};
+ghost use Rattle.apd_answers.specs.declared.question.Question.TheVariants as asking;
+ghost use Rattle.apd_answers.specs.declared.question.Reply.TheVariants.{No};
+ghost use Rattle.apd_answers.specs.Dialogue.{dialogue, ends, next_turn};
 ghost use Rattle.apd_answers.specs.Falling.{Falls};
 ghost use Rattle.apd_answers.specs.Findings.{IsByReplies};
 ghost use Rattle.apd_divide.specs.declared.node.Strategy.{Strategy};
-ghost use Rattle.apd_divide.specs.Tree.{Tree};
+ghost use Rattle.apd_divide.specs.Tree.{Tree, branching};
 ghost use Rattle.apd_wrong.specs.Wrong.{wrong};
 ghost use Rattle.apd_wrong.specs.Support.{IsProofTree, IsWrongTree};
 ghost use Rattle.apd_divide.specs.Exits.{IsUserExit};
 ghost use Rattle.apd_divide.specs.Recorded.{tree};
 ghost use Rattle.apd_record.specs.Sound.{IsSound};
-ghost use Rattle.apd_answers.specs.Store.{SaysNo};
+ghost use Rattle.apd_answers.specs.Store.{SaysNo, with_pair};
 ghost use Rattle.apd_term.specs.Term.{Term};
 ghost use Rattle.apd_term.specs.Substitution.{IsInstance};
 ghost use Rattle.apd_wrong.specs.Verdicts.{IsVerdict};
+ghost use Rattle.apd_wrong.specs.Next.{ComesNext};
 
 /// Each turn of the diagnosis leaves fewer suspects; so it comes to a question or to its end.
 pub fn suspects_fall()
@@ -28,10 +31,21 @@ pub fn suspects_fall()
 {}
 
 /// The tree of an exit of a sound record, with a label that is an instance of its head, is a proof tree of the program; and
-/// where the store says that the label isn't true, it is one of a wrong answer.
+/// where the store says that the label isn't true, as it does of a symptom once it is told, it is one of a wrong answer.
 pub fn a_recorded_tree_proves()
     ensures proves { (P : List Tuple) (R : Recorded) (e : ℕ) (l : Term) → IsSound P R → (x : IsUserExit R e) → IsInstance l x.point.tuple.head → IsProofTree P (tree R e l) }
     ensures starts { (P : List Tuple) (R : Recorded) (pairs : List Pair) (e : ℕ) (l : Term) → IsSound P R → (x : IsUserExit R e) → IsInstance l x.point.tuple.head → SaysNo pairs l → IsWrongTree P pairs (tree R e l) }
+    ensures told { (P : List Tuple) (R : Recorded) (pairs : List Pair) (e : ℕ) (l : Term) →
+        IsSound P R → (x : IsUserExit R e) → IsInstance l x.point.tuple.head →
+        IsWrongTree P (with_pair pairs (asking.True l) No) (tree R e l) }
+{}
+
+/// What comes next in a tree of a wrong answer is a question that the store doesn't decide, and whatever the reply, it leaves
+/// such a tree with fewer suspects, by divide and query at most (2b - 1) / (2b) of them; or it is a finding by the replies.
+pub fn what_comes_next()
+    ensures { (P : List Tuple) (strategy : Strategy) (pairs : List Pair) (broad : ℕ) (x : Tree) →
+        IsWrongTree P pairs x → branching x ≤ broad →
+        ComesNext P strategy pairs broad (next_turn (wrong strategy) pairs x) }
 {}
 
 /// What a dialogue about a wrong answer ends in is found by its replies.

@@ -1,5 +1,5 @@
 use Rattle.std.proofs.Common.{rules}
-use Rattle.clap.specs.Words.{app_of, found_of, kind_of, rows_of}
+use Rattle.clap.specs.Words.{app_of, found_of, rows_of}
 use Rattle.apd_words.specs.Words.{bytes_of}
 use Rattle.apd_words.proofs.Matched.{taken, refused}
 use Rattle.apd_words.proofs.options.read_words.Goals as goal

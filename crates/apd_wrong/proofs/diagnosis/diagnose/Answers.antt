@@ -1,4 +1,4 @@
-use Rattle.std.proofs.Common.{◌≡◌, ◌∙◌, refl, sym, subst, Ok}
+use Rattle.std.proofs.Common.{◌≡◌, refl, sym, subst, Ok}
 use Rattle.apd_answers.specs.declared.oracle.AskEnd.TheVariants.{Memory}
 use Rattle.apd_answers.specs.Going.{at, Breaks}
 use Rattle.apd_answers.proofs.Going.{Breaks-more}

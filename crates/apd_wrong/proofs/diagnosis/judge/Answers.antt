@@ -1,5 +1,5 @@
 use Rattle.apd_answers.specs.Oracle.{asking}
-use Rattle.std.proofs.Common.{◌≡◌, Err, ◌∙◌, sym, ap, subst}
+use Rattle.std.proofs.Common.{◌≡◌, Err, ◌∙◌, sym, subst}
 use Rattle.apd_answers.specs.declared.oracle.AskEnd.TheVariants.{Memory}
 use Rattle.apd_divide.specs.Kept.{tree_of, cut_of}
 use Rattle.apd_wrong.proofs.Judging.{by_error, about, knows, judges_decided, turn_told, breaks_unasked, breaks_unanswered, breaks_unkept}

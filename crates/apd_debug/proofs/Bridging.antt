@@ -1,0 +1,151 @@
+-- Where a question of a diagnosis waits, the lines are what they are where it is asked.
+use Rattle.std.proofs.Common.{◌≡◌, ℕ, List, [], ◌∷◌, refl, ap, sym, ◌∙◌, subst, arith, append_assoc, Bool, true, false}
+use Rattle.std.specs.Prelude.{Err}
+use Rattle.apd_answers.specs.Dialogue.{Diagnosis, Turn, asks, goes, ends, next_turn}
+use Rattle.apd_answers.specs.Store.{with_pair}
+use Rattle.apd_answers.specs.declared.question.Asked.{Asked}
+use Rattle.apd_answers.specs.declared.question.Reply.{Reply}
+use Rattle.apd_answers.specs.declared.oracle.AskEnd.{AskEnd}
+use Rattle.apd_answers.specs.declared.oracle.AskEnd.TheVariants as ask_ends
+use Rattle.apd_answers.specs.declared.store.Pair.{Pair}
+use Rattle.apd_console.specs.Lines.{InputEnd}
+use Rattle.apd_console.specs.declared.line.Line.{Line}
+use Rattle.apd_console.specs.Console.{room_of}
+use Rattle.apd_console.proofs.Bytes.{Hands-self}
+use Rattle.apd_debug.specs.Diagnosed.{Diagnosed}
+use Rattle.apd_debug.specs.Hearing.{HearsReplies, afterwards, is_quit}
+use Rattle.apd_debug.specs.Stand.{Stand, asking}
+use Rattle.apd_debug.specs.Steps.{after_turn, reply_step, says_before, unanswered}
+use Rattle.apd_lines.specs.Lines.{line_in}
+use Rattle.apd_ops.specs.Table.{Table}
+use Rattle.apd_base.specs.Counts.{risen}
+use Rattle.apd_oracle.specs.Dialogue.{Hears}
+use Rattle.apd_oracle.specs.Replies.{spoken_of}
+use Rattle.apd_oracle.specs.Waiting.{asking as asked_first, turn_at, turn_of, waiting}
+use Rattle.apd_oracle.specs.declared.spoken.Spoken.{Spoken}
+use Rattle.apd_oracle.specs.declared.spoken.Spoken.TheVariants as spoken
+use Rattle.apd_read.specs.Reader.{Reader}
+use Rattle.apd_talk.specs.Awaiting.{Awaits, after, Hearing, IsTurn, means, says_first}
+use Rattle.apd_talk.specs.Speech.{begun, plain}
+use Rattle.apd_talk.specs.Talk.{Breaks, Meaning, Place, Step, Talker, Talks, after_step, onto, replies, run}
+use Rattle.apd_talk.specs.Utterance.{Utterance}
+use Rattle.apd_talk.specs.declared.talk.Ending.TheVariants.{Done}
+use Rattle.apd_talk.specs.declared.talk.Trouble.TheVariants as troubles
+use Rattle.apd_talk.proofs.Awaiting.{Agree, Breaks-as, Closes-as, Closes-more, Talks-as, Talks-to, after_means, awaits, means_same, replies_means}
+use Rattle.apd_talk.proofs.Talking.{Breaks-more, Talks-more}
+use Rattle.apd_talk.proofs.Uttering.{UttersFront-none}
+use Rattle.apd_text.specs.declared.entry.Entry.{Entry}
+use Rattle.apd_text.specs.declared.entry.Entry.TheVariants as entry
+
+first_said : (us : List (Utterance Entry)) (h : Hearing Entry) (room : ℕ) (more : List ℕ) (over : InputEnd) → means (says_first us h) room more over ≡ onto us (means h room more over)
+unfolding means
+first_said us h room more over = refl
+
+-- what is said before a step
+before_by : {S : Type 0} (talker : Talker Entry S) (us : List (Utterance Entry)) (st : Step Entry S) (room : ℕ) (input : List ℕ) (over : InputEnd) (q : Bool) → st.quits ≡ q →
+    after_step talker (says_before us st) room input over ≡ onto us (after_step talker st room input over)
+before_by talker us st room input over true is = rw is refl
+before_by talker us st room input over false is = rw (is, append_assoc us st.utterances (replies talker st.next room input over).utterances) refl
+
+pub before : {S : Type 0} (talker : Talker Entry S) (us : List (Utterance Entry)) (st : Step Entry S) (room : ℕ) (input : List ℕ) (over : InputEnd) →
+    after_step talker (says_before us st) room input over ≡ onto us (after_step talker st room input over)
+before talker us st room input over = before_by talker us st room input over st.quits refl
+
+module _ {S D E : Type 0} (d : Diagnosis D E) (found : E → Entry) (state : Stand D → S) {names : List (List ℕ)} (reader : Reader names) (ops : Table) (talker : Talker Entry S) (hears : HearsReplies d found state reader ops talker) where
+  -- a line in a reply's place is a turn
+  is_turn : (pairs : List Pair) (count : ℕ) (asked : Asked) (next : Reply → D) (said : Spoken) →
+      IsTurn talker (state (asking pairs count asked next)) (reply_step d found state ops names pairs count asked next said) (turn_of ops names (afterwards d found state reader ops talker pairs count asked next) said)
+  is_turn pairs count asked next spoken.Nothing = refl
+  is_turn pairs count asked next (spoken.Reply r) = λ lines close. refl
+  is_turn pairs count asked next spoken.Stop = λ lines close. refl
+  is_turn pairs count asked next spoken.Quit = λ lines close. refl
+  is_turn pairs count asked next (spoken.Bad reason) = refl
+
+  pub waits : (pairs : List Pair) (count : ℕ) (asked : Asked) (next : Reply → D) →
+      Awaits talker (state (asking pairs count asked next)) (turn_at asked.question ops names reader (afterwards d found state reader ops talker pairs count asked next)) (afterwards d found state reader ops talker pairs count asked next).closed
+  waits pairs count asked next = record {
+    turns = λ line.
+        subst (λ (st : Step Entry S). IsTurn talker (state (asking pairs count asked next)) st (turn_at asked.question ops names reader (afterwards d found state reader ops talker pairs count asked next) line))
+        (sym (hears.steps pairs count asked next line)) (is_turn pairs count asked next (spoken_of asked.question (line_in reader ops line)));
+    closes = λ close. rw (hears.closes pairs count asked next close) refl;
+  }
+
+  -- a conversation that says a question is where the question is asked
+  pub asks_so : (pairs : List Pair) (count : ℕ) (asked : Asked) (next : Reply → D) →
+      Agree (after_step talker (after_turn d found state ops names pairs count (asks asked next)))
+      (means (asked_first (risen count) asked ops names reader (afterwards d found state reader ops talker pairs (risen count) asked next)))
+  asks_so pairs count asked next room input over =
+      let us : List (Utterance Entry) = plain ops names (entry.Question (risen count) asked) ∷ [] in
+      let s : S = state (asking pairs (risen count) asked next) in
+      let h : Hearing Entry = waiting asked.question ops names reader (afterwards d found state reader ops talker pairs (risen count) asked next) in
+      ap (onto us)
+      (replies_means talker s room input over ∙ means_same (run talker s) h (awaits talker s _ _ (waits pairs (risen count) asked next)) room input over)
+      ∙ sym (first_said us h room input over)
+
+  -- in a reply's place a step quits exactly where the line is `quit.`
+  turn_goes_on : (pairs : List Pair) (count : ℕ) (turn : Turn D E) → (after_turn d found state ops names pairs count turn).quits ≡ false
+  turn_goes_on pairs count (asks asked next) = refl
+  turn_goes_on pairs count (goes t) = refl
+  turn_goes_on pairs count (ends e) = refl
+
+  quits_by : (pairs : List Pair) (count : ℕ) (asked : Asked) (next : Reply → D) (said : Spoken) → (reply_step d found state ops names pairs count asked next said).quits ≡ is_quit said
+  quits_by pairs count asked next spoken.Nothing = refl
+  quits_by pairs count asked next (spoken.Reply r) = turn_goes_on (with_pair pairs asked.question r) count (next_turn d (with_pair pairs asked.question r) (next r))
+  quits_by pairs count asked next spoken.Stop = refl
+  quits_by pairs count asked next spoken.Quit = refl
+  quits_by pairs count asked next (spoken.Bad reason) = refl
+
+  pub only_quit : (pairs : List Pair) (count : ℕ) (asked : Asked) (next : Reply → D) (line : Line) →
+      (talker.step (state (asking pairs count asked next)) line).quits ≡ is_quit (spoken_of asked.question (line_in reader ops line))
+  only_quit pairs count asked next line = rw (hears.steps pairs count asked next line) (quits_by pairs count asked next (spoken_of asked.question (line_in reader ops line)))
+
+module _ {S D E : Type 0} (d : Diagnosis D E) (found : E → Entry) (state : Stand D → S) (ops : Table) (names : List (List ℕ)) (talker : Talker Entry S) where
+  pub Diagnosed-as : (f g : Meaning Entry) (p q : Place Entry) (pairs : List Pair) (count : ℕ) (end : AskEnd) → Agree f g → Diagnosed d found state ops names talker g p q pairs count (Err end) → Diagnosed d found state ops names talker f p q pairs count (Err end)
+  Diagnosed-as f g p q pairs count ask_ends.Stopped same so = Talks-as f g _ p q same so
+  Diagnosed-as f g p q pairs count ask_ends.Quit same so = Talks-as f g _ p q same so
+  Diagnosed-as f g p q pairs count ask_ends.Ended same so = Closes-as f g p q _ _ same so
+  Diagnosed-as f g p q pairs count ask_ends.ReadFault same so = Closes-as f g p q _ _ same so
+  Diagnosed-as f g p q pairs count ask_ends.InputLimit same so = Closes-as f g p q _ _ same so
+  Diagnosed-as f g p q pairs count ask_ends.WriteFault same so = Breaks-as begun f g p q _ same so
+  Diagnosed-as f g p q pairs count ask_ends.Memory same so = Breaks-as begun f g p q _ same so
+
+  pub Diagnosed-more : (f g : Meaning Entry) (p q r : Place Entry) (pairs : List Pair) (count : ℕ) (end : AskEnd) → Talks f p q g → Diagnosed d found state ops names talker g q r pairs count (Err end) → Diagnosed d found state ops names talker f p r pairs count (Err end)
+  Diagnosed-more f g p q r pairs count ask_ends.Stopped first second = Talks-more f g _ p q r first second
+  Diagnosed-more f g p q r pairs count ask_ends.Quit first second = Talks-more f g _ p q r first second
+  Diagnosed-more f g p q r pairs count ask_ends.Ended first second = Closes-more f g p q r _ _ first second
+  Diagnosed-more f g p q r pairs count ask_ends.ReadFault first second = Closes-more f g p q r _ _ first second
+  Diagnosed-more f g p q r pairs count ask_ends.InputLimit first second = Closes-more f g p q r _ _ first second
+  Diagnosed-more f g p q r pairs count ask_ends.WriteFault first second = Breaks-more begun f g p q r _ first second
+  Diagnosed-more f g p q r pairs count ask_ends.Memory first second = Breaks-more begun f g p q r _ first second
+
+module _ {S D E : Type 0} (d : Diagnosis D E) (found : E → Entry) (state : Stand D → S) {names : List (List ℕ)} (reader : Reader names) (ops : Table) (talker : Talker Entry S) where
+  -- the step after a word, and what the lines behind it mean
+  meant : (start : Meaning Entry) (p q : Place Entry) (st : Step Entry S) → Talks start p q (means (after talker st)) → Talks start p q (after_step talker st)
+  meant start p q st talks = Talks-to start _ _ p q (λ room input over. sym (after_means talker st room input over)) talks
+
+  -- a call that answers no reply ends the diagnosis
+  pub ended_so : (start : Meaning Entry) (p q : Place Entry) (pairs : List Pair) (count : ℕ) (asked : Asked) (next : Reply → D) (end : AskEnd) →
+      Hears start p q (afterwards d found state reader ops talker pairs count asked next) (Err end) → Diagnosed d found state ops names talker start p q pairs count (Err end)
+  ended_so start p q pairs count asked next ask_ends.Stopped hears = meant start p q (unanswered d found state ops names pairs count false) hears
+  ended_so start p q pairs count asked next ask_ends.Quit hears = meant start p q (unanswered d found state ops names pairs count true) hears
+  ended_so start p q pairs count asked next ask_ends.Ended hears = hears
+  ended_so start p q pairs count asked next ask_ends.ReadFault hears = hears
+  ended_so start p q pairs count asked next ask_ends.InputLimit hears = hears
+  ended_so start p q pairs count asked next ask_ends.WriteFault hears = hears
+  ended_so start p q pairs count asked next ask_ends.Memory hears = hears
+
+-- nothing more was said
+pub broke_here : (f : Meaning Entry) (p : Place Entry) → Breaks begun f p p troubles.Memory
+broke_here f p = record {
+  heard = [];
+  hands = Hands-self p.console p.left;
+  utterances = [];
+  says = UttersFront-none begun p.log p.log p.held [] refl;
+  later = record { reads = omega arith; writes = omega arith };
+  way = Done;
+  rose = λ is. absurd (cc);
+  going = λ is. absurd (cc);
+  none_kept = λ is. absurd (cc);
+  write_rose = λ is. absurd (cc);
+  breaks_so = λ more over can. (f (room_of p.console) more over, refl);
+}

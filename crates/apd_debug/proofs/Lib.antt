@@ -1,0 +1,9 @@
+pub mod NamedTrees
+pub mod Known
+pub mod KnownTrees
+pub mod Bridging
+pub mod Telling
+pub mod Going
+pub mod Asking
+pub mod LastWords
+pub mod Replying

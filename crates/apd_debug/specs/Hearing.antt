@@ -1,0 +1,42 @@
+-- A conversation in which a diagnosis goes on: where a question waits, each line is heard as a reply to it.
+use Rattle.std.specs.Prelude.{◌≡◌, ℕ, List, Bool, false, true}
+use Rattle.apd_answers.specs.Dialogue.{Diagnosis}
+use Rattle.apd_answers.specs.declared.question.Asked.{Asked}
+use Rattle.apd_answers.specs.declared.question.Reply.{Reply}
+use Rattle.apd_answers.specs.declared.store.Pair.{Pair}
+use Rattle.apd_console.specs.Lines.{Close}
+use Rattle.apd_console.specs.declared.line.Line.{Line}
+use Rattle.apd_debug.specs.Stand.{Stand, asking}
+use Rattle.apd_debug.specs.Steps.{closing_asked, replied, reply_step, unanswered}
+use Rattle.apd_lines.specs.Lines.{line_in}
+use Rattle.apd_ops.specs.Table.{Table}
+use Rattle.apd_oracle.specs.Replies.{spoken_of}
+use Rattle.apd_oracle.specs.Waiting.{Afterwards}
+use Rattle.apd_oracle.specs.declared.spoken.Spoken.{Spoken}
+use Rattle.apd_oracle.specs.declared.spoken.Spoken.TheVariants.{Quit}
+use Rattle.apd_read.specs.Reader.{Reader}
+use Rattle.apd_talk.specs.Awaiting.{after}
+use Rattle.apd_talk.specs.Talk.{Talker, ending_of}
+use Rattle.apd_text.specs.declared.entry.Entry.{Entry}
+
+module _ {S D E : Type 0} (d : Diagnosis D E) (found : E → Entry) (state : Stand D → S) {names : List (List ℕ)} (reader : Reader names) (ops : Table) (talker : Talker Entry S) where
+  -- where a question of the diagnosis waits, the talker hears a line as a reply to it
+  pub record HearsReplies : Type 0 where
+    pub steps : (pairs : List Pair) (count : ℕ) (asked : Asked) (next : Reply → D) (line : Line) →
+        talker.step (state (asking pairs count asked next)) line ≡ reply_step d found state ops names pairs count asked next (spoken_of asked.question (line_in reader ops line))
+    pub closes : (pairs : List Pair) (count : ℕ) (asked : Asked) (next : Reply → D) (close : Close) →
+        talker.closing (state (asking pairs count asked next)) close ≡ closing_asked ops names close
+
+  -- what comes after a question, by the reply to it
+  abbrev pub afterwards : List Pair → ℕ → Asked → (Reply → D) → Afterwards
+  afterwards pairs count asked next = record {
+    replied = λ r. after talker (replied d found state ops names pairs count asked next r);
+    stopped = after talker (unanswered d found state ops names pairs count false);
+    quit = after talker (unanswered d found state ops names pairs count true);
+    closed = λ close. record { utterances = closing_asked ops names close; ending = ending_of close };
+  }
+
+-- the line ends the session
+abbrev pub is_quit : Spoken → Bool
+is_quit Quit = true
+is_quit said = false

@@ -1,0 +1,10 @@
+pub mod NamedTrees
+pub mod Known
+pub mod Stand
+pub mod Steps
+pub mod Hearing
+pub mod Conversing
+pub mod Diagnosed
+pub mod Asking
+pub mod Replying
+pub mod Laws

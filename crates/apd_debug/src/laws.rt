@@ -1,0 +1,67 @@
+//! Laws of diagnoses in a conversation, each the contract of a function without a body.
+
+ghost use Rattle.std.specs.Prelude.{List, ℕ};
+ghost use Rattle.apd_answers.specs.declared.finding.Finding.{Finding};
+ghost use Rattle.apd_debug.specs.Conversing.{Conversing};
+ghost use Rattle.apd_debug.specs.Known.{KeepsNamed};
+ghost use Rattle.apd_debug.specs.Laws.{Debugging, GoesAlong, LinesAreTurns, LinesMakeTheDialogue, OnlyQuitEnds};
+ghost use Rattle.apd_debug.specs.NamedTrees.{IsKnownTree, RecordIsNamed, TreeIsNamed};
+ghost use Rattle.apd_divide.specs.declared.node.Strategy.{Strategy};
+ghost use Rattle.apd_divide.specs.Recorded.{tree};
+ghost use Rattle.apd_record.specs.Recorded.{Recorded};
+ghost use Rattle.apd_recorded.specs.Told.{record_of};
+ghost use Rattle.apd_term.specs.declared.tuple.Tuple.{Tuple};
+ghost use Rattle.apd_term.specs.Named.{AllTuplesNamed, IsNamed, TupleIsNamed};
+ghost use Rattle.apd_term.specs.Term.{Term};
+ghost use Rattle.apd_text.specs.declared.entry.Entry.TheVariants.{Found};
+ghost use Rattle.apd_trace.specs.Run.{query_run};
+ghost use Rattle.apd_wrong.specs.Wrong.{wrong};
+
+use apd_answers::Oracle;
+
+/// Which states of a diagnosis are known, by the names that there are. It has no data, and nothing of it runs.
+pub trait Known<D> {
+    ghost use Rattle.std.specs.Prelude.{List, ℕ};
+    ghost use Rattle.apd_answers.specs.declared.store.Pair.{Pair};
+
+    /// By how many names are known, the store and the state.
+    ghost is_known: { ℕ → List Pair → D → Type 0 };
+}
+
+/// The calls that a diagnosis makes of an oracle, where each is a part of a conversation, are the steps of the conversation:
+/// however it ends, the conversation has come there.
+pub fn a_diagnosis_converses<S, D, E, K: Known<D>, O: Oracle>()
+    ensures { (b : Debugging S D E) (c : Conversing O.step) →
+        KeepsNamed b.diagnosis b.found K.is_known → GoesAlong b c K.is_known }
+{}
+
+/// Lines that are replies to the questions of a diagnosis make its dialogue with these replies.
+pub fn lines_make_the_dialogue<S, D, E>()
+    ensures { (b : Debugging S D E) → LinesMakeTheDialogue b }
+{}
+
+/// Where a question of a diagnosis waits, the lines are its turns.
+pub fn lines_are_turns<S, D, E>()
+    ensures { (b : Debugging S D E) → LinesAreTurns b }
+{}
+
+/// In a reply's place a line ends the session exactly where it is `quit.`.
+pub fn only_quit_ends<S, D, E>()
+    ensures { (b : Debugging S D E) → OnlyQuitEnds b }
+{}
+
+/// The diagnosis of a wrong answer asks about and finds what is named where its tree is, in whatever lines the clauses stand.
+pub fn wrong_answers_are_named()
+    ensures { (strategy : Strategy) (line_of : Finding → ℕ) →
+        KeepsNamed (wrong strategy) (λ f. Found f (line_of f)) IsKnownTree }
+{}
+
+/// The record of a run has no names that the program and the query don't have, and the tree of an exit none that the record
+/// and the label don't have.
+pub fn records_are_named()
+    ensures run { (n : ℕ) (P : List Tuple) (query : Tuple) (budget answers : ℕ) →
+        AllTuplesNamed n P → TupleIsNamed n query →
+        RecordIsNamed n (record_of (query_run P query budget answers).passed) }
+    ensures tree { (n : ℕ) (R : Recorded) (exit : ℕ) (label : Term) →
+        RecordIsNamed n R → IsNamed n label → TreeIsNamed n (tree R exit label) }
+{}

@@ -1,0 +1,3 @@
+pub mod Lined
+pub mod Growing
+pub mod OneLine

@@ -1,0 +1,138 @@
+// What is read of a line: no clause, or the one that it holds.
+ghost use Rattle.std.specs.Prelude.{◌≡◌, ◌≢◌, ◌<◌, ◌≤◌, ◌+◌, List, ℕ, length, IfOk, OnOk, Ok};
+ghost use Rattle.apd_read.specs.Reader.{Reader};
+ghost use Rattle.apd_term.specs.Growth.{GrowsBy};
+ghost use Rattle.apd_term.specs.StandardNames.{standard_names};
+ghost use Rattle.apd_token.specs.Grammar.{HasTokens};
+ghost use Rattle.apd_talk.specs.Speech.{Lasting};
+ghost use Rattle.apd_lines.specs.Lines.{IsOfLine, LineFits, LineGrows, LineIsNamed, line_from, line_in, line_of};
+ghost use Rattle.apd_base.specs.declared.limits.TheConstants.{MAX_LINE, MOST_NAMES};
+
+use apd_causes::LoadCause;
+use apd_console::Line;
+use apd_ops::Ops;
+use apd_read::{Read, ReadFault, read_clause};
+use apd_term::names::Names;
+use apd_token::{Token, TokenFault, Tokens, tokens};
+use std::alloc::{AllocError, Global};
+
+/// What is read of a line.
+#[derive(Drop)]
+pub enum LineRead {
+    /// The line has no token.
+    Empty,
+    /// The line has more bytes than are read.
+    TooLong,
+    /// The line has no reading, for this cause.
+    Bad(LoadCause),
+    /// The line is this clause.
+    Clause(Read),
+}
+
+/// A line that has no reading, for this fault, which want of memory is not.
+fn bad_reading(fault: ReadFault) -> Result<LineRead, AllocError>
+    ensures line { IfOk result (λ l. l ≡ LineRead.Bad (LoadCause.Read fault)) }
+    ensures fault { OnOk result (fault ≢ ReadFault.Memory) }
+{
+    match fault {
+        ReadFault::Memory => Err(AllocError),
+        _ => Ok(LineRead::Bad(LoadCause::Read(fault))),
+    }
+}
+
+/// A line that has no division into tokens, for this fault, which want of memory is not.
+fn bad_division(fault: TokenFault) -> Result<LineRead, AllocError>
+    ensures line { IfOk result (λ l. l ≡ LineRead.Bad (LoadCause.Token fault)) }
+    ensures fault { OnOk result (fault ≢ TokenFault.Memory) }
+{
+    match fault {
+        TokenFault::Memory => Err(AllocError),
+        _ => Ok(LineRead::Bad(LoadCause::Token(fault))),
+    }
+}
+
+/// A line with this clause, behind which a token is stray.
+fn whole_line(read: Read, tokens: &[Token]) -> LineRead
+    ensures line { result ≡ line_of tokens.now (Ok read) }
+    ensures named { (n : ℕ) → IsOfLine n read.term → LineIsNamed n result }
+{
+    match tokens.get(read.next) {
+        Some(token) => LineRead::Bad(LoadCause::Read(ReadFault::Stray(token.start))),
+        None => LineRead::Clause(read),
+    }
+}
+
+/// What is read of a line with these tokens.
+fn tokens_line(
+    alloc: Global,
+    ops: &Ops,
+    names: &mut Names,
+    line: &[u8],
+    tokens: &Tokens,
+) -> Result<LineRead, AllocError>
+    requires short { length line.now ≤ MAX_LINE }
+    requires tokens { HasTokens line.now tokens.now }
+    requires some { 0 < length tokens.now }
+    requires room { length names.old + length line.now < MOST_NAMES }
+    requires standard { length standard_names ≤ length names.old }
+    ensures names { GrowsBy (length line.now) names.old names.new }
+    ensures line { IfOk result (λ l. Lasting names.new (λ n. (reader : Reader n) →
+        l ≡ line_of tokens.now (reader.clause ops.now line.now tokens.now 0))) }
+    ensures named { IfOk result (LineIsNamed (length names.new)) }
+{
+    ops.has_no_clash();
+    match read_clause(alloc, ops, names, line, tokens, 0) {
+        Ok(read) => Ok(whole_line(read, tokens.as_slice())),
+        Err(fault) => bad_reading(fault),
+    }
+}
+
+/// What is read of a line with these bytes.
+fn text_line(
+    alloc: Global,
+    ops: &Ops,
+    names: &mut Names,
+    line: &[u8],
+) -> Result<LineRead, AllocError>
+    requires short { length line.now ≤ MAX_LINE }
+    requires room { length names.old + length line.now < MOST_NAMES }
+    requires standard { length standard_names ≤ length names.old }
+    ensures names { GrowsBy (length line.now) names.old names.new }
+    ensures line { IfOk result (λ l. Lasting names.new (λ n. (reader : Reader n) →
+        l ≡ line_from reader ops.now line.now (reader.division line.now))) }
+    ensures named { IfOk result (LineIsNamed (length names.new)) }
+{
+    match tokens(alloc, line) {
+        Ok(tokens) => {
+            if tokens.as_slice().is_empty() {
+                return Ok(LineRead::Empty);
+            }
+            tokens_line(alloc, ops, names, line, &tokens)
+        }
+        Err(fault) => bad_division(fault),
+    }
+}
+
+/// What is read of a line, by these operators.
+///
+/// # Errors
+///
+/// Where there was no memory; then, too, the names have only grown.
+pub fn read_line(
+    alloc: Global,
+    ops: &Ops,
+    names: &mut Names,
+    line: &Line,
+) -> Result<LineRead, AllocError>
+    requires fits { LineFits (length names.old) line.now }
+    requires standard { length standard_names ≤ length names.old }
+    ensures names { LineGrows line.now names.old names.new }
+    ensures line { IfOk result (λ l. Lasting names.new (λ n. (reader : Reader n) →
+        l ≡ line_in reader ops.now line.now)) }
+    ensures named { IfOk result (LineIsNamed (length names.new)) }
+{
+    match line {
+        Line::Text(text) => text_line(alloc, ops, names, text.bytes()),
+        Line::TooLong => Ok(LineRead::TooLong),
+    }
+}

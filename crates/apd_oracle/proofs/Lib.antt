@@ -1,0 +1,5 @@
+pub mod Truths
+pub mod Listing
+pub mod Fitting
+pub mod Hearing
+pub mod Waiting

@@ -1,0 +1,4 @@
+pub mod Truths
+pub mod Replies
+pub mod Waiting
+pub mod Dialogue

@@ -1,0 +1,49 @@
+-- What the lines mean while a question waits for its reply.
+use Rattle.std.specs.Prelude.{ℕ, List, []}
+use Rattle.apd_answers.specs.declared.question.Asked.{Asked}
+use Rattle.apd_answers.specs.declared.question.Question.{Question}
+use Rattle.apd_answers.specs.declared.question.Reply.{Reply}
+use Rattle.apd_console.specs.Lines.{Close}
+use Rattle.apd_console.specs.declared.line.Line.{Line}
+use Rattle.apd_ops.specs.Table.{Table}
+use Rattle.apd_read.specs.Reader.{Reader}
+use Rattle.apd_text.specs.declared.entry.Entry.{Entry}
+use Rattle.apd_text.specs.declared.entry.Entry.TheVariants.{BadReply, Question as Asks}
+use Rattle.apd_talk.specs.Awaiting.{Hearing, Turn, Again, Then, await, says_first}
+use Rattle.apd_talk.specs.Speech.{one}
+use Rattle.apd_talk.specs.Talk.{Said}
+use Rattle.apd_lines.specs.Lines.{line_in}
+use Rattle.apd_oracle.specs.Replies.{spoken_of}
+use Rattle.apd_oracle.specs.declared.spoken.Spoken.{Spoken}
+use Rattle.apd_oracle.specs.declared.spoken.Spoken.TheVariants as spoken
+
+-- what comes after a question: after each reply, after the words that stop the diagnosis or end the session, and where no line is left
+pub record Afterwards : Type 0 where
+  pub replied : Reply → Hearing Entry
+  pub stopped : Hearing Entry
+  pub quit : Hearing Entry
+  pub closed : Close → Said Entry
+
+-- a reply or a word goes on so; a line that is neither is refused, and the question stands; nothing is said to a line without a token
+abbrev pub turn_of : Table → List (List ℕ) → Afterwards → Spoken → Turn Entry
+turn_of ops names after spoken.Nothing = Again []
+turn_of ops names after (spoken.Reply r) = Then (after.replied r)
+turn_of ops names after spoken.Stop = Then after.stopped
+turn_of ops names after spoken.Quit = Then after.quit
+turn_of ops names after (spoken.Bad reason) = Again (one (BadReply reason) ops names)
+
+-- what the lines mean, by the operators and the names that they are answered with, a reader of texts under these names, and what
+-- comes afterwards
+abbrev pub Course : Type 0
+Course = Table → (names : List (List ℕ)) → Reader names → Afterwards → Hearing Entry
+
+abbrev pub turn_at : Question → Table → (names : List (List ℕ)) → Reader names → Afterwards → Line → Turn Entry
+turn_at question ops names reader after line = turn_of ops names after (spoken_of question (line_in reader ops line))
+
+-- this question waits
+abbrev pub waiting : Question → Course
+waiting question ops names reader after = await (turn_at question ops names reader after) after.closed
+
+-- the question is said, and waits
+abbrev pub asking : ℕ → Asked → Course
+asking number asked ops names reader after = says_first (one (Asks number asked) ops names) (waiting asked.question ops names reader after)

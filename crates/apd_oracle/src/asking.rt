@@ -1,0 +1,148 @@
+// A question that is asked, and the lines that are heard till one is a reply.
+ghost use Rattle.std.specs.Prelude.{◌≡◌, ◌<◌, ◌≤◌, length, IfOk, IfSome, OnOk};
+ghost use Rattle.apd_answers.specs.Oracle.{asking};
+ghost use Rattle.apd_answers.specs.Questions.{FitsAsked};
+ghost use Rattle.apd_console.specs.Console.{room_of};
+ghost use Rattle.apd_talk.specs.Moment.{moment};
+ghost use Rattle.apd_talk.specs.Speech.{spoken};
+ghost use Rattle.apd_term.specs.StandardNames.{standard_names};
+ghost use Rattle.apd_oracle.specs.Dialogue.{Calls, CanHear, HasFaults, HasHeard, Hears, HearsOne, IsReply, SaysReply, end_of_line, end_of_trouble};
+ghost use Rattle.apd_oracle.specs.Waiting.{waiting};
+
+use crate::spoken::{Spoken, spoken_of};
+use apd_answers::{AskEnd, Asked, Question, Reply};
+use apd_console::{Console, LineEnd};
+use apd_io::{Sink, Source};
+use apd_lines::read_line;
+use apd_talk::{Trouble, say_kept};
+use apd_text::{Entry, Log};
+use std::alloc::Global;
+
+/// Why there is no reply, where no line is heard.
+fn end_of_line(end: LineEnd) -> AskEnd
+    ensures { result ≡ end_of_line end }
+{
+    match end {
+        LineEnd::Ended => AskEnd::Ended,
+        LineEnd::ReadFault => AskEnd::ReadFault,
+        LineEnd::InputLimit => AskEnd::InputLimit,
+        LineEnd::Memory => AskEnd::Memory,
+    }
+}
+
+/// Why there is no reply, where nothing more can be said.
+fn end_of_trouble(trouble: Trouble) -> AskEnd
+    ensures { result ≡ end_of_trouble trouble }
+{
+    match trouble {
+        Trouble::WriteFault => AskEnd::WriteFault,
+        Trouble::Memory => AskEnd::Memory,
+    }
+}
+
+/// Hears one line, and refuses it if it is no reply.
+fn hear_one<S: Source, K: Sink>(
+    alloc: Global,
+    question: &Question,
+    console: &mut Console,
+    source: &mut S,
+    sink: &mut K,
+    log: &mut Log,
+) -> Result<Option<Reply>, AskEnd>
+    requires { CanHear (moment S.Source K.Sink console.old source.old log.old sink.old) }
+    ensures heard { HasHeard HearsOne (waiting question.now)
+        (moment S.Source K.Sink console.old source.old log.old sink.old)
+        (moment S.Source K.Sink console.new source.new log.new sink.new) result }
+    ensures reply { IfOk result (λ r. IfSome r (IsReply (length log.new.names) question.now)) }
+    ensures less { OnOk result (room_of console.new < room_of console.old) }
+{
+    let line = match console.line(source) {
+        Ok(line) => line,
+        Err(end) => return Err(end_of_line(end)),
+    };
+    let read = read_line(alloc, &log.ops, &mut log.names, &line)?;
+    match spoken_of(alloc, question, &read)? {
+        Spoken::Nothing => Ok(None),
+        Spoken::Reply(reply) => Ok(Some(reply)),
+        Spoken::Stop => Err(AskEnd::Stopped),
+        Spoken::Quit => Err(AskEnd::Quit),
+        Spoken::Bad(reason) => match say_kept(alloc, sink, log, Entry::BadReply { reason }) {
+            Ok(()) => Ok(None),
+            Err(trouble) => Err(end_of_trouble(trouble)),
+        },
+    }
+}
+
+/// Hears lines till one is a reply.
+fn hear_reply<S: Source, K: Sink>(
+    alloc: Global,
+    question: &Question,
+    console: &mut Console,
+    source: &mut S,
+    sink: &mut K,
+    log: &mut Log,
+) -> Result<Reply, AskEnd>
+    requires { CanHear (moment S.Source K.Sink console.old source.old log.old sink.old) }
+    ensures heard { HasHeard Hears (waiting question.now)
+        (moment S.Source K.Sink console.old source.old log.old sink.old)
+        (moment S.Source K.Sink console.new source.new log.new sink.new) result }
+    ensures reply { IfOk result (IsReply (length log.new.names) question.now) }
+{
+    'lines: loop {
+        if let Some(reply) = hear_one(alloc, question, console, source, sink, log)? {
+            return Ok(reply);
+        }
+    }
+}
+
+/// Says a question, where so many were asked before, and hears lines till one is a reply.
+pub(crate) fn ask_question<S: Source, K: Sink>(
+    alloc: Global,
+    count: u64,
+    asked: &Asked,
+    console: &mut Console,
+    source: &mut S,
+    sink: &mut K,
+    log: &mut Log,
+) -> Result<Reply, AskEnd>
+    requires { CanHear (moment S.Source K.Sink console.old source.old log.old sink.old) }
+    ensures calls { Calls (asking asked.now result) count
+        (moment S.Source K.Sink console.old source.old log.old sink.old)
+        (moment S.Source K.Sink console.new source.new log.new sink.new) }
+    ensures faults { HasFaults
+        (moment S.Source K.Sink console.old source.old log.old sink.old)
+        (moment S.Source K.Sink console.new source.new log.new sink.new) result }
+    ensures fits { IfOk result (λ r. FitsAsked asked.now r) }
+{
+    console.keeps_its_limits();
+    let entry = Entry::Question {
+        number: count.saturating_add(1),
+        asked: Asked {
+            question: asked.question.copy(alloc)?,
+            suspects: asked.suspects,
+        },
+    };
+    match say_kept(alloc, sink, log, entry) {
+        Ok(()) => hear_reply(alloc, &asked.question, console, source, sink, log),
+        Err(trouble) => Err(end_of_trouble(trouble)),
+    }
+}
+
+/// Says a reply.
+pub(crate) fn tell_reply<K: Sink>(
+    alloc: Global,
+    reply: &Reply,
+    left: Option<u32>,
+    sink: &mut K,
+    log: &mut Log,
+) -> Result<(), AskEnd>
+    requires { length standard_names ≤ length log.old.names }
+    ensures { SaysReply reply.now left
+        (spoken K.Sink log.old sink.old) (spoken K.Sink log.new sink.new) result }
+{
+    let reply = reply.copy(alloc)?;
+    match say_kept(alloc, sink, log, Entry::Replied { reply, left }) {
+        Ok(()) => Ok(()),
+        Err(trouble) => Err(end_of_trouble(trouble)),
+    }
+}

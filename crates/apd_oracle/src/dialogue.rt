@@ -1,0 +1,120 @@
+//! Whoever is asked by lines.
+ghost use Rattle.std.specs.Prelude.{◌≡◌, ◌<◌, ◌≤◌, ◌+◌, length, None};
+ghost use Rattle.apd_answers.specs.Oracle.{end_after};
+ghost use Rattle.apd_base.specs.declared.limits.TheConstants.{MOST_NAMES};
+ghost use Rattle.apd_console.specs.Console.{room_of};
+ghost use Rattle.apd_term.specs.StandardNames.{standard_names};
+
+use crate::asking::{ask_question, tell_reply};
+use apd_answers::{AskEnd, Asked, Oracle, Reply};
+use apd_console::Console;
+use apd_io::{Sink, Source};
+use apd_text::Log;
+use std::alloc::Global;
+
+/// Whoever is asked by lines: questions go to a sink, replies are lines of a source, and both are kept in a log.
+///
+/// The names of the log, and the bytes that the console may still hand out, are together fewer than names may be.
+#[derive(Drop)]
+pub struct Dialogue<'c, 's, 'k, 'l, S: Source, K: Sink> {
+    alloc: Global,
+    /// How many questions were asked, as far as a u64 goes.
+    pub asked: u64,
+    pub console: &'c mut Console,
+    pub source: &'s mut S,
+    pub sink: &'k mut K,
+    pub log: &'l mut Log,
+    /// Why the last question had no reply, if that ended the dialogue.
+    pub end: Option<AskEnd>,
+    pub ghost fits: { length log.now.names + room_of console.now < MOST_NAMES },
+    pub ghost standard: { length standard_names ≤ length log.now.names },
+}
+
+impl<'c, 's, 'k, 'l, S: Source, K: Sink> Dialogue<'c, 's, 'k, 'l, S, K> {
+    /// A dialogue in which so many questions were asked before.
+    pub fn new(
+        alloc: Global,
+        asked: u64,
+        console: &'c mut Console,
+        source: &'s mut S,
+        sink: &'k mut K,
+        log: &'l mut Log,
+    ) -> Dialogue<'c, 's, 'k, 'l, S, K>
+        requires fits { length log.old.names + room_of console.old < MOST_NAMES }
+        requires standard { length standard_names ≤ length log.old.names }
+        ensures asked { result.asked ≡ asked }
+        ensures console { (result.console.ghost_name ≡ console.entry.ghost_name)
+            × (result.console.now ≡ console.old) }
+        ensures source { (result.source.ghost_name ≡ source.entry.ghost_name)
+            × (result.source.now ≡ source.old) }
+        ensures sink { (result.sink.ghost_name ≡ sink.entry.ghost_name)
+            × (result.sink.now ≡ sink.old) }
+        ensures log { (result.log.ghost_name ≡ log.entry.ghost_name)
+            × (result.log.now ≡ log.old) }
+        ensures end { result.end ≡ None }
+    {
+        Dialogue {
+            alloc,
+            asked,
+            console,
+            source,
+            sink,
+            log,
+            end: None,
+        }
+    }
+}
+
+impl<S: Source, K: Sink> Oracle for Dialogue<'_, '_, '_, '_, S, K> {
+    ghost use Rattle.apd_oracle.specs.Dialogue.{Calls, counted};
+    ghost use Rattle.apd_talk.specs.Moment.{moment};
+
+    ghost end = { λ d. d.end };
+
+    ghost read_faults = { λ d. S.faults d.source.now };
+
+    ghost write_faults = { λ d. K.faults d.sink.now };
+
+    ghost step = { λ d call e. (e.console.ghost_name ≡ d.console.ghost_name)
+        × (e.source.ghost_name ≡ d.source.ghost_name)
+        × (e.sink.ghost_name ≡ d.sink.ghost_name)
+        × (e.log.ghost_name ≡ d.log.ghost_name)
+        × (e.asked ≡ counted call d.asked)
+        × Calls call d.asked
+        (moment S.Source K.Sink d.console.now d.source.now d.log.now d.sink.now)
+        (moment S.Source K.Sink e.console.now e.source.now e.log.now e.sink.now) };
+
+    fn ask(&mut self, asked: &Asked) -> Result<Reply, AskEnd> {
+        let count = self.asked;
+        self.asked = count.saturating_add(1);
+        let answer = ask_question(
+            self.alloc,
+            count,
+            asked,
+            self.console,
+            self.source,
+            self.sink,
+            self.log,
+        );
+        self.end = end_after(self.end, &answer);
+        answer
+    }
+
+    fn told(&mut self, reply: &Reply, left: Option<u32>) -> Result<(), AskEnd> {
+        self.console.keeps_its_limits();
+        let answer = tell_reply(self.alloc, reply, left, self.sink, self.log);
+        self.end = end_after(self.end, &answer);
+        answer
+    }
+}
+
+/// An oracle's end after a call.
+fn end_after<T>(end: Option<AskEnd>, answer: &Result<T, AskEnd>) -> Option<AskEnd>
+    ensures { result ≡ end_after answer.now end }
+{
+    match answer {
+        Ok(_) => end,
+        Err(AskEnd::Memory) => end,
+        Err(fault) => Some(*fault),
+    }
+}

@@ -1,0 +1,129 @@
+// What a line says in the place of a reply.
+ghost use Rattle.std.specs.Prelude.{◌≡◌, IfOk};
+ghost use Rattle.apd_oracle.specs.Replies.{reply_spoken, spoken_of, term_spoken, told, values_told, word_told};
+
+use crate::elements::listed;
+use crate::values::values_spoken;
+use apd_answers::{Question, Reply};
+use apd_lines::LineRead;
+use apd_term::standard::{NO, QUIT, STOP, YES};
+use apd_term::{Flat, Pred};
+use apd_text::Reason;
+use std::alloc::{AllocError, Global};
+
+/// What a line says in the place of a reply.
+#[derive(Drop)]
+pub enum Spoken {
+    /// The line has no token.
+    Nothing,
+    /// It is this reply.
+    Reply(Reply),
+    /// The diagnosis is to stop.
+    Stop,
+    /// The session is to end.
+    Quit,
+    /// It is none of these, and why.
+    Bad(Reason),
+}
+
+/// The reply that a word is.
+fn word_told(term: &Flat) -> Option<Reply>
+    ensures { result ≡ word_told term.now }
+{
+    match term.pred() {
+        Some(
+            Pred {
+                name: YES,
+                arity: 0,
+            },
+        ) => Some(Reply::Yes),
+        Some(Pred { name: NO, arity: 0 }) => Some(Reply::No),
+        _ => None,
+    }
+}
+
+/// The reply that `no`, or `yes` of a list of values, is.
+fn values_told(alloc: Global, term: &Flat) -> Result<Option<Reply>, AllocError>
+    ensures { IfOk result (λ r. r ≡ values_told term.now) }
+{
+    match term.pred() {
+        Some(Pred { name: NO, arity: 0 }) => Ok(Some(Reply::No)),
+        Some(
+            Pred {
+                name: YES,
+                arity: 1,
+            },
+        ) => {
+            let list = term.arg(alloc, 0)?;
+            Ok(listed(alloc, &list)?.map(Reply::Values))
+        }
+        _ => Ok(None),
+    }
+}
+
+/// The reply that a term is to a question of this kind.
+fn told(alloc: Global, question: &Question, term: &Flat) -> Result<Option<Reply>, AllocError>
+    ensures { IfOk result (λ r. r ≡ told question.now term.now) }
+{
+    match question {
+        Question::True(_) | Question::Below(_, _) => Ok(word_told(term)),
+        Question::Covers(_) => values_told(alloc, term),
+    }
+}
+
+/// What a reply, if there is one, says in the place of one to this question.
+fn reply_spoken(
+    alloc: Global,
+    question: &Question,
+    reply: Option<Reply>,
+) -> Result<Spoken, AllocError>
+    ensures { IfOk result (λ s. s ≡ reply_spoken question.now reply) }
+{
+    match (question, reply) {
+        (_, None) => Ok(Spoken::Bad(Reason::NotAReply)),
+        (Question::Covers(tuple), Some(Reply::Values(values))) => {
+            values_spoken(alloc, tuple, values)
+        }
+        (_, Some(reply)) => Ok(Spoken::Reply(reply)),
+    }
+}
+
+/// What a term says.
+fn term_spoken(alloc: Global, question: &Question, term: &Flat) -> Result<Spoken, AllocError>
+    ensures { IfOk result (λ s. s ≡ term_spoken question.now term.now) }
+{
+    match term.pred() {
+        Some(
+            Pred {
+                name: STOP,
+                arity: 0,
+            },
+        ) => Ok(Spoken::Stop),
+        Some(
+            Pred {
+                name: QUIT,
+                arity: 0,
+            },
+        ) => Ok(Spoken::Quit),
+        _ => {
+            let reply = told(alloc, question, term)?;
+            reply_spoken(alloc, question, reply)
+        }
+    }
+}
+
+/// What a line, of which this was read, says in the place of a reply to this question.
+///
+/// # Errors
+///
+/// Where there was no memory.
+pub fn spoken_of(alloc: Global, question: &Question, read: &LineRead) -> Result<Spoken, AllocError>
+    ensures { IfOk result (λ s. s ≡ spoken_of question.now read.now) }
+{
+    match read {
+        LineRead::Empty => Ok(Spoken::Nothing),
+        LineRead::TooLong => Ok(Spoken::Bad(Reason::TooLong)),
+        LineRead::Bad(_) => Ok(Spoken::Bad(Reason::Syntax)),
+        LineRead::Clause(read) => term_spoken(alloc, question, &read.term),
+    }
+}

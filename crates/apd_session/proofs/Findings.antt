@@ -1,0 +1,184 @@
+-- What a session says is right: by its lines, and then for the whole.
+use Rattle.std.proofs.Common.{◌≡◌, ℕ, Bool, true, false, List, [], ◌∷◌, ◌++◌, length, Option, Some, None, Result, Ok, Err, refl, sym, ◌∙◌, ap, subst, append_assoc}
+use borrow.Author.Tests.{ltb-false}
+use Rattle.std.specs.Prelude.{All, if◌then◌else◌, nat_lt, ℤ}
+use Rattle.apd_causes.specs.declared.faults.BodyFault.{BodyFault}
+use Rattle.apd_causes.specs.declared.reading.Read.{Read}
+use Rattle.apd_causes.specs.declared.run.Query.{Query}
+use Rattle.apd_term.specs.Term.{predicate_of}
+use Rattle.apd_term.specs.declared.term.Pred.{Pred}
+use Rattle.apd_term.specs.declared.standard.TheConstants.{QUERY, QUIT, WRONG}
+use Rattle.apd_clauses.specs.declared.clause.Clause.{Clause}
+use Rattle.apd_clauses.specs.Clauses.{IsAtom, IsProgram, is_pred}
+use Rattle.apd_clauses.specs.Kinds.{◌∕◌}
+use Rattle.apd_clauses.specs.Queries.{query_from}
+use Rattle.apd_clauses.proofs.Asked.{query_is_pure}
+use Rattle.apd_clauses.proofs.Indexing.{same_pred-true}
+use Rattle.apd_clauses.proofs.Pure.{goals_are_atoms}
+use Rattle.apd_console.specs.Lines.{Close, InputEnd, hear}
+use Rattle.apd_console.specs.declared.line.Line.{Line}
+use Rattle.apd_answers.specs.Interpretation.{Interpretation}
+use Rattle.apd_divide.specs.declared.node.Strategy.{Strategy}
+use Rattle.apd_divide.specs.Tree.{Tree}
+use Rattle.apd_load.specs.declared.Note.{Note}
+use Rattle.apd_load.specs.Program.{Loads, refused, loads, program_of}
+use Rattle.apd_load.specs.Warnings.{warnings_of}
+use Rattle.apd_load.specs.Programs.{IsProgramIn}
+use Rattle.apd_load.proofs.Programs.{loaded_is_program}
+use Rattle.apd_ops.specs.Table.{Table}
+use Rattle.apd_read.specs.Reader.{Reader}
+use Rattle.apd_lines.specs.Lines.{line_in}
+use Rattle.apd_lines.specs.declared.lines.LineRead.{LineRead}
+use Rattle.apd_lines.specs.declared.lines.LineRead.TheVariants as lines
+use Rattle.apd_talk.specs.Talk.{Step, onto, run, replies}
+use Rattle.apd_talk.specs.declared.talk.Ending.TheVariants.{Done}
+use Rattle.apd_talk.specs.Utterance.{Utterance, entries_of}
+use Rattle.apd_talk.proofs.Uttering.{entries_of-append}
+use Rattle.apd_talk.specs.Speech.{plain}
+use Rattle.apd_text.specs.declared.entry.Entry.{Entry}
+use Rattle.apd_text.specs.declared.entry.Entry.TheVariants.{FileTooLong, InputFault, Loaded}
+use Rattle.apd_text.specs.declared.entry.Refusal.TheVariants.{NotACommand}
+use Rattle.apd_account.specs.Account.{Account, first_account, after_entries}
+use Rattle.apd_account.specs.Right.{AreRight}
+use Rattle.apd_account.proofs.Fronts.{right-append}
+use Rattle.apd_commands.specs.Commands.{command_in, command_of, integer_at, query_asked, term_asked, wrong_asked}
+use Rattle.apd_commands.specs.declared.commands.Command.TheVariants as command
+use Rattle.apd_debug.specs.Stand.{Mode, Ready, Asking}
+use Rattle.apd_oracle.specs.Replies.{spoken_of}
+use Rattle.apd_oracle.proofs.Fitting.{reply_fits}
+use Rattle.apd_words.specs.Words.{Options, options_of}
+use Rattle.apd_session.specs.Headline.{AreRightFor}
+use Rattle.apd_session.specs.Outcome.{IsFileLoad}
+use Rattle.apd_session.specs.Session.{World, FileLoad, Gives, Faults, after_load, after_options, after_words, first_state, says_one, session_of}
+use Rattle.apd_session.specs.Steps.{Situation, load_said, ready_in, remarks, step_for, talker}
+use Rattle.apd_session.specs.declared.status.Status.TheVariants as status
+use Rattle.apd_session.specs.declared.notes.Noted.TheVariants as noted
+use Rattle.apd_session.proofs.Righting.{IsMode, Stands, IsStep, command-step, reply-step, closing-right, remarks-right}
+
+-- A query that is asked has atoms as its goals.
+
+query_in : (r : Result Query BodyFault) (q : Query) → query_asked r ≡ command.Query q → r ≡ Ok q
+query_in (Err fault) q is = absurd (cc)
+query_in (Ok p) q is = cc
+
+not_wrong : (b k : Option ℤ) (q : Query) → wrong_asked b k ≡ command.Query q → ⊥
+not_wrong None k q is = cc
+not_wrong (Some b) None q is = cc
+not_wrong (Some b) (Some k) q is = cc
+
+is_predicate : (o : Option Pred) (p : Pred) → is_pred o p ≡ true → o ≡ Some p
+is_predicate None p is = absurd (cc)
+is_predicate (Some x) p is = ap Some (same_pred-true x p is)
+
+term_atoms : (r : Read) (q : Query) → term_asked r (predicate_of r.term) ≡ command.Query q → All IsAtom q.tuple.body
+term_atoms r q is = by (is_pred (predicate_of r.term) (QUIT ∕ 0)) (is_pred (predicate_of r.term) (QUERY ∕ 1)) (is_pred (predicate_of r.term) (WRONG ∕ 2)) refl is
+  where
+    by : (a b c : Bool) → is_pred (predicate_of r.term) (QUERY ∕ 1) ≡ b
+        → (if a then command.Quit else (if b then query_asked (query_from r) else (if c then wrong_asked (integer_at r.term 0) (integer_at r.term 1) else command.Refused NotACommand))) ≡ command.Query q
+        → All IsAtom q.tuple.body
+    by true b c e h = absurd (cc)
+    by false true c e h = goals_are_atoms q.tuple.body (query_is_pure r q (is_predicate (predicate_of r.term) (QUERY ∕ 1) e) (query_in (query_from r) q h))
+    by false false true e h = absurd (not_wrong (integer_at r.term 0) (integer_at r.term 1) q h)
+    by false false false e h = absurd (cc)
+
+line_atoms : (line : LineRead) (q : Query) → command_of line ≡ command.Query q → All IsAtom q.tuple.body
+line_atoms lines.Empty q is = absurd (cc)
+line_atoms lines.TooLong q is = absurd (cc)
+line_atoms (lines.Bad cause) q is = absurd (cc)
+line_atoms (lines.Clause r) q is = term_atoms r q is
+
+query_atoms : {names : List (List ℕ)} (reader : Reader names) (ops : Table) (line : Line) (q : Query) → command_in reader ops line ≡ command.Query q → All IsAtom q.tuple.body
+unfolding command_in
+query_atoms reader ops line q is = line_atoms (line_in reader ops line) q is
+
+append_twice : {X : Type 0} (xs ys zs us : List X) → (xs ++ (ys ++ zs)) ++ us ≡ xs ++ (ys ++ (zs ++ us))
+append_twice {X} xs ys zs us = append_assoc xs (ys ++ zs) us ∙ ap (λ (l : List X). xs ++ l) (append_assoc ys zs us)
+
+module _ (m : Interpretation) (program : List Clause) (is : IsProgram program) (strategy : Strategy) (names : List (List ℕ)) (reader : Reader names) (ops : Table) where
+  abbrev Right : Account → List (Utterance Entry) → Type 0
+  Right a us = AreRight m program strategy a (entries_of us)
+
+  -- one line
+  line-step : (s : Situation) (a : Account) (line : Line) → Stands m program is strategy s a → IsStep m program is strategy a ((talker reader ops).step s line)
+  line-step s a line h = by s.mode h.mode
+    where
+      by : (mode : Mode Tree) → IsMode m program is strategy mode a → IsStep m program is strategy a (step_for reader ops s.state mode line)
+      by Ready k = command-step m program is strategy ops names s.state a (command_in reader ops line) (λ q e. query_atoms reader ops line q e) h.state
+      by (Asking asked next) k =
+          reply-step m program is strategy ops names s.state a asked next (spoken_of asked.question (line_in reader ops line)) (λ r e. reply_fits asked.question (line_in reader ops line) r e) h.state k
+
+  -- what is said after what is right
+  both-right : (a : Account) (us vs : List (Utterance Entry)) → Right a us → Right (after_entries program a (entries_of us)) vs → Right a (us ++ vs)
+  both-right a us vs r q = subst (AreRight m program strategy a) (sym (entries_of-append us vs)) (right-append m program strategy a (entries_of us) (entries_of vs) r q)
+
+  -- the lines of an input
+  lines-right : (s : Situation) (a : Account) (input : List Line) (close : Close) → Stands m program is strategy s a → Right a (run (talker reader ops) s input close).utterances
+  lines-right s a [] close h = closing-right m program is strategy ops names a s.mode close
+  lines-right s a (line ∷ input) close h =
+      let st = line-step s a line h in
+      by ((talker reader ops).step s line) st (lines-right ((talker reader ops).step s line).next (after_entries program a (entries_of ((talker reader ops).step s line).utterances)) input close st.stands)
+    where
+      by : (step : Step Entry Situation) → IsStep m program is strategy a step → Right (after_entries program a (entries_of step.utterances)) (run (talker reader ops) step.next input close).utterances
+          → Right a (if step.quits then record { utterances = step.utterances; ending = Done } else onto step.utterances (run (talker reader ops) step.next input close)).utterances
+      by step st rest = quits step.quits
+        where
+          quits : (b : Bool) → Right a (if b then record { utterances = step.utterances; ending = Done } else onto step.utterances (run (talker reader ops) step.next input close)).utterances
+          quits true = st.right
+          quits false = both-right a step.utterances (run (talker reader ops) step.next input close).utterances st.right rest
+
+  conversation-right : (s : Situation) (a : Account) (room : ℕ) (input : List ℕ) (ends : InputEnd) → Stands m program is strategy s a → Right a (replies (talker reader ops) s room input ends).utterances
+  unfolding replies
+  conversation-right s a room input ends h = lines-right s a (hear room input ends).lines (hear room input ends).close h
+
+  -- what is said of a program, and then
+  opening-right : (passed called : List Note) (us : List (Utterance Entry)) → Right first_account us → Right first_account (load_said ops names program passed called ++ us)
+  unfolding load_said
+  opening-right passed called us r =
+      let last = plain ops names (Loaded (length program)) in
+      subst (Right first_account) (sym (append_twice (remarks ops names noted.PassedOver passed) (remarks ops names noted.Called called) (last ∷ []) us))
+      (remarks-right m program is strategy ops names first_account noted.PassedOver passed (remarks ops names noted.Called called ++ (last ∷ us))
+      (remarks-right m program is strategy ops names first_account noted.Called called (last ∷ us) (tt, r)))
+
+-- Each session.
+
+first_stands : (m : Interpretation) (options : Options) (program : List Clause) (is : IsProgram program)
+    → Stands m program is (first_state program options).strategy (ready_in (first_state program options)) first_account
+first_stands m options program is = record {
+  state = record { program_is = refl; strategy_is = refl; pairs_are = refl; last = tt };
+  mode = tt;
+}
+
+module _ (m : Interpretation) {names : List (List ℕ)} (reader : Reader names) (options : Options) where
+  loaded-right : (input : List ℕ) (ends : InputEnd) (o : Loads) → IsProgramIn o → AreRightFor m options (entries_of (after_load reader options input ends o).utterances) o
+  loaded-right input ends (refused line cause) is = tt
+  loaded-right input ends (loads l) is =
+      let strategy = (first_state l.program options).strategy in
+      opening-right m l.program is strategy names reader l.ops l.passed (warnings_of l.program) (replies (talker reader l.ops) (ready_in (first_state l.program options)) 16777216 input ends).utterances
+      (conversation-right m l.program is strategy names reader l.ops (ready_in (first_state l.program options)) first_account 16777216 input ends (first_stands m options l.program is))
+
+  -- one thing is said of a file
+  fault-right : (o : Loads) → AreRightFor m options (InputFault ∷ []) o
+  fault-right (refused line cause) = tt
+  fault-right (loads l) = (tt, tt)
+
+  long-right : (n : ℕ) (o : Loads) → AreRightFor m options (FileTooLong n ∷ []) o
+  long-right n (refused line cause) = tt
+  long-right n (loads l) = (tt, tt)
+
+  text-right : (world : World) (text : List ℕ) → AreRightFor m options (entries_of (after_words reader world options (Gives text)).utterances) (program_of reader text)
+  text-right world text = by (nat_lt 1048576 (length text)) refl
+    where
+      by : (b : Bool) → nat_lt 1048576 (length text) ≡ b
+          → AreRightFor m options (entries_of (if b then says_one names (FileTooLong 1048577) status.FileTooLong else after_load reader options world.input world.ends (program_of reader text)).utterances) (program_of reader text)
+      by true long = long-right 1048577 (program_of reader text)
+      by false short = loaded-right world.input world.ends (program_of reader text) (loaded_is_program names reader text (ltb-false 1048576 (length text) short))
+
+  file-right : (world : World) (text : List ℕ) (file : FileLoad) → IsFileLoad (Some text) file → AreRightFor m options (entries_of (after_words reader world options file).utterances) (program_of reader text)
+  file-right world text Faults h = fault-right (program_of reader text)
+  file-right world text (Gives bytes) h = subst (λ t. AreRightFor m options (entries_of (after_words reader world options (Gives t)).utterances) (program_of reader text)) (sym h) (text-right world text)
+
+-- whatever the load of a file gives that has this text
+pub session-right : (m : Interpretation) (words names : List (List ℕ)) (reader : Reader names) (world : World) (options : Options) (text : List ℕ) → options_of words ≡ Some options
+    → IsFileLoad (Some text) world.program → AreRightFor m options (entries_of (session_of words reader world).utterances) (program_of reader text)
+session-right m words names reader world options text named file =
+    subst (λ o. AreRightFor m options (entries_of (after_options reader world o).utterances) (program_of reader text)) (sym named) (file-right m reader options world text world.program file)

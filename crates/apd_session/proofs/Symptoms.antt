@@ -1,0 +1,240 @@
+-- What a session says where a user tells that an exit isn't true.
+use Rattle.std.proofs.Common.{◌≡◌, ℕ, zero, suc, ◌+◌, ◌<◌, ◌≤◌, List, [], ◌∷◌, length, refl, sym, ap, ◌∙◌, subst, arith, Bool, true, false, Option, Some, None}
+use Rattle.std.specs.Prelude.{ℤ, Result, Ok, Err, IfOk, IfSome, OnOk, slice_get}
+use Rattle.apd_answers.specs.Store.{with_pair}
+use Rattle.apd_answers.specs.declared.finding.Finding.{Finding}
+use Rattle.apd_answers.specs.declared.oracle.AskEnd.{AskEnd}
+use Rattle.apd_answers.specs.declared.question.Question.TheVariants.{True}
+use Rattle.apd_answers.specs.declared.question.Reply.TheVariants.{No}
+use Rattle.apd_answers.specs.declared.store.Pair.{Pair}
+use Rattle.apd_clauses.specs.Clauses.{tuples_of}
+use Rattle.apd_clauses.specs.declared.clause.Clause.{Clause}
+use Rattle.apd_commands.specs.declared.commands.Command.{Command}
+use Rattle.apd_commands.specs.declared.commands.Command.TheVariants as commands
+use Rattle.apd_console.specs.Console.{IsKept, room_of}
+use Rattle.apd_debug.specs.Diagnosed.{Diagnosed, SaysEnd, SaysEndIf, SaysLast, is_said, last_entry, next_after, trouble_of}
+use Rattle.apd_debug.specs.NamedTrees.{AllPointsNamed, RecordIsNamed}
+use Rattle.apd_debug.specs.Stand.{ready}
+use Rattle.apd_debug.specs.Steps.{says_before}
+use Rattle.apd_debug.proofs.Bridging.{Diagnosed-more}
+use Rattle.apd_debug.proofs.LastWords.{Breaks-before, Talks-before, last_on, said_at}
+use Rattle.apd_debug.proofs.NamedTrees.{run_record-named}
+use Rattle.apd_divide.specs.Exits.{IsLabelled, IsUserExit}
+use Rattle.apd_divide.specs.Recorded.{tree}
+use Rattle.apd_divide.specs.Tree.{Tree}
+use Rattle.apd_lines.proofs.Growing.{Grown-length, Grown-more, Grown-same}
+use Rattle.apd_ops.specs.Table.{Table}
+use Rattle.apd_ports.specs.declared.point.Point.{Point}
+use Rattle.apd_query.specs.Running.{IsReady, IsRunOf}
+use Rattle.apd_query.specs.Runs.{run_for}
+use Rattle.apd_query.specs.declared.state.LastRun.{LastRun}
+use Rattle.apd_query.specs.declared.state.State.{State}
+use Rattle.apd_read.specs.Reader.{Reader}
+use Rattle.apd_record.specs.Reading.{point_of}
+use Rattle.apd_record.specs.Recorded.{Recorded, point_at}
+use Rattle.apd_symptoms.specs.Symptoms.{exit_of, line_found}
+use Rattle.apd_talk.specs.Moment.{Keeps, Moment, place}
+use Rattle.apd_talk.specs.Speech.{Says, Speech, Spoken, begun, one, plain}
+use Rattle.apd_talk.specs.Talk.{Breaks, Meaning, Place, Talks, after_step}
+use Rattle.apd_talk.specs.Utterance.{Utterance, Utters, UttersFront}
+use Rattle.apd_talk.specs.declared.talk.Next.{Next}
+use Rattle.apd_talk.specs.declared.talk.Next.TheVariants.{Goes}
+use Rattle.apd_talk.specs.declared.talk.Trouble.{Trouble}
+use Rattle.apd_talk.proofs.Speaking.{Says-err, Says-ok, says_later, says_rose}
+use Rattle.apd_talk.proofs.Talking.{Talks-more}
+use Rattle.apd_term.specs.Growth.{Grown}
+use Rattle.apd_term.specs.Named.{IsNamed, TupleIsNamed}
+use Rattle.apd_term.specs.Term.{Term, variable}
+use Rattle.apd_term.specs.declared.tuple.Tuple.{Tuple}
+use Rattle.apd_term.proofs.Applying.{apply-variable}
+use Rattle.apd_text.specs.declared.entry.Entry.{Entry}
+use Rattle.apd_text.specs.declared.entry.Entry.TheVariants.{Found, Refused, Symptom}
+use Rattle.apd_text.specs.declared.entry.Refusal.{Refusal}
+use Rattle.apd_text.specs.declared.entry.Refusal.TheVariants.{NoRun}
+use Rattle.apd_text.specs.declared.entry.Told.TheVariants.{Wrong}
+use Rattle.apd_wrong.specs.Wrong.{wrong}
+use Rattle.apd_session.specs.Diagnosing.{Answered, Diagnoses, IsDiagnosed, answered}
+use Rattle.apd_session.specs.Steps.{begins_wrong, command_step, found_in, refused, situation, talker, wrong_at, wrong_goes_on, wrong_step}
+use Rattle.apd_session.specs.Turns.{Leads, obeying}
+use Rattle.apd_session.proofs.Turning.{IsReady-more, leads_by}
+
+-- replies don't change what a state is ready for
+abbrev pub with_answers : State → Answered → State
+with_answers s now = record s { replies = now.pairs; asked = now.asked }
+
+last_answered : (n : ℕ) (s : State) (now : Answered) (last : Option LastRun) → IfSome last (IsRunOf n s) → IfSome last (IsRunOf n (with_answers s now))
+last_answered n s now None is = tt
+last_answered n s now (Some run) is = record {
+  runnable = is.runnable;
+  named = is.named;
+  history = record { is = is.history.is; sound = is.history.sound; full = is.history.full };
+  end = is.end;
+}
+
+pub ready_answered : (n : ℕ) (s : State) (now : Answered) → IsReady n s → IsReady n (with_answers s now)
+ready_answered n s now is = record { limits = is.limits; standard = is.standard; named = is.named; last = last_answered n s now s.last is.last }
+
+-- the names of the last run are known
+pub run_named : (n : ℕ) (s : State) (run : LastRun) → s.last ≡ Some run → IsReady n s → RecordIsNamed n run.history
+unfolding run_for
+run_named n s run is ready =
+    let kept : IsRunOf n s run = subst (λ (last : Option LastRun). IfSome last (IsRunOf n s)) is ready.last in
+    rw kept.history.is (run_record-named n (tuples_of s.program) run.query.tuple s.budget s.answers ready.named kept.named)
+
+pub point_named : (n : ℕ) (ps : List Point) (i : ℕ) (p : Point) → slice_get ps i ≡ Some p → AllPointsNamed n ps → TupleIsNamed n p.tuple
+point_named n [] i p there named = absurd (cc)
+point_named n (x ∷ ps) zero p there named = let same : x ≡ p = cc in subst (λ (y : Point). TupleIsNamed n y.tuple) same named.0
+point_named n (x ∷ ps) (suc i) p there named = point_named n ps i p there named.1
+
+-- saying the last words keeps names and operators
+last_keeps_end : (b : Bool) (end : AskEnd) (p q : Spoken) (result : Result Next Trouble) → SaysEndIf b end p q result → (q.log.names ≡ p.log.names) × (q.log.ops ≡ p.log.ops)
+last_keeps_end true end p q result (says, next) = (says.names, says.ops)
+last_keeps_end false end p q result (same, next) = (ap (λ (s : Spoken). s.log.names) same, ap (λ (s : Spoken). s.log.ops) same)
+
+pub last_keeps : {E : Type 0} (found : E → Entry) (answer : Result E AskEnd) (p q : Spoken) (result : Result Next Trouble) → SaysLast found answer p q result → (q.log.names ≡ p.log.names) × (q.log.ops ≡ p.log.ops)
+last_keeps found (Ok e) p q result (says, next) = (says.names, says.ops)
+last_keeps found (Err end) p q result says = last_keeps_end (is_said end) end p q result says
+
+-- a diagnosis after what was said before it
+diagnosed_after : {names : List (List ℕ)} (reader : Reader names) (ops : Table) (s : State) (f g : Meaning Entry) (p q r : Place Entry) (pairs : List Pair) (count : ℕ) (answer : Result Finding AskEnd) → Talks f p q g →
+    Diagnosed (wrong s.strategy) (found_in s.program) (situation s) ops names (talker reader ops) g q r pairs count answer →
+    Diagnosed (wrong s.strategy) (found_in s.program) (situation s) ops names (talker reader ops) f p r pairs count answer
+diagnosed_after {names} reader ops s f g p q r pairs count (Ok e) first second = Talks-more f g _ p q r first second
+diagnosed_after {names} reader ops s f g p q r pairs count (Err end) first second = Diagnosed-more (wrong s.strategy) (found_in s.program) (situation s) ops names (talker reader ops) f g p q r pairs count end first second
+
+leads_ready : (s : State) (before now : List (List ℕ)) (result : Result Next Trouble) → Grown before now → IsReady (length before) s → OnOk result (IsReady (length now) s)
+leads_ready s before now (Ok n) grew is = IsReady-more (length before) (length now) s (Grown-length before now grew) is
+leads_ready s before now (Err t) grew is = tt
+
+-- an exit is named, and its head isn't true
+module _ (s : State) (command : Command) (R : Recorded) (e : ℕ) (a : Term) (is : (ops : Table) (names : List (List ℕ)) → command_step ops names s command ≡ begins_wrong ops names s R e a) (p : Moment) (said : Spoken) (sound : IsKept p.console) where
+  abbrev symptom : Entry
+  symptom = Symptom (Wrong a)
+
+  abbrev replied : List Pair
+  replied = with_pair s.replies (True a) No
+
+  keeps_said : {T : Type 0} (result : Result T Trouble) → Says (one symptom) p.spoken said result → Keeps p (said_at p said)
+  keeps_said result says = record {
+    names = Grown-same p.spoken.log.names said.log.names says.names;
+    few = let l : length said.log.names ≡ length p.spoken.log.names = ap length says.names in omega (arith, l);
+    ops = says.ops;
+    sound = sound;
+  }
+
+  -- it wasn't said to its end
+  pub symptom_breaks : {T : Type 0} (t : State) (trouble : Trouble) → Says {T = T} (one symptom) p.spoken said (Err trouble) → Leads (obeying s command) t p (said_at p said) (Err trouble)
+  symptom_breaks {T} t trouble says = record {
+    keeps = keeps_said {T = T} (Err trouble) says;
+    course = λ names grew reader.
+        let ops : Table = p.spoken.log.ops in
+        let grown : Grown p.spoken.log.names names = subst (λ (l : List (List ℕ)). Grown l names) says.names grew in
+        rw (is ops names)
+        (Breaks-before (talker reader ops) p said (plain ops names symptom ∷ []) (wrong_goes_on ops names s replied s.asked (tree R e a)) trouble
+        (says_later {T = T} (one symptom) p.spoken said (Err trouble) says) (λ w. says_rose {T = T} (one symptom) p.spoken said trouble says w) (says.front names grown));
+    ready = tt;
+  }
+
+  -- it was said, and so was what the diagnosis came to
+  pub wrong_leads : (u : Unit {0}) (q : Moment) (last : Spoken) (now : Answered) (answer : Result Finding AskEnd) (result : Result Next Trouble) → Says (one symptom) p.spoken said (Ok u) →
+      Diagnoses s.strategy (tree R e a) (answered replied s.asked) now (said_at p said) q answer → SaysLast (found_in s.program) answer q.spoken last result →
+      IsReady (length p.spoken.log.names) s → Leads (obeying s command) (with_answers s now) p (said_at q last) result
+  wrong_leads u q last now answer result says diagnosis concludes ready_before =
+      let kept = last_keeps (found_in s.program) answer q.spoken last result concludes in
+      let grew_to : Grown p.spoken.log.names q.spoken.log.names = subst (λ (l : List (List ℕ)). Grown l q.spoken.log.names) says.names diagnosis.keeps.names in
+      let grew_last : Grown p.spoken.log.names last.log.names = subst (λ (l : List (List ℕ)). Grown p.spoken.log.names l) (sym kept.0) grew_to in
+      record {
+        keeps = record {
+          names = grew_last;
+          few =
+              let l : length last.log.names ≡ length q.spoken.log.names = ap length kept.0 in
+              let m : length said.log.names ≡ length p.spoken.log.names = ap length says.names in
+              let d = diagnosis.keeps.few in omega (arith, l, m, d);
+          ops = kept.1 ∙ diagnosis.keeps.ops ∙ says.ops;
+          sound = diagnosis.keeps.sound;
+        };
+        course = λ names grew reader.
+            let ops : Table = p.spoken.log.ops in
+            let on : Grown q.spoken.log.names names = subst (λ (l : List (List ℕ)). Grown l names) kept.0 grew in
+            let grown : Grown p.spoken.log.names names = Grown-more p.spoken.log.names q.spoken.log.names names grew_to on in
+            let st = wrong_goes_on ops names s replied s.asked (tree R e a) in
+            let first : Talks (after_step (talker reader ops) (says_before (plain ops names symptom ∷ []) st)) (place p) (place (said_at p said)) (after_step (talker reader ops) st) =
+            Talks-before (talker reader ops) p said (plain ops names symptom ∷ []) st (says_later (one symptom) p.spoken said (Ok u) says) (says.all names grown) in
+            let second = subst (λ (o : Table). Diagnosed (wrong s.strategy) (found_in s.program) (situation s) o names (talker reader o)
+            (after_step (talker reader o) (wrong_goes_on o names s replied s.asked (tree R e a))) (place (said_at p said)) (place q) now.pairs now.asked answer) says.ops (diagnosis.course names on reader s refl) in
+            rw (is ops names)
+            (last_on (wrong s.strategy) (found_in s.program) (situation s) ops names (talker reader ops) (after_step (talker reader ops) (says_before (plain ops names symptom ∷ []) st)) (place p) q last now.pairs now.asked
+            (diagnosis.keeps.ops ∙ says.ops) on answer result
+            (diagnosed_after reader ops s _ (after_step (talker reader ops) st) (place p) (place (said_at p said)) (place q) now.pairs now.asked answer first second) concludes);
+        ready = leads_ready (with_answers s now) p.spoken.log.names last.log.names result grew_last (ready_answered (length p.spoken.log.names) s now ready_before);
+      }
+
+-- a command that is refused
+pub refused_leads : (s : State) (command : Command) (r : Refusal) (p q : Moment) → q.console ≡ p.console → q.left ≡ p.left → q.read_faults ≡ p.read_faults → ((ops : Table) (names : List (List ℕ)) → command_step ops names s command ≡ refused ops names s r) →
+    IsKept p.console → (result : Result Next Trouble) → Says (one (Refused r)) p.spoken q.spoken result → IfOk result (λ n. n ≡ Goes) → IsReady (length p.spoken.log.names) s → Leads (obeying s command) s p q result
+refused_leads s command r p q console left reads is sound result says goes ready_before =
+    let leads = leads_by (λ ops names. refused ops names s r) p q console left reads sound s result says goes (λ ops names. refl) (λ ops names. refl) ready_before in
+    record { keeps = leads.keeps; course = λ names grew reader. rw (is p.spoken.log.ops names) (leads.course names grew reader); ready = leads.ready }
+
+-- the last words of a diagnosis without a finding
+pub says_end : {U : Type 0} (end : AskEnd) (e : Entry) (p q : Spoken) (u : U) (n : Next) → is_said end ≡ true → e ≡ last_entry end → n ≡ next_after end → Says (one e) p q (Ok u) → SaysEnd end p q (Ok n)
+says_end end e p q u n said entry next says = rw said (Says-ok (one (last_entry end)) p q u n (subst (λ (x : Entry). Says (one x) p q (Ok u)) entry says), next)
+
+pub front_end : {U : Type 0} (end : AskEnd) (e : Entry) (p q : Spoken) (t : Trouble) → is_said end ≡ true → e ≡ last_entry end → Says {T = U} (one e) p q (Err t) → SaysEnd end p q (Err t)
+front_end {U} end e p q t said entry says = rw said (Says-err {T = U} (one (last_entry end)) p q t (subst (λ (x : Entry). Says {T = U} (one x) p q (Err t)) entry says), tt)
+
+pub no_end : (end : AskEnd) (p : Spoken) (t : Trouble) → is_said end ≡ false → t ≡ trouble_of end → SaysEnd end p p (Err t)
+no_end end p t silent why = rw silent (refl, ap (λ (x : Trouble). let r : Result Next Trouble = Err x in r) why)
+
+-- and with one
+pub says_found : {U : Type 0} (program : List Clause) (f : Finding) (line : ℕ) (p q : Spoken) (u : U) → line ≡ line_found program f → Says (one (Found f line)) p q (Ok u) → SaysLast (found_in program) (Ok f) p q (Ok Goes)
+says_found program f line p q u is says = (Says-ok (one (found_in program f)) p q u Goes (subst (λ (l : ℕ). Says (one (Found f l)) p q (Ok u)) is says), refl)
+
+pub front_found : {U : Type 0} (program : List Clause) (f : Finding) (line : ℕ) (p q : Spoken) (t : Trouble) → line ≡ line_found program f → Says {T = U} (one (Found f line)) p q (Err t) → SaysLast (found_in program) (Ok f) p q (Err t)
+front_found {U} program f line p q t is says = (Says-err {T = U} (one (found_in program f)) p q t (subst (λ (l : ℕ). Says {T = U} (one (Found f l)) p q (Err t)) is says), tt)
+
+-- what was said from m was said from p, where they differ by nothing that is said
+pub Says-from : {T : Type 0} (speech : Speech) (p m q : Spoken) (result : Result T Trouble) → m.log.entries.list ≡ p.log.entries.list → m.held ≡ p.held → m.log.names ≡ p.log.names → m.log.ops ≡ p.log.ops → m.write_faults ≡ p.write_faults →
+    Says speech m q result → Says speech p q result
+Says-from speech p m q (Ok t) entries held same ops faults says = record {
+  all = λ names grew. rw (← entries, ← held, ← ops) (says.all names (rw same grew));
+  front = tt;
+  names = says.names ∙ same;
+  ops = says.ops ∙ ops;
+  cause = rw (← faults) says.cause;
+}
+Says-from speech p m q (Err e) entries held same ops faults says = record {
+  all = tt;
+  front = λ names grew. rw (← entries, ← held, ← ops) (says.front names (rw same grew));
+  names = says.names ∙ same;
+  ops = says.ops ∙ ops;
+  cause = rw (← faults) says.cause;
+}
+
+-- what is said to `wrong(B, K)`
+module _ (ops : Table) (names : List (List ℕ)) (s : State) (b k : ℤ) where
+  pub step_none : s.last ≡ None → command_step ops names s (commands.Wrong b k) ≡ refused ops names s NoRun
+  step_none last = rw last refl
+
+  pub step_refused : (run : LastRun) (r : Refusal) → s.last ≡ Some run → exit_of run.history b k ≡ Err r → command_step ops names s (commands.Wrong b k) ≡ refused ops names s r
+  step_refused run r last exit = rw (last, exit) refl
+
+  pub step_begins : (run : LastRun) (e : ℕ) (a : Term) → s.last ≡ Some run → exit_of run.history b k ≡ Ok e → (point_of run.history e).tuple.head ≡ a → command_step ops names s (commands.Wrong b k) ≡ begins_wrong ops names s run.history e a
+  step_begins run e a last exit head =
+      ap (λ (o : Option LastRun). wrong_step ops names s o b k) last ∙ ap (wrong_at ops names s run.history) exit ∙ ap (begins_wrong ops names s run.history e) head
+
+-- the point of an exit
+pub point_below : (ps : List Point) (i : ℕ) (p : Point) → slice_get ps i ≡ Some p → i < length ps
+point_below [] i p there = absurd (cc)
+point_below (x ∷ ps) zero p there = omega arith
+point_below (x ∷ ps) (suc i) p there = let below = point_below ps i p there in omega (arith, below)
+
+-- the label of an exit
+pub head_is : (R : Recorded) (e : ℕ) (p : Point) (t : Tuple) → point_at R e ≡ Some p → t ≡ p.tuple → (point_of R e).tuple.head ≡ t.head
+head_is R e p t there is = rw (there, is) refl
+
+pub label_named : (n : ℕ) (s : State) (run : LastRun) (e : ℕ) (p : Point) (t : Tuple) → s.last ≡ Some run → IsReady n s → point_at run.history e ≡ Some p → t ≡ p.tuple → IsNamed n t.head
+label_named n s run e p t last is there same = rw same (point_named n run.history.points e p there (run_named n s run last is).points).0
+
+pub labelled : (R : Recorded) (e : ℕ) (t : Tuple) (user : IsUserExit R e) → t ≡ user.point.tuple → IsLabelled R e t.head
+labelled R e t user is = record { exit = user; instance = (variable, apply-variable user.point.tuple.head ∙ ap (λ (u : Tuple). u.head) (sym is)) }

@@ -1,0 +1,23 @@
+use Rattle.apd_answers.specs.Going.{at}
+use Rattle.apd_debug.proofs.Asking.{keeps_dialogue}
+use Rattle.apd_divide.specs.Recorded.{tree}
+use Rattle.apd_wrong.specs.Wrong.{wrong}
+use Rattle.apd_session.proofs.Dialogues.{diagnoses}
+use Rattle.apd_session.proofs.diagnosing.diagnose_over.Goals as goal
+
+pub returns-clause-console : goal.returns-clause-console
+returns-clause-console g c = (keeps_dialogue g.S.Source g.K.Sink (wrong c.args.strategy) (at c.args.replies.now (tree c.args.history.now c.args.exit.0 c.args.label.now) c.args.dialogue.now) c.diagnose_wrong.new.answers c.diagnose_wrong.new.oracle c.diagnose_wrong.result c.diagnose_wrong.ensures.reached).same.console
+
+pub returns-clause-source : goal.returns-clause-source
+returns-clause-source g c = (keeps_dialogue g.S.Source g.K.Sink (wrong c.args.strategy) (at c.args.replies.now (tree c.args.history.now c.args.exit.0 c.args.label.now) c.args.dialogue.now) c.diagnose_wrong.new.answers c.diagnose_wrong.new.oracle c.diagnose_wrong.result c.diagnose_wrong.ensures.reached).same.source
+
+pub returns-clause-sink : goal.returns-clause-sink
+returns-clause-sink g c = (keeps_dialogue g.S.Source g.K.Sink (wrong c.args.strategy) (at c.args.replies.now (tree c.args.history.now c.args.exit.0 c.args.label.now) c.args.dialogue.now) c.diagnose_wrong.new.answers c.diagnose_wrong.new.oracle c.diagnose_wrong.result c.diagnose_wrong.ensures.reached).same.sink
+
+pub returns-clause-log : goal.returns-clause-log
+returns-clause-log g c = (keeps_dialogue g.S.Source g.K.Sink (wrong c.args.strategy) (at c.args.replies.now (tree c.args.history.now c.args.exit.0 c.args.label.now) c.args.dialogue.now) c.diagnose_wrong.new.answers c.diagnose_wrong.new.oracle c.diagnose_wrong.result c.diagnose_wrong.ensures.reached).same.log
+
+pub returns-clause-diagnoses : goal.returns-clause-diagnoses
+returns-clause-diagnoses g c =
+    diagnoses g.S.Source g.K.Sink c.args.strategy (tree c.args.history.now c.args.exit.0 c.args.label.now) c.args.replies.now c.diagnose_wrong.new.answers c.args.dialogue.now c.diagnose_wrong.new.oracle c.diagnose_wrong.result c.diagnose_wrong.ensures.reached
+    (c.args.dialogue.now.standard, c.requires.named) c.requires.sound

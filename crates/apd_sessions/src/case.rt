@@ -1,0 +1,69 @@
+//! A session that is tried: what it meets, and what is wanted of it.
+
+use apd_base::Text;
+use std::alloc::{AllocError, Global};
+
+/// A file in memory.
+#[derive(Drop)]
+pub struct NamedFile {
+    pub name: String,
+    pub content: Text,
+}
+
+/// The numbers of the calls that fail, counted from 1; 0 is none.
+#[derive(Clone, Copy)]
+pub struct Failing {
+    pub load: u32,
+    pub read: u32,
+    pub write: u32,
+}
+
+/// How the input is read.
+#[derive(Clone, Copy, PartialEq, Eq)]
+pub enum Reading {
+    /// As many bytes at a time as are asked for.
+    Whole,
+    /// A line at a time; what is wanted then shows each line where it was read, behind `< `.
+    Lines,
+}
+
+/// A session and what is wanted of it.
+#[derive(Drop)]
+pub struct Case {
+    pub name: String,
+    /// The words behind the program's own name.
+    pub words: Vec<String>,
+    pub files: Vec<NamedFile>,
+    pub input: Text,
+    pub failing: Failing,
+    /// How many bytes the output takes.
+    pub room: u32,
+    pub reading: Reading,
+    pub status: u8,
+    pub output: Text,
+}
+
+/// Room for every output but those that are cut off.
+const ROOM: u32 = 1_000_000;
+
+impl Case {
+    /// A session without words, files and input, of which nothing is wanted.
+    pub fn new(alloc: Global, name: &str) -> Result<Case, AllocError> {
+        let name = String::from_str(alloc, name)?;
+        Ok(Case {
+            name,
+            words: Vec::new(alloc),
+            files: Vec::new(alloc),
+            input: Text::new(alloc),
+            failing: Failing {
+                load: 0,
+                read: 0,
+                write: 0,
+            },
+            room: ROOM,
+            reading: Reading::Whole,
+            status: 0,
+            output: Text::new(alloc),
+        })
+    }
+}

@@ -1,0 +1,155 @@
+//! Tries whole sessions over memory: the cases of the files that an index names.
+//!
+//! The word behind the program's own name is the index, a file that has the name of a file of cases in each line
+//! (`cases.rt` says what these have). A line is printed for each case whose session ends otherwise than it is to, and
+//! then how many cases there are. Status 2: the words are others; 3: a file can't be had or has a line that no case has,
+//! nothing can be written, or there is no memory.
+#![tactic(auto)]
+
+mod blocks;
+mod case;
+mod cases;
+mod fault;
+mod played;
+mod turns;
+
+use crate::case::Case;
+use crate::cases::cases_of;
+use crate::fault::CaseFault;
+use crate::played::{Played, play};
+use apd_base::Text;
+use apd_io::{DiskFiles, Files};
+use std::alloc::Global;
+use std::io;
+use std::process::ExitCode;
+
+const USAGE: u8 = 2;
+
+const FAILED: u8 = 3;
+
+/// How many cases were tried, and how many differed.
+#[derive(Clone, Copy)]
+struct Counts {
+    tried: u32,
+    differ: u32,
+}
+
+/// The number of the first line where the texts differ, from 1.
+fn first_difference(text: &[u8], other: &[u8]) -> u32 {
+    let mut line: u32 = 1;
+    for (byte, wanted) in text.iter().zip(other.iter()) {
+        if byte != wanted {
+            return line;
+        }
+        if *byte == b'\n' {
+            line = line.saturating_add(1);
+        }
+    }
+    line
+}
+
+/// Says where the session of a case ended otherwise than it is to; whether it did.
+fn compare(rt: &impl Print, case: &Case, played: &Played) -> Result<bool, CaseFault> {
+    let name = case.name.as_str();
+    let wanted = case.status;
+    let status = played.status;
+    let other_status = status != wanted;
+    if other_status {
+        say(println!(rt; "{name}: status {status}, wanted {wanted}"))?;
+    }
+    let other_output = played.output.bytes() != case.output.bytes();
+    if other_output {
+        let line = first_difference(played.output.bytes(), case.output.bytes());
+        say(println!(rt; "{name}: line {line} of the output differs"))?;
+    }
+    Ok(other_status || other_output)
+}
+
+/// Tries a case, says where it differs, and tells whether it does.
+fn try_case(rt: &impl Print, alloc: Global, case: &Case) -> Result<bool, CaseFault> {
+    let played = play(alloc, case)?;
+    compare(rt, case, &played)
+}
+
+/// A print that failed is a fault of the files.
+fn say(printed: io::Result<()>) -> Result<(), CaseFault> {
+    match printed {
+        Ok(()) => Ok(()),
+        Err(_) => Err(CaseFault::File),
+    }
+}
+
+fn load<F: Files>(alloc: Global, files: &mut F, name: &str) -> Result<Text, CaseFault> {
+    match files.load(alloc, name) {
+        Ok(text) => Ok(text),
+        Err(_) => Err(CaseFault::File),
+    }
+}
+
+fn text_of(text: &Text) -> Result<&str, CaseFault> {
+    match str::from_utf8(text.bytes()) {
+        Ok(text) => Ok(text),
+        Err(_) => Err(CaseFault::File),
+    }
+}
+
+/// Tries the cases of a file.
+fn try_file<F: Files>(
+    rt: &impl Print,
+    alloc: Global,
+    files: &mut F,
+    name: &str,
+    counts: &mut Counts,
+) -> Result<(), CaseFault> {
+    let text = load(alloc, files, name)?;
+    let lines = text_of(&text)?;
+    let cases = cases_of(alloc, lines)?;
+    for case in &cases {
+        counts.tried = counts.tried.saturating_add(1);
+        if try_case(rt, alloc, case)? {
+            counts.differ = counts.differ.saturating_add(1);
+        }
+    }
+    Ok(())
+}
+
+/// Tries the cases of the files that an index names.
+fn try_all<F: Files>(
+    rt: &impl Print,
+    alloc: Global,
+    files: &mut F,
+    index: &str,
+) -> Result<(), CaseFault> {
+    let mut counts = Counts {
+        tried: 0,
+        differ: 0,
+    };
+    let names = load(alloc, files, index)?;
+    let lines = text_of(&names)?;
+    for name in lines.lines() {
+        if let Err(fault) = try_file(rt, alloc, files, name, &mut counts) {
+            say(println!(rt; "{name}: {fault}"))?;
+            return Err(fault);
+        }
+    }
+    let Counts { tried, differ } = counts;
+    say(println!(rt; "{tried} cases, {differ} differ"))
+}
+
+fn main(rt: HostRuntime) -> ExitCode {
+    let alloc = rt.alloc();
+    let Ok(args) = std::env::args(&rt) else {
+        return ExitCode::from(FAILED);
+    };
+    let Ok(words) = args.collect::<Vec<String>>(alloc) else {
+        return ExitCode::from(FAILED);
+    };
+    let [_, index] = words.as_slice() else {
+        return ExitCode::from(USAGE);
+    };
+    let mut files = DiskFiles::new(&rt);
+    match try_all(&rt, alloc, &mut files, index.as_str()) {
+        Ok(()) => ExitCode::SUCCESS,
+        Err(_) => ExitCode::from(FAILED),
+    }
+}

@@ -1,0 +1,109 @@
+//! The session of a case.
+
+use crate::case::{Case, Reading};
+use crate::turns::{CountedSink, LineSource, transcript};
+use apd_base::{Ids, Text};
+use apd_io::{MemFiles, MemSink, MemSource, Sink, Source};
+use apd_session::{Log, Untold, session};
+use std::alloc::{AllocError, Global};
+use std::cell::Cell;
+
+/// How a session ended, and what was said.
+#[derive(Drop)]
+pub struct Played {
+    pub status: u8,
+    pub output: Text,
+}
+
+/// The number of the one call that fails, or none.
+fn only(alloc: Global, number: u32) -> Result<Ids, AllocError> {
+    let mut ids = Ids::new(alloc);
+    if number > 0 {
+        ids.push(number)?;
+    }
+    Ok(ids)
+}
+
+/// The words with the program's own name before them.
+fn words_of(alloc: Global, case: &Case) -> Result<Vec<String>, AllocError> {
+    let mut words = Vec::new(alloc);
+    let own_name = String::from_str(alloc, "apd")?;
+    words.push(own_name)?;
+    for word in &case.words {
+        let word = word.clone()?;
+        words.push(word)?;
+    }
+    Ok(words)
+}
+
+fn files_of(alloc: Global, case: &Case) -> Result<MemFiles, AllocError> {
+    let failing = only(alloc, case.failing.load)?;
+    let mut files = MemFiles::new(alloc, failing);
+    for file in &case.files {
+        let content = Text::copy_of(alloc, file.content.bytes())?;
+        files.add(file.name.as_str(), content)?;
+    }
+    Ok(files)
+}
+
+/// The input of a case in memory.
+fn source_of(alloc: Global, case: &Case) -> Result<MemSource, AllocError> {
+    let bytes = Text::copy_of(alloc, case.input.bytes())?;
+    let failing = only(alloc, case.failing.read)?;
+    Ok(MemSource::new(bytes, failing))
+}
+
+/// The output of a case in memory.
+fn sink_of(alloc: Global, case: &Case) -> Result<MemSink, AllocError> {
+    let failing = only(alloc, case.failing.write)?;
+    MemSink::new(alloc, case.room, failing)
+}
+
+/// How the session of a case ends over an input and an output.
+fn status_of<S: Source, K: Sink>(
+    alloc: Global,
+    case: &Case,
+    input: &mut S,
+    out: &mut K,
+) -> Result<u8, AllocError> {
+    let words = words_of(alloc, case)?;
+    let mut files = files_of(alloc, case)?;
+    let mut log = Log::new(alloc)?;
+    let status = session(
+        alloc,
+        &Untold,
+        words.as_slice(),
+        &mut files,
+        input,
+        out,
+        &mut log,
+    );
+    Ok(status.number())
+}
+
+/// The session over an input and an output in memory.
+fn play_whole(alloc: Global, case: &Case) -> Result<Played, AllocError> {
+    let mut input = source_of(alloc, case)?;
+    let mut out = sink_of(alloc, case)?;
+    let status = status_of(alloc, case, &mut input, &mut out)?;
+    let output = Text::copy_of(alloc, out.held())?;
+    Ok(Played { status, output })
+}
+
+/// The session over an input that is read line by line, with what was said before each read.
+fn play_lines(alloc: Global, case: &Case) -> Result<Played, AllocError> {
+    let written = Cell::new(0);
+    let mut input = LineSource::new(alloc, case.input.bytes(), &written);
+    let mut out = CountedSink::new(alloc, &written);
+    let status = status_of(alloc, case, &mut input, &mut out)?;
+    let output = transcript(alloc, input.turns(), case.input.bytes(), out.text())?;
+    Ok(Played { status, output })
+}
+
+/// The session of a case.
+pub fn play(alloc: Global, case: &Case) -> Result<Played, AllocError> {
+    match case.reading {
+        Reading::Whole => play_whole(alloc, case),
+        Reading::Lines => play_lines(alloc, case),
+    }
+}

@@ -110,7 +110,7 @@ passed_there s c at h d =
     )
 
 -- a run whose first cell leads elsewhere
-elsewhere : (s : Stored) (c n : ℕ) → IsStore s.cells s.variables s.trail → IsRun s.cells c n → 0 < n → IsVariable (get_or s.cells c (Var 0))
+pub elsewhere : (s : Stored) (c n : ℕ) → IsStore s.cells s.variables s.trail → IsRun s.cells c n → 0 < n → IsVariable (get_or s.cells c (Var 0))
     → (run_symbols s c n ≡ spell (term_at s c) ++ run_symbols s (c + 1) (n - 1)) × IsRun s.cells (c + 1) (n - 1)
 elsewhere s c n h r l i =
     let k = after s c n h r l in

@@ -258,7 +258,7 @@ pub record Turn (old s : Stored) (a b : ℕ) (here : Pairs) (ps : List Pairs) (n
   pub leads : PairLeads s next x y
   pub store : IsStore s.cells s.variables s.trail
 
-proceeds_on : (old s s' : Stored) (a b : ℕ) (here next : Pairs) (ps qs ps' : List Pairs) → GoesOn here ps (Some next) qs → Proceeds old s s' a b (next ∷ qs) ps' → Proceeds old s s' a b (here ∷ ps) ps'
+pub proceeds_on : (old s s' : Stored) (a b : ℕ) (here next : Pairs) (ps qs ps' : List Pairs) → GoesOn here ps (Some next) qs → Proceeds old s s' a b (next ∷ qs) ps' → Proceeds old s s' a b (here ∷ ps) ps'
 proceeds_on old s s' a b here next ps qs ps' g h = record {
   kept = h.kept;
   smaller = rw (g.1.0 s) h.smaller;

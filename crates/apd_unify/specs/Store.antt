@@ -132,3 +132,9 @@ pub record IsFreeVariable (s : Stored) (v c : ℕ) : Type 0 where
 -- every note of the store's trail was right when it was made
 abbrev pub IsSound : Stored → Type 0
 IsSound s = IsStore s.cells s.variables s.trail
+
+-- the variable that is written at a cell is written at the next one again
+pub record IsTwin (s : Stored) (c : ℕ) : Type 0 where
+  pub v : ℕ
+  pub here : symbol_at s c ≡ Var v
+  pub again : symbol_at s (c + 1) ≡ Var v

@@ -66,6 +66,13 @@ pub record IsPast (s : Stored) (here next : Pairs) : Type 0 where
   pub right : IsPairs s.cells next
   pub first : pairs_of s here ≡ (term_at s here.a, term_at s here.b) ∷ pairs_of s next
 
+-- the pairs are those after the first, whose terms the next pair has again
+pub record IsPastTwin (s : Stored) (here next : Pairs) : Type 0 where
+  pub past : IsPast s here next
+  pub some : 0 < next.left
+  pub a_again : term_at s next.a ≡ term_at s here.a
+  pub b_again : term_at s next.b ≡ term_at s here.b
+
 -- the first equation gave way to those between the arguments of two terms
 pub record IsDecomposed (s : Stored) (old : List Pairs) (here next : Pairs) (new : List Pairs) (x y : ℕ) : Type 0 where
   pub right : ArePairs s.cells (next ∷ new)

@@ -2,7 +2,8 @@
 use Rattle.std.specs.Prelude.{◌≡◌, ℕ, ◌≤◌, Option, Some, None, List, [], ◌∷◌, ◌++◌, length, take, drop, map}
 use Rattle.std.specs.List.{flat_map}
 use Rattle.apd_term.specs.declared.term.Sym.{Sym}
-use Rattle.apd_term.specs.Term.{Term, apply, spell, read_all}
+use Rattle.apd_term.specs.Spelling.{variable_in}
+use Rattle.apd_term.specs.Term.{Term, IsAmong, apply, spell, read_all}
 use Rattle.apd_unify.specs.Stored.{Stored}
 use Rattle.apd_unify.specs.Store.{meaning}
 use Rattle.apd_unify.specs.declared.walk.Run.{Run}
@@ -43,3 +44,9 @@ walk_symbols s w = run_symbols s w.at w.left ++ runs_symbols s w.rest
 abbrev pub Passes : Option Sym → List Sym → List Sym → Type 0
 Passes None before after = before ≡ []
 Passes (Some x) before after = before ≡ x ∷ after
+
+-- the same variables are left, and no more symbols than before
+pub record HasSameVariables (before after : List Sym) : Type 0 where
+  pub there : (v : ℕ) → IsAmong (flat_map variable_in before) v → IsAmong (flat_map variable_in after) v
+  pub only : (v : ℕ) → IsAmong (flat_map variable_in after) v → IsAmong (flat_map variable_in before) v
+  pub shorter : length after ≤ length before

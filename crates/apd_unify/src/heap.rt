@@ -7,7 +7,7 @@ ghost use Rattle.apd_term.specs.Canonical.{shifted};
 ghost use Rattle.apd_term.specs.declared.term.Sym.TheVariants.{Var};
 ghost use Rattle.apd_term.specs.Spelling.{variable_in};
 ghost use Rattle.apd_unify.specs.Heap.{HasMore, IsVariable, raised};
-ghost use Rattle.apd_unify.specs.Store.{term_at, written, symbol_at, MayBind, bound, loaded, above, before_note, at_mark, IsSound, IsEnd};
+ghost use Rattle.apd_unify.specs.Store.{term_at, written, symbol_at, MayBind, bound, loaded, above, before_note, at_mark, IsSound, IsEnd, IsTwin};
 
 use crate::stack::Stack;
 use apd_term::term::term_end;
@@ -192,6 +192,19 @@ impl Heap {
         ensures store { IsSound self.now }
     {
         self.cells[at]
+    }
+
+    /// Whether the variable that is written at a cell is written at the next one again.
+    pub fn is_twin(&self, at: usize) -> bool
+        requires { at + 1 < length self.now.cells }
+        ensures twin { OnTrue result (IsTwin self.now at) }
+        ensures store { IsSound self.now }
+        ensures fits { length self.now.cells < 2 ^ 64 }
+    {
+        match self.cells[at] {
+            Sym::Var(v) => self.cells[at + 1] == Sym::Var(v),
+            _ => false,
+        }
     }
 
     /// The cell that a cell leads to through variables that are bound.

@@ -50,10 +50,12 @@ pub fn mentions(walk: &mut Walk, heap: &Heap, at: usize, v: u64) -> Result<bool,
     ensures { IfOk result (λ b. IsTrue b ↔ Occurs v (term_at heap.now at)) }
 {
     walk.start(heap, at);
+    walk.skip_twins(heap);
     'symbols: while let Some(symbol) = walk.next(heap)? {
         if symbol == Sym::Var(v) {
             return Ok(true);
         }
+        walk.skip_twins(heap);
     }
     Ok(false)
 }

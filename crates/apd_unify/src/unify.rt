@@ -1,10 +1,10 @@
 //! Unification of the terms at two cells, with the occurs check.
 
-ghost use Rattle.std.specs.Prelude.{◌≡◌, ◌<◌, ◌^◌, ◌∷◌, length, IfOk, OnErr, IsTrue, ◌↔◌};
+ghost use Rattle.std.specs.Prelude.{◌≡◌, ◌<◌, ◌^◌, ◌∷◌, length, IfOk, IfSome, OnErr, IsTrue, ◌↔◌};
 ghost use Rattle.apd_term.specs.Term.{Occurs};
 ghost use Rattle.apd_unify.specs.First.{IsFixed};
 ghost use Rattle.apd_unify.specs.Store.{term_at, symbol_at, IsEnd, IsFreeVariable, IsSound, IsUnification, Keeps};
-ghost use Rattle.apd_unify.specs.Unifying.{Solves, IsPairs, ArePairs, IsPast, GoesOn, HasArguments, IsDecomposed};
+ghost use Rattle.apd_unify.specs.Unifying.{Solves, IsPairs, ArePairs, IsPast, IsPastTwin, GoesOn, HasArguments, IsDecomposed};
 
 use crate::heap::Heap;
 use crate::reading::mentions;
@@ -142,6 +142,22 @@ fn past(heap: &Heap, here: Pairs) -> Pairs
     }
 }
 
+/// The pairs behind the first, if the first of them is of the same two variables.
+fn past_twin(heap: &Heap, here: Pairs) -> Option<Pairs>
+    requires right { IsPairs heap.now.cells here }
+    requires some { 0 < here.left }
+    ensures { IfSome result (IsPastTwin heap.now here) }
+{
+    if here.left > 1 && heap.is_twin(here.a) && heap.is_twin(here.b) {
+        return Some(Pairs {
+            a: here.a + 1,
+            b: here.b + 1,
+            left: here.left - 1,
+        });
+    }
+    None
+}
+
 /// Goes on to waiting pairs where these are done.
 fn next_pairs(pairs: &mut Stack<Pairs>, here: Pairs) -> Option<Pairs>
     ensures { GoesOn here pairs.old result pairs.new }
@@ -210,6 +226,10 @@ pub fn unify(
     pairs.clear();
     let mut here = Pairs { a, b, left: 1 };
     'pairs: while let Some(next) = next_pairs(pairs, here) {
+        if let Some(later) = past_twin(heap, next) {
+            here = later;
+            continue;
+        }
         let x = heap.follow(next.a);
         let y = heap.follow(next.b);
         match solve(heap, walk, x, y)? {

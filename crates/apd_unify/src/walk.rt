@@ -3,7 +3,7 @@
 ghost use Rattle.std.specs.Prelude.{◌≡◌, [], ◌<◌, length, IfOk, OnOk};
 ghost use Rattle.apd_term.specs.Term.{arity_of, spell};
 ghost use Rattle.apd_unify.specs.Store.{term_at};
-ghost use Rattle.apd_unify.specs.Work.{IsWalk, walk_symbols, Passes};
+ghost use Rattle.apd_unify.specs.Work.{IsWalk, walk_symbols, Passes, HasSameVariables};
 
 use crate::heap::Heap;
 use crate::stack::Stack;
@@ -59,6 +59,20 @@ impl Walk {
         self.at = at;
         self.left = 1;
         self.rest.clear();
+    }
+
+    /// Passes over each variable that is written again right behind it: the variables of what is
+    /// left stay the same, and a term whose bindings double isn't passed twice.
+    pub fn skip_twins(&mut self, heap: &Heap)
+        requires { IsWalk heap.now.cells self.old }
+        ensures right { IsWalk heap.now.cells self.new }
+        ensures same { HasSameVariables
+            (walk_symbols heap.now self.old) (walk_symbols heap.now self.new) }
+    {
+        'twins: while self.left > 1 && heap.is_twin(self.at) {
+            self.at += 1;
+            self.left -= 1;
+        }
     }
 
     /// Passes the next symbol; none where the walk is at its end.

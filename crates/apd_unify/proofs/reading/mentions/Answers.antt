@@ -1,10 +1,12 @@
 use Rattle.apd_unify.specs.Store.{term_at}
 use Rattle.apd_unify.specs.Work.{walk_symbols}
 use Rattle.apd_unify.proofs.Sought.{sought_first}
+use Rattle.apd_unify.proofs.Twins.{sought_same}
 use Rattle.apd_unify.proofs.reading.mentions.Goals as goal
 
 pub symbols-init : goal.symbols-init
 symbols-init c = record {
-  right = c.start.ensures.right;
-  sought = sought_first c.args.v (term_at c.args.heap.now c.args.at) (walk_symbols c.args.heap.now c.start.new.self) c.start.ensures.symbols;
+  right = c.skip_twins.ensures.right;
+  sought = sought_same c.args.v (term_at c.args.heap.now c.args.at) (walk_symbols c.args.heap.now c.start.new.self) (walk_symbols c.args.heap.now c.skip_twins.new.self)
+      (sought_first c.args.v (term_at c.args.heap.now c.args.at) (walk_symbols c.args.heap.now c.start.new.self) c.start.ensures.symbols) c.skip_twins.ensures.same;
 }

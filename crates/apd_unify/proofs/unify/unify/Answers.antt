@@ -1,9 +1,22 @@
 use Rattle.std.proofs.Common.{◌∷◌, refl}
 use Rattle.apd_unify.proofs.Rounding.{Proceeds, unifying_first, unifying_last, turn_clash, turn_equal, turn_bound, turn_arguments}
+use Rattle.apd_unify.proofs.Twins.{turn_twin}
 use Rattle.apd_unify.proofs.unify.unify.Goals as goal
 
 pub pairs-init : goal.pairs-init
 pairs-init c = unifying_first c.args.heap.now c.args.a c.args.b _ c.clear.new.self c.requires.a c.requires.b refl c.clear.ensures
+
+twin : (c : goal.In-Some-past_twin)
+    → Proceeds c.args.heap.now c.pairs.heap c.pairs.heap c.args.a c.args.b (c.pairs.here ∷ c.pairs.pairs) (c.in-Some-past_twin.later ∷ c.next_pairs.new.pairs)
+twin c =
+    turn_twin c.args.heap.now c.pairs.heap c.args.a c.args.b c.pairs.here c.pairs.pairs c.in-Some.next c.next_pairs.new.pairs c.in-Some-past_twin.later
+    c.pairs.invariant c.in-Some.ensures c.in-Some-past_twin.ensures
+
+pub pairs-smaller-in-Some-past_twin : goal.pairs-smaller-in-Some-past_twin
+pairs-smaller-in-Some-past_twin c = (twin c).smaller
+
+pub pairs-preserved-in-Some-past_twin : goal.pairs-preserved-in-Some-past_twin
+pairs-preserved-in-Some-past_twin c = (twin c).kept
 
 pub returns-in-Clash-clause-answer : goal.returns-in-Clash-clause-answer
 returns-in-Clash-clause-answer c =

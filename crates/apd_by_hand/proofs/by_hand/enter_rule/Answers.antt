@@ -1,0 +1,5 @@
+use Rattle.apd_by_hand.proofs.Making.{may_enter_rule}
+use Rattle.apd_by_hand.proofs.by_hand.enter_rule.Goals as goal
+
+pub add_point-requires-clause-may : goal.add_point-requires-clause-may
+add_point-requires-clause-may c = rw (c.requires, c.in_ok-rule.ensures) may_enter_rule

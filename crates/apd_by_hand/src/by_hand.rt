@@ -1,0 +1,174 @@
+//! A record that is made by hand, of the query `r(Y)` by the program `r(X) :- p(X).` and `p(X).`, and its symptom.
+
+ghost use Rattle.std.specs.Prelude.{◌≡◌, [], ◌∷◌, IfOk, OnOk};
+ghost use Rattle.apd_answers.specs.Store.{SaysNo};
+ghost use Rattle.apd_by_hand.specs.Made.{call_of, call_of_p, call_of_r, query, rule, fact, rule_entered, fact_entered, rule_solved, r_called, r_entered, p_called, p_solved, r_solved, made};
+ghost use Rattle.apd_record.specs.Recorded.{begun, noted};
+
+use apd_answers::{Answers, Question, Reply};
+use apd_base::VarNames;
+use apd_causes::Query;
+use apd_ports::{Point, PointId, Port, Step};
+use apd_record::Record;
+use apd_term::standard::{CELL, NIL};
+use apd_term::{Atoms, Flat, NameId, Sym, Tuple};
+use std::alloc::{AllocError, Global};
+
+/// The names of the two predicates, behind the standard ones.
+const R: NameId = NameId(1000);
+
+const P: NameId = NameId(1001);
+
+/// The call of a predicate with a variable.
+fn call_of(alloc: Global, name: NameId) -> Result<Flat, AllocError>
+    ensures { IfOk result (λ a. a ≡ call_of name.0) }
+{
+    Flat::copy_of(alloc, &[Sym::Fun(name, 1), Sym::Var(1)])
+}
+
+/// `r(_1)`, the head of the exit.
+pub fn call_of_r(alloc: Global) -> Result<Flat, AllocError>
+    ensures { IfOk result (λ a. a ≡ call_of_r) }
+{
+    call_of(alloc, R)
+}
+
+/// `p(_1)`, its one goal.
+pub fn call_of_p(alloc: Global) -> Result<Flat, AllocError>
+    ensures { IfOk result (λ a. a ≡ call_of_p) }
+{
+    call_of(alloc, P)
+}
+
+/// The list of one term.
+fn one(alloc: Global, atom: Flat) -> Result<Atoms, AllocError>
+    ensures { IfOk result (λ atoms. atoms ≡ atom ∷ []) }
+{
+    let mut atoms = Atoms::new(alloc);
+    atoms.push(atom)?;
+    Ok(atoms)
+}
+
+/// The query, which shows its variable.
+fn query(alloc: Global) -> Result<Query, AllocError>
+    ensures { IfOk result (λ q. q.tuple ≡ query) }
+{
+    let shown = [Sym::Fun(CELL, 2), Sym::Var(1), Sym::Fun(NIL, 0)];
+    Ok(Query {
+        tuple: Tuple {
+            head: Flat::copy_of(alloc, &shown)?,
+            body: one(alloc, call_of_r(alloc)?)?,
+        },
+        vars: VarNames::new(alloc),
+    })
+}
+
+/// The first clause.
+fn rule(alloc: Global) -> Result<Tuple, AllocError>
+    ensures { IfOk result (λ t. t ≡ rule) }
+{
+    Ok(Tuple {
+        head: call_of_r(alloc)?,
+        body: one(alloc, call_of_p(alloc)?)?,
+    })
+}
+
+/// The second clause.
+fn fact(alloc: Global) -> Result<Tuple, AllocError>
+    ensures { IfOk result (λ t. t ≡ fact) }
+{
+    Ok(Tuple {
+        head: call_of_p(alloc)?,
+        body: Atoms::new(alloc),
+    })
+}
+
+/// The query calls `r`.
+fn call_r(alloc: Global, recorded: &mut Record) -> Result<(), AllocError>
+    ensures { OnOk result (recorded.new ≡ r_called) }
+{
+    recorded.begin(&query(alloc)?)?;
+    let _box = recorded.open_box(&call_of_r(alloc)?, PointId(0), true)?;
+    Ok(())
+}
+
+/// The rule is entered.
+fn enter_rule(alloc: Global, recorded: &mut Record) -> Result<(), AllocError>
+    requires { recorded.old ≡ r_called }
+    ensures { OnOk result (recorded.new ≡ r_entered) }
+{
+    let _entered = recorded.add_point(Point {
+        owner: 1,
+        clause: 1,
+        done: 0,
+        tuple: rule(alloc)?,
+        before: None,
+    })?;
+    Ok(())
+}
+
+/// The rule calls `p`.
+fn call_p(alloc: Global, recorded: &mut Record) -> Result<(), AllocError>
+    requires { recorded.old ≡ r_entered }
+    ensures { OnOk result (recorded.new ≡ p_called) }
+{
+    let _box = recorded.open_box(&call_of_p(alloc)?, PointId(1), true)?;
+    Ok(())
+}
+
+/// The fact is entered, and solves its goal.
+fn enter_fact(alloc: Global, recorded: &mut Record) -> Result<(), AllocError>
+    requires { recorded.old ≡ p_called }
+    ensures { OnOk result (recorded.new ≡ p_solved) }
+{
+    let _exit = recorded.add_point(Point {
+        owner: 2,
+        clause: 2,
+        done: 0,
+        tuple: fact(alloc)?,
+        before: None,
+    })?;
+    Ok(())
+}
+
+/// The fact's exit solves the rule's goal.
+fn solve_rule(alloc: Global, recorded: &mut Record) -> Result<(), AllocError>
+    requires { recorded.old ≡ noted p_solved 2 Port.Exit }
+    ensures { OnOk result (recorded.new ≡ r_solved) }
+{
+    let _exit = recorded.add_point(Point {
+        owner: 1,
+        clause: 1,
+        done: 1,
+        tuple: rule(alloc)?,
+        before: Some(Step {
+            point: PointId(1),
+            exit: PointId(2),
+        }),
+    })?;
+    Ok(())
+}
+
+/// The record of the run, whose exits are the points 2, of `p`, and 3, of `r`.
+pub fn made(alloc: Global) -> Result<Record, AllocError>
+    ensures { IfOk result (λ r. r ≡ made) }
+{
+    let mut recorded = Record::new(alloc);
+    call_r(alloc, &mut recorded)?;
+    enter_rule(alloc, &mut recorded)?;
+    call_p(alloc, &mut recorded)?;
+    enter_fact(alloc, &mut recorded)?;
+    recorded.note(2, Port::Exit);
+    solve_rule(alloc, &mut recorded)?;
+    recorded.note(1, Port::Exit);
+    Ok(recorded)
+}
+
+/// What is told first: `r(_1)` isn't true.
+pub fn symptom(alloc: Global) -> Result<Answers, AllocError>
+    ensures { IfOk result (λ answers. SaysNo answers call_of_r) }
+{
+    let mut answers = Answers::new(alloc);
+    answers.add(&Question::True(call_of_r(alloc)?), &Reply::No)?;
+    Ok(answers)
+}

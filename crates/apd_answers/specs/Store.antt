@@ -55,9 +55,17 @@ abbrev pub decided : List Pair → Question → Option Reply
 decided [] question = None
 decided (pair ∷ pairs) question = option_or (told pair question) (decided pairs question)
 
--- whether a pair with this question, in canonical form, and this reply is kept
+-- the reply of the first pair whose question has this canonical form
+abbrev pub reply_to : List Pair → Question → Option Reply
+reply_to [] form = None
+reply_to (pair ∷ pairs) form = option_or (then_some (same_question (canonical_question pair.question) form) pair.reply) (reply_to pairs form)
+
+-- whether a pair whose question has this canonical form, with this reply, is kept
+abbrev pub is_kept_as : List Pair → Question → Reply → Bool
+is_kept_as pairs form reply = list_any (λ (p : Pair). same_question (canonical_question p.question) form && same_reply p.reply reply) pairs
+
 abbrev pub is_kept : List Pair → Question → Reply → Bool
-is_kept pairs question reply = list_any (λ (p : Pair). same_question (canonical_question p.question) (canonical_question question) && same_reply p.reply reply) pairs
+is_kept pairs question reply = is_kept_as pairs (canonical_question question) reply
 
 -- the pairs with this one at the end, unless it is kept
 abbrev pub with_pair : List Pair → Question → Reply → List Pair

@@ -5,11 +5,16 @@ ghost use Rattle.apd_answers.specs.declared.store.Pair.{Pair};
 ghost use Rattle.std.specs.List.{enumerate_from, list_any};
 ghost use Rattle.apd_term.specs.Matching.{is_instance};
 ghost use Rattle.apd_answers.specs.Questions.{with_values, canonical_question, Fits};
-ghost use Rattle.apd_answers.specs.Store.{told_of_truth, told, decided, is_kept, with_pair, same_question, same_reply};
+ghost use Rattle.apd_answers.specs.Fitting.{AllFit};
+ghost use Rattle.apd_answers.specs.Marks.{HaveSamePlaces, Notes, mark_of_form, places_from};
+ghost use Rattle.apd_answers.specs.Store.{told_of_truth, decided, is_kept_as, reply_to, with_pair, same_question, same_reply};
 
+use crate::marks::mark_of_form;
 use crate::question::{Question, Reply};
 use crate::tests_of::{same_question, same_reply};
+use apd_base::ListOf;
 use apd_term::{Atoms, Flat, Subst, Tuple, apply_tuple, canonical_tuple};
+use indexmap::IndexMap;
 use std::alloc::{AllocError, Global};
 use std::marker::Model;
 
@@ -83,7 +88,7 @@ fn told_of_truth(alloc: Global, pair: &Pair, atom: &Flat) -> Result<Option<Reply
 }
 
 /// Whether two questions have one canonical form.
-fn is_same_form(alloc: Global, a: &Question, b: &Question) -> Result<bool, AllocError>
+pub fn is_same_form(alloc: Global, a: &Question, b: &Question) -> Result<bool, AllocError>
     ensures { IfOk result (λ r. r ≡ same_question (canonical_question a.now) (canonical_question b.now)) }
 {
     let x = a.canonical(alloc)?;
@@ -91,58 +96,91 @@ fn is_same_form(alloc: Global, a: &Question, b: &Question) -> Result<bool, Alloc
     Ok(same_question(&x, &y))
 }
 
-/// What a pair decides of a question.
-fn told(alloc: Global, pair: &Pair, question: &Question) -> Result<Option<Reply>, AllocError>
-    ensures { IfOk result (λ r. r ≡ told pair.now question.now) }
-{
-    if let Question::True(atom) = question {
-        return told_of_truth(alloc, pair, atom);
-    }
-    if is_same_form(alloc, &pair.question, question)? {
-        return Ok(Some(pair.reply.copy(alloc)?));
-    }
-    Ok(None)
-}
-
-/// The reply of the first of the pairs that decides the question.
-fn decided(alloc: Global, pairs: &[Pair], question: &Question) -> Result<Option<Reply>, AllocError>
-    ensures { IfOk result (λ r. r ≡ decided pairs.now question.now) }
+/// The reply of the first of the pairs that tells whether the atom is true.
+fn truth_decided(alloc: Global, pairs: &[Pair], atom: &Flat) -> Result<Option<Reply>, AllocError>
+    ensures { IfOk result (λ r. r ≡ decided pairs.now (Question.True atom.now)) }
 {
     'pairs: for pair in pairs {
-        if let Some(reply) = told(alloc, pair, question)? {
+        if let Some(reply) = told_of_truth(alloc, pair, atom)? {
             return Ok(Some(reply));
         }
     }
     Ok(None)
 }
 
-/// Whether a pair is one with this question, in canonical form, and this reply.
-fn is_such(
-    alloc: Global,
-    pair: &Pair,
-    question: &Question,
-    reply: &Reply,
-) -> Result<bool, AllocError>
-    ensures { IfOk result (λ b. b ≡ (same_question (canonical_question pair.now.question) (canonical_question question.now) && same_reply pair.now.reply reply.now)) }
+/// Whether the pair's question has this canonical form.
+fn has_form(alloc: Global, pair: &Pair, form: &Question) -> Result<bool, AllocError>
+    ensures { IfOk result (λ b. b ≡ same_question (canonical_question pair.now.question) form.now) }
 {
-    Ok(is_same_form(alloc, &pair.question, question)? && same_reply(&pair.reply, reply))
+    let own = pair.question.canonical(alloc)?;
+    Ok(same_question(&own, form))
 }
 
-/// Whether a pair with this question, in canonical form, and this reply is kept.
+/// The reply of the first of the pairs, at the places of their mark, whose question has this canonical form.
+fn reply_to(
+    alloc: Global,
+    pairs: &[Pair],
+    places: &[usize],
+    form: &Question,
+) -> Result<Option<Reply>, AllocError>
+    requires { places.now ≡ places_from 0 (mark_of_form form.now) pairs.now }
+    ensures { IfOk result (λ r. r ≡ reply_to pairs.now form.now) }
+{
+    'places: for place in places {
+        let pair = &pairs[*place];
+        if has_form(alloc, pair, form)? {
+            return Ok(Some(pair.reply.copy(alloc)?));
+        }
+    }
+    Ok(None)
+}
+
+/// Whether a pair is one with this question, in canonical form, and this reply.
+fn is_such(alloc: Global, pair: &Pair, form: &Question, reply: &Reply) -> Result<bool, AllocError>
+    ensures { IfOk result (λ b. b ≡ (same_question (canonical_question pair.now.question) form.now && same_reply pair.now.reply reply.now)) }
+{
+    if !same_reply(&pair.reply, reply) {
+        return Ok(false);
+    }
+    has_form(alloc, pair, form)
+}
+
+/// Whether a pair with this question, in canonical form, and this reply is kept, at one of the places of its mark.
 fn is_kept(
     alloc: Global,
     pairs: &[Pair],
-    question: &Question,
+    places: &[usize],
+    form: &Question,
     reply: &Reply,
 ) -> Result<bool, AllocError>
-    ensures { IfOk result (λ b. b ≡ is_kept pairs.now question.now reply.now) }
+    requires { places.now ≡ places_from 0 (mark_of_form form.now) pairs.now }
+    ensures { IfOk result (λ b. b ≡ is_kept_as pairs.now form.now reply.now) }
 {
-    'pairs: for pair in pairs {
-        if is_such(alloc, pair, question, reply)? {
+    'places: for place in places {
+        if is_such(alloc, &pairs[*place], form, reply)? {
             return Ok(true);
         }
     }
     Ok(false)
+}
+
+/// Notes one more place of a mark.
+fn note(
+    alloc: Global,
+    places: &mut IndexMap<u64, ListOf<usize>>,
+    mark: u64,
+    place: usize,
+) -> Result<(), AllocError>
+    ensures ok { OnOk result (Notes places.old mark place places.new) }
+    ensures err { OnErr result (HaveSamePlaces places.old places.new) }
+{
+    if let Some(of_mark) = places.get_mut(&mark) {
+        return of_mark.push(place);
+    }
+    let mut of_mark = ListOf::new(alloc);
+    of_mark.push(place)?;
+    places.insert(mark, of_mark)?;
+    Ok(())
 }
 
 /// The replies that were given, each with its question, in the order in which they came. Contracts see the list of pairs.
@@ -150,6 +188,8 @@ fn is_kept(
 pub struct Answers {
     alloc: Global,
     pairs: Vec<Pair>,
+    /// The places of the pairs by their marks, which those with one question share.
+    places: IndexMap<u64, ListOf<usize>>,
 }
 
 impl Model for Answers {
@@ -157,12 +197,16 @@ impl Model for Answers {
     ghost use Rattle.apd_answers.specs.declared.store.Pair.{Pair};
     ghost use Rattle.std.specs.Coded.{coded_list};
     ghost use Rattle.apd_answers.specs.Codes.{pair_code};
+    ghost use Rattle.apd_answers.specs.Fitting.{AllFit};
+    ghost use Rattle.apd_answers.specs.Marks.{IsIndexOf};
 
     ghost Value = { List Pair };
 
     ghost coded = { coded_list pair_code };
 
     ghost view = { λ a. a.pairs.items };
+
+    ghost invariant = { λ a. AllFit a.pairs.items × IsIndexOf a.pairs.items a.places };
 }
 
 impl Answers {
@@ -173,7 +217,25 @@ impl Answers {
         Answers {
             alloc,
             pairs: Vec::new(alloc),
+            places: IndexMap::new(alloc),
         }
+    }
+
+    /// The places of the pairs with this mark, in order.
+    fn places_of(&self, mark: u64) -> &[usize]
+        ensures { result.now ≡ places_from 0 mark self.now }
+    {
+        match self.places.get(&mark) {
+            Some(places) => places.as_slice(),
+            None => &[],
+        }
+    }
+
+    /// Each reply fits its question.
+    pub fn are_fitting(&self)
+        ensures { AllFit self.now }
+    {
+        let _pairs = &self.pairs;
     }
 
     /// How many pairs there are.
@@ -203,7 +265,17 @@ impl Answers {
     pub fn find(&self, question: &Question) -> Result<Option<Reply>, AllocError>
         ensures { IfOk result (λ r. r ≡ decided self.now question.now) }
     {
-        decided(self.alloc, self.pairs.as_slice(), question)
+        let pairs = self.pairs.as_slice();
+        if let Question::True(atom) = question {
+            return truth_decided(self.alloc, pairs, atom);
+        }
+        let form = question.canonical(self.alloc)?;
+        reply_to(
+            self.alloc,
+            pairs,
+            self.places_of(mark_of_form(&form)),
+            &form,
+        )
     }
 
     /// Puts a pair at the end, unless it is kept; after want of memory the store is as before.
@@ -212,14 +284,22 @@ impl Answers {
         ensures ok { OnOk result (self.new ≡ with_pair self.old question.now reply.now) }
         ensures err { OnErr result (self.new ≡ self.old) }
     {
-        if is_kept(self.alloc, self.pairs.as_slice(), question, reply)? {
+        let form = question.canonical(self.alloc)?;
+        let mark = mark_of_form(&form);
+        let pairs = self.pairs.as_slice();
+        if is_kept(self.alloc, pairs, self.places_of(mark), &form, reply)? {
             return Ok(());
         }
         let pair = Pair {
             question: question.copy(self.alloc)?,
             reply: reply.copy(self.alloc)?,
         };
+        let place = self.pairs.len();
         self.pairs.push(pair)?;
+        if note(self.alloc, &mut self.places, mark, place).is_err() {
+            let _ = self.pairs.pop();
+            return Err(AllocError);
+        }
         Ok(())
     }
 }

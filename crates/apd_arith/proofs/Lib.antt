@@ -4,3 +4,4 @@ pub mod Values
 pub mod Memoryless
 pub mod Found
 pub mod Faulting
+pub mod Tests

@@ -4,3 +4,4 @@ pub mod Value
 pub mod Stack
 pub mod Builtins
 pub mod Truth
+pub mod Truths

@@ -18,6 +18,29 @@ pub enum LoadCause {
     ClausesOver,
 }
 
+/// Why an oracle file is refused. Of one clause's causes the first of this list is told.
+#[derive(Clone, Copy, Debug, PartialEq, Eq)]
+pub enum OracleCause {
+    /// The text has no division into tokens.
+    Token(TokenFault),
+    /// A clause has no reading.
+    Read(ReadFault),
+    /// There is no clause, or the first isn't `form(N)` with an integer.
+    NoForm,
+    /// The form's number isn't 1.
+    BadForm,
+    /// A clause is no statement.
+    NotAStatement,
+    /// What is said to be true, or to be below another call, is no atom of a predicate that a program may define.
+    NotUserAtom,
+    /// The head of a clause that is said to be covered, or a value, has a variable.
+    NotGround,
+    /// There are more or fewer values than the body has variables.
+    WrongCount,
+    /// A built-in goal of the body isn't true under the values.
+    BuiltinFalse,
+}
+
 /// Why a directive `op(P, T, N)` defines no operator.
 #[derive(Clone, Copy, Debug, PartialEq, Eq)]
 pub enum OpCause {

@@ -31,7 +31,7 @@ use Rattle.apd_load.proofs.Newlines.{first_place}
 use Rattle.apd_load.proofs.NamedTerms.{loading_more, term_named}
 
 -- Names that grow.
-grown_more : (k : ℕ) (a b c : List (List ℕ)) → GrowsBy k a b → Grown b c → Grown a c
+pub grown_more : (k : ℕ) (a b c : List (List ℕ)) → GrowsBy k a b → Grown b c → Grown a c
 grown_more k a b c g h = (g.0 ++ h.0, h.1 ∙ ap (λ s. s ++ h.0) g.1 ∙ append_assoc a g.0 h.0)
 
 pub grows_more : (i j k : ℕ) (a b c : List (List ℕ)) → GrowsBy i a b → GrowsBy j b c → i + j ≤ k → GrowsBy k a c

@@ -17,7 +17,8 @@ use apd_clauses::Program;
 use apd_ops::Ops;
 use apd_term::term::Pred;
 pub use laws::{every_text_makes_one_program, one_program};
-pub use reading::load;
+pub use places::{FIRST, Place, line_of};
+pub use reading::{load, place_of_fault, place_of_token_fault};
 use std::alloc::AllocError;
 pub use warnings::query_warnings;
 

@@ -27,8 +27,8 @@ use apd_term::Names;
 use apd_token::{Tokens, tokens};
 use std::alloc::{AllocError, Global};
 
-/// Where a fault is told.
-fn place_of_fault(fault: ReadFault) -> u32
+/// The place where a fault is told; where there was no memory, the first one.
+pub fn place_of_fault(fault: ReadFault) -> u32
     ensures { result ≡ place_of_fault fault }
 {
     match fault {
@@ -44,8 +44,8 @@ fn place_of_fault(fault: ReadFault) -> u32
     }
 }
 
-/// Where a fault is told.
-fn place_of_token_fault(fault: TokenFault) -> u32
+/// The place where a fault is told; where there was no memory, the first one.
+pub fn place_of_token_fault(fault: TokenFault) -> u32
     ensures { result ≡ place_of_token_fault fault }
 {
     match fault {

@@ -1,4 +1,3 @@
-pub mod Truths
 pub mod Replies
 pub mod Waiting
 pub mod Dialogue

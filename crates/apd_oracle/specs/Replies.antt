@@ -1,55 +1,22 @@
 -- What a line says in the place of a reply to a question.
-use Rattle.std.specs.Prelude.{◌==◌, List, [], ◌∷◌, length, Bool, if◌then◌else◌, not, Option, None, Some}
+use Rattle.std.specs.Prelude.{◌==◌, List, length, if◌then◌else◌, not, Option, None, Some}
 use Rattle.std.specs.List.{list_all}
-use Rattle.std.specs.Option.{option_map}
-use Rattle.apd_term.specs.Term.{Term, Terms, variable, integer, compound, none, more, arguments, predicate_of}
-use Rattle.apd_term.specs.declared.standard.TheConstants.{CELL, NIL, YES, NO, STOP, QUIT}
-use Rattle.apd_term.specs.declared.term.NameId.{NameId}
+use Rattle.apd_term.specs.Term.{Term}
+use Rattle.apd_term.specs.declared.standard.TheConstants.{STOP, QUIT}
 use Rattle.apd_term.specs.declared.tuple.Tuple.{Tuple}
-use Rattle.apd_clauses.specs.Kinds.{◌∕◌}
-use Rattle.apd_clauses.specs.Predicates.{is_pred}
 use Rattle.apd_answers.specs.Questions.{unknowns, with_values}
 use Rattle.apd_answers.specs.declared.question.Question.{Question}
 use Rattle.apd_answers.specs.declared.question.Question.TheVariants.{True, Covers, Below}
 use Rattle.apd_answers.specs.declared.question.Reply.{Reply}
-use Rattle.apd_answers.specs.declared.question.Reply.TheVariants.{Yes, No, Values}
+use Rattle.apd_answers.specs.declared.question.Reply.TheVariants.{Values}
 use Rattle.apd_lines.specs.declared.lines.LineRead.{LineRead}
 use Rattle.apd_lines.specs.declared.lines.LineRead.TheVariants as lines
 use Rattle.apd_text.specs.declared.entry.Reason.TheVariants.{TooLong, Syntax, NotAReply, WrongCount, NotGround, BuiltinFalse}
-use Rattle.apd_oracle.specs.Truths.{is_ground, is_true_if_builtin}
+use Rattle.apd_known.specs.Told.{is_word, word_told, values_told}
+use Rattle.apd_arith.specs.Truths.{is_ground}
+use Rattle.apd_known.specs.Truths.{is_true_if_builtin}
 use Rattle.apd_oracle.specs.declared.spoken.Spoken.{Spoken}
 use Rattle.apd_oracle.specs.declared.spoken.Spoken.TheVariants as spoken
-
--- the elements of a list that ends in []
-abbrev mutual
-  pub listed : Term → Option (List Term)
-  listed (variable v) = None
-  listed (integer i) = None
-  listed (compound f ts) = listed_in f ts
-
-  pub listed_in : NameId → Terms → Option (List Term)
-  listed_in f none = if f.0 == NIL.0 then Some [] else None
-  listed_in f (more t none) = None
-  listed_in f (more t (more u none)) = if f.0 == CELL.0 then option_map (λ ts. t ∷ ts) (listed u) else None
-  listed_in f (more t (more u (more v ts))) = None
-
--- the term is this word
-abbrev pub is_word : Term → NameId → Bool
-is_word t word = is_pred (predicate_of t) (word ∕ 0)
-
--- `yes` or `no`
-abbrev pub word_told : Term → Option Reply
-word_told t = if is_word t YES then Some Yes else (if is_word t NO then Some No else None)
-
-abbrev pub values_of : List Term → Option Reply
-values_of (t ∷ []) = option_map Values (listed t)
-values_of _ = None
-
--- `no`, or `yes` of a list of values
-abbrev pub values_told : Term → Option Reply
-values_told t =
-    if is_word t NO then Some No
-    else (if is_pred (predicate_of t) (YES ∕ 1) then values_of (arguments t) else None)
 
 -- the reply that a term is to a question of this kind
 abbrev pub told : Question → Term → Option Reply

@@ -3,7 +3,6 @@
 
 mod asking;
 mod dialogue;
-mod elements;
 mod spoken;
 mod values;
 

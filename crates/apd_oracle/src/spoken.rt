@@ -1,12 +1,12 @@
 // What a line says in the place of a reply.
 ghost use Rattle.std.specs.Prelude.{◌≡◌, IfOk};
-ghost use Rattle.apd_oracle.specs.Replies.{reply_spoken, spoken_of, term_spoken, told, values_told, word_told};
+ghost use Rattle.apd_oracle.specs.Replies.{reply_spoken, spoken_of, term_spoken, told};
 
-use crate::elements::listed;
 use crate::values::values_spoken;
 use apd_answers::{Question, Reply};
+use apd_known::{values_told, word_told};
 use apd_lines::LineRead;
-use apd_term::standard::{NO, QUIT, STOP, YES};
+use apd_term::standard::{QUIT, STOP};
 use apd_term::{Flat, Pred};
 use apd_text::Reason;
 use std::alloc::{AllocError, Global};
@@ -24,41 +24,6 @@ pub enum Spoken {
     Quit,
     /// It is none of these, and why.
     Bad(Reason),
-}
-
-/// The reply that a word is.
-fn word_told(term: &Flat) -> Option<Reply>
-    ensures { result ≡ word_told term.now }
-{
-    match term.pred() {
-        Some(
-            Pred {
-                name: YES,
-                arity: 0,
-            },
-        ) => Some(Reply::Yes),
-        Some(Pred { name: NO, arity: 0 }) => Some(Reply::No),
-        _ => None,
-    }
-}
-
-/// The reply that `no`, or `yes` of a list of values, is.
-fn values_told(alloc: Global, term: &Flat) -> Result<Option<Reply>, AllocError>
-    ensures { IfOk result (λ r. r ≡ values_told term.now) }
-{
-    match term.pred() {
-        Some(Pred { name: NO, arity: 0 }) => Ok(Some(Reply::No)),
-        Some(
-            Pred {
-                name: YES,
-                arity: 1,
-            },
-        ) => {
-            let list = term.arg(alloc, 0)?;
-            Ok(listed(alloc, &list)?.map(Reply::Values))
-        }
-        _ => Ok(None),
-    }
 }
 
 /// The reply that a term is to a question of this kind.

@@ -1,0 +1,10 @@
+pub mod Truths
+pub mod Listing
+pub mod Telling
+pub mod Stating
+pub mod Kept
+pub mod Reaching
+pub mod Dividing
+pub mod OneList
+pub mod Scripts
+pub mod Fitting

@@ -1,22 +1,17 @@
 -- A body that is closed by the tests is closed by the replies; so where no clause is left, the goal is uncovered by them.
-use Rattle.std.proofs.Common.{◌≡◌, ◌≢◌, ◌⊎◌, inl, inr, ℕ, ◌+◌, ◌&&◌, ◌||◌, not, Bool, true, false, if◌then◌else◌, List, [], ◌∷◌, Option, Some, None, Result, Ok, Err, refl, sym, ◌∙◌, ap, subst}
-use Rattle.std.specs.Prelude.{IsSome, ℤ}
-use Rattle.std.specs.Bool.{then_some}
+use Rattle.std.proofs.Common.{◌≡◌, inl, inr, ℕ, ◌+◌, ◌&&◌, ◌||◌, not, true, false, List, [], ◌∷◌, Option, Some, None, refl, sym, ◌∙◌, subst}
+use Rattle.std.specs.Prelude.{IsSome}
 use Rattle.std.specs.List.{list_any, list_all, AllByRecursion}
-use Rattle.apd_term.specs.Term.{Term, variables, arguments, integer, IsGround}
+use Rattle.apd_term.specs.Term.{Term, IsGround}
 use Rattle.apd_term.specs.Tuple.{canonical_tuple}
 use Rattle.apd_term.specs.Substitution.{IsInstance}
 use Rattle.apd_term.specs.declared.tuple.Tuple.{Tuple}
-use Rattle.apd_arith.specs.declared.fault.ArithFault.{ArithFault}
+use Rattle.apd_term.specs.Matching.{is_instance}
+use Rattle.apd_term.proofs.Opposite.{is_instance-is}
 use Rattle.apd_arith.specs.declared.goal.Builtin.{Builtin}
-use Rattle.apd_arith.specs.declared.goal.Builtin.TheVariants as goals
-use Rattle.apd_arith.specs.declared.comparison.Comparison.{Comparison}
-use Rattle.apd_arith.specs.declared.comparison.Comparison.TheVariants.{Equal, Different, Less, LessEqual, Greater, GreaterEqual}
-use Rattle.apd_arith.specs.Builtins.{builtin_of_atom, IsBuiltin}
-use Rattle.apd_arith.specs.Value.{Value, value}
-use Rattle.apd_arith.specs.Truth.{compared, IsTrueComparison, IsTrueGoal, IsTrueBy, IsTrueAtom}
-use Rattle.apd_term.specs.Matching.{same_term, is_instance}
-use Rattle.apd_term.proofs.Opposite.{same_term-is, is_instance-is}
+use Rattle.apd_arith.specs.Builtins.{builtin_of_atom}
+use Rattle.apd_arith.specs.Truths.{is_ground, is_true_atom}
+use Rattle.apd_arith.proofs.Tests.{is_true-is, test_ground, all_ground}
 use Rattle.apd_record.specs.Recorded.{Recorded, is_none, is_user_atom}
 use Rattle.apd_answers.specs.declared.question.Question.{Question}
 use Rattle.apd_answers.specs.declared.question.Question.TheVariants as asking
@@ -26,52 +21,13 @@ use Rattle.apd_answers.specs.declared.finding.Finding.{Finding}
 use Rattle.apd_answers.specs.declared.finding.Finding.TheVariants.{Uncovered}
 use Rattle.apd_answers.specs.declared.store.Pair.{Pair}
 use Rattle.apd_answers.specs.Questions.{canonical_question}
-use Rattle.apd_answers.specs.Store.{decided, told, same_question, SaysYes, SaysNo, SaysUncovered, TellsUncovered, SomePair, SomeTerm}
-use Rattle.apd_answers.specs.Findings.{IsByReplies, IsUncoveredByReplies, IsClosed, IsDenied, IsFalseBuiltin, instance_for}
-use Rattle.apd_answers.specs.Dialogue.{Turn, asks, goes, ends}
+use Rattle.apd_answers.specs.Store.{decided, told, same_question, SaysYes, SaysNo, SaysUncovered, TellsUncovered}
+use Rattle.apd_answers.specs.Findings.{IsByReplies, IsClosed, IsDenied, IsFalseBuiltin, instance_for}
+use Rattle.apd_answers.specs.Dialogue.{ends}
 use Rattle.apd_answers.proofs.Tests.{both, then_some-is, same_question-equal, some_passes}
 use Rattle.apd_answers.proofs.Decided.{decided-no, first_there}
-use Rattle.apd_missing.specs.Truths.{unless_fault, is_value, is_true_goal, is_true_by, is_true_atom}
-use Rattle.apd_missing.specs.Missing.{Unanswered, Looked, is_nil, is_ground, is_false_builtin, is_no, is_denied, is_closed, first_open, first_undecided, turn_of_ground, turn_of, missing}
-
-by_test : {C : Type 0} (b : Bool) → (b ≡ true → C) → (b ≡ false → C) → C
-by_test true f g = f refl
-by_test false f g = g refl
-
-not_true : (b : Bool) → not b ≡ true → b ≡ false
-not_true true e = absurd (cc)
-not_true false e = refl
-
-either : (a b : Bool) → (a || b) ≡ true → (a ≡ true) ⊎ (b ≡ true)
-either true b e = inl refl
-either false b e = inr e
-
--- what is true passes the test
-true_comparison : (c : Comparison) (a b : Term) → IsTrueComparison c a b → unless_fault (compared c (value a) (value b)) ≡ true
-true_comparison c a b h = ap unless_fault h
-
-true_value : (a : Term) (v : Value) (i : ℤ) → a ≡ integer i → v ≡ Ok i → is_value a v ≡ true
-true_value a v i e f = ap (is_value a) f ∙ (same_term-is a (integer i)).1 e
-
-true_goal : (g : Builtin) (ts : List Term) → IsTrueGoal g ts → is_true_goal g ts ≡ true
-true_goal goals.True [] h = refl
-true_goal goals.Unify (a ∷ b ∷ []) h = (same_term-is a b).1 h
-true_goal goals.Is (a ∷ e ∷ []) h = true_value a (value e) h.0 h.1 h.2
-true_goal goals.Equal (a ∷ b ∷ []) h = true_comparison Equal a b h
-true_goal goals.Different (a ∷ b ∷ []) h = true_comparison Different a b h
-true_goal goals.Less (a ∷ b ∷ []) h = true_comparison Less a b h
-true_goal goals.LessEqual (a ∷ b ∷ []) h = true_comparison LessEqual a b h
-true_goal goals.Greater (a ∷ b ∷ []) h = true_comparison Greater a b h
-true_goal goals.GreaterEqual (a ∷ b ∷ []) h = true_comparison GreaterEqual a b h
-true_goal g ts h = absurd h
-
-true_by : (o : Option Builtin) (ts : List Term) → IsTrueBy o ts → is_true_by o ts ≡ true
-true_by None ts h = absurd h
-true_by (Some g) ts h = true_goal g ts h
-
-ground_is : (vs : List ℕ) → is_nil vs ≡ true → vs ≡ []
-ground_is [] e = refl
-ground_is (v ∷ vs) e = absurd (cc)
+use Rattle.apd_missing.specs.Missing.{Unanswered, Looked, is_false_builtin, is_no, is_denied_atom, is_denied, is_closed, first_open, first_undecided, turn_of_ground, turn_of, missing}
+use Rattle.apd_missing.proofs.Tests.{by_test, not_true, either}
 
 builtin_is : (o : Option Builtin) → is_none o ≡ false → IsSome o
 builtin_is None e = absurd (cc)
@@ -83,11 +39,11 @@ false_builtin a e =
     let q = both (is_ground a) (not (is_true_atom a)) p.1 in
     record {
       builtin = builtin_is (builtin_of_atom a) (not_true (is_user_atom a) p.0);
-      has_no_variable = ground_is (variables a) q.0;
-      untrue = λ h. let f = sym (not_true (is_true_atom a) q.1) ∙ true_by (builtin_of_atom a) (arguments a) h in absurd (cc);
+      has_no_variable = test_ground a q.0;
+      untrue = λ h. let f = sym (not_true (is_true_atom a) q.1) ∙ (is_true-is a).1 h in absurd (cc);
     }
 
-no_is : (o : Option Reply) → is_no o ≡ true → o ≡ Some No
+pub no_is : (o : Option Reply) → is_no o ≡ true → o ≡ Some No
 no_is None e = absurd (cc)
 no_is (Some Yes) e = absurd (cc)
 no_is (Some No) e = refl
@@ -109,20 +65,16 @@ decided-uncovered (pair ∷ pairs) t e = elim (first_there (told pair (asking.Co
   | inr h ↦ inr (decided-uncovered pairs t h.1)
 ]
 
-all_ground : (ts : List Term) → list_all is_ground ts ≡ true → AllByRecursion IsGround ts
-all_ground [] e = tt
-all_ground (t ∷ ts) e = let p = both (is_ground t) (list_all is_ground ts) e in (ground_is (variables t) p.0, all_ground ts p.1)
-
-user_is : (o : Option Builtin) → is_none o ≡ true → o ≡ None
+pub user_is : (o : Option Builtin) → is_none o ≡ true → o ≡ None
 user_is None e = refl
 user_is (Some g) e = absurd (cc)
 
 denied_is : (pairs : List Pair) (body : List Term) → is_denied pairs body ≡ true → IsDenied pairs body
 denied_is pairs body e =
-    let p = both (list_all is_ground body) (list_any (λ a. is_user_atom a && is_no (decided pairs (asking.True a))) body) e in
+    let p = both (list_all is_ground body) (list_any (is_denied_atom pairs) body) e in
     record {
       has_no_variable = all_ground body p.0;
-      denied = some_passes (λ a. is_user_atom a && is_no (decided pairs (asking.True a))) (λ a. (builtin_of_atom a ≡ None) × SaysNo pairs a)
+      denied = some_passes (is_denied_atom pairs) (λ a. (builtin_of_atom a ≡ None) × SaysNo pairs a)
           (λ a f. let q = both (is_user_atom a) (is_no (decided pairs (asking.True a))) f in (user_is (builtin_of_atom a) q.0, decided-no pairs a (no_is (decided pairs (asking.True a)) q.1)))
           body p.1;
     }

@@ -2,9 +2,11 @@
 -- it. The clauses for the goal are taken in order; where the body of one is true, the record is followed to the next goal.
 use Rattle.std.specs.Prelude.{ℕ, ◌+◌, ◌-◌, ◌&&◌, ◌||◌, not, Bool, true, false, if◌then◌else◌, List, [], ◌∷◌, length, Option, Some, None}
 use Rattle.std.specs.List.{list_any, list_all}
-use Rattle.apd_term.specs.Term.{Term, variables}
+use Rattle.apd_term.specs.Term.{Term}
+use Rattle.apd_term.specs.Tuple.{canonical_tuple}
 use Rattle.apd_term.specs.declared.tuple.Tuple.{Tuple}
 use Rattle.apd_term.specs.Matching.{is_instance}
+use Rattle.apd_arith.specs.Truths.{is_ground, is_true_atom}
 use Rattle.apd_record.specs.Recorded.{Recorded, is_user_atom, child, exits, first_point, follow}
 use Rattle.apd_record.specs.Reading.{point_of}
 use Rattle.apd_answers.specs.declared.question.Question.{Question}
@@ -19,24 +21,12 @@ use Rattle.apd_answers.specs.Questions.{with_values}
 use Rattle.apd_answers.specs.Store.{decided}
 use Rattle.apd_answers.specs.Findings.{instance_for}
 use Rattle.apd_answers.specs.Dialogue.{Turn, asks, goes, ends, Diagnosis}
-use Rattle.apd_missing.specs.Truths.{is_true_atom}
-
--- a goal that has no answer in a box
-pub record Unanswered : Type 0 where
-  pub box_no : ℕ
-  pub goal : Term
+pub use Rattle.apd_missing.specs.declared.state.Unanswered.{Unanswered}
 
 -- a clause that is looked at: its number, and its instance for the goal
 pub record Looked : Type 0 where
   pub clause : ℕ
   pub instance : Tuple
-
-abbrev pub is_nil : List ℕ → Bool
-is_nil [] = true
-is_nil (v ∷ vs) = false
-
-abbrev pub is_ground : Term → Bool
-is_ground t = is_nil (variables t)
 
 abbrev pub is_false_builtin : Term → Bool
 is_false_builtin a = not (is_user_atom a) && (is_ground a && not (is_true_atom a))
@@ -45,19 +35,26 @@ abbrev pub is_no : Option Reply → Bool
 is_no (Some No) = true
 is_no _ = false
 
+abbrev pub is_denied_atom : List Pair → Term → Bool
+is_denied_atom pairs a = is_user_atom a && is_no (decided pairs (asking.True a))
+
 -- No to an atom of a ground body
 abbrev pub is_denied : List Pair → List Term → Bool
-is_denied pairs body = list_all is_ground body && list_any (λ a. is_user_atom a && is_no (decided pairs (asking.True a))) body
+is_denied pairs body = list_all is_ground body && list_any (is_denied_atom pairs) body
 
 -- the body has no solution by the replies
 abbrev pub is_closed : List Pair → Tuple → Bool
 is_closed pairs t = list_any is_false_builtin t.body || (is_no (decided pairs (asking.Covers t)) || is_denied pairs t.body)
 
--- the first clause for the goal whose body isn't closed, where the first of these has number n
+-- a clause for the goal whose body isn't closed
+abbrev pub is_open : List Pair → Term → Tuple → Bool
+is_open pairs goal c = is_instance goal c.head && not (is_closed pairs (instance_for c goal))
+
+-- the first of them, where the first of these clauses has number n
 abbrev pub first_open : List Pair → Term → ℕ → List Tuple → Option Looked
 first_open pairs goal n [] = None
 first_open pairs goal n (c ∷ cs) =
-    if is_instance goal c.head && not (is_closed pairs (instance_for c goal))
+    if is_open pairs goal c
     then Some (record { clause = n; instance = instance_for c goal })
     else first_open pairs goal (n + 1) cs
 
@@ -106,8 +103,17 @@ after_values R s l (Values values) = state_after s (followed R s l.clause (with_
 after_values R s l Yes = s
 after_values R s l No = s
 
+abbrev pub is_yes : Reply → Bool
+is_yes Yes = true
+is_yes No = false
+is_yes (Values values) = false
+
 abbrev pub alone : Question → Asked
 alone question = record { question = question; suspects = None }
+
+-- whether a body has a solution is asked in canonical form
+abbrev pub covers : Tuple → Asked
+covers t = alone (asking.Covers (canonical_tuple t))
 
 -- an atom of a ground body; where all are true, the record is followed
 abbrev pub turn_of_ground : Recorded → Unanswered → Looked → Option Term → Turn Unanswered Finding
@@ -119,7 +125,7 @@ turn_of R pairs s None = ends (Uncovered s.goal)
 turn_of R pairs s (Some l) =
     if list_all is_ground l.instance.body
     then turn_of_ground R s l (first_undecided pairs l.instance.body)
-    else asks (alone (asking.Covers l.instance)) (after_values R s l)
+    else asks (covers l.instance) (after_values R s l)
 
 -- the boxes that are looked at have rising numbers
 abbrev pub missing : List Tuple → Recorded → Diagnosis Unanswered Finding

@@ -1,0 +1,220 @@
+-- Bodies that the replies make true: those of a clause's instance without variables, and those with values for their variables.
+use Rattle.std.proofs.Common.{◌≡◌, inl, inr, ℕ, suc, ◌+◌, ◌++◌, ◌&&◌, ◌||◌, not, Bool, true, false, List, [], ◌∷◌, Option, Some, None, refl, sym, ◌∙◌, ap, subst, arith}
+use Rattle.std.specs.Prelude.{IsSome, slice_get}
+use Rattle.std.specs.List.{enumerate_from, flat_map, list_all, list_any, AllByRecursion}
+use Rattle.apd_term.specs.Term.{Term, variable, variables, apply, IsGround}
+use Rattle.apd_term.specs.Canonical.{by_appearance, place_of}
+use Rattle.apd_term.specs.Matching.{matching, is_instance}
+use Rattle.apd_term.specs.Substitution.{IsInstance, term_for}
+use Rattle.apd_term.specs.Tuple.{canonical_tuple, variables_of_tuple, IsTupleInstance}
+use Rattle.apd_term.specs.declared.tuple.Tuple.{Tuple}
+use Rattle.apd_term.proofs.Applying.{apply-variable}
+use Rattle.apd_term.proofs.Ground.{apply-ground}
+use Rattle.apd_term.proofs.Opposite.{matching-makes, is_instance-is}
+use Rattle.apd_term.proofs.Tuples.{canonical_is_instance, IsTupleInstance-trans, IsTupleInstance_from_variants}
+use Rattle.apd_arith.specs.declared.goal.Builtin.{Builtin}
+use Rattle.apd_arith.specs.Builtins.{builtin_of_atom}
+use Rattle.apd_arith.specs.Truth.{IsTrueAtom}
+use Rattle.apd_arith.specs.Truths.{is_ground, is_true_atom}
+use Rattle.apd_arith.proofs.Tests.{is_true-is, all_ground}
+use Rattle.apd_record.specs.Recorded.{is_none, is_user_atom}
+use Rattle.apd_record.specs.Sound.{clause_of, IsAlwaysTrue}
+use Rattle.apd_record.specs.Full.{IsGroundTuple}
+use Rattle.apd_answers.specs.declared.question.Question.TheVariants as asking
+use Rattle.apd_answers.specs.declared.question.Reply.{Reply}
+use Rattle.apd_answers.specs.declared.store.Pair.{Pair}
+use Rattle.apd_answers.specs.Findings.{Grants, GrantsBy, instance_for}
+use Rattle.apd_answers.specs.Questions.{FitsBody, IsTrueIfBuiltin, body_with, with_values}
+use Rattle.apd_answers.specs.Store.{decided, SaysYes, SomeTerm}
+use Rattle.apd_answers.proofs.Decided.{decided-yes, decided-truth}
+use Rattle.apd_answers.proofs.Tests.{both}
+use Rattle.apd_missing.specs.Missing.{Looked, is_false_builtin, is_no, is_denied, is_closed, first_open, is_undecided, first_undecided}
+use Rattle.apd_missing.proofs.Tests.{by_test, not_true}
+use Rattle.apd_missing.proofs.Places.{values_ground}
+
+-- a body that has no variables, is true by the replies, and is one of an instance of the clause with this head
+pub record IsGiven (pairs : List Pair) (rule : Tuple) (goal : Term) (body : List Term) : Type 0 where
+  pub instance : IsTupleInstance (record { head = goal; body = body }) rule
+  pub has_no_variable : IsGroundTuple (record { head = goal; body = body })
+  pub granted : AllByRecursion (Grants pairs) body
+
+-- the clause that is looked at
+pub record IsLooked (pairs : List Pair) (goal : Term) (n : ℕ) (cs : List Tuple) (l : Looked) : Type 0 where
+  pub place : ℕ
+  pub rule : Tuple
+  pub there : slice_get cs place ≡ Some rule
+  pub number : l.clause ≡ n + place
+  pub matches : is_instance goal rule.head ≡ true
+  pub is_open : is_closed pairs (instance_for rule goal) ≡ false
+  pub is : l.instance ≡ instance_for rule goal
+
+pub looked : (pairs : List Pair) (goal : Term) (n : ℕ) (cs : List Tuple) (l : Looked) → first_open pairs goal n cs ≡ Some l → IsLooked pairs goal n cs l
+looked pairs goal n [] l e = absurd (cc)
+looked pairs goal n (c ∷ cs) l e =
+    by_test (is_instance goal c.head && not (is_closed pairs (instance_for c goal)))
+    (λ t.
+    let k : Some (record { clause = n; instance = instance_for c goal }) ≡ Some l = rw t at e in
+    let same : (let x : Looked = record { clause = n; instance = instance_for c goal } in x) ≡ l = cc in
+    let p = both (is_instance goal c.head) (not (is_closed pairs (instance_for c goal))) t in
+    record {
+      place = 0;
+      rule = c;
+      there = refl;
+      number = sym (ap (λ (x : Looked). x.clause) same) ∙ (omega arith);
+      matches = p.0;
+      is_open = not_true (is_closed pairs (instance_for c goal)) p.1;
+      is = sym (ap (λ (x : Looked). x.instance) same);
+    })
+    (λ t.
+    let k = looked pairs goal (n + 1) cs l (rw t at e) in
+    record {
+      place = suc k.place;
+      rule = k.rule;
+      there = k.there;
+      number = (let m = k.number in omega (arith, m));
+      matches = k.matches;
+      is_open = k.is_open;
+      is = k.is;
+    })
+
+-- it is the clause of its number
+pub looked_clause : (pairs : List Pair) (goal : Term) (P : List Tuple) (l : Looked) → (k : IsLooked pairs goal 1 P l) → clause_of P l.clause ≡ Some k.rule
+looked_clause pairs goal P l k =
+    let e : l.clause ≡ suc k.place = (let m = k.number in omega (arith, m)) in
+    subst (λ i. clause_of P i ≡ Some k.rule) (sym e) k.there
+
+pub instance_of_rule : (rule : Tuple) (goal : Term) → is_instance goal rule.head ≡ true → IsTupleInstance (instance_for rule goal) rule
+instance_of_rule rule goal e =
+    let m = matching-makes goal rule.head ((is_instance-is goal rule.head).0 e) in
+    (matching rule.head goal, rw m refl)
+
+-- bodies without variables
+ground_list : (ts : List Term) → AllByRecursion IsGround ts → flat_map variables ts ≡ []
+ground_list [] h = refl
+ground_list (t ∷ ts) h = rw (h.0, ground_list ts h.1) refl
+
+list_ground : (ts : List Term) → flat_map variables ts ≡ [] → AllByRecursion IsGround ts
+list_ground [] h = tt
+list_ground (t ∷ ts) h = let p = parts (variables t) (flat_map variables ts) h in (p.0, list_ground ts p.1)
+  where
+    parts : (xs ys : List ℕ) → xs ++ ys ≡ [] → (xs ≡ []) × (ys ≡ [])
+    parts [] ys h = (refl, h)
+    parts (x ∷ xs) ys h = cc
+
+tuple_ground : (goal : Term) (body : List Term) → IsGround goal → flat_map variables body ≡ [] → IsGroundTuple (record { head = goal; body = body })
+tuple_ground goal body g h = rw (g, h) refl
+
+ground_true : (a : Term) → IsGround a → IsTrueAtom a → IsAlwaysTrue a
+ground_true a g t = λ s h. subst IsTrueAtom (sym (apply-ground s a g)) t
+
+-- an atom of a body without variables that isn't closed, and of which all is decided
+granted_by : (pairs : List Pair) (a : Term) → IsGround a → (o : Option Builtin) → (is_none o ≡ true → SaysYes pairs a) → (is_none o ≡ false → IsTrueAtom a) → GrantsBy o pairs a
+granted_by pairs a g None says truth = says refl
+granted_by pairs a g (Some goal) says truth = ground_true a g (truth refl)
+
+no_any : {X : Type 0} (p : X → Bool) (x : X) (xs : List X) → list_any p (x ∷ xs) ≡ false → (p x ≡ false) × (list_any p xs ≡ false)
+no_any p x xs e = by (p x) refl
+  where
+    by : (b : Bool) → p x ≡ b → (p x ≡ false) × (list_any p xs ≡ false)
+    by true h = let bad : true ≡ false = rw h at e in absurd (cc)
+    by false h = (h, rw h at e)
+
+-- a true reply that isn't no is yes
+yes_of : (pairs : List Pair) (a : Term) → (o : Option Reply) → decided pairs (asking.True a) ≡ o → is_undecided o ≡ false → is_no o ≡ false → SaysYes pairs a
+yes_of pairs a None d u n = absurd (cc)
+yes_of pairs a (Some r) d u n = elim (decided-truth pairs a r d) [
+  | inl e ↦ decided-yes pairs a (d ∙ ap (λ x. Some x) e)
+  | inr e ↦ let bad : true ≡ false = ap (λ x. is_no (Some x)) (sym e) ∙ n in absurd (cc)
+]
+
+true_of : (a : Term) → IsGround a → is_user_atom a ≡ false → is_ground a ≡ true → is_false_builtin a ≡ false → IsTrueAtom a
+true_of a g u h f = (is_true-is a).0 (by (is_true_atom a) refl)
+  where
+    by : (b : Bool) → is_true_atom a ≡ b → b ≡ true
+    by true e = refl
+    by false e = let bad : true ≡ false = rw (u, h, e) at f in absurd (cc)
+
+all_granted : (pairs : List Pair) (body : List Term) → list_all is_ground body ≡ true → AllByRecursion IsGround body → list_any is_false_builtin body ≡ false
+    → list_any (λ a. is_user_atom a && is_no (decided pairs (asking.True a))) body ≡ false → first_undecided pairs body ≡ None → AllByRecursion (Grants pairs) body
+all_granted pairs [] t g f d u = tt
+all_granted pairs (a ∷ body) t g f d u =
+    let p = both (is_ground a) (list_all is_ground body) t in
+    let x = no_any is_false_builtin a body f in
+    let y = no_any (λ b. is_user_atom b && is_no (decided pairs (asking.True b))) a body d in
+    by_test (is_user_atom a && is_undecided (decided pairs (asking.True a)))
+    (λ h. let bad : Some a ≡ None = rw h at u in absurd (cc))
+    (λ h. (
+      granted_by pairs a g.0 (builtin_of_atom a)
+          (λ user.
+          let i : is_undecided (decided pairs (asking.True a)) ≡ false = rw user at h in
+          let j : is_no (decided pairs (asking.True a)) ≡ false = rw user at y.0 in
+          yes_of pairs a (decided pairs (asking.True a)) refl i j)
+          (λ builtin. true_of a g.0 builtin p.0 x.0),
+      all_granted pairs body p.1 g.1 x.1 y.1 (rw h at u),
+    ))
+
+pub no_either : (a b : Bool) → (a || b) ≡ false → (a ≡ false) × (b ≡ false)
+no_either true b e = absurd (cc)
+no_either false b e = (refl, e)
+
+-- the body of an instance without variables that isn't closed, and of which all is decided
+pub given_ground : (pairs : List Pair) (rule : Tuple) (goal : Term) → IsGround goal → is_instance goal rule.head ≡ true → is_closed pairs (instance_for rule goal) ≡ false
+    → list_all is_ground (instance_for rule goal).body ≡ true → first_undecided pairs (instance_for rule goal).body ≡ None → IsGiven pairs rule goal (instance_for rule goal).body
+given_ground pairs rule goal g m c t u =
+    let body = (instance_for rule goal).body in
+    let p = no_either (list_any is_false_builtin body) (is_no (decided pairs (asking.Covers (instance_for rule goal))) || is_denied pairs body) c in
+    let q = no_either (is_no (decided pairs (asking.Covers (instance_for rule goal)))) (is_denied pairs body) p.1 in
+    let d : list_any (λ a. is_user_atom a && is_no (decided pairs (asking.True a))) body ≡ false = rw t at q.1 in
+    let ground = all_ground body t in
+    record {
+      instance = instance_of_rule rule goal m;
+      has_no_variable = tuple_ground goal body g (ground_list body ground);
+      granted = all_granted pairs body t ground p.0 d u;
+    }
+
+-- the atoms of a body are instances of themselves
+all_map : (P Q : Term → Type 0) → ((t : Term) → P t → Q t) → (ts : List Term) → AllByRecursion P ts → AllByRecursion Q ts
+all_map P Q f [] h = tt
+all_map P Q f (t ∷ ts) h = (f t h.0, all_map P Q f ts h.1)
+
+all_among : (ts : List Term) → AllByRecursion (λ a. SomeTerm (IsInstance a) ts) ts
+all_among [] = tt
+all_among (t ∷ ts) = (inl (variable, apply-variable t), all_map (λ a. SomeTerm (IsInstance a) ts) (λ a. SomeTerm (IsInstance a) (t ∷ ts)) (λ a h. inr h) ts (all_among ts))
+
+granted_value : (pairs : List Pair) (a : Term) (o : Option Builtin) → IsGround a → SaysYes pairs a → (IsSome o → IsTrueAtom a) → GrantsBy o pairs a
+granted_value pairs a None g y t = y
+granted_value pairs a (Some goal) g y t = ground_true a g (t refl)
+
+granted_values : (pairs : List Pair) (ts : List Term) → AllByRecursion IsGround ts → AllByRecursion (SaysYes pairs) ts → AllByRecursion IsTrueIfBuiltin ts → AllByRecursion (Grants pairs) ts
+granted_values pairs [] g y t = tt
+granted_values pairs (a ∷ ts) g y t = (granted_value pairs a (builtin_of_atom a) g.0 y.0 t.0, granted_values pairs ts g.1 y.1 t.1)
+
+-- what a tuple without variables in its head has the form of
+head_same : (u t : Tuple) → IsGround t.head → canonical_tuple u ≡ canonical_tuple t → u.head ≡ t.head
+head_same u t g e =
+    let i = IsTupleInstance_from_variants u t e in
+    sym (ap (λ (x : Tuple). x.head) i.1) ∙ apply-ground i.0 t.head g
+
+values_instance : (t : Tuple) (values : List Term) → IsGround t.head → IsTupleInstance (record { head = t.head; body = with_values t values }) t
+values_instance t values g =
+    let s = term_for (enumerate_from 1 values) in
+    let renaming : ℕ → Term = λ v. variable (place_of (by_appearance (variables_of_tuple t)) v) in
+    let head : apply s (apply renaming t.head) ≡ t.head = ap (apply s) (apply-ground renaming t.head g) ∙ apply-ground s t.head g in
+    IsTupleInstance-trans (record { head = t.head; body = with_values t values }) (canonical_tuple t) t (s, rw head refl) (canonical_is_instance t)
+
+-- the body of an instance with values that were said of a tuple with its canonical form
+pub given_values : (pairs : List Pair) (rule : Tuple) (goal : Term) (u : Tuple) (values : List Term) → IsGround goal → is_instance goal rule.head ≡ true → canonical_tuple u ≡ canonical_tuple (instance_for rule goal)
+    → FitsBody u values → ((a : Term) → SomeTerm (IsInstance a) (with_values u values) → SaysYes pairs a) → IsGiven pairs rule goal (with_values (instance_for rule goal) values)
+given_values pairs rule goal u values g m e f says =
+    let t = instance_for rule goal in
+    let same : with_values u values ≡ with_values t values = ap (λ x. body_with x values) e in
+    let head = head_same u t g e in
+    let ground : flat_map variables (with_values t values) ≡ [] = ap (flat_map variables) (sym same) ∙ values_ground u values (subst IsGround (sym head) g) f.ground f.count in
+    record {
+      instance = IsTupleInstance-trans (record { head = goal; body = with_values t values }) t rule (values_instance t values g) (instance_of_rule rule goal m);
+      has_no_variable = tuple_ground goal (with_values t values) g ground;
+      granted = subst (AllByRecursion (Grants pairs)) same
+          (granted_values pairs (with_values u values) (list_ground (with_values u values) (ap (flat_map variables) same ∙ ground))
+          (all_map (λ a. SomeTerm (IsInstance a) (with_values u values)) (SaysYes pairs) says (with_values u values) (all_among (with_values u values)))
+          f.builtins);
+    }

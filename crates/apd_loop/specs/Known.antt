@@ -1,37 +1,99 @@
 -- What a store says in each state of the diagnosis of a run that doesn't end.
-use Rattle.std.specs.Prelude.{◌≡◌, ◌⊎◌, ℕ, ◌+◌, ◌<◌, ◌≤◌, List, [], ◌∷◌, length, ⊤}
+use Rattle.std.specs.Prelude.{◌≡◌, ◌⊎◌, ℕ, ◌+◌, ◌<◌, ◌≤◌, List, [], ◌∷◌, length, None, ⊤}
 use Rattle.std.specs.List.{AllByRecursion}
 use Rattle.apd_term.specs.Term.{Term}
-use Rattle.apd_term.specs.Substitution.{IsInstance}
+use Rattle.apd_term.specs.Canonical.{canonical}
 use Rattle.apd_term.specs.declared.tuple.Tuple.{Tuple}
+use Rattle.apd_arith.specs.Builtins.{builtin_of_atom}
 use Rattle.apd_record.specs.Recorded.{Recorded}
+use Rattle.apd_record.specs.Chain.{EachOwnsNext}
 use Rattle.apd_answers.specs.declared.store.Pair.{Pair}
-use Rattle.apd_answers.specs.Store.{SaysBelow}
+use Rattle.apd_answers.specs.Fitting.{AllFit}
+use Rattle.apd_answers.specs.Store.{SaysBelow, SaysNo}
 use Rattle.apd_answers.specs.Bugs.{earlier_atoms}
 use Rattle.apd_answers.specs.Findings.{Apart, Grants}
-use Rattle.apd_divide.specs.Exits.{IsUserExit}
+use Rattle.apd_divide.specs.Exits.{IsLabelled}
+use Rattle.apd_divide.specs.Recorded.{tree}
+use Rattle.apd_divide.specs.Tree.{Tree, branching}
 use Rattle.apd_wrong.specs.Support.{IsWrongTree}
-use Rattle.apd_loop.specs.Loop.{Looping, whole, between, descending, rising, within, Earlier, call_of, numbered}
+use Rattle.apd_loop.specs.Loop.{Looping, whole, between, descending, rising, denied, within, Earlier, call_of, earlier_goals, numbered}
 
--- an atom is granted, or it is among the earlier goals that are left
+-- the boxes are a chain of two calls or more: each owns the point from which the next one was called, and the query that of
+-- the first
+pub record IsChain (R : Recorded) (chain : List ℕ) : Type 0 where
+  pub several : 2 ≤ length chain
+  pub owned : EachOwnsNext R 0 chain
+
+-- the canonical form of an atom is among the earlier goals that are left
 abbrev pub IsLeft : List Earlier → Term → Type 0
 IsLeft [] a = ⊥
-IsLeft (e ∷ es) a = (e.atom ≡ a) ⊎ IsLeft es a
+IsLeft (e ∷ es) a = (e.atom ≡ canonical a) ⊎ IsLeft es a
 
--- an earlier goal was solved by an exit
+-- and a goal with its exit
+abbrev pub IsAmong : List Earlier → Earlier → Type 0
+IsAmong [] g = ⊥
+IsAmong (e ∷ es) g = (e ≡ g) ⊎ IsAmong es g
+
+-- an earlier goal is one of the program's own, and was solved by its exit
 pub record IsSolved (R : Recorded) (e : Earlier) : Type 0 where
-  pub exit : IsUserExit R e.exit
-  pub instance : IsInstance e.atom exit.point.tuple.head
+  pub of_program : builtin_of_atom e.atom ≡ None
+  pub labelled : IsLabelled R e.exit e.atom
 
--- call i + 1 isn't below call i, and each earlier goal is granted or left
+-- of two calls beside each other the second isn't below the first, and each goal before it is granted or among those left
 pub record Rises (R : Recorded) (chain : List ℕ) (pairs : List Pair) (i : ℕ) (es : List Earlier) : Type 0 where
+  pub from : 1 ≤ i
+  pub to : i < length chain
   pub apart : Apart pairs (call_of R chain (i + 1)) (call_of R chain i)
   pub earlier : AllByRecursion (λ a. Grants pairs a ⊎ IsLeft es a) (earlier_atoms R (numbered 0 chain (i + 1)))
+  pub before : AllByRecursion (IsAmong (earlier_goals R chain i)) es
   pub solved : AllByRecursion (IsSolved R) es
 
-abbrev pub IsKnown : List Tuple → Recorded → List ℕ → List Pair → Looping → Type 0
-IsKnown P R chain pairs whole = ⊤
-IsKnown P R chain pairs (between low high) = (low < high) × Apart pairs (call_of R chain high) (call_of R chain low)
-IsKnown P R chain pairs (descending i) = (j : ℕ) → i < j → j < length chain → SaysBelow pairs (call_of R chain (j + 1)) (call_of R chain j)
-IsKnown P R chain pairs (rising i es) = Rises R chain pairs i es
-IsKnown P R chain pairs (within x) = IsWrongTree P pairs x
+-- a goal of the program's own isn't true by the store: it was solved, by its exit, before a call of the chain that isn't below
+-- its caller
+pub record IsDenied (R : Recorded) (chain : List ℕ) (pairs : List Pair) (e : Earlier) : Type 0 where
+  pub call : ℕ
+  pub from : 1 ≤ call
+  pub to : call < length chain
+  pub apart : Apart pairs (call_of R chain (call + 1)) (call_of R chain call)
+  pub before : IsAmong (earlier_goals R chain call) e
+  pub solved : IsSolved R e
+  pub not_true : SaysNo pairs e.atom
+
+-- the proof tree of such a goal
+pub record IsTreeOfDenied (R : Recorded) (chain : List ℕ) (pairs : List Pair) (x : Tree) : Type 0 where
+  pub goal : Earlier
+  pub denied : IsDenied R chain pairs goal
+  pub tree_is : x ≡ tree R goal.exit goal.atom
+
+-- a tree of a wrong answer, with no more children at any node than such a proof tree has
+pub record IsWithin (P : List Tuple) (R : Recorded) (chain : List ℕ) (pairs : List Pair) (x : Tree) : Type 0 where
+  pub wrong : IsWrongTree P pairs x
+  pub whole : Tree
+  pub of_denied : IsTreeOfDenied R chain pairs whole
+  pub branches : branching x ≤ branching whole
+
+-- call `high` isn't below the earlier call `low`
+pub record IsSegment (R : Recorded) (chain : List ℕ) (pairs : List Pair) (low high : ℕ) : Type 0 where
+  pub from : 1 ≤ low
+  pub order : low < high
+  pub to : high ≤ length chain
+  pub apart : Apart pairs (call_of R chain high) (call_of R chain low)
+
+-- each call after number i + 1 is below the one before
+pub record DescendsAfter (R : Recorded) (chain : List ℕ) (pairs : List Pair) (i : ℕ) : Type 0 where
+  pub to : i < length chain
+  pub below : (j : ℕ) → i < j → j < length chain → SaysBelow pairs (call_of R chain (j + 1)) (call_of R chain j)
+
+-- what the store says in a state
+abbrev pub IsSaid : List Tuple → Recorded → List ℕ → List Pair → Looping → Type 0
+IsSaid P R chain pairs whole = ⊤
+IsSaid P R chain pairs (between low high) = IsSegment R chain pairs low high
+IsSaid P R chain pairs (descending i) = DescendsAfter R chain pairs i
+IsSaid P R chain pairs (rising i es) = Rises R chain pairs i es
+IsSaid P R chain pairs (denied e) = IsDenied R chain pairs e
+IsSaid P R chain pairs (within x) = IsWithin P R chain pairs x
+
+-- and its replies fit their questions
+pub record IsKnown (P : List Tuple) (R : Recorded) (chain : List ℕ) (pairs : List Pair) (s : Looping) : Type 0 where
+  pub fit : AllFit pairs
+  pub said : IsSaid P R chain pairs s

@@ -1,19 +1,17 @@
 -- The diagnosis of a run that doesn't end (Shapiro 1983): among the calls of a chain it looks for one that isn't below its
 -- caller. Calls are numbered from 1.
-use Rattle.std.specs.Prelude.{ℕ, zero, suc, ◌+◌, ◌-◌, ◌/◌, nat_le, max, Bool, true, false, if◌then◌else◌, List, [], ◌∷◌, length, map, take, slice_get, Option, Some, None}
-use Rattle.std.specs.Option.{unwrap_or, option_map}
-use Rattle.apd_term.specs.Term.{Term, variable}
+use Rattle.std.specs.Prelude.{ℕ, zero, suc, ◌+◌, ◌-◌, ◌/◌, nat_le, max, if◌then◌else◌, List, [], ◌∷◌, length, map, take, slice_get, Option, Some, None}
+use Rattle.std.specs.Option.{unwrap_or}
+use Rattle.apd_term.specs.Term.{Term}
 use Rattle.apd_term.specs.Canonical.{canonical}
 use Rattle.apd_term.specs.Matching.{same_term}
 use Rattle.apd_record.specs.Recorded.{Recorded, is_user_atom}
 use Rattle.apd_record.specs.Reading.{call_atom, calling_point, row_of, exits_to}
-use Rattle.apd_answers.specs.declared.question.Question.{Question}
 use Rattle.apd_answers.specs.declared.question.Question.TheVariants as asking
 use Rattle.apd_answers.specs.declared.question.Reply.{Reply}
 use Rattle.apd_answers.specs.declared.question.Asked.{Asked}
 use Rattle.apd_answers.specs.declared.finding.Finding.{Finding}
 use Rattle.apd_answers.specs.declared.finding.Finding.TheVariants.{Violation}
-use Rattle.apd_answers.specs.declared.store.Pair.{Pair}
 use Rattle.apd_answers.specs.Bugs.{earlier_atoms}
 use Rattle.apd_answers.specs.Dialogue.{Turn, asks, goes, ends, Diagnosis}
 use Rattle.apd_divide.specs.declared.node.Strategy.{Strategy}
@@ -24,19 +22,20 @@ use Rattle.apd_wrong.specs.Wrong.{is_yes, turn_by}
 use Rattle.apd_loop.specs.declared.LoopEnd.{LoopEnd}
 use Rattle.apd_loop.specs.declared.LoopEnd.TheVariants.{Found, AllDescend}
 
--- a goal that was solved before the callee was called, and the exit that solved it
+-- a goal that was solved before the callee was called, in canonical form, and the exit that solved it
 pub record Earlier : Type 0 where
   pub exit : ℕ
   pub atom : Term
 
 -- what is known: nothing; that call `high` isn't below call `low`; that the last call is below the first, and each call after
 -- number i + 1 is below the one before; that call i + 1 isn't below call i, with the earlier goals that are left to ask about;
--- or that an earlier goal isn't true
+-- that an earlier goal isn't true; or that a proof tree is one of a wrong answer
 pub data Looping : Type 0 where
   whole : Looping
   between : (low high : ℕ) → Looping
   descending : ℕ → Looping
   rising : ℕ → List Earlier → Looping
+  denied : Earlier → Looping
   within : Tree → Looping
 
 -- number i of the calls
@@ -51,13 +50,15 @@ abbrev pub earlier_from : List Term → List ℕ → List Earlier
 earlier_from [] exits = []
 earlier_from (a ∷ atoms) [] = []
 earlier_from (a ∷ atoms) (e ∷ exits) =
-    if is_user_atom a then record { exit = e; atom = a } ∷ earlier_from atoms exits else earlier_from atoms exits
+    if is_user_atom a then record { exit = e; atom = canonical a } ∷ earlier_from atoms exits else earlier_from atoms exits
 
--- the goals before call i + 1 in the body that it was called from
+-- the goals before the call of a box in the body that it was called from
+abbrev pub earlier_to : Recorded → ℕ → List Earlier
+earlier_to R callee = earlier_from (earlier_atoms R callee) (exits_to R (row_of R callee).from)
+
+-- those before call i + 1
 abbrev pub earlier_goals : Recorded → List ℕ → ℕ → List Earlier
-earlier_goals R chain i =
-    let callee = numbered 0 chain (i + 1) in
-    earlier_from (earlier_atoms R callee) (exits_to R (row_of R callee).from)
+earlier_goals R chain i = earlier_to R (numbered 0 chain (i + 1))
 
 abbrev pub violation : Recorded → List ℕ → ℕ → Finding
 violation R chain i =
@@ -89,17 +90,18 @@ turn_in R chain strategy (descending (suc i)) =
     asks (below R chain (suc i + 1) (suc i)) (by_yes (descending i) (rising (suc i) (earlier_goals R chain (suc i))))
 turn_in R chain strategy (rising i []) = ends (Found (violation R chain i))
 turn_in R chain strategy (rising i (e ∷ es)) =
-    asks (record { question = asking.True e.atom; suspects = None }) (by_yes (rising i es) (within (tree R e.exit e.atom)))
+    asks (record { question = asking.True e.atom; suspects = None }) (by_yes (rising i es) (denied e))
+turn_in R chain strategy (denied e) = goes (within (tree R e.exit e.atom))
 turn_in R chain strategy (within x) = inside within Found (turn_by x (choice strategy x))
 
 abbrev pub left_in : Looping → Option ℕ
 left_in (within x) = Some (suspects x)
 left_in _ = None
 
--- how many questions there are about earlier goals, at most
+-- how many turns there are about earlier goals, at most
 abbrev pub earlier_bound : Recorded → List Earlier → ℕ
 earlier_bound R [] = 0
-earlier_bound R (e ∷ es) = suspects (tree R e.exit e.atom) + earlier_bound R es + 1
+earlier_bound R (e ∷ es) = suspects (tree R e.exit e.atom) + earlier_bound R es + 2
 
 -- the same, for one of the calls from number `low` on, n + 1 of them
 abbrev pub greatest_bound : Recorded → List ℕ → ℕ → ℕ → ℕ
@@ -111,6 +113,7 @@ bound_in R chain whole = length chain + greatest_bound R chain 0 (length chain +
 bound_in R chain (between low high) = (high - low) + greatest_bound R chain low (high - low) + 1
 bound_in R chain (descending i) = i + greatest_bound R chain 0 i + 1
 bound_in R chain (rising i es) = earlier_bound R es
+bound_in R chain (denied e) = suspects (tree R e.exit e.atom) + 1
 bound_in R chain (within x) = suspects x
 
 abbrev pub loop : Recorded → List ℕ → Strategy → Diagnosis Looping LoopEnd
@@ -134,6 +137,10 @@ abbrev pub start_from : List Term → ℕ → List Term → Looping
 start_from calls j [] = whole
 start_from calls j (q ∷ qs) = repeated_or j (equal_from q 1 (take (j - 1) calls)) (start_from calls (j + 1) qs)
 
+-- the calls of a chain in canonical form
+abbrev pub calls_in : Recorded → List ℕ → List Term
+calls_in R chain = map (λ b. canonical (call_atom R b)) chain
+
 -- equal calls don't descend; where there are none, the last call and the first are asked about
 abbrev pub loop_start : Recorded → List ℕ → Looping
-loop_start R chain = let calls = map (λ b. canonical (call_atom R b)) chain in start_from calls 1 calls
+loop_start R chain = let calls = calls_in R chain in start_from calls 1 calls

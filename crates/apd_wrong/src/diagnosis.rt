@@ -24,7 +24,7 @@ use apd_term::Flat;
 use std::alloc::Global;
 
 /// Whether a reply is yes.
-fn is_yes(reply: &Reply) -> bool
+pub fn is_yes(reply: &Reply) -> bool
     ensures { result ≡ is_yes reply.now }
 {
     match reply {

@@ -4,4 +4,4 @@
 pub mod diagnosis;
 pub mod laws;
 
-pub use diagnosis::diagnose_wrong;
+pub use diagnosis::{diagnose_wrong, is_yes};

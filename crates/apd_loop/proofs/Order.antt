@@ -1,0 +1,137 @@
+-- What a store says of the order of calls, and what it goes on to say when a pair comes to it.
+use Rattle.std.proofs.Common.{◌≡◌, inl, inr, true, List, [], ◌∷◌, Option, Some, None, refl, sym, ◌∙◌, ap, subst}
+use Rattle.std.specs.List.{AllByRecursion}
+use Rattle.apd_term.specs.Term.{Term, variable, integer, compound, variables}
+use Rattle.apd_term.specs.Canonical.{canonical, place_of, by_appearance}
+use Rattle.apd_term.specs.Substitution.{IsInstance}
+use Rattle.apd_term.proofs.Spelling.{length-apply_all}
+use Rattle.apd_term.proofs.Variants.{IsInstance-canonical, IsInstance-trans}
+use Rattle.apd_arith.specs.declared.goal.Builtin.{Builtin}
+use Rattle.apd_arith.specs.Builtins.{builtin_of, builtin_of_atom}
+use Rattle.apd_record.specs.Recorded.{is_none, is_user_atom}
+use Rattle.apd_answers.specs.declared.question.Question.{Question}
+use Rattle.apd_answers.specs.declared.question.Question.TheVariants as asking
+use Rattle.apd_answers.specs.declared.question.Reply.{Reply}
+use Rattle.apd_answers.specs.declared.question.Reply.TheVariants.{Yes, No, Values}
+use Rattle.apd_answers.specs.declared.store.Pair.{Pair}
+use Rattle.apd_answers.specs.Fitting.{AllFit}
+use Rattle.apd_answers.specs.Questions.{canonical_question, with_values, Fits}
+use Rattle.apd_answers.specs.Store.{same_question, told, decided, with_pair, SomePair, SomeTerm, TellsYes, TellsBelow, SaysYes, SaysNo}
+use Rattle.apd_answers.specs.Findings.{Apart, same, said, through, Grants, GrantsBy}
+use Rattle.apd_answers.proofs.Tests.{same_question-equal, then_some-is}
+use Rattle.apd_answers.proofs.Decided.{first_there, decided-yes, decided-no, decided-truth, some_pair-kept, some_pair-added, added-yes, added-no}
+
+-- a reply to the question whether the one call is below the other tells just that
+tells : (r : Reply) (q p : Term) (x : Question) → canonical_question x ≡ canonical_question (asking.Below q p) → TellsBelow r q p x r
+tells r q p (asking.True a) e = absurd (cc)
+tells r q p (asking.Covers t) e = absurd (cc)
+tells r q p (asking.Below y z) e =
+    let f : canonical y ≡ canonical q = cc in
+    let g : canonical z ≡ canonical p = cc in
+    (refl, f, g)
+
+fits-order : (q p : Term) (x : Question) (r : Reply) → canonical_question x ≡ canonical_question (asking.Below q p) → Fits x r → Fits (asking.Below q p) r
+fits-order q p (asking.True a) r e f = absurd (cc)
+fits-order q p (asking.Covers t) r e f = absurd (cc)
+fits-order q p (asking.Below y z) Yes e f = tt
+fits-order q p (asking.Below y z) No e f = tt
+fits-order q p (asking.Below y z) (Values vs) e f = absurd f
+
+-- what is decided of the order is said
+pub decided-order : (pairs : List Pair) (q p : Term) (r : Reply) → AllFit pairs → decided pairs (asking.Below q p) ≡ Some r → SomePair (TellsBelow r q p) pairs × Fits (asking.Below q p) r
+decided-order [] q p r fit e = absurd (cc)
+decided-order (pair ∷ pairs) q p r fit e = elim (first_there (told pair (asking.Below q p)) (decided pairs (asking.Below q p)) r e) [
+  | inl h ↦
+      let t = then_some-is (same_question (canonical_question pair.question) (canonical_question (asking.Below q p))) pair.reply r h in
+      let s = same_question-equal (canonical_question pair.question) (canonical_question (asking.Below q p)) t.0 in (
+        inl (subst (λ y. TellsBelow r q p pair.question y) (sym t.1) (tells r q p pair.question s)),
+        subst (Fits (asking.Below q p)) t.1 (fits-order q p pair.question pair.reply s fit.0),
+      )
+  | inr h ↦ (let d = decided-order pairs q p r fit.1 h.1 in (inr d.0, d.1))
+]
+
+pub added-order : (pairs : List Pair) (q p : Term) (r : Reply) → SomePair (TellsBelow r q p) (with_pair pairs (asking.Below q p) r)
+added-order pairs q p r = some_pair-added (TellsBelow r q p) pairs (asking.Below q p) r (tells r q p)
+
+-- what is said of the truth of an atom
+abbrev pub SaysTruth : List Pair → Term → Reply → Type 0
+SaysTruth pairs a Yes = SaysYes pairs a
+SaysTruth pairs a No = SaysNo pairs a
+SaysTruth pairs a (Values vs) = ⊥
+
+pub decided-says : (pairs : List Pair) (a : Term) (r : Reply) → decided pairs (asking.True a) ≡ Some r → SaysTruth pairs a r
+decided-says pairs a Yes e = decided-yes pairs a e
+decided-says pairs a No e = decided-no pairs a e
+decided-says pairs a (Values vs) e = elim (decided-truth pairs a (Values vs) e) [ inl f ↦ absurd (cc) | inr f ↦ absurd (cc) ]
+
+pub added-says : (pairs : List Pair) (a : Term) (r : Reply) → Fits (asking.True a) r → SaysTruth (with_pair pairs (asking.True a) r) a r
+added-says pairs a Yes f = added-yes pairs a
+added-says pairs a No f = added-no pairs a
+added-says pairs a (Values vs) f = absurd f
+
+-- the store stayed, or a pair came to it
+pub data Later (pairs : List Pair) : List Pair → Type 0 where
+  stayed : Later pairs pairs
+  added : (q : Question) (r : Reply) → Later pairs (with_pair pairs q r)
+
+pub later : (P : Question → Reply → Type 0) (pairs kept : List Pair) → Later pairs kept → SomePair P pairs → SomePair P kept
+later P pairs _ stayed o = o
+later P pairs _ (added q r) o = some_pair-kept P pairs q r o
+
+pub apart-later : (pairs kept : List Pair) (q p : Term) → Later pairs kept → Apart pairs q p → Apart kept q p
+apart-later pairs kept _ _ l (same q) = same q
+apart-later pairs kept _ _ l (said q p o) = said q p (later (TellsBelow No q p) pairs kept l o)
+apart-later pairs kept _ _ l (through q p r o a) = through q p r (later (TellsBelow Yes p r) pairs kept l o) (apart-later pairs kept q r l a)
+
+pub grants-later : (pairs kept : List Pair) (a : Term) → Later pairs kept → Grants pairs a → Grants kept a
+grants-later pairs kept a l g = by (builtin_of_atom a) g
+  where
+    by : (o : Option Builtin) → GrantsBy o pairs a → GrantsBy o kept a
+    by None h = later (TellsYes a) pairs kept l h
+    by (Some b) h = h
+
+pub grants-said : (pairs : List Pair) (a : Term) → builtin_of_atom a ≡ None → SaysYes pairs a → Grants pairs a
+grants-said pairs a e y = subst (λ o. GrantsBy o pairs a) (sym e) y
+
+-- an atom and its canonical form
+pub canonical-instance : (a : Term) → IsInstance (canonical a) a
+canonical-instance a = ((λ v. variable (place_of (by_appearance (variables a)) v)), refl)
+
+pub user-canonical : (a : Term) → is_user_atom (canonical a) ≡ is_user_atom a
+user-canonical (variable v) = refl
+user-canonical (integer i) = refl
+user-canonical (compound f ts) =
+    ap (λ n. is_none (builtin_of (record { name = f; arity = n }))) (length-apply_all (λ v. variable (place_of (by_appearance (variables (compound f ts))) v)) ts)
+
+none_is : (o : Option Builtin) → is_none o ≡ true → o ≡ None
+none_is None e = refl
+none_is (Some g) e = absurd (cc)
+
+pub not_builtin : (a b : Term) → is_user_atom a ≡ is_user_atom b → builtin_of_atom b ≡ None → builtin_of_atom a ≡ None
+not_builtin a b e f = none_is (builtin_of_atom a) (e ∙ ap is_none f)
+
+terms-canonical : (a : Term) (ts : List Term) → SomeTerm (IsInstance (canonical a)) ts → SomeTerm (IsInstance a) ts
+terms-canonical a [] h = h
+terms-canonical a (t ∷ ts) (inl i) = inl (IsInstance-trans a (canonical a) t (IsInstance-canonical a) i)
+terms-canonical a (t ∷ ts) (inr h) = inr (terms-canonical a ts h)
+
+tells-canonical : (a : Term) (q : Question) (r : Reply) → TellsYes (canonical a) q r → TellsYes a q r
+tells-canonical a (asking.True b) Yes i = IsInstance-trans a (canonical a) b (IsInstance-canonical a) i
+tells-canonical a (asking.True b) No h = h
+tells-canonical a (asking.True b) (Values vs) h = h
+tells-canonical a (asking.Covers t) (Values vs) h = terms-canonical a (with_values t vs) h
+tells-canonical a (asking.Covers t) Yes h = h
+tells-canonical a (asking.Covers t) No h = h
+tells-canonical a (asking.Below q p) r h = h
+
+says-canonical : (pairs : List Pair) (a : Term) → SaysYes pairs (canonical a) → SaysYes pairs a
+says-canonical [] a h = h
+says-canonical (pair ∷ pairs) a (inl h) = inl (tells-canonical a pair.question pair.reply h)
+says-canonical (pair ∷ pairs) a (inr h) = inr (says-canonical pairs a h)
+
+pub grants-canonical : (pairs : List Pair) (a : Term) → builtin_of_atom (canonical a) ≡ None → SaysYes pairs (canonical a) → Grants pairs a
+grants-canonical pairs a e y = grants-said pairs a (not_builtin a (canonical a) (sym (user-canonical a)) e) (says-canonical pairs a y)
+
+pub all-map : {X : Type 0} (P Q : X → Type 0) → ((x : X) → P x → Q x) → (xs : List X) → AllByRecursion P xs → AllByRecursion Q xs
+all-map P Q h [] a = tt
+all-map P Q h (x ∷ xs) a = (h x a.0, all-map P Q h xs a.1)

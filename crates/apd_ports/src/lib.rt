@@ -4,6 +4,7 @@
 pub mod event;
 pub mod filter;
 pub mod hook;
+pub mod laws;
 pub mod point;
 
 pub use event::{Event, Port};

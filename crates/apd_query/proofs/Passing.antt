@@ -1,12 +1,12 @@
 -- What a printer prints of all that it is shown.
 use Rattle.std.proofs.Common.{◌≡◌, ℕ, ◌+◌, ◌<◌, ◌≤◌, ◌^◌, inl, inr, List, [], ◌∷◌, ◌++◌, refl, ap, sym, ◌∙◌, arith, append_assoc, Option, subst, zero, suc}
-use Rattle.std.specs.Prelude.{Result, Ok, Err}
+use Rattle.std.specs.Prelude.{Result, Ok, Err, OnOk}
 use Rattle.apd_io.specs.Outside.{Adds}
 use Rattle.apd_console.specs.Print.{AddsFront}
 use Rattle.apd_console.proofs.Printing.{Adds-self, Adds-more, front_self}
 use Rattle.apd_ops.specs.Table.{Table}
 use Rattle.apd_ports.specs.Hook.{GoesThrough, GoesInto, StopsAt}
-use Rattle.apd_ports.specs.declared.filter.Filter.{Filter}
+use Rattle.apd_ports.specs.Filter.{Admission}
 use Rattle.apd_ports.specs.declared.hook.HookFault.{HookFault}
 use Rattle.apd_ports.specs.declared.hook.Shown.{Shown}
 use Rattle.apd_ports.specs.declared.hook.Shown.TheVariants.{Port, Answer}
@@ -19,7 +19,7 @@ use Rattle.apd_causes.specs.declared.run.Query.{Query}
 use Rattle.apd_trace.specs.Trace.{trace}
 use Rattle.apd_query.specs.declared.printer.Printer.{Printer}
 use Rattle.apd_query.specs.Printing.{Prints, next_number, counted}
-use Rattle.apd_query.specs.Runs.{one_text, next_after, shown_text, run_for}
+use Rattle.apd_query.specs.Runs.{one_text, next_admission, next_after, shown_text, run_for}
 
 -- the front of a text, after a part that was printed, and before one that wasn't
 pub front_more : (x y z : Option (List ℕ)) (a b : List ℕ) → Adds x y a → AddsFront y z b → AddsFront x z (a ++ b)
@@ -53,11 +53,12 @@ pub record Reads {H : Type 0} (step : H → Shown → Result (Unit {0}) HookFaul
   pub ops : H → Table
   pub names : H → List (List ℕ)
   pub vars : H → List (List ℕ)
-  pub filter : H → Filter
+  pub admission : H → Admission
   pub held : H → Option (List ℕ)
   pub count : H → ℕ
-  pub same : (p : H) (x : Shown) (r : Result (Unit {0}) HookFault) (q : H) → step p x r q → (ops q ≡ ops p) × (names q ≡ names p) × (vars q ≡ vars p) × (filter q ≡ filter p)
-  pub prints : (p : H) (x : Shown) (r : Result (Unit {0}) HookFault) (q : H) → step p x r q → Prints (ops p) (names p) (vars p) (filter p) (held p) (held q) (count p) (count q) x r
+  pub same : (p : H) (x : Shown) (r : Result (Unit {0}) HookFault) (q : H) → step p x r q → (ops q ≡ ops p) × (names q ≡ names p) × (vars q ≡ vars p)
+  pub moves : (p : H) (x : Shown) (q : H) → step p x (Ok tt) q → admission q ≡ next_admission (admission p) x
+  pub prints : (p : H) (x : Shown) (r : Result (Unit {0}) HookFault) (q : H) → step p x r q → Prints (ops p) (names p) (vars p) (admission p) (held p) (held q) (count p) (count q) x r
 
 next_is : (n : ℕ) → n + 1 < 2 ^ 64 → next_number n ≡ n + 1
 next_is n small = omega (arith, small)
@@ -65,11 +66,11 @@ next_is n small = omega (arith, small)
 module _ {H : Type 0} (step : H → Shown → Result (Unit {0}) HookFault → H → Type 0) (r : Reads step) where
   -- the lines of what comes after
   abbrev to_come : H → List Shown → List ℕ
-  to_come p xs = shown_text (r.ops p) (r.names p) (r.vars p) (r.filter p) (r.count p + 1) xs
+  to_come p xs = shown_text (r.ops p) (r.names p) (r.vars p) (r.admission p) (r.count p + 1) xs
 
-  first_text : (p : H) (x : Shown) (xs : List Shown) → r.count p + answers_in (x ∷ xs) < 2 ^ 64 → one_text (r.ops p) (r.names p) (r.vars p) (r.filter p) (next_number (r.count p)) x ≡ one_text (r.ops p) (r.names p) (r.vars p) (r.filter p) (r.count p + 1) x
+  first_text : (p : H) (x : Shown) (xs : List Shown) → r.count p + answers_in (x ∷ xs) < 2 ^ 64 → one_text (r.ops p) (r.names p) (r.vars p) (r.admission p) (next_number (r.count p)) x ≡ one_text (r.ops p) (r.names p) (r.vars p) (r.admission p) (r.count p + 1) x
   first_text p (Port e) xs few = refl
-  first_text p (Answer a) xs few = ap (λ (n : ℕ). one_text (r.ops p) (r.names p) (r.vars p) (r.filter p) n (Answer a)) (next_is (r.count p) (omega (arith, few)))
+  first_text p (Answer a) xs few = ap (λ (n : ℕ). one_text (r.ops p) (r.names p) (r.vars p) (r.admission p) n (Answer a)) (next_is (r.count p) (omega (arith, few)))
 
   next_count : (p q : H) (x : Shown) (xs : List Shown) → r.count p + answers_in (x ∷ xs) < 2 ^ 64 → r.count q ≡ counted (r.count p) x → (r.count q + 1 ≡ next_after (r.count p + 1) x) × (r.count q + answers_in xs < 2 ^ 64)
   next_count p q (Port e) xs few is = (ap (λ (n : ℕ). n + 1) is, omega (arith, few, is))
@@ -78,13 +79,13 @@ module _ {H : Type 0} (step : H → Shown → Result (Unit {0}) HookFault → H 
       (ap (λ (n : ℕ). n + 1) e, omega (arith, few, e))
 
   -- after the first
-  tail_text : (p q : H) (x : Shown) (xs : List Shown) → r.count p + answers_in (x ∷ xs) < 2 ^ 64 → step p x (Ok tt) q → to_come q xs ≡ shown_text (r.ops p) (r.names p) (r.vars p) (r.filter p) (next_after (r.count p + 1) x) xs
+  tail_text : (p q : H) (x : Shown) (xs : List Shown) → r.count p + answers_in (x ∷ xs) < 2 ^ 64 → step p x (Ok tt) q → to_come q xs ≡ shown_text (r.ops p) (r.names p) (r.vars p) (next_admission (r.admission p) x) (next_after (r.count p + 1) x) xs
   tail_text p q x xs few is =
       let same = r.same p x (Ok tt) q is in
       let counts = (next_count p q x xs few (r.prints p x (Ok tt) q is).1).0 in
-      rw (same.0, same.1, same.2, same.3, counts) refl
+      rw (same.0, same.1, same.2, r.moves p x q is, counts) refl
 
-  head_all : (p q : H) (x : Shown) (xs : List Shown) → r.count p + answers_in (x ∷ xs) < 2 ^ 64 → step p x (Ok tt) q → Adds (r.held p) (r.held q) (one_text (r.ops p) (r.names p) (r.vars p) (r.filter p) (r.count p + 1) x)
+  head_all : (p q : H) (x : Shown) (xs : List Shown) → r.count p + answers_in (x ∷ xs) < 2 ^ 64 → step p x (Ok tt) q → Adds (r.held p) (r.held q) (one_text (r.ops p) (r.names p) (r.vars p) (r.admission p) (r.count p + 1) x)
   head_all p q x xs few is = subst (λ (t : List ℕ). Adds (r.held p) (r.held q) t) (first_text p x xs few) (r.prints p x (Ok tt) q is).0
 
   few_left : (p q : H) (x : Shown) (xs : List Shown) → r.count p + answers_in (x ∷ xs) < 2 ^ 64 → step p x (Ok tt) q → r.count q + answers_in xs < 2 ^ 64
@@ -149,39 +150,41 @@ keeps_stops step kept keeps fault (x ∷ xs) p q (inr goes) = keeps_stops step k
 
 -- the printer of a sink of type X
 abbrev pub printer_step : {X : Type 0} → (X → Option (List ℕ)) → Printer X → Shown → Result (Unit {0}) HookFault → Printer X → Type 0
-printer_step held p x r q = (q.out.ghost_name ≡ p.out.ghost_name) × (q.ops.now ≡ p.ops.now) × (q.names.now ≡ p.names.now) × (q.vars.now ≡ p.vars.now) × (q.admit ≡ p.admit)
-    × Prints p.ops.now p.names.now p.vars.now p.admit (held p.out.now) (held q.out.now) p.answers q.answers x r
+printer_step held p x r q = (q.out.ghost_name ≡ p.out.ghost_name) × (q.ops.now ≡ p.ops.now) × (q.names.now ≡ p.names.now) × (q.vars.now ≡ p.vars.now)
+    × OnOk r (q.admit.now ≡ next_admission p.admit.now x)
+    × Prints p.ops.now p.names.now p.vars.now p.admit.now (held p.out.now) (held q.out.now) p.answers q.answers x r
 
 abbrev reads : {X : Type 0} (held : X → Option (List ℕ)) → Reads (printer_step held)
 reads {X} held = record {
   ops = λ (p : Printer X). p.ops.now;
   names = λ (p : Printer X). p.names.now;
   vars = λ (p : Printer X). p.vars.now;
-  filter = λ (p : Printer X). p.admit;
+  admission = λ (p : Printer X). p.admit.now;
   held = λ (p : Printer X). held p.out.now;
   count = λ (p : Printer X). p.answers;
-  same = λ p x r q is. (is.1, is.2, is.3, is.4);
+  same = λ p x r q is. (is.1, is.2, is.3);
+  moves = λ p x q is. is.4;
   prints = λ p x r q is. is.5;
 }
 
 few_from : (count : ℕ) (xs : List Shown) → count ≡ 0 → answers_in xs ≤ 1000001 → count + answers_in xs < 2 ^ 64
 few_from count xs start few = omega (arith, start, few)
 
-first_number : {X : Type 0} (p : Printer X) (xs : List Shown) → p.answers ≡ 0 → shown_text p.ops.now p.names.now p.vars.now p.admit (p.answers + 1) xs ≡ shown_text p.ops.now p.names.now p.vars.now p.admit 1 xs
-first_number p xs start = ap (λ (n : ℕ). shown_text p.ops.now p.names.now p.vars.now p.admit (n + 1) xs) start
+first_number : {X : Type 0} (p : Printer X) (xs : List Shown) → p.answers ≡ 0 → shown_text p.ops.now p.names.now p.vars.now p.admit.now (p.answers + 1) xs ≡ shown_text p.ops.now p.names.now p.vars.now p.admit.now 1 xs
+first_number p xs start = ap (λ (n : ℕ). shown_text p.ops.now p.names.now p.vars.now p.admit.now (n + 1) xs) start
 
 pub printed_all : {X : Type 0} (held : X → Option (List ℕ)) (xs : List Shown) (p q : Printer X) → p.answers ≡ 0 → answers_in xs ≤ 1000001 → GoesThrough (printer_step held) p xs q →
-    Adds (held p.out.now) (held q.out.now) (shown_text p.ops.now p.names.now p.vars.now p.admit 1 xs)
+    Adds (held p.out.now) (held q.out.now) (shown_text p.ops.now p.names.now p.vars.now p.admit.now 1 xs)
 printed_all held xs p q start few goes =
     subst (λ (t : List ℕ). Adds (held p.out.now) (held q.out.now) t) (first_number p xs start) (goes_through (printer_step held) (reads held) xs p q (few_from p.answers xs start few) goes)
 
 pub printed_into : {X : Type 0} (held : X → Option (List ℕ)) (xs : List Shown) (p q : Printer X) → p.answers ≡ 0 → answers_in xs ≤ 1000001 → GoesInto (printer_step held) p xs q →
-    AddsFront (held p.out.now) (held q.out.now) (shown_text p.ops.now p.names.now p.vars.now p.admit 1 xs)
+    AddsFront (held p.out.now) (held q.out.now) (shown_text p.ops.now p.names.now p.vars.now p.admit.now 1 xs)
 printed_into held xs p q start few goes =
     subst (λ (t : List ℕ). AddsFront (held p.out.now) (held q.out.now) t) (first_number p xs start) (goes_into (printer_step held) (reads held) xs p q (few_from p.answers xs start few) goes)
 
 pub printed_till : {X : Type 0} (held : X → Option (List ℕ)) (fault : HookFault) (xs : List Shown) (p q : Printer X) → p.answers ≡ 0 → answers_in xs ≤ 1000001 → StopsAt (printer_step held) fault p xs q →
-    AddsFront (held p.out.now) (held q.out.now) (shown_text p.ops.now p.names.now p.vars.now p.admit 1 xs)
+    AddsFront (held p.out.now) (held q.out.now) (shown_text p.ops.now p.names.now p.vars.now p.admit.now 1 xs)
 printed_till held fault xs p q start few stops =
     subst (λ (t : List ℕ). AddsFront (held p.out.now) (held q.out.now) t) (first_number p xs start) (stops_at (printer_step held) (reads held) fault xs p q (few_from p.answers xs start few) stops)
 

@@ -1,6 +1,6 @@
 -- What a printer prints of what it is shown.
 use Rattle.std.proofs.Common.{◌≡◌, ℕ, List, refl, sym, Option, true, subst}
-use Rattle.std.specs.Prelude.{Result, Ok, Err, IfOk}
+use Rattle.std.specs.Prelude.{Result, Ok, Err, IfOk, OnOk}
 use Rattle.std.specs.declared.alloc.AllocError.{AllocError}
 use Rattle.apd_term.specs.Term.{Term}
 use Rattle.apd_io.specs.Outside.{Adds}
@@ -8,8 +8,7 @@ use Rattle.apd_console.specs.Print.{AddsFront}
 use Rattle.apd_console.proofs.Printing.{front_self}
 use Rattle.apd_ops.specs.Table.{Table}
 use Rattle.apd_ports.specs.declared.event.Event.{Event}
-use Rattle.apd_ports.specs.declared.filter.Filter.{Filter}
-use Rattle.apd_ports.specs.Filter.{is_admitted}
+use Rattle.apd_ports.specs.Filter.{Admission, is_admitted}
 use Rattle.apd_ports.specs.declared.hook.HookFault.{HookFault}
 use Rattle.apd_ports.specs.declared.hook.HookFault.TheVariants.{WriteFault, Memory}
 use Rattle.apd_ports.specs.declared.hook.Shown.TheVariants.{Port, Answer}
@@ -27,17 +26,22 @@ line_front x y (Ok t) text Memory is prints = absurd prints
 line_front x y (Err e) text WriteFault is prints = absurd prints
 line_front x y (Err e) text Memory is prints = subst (λ (z : Option (List ℕ)). AddsFront x z text) (sym prints) (front_self x text)
 
-pub event_prints : (ops : Table) (names vars : List (List ℕ)) (filter : Filter) (x y : Option (List ℕ)) (count : ℕ) (e : Event) (line : Result (List ℕ) AllocError) (r : Result (Unit {0}) HookFault) →
-    is_admitted filter ≡ true → IfOk line (λ t. t ≡ port_text ops names e) → PrintsLine x y line r → Prints ops names vars filter x y count count (Port e) r
-event_prints ops names vars filter x y count e line (Ok u) admitted is prints = (rw admitted (line_all x y line (port_text ops names e) is prints), refl)
-event_prints ops names vars filter x y count e line (Err fault) admitted is prints = rw admitted (line_front x y line (port_text ops names e) fault is prints)
+pub event_prints : (ops : Table) (names vars : List (List ℕ)) (admission : Admission) (x y : Option (List ℕ)) (count : ℕ) (e : Event) (line : Result (List ℕ) AllocError) (r : Result (Unit {0}) HookFault) →
+    is_admitted admission e ≡ true → IfOk line (λ t. t ≡ port_text ops names e) → PrintsLine x y line r → Prints ops names vars admission x y count count (Port e) r
+event_prints ops names vars admission x y count e line (Ok u) admitted is prints = (rw admitted (line_all x y line (port_text ops names e) is prints), refl)
+event_prints ops names vars admission x y count e line (Err fault) admitted is prints = rw admitted (line_front x y line (port_text ops names e) fault is prints)
 
-pub answer_prints : (ops : Table) (names vars : List (List ℕ)) (filter : Filter) (x y : Option (List ℕ)) (count number : ℕ) (a : Term) (line : Result (List ℕ) AllocError) →
-    number ≡ next_number count → IfOk line (λ t. t ≡ answer_text ops names vars number a) → PrintsLine x y line (Ok tt) → Prints ops names vars filter x y count number (Answer a) (Ok tt)
-answer_prints ops names vars filter x y count number a line counts is prints =
+pub answer_prints : (ops : Table) (names vars : List (List ℕ)) (admission : Admission) (x y : Option (List ℕ)) (count number : ℕ) (a : Term) (line : Result (List ℕ) AllocError) →
+    number ≡ next_number count → IfOk line (λ t. t ≡ answer_text ops names vars number a) → PrintsLine x y line (Ok tt) → Prints ops names vars admission x y count number (Answer a) (Ok tt)
+answer_prints ops names vars admission x y count number a line counts is prints =
     (subst (λ (n : ℕ). Adds x y (answer_text ops names vars n a)) counts (line_all x y line (answer_text ops names vars number a) is prints), counts)
 
-pub answer_fails : (ops : Table) (names vars : List (List ℕ)) (filter : Filter) (x y : Option (List ℕ)) (count number : ℕ) (a : Term) (line : Result (List ℕ) AllocError) (fault : HookFault) →
-    number ≡ next_number count → IfOk line (λ t. t ≡ answer_text ops names vars number a) → PrintsLine x y line (Err fault) → Prints ops names vars filter x y count count (Answer a) (Err fault)
-answer_fails ops names vars filter x y count number a line fault counts is prints =
+pub answer_fails : (ops : Table) (names vars : List (List ℕ)) (admission : Admission) (x y : Option (List ℕ)) (count number : ℕ) (a : Term) (line : Result (List ℕ) AllocError) (fault : HookFault) →
+    number ≡ next_number count → IfOk line (λ t. t ≡ answer_text ops names vars number a) → PrintsLine x y line (Err fault) → Prints ops names vars admission x y count count (Answer a) (Err fault)
+answer_fails ops names vars admission x y count number a line fault counts is prints =
     subst (λ (n : ℕ). AddsFront x y (answer_text ops names vars n a)) counts (line_front x y line (answer_text ops names vars number a) fault is prints)
+
+-- what holds is so also where it is asked for on success alone
+pub on_either : {P : Type 0} (r : Result (Unit {0}) HookFault) → P → OnOk r P
+on_either (Ok u) holds = holds
+on_either (Err fault) holds = tt

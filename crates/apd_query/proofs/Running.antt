@@ -7,8 +7,7 @@ use Rattle.apd_console.proofs.Printing.{Adds-more}
 use Rattle.apd_talk.proofs.Uttering.{Utters-one, UttersFront-none, UttersFront-one, UttersFront-begun}
 use Rattle.apd_clauses.specs.Clauses.{tuples_of}
 use Rattle.apd_ops.specs.Table.{Table}
-use Rattle.apd_ports.specs.Filter.{is_admitted}
-use Rattle.apd_ports.specs.declared.filter.Filter.{Filter}
+use Rattle.apd_ports.specs.Filter.{Admission, after_event, before_events, is_admitted}
 use Rattle.apd_ports.specs.declared.hook.Shown.{Shown}
 use Rattle.apd_ports.specs.declared.hook.Shown.TheVariants.{Port, Answer}
 use Rattle.apd_ports.specs.declared.event.Event.{Event}
@@ -34,10 +33,11 @@ port_more : (ops : Table) (names more : List (List ℕ)) (e : Event) (b : Bool) 
 port_more ops names more e true named = port_text-more ops names more e named
 port_more ops names more e false named = refl
 
-shown_text-more : (ops : Table) (names more vars : List (List ℕ)) (filter : Filter) (n : ℕ) (xs : List Shown) → AllShownNamed (length names) xs → shown_text ops (names ++ more) vars filter n xs ≡ shown_text ops names vars filter n xs
-shown_text-more ops names more vars filter n [] named = refl
-shown_text-more ops names more vars filter n (Port e ∷ xs) named = rw (port_more ops names more e (is_admitted filter) named.0, shown_text-more ops names more vars filter n xs named.1) refl
-shown_text-more ops names more vars filter n (Answer a ∷ xs) named = rw (answer_text-more ops names more vars n a named.0, shown_text-more ops names more vars filter (n + 1) xs named.1) refl
+shown_text-more : (ops : Table) (names more vars : List (List ℕ)) (admission : Admission) (n : ℕ) (xs : List Shown) → AllShownNamed (length names) xs → shown_text ops (names ++ more) vars admission n xs ≡ shown_text ops names vars admission n xs
+shown_text-more ops names more vars admission n [] named = refl
+shown_text-more ops names more vars admission n (Port e ∷ xs) named =
+    rw (port_more ops names more e (is_admitted admission e) named.0, shown_text-more ops names more vars (after_event admission e) n xs named.1) refl
+shown_text-more ops names more vars admission n (Answer a ∷ xs) named = rw (answer_text-more ops names more vars n a named.0, shown_text-more ops names more vars admission (n + 1) xs named.1) refl
 
 -- the end and the counts of the run
 abbrev pub ran_for : State → Query → Ran
@@ -51,7 +51,7 @@ text_is : (ops : Table) (names more : List (List ℕ)) (s : State) (q : Query) �
     head_text ops names q ++ (lines_of ops names s q ++ end_text (ran_for s q)) ≡ (said_for ops (names ++ more) s q).text
 unfolding run_said run_text
 text_is ops names more s q program named =
-    rw (head_text-more ops names more q named, shown_text-more ops names more q.vars s.filter 1 (shown_of (run_for s.program q s.budget s.answers).passed) (shown_named (length names) s q program named)) refl
+    rw (head_text-more ops names more q named, shown_text-more ops names more q.vars (before_events s.filter) 1 (shown_of (run_for s.program q s.budget s.answers).passed) (shown_named (length names) s q program named)) refl
 
 entry_is : (ops : Table) (names : List (List ℕ)) (s : State) (q : Query) → (said_for ops names s q).entry ≡ Run q s.budget s.answers s.filter (Some (ran_for s q))
 unfolding run_said

@@ -3,7 +3,7 @@ use Rattle.std.specs.Prelude.{ℕ, ◌≡◌, ◌+◌, ◌-◌, ◌^◌, min, Li
 use Rattle.std.specs.declared.alloc.AllocError.{AllocError}
 use Rattle.apd_io.specs.Outside.{Adds}
 use Rattle.apd_console.specs.Print.{AddsFront}
-use Rattle.apd_ports.specs.declared.filter.Filter.{Filter}
+use Rattle.apd_ports.specs.Filter.{Admission}
 use Rattle.apd_ports.specs.declared.hook.HookFault.{HookFault}
 use Rattle.apd_ports.specs.declared.hook.HookFault.TheVariants.{WriteFault, Memory}
 use Rattle.apd_ports.specs.declared.hook.Shown.{Shown}
@@ -30,6 +30,6 @@ PrintsLine held held_now (Err e) (Err WriteFault) = ⊥
 PrintsLine held held_now (Err e) (Err Memory) = held_now ≡ held
 
 -- its lines were printed, or the front of them before a fault
-abbrev pub Prints : Table → List (List ℕ) → List (List ℕ) → Filter → Option (List ℕ) → Option (List ℕ) → ℕ → ℕ → Shown → Result (Unit {0}) HookFault → Type 0
-Prints ops names vars filter held held_now count count_now x (Ok u) = Adds held held_now (one_text ops names vars filter (next_number count) x) × (count_now ≡ counted count x)
-Prints ops names vars filter held held_now count count_now x (Err e) = AddsFront held held_now (one_text ops names vars filter (next_number count) x)
+abbrev pub Prints : Table → List (List ℕ) → List (List ℕ) → Admission → Option (List ℕ) → Option (List ℕ) → ℕ → ℕ → Shown → Result (Unit {0}) HookFault → Type 0
+Prints ops names vars admission held held_now count count_now x (Ok u) = Adds held held_now (one_text ops names vars admission (next_number count) x) × (count_now ≡ counted count x)
+Prints ops names vars admission held held_now count count_now x (Err e) = AddsFront held held_now (one_text ops names vars admission (next_number count) x)

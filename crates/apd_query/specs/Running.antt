@@ -1,5 +1,5 @@
 -- The parts of a query's run, as they are said one after another.
-use Rattle.std.specs.Prelude.{ℕ, ◌≡◌, ◌<◌, ◌≤◌, ◌⊎◌, List, [], ◌∷◌, ◌++◌, length, None, IfSome}
+use Rattle.std.specs.Prelude.{ℕ, ◌≡◌, ◌≤◌, ◌⊎◌, List, [], ◌∷◌, ◌++◌, length, None, IfSome}
 use Rattle.apd_clauses.specs.Clauses.{MayRun, tuples_of}
 use Rattle.apd_words.specs.Words.{AreLimits}
 use Rattle.apd_record.specs.Full.{IsFull}
@@ -14,6 +14,7 @@ use Rattle.apd_text.specs.declared.entry.Entry.{Entry}
 use Rattle.apd_text.specs.declared.entry.Entry.TheVariants.{Run}
 use Rattle.apd_text.specs.Lines.{head_text}
 use Rattle.apd_ops.specs.Table.{Table}
+use Rattle.apd_ports.specs.Filter.{before_events}
 use Rattle.apd_term.specs.Named.{AllTuplesNamed, TupleIsNamed}
 use Rattle.apd_term.specs.StandardNames.{standard_names}
 use Rattle.apd_query.specs.Runs.{run_in, shown_text}
@@ -48,7 +49,7 @@ entered s q = Run q s.budget s.answers s.filter None
 
 -- the lines of its ports and answers
 abbrev pub lines_of : Table → List (List ℕ) → State → Query → List ℕ
-lines_of ops names s q = shown_text ops names q.vars s.filter 1 (shown_of (run_in s q).passed)
+lines_of ops names s q = shown_text ops names q.vars (before_events s.filter) 1 (shown_of (run_in s q).passed)
 
 -- the entry of the run stands, and its first line was printed
 abbrev pub Begins : State → Query → Spoken → Spoken → Type 0

@@ -22,7 +22,7 @@ pub(crate) struct Printer<'a, K: Sink> {
     pub names: &'a Names,
     pub ops: &'a Ops,
     pub vars: &'a VarNames,
-    pub admit: Admit,
+    pub admit: &'a mut Admit,
     /// How many answers were printed.
     pub answers: u64,
 }
@@ -42,13 +42,16 @@ fn print_line<K: Sink>(out: &mut K, line: Result<Text, AllocError>) -> Result<()
 }
 
 impl<K: Sink> Hook for Printer<'_, K> {
+    ghost use Rattle.std.specs.Prelude.{OnOk};
     ghost use Rattle.apd_query.specs.Printing.{Prints};
+    ghost use Rattle.apd_query.specs.Runs.{next_admission};
 
     ghost faults = { λ p. K.faults p.out.now };
 
     ghost step = { λ p x r q. (q.out.ghost_name ≡ p.out.ghost_name) × (q.ops.now ≡ p.ops.now)
-        × (q.names.now ≡ p.names.now) × (q.vars.now ≡ p.vars.now) × (q.admit ≡ p.admit)
-        × Prints p.ops.now p.names.now p.vars.now p.admit
+        × (q.names.now ≡ p.names.now) × (q.vars.now ≡ p.vars.now)
+        × OnOk r (q.admit.now ≡ next_admission p.admit.now x)
+        × Prints p.ops.now p.names.now p.vars.now p.admit.now
         (K.held p.out.now) (K.held q.out.now) p.answers q.answers x r };
 
     fn event(&mut self, event: &Event) -> Result<(), HookFault> {

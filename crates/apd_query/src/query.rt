@@ -20,20 +20,11 @@ use apd_causes::{Query, Ran};
 use apd_console::Console;
 use apd_engine::{RunFault, run};
 use apd_io::Sink;
-use apd_ports::{Admit, Filter};
+use apd_ports::Admit;
 use apd_record::Record;
 use apd_talk::Trouble;
 use apd_text::{Entry, Log, end_line, head_line};
 use std::alloc::Global;
-
-fn same_filter(filter: &Filter) -> Filter
-    ensures { result ≡ filter.now }
-{
-    match filter {
-        Filter::Off => Filter::Off,
-        Filter::All => Filter::All,
-    }
-}
 
 /// Puts the entry of a run into the log, and prints its first line.
 fn begin_run<K: Sink>(
@@ -53,11 +44,12 @@ fn begin_run<K: Sink>(
 {
     let head = head_line(alloc, &log.names, &log.ops, query)?;
     let kept = query.copy(alloc)?;
+    let filter = state.filter.copy(alloc)?;
     let entry = Entry::Run {
         query: kept,
         budget: state.budget,
         answers: state.answers,
-        filter: same_filter(&state.filter),
+        filter,
         end: None,
     };
     log.entries.push(entry)?;
@@ -123,14 +115,14 @@ fn search<K: Sink>(
     ensures cause { HasWriteCause (K.faults out.old) (K.faults out.new) result }
 {
     *history = Record::new(alloc);
-    let admit = Admit::new(alloc, &state.filter)?;
+    let mut admit = Admit::new(alloc, &state.filter)?;
     let mut printer = Printer {
         alloc,
         out,
         names: &log.names,
         ops: &log.ops,
         vars: &query.vars,
-        admit,
+        admit: &mut admit,
         answers: 0,
     };
     show(alloc, state, query, &mut printer, history)

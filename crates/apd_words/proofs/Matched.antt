@@ -12,16 +12,17 @@ use Rattle.apd_divide.specs.declared.node.Strategy.{Strategy}
 use Rattle.apd_words.specs.Words.{command, filter_of, is_faultless, limit_or, options_from, options_in, options_of, strategy_or}
 
 -- the options of what the getters give are those of the matches
-pub gathered : (found : Found) (budget answers : Option ℕ) (filter : Filter) (strategy : Option Strategy) (b a t s p : Option (List ℕ)) →
-    b ≡ first_value found (codes "budget") → a ≡ first_value found (codes "answers") → t ≡ first_value found (codes "trace") → s ≡ first_value found (codes "strategy") → p ≡ first_value found (codes "program") →
-    budget ≡ limit_or 100000 b → answers ≡ limit_or 1000000 a → filter ≡ filter_of t → strategy ≡ strategy_or s → options_in (rows_of found) ≡ options_from budget answers filter strategy p
-gathered found budget answers filter strategy b a t s p is_b is_a is_t is_s is_p is_budget is_answers is_filter is_strategy =
+pub gathered : (found : Found) (budget answers : Option ℕ) (filter : Filter) (strategy : Option Strategy) (b a t s o p : Option (List ℕ)) →
+    b ≡ first_value found (codes "budget") → a ≡ first_value found (codes "answers") → t ≡ first_value found (codes "trace") → s ≡ first_value found (codes "strategy") → o ≡ first_value found (codes "oracle") → p ≡ first_value found (codes "program") →
+    budget ≡ limit_or 100000 b → answers ≡ limit_or 1000000 a → filter ≡ filter_of t → strategy ≡ strategy_or s → options_in (rows_of found) ≡ options_from budget answers filter strategy o p
+gathered found budget answers filter strategy b a t s o p is_b is_a is_t is_s is_o is_p is_budget is_answers is_filter is_strategy =
     let same_budget = ap (limit_or 100000) (sym (first_value-rows found (codes "budget")) ∙ sym is_b) ∙ sym is_budget in
     let same_answers = ap (limit_or 1000000) (sym (first_value-rows found (codes "answers")) ∙ sym is_a) ∙ sym is_answers in
     let same_filter = ap filter_of (sym (first_value-rows found (codes "trace")) ∙ sym is_t) ∙ sym is_filter in
     let same_strategy = ap strategy_or (sym (first_value-rows found (codes "strategy")) ∙ sym is_s) ∙ sym is_strategy in
+    let same_oracle = sym (first_value-rows found (codes "oracle")) ∙ sym is_o in
     let same_program = sym (first_value-rows found (codes "program")) ∙ sym is_p in
-    λ i. options_from (same_budget i) (same_answers i) (same_filter i) (same_strategy i) (same_program i)
+    λ i. options_from (same_budget i) (same_answers i) (same_filter i) (same_strategy i) (same_oracle i) (same_program i)
 
 -- clap tells the matches and the faults of this command
 pub command_is_simple : is_simple command ≡ true

@@ -2,6 +2,7 @@
 use Rattle.std.specs.Prelude.{ℕ, ◌<◌, ◌≤◌, ◌&&◌, List, [], ◌∷◌, length, Bool, true, false, if◌then◌else◌, Option, None, Some, nat_le, codes, map, String, string_bytes}
 use Rattle.std.specs.Char.{is_ascii_digit}
 use Rattle.std.specs.List.{list_all, fold}
+use Rattle.std.specs.Option.{option_map}
 use Rattle.std.specs.Str.{bytes_eq}
 use Rattle.std.specs.Str.Parse.{digits_value}
 use Rattle.clap.specs.Words.{App, Row, Rule, Kinds, fault_of, first_of, matches_of, new_app, new_rule, with_rule}
@@ -17,7 +18,7 @@ use Rattle.apd_base.specs.declared.limits.TheConstants.{MOST_SHOWN, USUAL_BUDGET
 abbrev pub bytes_of : {A : Type 0} → List (String A) → List (List ℕ)
 bytes_of words = map (λ w. string_bytes w) words
 
--- The command: `--budget N`, `--answers N`, `--strategy NAME`, `--trace` and the name of a file, none of which clap requires.
+-- The command: `--budget N`, `--answers N`, `--strategy NAME`, `--oracle FILE`, `--trace` and the name of a file, none of which clap requires.
 
 -- an option with one value
 abbrev pub option_rule : List ℕ → Rule
@@ -31,7 +32,9 @@ program_rule = record (new_rule (codes "program")) { action = Some Set }
 
 -- the arguments: options, a flag, and the name of a file
 abbrev pub arguments : List Rule
-arguments = option_rule (codes "budget") ∷ option_rule (codes "answers") ∷ option_rule (codes "strategy") ∷ trace_rule ∷ program_rule ∷ []
+arguments =
+    option_rule (codes "budget") ∷ option_rule (codes "answers") ∷ option_rule (codes "strategy") ∷ option_rule (codes "oracle") ∷
+    trace_rule ∷ program_rule ∷ []
 
 unfoldable pub command : App
 command = fold with_rule (new_app (codes "apd")) arguments
@@ -43,10 +46,11 @@ pub record Options : Type 0 where
   pub answers : ℕ
   pub filter : Filter
   pub strategy : Strategy
+  pub oracle : Option (List ℕ)
 
 -- what was asked for, as options
 abbrev pub asked_options : Asked → Options
-asked_options a = record { program = a.program.now; budget = a.budget; answers = a.answers; filter = a.filter; strategy = a.strategy }
+asked_options a = record { program = a.program.now; budget = a.budget; answers = a.answers; filter = a.filter; strategy = a.strategy; oracle = option_map (λ s. s.now) a.oracle }
 
 -- limits on ports and on answers are from 1 to 1,000,000
 pub record AreLimits (ports answers : ℕ) : Type 0 where
@@ -91,16 +95,16 @@ strategy_or None = Some Divide
 strategy_or (Some word) = strategy_named word
 
 -- the options that values give, where each limit keeps its rule, the strategy is known and a file is named
-abbrev pub options_from : Option ℕ → Option ℕ → Filter → Option Strategy → Option (List ℕ) → Option Options
-options_from (Some budget) (Some answers) filter (Some strategy) (Some program) =
-    Some (record { program = program; budget = budget; answers = answers; filter = filter; strategy = strategy })
-options_from budget answers filter strategy program = None
+abbrev pub options_from : Option ℕ → Option ℕ → Filter → Option Strategy → Option (List ℕ) → Option (List ℕ) → Option Options
+options_from (Some budget) (Some answers) filter (Some strategy) oracle (Some program) =
+    Some (record { program = program; budget = budget; answers = answers; filter = filter; strategy = strategy; oracle = oracle })
+options_from budget answers filter strategy oracle program = None
 
 -- the options that clap's matches give
 abbrev pub options_in : List Row → Option Options
 options_in rows =
     options_from (limit_or USUAL_BUDGET (first_of (codes "budget") rows)) (limit_or MOST_SHOWN (first_of (codes "answers") rows))
-    (filter_of (first_of (codes "trace") rows)) (strategy_or (first_of (codes "strategy") rows)) (first_of (codes "program") rows)
+    (filter_of (first_of (codes "trace") rows)) (strategy_or (first_of (codes "strategy") rows)) (first_of (codes "oracle") rows) (first_of (codes "program") rows)
 
 -- there is no fault
 abbrev pub is_faultless : Kinds → Bool

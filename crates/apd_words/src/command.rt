@@ -15,13 +15,14 @@ fn option<'a>(alloc: Global, name: &'a str) -> Arg<'a>
     Arg::new(alloc, name).long(name).action(ArgAction::Set)
 }
 
-/// One simple command: two limits, a strategy, a flag and the name of a file.
+/// One simple command: two limits, a strategy, the name of an oracle file, a flag and the name of a file.
 pub(crate) fn command<'a>(alloc: Global) -> Result<Command<'a>, AllocError>
     ensures { IfOk result (λ c. app_of c ≡ command) }
 {
     let budget = option(alloc, "budget");
     let answers = option(alloc, "answers");
     let strategy = option(alloc, "strategy");
+    let oracle = option(alloc, "oracle");
     let trace = Arg::new(alloc, "trace")
         .long("trace")
         .action(ArgAction::SetTrue);
@@ -30,6 +31,7 @@ pub(crate) fn command<'a>(alloc: Global) -> Result<Command<'a>, AllocError>
         .arg(budget)?
         .arg(answers)?
         .arg(strategy)?
+        .arg(oracle)?
         .arg(trace)?
         .arg(program)?;
     Ok(command)

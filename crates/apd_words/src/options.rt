@@ -27,6 +27,8 @@ pub struct Asked<'a> {
     pub filter: Filter,
     /// How a diagnosis chooses what it asks about.
     pub strategy: Strategy,
+    /// The name of the oracle file, where one is given.
+    pub oracle: Option<&'a str>,
 }
 
 /// The filter that a flag's value sets.
@@ -67,11 +69,12 @@ fn options_from<'a>(
     answers: Option<u32>,
     filter: Filter,
     strategy: Option<Strategy>,
+    oracle: Option<&'a str>,
     program: Option<&'a str>,
 ) -> Option<Asked<'a>>
     requires budget { IfSome budget (λ n. (0 < n) × (n ≤ MOST_SHOWN)) }
     requires answers { IfSome answers (λ n. (0 < n) × (n ≤ MOST_SHOWN)) }
-    ensures options { let options = options_from budget answers filter strategy (option_map (λ s. s.now) program.entry) in
+    ensures options { let options = options_from budget answers filter strategy (option_map (λ s. s.now) oracle.entry) (option_map (λ s. s.now) program.entry) in
         MatchOption result (options ≡ None) (λ a. options ≡ Some (asked_options a)) }
     ensures limits { IfSome result (λ a. AreLimits a.budget a.answers) }
 {
@@ -82,6 +85,7 @@ fn options_from<'a>(
             answers,
             filter,
             strategy,
+            oracle,
         }),
         _ => None,
     }
@@ -97,8 +101,9 @@ fn options_in<'a>(matches: &ArgMatches<'a>) -> Option<Asked<'a>>
     let answers = limit_or(MOST_SHOWN, matches.get_str("answers"));
     let filter = filter_of(matches.get_str("trace"));
     let strategy = strategy_or(matches.get_str("strategy"));
+    let oracle = matches.get_str("oracle");
     let program = matches.get_str("program");
-    options_from(budget, answers, filter, strategy, program)
+    options_from(budget, answers, filter, strategy, oracle, program)
 }
 
 /// The options that the words give, of which the first is the program's own name; none where they break their rules.

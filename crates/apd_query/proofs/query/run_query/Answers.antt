@@ -1,5 +1,5 @@
 use Rattle.std.proofs.lemmas.Result.{err_from_is_err_and}
-use Rattle.std.proofs.Common.{◌∙◌, ap, refl, arith}
+use Rattle.std.proofs.Common.{◌∙◌, ap, refl}
 use Rattle.apd_causes.specs.declared.run.Ran.{Ran}
 use Rattle.apd_talk.proofs.Speaking.{cause_after}
 use Rattle.apd_query.proofs.Running.{run_utters, run_begins, run_breaks, run_ends}

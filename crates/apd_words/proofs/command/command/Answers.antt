@@ -11,5 +11,6 @@ returns c =
     let first = c.in_ok-arg.ensures.shape c.option-budget.ensures.local ∙ ap₂ with_rule c.new-3.ensures.app c.option-budget.ensures.rule in
     let second = c.in_ok-arg-2.ensures.shape c.option-answers.ensures.local ∙ ap₂ with_rule first c.option-answers.ensures.rule in
     let third = c.in_ok-arg-3.ensures.shape c.option-strategy.ensures.local ∙ ap₂ with_rule second c.option-strategy.ensures.rule in
-    let fourth = c.in_ok-arg-4.ensures.shape (search rules) ∙ ap₂ with_rule third trace in
-    c.in_ok-command.ensures.shape (search rules) ∙ ap₂ with_rule fourth program
+    let fourth = c.in_ok-arg-4.ensures.shape c.option-oracle.ensures.local ∙ ap₂ with_rule third c.option-oracle.ensures.rule in
+    let fifth = c.in_ok-arg-5.ensures.shape (search rules) ∙ ap₂ with_rule fourth trace in
+    c.in_ok-command.ensures.shape (search rules) ∙ ap₂ with_rule fifth program

@@ -1,6 +1,6 @@
 use Rattle.std.proofs.Common.{◌∙◌, sym, refl}
 use Rattle.apd_console.proofs.Printing.{front_self}
-use Rattle.apd_query.proofs.Printing.{event_prints}
+use Rattle.apd_query.proofs.Printing.{event_prints, on_either}
 use Rattle.apd_query.proofs.printer.PrinterHook.event.Goals as goal
 
 pub returns-clause-step : goal.returns-clause-step
@@ -9,9 +9,9 @@ returns-clause-step g c = (
   refl,
   refl,
   refl,
-  c.admits.ensures.same,
-  event_prints c.args.self.now.ops.now c.args.self.now.names.now c.args.self.now.vars.now c.args.self.now.admit _ _ _ c.args.event.now c.port_line-line.result c.print_line.result (sym c.in-Ok-true.ensures.admitted ∙ c.in-Ok-true.field-0-test) c.port_line-line.ensures c.print_line.ensures.line,
+  on_either c.print_line.result c.in-Ok-true.ensures.after,
+  event_prints c.args.self.now.ops.now c.args.self.now.names.now c.args.self.now.vars.now c.args.self.now.admit.now _ _ _ c.args.event.now c.port_line-line.result c.print_line.result (sym c.in-Ok-true.ensures.admitted ∙ c.in-Ok-true.field-0-test) c.port_line-line.ensures c.print_line.ensures.line,
 )
 
 pub returns-in-Err-clause-step : goal.returns-in-Err-clause-step
-returns-in-Err-clause-step g c = (refl, refl, refl, refl, c.admits.ensures.same, front_self _ _)
+returns-in-Err-clause-step g c = (refl, refl, refl, refl, tt, front_self _ _)

@@ -1,6 +1,5 @@
 -- What the log of a session tells, entry by entry: the record of the last run, the symptoms and the replies, and what was asked.
 use Rattle.std.specs.Prelude.{ℕ, List, [], ◌∷◌, Option, None, Some}
-use Rattle.apd_term.specs.Term.{Term}
 use Rattle.apd_causes.specs.declared.run.Query.{Query}
 use Rattle.apd_causes.specs.declared.run.Ran.{Ran}
 use Rattle.apd_clauses.specs.declared.clause.Clause.{Clause}
@@ -25,8 +24,8 @@ pub record Account : Type 0 where
   pub history : Recorded
   -- the symptoms and the replies, each with its question
   pub pairs : List Pair
-  -- the atom of the last symptom
-  pub symptom : Option Term
+  -- the last symptom
+  pub symptom : Option Told
   -- what was asked last
   pub asked : Option Asked
 
@@ -34,14 +33,14 @@ pub record Account : Type 0 where
 abbrev pub first_account : Account
 first_account = record { history = empty; pairs = []; symptom = None; asked = None }
 
--- the symptom says that the atom is true, or that it isn't
-abbrev pub with_symptom : Account → Term → Reply → Account
-with_symptom a atom reply = record { history = a.history; pairs = with_pair a.pairs (True atom) reply; symptom = Some atom; asked = a.asked }
+-- the replies with what a symptom says: that an atom isn't true, or that it is; that a run doesn't end is no reply
+abbrev pub with_told : List Pair → Told → List Pair
+with_told pairs (Wrong atom) = with_pair pairs (True atom) No
+with_told pairs (Missing atom) = with_pair pairs (True atom) Yes
+with_told pairs (NoEnd calls) = pairs
 
 abbrev pub after_told : Account → Told → Account
-after_told a (Wrong atom) = with_symptom a atom No
-after_told a (Missing atom) = with_symptom a atom Yes
-after_told a (NoEnd calls) = a
+after_told a what = record { history = a.history; pairs = with_told a.pairs what; symptom = Some what; asked = a.asked }
 
 abbrev pub with_asked : Account → Asked → Account
 with_asked a asked = record { history = a.history; pairs = a.pairs; symptom = a.symptom; asked = Some asked }

@@ -1,5 +1,6 @@
--- When the entries of a log are right: what is found is a bug, what is asked isn't known yet, and a reply leaves few suspects.
-use Rattle.std.specs.Prelude.{◌≡◌, ℕ, ◌<◌, List, [], ◌∷◌, Option, None, Some, IfSome, ⊤}
+-- When the entries of a log are right: what is found is a bug, calls that all descend do so, what is asked isn't known yet, and
+-- a reply leaves few suspects.
+use Rattle.std.specs.Prelude.{◌≡◌, ℕ, ◌<◌, List, [], ◌∷◌, length, Option, None, Some, IfSome, ⊤}
 use Rattle.apd_term.specs.Term.{Term}
 use Rattle.apd_clauses.specs.declared.clause.Clause.{Clause}
 use Rattle.apd_clauses.specs.Clauses.{tuples_of}
@@ -8,54 +9,86 @@ use Rattle.apd_answers.specs.declared.question.Reply.{Reply}
 use Rattle.apd_answers.specs.declared.question.Asked.{Asked}
 use Rattle.apd_answers.specs.Interpretation.{Interpretation}
 use Rattle.apd_answers.specs.Questions.{FitsAsked}
-use Rattle.apd_answers.specs.Store.{decided, AreTrue}
-use Rattle.apd_answers.specs.Findings.{IsByReplies}
+use Rattle.apd_answers.specs.declared.store.Pair.{Pair}
+use Rattle.apd_answers.specs.Store.{decided, with_pair, AreTrue}
+use Rattle.apd_answers.specs.Findings.{AllDescendByReplies, Descends, IsByReplies}
 use Rattle.apd_answers.specs.Bugs.{IsBug}
 use Rattle.apd_divide.specs.declared.node.Strategy.{Strategy}
 use Rattle.apd_divide.specs.declared.node.Strategy.TheVariants.{Divide}
 use Rattle.apd_divide.specs.Exits.{IsUserExit}
 use Rattle.apd_divide.specs.Recorded.{tree}
 use Rattle.apd_divide.specs.Tree.{Tree, branching}
+use Rattle.apd_loop.specs.Known.{IsTreeOfDenied}
+use Rattle.apd_loop.specs.Loop.{calls_in}
+use Rattle.apd_record.specs.Recorded.{Recorded, chain}
 use Rattle.apd_wrong.specs.Next.{LeavesAtMost}
 use Rattle.apd_text.specs.declared.entry.Entry.{Entry}
-use Rattle.apd_text.specs.declared.entry.Entry.TheVariants.{Question, Replied, Found}
+use Rattle.apd_text.specs.declared.entry.Entry.TheVariants.{AllDescend, Found, Question, Replied, Symptom}
+use Rattle.apd_text.specs.declared.entry.Told.{Told}
+use Rattle.apd_text.specs.declared.entry.Told.TheVariants.{Wrong, Missing, NoEnd}
 use Rattle.apd_account.specs.Account.{Account, after_entry}
 
--- a proof tree of the symptom: of an exit of the record that has it as its head
-pub record IsTreeOfSymptom (a : Account) (x : Tree) : Type 0 where
-  pub atom : Term
-  pub symptom : a.symptom ≡ Some atom
+-- a proof tree of an atom: of an exit of the record that has it as its head
+pub record IsTreeOfSymptom (R : Recorded) (atom : Term) (x : Tree) : Type 0 where
   pub number : ℕ
-  pub exit : IsUserExit a.history number
+  pub exit : IsUserExit R number
   pub head : exit.point.tuple.head ≡ atom
-  pub tree_is : x ≡ tree a.history number atom
+  pub tree_is : x ≡ tree R number atom
+
+-- the tree whose nodes are suspects, by the symptom and the replies: a proof tree of the wrong answer; or, where a run doesn't
+-- end, one of a goal that isn't true by the replies. Where an answer is missing there are no suspects
+abbrev pub IsSuspected : Recorded → List Pair → Option Told → Tree → Type 0
+IsSuspected R pairs None x = ⊥
+IsSuspected R pairs (Some (Wrong atom)) x = IsTreeOfSymptom R atom x
+IsSuspected R pairs (Some (Missing atom)) x = ⊥
+IsSuspected R pairs (Some (NoEnd calls)) x = IsTreeOfDenied R (chain R) pairs x
 
 -- of so many suspects fewer are left; under divide and query at most (2b - 1) / (2b) of them, for each b from 1 on that is no
--- less than the number of children of any node of the symptom's tree
-pub record LeavesFewer (strategy : Strategy) (a : Account) (before : ℕ) (left : Option ℕ) : Type 0 where
+-- less than the number of children of any node of their tree
+pub record LeavesFewer (strategy : Strategy) (R : Recorded) (pairs : List Pair) (symptom : Option Told) (before : ℕ) (left : Option ℕ) : Type 0 where
   pub after : ℕ
   pub left_is : left ≡ Some after
   pub fewer : after < before
   pub whole : Tree
-  pub of_symptom : IsTreeOfSymptom a whole
+  pub suspected : IsSuspected R pairs symptom whole
   pub fraction : strategy ≡ Divide → LeavesAtMost (branching whole) before after
+
+-- what is left by a reply to what was asked, of as many suspects as it counted, if it did
+abbrev pub Leaves : Strategy → Recorded → List Pair → Option Told → Asked → Reply → Option ℕ → Type 0
+Leaves strategy R pairs symptom asked reply left =
+    IfSome asked.suspects (λ before. LeavesFewer strategy R (with_pair pairs asked.question reply) symptom before left)
 
 -- a reply answers what was asked last, and where that counted the suspects, it leaves fewer
 pub record IsAnswer (strategy : Strategy) (a : Account) (reply : Reply) (left : Option ℕ) : Type 0 where
   pub asked : Asked
   pub last : a.asked ≡ Some asked
   pub fits : FitsAsked asked reply
-  pub leaves : IfSome asked.suspects (λ before. LeavesFewer strategy a before left)
+  pub leaves : Leaves strategy a.history a.pairs a.symptom asked reply left
 
 -- what was found follows from the replies; and it is a bug where they are all true, the symptoms among them
 pub record IsFound (m : Interpretation) (program : List Clause) (a : Account) (finding : Finding) : Type 0 where
   pub by_replies : IsByReplies (tuples_of program) a.history a.pairs finding
   pub bug : AreTrue m a.pairs → IsBug (tuples_of program) a.history m finding
 
+-- the calls of the last run's chain are so many; by the replies each is below the one before, and so it is where they are all
+-- true
+pub record IsDescent (m : Interpretation) (a : Account) (calls : ℕ) : Type 0 where
+  pub count : calls ≡ length (chain a.history)
+  pub by_replies : AllDescendByReplies a.pairs (calls_in a.history (chain a.history))
+  pub descends : AreTrue m a.pairs → Descends m (calls_in a.history (chain a.history))
+
+-- where a run doesn't end, the symptom tells how many calls its chain has
+abbrev pub IsSymptom : Account → Told → Type 0
+IsSymptom a (Wrong atom) = ⊤
+IsSymptom a (Missing atom) = ⊤
+IsSymptom a (NoEnd calls) = calls ≡ length (chain a.history)
+
 module _ (m : Interpretation) (program : List Clause) (strategy : Strategy) where
   -- an entry is right after what was told
   abbrev pub IsRight : Account → Entry → Type 0
   IsRight a (Found finding line) = IsFound m program a finding
+  IsRight a (AllDescend calls) = IsDescent m a calls
+  IsRight a (Symptom what) = IsSymptom a what
   IsRight a (Question number asked) = decided a.pairs asked.question ≡ None
   IsRight a (Replied reply left) = IsAnswer strategy a reply left
   IsRight a e = ⊤

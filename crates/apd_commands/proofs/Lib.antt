@@ -1,1 +1,3 @@
 pub mod Commanding
+pub mod Listing
+pub mod FilterNames

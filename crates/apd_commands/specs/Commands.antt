@@ -2,7 +2,7 @@
 use Rattle.std.specs.Prelude.{ℕ, ℤ, List, slice_get, if◌then◌else◌, Option, None, Some, Result, Ok, Err}
 use Rattle.std.specs.Option.{option_and_then}
 use Rattle.apd_term.specs.Term.{Term, variable, integer, compound, arguments, predicate_of}
-use Rattle.apd_term.specs.declared.standard.TheConstants.{QUERY, QUIT, WRONG}
+use Rattle.apd_term.specs.declared.standard.TheConstants.{LOOP, MISSING, QUERY, QUIT, TRACE, WRONG}
 use Rattle.apd_causes.specs.declared.faults.BodyFault.{BodyFault}
 use Rattle.apd_causes.specs.declared.reading.Read.{Read}
 use Rattle.apd_causes.specs.declared.run.Query.{Query}
@@ -17,6 +17,7 @@ use Rattle.apd_lines.specs.Lines.{line_in}
 use Rattle.apd_lines.specs.declared.lines.LineRead.{LineRead}
 use Rattle.apd_lines.specs.declared.lines.LineRead.TheVariants as lines
 use Rattle.apd_text.specs.declared.entry.Refusal.TheVariants as refusal
+use Rattle.apd_commands.specs.Filters.{filter_at, trace_asked}
 use Rattle.apd_commands.specs.declared.commands.Command.{Command}
 use Rattle.apd_commands.specs.declared.commands.Command.TheVariants as command
 
@@ -41,13 +42,22 @@ wrong_asked (Some b) (Some k) = command.Wrong b k
 wrong_asked (Some b) None = command.Refused refusal.NotACommand
 wrong_asked None k = command.Refused refusal.NotACommand
 
--- what a term of this predicate asks for: `quit`, `?- B`, or `wrong(B, K)`
+-- the box and the atom in `missing(B, A)`, where B is an integer; A may be any term
+abbrev pub missing_asked : Option ℤ → Option Term → Command
+missing_asked (Some b) (Some a) = command.Missing b a
+missing_asked (Some b) None = command.Refused refusal.NotACommand
+missing_asked None a = command.Refused refusal.NotACommand
+
+-- what a term of this predicate asks for: `quit`, `?- B`, `wrong(B, K)`, `missing(B, A)`, `loop`, or `trace(F)`
 abbrev pub term_asked : Read → Option Pred → Command
 term_asked r p =
     if is_pred p (QUIT ∕ 0) then command.Quit
     else (if is_pred p (QUERY ∕ 1) then query_asked (query_from r)
     else (if is_pred p (WRONG ∕ 2) then wrong_asked (integer_at r.term 0) (integer_at r.term 1)
-    else command.Refused refusal.NotACommand))
+    else (if is_pred p (MISSING ∕ 2) then missing_asked (integer_at r.term 0) (slice_get (arguments r.term) 1)
+    else (if is_pred p (LOOP ∕ 0) then command.Loop
+    else (if is_pred p (TRACE ∕ 1) then trace_asked (filter_at r.term)
+    else command.Refused refusal.NotACommand)))))
 
 -- what a line asks for of which this was read; one without a token asks for nothing
 abbrev pub command_of : LineRead → Command

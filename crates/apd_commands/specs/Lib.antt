@@ -1,2 +1,4 @@
 pub mod Commands
+pub mod Filters
+pub mod Listed
 pub mod Obeying

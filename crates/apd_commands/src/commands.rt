@@ -1,22 +1,25 @@
 // What a line asks for in a command's place.
-ghost use Rattle.std.specs.Prelude.{◌≡◌, ◌≢◌, ◌<◌, ◌≤◌, List, ℕ, length, IfOk, OnOk};
+ghost use Rattle.std.specs.Prelude.{◌≡◌, ◌≢◌, ◌<◌, ◌≤◌, ℕ, length, slice_get, IfOk, OnOk};
+ghost use Rattle.apd_term.specs.Named.{IsNamed};
 ghost use Rattle.apd_clauses.specs.Queries.{IsQueryTerm, query_from};
 ghost use Rattle.apd_read.specs.Reader.{Reader};
 ghost use Rattle.apd_term.specs.StandardNames.{standard_names};
 ghost use Rattle.apd_term.specs.Term.{arguments, predicate_of};
 ghost use Rattle.apd_lines.specs.Lines.{IsOfLine, LineFits, LineGrows, LineIsNamed};
-ghost use Rattle.apd_commands.specs.Commands.{command_in, command_of, integer_at, integer_of, query_asked, term_asked, wrong_asked};
+ghost use Rattle.apd_commands.specs.Commands.{command_in, command_of, integer_at, integer_of, missing_asked, query_asked, term_asked, wrong_asked};
 ghost use Rattle.apd_talk.specs.Speech.{Lasting};
 ghost use Rattle.apd_commands.specs.Obeying.{CanObey};
 
+use crate::filters::trace_command;
 use apd_causes::Query;
 use apd_clauses::{BodyFault, query_of};
 use apd_console::Line;
 use apd_lines::{LineRead, read_line};
 use apd_ops::Ops;
+use apd_ports::Filter;
 use apd_read::Read;
 use apd_term::names::Names;
-use apd_term::standard::{QUERY, QUIT, WRONG};
+use apd_term::standard::{LOOP, MISSING, QUERY, QUIT, TRACE, WRONG};
 use apd_term::{Flat, Pred, Sym};
 use apd_text::Refusal;
 use std::alloc::{AllocError, Global};
@@ -34,6 +37,12 @@ pub enum Command {
     Query(Query),
     /// An exit of a box isn't true; both are told by their numbers, counted from 1.
     Wrong { box_no: i64, exit: i64 },
+    /// A box, told by its number, counted from 1, didn't give this atom, which is true.
+    Missing { box_no: i64, atom: Flat },
+    /// The last run doesn't end.
+    Loop,
+    /// The ports of later runs are printed by this filter.
+    Trace(Filter),
 }
 
 /// What is said to a term that is refused for this fault, which want of memory is not.
@@ -92,6 +101,20 @@ fn wrong_command(alloc: Global, term: &Flat) -> Result<Command, AllocError>
     Ok(Command::Wrong { box_no, exit })
 }
 
+/// The command of a term `missing(B, A)`.
+fn missing_command(alloc: Global, term: &Flat) -> Result<Command, AllocError>
+    requires { length (arguments term.now) ≡ 2 }
+    ensures command { IfOk result (λ c.
+        c ≡ missing_asked (integer_at term.now 0) (slice_get (arguments term.now) 1)) }
+    ensures can { (n : ℕ) → IsNamed n term.now → IfOk result (CanObey n) }
+{
+    let Some(box_no) = integer_at(alloc, term, 0)? else {
+        return Ok(Command::Refused(Refusal::NotACommand));
+    };
+    let atom = term.arg(alloc, 1)?;
+    Ok(Command::Missing { box_no, atom })
+}
+
 /// The command that a term is.
 fn term_command(alloc: Global, read: &Read) -> Result<Command, AllocError>
     ensures command { IfOk result (λ c. c ≡ term_asked read.now (predicate_of read.now.term)) }
@@ -116,6 +139,24 @@ fn term_command(alloc: Global, read: &Read) -> Result<Command, AllocError>
                 arity: 2,
             },
         ) => wrong_command(alloc, &read.term),
+        Some(
+            Pred {
+                name: MISSING,
+                arity: 2,
+            },
+        ) => missing_command(alloc, &read.term),
+        Some(
+            Pred {
+                name: LOOP,
+                arity: 0,
+            },
+        ) => Ok(Command::Loop),
+        Some(
+            Pred {
+                name: TRACE,
+                arity: 1,
+            },
+        ) => trace_command(alloc, &read.term),
         _ => Ok(Command::Refused(Refusal::NotACommand)),
     }
 }

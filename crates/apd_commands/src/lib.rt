@@ -2,5 +2,6 @@
 #![tactic(auto)]
 
 mod commands;
+mod filters;
 
 pub use commands::{Command, read_command};

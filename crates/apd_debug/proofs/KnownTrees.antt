@@ -15,19 +15,19 @@ use Rattle.apd_debug.specs.NamedTrees.{TreeIsNamed, IsKnownTree}
 use Rattle.apd_debug.specs.Known.{KeepsNamed}
 use Rattle.apd_debug.proofs.NamedTrees.{TreeIsNamed-more, cut-named, judged-named}
 
-label-named : (n : ℕ) (x : Tree) → TreeIsNamed n x → IsNamed n (label x)
+pub label-named : (n : ℕ) (x : Tree) → TreeIsNamed n x → IsNamed n (label x)
 label-named n (node s c t ts) named = named.0.0
 
 instance-named : (n : ℕ) (x : Tree) → TreeIsNamed n x → TupleIsNamed n (instance x)
 instance-named n (node s c t ts) named = named.0
 
 -- what a turn asks about, leads to and finds is named
-abbrev TurnIsNamed : ℕ → Turn Tree Finding → Type 0
+abbrev pub TurnIsNamed : ℕ → Turn Tree Finding → Type 0
 TurnIsNamed n (asks asked next) = QuestionIsNamed n asked.question × ((r : Reply) → TreeIsNamed n (next r))
 TurnIsNamed n (goes t) = TreeIsNamed n t
 TurnIsNamed n (ends f) = FindingIsNamed n f
 
-turn-named : (n : ℕ) (strategy : Strategy) (x : Tree) → TreeIsNamed n x → TurnIsNamed n (turn_by x (choice strategy x))
+pub turn-named : (n : ℕ) (strategy : Strategy) (x : Tree) → TreeIsNamed n x → TurnIsNamed n (turn_by x (choice strategy x))
 turn-named n strategy x named = by (choice strategy x) refl
   where
     by : (o : Option Cut) → choice strategy x ≡ o → TurnIsNamed n (turn_by x o)

@@ -1,6 +1,10 @@
 pub mod NamedTrees
 pub mod Known
 pub mod KnownTrees
+pub mod NamedReplies
+pub mod KnownGoals
+pub mod KnownLoops
+pub mod Kept
 pub mod Bridging
 pub mod Telling
 pub mod Going

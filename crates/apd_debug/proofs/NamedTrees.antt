@@ -101,7 +101,7 @@ or_variable-named : (n v : ℕ) (o : Option Term) → MayBeNamed n o → IsNamed
 or_variable-named n v None named = tt
 or_variable-named n v (Some t) named = named
 
-matching-named : (n : ℕ) (general special : Term) → IsNamed n special → (v : ℕ) → IsNamed n (matching general special v)
+pub matching-named : (n : ℕ) (general special : Term) → IsNamed n special → (v : ℕ) → IsNamed n (matching general special v)
 matching-named n general special named v = or_variable-named n v (opposite v general special) (opposite-named n v general special named)
 
 instance_with-named : (n : ℕ) (t : Tuple) (label : Term) → TupleIsNamed n t → IsNamed n label → TupleIsNamed n (instance_with t label)
@@ -117,7 +117,7 @@ or_no_point-named n [] i named = (tt, tt)
 or_no_point-named n (p ∷ ps) zero named = named.0
 or_no_point-named n (p ∷ ps) (suc i) named = or_no_point-named n ps i named.1
 
-point_of-named : (n : ℕ) (R : Recorded) (i : ℕ) → RecordIsNamed n R → TupleIsNamed n (point_of R i).tuple
+pub point_of-named : (n : ℕ) (R : Recorded) (i : ℕ) → RecordIsNamed n R → TupleIsNamed n (point_of R i).tuple
 point_of-named n R i named = or_no_point-named n R.points i named.points
 
 nodes_for-named : (n : ℕ) (below : ℕ → Term → Tree) → ((e : ℕ) (l : Term) → IsNamed n l → TreeIsNamed n (below e l)) →

@@ -1,5 +1,6 @@
 pub mod NamedTrees
 pub mod Known
+pub mod NamedStates
 pub mod Stand
 pub mod Steps
 pub mod Hearing

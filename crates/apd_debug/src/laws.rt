@@ -5,9 +5,12 @@ ghost use Rattle.apd_answers.specs.declared.finding.Finding.{Finding};
 ghost use Rattle.apd_debug.specs.Conversing.{Conversing};
 ghost use Rattle.apd_debug.specs.Known.{KeepsNamed};
 ghost use Rattle.apd_debug.specs.Laws.{Debugging, GoesAlong, LinesAreTurns, LinesMakeTheDialogue, OnlyQuitEnds};
+ghost use Rattle.apd_debug.specs.NamedStates.{IsKnownGoal, IsKnownLoop, loop_entry};
 ghost use Rattle.apd_debug.specs.NamedTrees.{IsKnownTree, RecordIsNamed, TreeIsNamed};
 ghost use Rattle.apd_divide.specs.declared.node.Strategy.{Strategy};
 ghost use Rattle.apd_divide.specs.Recorded.{tree};
+ghost use Rattle.apd_loop.specs.Loop.{loop};
+ghost use Rattle.apd_missing.specs.Missing.{missing};
 ghost use Rattle.apd_record.specs.Recorded.{Recorded};
 ghost use Rattle.apd_recorded.specs.Told.{record_of};
 ghost use Rattle.apd_term.specs.declared.tuple.Tuple.{Tuple};
@@ -54,6 +57,20 @@ pub fn only_quit_ends<S, D, E>()
 pub fn wrong_answers_are_named()
     ensures { (strategy : Strategy) (line_of : Finding → ℕ) →
         KeepsNamed (wrong strategy) (λ f. Found f (line_of f)) IsKnownTree }
+{}
+
+/// The diagnosis of a missing answer asks about and finds what is named where its program and its goal are, and where the
+/// replies that are kept are, in whatever lines the clauses stand.
+pub fn missing_answers_are_named()
+    ensures { (P : List Tuple) (R : Recorded) (line_of : Finding → ℕ) →
+        KeepsNamed (missing P R) (λ f. Found f (line_of f)) (IsKnownGoal P) }
+{}
+
+/// The diagnosis of a run that doesn't end asks about and finds what is named where its record is, in whatever lines the
+/// clauses stand and however many calls there are.
+pub fn runs_without_end_are_named()
+    ensures { (R : Recorded) (chain : List ℕ) (strategy : Strategy) (line_of : Finding → ℕ) (calls : ℕ) →
+        KeepsNamed (loop R chain strategy) (loop_entry line_of calls) (IsKnownLoop R) }
 {}
 
 /// The record of a run has no names that the program and the query don't have, and the tree of an exit none that the record

@@ -1,63 +1,69 @@
--- The diagnosis of a wrong answer over a dialogue is a part of the conversation.
-use Rattle.std.proofs.Common.{◌≡◌, ℕ, List, [], ◌∷◌, length, refl, sym, ap, ◌∙◌, subst, Option, Some, None}
-use Rattle.std.specs.Prelude.{Result, Ok, Err, IfOk, IfSome, OnOk}
-use Rattle.apd_answers.specs.Going.{at}
-use Rattle.apd_answers.specs.Store.{with_pair}
-use Rattle.apd_answers.specs.declared.finding.Finding.{Finding}
+-- A diagnosis over a dialogue is a part of the conversation.
+use Rattle.std.proofs.Common.{◌≡◌, ℕ, List, length, refl, sym, subst}
+use Rattle.std.specs.Prelude.{Result, Ok, Err, IfOk, MatchResult}
+use Rattle.apd_answers.specs.Dialogue.{Diagnosis}
+use Rattle.apd_answers.specs.Going.{at, Breaks, Reaches}
 use Rattle.apd_answers.specs.declared.oracle.AskEnd.{AskEnd}
-use Rattle.apd_answers.specs.declared.question.Question.TheVariants.{True}
-use Rattle.apd_answers.specs.declared.question.Reply.TheVariants.{No}
 use Rattle.apd_answers.specs.declared.store.Pair.{Pair}
-use Rattle.apd_clauses.specs.declared.clause.Clause.{Clause}
 use Rattle.apd_console.specs.Console.{IsKept}
 use Rattle.apd_debug.specs.Asking.{dialogue_step, moment_of}
-use Rattle.apd_debug.specs.Diagnosed.{Diagnosed, SaysLast}
 use Rattle.apd_debug.specs.Hearing.{HearsReplies}
-use Rattle.apd_debug.specs.NamedTrees.{IsKnownTree, TreeIsNamed}
+use Rattle.apd_debug.specs.Known.{KeepsNamed}
+use Rattle.apd_debug.specs.NamedStates.{AreReplies}
 use Rattle.apd_debug.proofs.Asking.{conversing, keeps_dialogue}
 use Rattle.apd_debug.proofs.Going.{diagnosed_so, named_reached}
-use Rattle.apd_debug.proofs.KnownTrees.{wrong-keeps}
-use Rattle.apd_divide.specs.Tree.{Tree}
-use Rattle.apd_divide.specs.declared.node.Strategy.{Strategy}
+use Rattle.apd_debug.proofs.Kept.{replies_kept}
 use Rattle.apd_io.specs.declared.sink.Sink as Sink
 use Rattle.apd_io.specs.declared.source.Source as Source
 use Rattle.apd_ops.specs.Table.{Table}
 use Rattle.apd_oracle.specs.declared.dialogue.Dialogue.{Dialogue}
 use Rattle.apd_query.specs.declared.state.State.{State}
 use Rattle.apd_read.specs.Reader.{Reader}
-use Rattle.apd_symptoms.specs.Symptoms.{line_found}
-use Rattle.apd_talk.specs.Moment.{Moment}
 use Rattle.apd_term.specs.Growth.{Grown}
-use Rattle.apd_text.specs.Named.{EntryIsNamed, HasStandardNames}
-use Rattle.apd_wrong.specs.Judging.{Ends}
-use Rattle.apd_wrong.specs.Wrong.{wrong}
+use Rattle.apd_text.specs.Named.{EntryIsNamed}
+use Rattle.apd_text.specs.declared.entry.Entry.{Entry}
 use Rattle.apd_session.specs.Diagnosing.{Diagnoses, IsDiagnosed, answered}
-use Rattle.apd_session.specs.Steps.{found_in, situation, talker}
+use Rattle.apd_session.specs.Steps.{Method, by_loop, by_missing, by_wrong, situation, talker}
 
--- where a question waits, the session hears a line as a reply to it
-pub hears_replies : {names : List (List ℕ)} (reader : Reader names) (ops : Table) (s : State) → HearsReplies (wrong s.strategy) (found_in s.program) (situation s) reader ops (talker reader ops)
-hears_replies reader ops s = record { steps = λ pairs count asked next line. refl; closes = λ pairs count asked next close. refl }
+-- where a question of a diagnosis waits, the session hears a line as a reply to it
+abbrev pub HearsFor : {D E : Type 0} → Method D E → Type 0
+HearsFor d = (names : List (List ℕ)) (reader : Reader names) (ops : Table) (s : State) → HearsReplies (d.diagnosis s) (d.found s) (situation d s) reader ops (talker reader ops)
 
-module _ {S K : Type 0} (s : Source.Ghosts S) (k : Sink.Ghosts K) (strategy : Strategy) (x : Tree) (pairs pairs_now : List Pair) (from to : Dialogue S K s k) (result : Result Finding AskEnd)
-    (ends : Ends strategy (dialogue_step s k) (at pairs x from) pairs_now to result) (known : IsKnownTree (length from.log.now.names) pairs x) where
-  -- in a state with this strategy
-  is_diagnosed : {names : List (List ℕ)} (reader : Reader names) → Grown to.log.now.names names → (t : State) → t.strategy ≡ strategy →
-      IsDiagnosed reader t x (answered pairs from.asked) (answered pairs_now to.asked) (moment_of s k from) (moment_of s k to) result
-  is_diagnosed reader grew t same =
-      diagnosed_so (wrong t.strategy) (found_in t.program) IsKnownTree (wrong-keeps t.strategy (line_found t.program)) (dialogue_step s k) (conversing s k)
-      (situation t) reader from.log.now.ops (talker reader from.log.now.ops) (hears_replies reader from.log.now.ops t) (at pairs x from) pairs_now to result
-      (subst (λ (z : Strategy). Ends z (dialogue_step s k) (at pairs x from) pairs_now to result) (sym same) ends) refl known grew
+pub hears_wrong : HearsFor by_wrong
+hears_wrong names reader ops s = record { steps = λ pairs count asked next line. refl; closes = λ pairs count asked next close. refl }
 
-  found_named : (program : List Clause) (answer : Result Finding AskEnd) → Ends strategy (dialogue_step s k) (at pairs x from) pairs_now to answer → IfOk answer (λ f. EntryIsNamed (length to.log.now.names) (found_in program f))
-  found_named program (Ok f) reached = named_reached (wrong strategy) (found_in program) IsKnownTree (wrong-keeps strategy (line_found program)) (dialogue_step s k) (conversing s k) (at pairs x from) pairs_now to f reached known
-  found_named program (Err end) broke = tt
+pub hears_missing : HearsFor by_missing
+hears_missing names reader ops s = record { steps = λ pairs count asked next line. refl; closes = λ pairs count asked next close. refl }
 
-  pub diagnoses : IsKept from.console.now → Diagnoses strategy x (answered pairs from.asked) (answered pairs_now to.asked) (moment_of s k from) (moment_of s k to) result
-  diagnoses sound =
-      let kept = keeps_dialogue s k (wrong strategy) (at pairs x from) pairs_now to result ends in
+pub hears_loop : HearsFor by_loop
+hears_loop names reader ops s = record { steps = λ pairs count asked next line. refl; closes = λ pairs count asked next close. refl }
+
+module _ {D E : Type 0} (d : Method D E) (hears : HearsFor d) (this : Diagnosis D E) (IsKnown : ℕ → List Pair → D → Type 0) (keeps : (s : State) → KeepsNamed this (d.found s) IsKnown)
+    {S K : Type 0} (s : Source.Ghosts S) (k : Sink.Ghosts K) (x : D) (pairs pairs_now : List Pair) (from to : Dialogue S K s k) where
+  -- the diagnosis came to its end over the dialogue, or it broke off
+  abbrev Went : Diagnosis D E → Result E AskEnd → Type 0
+  Went z result = MatchResult result (λ e. Reaches z (dialogue_step s k) (at pairs x from) pairs_now to e) (λ e. Breaks z (dialogue_step s k) (at pairs x from) pairs_now to e)
+
+  found_named : (t : State) (answer : Result E AskEnd) → Went this answer → IsKnown (length from.log.now.names) pairs x → IfOk answer (λ e. EntryIsNamed (length to.log.now.names) (d.found t e))
+  found_named t (Ok e) reached known = named_reached this (d.found t) IsKnown (keeps t) (dialogue_step s k) (conversing s k) (at pairs x from) pairs_now to e reached known
+  found_named t (Err end) broke known = tt
+
+  -- in a state in which the diagnosis is this one
+  is_diagnosed : (result : Result E AskEnd) → Went this result → IsKnown (length from.log.now.names) pairs x → (names : List (List ℕ)) (reader : Reader names) → Grown to.log.now.names names → (t : State) → d.diagnosis t ≡ this →
+      IsDiagnosed d reader t x (answered pairs from.asked) (answered pairs_now to.asked) (moment_of s k from) (moment_of s k to) result
+  is_diagnosed result went known names reader grew t same =
+      diagnosed_so (d.diagnosis t) (d.found t) IsKnown (subst (λ (z : Diagnosis D E). KeepsNamed z (d.found t) IsKnown) (sym same) (keeps t)) (dialogue_step s k) (conversing s k)
+      (situation d t) reader from.log.now.ops (talker reader from.log.now.ops) (hears names reader from.log.now.ops t) (at pairs x from) pairs_now to result
+      (subst (λ (z : Diagnosis D E). Went z result) (sym same) went) refl known grew
+
+  pub diagnoses : (result : Result E AskEnd) → Went this result → IsKnown (length from.log.now.names) pairs x → AreReplies (length from.log.now.names) pairs → IsKept from.console.now → (entry : E → Entry) → KeepsNamed this entry IsKnown →
+      Diagnoses d this x (answered pairs from.asked) (answered pairs_now to.asked) (moment_of s k from) (moment_of s k to) result
+  diagnoses result went known replies sound entry keeps_entry =
+      let kept = keeps_dialogue s k this (at pairs x from) pairs_now to result went in
       record {
         keeps = kept.keeps sound;
         keeps_place = kept.keeps_place;
-        course = λ names grew reader t same. is_diagnosed reader grew t same;
-        named = λ program. found_named program result ends;
+        course = λ names grew reader t same. is_diagnosed result went known names reader grew t same;
+        named = λ t. found_named t result went known;
+        replies = replies_kept this entry IsKnown keeps_entry (dialogue_step s k) (conversing s k) (at pairs x from) pairs_now to result went known replies;
       }

@@ -1,13 +1,13 @@
 -- What a session says is right: by its lines, and then for the whole.
 use Rattle.std.proofs.Common.{◌≡◌, ℕ, Bool, true, false, List, [], ◌∷◌, ◌++◌, length, Option, Some, None, Result, Ok, Err, refl, sym, ◌∙◌, ap, subst, append_assoc}
 use borrow.Author.Tests.{ltb-false}
-use Rattle.std.specs.Prelude.{All, if◌then◌else◌, nat_lt, ℤ}
+use Rattle.std.specs.Prelude.{All, IfSome, if◌then◌else◌, nat_lt, slice_get, ℤ}
 use Rattle.apd_causes.specs.declared.faults.BodyFault.{BodyFault}
 use Rattle.apd_causes.specs.declared.reading.Read.{Read}
 use Rattle.apd_causes.specs.declared.run.Query.{Query}
-use Rattle.apd_term.specs.Term.{predicate_of}
+use Rattle.apd_term.specs.Term.{Term, arguments, predicate_of}
 use Rattle.apd_term.specs.declared.term.Pred.{Pred}
-use Rattle.apd_term.specs.declared.standard.TheConstants.{QUERY, QUIT, WRONG}
+use Rattle.apd_term.specs.declared.standard.TheConstants.{LOOP, MISSING, QUERY, QUIT, TRACE, WRONG}
 use Rattle.apd_clauses.specs.declared.clause.Clause.{Clause}
 use Rattle.apd_clauses.specs.Clauses.{IsAtom, IsProgram, is_pred}
 use Rattle.apd_clauses.specs.Kinds.{◌∕◌}
@@ -17,9 +17,13 @@ use Rattle.apd_clauses.proofs.Indexing.{same_pred-true}
 use Rattle.apd_clauses.proofs.Pure.{goals_are_atoms}
 use Rattle.apd_console.specs.Lines.{Close, InputEnd, hear}
 use Rattle.apd_console.specs.declared.line.Line.{Line}
+use Rattle.apd_answers.specs.Fitting.{AllFit}
 use Rattle.apd_answers.specs.Interpretation.{Interpretation}
+use Rattle.apd_answers.specs.declared.store.Pair.{Pair}
+use Rattle.apd_known.specs.Files.{States, stated_in}
+use Rattle.apd_known.specs.Files as oracle
+use Rattle.apd_known.proofs.Fitting.{FitsIn, stated_fit}
 use Rattle.apd_divide.specs.declared.node.Strategy.{Strategy}
-use Rattle.apd_divide.specs.Tree.{Tree}
 use Rattle.apd_load.specs.declared.Note.{Note}
 use Rattle.apd_load.specs.Program.{Loads, refused, loads, program_of}
 use Rattle.apd_load.specs.Warnings.{warnings_of}
@@ -36,24 +40,27 @@ use Rattle.apd_talk.specs.Utterance.{Utterance, entries_of}
 use Rattle.apd_talk.proofs.Uttering.{entries_of-append}
 use Rattle.apd_talk.specs.Speech.{plain}
 use Rattle.apd_text.specs.declared.entry.Entry.{Entry}
-use Rattle.apd_text.specs.declared.entry.Entry.TheVariants.{FileTooLong, InputFault, Loaded}
+use Rattle.apd_text.specs.declared.entry.Entry.TheVariants.{FileTooLong, InputFault, Loaded, OracleRefused}
 use Rattle.apd_text.specs.declared.entry.Refusal.TheVariants.{NotACommand}
-use Rattle.apd_account.specs.Account.{Account, first_account, after_entries}
-use Rattle.apd_account.specs.Right.{AreRight}
+use Rattle.apd_account.specs.Account.{Account, after_entries}
+use Rattle.apd_account.specs.Right.{AreRight, IsRight}
 use Rattle.apd_account.proofs.Fronts.{right-append}
-use Rattle.apd_commands.specs.Commands.{command_in, command_of, integer_at, query_asked, term_asked, wrong_asked}
+use Rattle.apd_commands.specs.Filters.{filter_at, trace_asked}
+use Rattle.apd_ports.specs.declared.filter.Filter.{Filter}
+use Rattle.apd_commands.specs.Commands.{command_in, command_of, integer_at, missing_asked, query_asked, term_asked, wrong_asked}
 use Rattle.apd_commands.specs.declared.commands.Command.TheVariants as command
-use Rattle.apd_debug.specs.Stand.{Mode, Ready, Asking}
 use Rattle.apd_oracle.specs.Replies.{spoken_of}
 use Rattle.apd_oracle.proofs.Fitting.{reply_fits}
 use Rattle.apd_words.specs.Words.{Options, options_of}
-use Rattle.apd_session.specs.Headline.{AreRightFor}
+use Rattle.apd_session.specs.Headline.{AreRightFor, account_with, replies_in}
 use Rattle.apd_session.specs.Outcome.{IsFileLoad}
-use Rattle.apd_session.specs.Session.{World, FileLoad, Gives, Faults, after_load, after_options, after_words, first_state, says_one, session_of}
-use Rattle.apd_session.specs.Steps.{Situation, load_said, ready_in, remarks, step_for, talker}
+use Rattle.apd_session.specs.Session.{World, FileLoad, Gives, Faults, Transcript, after_load, after_options, after_prepared, after_words, ends_before, first_state, prepared, prepared_by, prepared_from, says_one, session_of}
+use Rattle.apd_session.specs.declared.preparing.Prepared.TheVariants.{Knows, Refuses}
+use Rattle.apd_session.specs.declared.status.Status.{Status}
+use Rattle.apd_session.specs.Steps.{Situation, Waiting, ForCommand, ForWrong, ForMissing, ForLoop, known_said, load_said, opening_said, ready_in, remarks, step_for, talker}
 use Rattle.apd_session.specs.declared.status.Status.TheVariants as status
 use Rattle.apd_session.specs.declared.notes.Noted.TheVariants as noted
-use Rattle.apd_session.proofs.Righting.{IsMode, Stands, IsStep, command-step, reply-step, closing-right, remarks-right}
+use Rattle.apd_session.proofs.Righting.{IsMode, Stands, IsStep, command-step, loop_reply-step, missing_reply-step, wrong_reply-step, closing-right, remarks-right}
 
 -- A query that is asked has atoms as its goals.
 
@@ -66,20 +73,34 @@ not_wrong None k q is = cc
 not_wrong (Some b) None q is = cc
 not_wrong (Some b) (Some k) q is = cc
 
+not_missing : (b : Option ℤ) (a : Option Term) (q : Query) → missing_asked b a ≡ command.Query q → ⊥
+not_missing None a q is = cc
+not_missing (Some b) None q is = cc
+not_missing (Some b) (Some a) q is = cc
+
+not_trace : (f : Option Filter) (q : Query) → trace_asked f ≡ command.Query q → ⊥
+not_trace None q is = cc
+not_trace (Some f) q is = cc
+
 is_predicate : (o : Option Pred) (p : Pred) → is_pred o p ≡ true → o ≡ Some p
 is_predicate None p is = absurd (cc)
 is_predicate (Some x) p is = ap Some (same_pred-true x p is)
 
 term_atoms : (r : Read) (q : Query) → term_asked r (predicate_of r.term) ≡ command.Query q → All IsAtom q.tuple.body
-term_atoms r q is = by (is_pred (predicate_of r.term) (QUIT ∕ 0)) (is_pred (predicate_of r.term) (QUERY ∕ 1)) (is_pred (predicate_of r.term) (WRONG ∕ 2)) refl is
+term_atoms r q is =
+    by (is_pred (predicate_of r.term) (QUIT ∕ 0)) (is_pred (predicate_of r.term) (QUERY ∕ 1)) (is_pred (predicate_of r.term) (WRONG ∕ 2)) (is_pred (predicate_of r.term) (MISSING ∕ 2)) (is_pred (predicate_of r.term) (LOOP ∕ 0)) (is_pred (predicate_of r.term) (TRACE ∕ 1)) refl is
   where
-    by : (a b c : Bool) → is_pred (predicate_of r.term) (QUERY ∕ 1) ≡ b
-        → (if a then command.Quit else (if b then query_asked (query_from r) else (if c then wrong_asked (integer_at r.term 0) (integer_at r.term 1) else command.Refused NotACommand))) ≡ command.Query q
+    by : (a b c d e f : Bool) → is_pred (predicate_of r.term) (QUERY ∕ 1) ≡ b
+        → (if a then command.Quit else (if b then query_asked (query_from r) else (if c then wrong_asked (integer_at r.term 0) (integer_at r.term 1)
+        else (if d then missing_asked (integer_at r.term 0) (slice_get (arguments r.term) 1) else (if e then command.Loop else (if f then trace_asked (filter_at r.term) else command.Refused NotACommand)))))) ≡ command.Query q
         → All IsAtom q.tuple.body
-    by true b c e h = absurd (cc)
-    by false true c e h = goals_are_atoms q.tuple.body (query_is_pure r q (is_predicate (predicate_of r.term) (QUERY ∕ 1) e) (query_in (query_from r) q h))
-    by false false true e h = absurd (not_wrong (integer_at r.term 0) (integer_at r.term 1) q h)
-    by false false false e h = absurd (cc)
+    by true b c d e f asks h = absurd (cc)
+    by false true c d e f asks h = goals_are_atoms q.tuple.body (query_is_pure r q (is_predicate (predicate_of r.term) (QUERY ∕ 1) asks) (query_in (query_from r) q h))
+    by false false true d e f asks h = absurd (not_wrong (integer_at r.term 0) (integer_at r.term 1) q h)
+    by false false false true e f asks h = absurd (not_missing (integer_at r.term 0) (slice_get (arguments r.term) 1) q h)
+    by false false false false true f asks h = absurd (cc)
+    by false false false false false true asks h = absurd (not_trace (filter_at r.term) q h)
+    by false false false false false false asks h = absurd (cc)
 
 line_atoms : (line : LineRead) (q : Query) → command_of line ≡ command.Query q → All IsAtom q.tuple.body
 line_atoms lines.Empty q is = absurd (cc)
@@ -102,10 +123,14 @@ module _ (m : Interpretation) (program : List Clause) (is : IsProgram program) (
   line-step : (s : Situation) (a : Account) (line : Line) → Stands m program is strategy s a → IsStep m program is strategy a ((talker reader ops).step s line)
   line-step s a line h = by s.mode h.mode
     where
-      by : (mode : Mode Tree) → IsMode m program is strategy mode a → IsStep m program is strategy a (step_for reader ops s.state mode line)
-      by Ready k = command-step m program is strategy ops names s.state a (command_in reader ops line) (λ q e. query_atoms reader ops line q e) h.state
-      by (Asking asked next) k =
-          reply-step m program is strategy ops names s.state a asked next (spoken_of asked.question (line_in reader ops line)) (λ r e. reply_fits asked.question (line_in reader ops line) r e) h.state k
+      by : (mode : Waiting) → IsMode m program is strategy mode a → IsStep m program is strategy a (step_for reader ops s.state mode line)
+      by ForCommand k = command-step m program is strategy ops names s.state a (command_in reader ops line) (λ q e. query_atoms reader ops line q e) h.state
+      by (ForWrong asked next) k =
+          wrong_reply-step m program is strategy ops names s.state a asked next (spoken_of asked.question (line_in reader ops line)) (λ r e. reply_fits asked.question (line_in reader ops line) r e) h.state k
+      by (ForMissing asked next) k =
+          missing_reply-step m program is strategy ops names s.state a asked next (spoken_of asked.question (line_in reader ops line)) (λ r e. reply_fits asked.question (line_in reader ops line) r e) h.state k
+      by (ForLoop asked next) k =
+          loop_reply-step m program is strategy ops names s.state a asked next (spoken_of asked.question (line_in reader ops line)) (λ r e. reply_fits asked.question (line_in reader ops line) r e) h.state k
 
   -- what is said after what is right
   both-right : (a : Account) (us vs : List (Utterance Entry)) → Right a us → Right (after_entries program a (entries_of us)) vs → Right a (us ++ vs)
@@ -131,54 +156,98 @@ module _ (m : Interpretation) (program : List Clause) (is : IsProgram program) (
   conversation-right s a room input ends h = lines-right s a (hear room input ends).lines (hear room input ends).close h
 
   -- what is said of a program, and then
-  opening-right : (passed called : List Note) (us : List (Utterance Entry)) → Right first_account us → Right first_account (load_said ops names program passed called ++ us)
+  opening-right : (a : Account) (passed called : List Note) (us : List (Utterance Entry)) → Right a us → Right a (load_said ops names program passed called ++ us)
   unfolding load_said
-  opening-right passed called us r =
+  opening-right a passed called us r =
       let last = plain ops names (Loaded (length program)) in
-      subst (Right first_account) (sym (append_twice (remarks ops names noted.PassedOver passed) (remarks ops names noted.Called called) (last ∷ []) us))
-      (remarks-right m program is strategy ops names first_account noted.PassedOver passed (remarks ops names noted.Called called ++ (last ∷ us))
-      (remarks-right m program is strategy ops names first_account noted.Called called (last ∷ us) (tt, r)))
+      subst (Right a) (sym (append_twice (remarks ops names noted.PassedOver passed) (remarks ops names noted.Called called) (last ∷ []) us))
+      (remarks-right m program is strategy ops names a noted.PassedOver passed (remarks ops names noted.Called called ++ (last ∷ us))
+      (remarks-right m program is strategy ops names a noted.Called called (last ∷ us) (tt, r)))
+
+  -- what is said of an oracle file, and then
+  known-right : (a : Account) (statements : Option ℕ) (us : List (Utterance Entry)) → Right a us → Right a (known_said ops names statements ++ us)
+  known-right a None us r = r
+  known-right a (Some n) us r = (tt, r)
+
+  before-right : (a : Account) (passed called : List Note) (statements : Option ℕ) (us : List (Utterance Entry)) → Right a us → Right a (opening_said ops names program passed called statements ++ us)
+  before-right a passed called statements us r =
+      subst (Right a) (sym (append_assoc (load_said ops names program passed called) (known_said ops names statements) us)) (opening-right a passed called (known_said ops names statements ++ us) (known-right a statements us r))
 
 -- Each session.
 
-first_stands : (m : Interpretation) (options : Options) (program : List Clause) (is : IsProgram program)
-    → Stands m program is (first_state program options).strategy (ready_in (first_state program options)) first_account
-first_stands m options program is = record {
-  state = record { program_is = refl; strategy_is = refl; pairs_are = refl; last = tt };
+first_stands : (m : Interpretation) (options : Options) (program : List Clause) (pairs : List Pair) (is : IsProgram program) → AllFit pairs
+    → Stands m program is options.strategy (ready_in (first_state program options pairs)) (account_with pairs)
+first_stands m options program pairs is fit = record {
+  state = record { program_is = refl; strategy_is = refl; pairs_are = refl; fit = fit; last = (refl, tt) };
   mode = tt;
 }
 
 module _ (m : Interpretation) {names : List (List ℕ)} (reader : Reader names) (options : Options) where
-  loaded-right : (input : List ℕ) (ends : InputEnd) (o : Loads) → IsProgramIn o → AreRightFor m options (entries_of (after_load reader options input ends o).utterances) o
-  loaded-right input ends (refused line cause) is = tt
-  loaded-right input ends (loads l) is =
-      let strategy = (first_state l.program options).strategy in
-      opening-right m l.program is strategy names reader l.ops l.passed (warnings_of l.program) (replies (talker reader l.ops) (ready_in (first_state l.program options)) 16777216 input ends).utterances
-      (conversation-right m l.program is strategy names reader l.ops (ready_in (first_state l.program options)) first_account 16777216 input ends (first_stands m options l.program is))
+  abbrev RightWith : List Clause → List Pair → Transcript → Type 0
+  RightWith program pairs t = AreRight m program options.strategy (account_with pairs) (entries_of t.utterances)
 
-  -- one thing is said of a file
-  fault-right : (o : Loads) → AreRightFor m options (InputFault ∷ []) o
-  fault-right (refused line cause) = tt
-  fault-right (loads l) = (tt, tt)
+  -- with these replies known
+  known_so-right : (input : List ℕ) (ends : InputEnd) (program : List Clause) (ops : Table) (passed : List Note) (statements : Option ℕ) (pairs : List Pair) → IsProgram program → AllFit pairs → RightWith program pairs (after_prepared reader options input ends program ops passed (Knows statements pairs))
+  known_so-right input ends program ops passed statements pairs is fit =
+      before-right m program is options.strategy names reader ops (account_with pairs) passed (warnings_of program) statements (replies (talker reader ops) (ready_in (first_state program options pairs)) 16777216 input ends).utterances
+      (conversation-right m program is options.strategy names reader ops (ready_in (first_state program options pairs)) (account_with pairs) 16777216 input ends (first_stands m options program pairs is fit))
 
-  long-right : (n : ℕ) (o : Loads) → AreRightFor m options (FileTooLong n ∷ []) o
-  long-right n (refused line cause) = tt
-  long-right n (loads l) = (tt, tt)
+  -- where the session ends before the first line
+  refusal-right : (program : List Clause) (ops : Table) (passed : List Note) (pairs : List Pair) (e : Entry) (st : Status) → IsProgram program → IsRight m program options.strategy (account_with pairs) e → RightWith program pairs (ends_before names program ops passed e st)
+  refusal-right program ops passed pairs e st is r = opening-right m program is options.strategy names reader ops (account_with pairs) passed (warnings_of program) (plain ops names e ∷ []) (r, tt)
 
-  text-right : (world : World) (text : List ℕ) → AreRightFor m options (entries_of (after_words reader world options (Gives text)).utterances) (program_of reader text)
-  text-right world text = by (nat_lt 1048576 (length text)) refl
+  stated-right : (input : List ℕ) (ends : InputEnd) (program : List Clause) (ops : Table) (passed : List Note) → IsProgram program → (w : States) → FitsIn w → RightWith program (replies_in (prepared_by w)) (after_prepared reader options input ends program ops passed (prepared_by w))
+  stated-right input ends program ops passed is (oracle.refused line cause) fit = refusal-right program ops passed [] (OracleRefused line cause) status.OracleText is tt
+  stated-right input ends program ops passed is (oracle.states s) fit = known_so-right input ends program ops passed (Some s.statements) s.answers is fit
+
+  given-right : (input : List ℕ) (ends : InputEnd) (program : List Clause) (ops : Table) (passed : List Note) (known : List ℕ) → IsProgram program
+      → RightWith program (replies_in (prepared_from reader ops (Gives known))) (after_prepared reader options input ends program ops passed (prepared_from reader ops (Gives known)))
+  given-right input ends program ops passed known is = by (nat_lt 1048576 (length known))
     where
-      by : (b : Bool) → nat_lt 1048576 (length text) ≡ b
-          → AreRightFor m options (entries_of (if b then says_one names (FileTooLong 1048577) status.FileTooLong else after_load reader options world.input world.ends (program_of reader text)).utterances) (program_of reader text)
-      by true long = long-right 1048577 (program_of reader text)
-      by false short = loaded-right world.input world.ends (program_of reader text) (loaded_is_program names reader text (ltb-false 1048576 (length text) short))
+      by : (b : Bool) → let x = if b then Refuses (FileTooLong 1048577) status.FileTooLong else prepared_by (stated_in reader ops known) in RightWith program (replies_in x) (after_prepared reader options input ends program ops passed x)
+      by true = refusal-right program ops passed [] (FileTooLong 1048577) status.FileTooLong is tt
+      by false = stated-right input ends program ops passed is (stated_in reader ops known) (stated_fit reader ops known)
 
-  file-right : (world : World) (text : List ℕ) (file : FileLoad) → IsFileLoad (Some text) file → AreRightFor m options (entries_of (after_words reader world options file).utterances) (program_of reader text)
-  file-right world text Faults h = fault-right (program_of reader text)
-  file-right world text (Gives bytes) h = subst (λ t. AreRightFor m options (entries_of (after_words reader world options (Gives t)).utterances) (program_of reader text)) (sym h) (text-right world text)
+  -- whatever the load of an oracle file gives that has this text
+  prepared-right : (input : List ℕ) (ends : InputEnd) (program : List Clause) (ops : Table) (passed : List Note) (known : List ℕ) (file : FileLoad) (name : Option (List ℕ)) → IsProgram program → IfSome name (λ n. IsFileLoad (Some known) file)
+      → RightWith program (replies_in (prepared reader ops name (Gives known))) (after_prepared reader options input ends program ops passed (prepared reader ops name file))
+  prepared-right input ends program ops passed known file None is h = known_so-right input ends program ops passed None [] is tt
+  prepared-right input ends program ops passed known Faults (Some name) is h = refusal-right program ops passed (replies_in (prepared_from reader ops (Gives known))) InputFault status.ReadFault is tt
+  prepared-right input ends program ops passed known (Gives bytes) (Some name) is h =
+      subst (λ t. RightWith program (replies_in (prepared_from reader ops (Gives known))) (after_prepared reader options input ends program ops passed (prepared_from reader ops (Gives t)))) (sym h) (given-right input ends program ops passed known is)
 
--- whatever the load of a file gives that has this text
-pub session-right : (m : Interpretation) (words names : List (List ℕ)) (reader : Reader names) (world : World) (options : Options) (text : List ℕ) → options_of words ≡ Some options
-    → IsFileLoad (Some text) world.program → AreRightFor m options (entries_of (session_of words reader world).utterances) (program_of reader text)
-session-right m words names reader world options text named file =
-    subst (λ o. AreRightFor m options (entries_of (after_options reader world o).utterances) (program_of reader text)) (sym named) (file-right m reader options world text world.program file)
+  module _ (known : List ℕ) where
+    abbrev RightFor : List Entry → Loads → Type 0
+    RightFor entries o = AreRightFor m reader options known entries o
+
+    loaded-right : (file : FileLoad) (input : List ℕ) (ends : InputEnd) (o : Loads) → IsProgramIn o → IfSome options.oracle (λ n. IsFileLoad (Some known) file) → RightFor (entries_of (after_load reader options file input ends o).utterances) o
+    loaded-right file input ends (refused line cause) is h = tt
+    loaded-right file input ends (loads l) is h = prepared-right input ends l.program l.ops l.passed known file options.oracle is h
+
+    -- one thing is said of a file
+    fault-right : (o : Loads) → RightFor (InputFault ∷ []) o
+    fault-right (refused line cause) = tt
+    fault-right (loads l) = (tt, tt)
+
+    long-right : (n : ℕ) (o : Loads) → RightFor (FileTooLong n ∷ []) o
+    long-right n (refused line cause) = tt
+    long-right n (loads l) = (tt, tt)
+
+    text-right : (world : World) (text : List ℕ) → IfSome options.oracle (λ n. IsFileLoad (Some known) world.oracle) → RightFor (entries_of (after_words reader world options (Gives text)).utterances) (program_of reader text)
+    text-right world text h = by (nat_lt 1048576 (length text)) refl
+      where
+        by : (b : Bool) → nat_lt 1048576 (length text) ≡ b
+            → RightFor (entries_of (if b then says_one names (FileTooLong 1048577) status.FileTooLong else after_load reader options world.oracle world.input world.ends (program_of reader text)).utterances) (program_of reader text)
+        by true long = long-right 1048577 (program_of reader text)
+        by false short = loaded-right world.oracle world.input world.ends (program_of reader text) (loaded_is_program names reader text (ltb-false 1048576 (length text) short)) h
+
+    file-right : (world : World) (text : List ℕ) (file : FileLoad) → IsFileLoad (Some text) file → IfSome options.oracle (λ n. IsFileLoad (Some known) world.oracle)
+        → RightFor (entries_of (after_words reader world options file).utterances) (program_of reader text)
+    file-right world text Faults is h = fault-right (program_of reader text)
+    file-right world text (Gives bytes) is h = subst (λ t. RightFor (entries_of (after_words reader world options (Gives t)).utterances) (program_of reader text)) (sym is) (text-right world text h)
+
+-- whatever the loads of files give that have these texts
+pub session-right : (m : Interpretation) (words names : List (List ℕ)) (reader : Reader names) (world : World) (options : Options) (text known : List ℕ) → options_of words ≡ Some options
+    → IsFileLoad (Some text) world.program → IfSome options.oracle (λ n. IsFileLoad (Some known) world.oracle) → AreRightFor m reader options known (entries_of (session_of words reader world).utterances) (program_of reader text)
+session-right m words names reader world options text known named file oracle_file =
+    subst (λ o. AreRightFor m reader options known (entries_of (after_options reader world o).utterances) (program_of reader text)) (sym named) (file-right m reader options known world text world.program file oracle_file)

@@ -1,5 +1,5 @@
 -- A conversation that goes on, turn by turn.
-use Rattle.std.proofs.Common.{◌≡◌, ℕ, ◌+◌, ◌≤◌, List, length, refl, ap, ◌∙◌, arith, subst}
+use Rattle.std.proofs.Common.{◌≡◌, ℕ, ◌+◌, ◌≤◌, List, length, Option, refl, ap, ◌∙◌, arith, subst}
 use Rattle.std.specs.Prelude.{Result, Ok, Err}
 use Rattle.apd_console.specs.Console.{Kept, IsKept, fresh, room_of}
 use Rattle.apd_talk.specs.Talk.{Breaks, Ends, Talks}
@@ -13,11 +13,10 @@ use Rattle.apd_ops.specs.Table.{Table}
 use Rattle.apd_read.specs.Reader.{Reader}
 use Rattle.apd_term.specs.Growth.{Grown}
 use Rattle.apd_talk.specs.Moment.{Converses, Keeps, Moment, place}
-use Rattle.apd_query.specs.Running.{IsReady}
 use Rattle.apd_talk.proofs.Speaking.{says_later, says_rose}
 use Rattle.apd_talk.specs.Speech.{Lasting, Says, begun}
-use Rattle.apd_session.specs.Steps.{load_said}
-use Rattle.apd_session.specs.Turns.{CanConverse, Turns, conversation, opening}
+use Rattle.apd_session.specs.Steps.{opening_said}
+use Rattle.apd_session.specs.Turns.{CanConverse, IsPrepared, Turns, conversation, opening}
 use Rattle.apd_query.specs.declared.state.State.{State}
 use Rattle.apd_lines.proofs.Growing.{Grown-more, Grown-same, Grown-self}
 
@@ -88,15 +87,15 @@ fresh_kept = record { limit = omega arith; below = λ e. omega arith; none = λ 
 pub kept_at_first : (k : Kept) → k ≡ fresh → IsKept k
 kept_at_first k start = rw start fresh_kept
 
-pub can_begin : (s : State) (p : Moment) → IsReady (length p.spoken.log.names) s → length p.spoken.log.names ≤ 1000000000 → p.console ≡ fresh → CanConverse s p
+pub can_begin : (s : State) (p : Moment) → IsPrepared (length p.spoken.log.names) s → length p.spoken.log.names ≤ 1000000000 → p.console ≡ fresh → CanConverse s p
 can_begin s p ready few start =
     let room : room_of p.console ≡ 16777216 = ap room_of start in
     record { ready = ready; room = omega (arith, few, room); few = omega (arith, room); sound = kept_at_first p.console start }
 
--- what is said of the program, and then the lines of the input
-module _ (s : State) (passed : List Note) (p m : Moment) (console : m.console ≡ p.console) (left : m.left ≡ p.left) (reads : m.read_faults ≡ p.read_faults) where
-  pub opens : {T : Type 0} (t : T) (q : Moment) (result : Result Ending Trouble) → Says (λ ops names. load_said ops names s.program passed (warnings_of s.program)) p.spoken m.spoken (Ok t) →
-      Converses (conversation s) m q result → Converses (opening passed s) p q result
+-- what is said before the first line, and then the lines of the input
+module _ (s : State) (passed : List Note) (statements : Option ℕ) (p m : Moment) (console : m.console ≡ p.console) (left : m.left ≡ p.left) (reads : m.read_faults ≡ p.read_faults) where
+  pub opens : {T : Type 0} (t : T) (q : Moment) (result : Result Ending Trouble) → Says (λ ops names. opening_said ops names s.program passed (warnings_of s.program) statements) p.spoken m.spoken (Ok t) →
+      Converses (conversation s) m q result → Converses (opening passed statements s) p q result
   opens t q result says rest = record {
     keeps = record {
       names = subst (λ (l : List (List ℕ)). Grown l q.spoken.log.names) says.names rest.keeps.names;
@@ -108,14 +107,14 @@ module _ (s : State) (passed : List Note) (p m : Moment) (console : m.console �
         let ops : Table = p.spoken.log.ops in
         let middle : Grown m.spoken.log.names names = Grown-more m.spoken.log.names q.spoken.log.names names rest.keeps.names grew in
         let grown : Grown p.spoken.log.names names = subst (λ (l : List (List ℕ)). Grown l names) says.names middle in
-        ends_on begun (opening passed s ops names reader) (conversation s ops names reader) (place p) (place m) (place q) result
+        ends_on begun (opening passed statements s ops names reader) (conversation s ops names reader) (place p) (place m) (place q) result
         (rw (console, left, reads)
-        (Talks-say (opening passed s ops names reader) (conversation s ops names reader) p.console p.left p.spoken.held m.spoken.held p.read_faults p.spoken.write_faults m.spoken.write_faults p.spoken.log.entries.list m.spoken.log.entries.list
-        (load_said ops names s.program passed (warnings_of s.program)) (says.all names grown) (says_later (λ ops names. load_said ops names s.program passed (warnings_of s.program)) p.spoken m.spoken (Ok t) says) (λ room more ends. refl)))
+        (Talks-say (opening passed statements s ops names reader) (conversation s ops names reader) p.console p.left p.spoken.held m.spoken.held p.read_faults p.spoken.write_faults m.spoken.write_faults p.spoken.log.entries.list m.spoken.log.entries.list
+        (opening_said ops names s.program passed (warnings_of s.program) statements) (says.all names grown) (says_later (λ ops names. opening_said ops names s.program passed (warnings_of s.program) statements) p.spoken m.spoken (Ok t) says) (λ room more ends. refl)))
         (rw (← says.ops) (rest.course names grew reader));
   }
 
-  pub opens_not : {T : Type 0} (e : Trouble) → IsKept p.console → Says {T = T} (λ ops names. load_said ops names s.program passed (warnings_of s.program)) p.spoken m.spoken (Err e) → Converses (opening passed s) p m (Err e)
+  pub opens_not : {T : Type 0} (e : Trouble) → IsKept p.console → Says {T = T} (λ ops names. opening_said ops names s.program passed (warnings_of s.program) statements) p.spoken m.spoken (Err e) → Converses (opening passed statements s) p m (Err e)
   opens_not {T} e sound says = record {
     keeps = record {
       names = Grown-same p.spoken.log.names m.spoken.log.names says.names;
@@ -127,6 +126,6 @@ module _ (s : State) (passed : List Note) (p m : Moment) (console : m.console �
         let ops : Table = p.spoken.log.ops in
         let grown : Grown p.spoken.log.names names = subst (λ (l : List (List ℕ)). Grown l names) says.names grew in
         rw (console, left, reads)
-        (Breaks-say begun (opening passed s ops names reader) p.console p.left p.spoken.held m.spoken.held p.read_faults p.spoken.write_faults m.spoken.write_faults p.spoken.log.entries.list m.spoken.log.entries.list
-        (load_said ops names s.program passed (warnings_of s.program)) e (says.front names grown) (says_later {T = T} (λ ops names. load_said ops names s.program passed (warnings_of s.program)) p.spoken m.spoken (Err e) says) (says_rose {T = T} (λ ops names. load_said ops names s.program passed (warnings_of s.program)) p.spoken m.spoken e says) (λ room more ends. (conversation s ops names reader room more ends, refl)));
+        (Breaks-say begun (opening passed statements s ops names reader) p.console p.left p.spoken.held m.spoken.held p.read_faults p.spoken.write_faults m.spoken.write_faults p.spoken.log.entries.list m.spoken.log.entries.list
+        (opening_said ops names s.program passed (warnings_of s.program) statements) e (says.front names grown) (says_later {T = T} (λ ops names. opening_said ops names s.program passed (warnings_of s.program) statements) p.spoken m.spoken (Err e) says) (says_rose {T = T} (λ ops names. opening_said ops names s.program passed (warnings_of s.program) statements) p.spoken m.spoken e says) (λ room more ends. (conversation s ops names reader room more ends, refl)));
   }

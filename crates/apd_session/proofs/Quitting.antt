@@ -1,12 +1,12 @@
 -- Only `quit.` ends a session, in a command's place and in a reply's place.
 use Rattle.std.proofs.Common.{◌≡◌, ◌==◌, ℕ, ℤ, List, length, refl, sym, ◌∙◌, Bool, true, false, Option, None, Some, Result, Ok, Err}
-use Rattle.std.specs.Prelude.{◌&&◌, if◌then◌else◌, not}
+use Rattle.std.specs.Prelude.{◌&&◌, if◌then◌else◌, not, slice_get}
 use Rattle.std.specs.List.{list_all}
 use Rattle.std.proofs.lemmas.Bool.{eqb-true}
 use Rattle.apd_answers.specs.Dialogue.{Turn, asks, goes, ends, next_turn}
 use Rattle.apd_answers.specs.Questions.{unknowns, with_values}
+use Rattle.apd_account.specs.Account.{with_told}
 use Rattle.apd_answers.specs.Store.{with_pair}
-use Rattle.apd_answers.specs.declared.finding.Finding.{Finding}
 use Rattle.apd_answers.specs.declared.question.Asked.{Asked}
 use Rattle.apd_answers.specs.declared.question.Question.{Question}
 use Rattle.apd_answers.specs.declared.question.Question.TheVariants.{True, Covers, Below}
@@ -19,36 +19,41 @@ use Rattle.apd_causes.specs.declared.run.Query.{Query}
 use Rattle.apd_clauses.specs.Kinds.{◌∕◌}
 use Rattle.apd_clauses.specs.Predicates.{is_pred}
 use Rattle.apd_clauses.specs.Queries.{query_from}
-use Rattle.apd_commands.specs.Commands.{command_in, command_of, integer_at, query_asked, term_asked, wrong_asked}
+use Rattle.apd_commands.specs.Filters.{filter_at, trace_asked}
+use Rattle.apd_ports.specs.declared.filter.Filter.{Filter}
+use Rattle.apd_commands.specs.Commands.{command_in, command_of, integer_at, missing_asked, query_asked, term_asked, wrong_asked}
 use Rattle.apd_commands.specs.declared.commands.Command.{Command}
 use Rattle.apd_commands.specs.declared.commands.Command.TheVariants as command
 use Rattle.apd_console.specs.declared.line.Line.{Line}
-use Rattle.apd_debug.specs.Stand.{Mode, Ready, Asking}
 use Rattle.apd_debug.specs.Steps.{after_turn}
 use Rattle.apd_divide.specs.Recorded.{tree}
-use Rattle.apd_divide.specs.Tree.{Tree}
 use Rattle.apd_record.specs.Reading.{point_of}
 use Rattle.apd_term.specs.declared.tuple.Tuple.{Tuple}
 use Rattle.apd_lines.specs.Lines.{line_in}
+use Rattle.apd_loop.specs.Loop.{loop_start}
 use Rattle.apd_lines.specs.declared.lines.LineRead.{LineRead}
 use Rattle.apd_lines.specs.declared.lines.LineRead.TheVariants as lines
 use Rattle.apd_ops.specs.Table.{Table}
-use Rattle.apd_oracle.specs.Replies.{is_word, reply_spoken, spoken_of, term_spoken, told, values_spoken}
-use Rattle.apd_oracle.specs.Truths.{is_ground, is_true_if_builtin}
+use Rattle.apd_known.specs.Told.{is_word}
+use Rattle.apd_oracle.specs.Replies.{reply_spoken, spoken_of, term_spoken, told, values_spoken}
+use Rattle.apd_arith.specs.Truths.{is_ground}
+use Rattle.apd_known.specs.Truths.{is_true_if_builtin}
 use Rattle.apd_oracle.specs.declared.spoken.Spoken.{Spoken}
 use Rattle.apd_oracle.specs.declared.spoken.Spoken.TheVariants as spoken
 use Rattle.apd_query.specs.declared.state.LastRun.{LastRun}
 use Rattle.apd_query.specs.declared.state.State.{State}
 use Rattle.apd_read.specs.Reader.{Reader}
 use Rattle.apd_record.specs.Recorded.{Recorded}
+use Rattle.apd_symptoms.specs.Chains.{stopped_chain}
 use Rattle.apd_symptoms.specs.Symptoms.{exit_of}
-use Rattle.apd_term.specs.Term.{Term, predicate_of}
-use Rattle.apd_term.specs.declared.standard.TheConstants.{QUERY, QUIT, STOP, WRONG}
+use Rattle.apd_symptoms.specs.Unanswered.{unanswered_box}
+use Rattle.apd_term.specs.Term.{Term, arguments, predicate_of}
+use Rattle.apd_term.specs.declared.standard.TheConstants.{LOOP, MISSING, QUERY, QUIT, STOP, TRACE, WRONG}
 use Rattle.apd_term.specs.declared.term.Pred.{Pred}
 use Rattle.apd_text.specs.declared.entry.Refusal.{Refusal}
-use Rattle.apd_wrong.specs.Wrong.{wrong}
+use Rattle.apd_text.specs.declared.entry.Told.TheVariants.{Wrong, Missing, NoEnd}
 use Rattle.apd_session.specs.Causes.{is_quit}
-use Rattle.apd_session.specs.Steps.{Situation, command_step, found_in, reply_said, situation, step_for, talker, wrong_at, wrong_goes_on, wrong_step}
+use Rattle.apd_session.specs.Steps.{Method, Situation, Waiting, ForCommand, ForWrong, ForMissing, ForLoop, by_loop, by_missing, by_wrong, carries_on, command_step, loop_at, loop_step, missing_at, missing_step, reply_said, situation, step_for, talker, wrong_at, wrong_step}
 
 -- what the words that a term may be ask for
 query_quits : (r : Result Query BodyFault) → is_quit (query_asked r) ≡ false
@@ -60,14 +65,27 @@ wrong_quits (Some b) (Some k) = refl
 wrong_quits (Some b) None = refl
 wrong_quits None k = refl
 
-other_quits : (r : Read) (p : Option Pred) (query symptom : Bool) → is_pred p (QUIT ∕ 0) ≡ false → is_pred p (QUERY ∕ 1) ≡ query → is_pred p (WRONG ∕ 2) ≡ symptom → is_quit (term_asked r p) ≡ false
-other_quits r p true symptom not one two = rw (not, one) (query_quits (query_from r))
-other_quits r p false true not one two = rw (not, one, two) (wrong_quits (integer_at r.term 0) (integer_at r.term 1))
-other_quits r p false false not one two = rw (not, one, two) refl
+missing_quits : (b : Option ℤ) (a : Option Term) → is_quit (missing_asked b a) ≡ false
+missing_quits (Some b) (Some a) = refl
+missing_quits (Some b) None = refl
+missing_quits None a = refl
+
+trace_quits : (f : Option Filter) → is_quit (trace_asked f) ≡ false
+trace_quits (Some f) = refl
+trace_quits None = refl
+
+other_quits : (r : Read) (p : Option Pred) (query symptom lack endless filter : Bool) → is_pred p (QUIT ∕ 0) ≡ false → is_pred p (QUERY ∕ 1) ≡ query → is_pred p (WRONG ∕ 2) ≡ symptom → is_pred p (MISSING ∕ 2) ≡ lack → is_pred p (LOOP ∕ 0) ≡ endless → is_pred p (TRACE ∕ 1) ≡ filter →
+    is_quit (term_asked r p) ≡ false
+other_quits r p true symptom lack endless filter not one two three four five = rw (not, one) (query_quits (query_from r))
+other_quits r p false true lack endless filter not one two three four five = rw (not, one, two) (wrong_quits (integer_at r.term 0) (integer_at r.term 1))
+other_quits r p false false true endless filter not one two three four five = rw (not, one, two, three) (missing_quits (integer_at r.term 0) (slice_get (arguments r.term) 1))
+other_quits r p false false false true filter not one two three four five = rw (not, one, two, three, four) refl
+other_quits r p false false false false true not one two three four five = rw (not, one, two, three, four, five) (trace_quits (filter_at r.term))
+other_quits r p false false false false false not one two three four five = rw (not, one, two, three, four, five) refl
 
 asked_quits : (r : Read) (b : Bool) → is_pred (predicate_of r.term) (QUIT ∕ 0) ≡ b → is_quit (term_asked r (predicate_of r.term)) ≡ b
 asked_quits r true is = rw is refl
-asked_quits r false is = other_quits r (predicate_of r.term) _ _ is refl refl
+asked_quits r false is = other_quits r (predicate_of r.term) _ _ _ _ _ is refl refl refl refl refl
 
 -- `stop` isn't `quit`
 stop_by : (p : Pred) (b : Bool) → (p.name.0 == STOP.0) ≡ b → (b && (p.arity == 0)) ≡ true → is_pred (Some p) (QUIT ∕ 0) ≡ false
@@ -79,38 +97,57 @@ stops_not None is = absurd (cc)
 stops_not (Some p) is = stop_by p (p.name.0 == STOP.0) refl is
 
 module _ (ops : Table) (names : List (List ℕ)) (s : State) where
-  turn_quits : (pairs : List Pair) (count : ℕ) (turn : Turn Tree Finding) → (after_turn (wrong s.strategy) (found_in s.program) (situation s) ops names pairs count turn).quits ≡ false
-  turn_quits pairs count (asks asked next) = refl
-  turn_quits pairs count (goes x) = refl
-  turn_quits pairs count (ends f) = refl
+  turn_quits : {D E : Type 0} (d : Method D E) (pairs : List Pair) (count : ℕ) (turn : Turn D E) → (after_turn (d.diagnosis s) (d.found s) (situation d s) ops names pairs count turn).quits ≡ false
+  turn_quits d pairs count (asks asked next) = refl
+  turn_quits d pairs count (goes x) = refl
+  turn_quits d pairs count (ends f) = refl
 
   -- a diagnosis that goes on
-  goes_quits : (pairs : List Pair) (count : ℕ) (x : Tree) → (wrong_goes_on ops names s pairs count x).quits ≡ false
-  goes_quits pairs count x = turn_quits pairs count (next_turn (wrong s.strategy) pairs x)
+  goes_quits : {D E : Type 0} (d : Method D E) (pairs : List Pair) (count : ℕ) (x : D) → (carries_on d ops names s pairs count x).quits ≡ false
+  goes_quits d pairs count x = turn_quits d pairs count (next_turn (d.diagnosis s) pairs x)
 
   -- in a command's place
-  at_quits : (R : Recorded) (r : Result ℕ Refusal) → (wrong_at ops names s R r).quits ≡ false
-  at_quits R (Ok e) = goes_quits (with_pair s.replies (True (point_of R e).tuple.head) No) s.asked (tree R e (point_of R e).tuple.head)
-  at_quits R (Err r) = refl
+  wrong_at-quits : (R : Recorded) (r : Result ℕ Refusal) → (wrong_at ops names s R r).quits ≡ false
+  wrong_at-quits R (Ok e) = goes_quits by_wrong (with_told s.replies (Wrong (point_of R e).tuple.head)) s.asked (tree R e (point_of R e).tuple.head)
+  wrong_at-quits R (Err r) = refl
 
-  step_quits : (last : Option LastRun) (b k : ℤ) → (wrong_step ops names s last b k).quits ≡ false
-  step_quits None b k = refl
-  step_quits (Some run) b k = at_quits run.history (exit_of run.history b k)
+  wrong_step-quits : (last : Option LastRun) (b k : ℤ) → (wrong_step ops names s last b k).quits ≡ false
+  wrong_step-quits None b k = refl
+  wrong_step-quits (Some run) b k = wrong_at-quits run.history (exit_of run.history b k)
+
+  missing_at-quits : (a : Term) (r : Result ℕ Refusal) → (missing_at ops names s a r).quits ≡ false
+  missing_at-quits a (Ok b) = goes_quits by_missing (with_told s.replies (Missing a)) s.asked (record { box_no = b; goal = a })
+  missing_at-quits a (Err r) = refl
+
+  missing_step-quits : (last : Option LastRun) (b : ℤ) (a : Term) → (missing_step ops names s last b a).quits ≡ false
+  missing_step-quits None b a = refl
+  missing_step-quits (Some run) b a = missing_at-quits a (unanswered_box run.history b a)
+
+  loop_at-quits : (R : Recorded) (r : Result (List ℕ) Refusal) → (loop_at ops names s R r).quits ≡ false
+  loop_at-quits R (Ok calls) = goes_quits by_loop (with_told s.replies (NoEnd (length calls))) s.asked (loop_start R calls)
+  loop_at-quits R (Err r) = refl
+
+  loop_step-quits : (last : Option LastRun) → (loop_step ops names s last).quits ≡ false
+  loop_step-quits None = refl
+  loop_step-quits (Some run) = loop_at-quits run.history (stopped_chain run.history run.end)
 
   command_quits : (c : Command) → (command_step ops names s c).quits ≡ is_quit c
   command_quits command.Nothing = refl
   command_quits command.Quit = refl
   command_quits (command.Refused r) = refl
   command_quits (command.Query q) = refl
-  command_quits (command.Wrong b k) = step_quits s.last b k
+  command_quits (command.Wrong b k) = wrong_step-quits s.last b k
+  command_quits (command.Missing b a) = missing_step-quits s.last b a
+  command_quits command.Loop = loop_step-quits s.last
+  command_quits (command.Trace f) = refl
 
   -- in a reply's place
-  module _ (asked : Asked) (next : Reply → Tree) where
+  module _ {D E : Type 0} (d : Method D E) (asked : Asked) (next : Reply → D) where
     abbrev quits_to : Spoken → Bool
-    quits_to spoken = (reply_said ops names s asked next spoken).quits
+    quits_to spoken = (reply_said d ops names s asked next spoken).quits
 
     replied_quits : (r : Reply) → quits_to (spoken.Reply r) ≡ false
-    replied_quits r = goes_quits (with_pair s.replies asked.question r) s.asked (next r)
+    replied_quits r = goes_quits d (with_pair s.replies asked.question r) s.asked (next r)
 
     values_by : (t : Tuple) (values : List Term) (a b c : Bool) → not (length values == length (unknowns t)) ≡ a → not (list_all is_ground values) ≡ b → not (list_all is_true_if_builtin (with_values t values)) ≡ c → quits_to (values_spoken t values) ≡ false
     values_by t values true b c one two three = rw one refl
@@ -141,10 +178,12 @@ module _ (ops : Table) (names : List (List ℕ)) (s : State) where
     reply_quits (lines.Bad cause) = refl
     reply_quits (lines.Clause r) = word_quits r _ _ refl refl
 
-step_ends : {names : List (List ℕ)} (reader : Reader names) (ops : Table) (s : State) (mode : Mode Tree) (line : Line) → (step_for reader ops s mode line).quits ≡ is_quit (command_in reader ops line)
+step_ends : {names : List (List ℕ)} (reader : Reader names) (ops : Table) (s : State) (mode : Waiting) (line : Line) → (step_for reader ops s mode line).quits ≡ is_quit (command_in reader ops line)
 unfolding command_in
-step_ends {names} reader ops s Ready line = command_quits ops names s (command_of (line_in reader ops line))
-step_ends {names} reader ops s (Asking asked next) line = reply_quits ops names s asked next (line_in reader ops line)
+step_ends {names} reader ops s ForCommand line = command_quits ops names s (command_of (line_in reader ops line))
+step_ends {names} reader ops s (ForWrong asked next) line = reply_quits ops names s by_wrong asked next (line_in reader ops line)
+step_ends {names} reader ops s (ForMissing asked next) line = reply_quits ops names s by_missing asked next (line_in reader ops line)
+step_ends {names} reader ops s (ForLoop asked next) line = reply_quits ops names s by_loop asked next (line_in reader ops line)
 
 -- a line ends the session exactly where it is `quit.`
 pub only_quit_ends : {names : List (List ℕ)} (reader : Reader names) (ops : Table) (s : Situation) (line : Line) → ((talker reader ops).step s line).quits ≡ is_quit (command_in reader ops line)

@@ -1,22 +1,28 @@
 -- Each step of a session says entries that are right.
 use Rattle.std.proofs.Common.{◌≡◌, ℕ, ℤ, List, [], ◌∷◌, ◌++◌, Option, Some, None, Result, Ok, Err, refl, sym, ◌∙◌, ap, subst}
-use Rattle.std.specs.Prelude.{All}
+use Rattle.std.specs.Prelude.{All, IfSome, length}
 use Rattle.apd_base.specs.Counts.{risen}
 use Rattle.apd_term.specs.Term.{Term}
 use Rattle.apd_causes.specs.declared.run.Query.{Query}
 use Rattle.apd_clauses.specs.declared.clause.Clause.{Clause}
 use Rattle.apd_clauses.specs.Clauses.{IsAtom, IsProgram, tuples_of}
 use Rattle.apd_console.specs.Lines.{Close, AtEnd, AtFault, AtLimit}
-use Rattle.apd_record.specs.Recorded.{Recorded}
+use Rattle.apd_record.specs.Chain.{AreChained}
+use Rattle.apd_record.specs.Full.{IsFull}
+use Rattle.apd_record.specs.Recorded.{Recorded, chain}
 use Rattle.apd_record.specs.Reading.{point_of}
 use Rattle.apd_record.specs.Sound.{IsSound}
-use Rattle.apd_recorded.proofs.Law.{run_sound}
+use Rattle.apd_recorded.specs.Told.{record_of}
+use Rattle.apd_recorded.proofs.Law.{run_chained, run_full, run_sound}
+use Rattle.apd_trace.specs.Run.{query_run}
 use Rattle.apd_recorded.proofs.Recording.{program_clauses}
 use Rattle.apd_answers.specs.declared.question.Asked.{Asked}
 use Rattle.apd_answers.specs.declared.question.Question.TheVariants.{True}
 use Rattle.apd_answers.specs.declared.question.Reply.{Reply}
-use Rattle.apd_answers.specs.declared.question.Reply.TheVariants.{No}
-use Rattle.apd_answers.specs.declared.finding.Finding.{Finding}
+use Rattle.apd_answers.specs.declared.question.Reply.TheVariants.{No, Yes}
+use Rattle.apd_answers.specs.Findings.{IsByReplies}
+use Rattle.apd_answers.specs.Fitting.{AllFit}
+use Rattle.apd_answers.proofs.Fitted.{fit_added}
 use Rattle.apd_answers.specs.declared.store.Pair.{Pair}
 use Rattle.apd_answers.specs.Dialogue.{Turn, asks, goes, ends, next_turn}
 use Rattle.apd_answers.specs.Interpretation.{Interpretation}
@@ -24,9 +30,11 @@ use Rattle.apd_answers.specs.Questions.{FitsAsked}
 use Rattle.apd_answers.specs.Store.{with_pair}
 use Rattle.apd_divide.specs.declared.node.Strategy.{Strategy}
 use Rattle.apd_divide.specs.Recorded.{tree}
-use Rattle.apd_divide.specs.Tree.{Tree, branching}
-use Rattle.apd_wrong.specs.Wrong.{wrong}
-use Rattle.apd_wrong.specs.Next.{ComesNext}
+use Rattle.apd_divide.specs.Tree.{Tree}
+use Rattle.apd_loop.specs.Loop.{Looping, left_in, loop_start}
+use Rattle.apd_loop.specs.declared.LoopEnd.{LoopEnd}
+use Rattle.apd_loop.specs.declared.LoopEnd.TheVariants as loop_ends
+use Rattle.apd_missing.specs.declared.state.Unanswered.{Unanswered}
 use Rattle.apd_load.specs.declared.Note.{Note}
 use Rattle.apd_load.specs.Warnings.{query_warnings}
 use Rattle.apd_ops.specs.Table.{Table}
@@ -34,40 +42,55 @@ use Rattle.apd_talk.specs.Talk.{Step}
 use Rattle.apd_talk.specs.Utterance.{Utterance, entries_of}
 use Rattle.apd_text.specs.declared.entry.Entry.{Entry}
 use Rattle.apd_text.specs.declared.entry.Refusal.{Refusal}
-use Rattle.apd_account.specs.Account.{Account, with_asked, with_symptom, with_reply, after_entry, after_entries}
-use Rattle.apd_account.specs.Right.{IsTreeOfSymptom, IsRight, AreRight}
-use Rattle.apd_account.proofs.Diagnosing.{found-right, Waits, waits, reply-right, replied-is, Follows, follows-reply, follows-symptom}
+use Rattle.apd_account.specs.Account.{Account, with_asked, with_reply, with_told, after_entry, after_entries, after_told}
+use Rattle.apd_account.specs.Right.{IsRight, IsSymptom, AreRight}
+use Rattle.apd_account.proofs.Diagnosing.{IsKnownTree, RightTurn, Waits, descent-right, found-right, replied-is, reply-right, waits, wrong_begins, wrong_left, wrong_turn}
 use Rattle.apd_commands.specs.declared.commands.Command.{Command}
 use Rattle.apd_commands.specs.declared.commands.Command.TheVariants as command
 use Rattle.apd_debug.specs.Stand.{Mode, Ready, Asking}
-use Rattle.apd_debug.specs.Steps.{after_turn, replied}
+use Rattle.apd_debug.specs.Steps.{after_turn, closing_asked, replied}
 use Rattle.apd_oracle.specs.declared.spoken.Spoken.{Spoken}
 use Rattle.apd_oracle.specs.declared.spoken.Spoken.TheVariants as spoken
 use Rattle.apd_query.specs.Runs.{last_run, run_for, run_said, said_for}
 use Rattle.apd_query.specs.declared.state.LastRun.{LastRun}
 use Rattle.apd_query.specs.declared.state.State.{State}
+use Rattle.apd_symptoms.specs.Chains.{stopped_chain}
 use Rattle.apd_symptoms.specs.Symptoms.{exit_of}
-use Rattle.apd_session.specs.Steps.{Situation, after_run, begins_wrong, closing_in, command_step, found_in, query_said, ready_in, refused, remark, remarks, reply_said, situation, warnings_for, wrong_at, wrong_goes_on, wrong_step}
+use Rattle.apd_symptoms.specs.Unanswered.{unanswered_box}
+use Rattle.apd_text.specs.declared.entry.Told.{Told}
+use Rattle.apd_text.specs.declared.entry.Told.TheVariants.{Wrong, Missing, NoEnd}
+use Rattle.apd_session.specs.Steps.{Method, Situation, Waiting, ForCommand, ForWrong, ForMissing, ForLoop, after_run, begins, by_loop, by_missing, by_wrong, carries_on, closing_in, command_step, history_of, loop_at, loop_step, missing_at, missing_step, mode_of, query_said, ready_in, refused, remark, remarks, reply_said, situation, warnings_for, with_filter, wrong_at, wrong_step}
 use Rattle.apd_session.specs.declared.notes.Noted.{Noted}
 use Rattle.apd_session.specs.declared.notes.Noted.TheVariants as noted
+use Rattle.apd_session.proofs.Courses.{IsKnownGoal, IsKnownLoop, IsLoopEnd, goal_left, loop_begins, loop_turn, missing_begins, missing_turn}
 use Rattle.apd_session.proofs.Exiting.{exit_of-exits}
+use Rattle.apd_session.proofs.Lacking.{box_lacks, chain_stopped, is_chain}
 
 module _ (m : Interpretation) (program : List Clause) (is : IsProgram program) (strategy : Strategy) where
+  -- the record of a run: sound for the program, full at each complete box, and each box of its chain calls the next
+  pub record IsRun (R : Recorded) : Type 0 where
+    pub sound : IsSound (tuples_of program) R
+    pub full : IsFull (tuples_of program) R
+    pub chained : AreChained R
+
   -- the run that is kept is the last one that was told
   abbrev pub IsLast : Option LastRun → Recorded → Type 0
-  IsLast None history = Unit {0}
-  IsLast (Some run) history = (run.history ≡ history) × IsSound (tuples_of program) history
+  IsLast last R = (history_of last ≡ R) × IfSome last (λ run. IsRun R)
 
   -- a state with these pairs is what was told
   pub record IsTold (s : State) (pairs : List Pair) (a : Account) : Type 0 where
     pub program_is : s.program ≡ program
     pub strategy_is : s.strategy ≡ strategy
     pub pairs_are : pairs ≡ a.pairs
+    pub fit : AllFit a.pairs
     pub last : IsLast s.last a.history
 
-  abbrev pub IsMode : Mode Tree → Account → Type 0
-  IsMode Ready a = Unit {0}
-  IsMode (Asking asked next) a = Waits program strategy a asked next
+  -- what is known where a question of a diagnosis waits
+  abbrev pub IsMode : Waiting → Account → Type 0
+  IsMode ForCommand a = Unit {0}
+  IsMode (ForWrong asked next) a = Waits strategy (IsKnownTree (tuples_of program)) wrong_left a asked next
+  IsMode (ForMissing asked next) a = Waits strategy (IsKnownGoal (tuples_of program)) goal_left a asked next
+  IsMode (ForLoop asked next) a = Waits strategy (IsKnownLoop (tuples_of program)) left_in a asked next
 
   -- where a session stands is what was told
   pub record Stands (s : Situation) (a : Account) : Type 0 where
@@ -86,36 +109,127 @@ module _ (m : Interpretation) (program : List Clause) (is : IsProgram program) (
   refused-step : (ops : Table) (names : List (List ℕ)) (s : State) (a : Account) (r : Refusal) → IsTold s s.replies a → IsStep a (refused ops names s r)
   refused-step ops names s a r h = record { right = (tt, tt); stands = is_ready s a h }
 
-  -- the state where a diagnosis stands
-  told_at : (s : State) (pairs : List Pair) (count : ℕ) (mode : Mode Tree) (a : Account) → IsTold s pairs a → IsMode mode a → Stands (situation s (record { pairs = pairs; asked = count; mode = mode })) a
-  told_at s pairs count mode a h k = record {
-    state = record { program_is = h.program_is; strategy_is = h.strategy_is; pairs_are = h.pairs_are; last = h.last };
-    mode = k;
+  -- A diagnosis: where something is known of its state, its next turn is right.
+  pub record IsRightly {D E : Type 0} (d : Method D E) (Known : Recorded → List Pair → Option Told → D → Type 0) (left : D → Option ℕ) (IsEnd : Recorded → List Pair → E → Type 0) : Type 0 where
+    pub waits : (a : Account) (asked : Asked) (next : Reply → D) → Waits strategy Known left a asked next → IsMode (d.waits asked next) a
+    pub left_is : (s : State) (x : D) → (d.diagnosis s).left x ≡ left x
+    pub ends : (s : State) (pairs : List Pair) (a : Account) (e : E) → IsTold s pairs a → IsEnd a.history a.pairs e → IsRight m program strategy a (d.found s e)
+    pub tells_nothing : (s : State) (a : Account) (e : E) → after_entry program a (d.found s e) ≡ a
+    pub turns : (s : State) (pairs : List Pair) (a : Account) (x : D) → IsTold s pairs a → Known a.history a.pairs a.symptom x →
+        RightTurn strategy Known left IsEnd a.history a.pairs a.symptom (next_turn (d.diagnosis s) pairs x)
+
+  module _ {D E : Type 0} (d : Method D E) (Known : Recorded → List Pair → Option Told → D → Type 0) (left : D → Option ℕ) (IsEnd : Recorded → List Pair → E → Type 0) (rightly : IsRightly d Known left IsEnd) where
+    -- the state where a diagnosis stands
+    told_at : (s : State) (pairs : List Pair) (count : ℕ) (mode : Mode D) (a : Account) → IsTold s pairs a → IsMode (mode_of d mode) a → Stands (situation d s (record { pairs = pairs; asked = count; mode = mode })) a
+    told_at s pairs count mode a h k = record {
+      state = record { program_is = h.program_is; strategy_is = h.strategy_is; pairs_are = h.pairs_are; fit = h.fit; last = h.last };
+      mode = k;
+    }
+
+    -- the turn of a diagnosis
+    turn-step : (ops : Table) (names : List (List ℕ)) (s : State) (pairs : List Pair) (count : ℕ) (a : Account) (turn : Turn D E) → IsTold s pairs a
+        → RightTurn strategy Known left IsEnd a.history a.pairs a.symptom turn → IsStep a (after_turn (d.diagnosis s) (d.found s) (situation d s) ops names pairs count turn)
+    turn-step ops names s pairs count a (asks asked next) h k =
+        let told : IsTold s pairs (with_asked a asked) = record { program_is = h.program_is; strategy_is = h.strategy_is; pairs_are = h.pairs_are; fit = h.fit; last = h.last } in
+        record {
+          right = (k.undecided, tt);
+          stands = told_at s pairs (risen count) (Asking asked next) (with_asked a asked) told (rightly.waits (with_asked a asked) asked next (waits strategy Known left a asked next k));
+        }
+    turn-step ops names s pairs count a (goes y) h k = absurd k
+    turn-step ops names s pairs count a (ends e) h k = record {
+      right = (rightly.ends s pairs a e h k, tt);
+      stands = subst (Stands (situation d s (record { pairs = pairs; asked = count; mode = Ready }))) (sym (rightly.tells_nothing s a e)) (told_at s pairs count Ready a h tt);
+    }
+
+    carries_on-step : (ops : Table) (names : List (List ℕ)) (s : State) (pairs : List Pair) (count : ℕ) (a : Account) (x : D) → IsTold s pairs a → Known a.history a.pairs a.symptom x → IsStep a (carries_on d ops names s pairs count x)
+    carries_on-step ops names s pairs count a x h k = turn-step ops names s pairs count a (next_turn (d.diagnosis s) pairs x) h (rightly.turns s pairs a x h k)
+
+    -- a symptom is told, and its diagnosis begins
+    begins-step : (ops : Table) (names : List (List ℕ)) (s : State) (a : Account) (what : Told) (x : D) → IsTold s s.replies a → IsSymptom a what → AllFit (with_told a.pairs what) → Known a.history (with_told a.pairs what) (Some what) x
+        → IsStep a (begins d ops names s what x)
+    begins-step ops names s a what x h symptom fit k =
+        let told : IsTold s (with_told s.replies what) (after_told a what) =
+        record { program_is = h.program_is; strategy_is = h.strategy_is; pairs_are = ap (λ ps. with_told ps what) h.pairs_are; fit = fit; last = h.last } in
+        let st = carries_on-step ops names s (with_told s.replies what) s.asked (after_told a what) x told k in
+        record { right = (symptom, st.right); stands = st.stands }
+
+    -- a reply is told, and the diagnosis goes on
+    replied-step : (ops : Table) (names : List (List ℕ)) (s : State) (a : Account) (asked : Asked) (next : Reply → D) (r : Reply) → IsTold s s.replies a → Waits strategy Known left a asked next → FitsAsked asked r
+        → IsStep a (replied (d.diagnosis s) (d.found s) (situation d s) ops names s.replies s.asked asked next r)
+    replied-step ops names s a asked next r h w fits =
+        let b = with_reply a (Some asked) r in
+        let told : IsTold s (with_pair s.replies asked.question r) b =
+        record { program_is = h.program_is; strategy_is = h.strategy_is; pairs_are = ap (λ ps. with_pair ps asked.question r) h.pairs_are; fit = fit_added a.pairs asked.question r h.fit fits; last = h.last } in
+        let st = carries_on-step ops names s (with_pair s.replies asked.question r) s.asked b (next r) told (w.asks.known r fits) in
+        let e : b ≡ with_reply a a.asked r = sym (replied-is a asked r w.last) in
+        let entries = entries_of (carries_on d ops names s (with_pair s.replies asked.question r) s.asked (next r)).utterances in
+        let after = (carries_on d ops names s (with_pair s.replies asked.question r) s.asked (next r)).next in
+        record {
+          right = (rw (rightly.left_is s (next r)) (reply-right strategy Known left a asked next r w fits), subst (λ c. AreRight m program strategy c entries) e st.right);
+          stands = subst (λ c. Stands after (after_entries program c entries)) e st.stands;
+        }
+
+    -- a line in a reply's place
+    reply-step : (ops : Table) (names : List (List ℕ)) (s : State) (a : Account) (asked : Asked) (next : Reply → D) (said : Spoken) → ((r : Reply) → said ≡ spoken.Reply r → FitsAsked asked r)
+        → IsTold s s.replies a → Waits strategy Known left a asked next → IsStep a (reply_said d ops names s asked next said)
+    reply-step ops names s a asked next spoken.Nothing fits h w = record { right = tt; stands = told_at s s.replies s.asked (Asking asked next) a h (rightly.waits a asked next w) }
+    reply-step ops names s a asked next (spoken.Reply r) fits h w = replied-step ops names s a asked next r h w (fits r refl)
+    reply-step ops names s a asked next spoken.Stop fits h w = record { right = (tt, tt); stands = told_at s s.replies s.asked Ready a h tt }
+    reply-step ops names s a asked next spoken.Quit fits h w = record { right = (tt, tt); stands = told_at s s.replies s.asked Ready a h tt }
+    reply-step ops names s a asked next (spoken.Bad reason) fits h w = record { right = (tt, tt); stands = told_at s s.replies s.asked (Asking asked next) a h (rightly.waits a asked next w) }
+
+  -- The diagnosis of a wrong answer.
+  wrong_rightly : IsRightly by_wrong (IsKnownTree (tuples_of program)) wrong_left (IsByReplies (tuples_of program))
+  wrong_rightly = record {
+    waits = λ a asked next w. w;
+    left_is = λ s x. refl;
+    ends = λ s pairs a f h by. found-right m program a f by;
+    tells_nothing = λ s a f. refl;
+    turns = λ s pairs a x h k. rw (h.strategy_is, h.pairs_are) (wrong_turn (tuples_of program) strategy a.history a.pairs a.symptom x k);
   }
 
-  -- the turn of a diagnosis
-  turn-step : (ops : Table) (names : List (List ℕ)) (s : State) (pairs : List Pair) (count : ℕ) (a : Account) (x : Tree) (turn : Turn Tree Finding) → IsTold s pairs a → IsTreeOfSymptom a x
-      → ComesNext (tuples_of program) strategy a.pairs (branching x) turn → IsStep a (after_turn (wrong s.strategy) (found_in s.program) (situation s) ops names pairs count turn)
-  turn-step ops names s pairs count a x (asks asked next) h t k =
-      let told : IsTold s pairs (with_asked a asked) = record { program_is = h.program_is; strategy_is = h.strategy_is; pairs_are = h.pairs_are; last = h.last } in
-      record { right = (k.undecided, tt); stands = told_at s pairs (risen count) (Asking asked next) (with_asked a asked) told (waits program strategy a x asked next t k) }
-  turn-step ops names s pairs count a x (goes y) h t k = absurd k
-  turn-step ops names s pairs count a x (ends f) h t k = record { right = (found-right m program a f (k a.history), tt); stands = told_at s pairs count Ready a h tt }
+  -- Of a missing answer.
+  missing_rightly : IsRightly by_missing (IsKnownGoal (tuples_of program)) goal_left (IsByReplies (tuples_of program))
+  missing_rightly = record {
+    waits = λ a asked next w. w;
+    left_is = λ s x. refl;
+    ends = λ s pairs a f h by. found-right m program a f by;
+    tells_nothing = λ s a f. refl;
+    turns = λ s pairs a x h k. rw (h.program_is, h.last.0, h.pairs_are) (missing_turn (tuples_of program) strategy a.history a.pairs a.symptom x k);
+  }
 
-  goes_on-step : (ops : Table) (names : List (List ℕ)) (s : State) (pairs : List Pair) (count : ℕ) (a : Account) (x : Tree) → IsTold s pairs a → Follows program strategy a x → IsStep a (wrong_goes_on ops names s pairs count x)
-  goes_on-step ops names s pairs count a x h f =
-      turn-step ops names s pairs count a f.whole (next_turn (wrong s.strategy) pairs x) h f.of_symptom
-      (subst (λ d. ComesNext (tuples_of program) strategy a.pairs (branching f.whole) (next_turn (wrong d) pairs x)) (sym h.strategy_is)
-      (subst (λ ps. ComesNext (tuples_of program) strategy a.pairs (branching f.whole) (next_turn (wrong strategy) ps x)) (sym h.pairs_are) f.next))
+  -- Of a run that doesn't end.
+  loop_ends-right : (s : State) (pairs : List Pair) (a : Account) (e : LoopEnd) → IsTold s pairs a → IsLoopEnd (tuples_of program) a.history a.pairs e → IsRight m program strategy a (by_loop.found s e)
+  loop_ends-right s pairs a (loop_ends.Found f) h by = found-right m program a f by
+  loop_ends-right s pairs a loop_ends.AllDescend h by = rw h.last.0 (descent-right m a by)
 
-  -- a symptom is told, and its diagnosis begins
-  begins-step : (ops : Table) (names : List (List ℕ)) (s : State) (a : Account) (e : ℕ) (atom : Term) → IsTold s s.replies a → Follows program strategy (with_symptom a atom No) (tree a.history e atom)
-      → IsStep a (begins_wrong ops names s a.history e atom)
-  begins-step ops names s a e atom h f =
-      let told : IsTold s (with_pair s.replies (True atom) No) (with_symptom a atom No) =
-      record { program_is = h.program_is; strategy_is = h.strategy_is; pairs_are = ap (λ ps. with_pair ps (True atom) No) h.pairs_are; last = h.last } in
-      let st = goes_on-step ops names s (with_pair s.replies (True atom) No) s.asked (with_symptom a atom No) (tree a.history e atom) told f in
-      record { right = (tt, st.right); stands = st.stands }
+  loop_tells-nothing : (s : State) (a : Account) (e : LoopEnd) → after_entry program a (by_loop.found s e) ≡ a
+  loop_tells-nothing s a (loop_ends.Found f) = refl
+  loop_tells-nothing s a loop_ends.AllDescend = refl
+
+  loop_rightly : IsRightly by_loop (IsKnownLoop (tuples_of program)) left_in (IsLoopEnd (tuples_of program))
+  loop_rightly = record {
+    waits = λ a asked next w. w;
+    left_is = λ s x. refl;
+    ends = loop_ends-right;
+    tells_nothing = loop_tells-nothing;
+    turns = λ s pairs a x h k. rw (h.strategy_is, h.last.0, h.pairs_are) (loop_turn (tuples_of program) strategy a.history a.pairs a.symptom x k);
+  }
+
+  -- a line in the place of a reply to a question of one of the three
+  pub wrong_reply-step : (ops : Table) (names : List (List ℕ)) (s : State) (a : Account) (asked : Asked) (next : Reply → Tree) (said : Spoken) → ((r : Reply) → said ≡ spoken.Reply r → FitsAsked asked r)
+      → IsTold s s.replies a → IsMode (ForWrong asked next) a → IsStep a (reply_said by_wrong ops names s asked next said)
+  wrong_reply-step = reply-step by_wrong (IsKnownTree (tuples_of program)) wrong_left (IsByReplies (tuples_of program)) wrong_rightly
+
+  pub missing_reply-step : (ops : Table) (names : List (List ℕ)) (s : State) (a : Account) (asked : Asked) (next : Reply → Unanswered) (said : Spoken) → ((r : Reply) → said ≡ spoken.Reply r → FitsAsked asked r)
+      → IsTold s s.replies a → IsMode (ForMissing asked next) a → IsStep a (reply_said by_missing ops names s asked next said)
+  missing_reply-step = reply-step by_missing (IsKnownGoal (tuples_of program)) goal_left (IsByReplies (tuples_of program)) missing_rightly
+
+  pub loop_reply-step : (ops : Table) (names : List (List ℕ)) (s : State) (a : Account) (asked : Asked) (next : Reply → Looping) (said : Spoken) → ((r : Reply) → said ≡ spoken.Reply r → FitsAsked asked r)
+      → IsTold s s.replies a → IsMode (ForLoop asked next) a → IsStep a (reply_said by_loop ops names s asked next said)
+  loop_reply-step = reply-step by_loop (IsKnownLoop (tuples_of program)) left_in (IsLoopEnd (tuples_of program)) loop_rightly
+
+  -- What a command says of the last run.
 
   wrong-step : (ops : Table) (names : List (List ℕ)) (s : State) (a : Account) (b k : ℤ) (last : Option LastRun) → IsTold s s.replies a → IsLast last a.history → IsStep a (wrong_step ops names s last b k)
   wrong-step ops names s a b k None h l = refused-step ops names s a _ h
@@ -125,7 +239,31 @@ module _ (m : Interpretation) (program : List Clause) (is : IsProgram program) (
       by (Err r) e = refused-step ops names s a r h
       by (Ok n) e =
           let x = exit_of-exits a.history b k n e in
-          begins-step ops names s a n (point_of a.history n).tuple.head h (follows-symptom program strategy a n (point_of a.history n).tuple.head l.1 x.exit x.head)
+          let atom = (point_of a.history n).tuple.head in
+          begins-step by_wrong (IsKnownTree (tuples_of program)) wrong_left (IsByReplies (tuples_of program)) wrong_rightly ops names s a (Wrong atom) (tree a.history n atom) h tt (fit_added a.pairs (True atom) No h.fit tt)
+          (wrong_begins (tuples_of program) a.history a.pairs n atom l.1.sound x.exit x.head)
+
+  missing-step : (ops : Table) (names : List (List ℕ)) (s : State) (a : Account) (b : ℤ) (atom : Term) (last : Option LastRun) → IsTold s s.replies a → IsLast last a.history → IsStep a (missing_step ops names s last b atom)
+  missing-step ops names s a b atom None h l = refused-step ops names s a _ h
+  missing-step ops names s a b atom (Some run) h l = subst (λ R. IsStep a (missing_at ops names s atom (unanswered_box R b atom))) (sym l.0) (by (unanswered_box a.history b atom) refl)
+    where
+      by : (r : Result ℕ Refusal) → unanswered_box a.history b atom ≡ r → IsStep a (missing_at ops names s atom r)
+      by (Err r) e = refused-step ops names s a r h
+      by (Ok n) e =
+          begins-step by_missing (IsKnownGoal (tuples_of program)) goal_left (IsByReplies (tuples_of program)) missing_rightly ops names s a (Missing atom) (record { box_no = n; goal = atom }) h tt (fit_added a.pairs (True atom) Yes h.fit tt)
+          (missing_begins (tuples_of program) a.history a.pairs n atom l.1.sound l.1.full h.fit (box_lacks a.history b n atom l.1.sound.kept e))
+
+  loop-step : (ops : Table) (names : List (List ℕ)) (s : State) (a : Account) (last : Option LastRun) → IsTold s s.replies a → IsLast last a.history → IsStep a (loop_step ops names s last)
+  loop-step ops names s a None h l = refused-step ops names s a _ h
+  loop-step ops names s a (Some run) h l = subst (λ R. IsStep a (loop_at ops names s R (stopped_chain R run.end))) (sym l.0) (by (stopped_chain a.history run.end) refl)
+    where
+      by : (r : Result (List ℕ) Refusal) → stopped_chain a.history run.end ≡ r → IsStep a (loop_at ops names s a.history r)
+      by (Err r) e = refused-step ops names s a r h
+      by (Ok calls) e =
+          let c = chain_stopped a.history run.end calls e in
+          subst (λ bs. IsStep a (loop_at ops names s a.history (Ok bs))) (sym c.0)
+          (begins-step by_loop (IsKnownLoop (tuples_of program)) left_in (IsLoopEnd (tuples_of program)) loop_rightly ops names s a (NoEnd (length (chain a.history))) (loop_start a.history (chain a.history)) h refl h.fit
+          (loop_begins (tuples_of program) a.history a.pairs (length (chain a.history)) l.1.sound (is_chain a.history l.1.sound.kept l.1.chained c.1) h.fit))
 
   -- Notes tell nothing.
   remark-is : (a : Account) (why : Noted) (n : Note) → IsRight m program strategy a (remark why n) × (after_entry program a (remark why n) ≡ a)
@@ -151,7 +289,13 @@ module _ (m : Interpretation) (program : List Clause) (is : IsProgram program) (
   unfolding query_said warnings_for run_said run_for
   query-step ops names s a q atoms h =
       let ns = query_warnings s.program q.tuple.body in
-      let sound = run_sound (tuples_of program) (program_clauses program is) q.tuple atoms s.budget s.answers in
+      let P = tuples_of program in
+      let all = program_clauses program is in
+      let run : IsRun (record_of (query_run P q.tuple s.budget s.answers).passed) = record {
+        sound = run_sound P all q.tuple atoms s.budget s.answers;
+        full = run_full P all q.tuple atoms s.budget s.answers;
+        chained = run_chained P all q.tuple atoms s.budget s.answers;
+      } in
       let b = after_entries program a (entries_of (said_for ops names s q ∷ [])) in
       let told : Stands (ready_in (after_run s q)) b =
       record {
@@ -159,7 +303,8 @@ module _ (m : Interpretation) (program : List Clause) (is : IsProgram program) (
           program_is = h.program_is;
           strategy_is = h.strategy_is;
           pairs_are = h.pairs_are;
-          last = (ap (λ p. (last_run (record s { program = p }) q).history) h.program_is, sound);
+          fit = h.fit;
+          last = (ap (λ p. (last_run (record s { program = p }) q).history) h.program_is, run);
         };
         mode = tt;
       } in
@@ -175,38 +320,24 @@ module _ (m : Interpretation) (program : List Clause) (is : IsProgram program) (
   command-step ops names s a command.Quit atoms h = record { right = tt; stands = is_ready s a h }
   command-step ops names s a (command.Refused r) atoms h = refused-step ops names s a r h
   command-step ops names s a (command.Query q) atoms h = query-step ops names s a q (atoms q refl) h
+  command-step ops names s a (command.Trace f) atoms h = record {
+    right = (tt, tt);
+    stands = is_ready (with_filter s f) a (record { program_is = h.program_is; strategy_is = h.strategy_is; pairs_are = h.pairs_are; fit = h.fit; last = h.last });
+  }
   command-step ops names s a (command.Wrong b k) atoms h = wrong-step ops names s a b k s.last h h.last
-
-  -- a reply is told, and the diagnosis goes on
-  replied-step : (ops : Table) (names : List (List ℕ)) (s : State) (a : Account) (asked : Asked) (next : Reply → Tree) (r : Reply) → IsTold s s.replies a → Waits program strategy a asked next → FitsAsked asked r
-      → IsStep a (replied (wrong s.strategy) (found_in s.program) (situation s) ops names s.replies s.asked asked next r)
-  replied-step ops names s a asked next r h w fits =
-      let b = with_reply a (Some asked) r in
-      let told : IsTold s (with_pair s.replies asked.question r) b =
-      record { program_is = h.program_is; strategy_is = h.strategy_is; pairs_are = ap (λ ps. with_pair ps asked.question r) h.pairs_are; last = h.last } in
-      let st = goes_on-step ops names s (with_pair s.replies asked.question r) s.asked b (next r) told (follows-reply program strategy a asked next r w fits) in
-      let e : b ≡ with_reply a a.asked r = sym (replied-is a asked r w.last) in
-      let entries = entries_of (wrong_goes_on ops names s (with_pair s.replies asked.question r) s.asked (next r)).utterances in
-      let after = (wrong_goes_on ops names s (with_pair s.replies asked.question r) s.asked (next r)).next in
-      record {
-        right = (reply-right program strategy a asked next r w fits, subst (λ c. AreRight m program strategy c entries) e st.right);
-        stands = subst (λ c. Stands after (after_entries program c entries)) e st.stands;
-      }
-
-  -- a line in a reply's place
-  pub reply-step : (ops : Table) (names : List (List ℕ)) (s : State) (a : Account) (asked : Asked) (next : Reply → Tree) (said : Spoken) → ((r : Reply) → said ≡ spoken.Reply r → FitsAsked asked r)
-      → IsTold s s.replies a → Waits program strategy a asked next → IsStep a (reply_said ops names s asked next said)
-  reply-step ops names s a asked next spoken.Nothing fits h w = record { right = tt; stands = told_at s s.replies s.asked (Asking asked next) a h w }
-  reply-step ops names s a asked next (spoken.Reply r) fits h w = replied-step ops names s a asked next r h w (fits r refl)
-  reply-step ops names s a asked next spoken.Stop fits h w = record { right = (tt, tt); stands = told_at s s.replies s.asked Ready a h tt }
-  reply-step ops names s a asked next spoken.Quit fits h w = record { right = (tt, tt); stands = told_at s s.replies s.asked Ready a h tt }
-  reply-step ops names s a asked next (spoken.Bad reason) fits h w = record { right = (tt, tt); stands = told_at s s.replies s.asked (Asking asked next) a h w }
+  command-step ops names s a (command.Missing b atom) atoms h = missing-step ops names s a b atom s.last h h.last
+  command-step ops names s a command.Loop atoms h = loop-step ops names s a s.last h h.last
 
   -- after the last line
-  pub closing-right : (ops : Table) (names : List (List ℕ)) (a : Account) (mode : Mode Tree) (close : Close) → AreRight m program strategy a (entries_of (closing_in ops names mode close))
-  closing-right ops names a Ready AtEnd = tt
-  closing-right ops names a Ready AtFault = (tt, tt)
-  closing-right ops names a Ready AtLimit = (tt, tt)
-  closing-right ops names a (Asking asked next) AtEnd = (tt, tt)
-  closing-right ops names a (Asking asked next) AtFault = (tt, tt)
-  closing-right ops names a (Asking asked next) AtLimit = (tt, tt)
+  asked-right : (ops : Table) (names : List (List ℕ)) (a : Account) (close : Close) → AreRight m program strategy a (entries_of (closing_asked ops names close))
+  asked-right ops names a AtEnd = (tt, tt)
+  asked-right ops names a AtFault = (tt, tt)
+  asked-right ops names a AtLimit = (tt, tt)
+
+  pub closing-right : (ops : Table) (names : List (List ℕ)) (a : Account) (mode : Waiting) (close : Close) → AreRight m program strategy a (entries_of (closing_in ops names mode close))
+  closing-right ops names a ForCommand AtEnd = tt
+  closing-right ops names a ForCommand AtFault = (tt, tt)
+  closing-right ops names a ForCommand AtLimit = (tt, tt)
+  closing-right ops names a (ForWrong asked next) close = asked-right ops names a close
+  closing-right ops names a (ForMissing asked next) close = asked-right ops names a close
+  closing-right ops names a (ForLoop asked next) close = asked-right ops names a close

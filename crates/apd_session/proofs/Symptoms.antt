@@ -1,18 +1,26 @@
--- What a session says where a user tells that an exit isn't true.
-use Rattle.std.proofs.Common.{◌≡◌, ℕ, zero, suc, ◌+◌, ◌<◌, ◌≤◌, List, [], ◌∷◌, length, refl, sym, ap, ◌∙◌, subst, arith, Bool, true, false, Option, Some, None}
+-- What a session says where a user tells what is wrong with the last run.
+use Rattle.std.proofs.Common.{◌≡◌, ℕ, zero, suc, ◌<◌, List, [], ◌∷◌, length, refl, sym, ap, ◌∙◌, subst, arith, Bool, true, false, Option, Some, None}
 use Rattle.std.specs.Prelude.{ℤ, Result, Ok, Err, IfOk, IfSome, OnOk, slice_get}
-use Rattle.apd_answers.specs.Store.{with_pair}
+use Rattle.apd_account.specs.Account.{with_told}
+use Rattle.apd_answers.specs.Dialogue.{Diagnosis}
 use Rattle.apd_answers.specs.declared.finding.Finding.{Finding}
 use Rattle.apd_answers.specs.declared.oracle.AskEnd.{AskEnd}
-use Rattle.apd_answers.specs.declared.question.Question.TheVariants.{True}
-use Rattle.apd_answers.specs.declared.question.Reply.TheVariants.{No}
 use Rattle.apd_answers.specs.declared.store.Pair.{Pair}
-use Rattle.apd_clauses.specs.Clauses.{tuples_of}
+use Rattle.apd_clauses.specs.Clauses.{IsProgram, tuples_of}
+use Rattle.apd_clauses.proofs.Pure.{goals_are_atoms}
+use Rattle.apd_record.specs.Chain.{EachOwnsNext}
+use Rattle.apd_recorded.proofs.Law.{run_owns_next}
+use Rattle.apd_recorded.proofs.Recording.{program_clauses}
 use Rattle.apd_clauses.specs.declared.clause.Clause.{Clause}
 use Rattle.apd_commands.specs.declared.commands.Command.{Command}
 use Rattle.apd_commands.specs.declared.commands.Command.TheVariants as commands
-use Rattle.apd_console.specs.Console.{IsKept, room_of}
+use Rattle.apd_console.specs.Console.{IsKept}
 use Rattle.apd_debug.specs.Diagnosed.{Diagnosed, SaysEnd, SaysEndIf, SaysLast, is_said, last_entry, next_after, trouble_of}
+use Rattle.apd_answers.specs.Fitting.{AllFit}
+use Rattle.apd_answers.specs.declared.question.Question.TheVariants.{True}
+use Rattle.apd_answers.specs.declared.question.Reply.TheVariants.{No, Yes}
+use Rattle.apd_debug.specs.NamedStates.{AreReplies, loop_entry}
+use Rattle.apd_debug.proofs.NamedReplies.{with_pair-replies}
 use Rattle.apd_debug.specs.NamedTrees.{AllPointsNamed, RecordIsNamed}
 use Rattle.apd_debug.specs.Stand.{ready}
 use Rattle.apd_debug.specs.Steps.{says_before}
@@ -21,7 +29,6 @@ use Rattle.apd_debug.proofs.LastWords.{Breaks-before, Talks-before, last_on, sai
 use Rattle.apd_debug.proofs.NamedTrees.{run_record-named}
 use Rattle.apd_divide.specs.Exits.{IsLabelled, IsUserExit}
 use Rattle.apd_divide.specs.Recorded.{tree}
-use Rattle.apd_divide.specs.Tree.{Tree}
 use Rattle.apd_lines.proofs.Growing.{Grown-length, Grown-more, Grown-same}
 use Rattle.apd_ops.specs.Table.{Table}
 use Rattle.apd_ports.specs.declared.point.Point.{Point}
@@ -31,12 +38,15 @@ use Rattle.apd_query.specs.declared.state.LastRun.{LastRun}
 use Rattle.apd_query.specs.declared.state.State.{State}
 use Rattle.apd_read.specs.Reader.{Reader}
 use Rattle.apd_record.specs.Reading.{point_of}
-use Rattle.apd_record.specs.Recorded.{Recorded, point_at}
+use Rattle.apd_record.specs.Recorded.{Recorded, chain, point_at}
+use Rattle.apd_loop.specs.Loop.{loop, loop_start}
+use Rattle.apd_loop.specs.declared.LoopEnd.TheVariants as loop_ends
+use Rattle.apd_symptoms.specs.Chains.{stopped_chain}
 use Rattle.apd_symptoms.specs.Symptoms.{exit_of, line_found}
+use Rattle.apd_symptoms.specs.Unanswered.{unanswered_box}
 use Rattle.apd_talk.specs.Moment.{Keeps, Moment, place}
-use Rattle.apd_talk.specs.Speech.{Says, Speech, Spoken, begun, one, plain}
-use Rattle.apd_talk.specs.Talk.{Breaks, Meaning, Place, Talks, after_step}
-use Rattle.apd_talk.specs.Utterance.{Utterance, Utters, UttersFront}
+use Rattle.apd_talk.specs.Speech.{Says, Speech, Spoken, one, plain}
+use Rattle.apd_talk.specs.Talk.{Meaning, Place, Talks, after_step}
 use Rattle.apd_talk.specs.declared.talk.Next.{Next}
 use Rattle.apd_talk.specs.declared.talk.Next.TheVariants.{Goes}
 use Rattle.apd_talk.specs.declared.talk.Trouble.{Trouble}
@@ -48,14 +58,14 @@ use Rattle.apd_term.specs.Term.{Term, variable}
 use Rattle.apd_term.specs.declared.tuple.Tuple.{Tuple}
 use Rattle.apd_term.proofs.Applying.{apply-variable}
 use Rattle.apd_text.specs.declared.entry.Entry.{Entry}
-use Rattle.apd_text.specs.declared.entry.Entry.TheVariants.{Found, Refused, Symptom}
+use Rattle.apd_text.specs.declared.entry.Entry.TheVariants.{AllDescend, Found, Refused, Symptom}
 use Rattle.apd_text.specs.declared.entry.Refusal.{Refusal}
 use Rattle.apd_text.specs.declared.entry.Refusal.TheVariants.{NoRun}
-use Rattle.apd_text.specs.declared.entry.Told.TheVariants.{Wrong}
-use Rattle.apd_wrong.specs.Wrong.{wrong}
-use Rattle.apd_session.specs.Diagnosing.{Answered, Diagnoses, IsDiagnosed, answered}
-use Rattle.apd_session.specs.Steps.{begins_wrong, command_step, found_in, refused, situation, talker, wrong_at, wrong_goes_on, wrong_step}
-use Rattle.apd_session.specs.Turns.{Leads, obeying}
+use Rattle.apd_text.specs.declared.entry.Told.{Told}
+use Rattle.apd_text.specs.declared.entry.Told.TheVariants.{Wrong, Missing, NoEnd}
+use Rattle.apd_session.specs.Diagnosing.{Answered, Diagnoses, answered}
+use Rattle.apd_session.specs.Steps.{Method, begins, by_loop, by_missing, by_wrong, carries_on, command_step, found_in, history_of, loop_at, loop_step, missing_at, missing_step, refused, situation, talker, wrong_at, wrong_step}
+use Rattle.apd_session.specs.Turns.{IsPrepared, Leads, obeying}
 use Rattle.apd_session.proofs.Turning.{IsReady-more, leads_by}
 
 -- replies don't change what a state is ready for
@@ -73,6 +83,17 @@ last_answered n s now (Some run) is = record {
 
 pub ready_answered : (n : ℕ) (s : State) (now : Answered) → IsReady n s → IsReady n (with_answers s now)
 ready_answered n s now is = record { limits = is.limits; standard = is.standard; named = is.named; last = last_answered n s now s.last is.last }
+
+-- a symptom leaves replies that fit
+pub told-replies : (n : ℕ) (pairs : List Pair) (what : Told) → AreReplies n pairs → AreReplies n (with_told pairs what)
+told-replies n pairs (Wrong a) are = with_pair-replies n pairs (True a) No are (tt, tt)
+told-replies n pairs (Missing a) are = with_pair-replies n pairs (True a) Yes are (tt, tt)
+told-replies n pairs (NoEnd calls) are = are
+
+-- the replies of a store fit its questions
+pub all_fit : (n : ℕ) (pairs : List Pair) → AreReplies n pairs → AllFit pairs
+all_fit n [] are = tt
+all_fit n (pair ∷ pairs) are = (are.0.0, all_fit n pairs are.1)
 
 -- the names of the last run are known
 pub run_named : (n : ℕ) (s : State) (run : LastRun) → s.last ≡ Some run → IsReady n s → RecordIsNamed n run.history
@@ -96,23 +117,23 @@ last_keeps found (Ok e) p q result (says, next) = (says.names, says.ops)
 last_keeps found (Err end) p q result says = last_keeps_end (is_said end) end p q result says
 
 -- a diagnosis after what was said before it
-diagnosed_after : {names : List (List ℕ)} (reader : Reader names) (ops : Table) (s : State) (f g : Meaning Entry) (p q r : Place Entry) (pairs : List Pair) (count : ℕ) (answer : Result Finding AskEnd) → Talks f p q g →
-    Diagnosed (wrong s.strategy) (found_in s.program) (situation s) ops names (talker reader ops) g q r pairs count answer →
-    Diagnosed (wrong s.strategy) (found_in s.program) (situation s) ops names (talker reader ops) f p r pairs count answer
-diagnosed_after {names} reader ops s f g p q r pairs count (Ok e) first second = Talks-more f g _ p q r first second
-diagnosed_after {names} reader ops s f g p q r pairs count (Err end) first second = Diagnosed-more (wrong s.strategy) (found_in s.program) (situation s) ops names (talker reader ops) f g p q r pairs count end first second
+diagnosed_after : {D E : Type 0} (d : Method D E) {names : List (List ℕ)} (reader : Reader names) (ops : Table) (s : State) (f g : Meaning Entry) (p q r : Place Entry) (pairs : List Pair) (count : ℕ) (answer : Result E AskEnd) → Talks f p q g →
+    Diagnosed (d.diagnosis s) (d.found s) (situation d s) ops names (talker reader ops) g q r pairs count answer →
+    Diagnosed (d.diagnosis s) (d.found s) (situation d s) ops names (talker reader ops) f p r pairs count answer
+diagnosed_after d {names} reader ops s f g p q r pairs count (Ok e) first second = Talks-more f g _ p q r first second
+diagnosed_after d {names} reader ops s f g p q r pairs count (Err end) first second = Diagnosed-more (d.diagnosis s) (d.found s) (situation d s) ops names (talker reader ops) f g p q r pairs count end first second
 
-leads_ready : (s : State) (before now : List (List ℕ)) (result : Result Next Trouble) → Grown before now → IsReady (length before) s → OnOk result (IsReady (length now) s)
-leads_ready s before now (Ok n) grew is = IsReady-more (length before) (length now) s (Grown-length before now grew) is
-leads_ready s before now (Err t) grew is = tt
+leads_ready : (s : State) (now : List (List ℕ)) (result : Result Next Trouble) → IsPrepared (length now) s → OnOk result (IsPrepared (length now) s)
+leads_ready s now (Ok n) is = is
+leads_ready s now (Err t) is = tt
 
--- an exit is named, and its head isn't true
-module _ (s : State) (command : Command) (R : Recorded) (e : ℕ) (a : Term) (is : (ops : Table) (names : List (List ℕ)) → command_step ops names s command ≡ begins_wrong ops names s R e a) (p : Moment) (said : Spoken) (sound : IsKept p.console) where
+-- a symptom is told, and its diagnosis begins
+module _ {D E : Type 0} (d : Method D E) (s : State) (command : Command) (what : Told) (x : D) (is : (ops : Table) (names : List (List ℕ)) → command_step ops names s command ≡ begins d ops names s what x) (p : Moment) (said : Spoken) (sound : IsKept p.console) where
   abbrev symptom : Entry
-  symptom = Symptom (Wrong a)
+  symptom = Symptom what
 
   abbrev replied : List Pair
-  replied = with_pair s.replies (True a) No
+  replied = with_told s.replies what
 
   keeps_said : {T : Type 0} (result : Result T Trouble) → Says (one symptom) p.spoken said result → Keeps p (said_at p said)
   keeps_said result says = record {
@@ -130,17 +151,17 @@ module _ (s : State) (command : Command) (R : Recorded) (e : ℕ) (a : Term) (is
         let ops : Table = p.spoken.log.ops in
         let grown : Grown p.spoken.log.names names = subst (λ (l : List (List ℕ)). Grown l names) says.names grew in
         rw (is ops names)
-        (Breaks-before (talker reader ops) p said (plain ops names symptom ∷ []) (wrong_goes_on ops names s replied s.asked (tree R e a)) trouble
+        (Breaks-before (talker reader ops) p said (plain ops names symptom ∷ []) (carries_on d ops names s replied s.asked x) trouble
         (says_later {T = T} (one symptom) p.spoken said (Err trouble) says) (λ w. says_rose {T = T} (one symptom) p.spoken said trouble says w) (says.front names grown));
     ready = tt;
   }
 
   -- it was said, and so was what the diagnosis came to
-  pub wrong_leads : (u : Unit {0}) (q : Moment) (last : Spoken) (now : Answered) (answer : Result Finding AskEnd) (result : Result Next Trouble) → Says (one symptom) p.spoken said (Ok u) →
-      Diagnoses s.strategy (tree R e a) (answered replied s.asked) now (said_at p said) q answer → SaysLast (found_in s.program) answer q.spoken last result →
+  pub symptom_leads : (this : Diagnosis D E) → d.diagnosis s ≡ this → (u : Unit {0}) (q : Moment) (last : Spoken) (now : Answered) (answer : Result E AskEnd) (result : Result Next Trouble) → Says (one symptom) p.spoken said (Ok u) →
+      Diagnoses d this x (answered replied s.asked) now (said_at p said) q answer → SaysLast (d.found s) answer q.spoken last result →
       IsReady (length p.spoken.log.names) s → Leads (obeying s command) (with_answers s now) p (said_at q last) result
-  wrong_leads u q last now answer result says diagnosis concludes ready_before =
-      let kept = last_keeps (found_in s.program) answer q.spoken last result concludes in
+  symptom_leads this same u q last now answer result says diagnosis concludes ready_before =
+      let kept = last_keeps (d.found s) answer q.spoken last result concludes in
       let grew_to : Grown p.spoken.log.names q.spoken.log.names = subst (λ (l : List (List ℕ)). Grown l q.spoken.log.names) says.names diagnosis.keeps.names in
       let grew_last : Grown p.spoken.log.names last.log.names = subst (λ (l : List (List ℕ)). Grown p.spoken.log.names l) (sym kept.0) grew_to in
       record {
@@ -157,21 +178,24 @@ module _ (s : State) (command : Command) (R : Recorded) (e : ℕ) (a : Term) (is
             let ops : Table = p.spoken.log.ops in
             let on : Grown q.spoken.log.names names = subst (λ (l : List (List ℕ)). Grown l names) kept.0 grew in
             let grown : Grown p.spoken.log.names names = Grown-more p.spoken.log.names q.spoken.log.names names grew_to on in
-            let st = wrong_goes_on ops names s replied s.asked (tree R e a) in
+            let st = carries_on d ops names s replied s.asked x in
             let first : Talks (after_step (talker reader ops) (says_before (plain ops names symptom ∷ []) st)) (place p) (place (said_at p said)) (after_step (talker reader ops) st) =
             Talks-before (talker reader ops) p said (plain ops names symptom ∷ []) st (says_later (one symptom) p.spoken said (Ok u) says) (says.all names grown) in
-            let second = subst (λ (o : Table). Diagnosed (wrong s.strategy) (found_in s.program) (situation s) o names (talker reader o)
-            (after_step (talker reader o) (wrong_goes_on o names s replied s.asked (tree R e a))) (place (said_at p said)) (place q) now.pairs now.asked answer) says.ops (diagnosis.course names on reader s refl) in
+            let second = subst (λ (o : Table). Diagnosed (d.diagnosis s) (d.found s) (situation d s) o names (talker reader o)
+            (after_step (talker reader o) (carries_on d o names s replied s.asked x)) (place (said_at p said)) (place q) now.pairs now.asked answer) says.ops (diagnosis.course names on reader s same) in
             rw (is ops names)
-            (last_on (wrong s.strategy) (found_in s.program) (situation s) ops names (talker reader ops) (after_step (talker reader ops) (says_before (plain ops names symptom ∷ []) st)) (place p) q last now.pairs now.asked
+            (last_on (d.diagnosis s) (d.found s) (situation d s) ops names (talker reader ops) (after_step (talker reader ops) (says_before (plain ops names symptom ∷ []) st)) (place p) q last now.pairs now.asked
             (diagnosis.keeps.ops ∙ says.ops) on answer result
-            (diagnosed_after reader ops s _ (after_step (talker reader ops) st) (place p) (place (said_at p said)) (place q) now.pairs now.asked answer first second) concludes);
-        ready = leads_ready (with_answers s now) p.spoken.log.names last.log.names result grew_last (ready_answered (length p.spoken.log.names) s now ready_before);
+            (diagnosed_after d reader ops s _ (after_step (talker reader ops) st) (place p) (place (said_at p said)) (place q) now.pairs now.asked answer first second) concludes);
+        ready = leads_ready (with_answers s now) last.log.names result record {
+          ready = IsReady-more (length p.spoken.log.names) (length last.log.names) (with_answers s now) (Grown-length p.spoken.log.names last.log.names grew_last) (ready_answered (length p.spoken.log.names) s now ready_before);
+          replies = rw kept.0 diagnosis.replies;
+        };
       }
 
 -- a command that is refused
 pub refused_leads : (s : State) (command : Command) (r : Refusal) (p q : Moment) → q.console ≡ p.console → q.left ≡ p.left → q.read_faults ≡ p.read_faults → ((ops : Table) (names : List (List ℕ)) → command_step ops names s command ≡ refused ops names s r) →
-    IsKept p.console → (result : Result Next Trouble) → Says (one (Refused r)) p.spoken q.spoken result → IfOk result (λ n. n ≡ Goes) → IsReady (length p.spoken.log.names) s → Leads (obeying s command) s p q result
+    IsKept p.console → (result : Result Next Trouble) → Says (one (Refused r)) p.spoken q.spoken result → IfOk result (λ n. n ≡ Goes) → IsPrepared (length p.spoken.log.names) s → Leads (obeying s command) s p q result
 refused_leads s command r p q console left reads is sound result says goes ready_before =
     let leads = leads_by (λ ops names. refused ops names s r) p q console left reads sound s result says goes (λ ops names. refl) (λ ops names. refl) ready_before in
     record { keeps = leads.keeps; course = λ names grew reader. rw (is p.spoken.log.ops names) (leads.course names grew reader); ready = leads.ready }
@@ -211,17 +235,71 @@ Says-from speech p m q (Err e) entries held same ops faults says = record {
   cause = rw (← faults) says.cause;
 }
 
--- what is said to `wrong(B, K)`
-module _ (ops : Table) (names : List (List ℕ)) (s : State) (b k : ℤ) where
-  pub step_none : s.last ≡ None → command_step ops names s (commands.Wrong b k) ≡ refused ops names s NoRun
-  step_none last = rw last refl
+-- what is known of the last run
+pub run_kept : (n : ℕ) (s : State) (run : LastRun) → s.last ≡ Some run → IsReady n s → IsRunOf n s run
+run_kept n s run is ready = subst (λ (last : Option LastRun). IfSome last (IsRunOf n s)) is ready.last
 
-  pub step_refused : (run : LastRun) (r : Refusal) → s.last ≡ Some run → exit_of run.history b k ≡ Err r → command_step ops names s (commands.Wrong b k) ≡ refused ops names s r
-  step_refused run r last exit = rw (last, exit) refl
+-- each box of its chain calls the next
+pub run_owned : (n : ℕ) (s : State) (run : LastRun) → s.last ≡ Some run → IsReady n s → IsProgram s.program → EachOwnsNext run.history 0 (chain run.history)
+unfolding run_for
+run_owned n s run is ready program =
+    let kept = run_kept n s run is ready in
+    rw kept.history.is
+    (run_owns_next (tuples_of s.program) (program_clauses s.program program) run.query.tuple (goals_are_atoms run.query.tuple.body kept.runnable.body.goals) s.budget s.answers)
 
-  pub step_begins : (run : LastRun) (e : ℕ) (a : Term) → s.last ≡ Some run → exit_of run.history b k ≡ Ok e → (point_of run.history e).tuple.head ≡ a → command_step ops names s (commands.Wrong b k) ≡ begins_wrong ops names s run.history e a
-  step_begins run e a last exit head =
-      ap (λ (o : Option LastRun). wrong_step ops names s o b k) last ∙ ap (wrong_at ops names s run.history) exit ∙ ap (begins_wrong ops names s run.history e) head
+-- and its calls are those of the record of the last run
+pub run_calls : (s : State) (run : LastRun) (calls : List ℕ) → s.last ≡ Some run → calls ≡ chain run.history → chain (history_of s.last) ≡ calls
+run_calls s run calls is chained = rw (is, chained) refl
+
+pub loop_this : (s : State) (run : LastRun) (calls : List ℕ) → s.last ≡ Some run → calls ≡ chain run.history → by_loop.diagnosis s ≡ loop run.history calls s.strategy
+loop_this s run calls is chained = rw (is, chained) refl
+
+-- and for the diagnosis of a run that doesn't end
+pub says_loop_found : {U : Type 0} (program : List Clause) (calls : ℕ) (f : Finding) (line : ℕ) (p q : Spoken) (u : U) → line ≡ line_found program f → Says (one (Found f line)) p q (Ok u) → SaysLast (loop_entry (line_found program) calls) (Ok (loop_ends.Found f)) p q (Ok Goes)
+says_loop_found program calls f line p q u is says = (Says-ok (one (found_in program f)) p q u Goes (subst (λ (l : ℕ). Says (one (Found f l)) p q (Ok u)) is says), refl)
+
+pub front_loop_found : {U : Type 0} (program : List Clause) (calls : ℕ) (f : Finding) (line : ℕ) (p q : Spoken) (t : Trouble) → line ≡ line_found program f → Says {T = U} (one (Found f line)) p q (Err t) →
+    SaysLast (loop_entry (line_found program) calls) (Ok (loop_ends.Found f)) p q (Err t)
+front_loop_found {U} program calls f line p q t is says = (Says-err {T = U} (one (found_in program f)) p q t (subst (λ (l : ℕ). Says {T = U} (one (Found f l)) p q (Err t)) is says), tt)
+
+pub says_descent : {U : Type 0} (line_of : Finding → ℕ) (calls : ℕ) (p q : Spoken) (u : U) → Says (one (AllDescend calls)) p q (Ok u) → SaysLast (loop_entry line_of calls) (Ok loop_ends.AllDescend) p q (Ok Goes)
+says_descent line_of calls p q u says = (Says-ok (one (AllDescend calls)) p q u Goes says, refl)
+
+pub front_descent : {U : Type 0} (line_of : Finding → ℕ) (calls : ℕ) (p q : Spoken) (t : Trouble) → Says {T = U} (one (AllDescend calls)) p q (Err t) → SaysLast (loop_entry line_of calls) (Ok loop_ends.AllDescend) p q (Err t)
+front_descent {U} line_of calls p q t says = (Says-err {T = U} (one (AllDescend calls)) p q t says, tt)
+
+-- what is said to a command about the last run
+module _ (ops : Table) (names : List (List ℕ)) (s : State) where
+  pub wrong_none : (b k : ℤ) → s.last ≡ None → command_step ops names s (commands.Wrong b k) ≡ refused ops names s NoRun
+  wrong_none b k last = rw last refl
+
+  pub wrong_refused : (b k : ℤ) (run : LastRun) (r : Refusal) → s.last ≡ Some run → exit_of run.history b k ≡ Err r → command_step ops names s (commands.Wrong b k) ≡ refused ops names s r
+  wrong_refused b k run r last exit = rw (last, exit) refl
+
+  pub wrong_begins : (b k : ℤ) (run : LastRun) (e : ℕ) (a : Term) → s.last ≡ Some run → exit_of run.history b k ≡ Ok e → (point_of run.history e).tuple.head ≡ a →
+      command_step ops names s (commands.Wrong b k) ≡ begins by_wrong ops names s (Wrong a) (tree run.history e a)
+  wrong_begins b k run e a last exit head =
+      ap (λ (o : Option LastRun). wrong_step ops names s o b k) last ∙ ap (wrong_at ops names s run.history) exit ∙ ap (λ (l : Term). begins by_wrong ops names s (Wrong l) (tree run.history e l)) head
+
+  pub missing_none : (b : ℤ) (a : Term) → s.last ≡ None → command_step ops names s (commands.Missing b a) ≡ refused ops names s NoRun
+  missing_none b a last = rw last refl
+
+  pub missing_refused : (b : ℤ) (a : Term) (run : LastRun) (r : Refusal) → s.last ≡ Some run → unanswered_box run.history b a ≡ Err r → command_step ops names s (commands.Missing b a) ≡ refused ops names s r
+  missing_refused b a run r last is = rw (last, is) refl
+
+  pub missing_begins : (b : ℤ) (a : Term) (run : LastRun) (n : ℕ) → s.last ≡ Some run → unanswered_box run.history b a ≡ Ok n →
+      command_step ops names s (commands.Missing b a) ≡ begins by_missing ops names s (Missing a) (record { box_no = n; goal = a })
+  missing_begins b a run n last is = ap (λ (o : Option LastRun). missing_step ops names s o b a) last ∙ ap (missing_at ops names s a) is
+
+  pub loop_none : s.last ≡ None → command_step ops names s commands.Loop ≡ refused ops names s NoRun
+  loop_none last = rw last refl
+
+  pub loop_refused : (run : LastRun) (r : Refusal) → s.last ≡ Some run → stopped_chain run.history run.end ≡ Err r → command_step ops names s commands.Loop ≡ refused ops names s r
+  loop_refused run r last is = rw (last, is) refl
+
+  pub loop_begins : (run : LastRun) (calls : List ℕ) → s.last ≡ Some run → stopped_chain run.history run.end ≡ Ok calls →
+      command_step ops names s commands.Loop ≡ begins by_loop ops names s (NoEnd (length calls)) (loop_start run.history calls)
+  loop_begins run calls last is = ap (λ (o : Option LastRun). loop_step ops names s o) last ∙ ap (loop_at ops names s run.history) is
 
 -- the point of an exit
 pub point_below : (ps : List Point) (i : ℕ) (p : Point) → slice_get ps i ≡ Some p → i < length ps

@@ -1,11 +1,12 @@
 -- Turns of a session: what is said to the lines of the input, one by one.
-use Rattle.std.specs.Prelude.{ℕ, ◌≡◌, ◌+◌, ◌<◌, ◌≤◌, List, length, Result, Ok, OnOk, MatchResult}
+use Rattle.std.specs.Prelude.{ℕ, ◌≡◌, ◌+◌, ◌<◌, ◌≤◌, List, length, Option, Result, Ok, OnOk, MatchResult}
 use Rattle.apd_console.specs.Console.{IsKept, room_of}
 use Rattle.apd_talk.specs.Talk.{Breaks, Continues, Step, after_step, onto, replies}
 use Rattle.apd_talk.specs.declared.talk.Next.{Next}
 use Rattle.apd_talk.specs.declared.talk.Next.TheVariants.{Goes}
 use Rattle.apd_talk.specs.declared.talk.Trouble.{Trouble}
 use Rattle.apd_commands.specs.declared.commands.Command.{Command}
+use Rattle.apd_debug.specs.NamedStates.{AreReplies}
 use Rattle.apd_load.specs.declared.Note.{Note}
 use Rattle.apd_load.specs.Warnings.{warnings_of}
 use Rattle.apd_ops.specs.Table.{Table}
@@ -14,7 +15,7 @@ use Rattle.apd_text.specs.declared.entry.Entry.{Entry}
 use Rattle.apd_talk.specs.Moment.{Keeps, Moment, Script, place}
 use Rattle.apd_query.specs.Running.{IsReady}
 use Rattle.apd_talk.specs.Speech.{Lasting, begun}
-use Rattle.apd_session.specs.Steps.{Situation, command_step, load_said, ready_in, talker}
+use Rattle.apd_session.specs.Steps.{Situation, command_step, opening_said, ready_in, talker}
 use Rattle.apd_query.specs.declared.state.State.{State}
 use Rattle.apd_base.specs.declared.limits.TheConstants.{MOST_NAMES}
 
@@ -30,14 +31,19 @@ after step ops names reader = after_step (talker reader ops) (step ops names)
 abbrev pub obeying : State → Command → Script
 obeying s c = after (λ ops names. command_step ops names s c)
 
--- it says first what there is to say of its program
-abbrev pub opening : List Note → State → Script
-opening passed s ops names reader room more ends =
-    onto (load_said ops names s.program passed (warnings_of s.program)) (conversation s ops names reader room more ends)
+-- it says first what there is to say of its program, and of the oracle file, where there is one
+abbrev pub opening : List Note → Option ℕ → State → Script
+opening passed statements s ops names reader room more ends =
+    onto (opening_said ops names s.program passed (warnings_of s.program) statements) (conversation s ops names reader room more ends)
 
--- the state is ready, and with the bytes that may still be handed out there are fewer names than may be kept
+-- a state is ready for a query, and what it keeps are replies with names that are known
+pub record IsPrepared (n : ℕ) (s : State) : Type 0 where
+  pub ready : IsReady n s
+  pub replies : AreReplies n s.replies
+
+-- the state is prepared, and with the bytes that may still be handed out there are fewer names than may be kept
 pub record CanConverse (s : State) (p : Moment) : Type 0 where
-  pub ready : IsReady (length p.spoken.log.names) s
+  pub ready : IsPrepared (length p.spoken.log.names) s
   pub room : length p.spoken.log.names + room_of p.console < MOST_NAMES
   pub few : room_of p.console ≤ 1000000000
   pub sound : IsKept p.console
@@ -48,7 +54,7 @@ pub record Leads (script : Script) (t : State) (p q : Moment) (result : Result N
   pub course : Lasting q.spoken.log.names (λ names. (reader : Reader names) → MatchResult result
       (λ n. Continues (script p.spoken.log.ops names reader) (place p) (place q) (conversation t p.spoken.log.ops names reader) n)
       (λ e. Breaks begun (script p.spoken.log.ops names reader) (place p) (place q) e))
-  pub ready : OnOk result (IsReady (length q.spoken.log.names) t)
+  pub ready : OnOk result (IsPrepared (length q.spoken.log.names) t)
 
 -- from s at p a line was heard and answered: the conversation goes on from t at q, or has ended there, or broke off
 pub record Turns (s t : State) (p q : Moment) (result : Result Next Trouble) : Type 0 where

@@ -1,5 +1,5 @@
 -- The exit that a command names is one of the program's own.
-use Rattle.std.proofs.Common.{◌≡◌, ℕ, zero, suc, ◌<◌, ◌≤◌, List, [], ◌∷◌, length, refl, sym, ap, ◌∙◌, arith, inl, inr, true, false, Option, Some, None, Result, Ok, Err}
+use Rattle.std.proofs.Common.{◌≡◌, ℕ, zero, suc, ◌<◌, ◌≤◌, List, [], ◌∷◌, length, refl, ap, arith, inl, inr, true, false, Some, None, Err}
 use Rattle.std.specs.Prelude.{ℤ, pos, negsuc, map, slice_get}
 use Rattle.apd_divide.specs.Exits.{IsUserExit}
 use Rattle.apd_ports.specs.declared.point.PointId.{PointId}
@@ -27,7 +27,7 @@ user_exit R b k row e there user is =
     record { point = x.0; there = x.1; is_exit = x.3; row = row; row_there = rw x.2 there; user = user }
 
 -- the exits by their numbers, and by their ids
-slice_get-ids : (xs : List ℕ) (i : ℕ) (p : PointId) → slice_get (map id_of xs) i ≡ Some p → slice_get xs i ≡ Some p.0
+pub slice_get-ids : (xs : List ℕ) (i : ℕ) (p : PointId) → slice_get (map id_of xs) i ≡ Some p → slice_get xs i ≡ Some p.0
 slice_get-ids [] i p is = absurd (cc)
 slice_get-ids (x ∷ xs) zero p is = let same : id_of x ≡ p = cc in ap (λ (q : PointId). Some q.0) same
 slice_get-ids (x ∷ xs) (suc i) p is = slice_get-ids xs i p is

@@ -1,1 +1,3 @@
 pub mod Symptoms
+pub mod Unanswered
+pub mod Chains

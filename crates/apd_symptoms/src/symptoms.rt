@@ -12,7 +12,7 @@ use apd_record::Record;
 use apd_text::Refusal;
 
 /// The number of a box of the record, where it is one.
-fn box_number(history: &Record, number: i64) -> Option<u32>
+pub(crate) fn box_number(history: &Record, number: i64) -> Option<u32>
     ensures { MatchOption result (IsNoBox history.now number)
         (λ b. (number ≡ pos b) × (0 < b) × (b ≤ length history.now.boxes)) }
 {

@@ -1,13 +1,14 @@
 -- A text stays where names are put at the end.
 use Rattle.std.proofs.Common.{◌≡◌, ℕ, ◌<◌, List, [], ◌∷◌, ◌++◌, length, refl, map, arith}
 use Rattle.std.specs.Prelude.{pos, Bool, true, false, nat_eq, if◌then◌else◌}
-use Rattle.apd_term.specs.declared.standard.TheConstants.{CELL, COMMA, NECK}
+use Rattle.apd_term.specs.declared.standard.TheConstants.{CELL, COMMA, DIVIDE, NECK}
 use Rattle.apd_term.specs.Term.{Term, Terms, variable, integer, compound, none, more}
 use Rattle.apd_term.specs.Named.{IsNamed, AreNamed, AllNamed, TupleIsNamed}
 use Rattle.apd_term.specs.Canonical.{canonical}
 use Rattle.apd_term.specs.Tuple.{canonical_tuple}
 use Rattle.apd_term.specs.declared.tuple.Tuple.{Tuple}
 use Rattle.apd_term.specs.declared.term.NameId.{NameId}
+use Rattle.apd_term.specs.declared.term.Pred.{Pred}
 use Rattle.apd_term.proofs.FirstNames.{length-standard_names}
 use Rattle.apd_term.proofs.Named.{IsNamed-canonical, TupleIsNamed-canonical}
 use Rattle.apd_term.proofs.Naming.{text_of_name-append}
@@ -18,6 +19,8 @@ use Rattle.apd_causes.specs.declared.faults.BodyFault.{BodyFault}
 use Rattle.apd_causes.specs.declared.faults.BodyFault.TheVariants as body
 use Rattle.apd_ops.specs.Table.{Table}
 use Rattle.apd_ports.specs.declared.event.Event.{Event}
+use Rattle.apd_ports.specs.declared.filter.Filter.{Filter}
+use Rattle.apd_ports.specs.declared.filter.Filter.TheVariants.{Off, All, Leap, Skip}
 use Rattle.apd_write.proofs.MoreNames.{written-more}
 use Rattle.apd_text.specs.Causes.{body_text, cause_text}
 use Rattle.apd_answers.specs.declared.question.Question.{Question}
@@ -33,11 +36,12 @@ use Rattle.apd_text.specs.declared.entry.Told.TheVariants.{Wrong, Missing, NoEnd
 use Rattle.apd_text.specs.Entries.{refusal_text, text_of}
 use Rattle.apd_causes.specs.Faults.{FaultIsNamed, CauseIsNamed}
 use Rattle.apd_text.specs.Named.{RefusalIsNamed, ToldIsNamed, QuestionIsNamed, ReplyIsNamed, FindingIsNamed, HasStandardNames, EntryIsNamed}
+use Rattle.apd_text.specs.FilterTerms.{FilterIsNamed, PredsAreNamed, filter_term, name_term, predicate_term}
 use Rattle.apd_text.specs.Lines.{goal_text, goals_of, head_text, elements, elements_of, bindings, answer_text, port_text}
 use Rattle.apd_text.specs.declared.entry.Refusal.{Refusal}
 use Rattle.apd_text.specs.declared.entry.Refusal.TheVariants as refusal
 use Rattle.apd_text.specs.declared.entry.Entry.{Entry}
-use Rattle.apd_text.specs.declared.entry.Entry.TheVariants.{PassedOver, Warning, Loaded, OracleLoaded, Run, Symptom, Question as Asks, Replied, BadReply, Found, AllDescend, Unanswered, Refused, Demo, UsageRefused, ProgramRefused, FileTooLong, InputFault, InputOver}
+use Rattle.apd_text.specs.declared.entry.Entry.TheVariants.{PassedOver, Warning, Loaded, OracleLoaded, TraceSet, Run, Symptom, Question as Asks, Replied, BadReply, Found, AllDescend, Unanswered, Refused, Demo, UsageRefused, ProgramRefused, OracleRefused, FileTooLong, InputFault, InputOver}
 
 all_written-more : (ops : Table) (names others : List (List ℕ)) (ts : List Term) → AllNamed (length names) ts → map (goal_text ops (names ++ others)) ts ≡ map (goal_text ops names) ts
 all_written-more ops names others [] named = refl
@@ -171,12 +175,25 @@ finding_text-more ops names others (Uncovered goal) line standard named = rw (at
 finding_text-more ops names others (Violation clause goal caller_no callee_no caller callee) line standard named =
     rw (atom_text-more ops names others caller named.0, atom_text-more ops names others callee named.1) refl
 
+predicates_named : (n : ℕ) (preds : List Pred) → HasStandardNames n → PredsAreNamed n preds → AllNamed n (map predicate_term preds)
+predicates_named n [] standard named = tt
+predicates_named n (p ∷ preds) standard named =
+    (pair_named n DIVIDE (name_term p.name) (integer (pos p.arity)) (omega (arith, standard, length-standard_names)) (named.0, tt) tt, predicates_named n preds standard named.1)
+
+filter_named : (n : ℕ) (f : Filter) → HasStandardNames n → FilterIsNamed n f → IsNamed n (filter_term f)
+filter_named n Off standard named = (omega (arith, standard, length-standard_names), tt)
+filter_named n All standard named = (omega (arith, standard, length-standard_names), tt)
+filter_named n (Leap preds) standard named =
+    (omega (arith, standard, length-standard_names), (list_named n (map predicate_term preds) (neck_named n standard) (predicates_named n preds standard named), tt))
+filter_named n (Skip b) standard named = (omega (arith, standard, length-standard_names), (tt, tt))
+
 pub text_of-more : (ops : Table) (names others : List (List ℕ)) (e : Entry) → EntryIsNamed (length names) e → text_of ops (names ++ others) e ≡ text_of ops names e
 unfolding text_of
 text_of-more ops names others (PassedOver line pred) named = rw (text_of_name-append names others pred.name named) refl
 text_of-more ops names others (Warning line pred) named = rw (text_of_name-append names others pred.name named) refl
 text_of-more ops names others (Loaded clauses) named = refl
 text_of-more ops names others (OracleLoaded statements) named = refl
+text_of-more ops names others (TraceSet filter) named = rw (written-more ops names others (filter_term filter) 999 (filter_named (length names) filter named.0 named.1)) refl
 text_of-more ops names others (Run query budget answers filter end) named = refl
 text_of-more ops names others (Symptom what) named = rw (told_text-more ops names others what named) refl
 text_of-more ops names others (Asks number asked) named = rw (asked_text-more ops names others asked.question named.0 named.1) refl
@@ -189,6 +206,7 @@ text_of-more ops names others (Refused r) named = rw (refusal_text-more names ot
 text_of-more ops names others (Demo nodes questions clause) named = refl
 text_of-more ops names others UsageRefused named = refl
 text_of-more ops names others (ProgramRefused line cause) named = rw (cause_text-more names others cause named) refl
+text_of-more ops names others (OracleRefused line cause) named = refl
 text_of-more ops names others (FileTooLong n) named = refl
 text_of-more ops names others InputFault named = refl
 text_of-more ops names others InputOver named = refl

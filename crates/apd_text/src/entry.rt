@@ -1,7 +1,7 @@
 //! What a session says, as data.
 
 use apd_answers::{Asked, Finding, Reply};
-use apd_causes::{BodyFault, LoadCause, Query, Ran};
+use apd_causes::{BodyFault, LoadCause, OracleCause, Query, Ran};
 use apd_ports::Filter;
 use apd_term::{Flat, Pred};
 
@@ -87,6 +87,10 @@ pub enum Entry {
     OracleLoaded {
         statements: u32,
     },
+    /// This filter was set for the runs that follow.
+    TraceSet {
+        filter: Filter,
+    },
     /// A query was run within these limits on ports and answers, each from 1 to 1,000,000, and the ports that the filter
     /// admits were printed. The end is set once the run has ended.
     Run {
@@ -143,6 +147,11 @@ pub enum Entry {
     ProgramRefused {
         line: u32,
         cause: LoadCause,
+    },
+    /// The oracle file's text is refused, for this cause in this line, counted from 1.
+    OracleRefused {
+        line: u32,
+        cause: OracleCause,
     },
     /// A file has more bytes than are read; the length is one more than those.
     FileTooLong {

@@ -2,17 +2,18 @@
 
 ghost use Rattle.std.specs.Prelude.{◌≡◌, ◌++◌, OnOk, OnErr, IfOk, Some, codes};
 ghost use Rattle.std.specs.Fmt.{decimal};
-ghost use Rattle.apd_text.specs.Causes.{indicator, cause_text};
+ghost use Rattle.apd_text.specs.Causes.{indicator, cause_text, oracle_cause_name};
 ghost use Rattle.apd_text.specs.Entries.{text_of, refusal_text, in_line, usage};
 
-use crate::causes::{add_cause, add_indicator};
+use crate::causes::{add_cause, add_indicator, oracle_cause_name};
 use crate::dialogue::{bad_reply, question, replied, symptom, unanswered};
 use crate::entry::{Entry, Refusal};
+use crate::filter::trace_set;
 use crate::finding::{all_descend, demo, found};
 use crate::line::add_number;
 use crate::refusal::refusal_text;
 use apd_base::Text;
-use apd_causes::LoadCause;
+use apd_causes::{LoadCause, OracleCause};
 use apd_ops::Ops;
 use apd_term::Pred;
 use apd_term::names::Names;
@@ -102,6 +103,17 @@ fn program_refused(
     Ok(text)
 }
 
+/// The line that tells where and why an oracle file is refused.
+fn oracle_refused(alloc: Global, line: u32, cause: OracleCause) -> Result<Text, AllocError>
+    ensures { IfOk result (λ t. t ≡ codes "oracle refused: " ++ in_line (Some line) ++ oracle_cause_name cause ++ codes "\n") }
+{
+    let mut text = Text::copy_of(alloc, b"oracle refused: ")?;
+    add_line(alloc, line, &mut text)?;
+    text.extend(oracle_cause_name(cause))?;
+    text.extend(b"\n")?;
+    Ok(text)
+}
+
 /// The text of an entry by itself.
 #[tactic(auto, unfolding(crate::specs::Entries::text_of, crate::specs::Entries::usage))]
 fn entry_text(alloc: Global, entry: &Entry, names: &Names, ops: &Ops) -> Result<Text, AllocError>
@@ -112,6 +124,7 @@ fn entry_text(alloc: Global, entry: &Entry, names: &Names, ops: &Ops) -> Result<
         Entry::Warning { line, pred } => warning(alloc, names, *line, *pred),
         Entry::Loaded { clauses } => loaded(alloc, *clauses),
         Entry::OracleLoaded { statements } => oracle_loaded(alloc, *statements),
+        Entry::TraceSet { filter } => trace_set(alloc, names, ops, filter),
         Entry::Run { .. } => Ok(Text::new(alloc)),
         Entry::Symptom { what } => symptom(alloc, names, ops, what),
         Entry::Question { number, asked } => question(alloc, names, ops, *number, asked),
@@ -128,6 +141,7 @@ fn entry_text(alloc: Global, entry: &Entry, names: &Names, ops: &Ops) -> Result<
         } => demo(alloc, *nodes, *questions, *clause),
         Entry::UsageRefused => Text::copy_of(alloc, USAGE),
         Entry::ProgramRefused { line, cause } => program_refused(alloc, names, *line, *cause),
+        Entry::OracleRefused { line, cause } => oracle_refused(alloc, *line, *cause),
         Entry::FileTooLong { length: _ } => Text::copy_of(alloc, b"file too long\n"),
         Entry::InputFault => Text::copy_of(alloc, b"read fault\n"),
         Entry::InputOver => Text::copy_of(alloc, b"input limit\n"),

@@ -1,8 +1,5 @@
-use Rattle.std.proofs.Common.{◌≡◌, ◌∙◌, sym, subst}
-use Rattle.apd_divide.specs.Recorded.{tree}
-use Rattle.apd_talk.specs.Moment.{Moment, moment}
-use Rattle.apd_session.specs.Diagnosing.{Diagnoses, answered}
-use Rattle.apd_session.proofs.diagnosing.diagnose.Goals as goal
+use Rattle.std.proofs.Common.{◌∙◌, sym}
+use Rattle.apd_session.proofs.missing.diagnose.Goals as goal
 
 pub returns : goal.returns
 returns g c =

@@ -1,9 +1,14 @@
 use Rattle.apd_answers.specs.Going.{at}
 use Rattle.apd_debug.proofs.Asking.{keeps_dialogue}
+use Rattle.apd_debug.specs.NamedTrees.{IsKnownTree}
+use Rattle.apd_debug.proofs.KnownTrees.{wrong-keeps}
 use Rattle.apd_divide.specs.Recorded.{tree}
+use Rattle.apd_symptoms.specs.Symptoms.{line_found}
+use Rattle.apd_text.specs.declared.entry.Entry.TheVariants.{Found}
 use Rattle.apd_wrong.specs.Wrong.{wrong}
-use Rattle.apd_session.proofs.Dialogues.{diagnoses}
-use Rattle.apd_session.proofs.diagnosing.diagnose_over.Goals as goal
+use Rattle.apd_session.specs.Steps.{by_wrong}
+use Rattle.apd_session.proofs.Dialogues.{diagnoses, hears_wrong}
+use Rattle.apd_session.proofs.wrong.diagnose_over.Goals as goal
 
 pub returns-clause-console : goal.returns-clause-console
 returns-clause-console g c = (keeps_dialogue g.S.Source g.K.Sink (wrong c.args.strategy) (at c.args.replies.now (tree c.args.history.now c.args.exit.0 c.args.label.now) c.args.dialogue.now) c.diagnose_wrong.new.answers c.diagnose_wrong.new.oracle c.diagnose_wrong.result c.diagnose_wrong.ensures.reached).same.console
@@ -19,5 +24,5 @@ returns-clause-log g c = (keeps_dialogue g.S.Source g.K.Sink (wrong c.args.strat
 
 pub returns-clause-diagnoses : goal.returns-clause-diagnoses
 returns-clause-diagnoses g c =
-    diagnoses g.S.Source g.K.Sink c.args.strategy (tree c.args.history.now c.args.exit.0 c.args.label.now) c.args.replies.now c.diagnose_wrong.new.answers c.args.dialogue.now c.diagnose_wrong.new.oracle c.diagnose_wrong.result c.diagnose_wrong.ensures.reached
-    (c.args.dialogue.now.standard, c.requires.named) c.requires.sound
+    diagnoses by_wrong hears_wrong (wrong c.args.strategy) IsKnownTree (λ s. wrong-keeps c.args.strategy (line_found s.program)) g.S.Source g.K.Sink (tree c.args.history.now c.args.exit.0 c.args.label.now) c.args.replies.now c.diagnose_wrong.new.answers c.args.dialogue.now c.diagnose_wrong.new.oracle
+    c.diagnose_wrong.result c.diagnose_wrong.ensures.reached (c.args.dialogue.now.standard, c.requires.named) c.requires.replies c.requires.sound (λ f. Found f 0) (wrong-keeps c.args.strategy (λ f. 0))

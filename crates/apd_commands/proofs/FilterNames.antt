@@ -1,0 +1,93 @@
+-- The names of a filter that a term tells.
+use Rattle.std.proofs.Common.{◌≡◌, ℕ, ◌<◌, Bool, true, false, ◌==◌, List, [], ◌∷◌, Option, None, Some, if◌then◌else◌, refl, subst}
+use Rattle.std.specs.Option.{option_map}
+use Rattle.apd_term.specs.Named.{AreNamed, IsNamed}
+use Rattle.apd_term.specs.Term.{Term, Terms, variable, integer, compound, none, more}
+use Rattle.apd_term.specs.declared.standard.TheConstants.{ALL, CELL, DIVIDE, LEAP, NIL, OFF, SKIP}
+use Rattle.apd_term.specs.declared.term.NameId.{NameId}
+use Rattle.apd_term.specs.declared.term.Pred.{Pred}
+use Rattle.apd_ports.specs.declared.filter.Filter.{Filter}
+use Rattle.apd_ports.specs.declared.filter.Filter.TheVariants.{Off, All, Leap, Skip}
+use Rattle.apd_text.specs.FilterTerms.{FilterIsNamed, PredsAreNamed}
+use Rattle.apd_commands.specs.Filters.{arity_from, box_from, filter_at, filter_from, indicated, listed_predicates, name_alone, onto_predicates, predicate_from, predicates_of_list}
+
+abbrev IfKnown : ℕ → Option Pred → Type 0
+IfKnown n None = Unit {0}
+IfKnown n (Some p) = p.name.0 < n
+
+indicated_known : (n : ℕ) (a : Term) (arity : Option ℕ) (p : Pred) → IsNamed n a → indicated (name_alone a) arity ≡ Some p → p.name.0 < n
+indicated_known n (variable v) arity p named e = absurd (cc)
+indicated_known n (integer i) arity p named e = absurd (cc)
+indicated_known n (compound f (more t ts)) arity p named e = absurd (cc)
+indicated_known n (compound f none) None p named e = absurd (cc)
+indicated_known n (compound f none) (Some k) p named e = subst (IfKnown n) e named.0
+
+predicate_known : (n : ℕ) (t : Term) (p : Pred) → IsNamed n t → predicate_from t ≡ Some p → p.name.0 < n
+predicate_known n (variable v) p named e = absurd (cc)
+predicate_known n (integer i) p named e = absurd (cc)
+predicate_known n (compound f none) p named e = absurd (cc)
+predicate_known n (compound f (more a none)) p named e = absurd (cc)
+predicate_known n (compound f (more a (more b none))) p named e = either (f.0 == DIVIDE.0) e
+  where
+    either : (c : Bool) → (if c then indicated (name_alone a) (arity_from b) else None) ≡ Some p → p.name.0 < n
+    either true e = indicated_known n a (arity_from b) p named.1.0 e
+    either false e = absurd (cc)
+predicate_known n (compound f (more a (more b (more c ts)))) p named e = absurd (cc)
+
+onto_known : (n : ℕ) (o : Option Pred) (os : Option (List Pred)) (ps : List Pred) → ((p : Pred) → o ≡ Some p → p.name.0 < n) → ((qs : List Pred) → os ≡ Some qs → PredsAreNamed n qs) →
+    onto_predicates o os ≡ Some ps → PredsAreNamed n ps
+onto_known n None os ps first others e = absurd (cc)
+onto_known n (Some p) None ps first others e = absurd (cc)
+onto_known n (Some p) (Some qs) ps first others e = let same : p ∷ qs ≡ ps = cc in subst (PredsAreNamed n) same (first p refl, others qs refl)
+
+mutual
+  listed_known : (n : ℕ) (t : Term) (ps : List Pred) → IsNamed n t → listed_predicates t ≡ Some ps → PredsAreNamed n ps
+  listed_known n (variable v) ps named e = absurd (cc)
+  listed_known n (integer i) ps named e = absurd (cc)
+  listed_known n (compound f ts) ps named e = known_in n f ts ps named.1 e
+
+  known_in : (n : ℕ) (f : NameId) (ts : Terms) (ps : List Pred) → AreNamed n ts → predicates_of_list f ts ≡ Some ps → PredsAreNamed n ps
+  known_in n f none ps named e = either (f.0 == NIL.0) e
+    where
+      either : (c : Bool) → ◌≡◌ {A = Option (List Pred)} (if c then Some [] else None) (Some ps) → PredsAreNamed n ps
+      either true e = let same : [] ≡ ps = cc in subst (PredsAreNamed n) same tt
+      either false e = absurd (cc)
+  known_in n f (more t none) ps named e = absurd (cc)
+  known_in n f (more t (more u none)) ps named e = either (f.0 == CELL.0) e (listed_known n u)
+    where
+      either : (c : Bool) → (if c then onto_predicates (predicate_from t) (listed_predicates u) else None) ≡ Some ps → ((qs : List Pred) → IsNamed n u → listed_predicates u ≡ Some qs → PredsAreNamed n qs) → PredsAreNamed n ps
+      either true e others = onto_known n (predicate_from t) (listed_predicates u) ps (λ p is. predicate_known n t p named.0 is) (λ qs is. others qs named.1.0 is) e
+      either false e others = absurd (cc)
+  known_in n f (more t (more u (more v ts))) ps named e = absurd (cc)
+
+leap_known : (n : ℕ) (o : Option (List Pred)) (f : Filter) → ((ps : List Pred) → o ≡ Some ps → PredsAreNamed n ps) → option_map Leap o ≡ Some f → FilterIsNamed n f
+leap_known n None f known e = absurd (cc)
+leap_known n (Some ps) f known e = let same : Leap ps ≡ f = cc in subst (FilterIsNamed n) same (known ps refl)
+
+skip_known : (n : ℕ) (o : Option ℕ) (f : Filter) → option_map Skip o ≡ Some f → FilterIsNamed n f
+skip_known n None f e = absurd (cc)
+skip_known n (Some b) f e = let same : Skip b ≡ f = cc in subst (FilterIsNamed n) same tt
+
+plain_known : (n : ℕ) (a b : Bool) (f : Filter) → (if a then Some Off else (if b then Some All else None)) ≡ Some f → FilterIsNamed n f
+plain_known n true b f e = let same : Off ≡ f = cc in subst (FilterIsNamed n) same tt
+plain_known n false true f e = let same : All ≡ f = cc in subst (FilterIsNamed n) same tt
+plain_known n false false f e = absurd (cc)
+
+told_known : (n : ℕ) (t : Term) (f : Filter) → IsNamed n t → filter_from t ≡ Some f → FilterIsNamed n f
+told_known n (variable v) f named e = absurd (cc)
+told_known n (integer i) f named e = absurd (cc)
+told_known n (compound g none) f named e = plain_known n (g.0 == OFF.0) (g.0 == ALL.0) f e
+told_known n (compound g (more t none)) f named e = either (g.0 == LEAP.0) (g.0 == SKIP.0) e
+  where
+    either : (a b : Bool) → (if a then option_map Leap (listed_predicates t) else (if b then option_map Skip (box_from t) else None)) ≡ Some f → FilterIsNamed n f
+    either true b e = leap_known n (listed_predicates t) f (λ ps is. listed_known n t ps named.1.0 is) e
+    either false true e = skip_known n (box_from t) f e
+    either false false e = absurd (cc)
+told_known n (compound g (more t (more u ts))) f named e = absurd (cc)
+
+-- the names of the filter are those of its term
+pub filter_known : (n : ℕ) (t : Term) (f : Filter) → IsNamed n t → filter_at t ≡ Some f → FilterIsNamed n f
+filter_known n (variable v) f named e = absurd (cc)
+filter_known n (integer i) f named e = absurd (cc)
+filter_known n (compound g none) f named e = absurd (cc)
+filter_known n (compound g (more t ts)) f named e = told_known n t f named.1.0 e

@@ -1,0 +1,79 @@
+-- The filter that the argument of `trace(F)` tells.
+use Rattle.std.specs.Prelude.{ℕ, pos, ◌==◌, ◌&&◌, nat_le, List, [], ◌∷◌, slice_get, Option, None, Some, if◌then◌else◌}
+use Rattle.std.specs.Option.{option_map, option_and_then}
+use Rattle.apd_term.specs.Term.{Term, Terms, variable, integer, compound, none, more, arguments}
+use Rattle.apd_term.specs.declared.term.NameId.{NameId}
+use Rattle.apd_term.specs.declared.term.Pred.{Pred}
+use Rattle.apd_term.specs.declared.standard.TheConstants.{ALL, CELL, DIVIDE, LEAP, NIL, OFF, SKIP}
+use Rattle.apd_ports.specs.declared.filter.Filter.{Filter}
+use Rattle.apd_ports.specs.declared.filter.Filter.TheVariants.{Off, All, Leap, Skip}
+use Rattle.apd_text.specs.declared.entry.Refusal.TheVariants as refusal
+use Rattle.apd_commands.specs.declared.commands.Command.{Command}
+use Rattle.apd_commands.specs.declared.commands.Command.TheVariants as command
+
+-- the name that an atom without arguments is
+abbrev pub name_alone : Term → Option NameId
+name_alone (compound f none) = Some f
+name_alone t = None
+
+-- a number of arguments: an integer from 0 to 255
+abbrev pub arity_from : Term → Option ℕ
+arity_from (integer (pos n)) = if nat_le n 255 then Some n else None
+arity_from t = None
+
+abbrev pub indicated : Option NameId → Option ℕ → Option Pred
+indicated None arity = None
+indicated (Some f) arity = option_map (λ n. record { name = f; arity = n }) arity
+
+-- the predicate of a term `Name/Arity`
+abbrev pub predicate_from : Term → Option Pred
+predicate_from (compound f (more a (more b none))) = if f.0 == DIVIDE.0 then indicated (name_alone a) (arity_from b) else None
+predicate_from t = None
+
+-- a predicate before further ones
+abbrev pub onto_predicates : Option Pred → Option (List Pred) → Option (List Pred)
+onto_predicates None preds = None
+onto_predicates (Some p) preds = option_map (λ ps. p ∷ ps) preds
+
+-- the predicates that are the elements of a list, where all elements are predicates and the list ends in []
+abbrev mutual
+  pub listed_predicates : Term → Option (List Pred)
+  listed_predicates (variable v) = None
+  listed_predicates (integer i) = None
+  listed_predicates (compound f ts) = predicates_of_list f ts
+
+  pub predicates_of_list : NameId → Terms → Option (List Pred)
+  predicates_of_list f none = if f.0 == NIL.0 then Some [] else None
+  predicates_of_list f (more t none) = None
+  predicates_of_list f (more t (more u none)) = if f.0 == CELL.0 then onto_predicates (predicate_from t) (listed_predicates u) else None
+  predicates_of_list f (more t (more u (more v ts))) = None
+
+-- a box: an integer from 1 to 4,294,967,295
+abbrev pub box_from : Term → Option ℕ
+box_from (integer (pos n)) = if nat_le 1 n && nat_le n 4294967295 then Some n else None
+box_from t = None
+
+-- the filter that a name without arguments is
+abbrev pub filter_named : NameId → Option Filter
+filter_named f = if f.0 == OFF.0 then Some Off else (if f.0 == ALL.0 then Some All else None)
+
+-- the filter that a name with one argument is
+abbrev pub filter_of : NameId → Term → Option Filter
+filter_of f t =
+    if f.0 == LEAP.0 then option_map Leap (listed_predicates t)
+    else (if f.0 == SKIP.0 then option_map Skip (box_from t) else None)
+
+-- the filter that a term tells: `off`, `all`, `leap` of a list of predicates, or `skip` of a box
+abbrev pub filter_from : Term → Option Filter
+filter_from (compound f none) = filter_named f
+filter_from (compound f (more t none)) = filter_of f t
+filter_from t = None
+
+-- what a term `trace(F)` asks for, by the filter that F tells
+abbrev pub trace_asked : Option Filter → Command
+trace_asked (Some f) = command.Trace f
+trace_asked None = command.Refused refusal.NotACommand
+
+-- the filter that the first argument of a term tells
+abbrev pub filter_at : Term → Option Filter
+filter_at t = option_and_then filter_from (slice_get (arguments t) 0)

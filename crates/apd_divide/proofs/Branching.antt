@@ -1,10 +1,10 @@
 -- Judging makes no node have more children.
-use Rattle.std.proofs.Common.{◌≡◌, ◌⊎◌, inl, inr, ℕ, ◌+◌, ◌≤◌, max, Bool, true, false, Option, Some, None, refl, sym, ◌∙◌, ap, subst, arith}
+use Rattle.std.proofs.Common.{◌≡◌, ℕ, ◌+◌, ◌≤◌, max, Bool, true, false, Some, refl, ap, subst, arith}
 use Rattle.apd_divide.specs.Tree.{Tree, Forest, node, bare, beside, cleared, width, branching, branchings}
 use Rattle.apd_divide.specs.declared.node.Strategy.{Strategy}
 use Rattle.apd_divide.specs.Tree.{suspects}
-use Rattle.apd_divide.specs.Choice.{Cut, Among, Way, at_node, in_front_of, behind, here, cut, cut_among, way_of, choice, judged}
-use Rattle.apd_divide.proofs.Weights.{map_some, Found, stopped, down, along, found}
+use Rattle.apd_divide.specs.Choice.{Cut, Among, Way, at_node, cut, cut_among, way_of, choice, judged}
+use Rattle.apd_divide.proofs.Weights.{map_some, stopped, down, along, found}
 
 -- no more children at the chosen node and below, and as many in the rest
 pub record Branches (b c r : ℕ) : Type 0 where

@@ -1,19 +1,19 @@
 -- Of the root and its rows: what is chosen there, and how many children a node has.
-use Rattle.std.proofs.Common.{◌≡◌, ℕ, suc, ◌+◌, ◌-◌, ◌*◌, ◌<◌, ◌≤◌, max, Bool, true, List, [], ◌∷◌, ◌++◌, length, get_or, take, drop, Option, Some, None, refl, sym, ◌∙◌, ap, subst, arith}
-use Rattle.std.specs.Prelude.{nat_lt, IsSome, IfSome}
+use Rattle.std.proofs.Common.{◌≡◌, ℕ, suc, ◌+◌, ◌-◌, ◌≤◌, max, List, [], ◌∷◌, ◌++◌, length, get_or, take, drop, Option, Some, None, refl, sym, ◌∙◌, ap, subst, arith}
+use Rattle.std.specs.Prelude.{IsSome, IfSome}
 use Rattle.std.specs.Option.{option_map}
-use Rattle.std.proofs.lemmas.List.{take_at, drop_at, drop-drop, length-append, length-drop, take-append-drop}
+use Rattle.std.proofs.lemmas.List.{take_at, drop-drop, length-append, length-drop, take-append-drop}
 use Rattle.apd_divide.specs.declared.node.Row.{Row}
 use Rattle.apd_divide.specs.declared.node.Strategy.{Strategy}
 use Rattle.apd_divide.specs.declared.node.Strategy.TheVariants.{Divide}
-use Rattle.apd_divide.specs.Tree.{Tree, Forest, node, bare, beside, cleared, weights, suspects, children, width, branching, branchings}
-use Rattle.apd_divide.specs.Choice.{Cut, Among, Way, cut, way_of, choice, judged, IsChoiceAt}
+use Rattle.apd_divide.specs.Tree.{Tree, Forest, node, bare, beside, suspects, children, width, branching, branchings}
+use Rattle.apd_divide.specs.Choice.{Cut, Among, Way, way_of, choice, IsChoiceAt}
 use Rattle.apd_divide.specs.Rows.{rows, rows_of, cut_number, among_number, way_number, number_among, nodes, nodes_of, broadest}
 use Rattle.apd_divide.specs.Kept.{Kept, tree_of, cut_of, IsKept, replaced, forest_from, LeavesFraction}
 use Rattle.apd_divide.proofs.Weights.{way-takes, choice-some, choice-fraction}
 use Rattle.apd_divide.proofs.Branching.{branching-cleared}
 use Rattle.apd_divide.proofs.Rows.{length-rows, length-rows_of, one_node}
-use Rattle.apd_divide.proofs.Numbers.{Numbered, first, below, later, numbered, cut_below, cut_number-leaves, among_number-leaves, way_number-is, is_less, weight-open}
+use Rattle.apd_divide.proofs.Numbers.{first, below, later, numbered, cut_below, cut_number-leaves, among_number-leaves, way_number-is, is_less, weight-open}
 use Rattle.apd_divide.proofs.Seeking.{forest-of}
 use Rattle.apd_divide.proofs.Kept.{own_row, own-weight, own-span, at_root, Placed, replaced-is}
 

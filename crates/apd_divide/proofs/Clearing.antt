@@ -1,20 +1,20 @@
 -- Judging a node true: the rows of the nodes above it get their new weights one after another.
-use Rattle.std.proofs.Common.{◌≡◌, ℕ, true, suc, ◌+◌, ◌-◌, ◌<◌, ◌≤◌, List, [], ◌∷◌, ◌++◌, length, get_or, take, set, Option, Some, None, refl, sym, ◌∙◌, ap, subst, arith, append_assoc}
-use Rattle.std.specs.Prelude.{nat_lt, IsSome, IfSome}
+use Rattle.std.proofs.Common.{◌≡◌, ℕ, true, ◌+◌, ◌-◌, ◌<◌, ◌≤◌, List, [], ◌∷◌, ◌++◌, length, get_or, take, set, Some, refl, sym, ◌∙◌, ap, subst, arith, append_assoc}
+use Rattle.std.specs.Prelude.{IsSome, IfSome}
 use Rattle.std.specs.Option.{option_map}
 use Rattle.std.proofs.lemmas.List.{set_at, length-append, take-append-drop, append-nil}
 use Rattle.apd_divide.specs.declared.node.Row.{Row}
 use Rattle.apd_divide.specs.declared.node.Standing.{Standing}
 use Rattle.apd_divide.specs.declared.node.Standing.TheVariants.{Open, Cleared}
 use Rattle.apd_term.specs.declared.tuple.Tuple.{Tuple}
-use Rattle.apd_divide.specs.Tree.{Tree, Forest, node, bare, beside, standing, cleared, weight, weight_by, weights, width, suspects, children}
+use Rattle.apd_divide.specs.Tree.{Tree, Forest, node, bare, beside, standing, weight, weight_by, weights, width, children}
 use Rattle.apd_divide.specs.Choice.{Cut, Among, at_node, in_front_of, behind, here, has_suspects}
-use Rattle.apd_divide.specs.Rows.{row, rows, rows_of, cut_number, among_number, nodes, nodes_of, Stands}
+use Rattle.apd_divide.specs.Rows.{row, rows, rows_of, cut_number, among_number, nodes, nodes_of}
 use Rattle.apd_divide.specs.Kept.{Kept, tree_of, cut_of, IsKept, replaced}
 use Rattle.apd_divide.proofs.Weights.{le_is}
 use Rattle.apd_divide.proofs.Rows.{length-rows, one_node}
-use Rattle.apd_divide.proofs.Numbers.{Numbered, first, below, later, numbered, cut_below, cut_number-stands, cut_number-leaves, among_number-leaves, open-weight, weight-open, is_less, not_zero}
-use Rattle.apd_divide.proofs.Kept.{own_row, At, at_place, with_own, own-weight, Placed, chosen_at, if_chosen, front_length, replaced-is}
+use Rattle.apd_divide.proofs.Numbers.{first, below, later, numbered, cut_below, cut_number-stands, cut_number-leaves, among_number-leaves, open-weight, weight-open, is_less, not_zero}
+use Rattle.apd_divide.proofs.Kept.{own_row, at_place, with_own, own-weight, Placed, chosen_at, if_chosen, front_length, replaced-is}
 
 -- the rows so far, and those that are wanted: from a place on they are of trees, among which the node is
 pub record Clears (target rs : List Row) (at n w : ℕ) : Type 0 where

@@ -2,7 +2,7 @@
 use Rattle.std.proofs.Common.{◌≡◌, ℕ, Bool, true, false, List, length, refl, sym, subst}
 use Rattle.std.specs.Prelude.{IsSome, IfSome}
 use Rattle.apd_divide.specs.declared.node.Row.{Row}
-use Rattle.apd_divide.specs.Choice.{Cut, judged}
+use Rattle.apd_divide.specs.Choice.{judged}
 use Rattle.apd_divide.specs.Rows.{broadest}
 use Rattle.apd_divide.specs.Kept.{Kept, tree_of, cut_of, IsKept, replaced}
 use Rattle.apd_divide.proofs.Numbers.{cut_number-leaves}

@@ -1,13 +1,12 @@
 -- What a node's place tells of the rows, and what judging does to them.
-use Rattle.std.proofs.Common.{◌≡◌, ℕ, suc, ◌+◌, ◌-◌, ◌<◌, ◌≤◌, ◌^◌, true, List, [], ◌∷◌, ◌++◌, length, get_or, take, drop, set, Option, Some, None, refl, sym, ◌∙◌, ap, subst, arith, append_assoc}
+use Rattle.std.proofs.Common.{◌≡◌, ℕ, suc, ◌+◌, ◌-◌, ◌<◌, ◌≤◌, ◌^◌, List, ◌∷◌, ◌++◌, length, get_or, take, drop, Option, Some, None, refl, sym, ◌∙◌, ap, subst, arith, append_assoc}
 use Rattle.std.specs.Prelude.{nat_lt, IsSome, IfSome, slice_get}
 use Rattle.std.proofs.lemmas.Option.{get_or_from_slice_get}
-use Rattle.std.proofs.lemmas.List.{drop_at, take_at, get_or_at, drop-drop, drop_more, length-append, length-drop, length-take-le, take-append-drop, append-nil}
+use Rattle.std.proofs.lemmas.List.{drop_at, get_or_at, drop-drop, drop_more, length-append, length-drop, length-take-le, take-append-drop}
 use Rattle.apd_divide.specs.declared.node.Row.{Row}
-use Rattle.apd_divide.specs.declared.node.Standing.TheVariants.{Open, Cleared}
 use Rattle.apd_divide.specs.Tree.{Tree, Forest, node, bare, beside, standing, cleared, instance, label, weight, suspects, children}
 use Rattle.apd_divide.specs.Choice.{Cut}
-use Rattle.apd_divide.specs.Rows.{row, rows, rows_of, read_rows, cut_number, nodes, nodes_of}
+use Rattle.apd_divide.specs.Rows.{row, rows, rows_of, read_rows, cut_number, nodes}
 use Rattle.apd_divide.specs.Kept.{Kept, tree_of, cut_of, IsKept, first_tree, replaced}
 use Rattle.apd_divide.proofs.Weights.{by_test}
 use Rattle.apd_divide.proofs.Rows.{read_rows-rows, length-rows}

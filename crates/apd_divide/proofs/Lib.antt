@@ -9,6 +9,7 @@ pub mod Branching
 pub mod Choosing
 pub mod Judged
 pub mod Heads
+pub mod Ground
 pub mod Matched
 pub mod Solved
 pub mod Grown

@@ -1,18 +1,18 @@
 -- Walks to the first light tree on the way to the heaviest ones, and the greatest weight.
-use Rattle.std.proofs.Common.{◌≡◌, ℕ, suc, ◌+◌, ◌-◌, ◌<◌, ◌≤◌, max, Bool, true, false, List, [], ◌∷◌, ◌++◌, length, get_or, take, drop, Option, Some, None, refl, sym, ◌∙◌, ap, subst, arith, append_assoc}
-use Rattle.std.specs.Prelude.{nat_le, ◌&&◌, ◌==◌}
+use Rattle.std.proofs.Common.{◌≡◌, ℕ, ◌+◌, ◌-◌, ◌<◌, ◌≤◌, max, true, false, List, [], ◌++◌, length, get_or, take, drop, Some, refl, sym, ◌∙◌, ap, subst, arith, append_assoc}
+use Rattle.std.specs.Prelude.{nat_le}
 use Rattle.std.specs.Option.{option_map}
-use Rattle.std.proofs.lemmas.List.{drop_at, take_at, drop-drop, length-append, length-drop, append-nil}
+use Rattle.std.proofs.lemmas.List.{drop_at, drop-drop, length-append, length-drop}
 use Rattle.std.proofs.lemmas.Bool.Decides.{nat_tests}
 use Rattle.apd_divide.specs.declared.node.Row.{Row}
-use Rattle.apd_divide.specs.Tree.{Tree, Forest, node, bare, beside, weight, weights, suspects, heaviest, children}
-use Rattle.apd_divide.specs.Choice.{Way, halving, stepping, top_down, to_heaviest, has_suspects}
-use Rattle.apd_divide.specs.Rows.{rows, rows_of, read_rows, forest_of, list_of, nodes, nodes_of, way_number, number_among}
+use Rattle.apd_divide.specs.Tree.{Tree, Forest, bare, beside, weight, weights, suspects, heaviest, children}
+use Rattle.apd_divide.specs.Choice.{halving, to_heaviest}
+use Rattle.apd_divide.specs.Rows.{rows, rows_of, nodes, number_among}
 use Rattle.apd_divide.specs.Kept.{forest_from}
-use Rattle.apd_divide.proofs.Weights.{by_test, map_some, le_true, le_false, le_is, weight-open, halving-takes, heaviest_weights}
-use Rattle.apd_divide.proofs.Rows.{read_rows-rows_of, forest-list, length-rows, length-rows_of, one_node}
-use Rattle.apd_divide.proofs.Kept.{own_row, own-weight, own-span, At, at_drop, with_own}
-use Rattle.apd_divide.proofs.Seeking.{forest-from, Seeks, SeeksAt, seeks_at, seeks_within, passed, more_at}
+use Rattle.apd_divide.proofs.Weights.{by_test, map_some, le_is, weight-open, halving-takes}
+use Rattle.apd_divide.proofs.Rows.{length-rows, one_node}
+use Rattle.apd_divide.proofs.Kept.{own_row, own-weight, own-span, at_drop, with_own}
+use Rattle.apd_divide.proofs.Seeking.{Seeks, seeks_at, passed, more_at}
 
 -- the first of the heaviest trees
 record HeaviestAt (most : ℕ) (f : Forest) (k : ℕ) : Type 0 where

@@ -1,6 +1,6 @@
 -- Nodes by their numbers: the node at which a way stops, where its rows stand, and what is left once it is cleared.
-use Rattle.std.proofs.Common.{◌≡◌, ℕ, suc, ◌+◌, ◌-◌, ◌<◌, ◌≤◌, Bool, true, false, List, [], ◌∷◌, ◌++◌, length, Option, Some, None, refl, sym, ◌∙◌, ap, subst, arith, append_assoc}
-use Rattle.std.specs.Prelude.{◌==◌, nat_lt, nat_le}
+use Rattle.std.proofs.Common.{◌≡◌, ℕ, suc, ◌+◌, ◌-◌, ◌<◌, ◌≤◌, true, false, List, [], ◌∷◌, ◌++◌, length, Some, None, refl, sym, ◌∙◌, ap, subst, arith, append_assoc}
+use Rattle.std.specs.Prelude.{◌==◌, nat_lt}
 use Rattle.std.specs.Option.{option_map}
 use Rattle.std.proofs.lemmas.List.{length-append}
 use Rattle.std.proofs.lemmas.Bool.Decides.{nat_tests}
@@ -12,7 +12,7 @@ use Rattle.apd_divide.specs.Tree.{Tree, Forest, node, bare, beside, standing, wi
 use Rattle.apd_divide.specs.Choice.{Cut, Among, Way, at_node, in_front_of, behind, here, has_suspects, cut, cut_among}
 use Rattle.apd_divide.specs.Rows.{row, rows, rows_of, nodes, nodes_of, cut_number, among_number, way_number, number_among, Stands}
 use Rattle.apd_divide.proofs.Weights.{by_test, map_some, le_true, le_is, TakesSuspects, weight-cleared}
-use Rattle.apd_divide.proofs.Rows.{length-rows, length-rows_of, one_node}
+use Rattle.apd_divide.proofs.Rows.{length-rows, one_node}
 
 pub zero_is : (k : ℕ) → (k == 0) ≡ true → k ≡ 0
 zero_is k e = grind (arith, nat_tests)

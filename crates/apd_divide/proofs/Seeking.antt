@@ -1,17 +1,17 @@
 -- Walks over rows that look for the node at which a way stops.
-use Rattle.std.proofs.Common.{◌≡◌, ℕ, suc, ◌+◌, ◌-◌, ◌<◌, ◌≤◌, max, Bool, true, false, List, [], ◌∷◌, ◌++◌, length, get_or, take, drop, Option, Some, None, refl, sym, ◌∙◌, ap, subst, arith, append_assoc}
-use Rattle.std.specs.Prelude.{nat_le, ◌&&◌, ◌==◌}
+use Rattle.std.proofs.Common.{◌≡◌, ℕ, suc, ◌+◌, ◌-◌, ◌<◌, ◌≤◌, max, true, false, List, [], ◌∷◌, ◌++◌, length, get_or, take, drop, Some, refl, sym, ◌∙◌, ap, subst, arith, append_assoc}
+use Rattle.std.specs.Prelude.{nat_le, ◌==◌}
 use Rattle.std.specs.Option.{option_map}
 use Rattle.std.proofs.lemmas.List.{drop_at, take_at, drop-drop, length-append, length-drop, append-nil}
 use Rattle.std.proofs.lemmas.Bool.Decides.{nat_tests}
 use Rattle.apd_divide.specs.declared.node.Row.{Row}
 use Rattle.apd_divide.specs.Tree.{Tree, Forest, node, bare, beside, weight, weights, suspects, heaviest, children}
-use Rattle.apd_divide.specs.Choice.{Way, halving, stepping, top_down, to_heaviest, has_suspects}
-use Rattle.apd_divide.specs.Rows.{rows, rows_of, read_rows, forest_of, list_of, nodes, nodes_of, way_number, number_among}
+use Rattle.apd_divide.specs.Choice.{Way, stepping, top_down, to_heaviest, has_suspects}
+use Rattle.apd_divide.specs.Rows.{rows, rows_of, read_rows, forest_of, list_of, nodes, nodes_of, number_among}
 use Rattle.apd_divide.specs.Kept.{forest_from}
-use Rattle.apd_divide.proofs.Weights.{by_test, map_some, le_true, le_false, le_is, weight-open, halving-takes, heaviest_weights}
+use Rattle.apd_divide.proofs.Weights.{by_test, le_true, le_false, le_is, weight-open, heaviest_weights}
 use Rattle.apd_divide.proofs.Rows.{read_rows-rows_of, forest-list, length-rows, length-rows_of, one_node}
-use Rattle.apd_divide.proofs.Kept.{own_row, own-weight, own-span, At, at_drop, with_own}
+use Rattle.apd_divide.proofs.Kept.{own_row, own-weight, own-span, at_drop, with_own}
 
 pub forest-from : (ts : Forest) → forest_from (rows_of ts) ≡ ts
 forest-from ts =

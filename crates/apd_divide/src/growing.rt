@@ -8,13 +8,13 @@ ghost use Rattle.apd_divide.specs.Recorded.{tree};
 ghost use Rattle.apd_divide.specs.Exits.{IsLabelled};
 ghost use Rattle.apd_divide.specs.Growing.{blank, blank_row, calls_at, calls_for, stacked};
 
+use crate::forms::canonical_form;
 use crate::instances::instance_with;
 use crate::node::{Row, Standing};
 use apd_arith::Builtin;
 use apd_ports::PointId;
 use apd_record::Record;
 use apd_term::Flat;
-use apd_term::canonical::canonical;
 use std::alloc::{AllocError, Global};
 
 /// The most nodes that a tree may have.
@@ -41,7 +41,7 @@ fn push_call(
     if Builtin::of_atom(atom).is_some() {
         return Ok(());
     }
-    let label = canonical(alloc, atom)?;
+    let label = canonical_form(alloc, atom)?;
     pending.push(Pending { exit, label })?;
     Ok(())
 }
@@ -84,7 +84,7 @@ fn grow(
     ensures pending { OnOk result (pending.new.items ≡ pending.old.items ++ stacked (calls_at recorded.now next.now.exit.0 next.now.label)) }
 {
     let general = recorded.tuple(next.exit)?;
-    let tuple = instance_with(alloc, &general, &next.label)?;
+    let tuple = instance_with(alloc, general, &next.label)?;
     let before = pending.len();
     push_calls(alloc, recorded, next.exit, tuple.body.as_slice(), pending)?;
     let calls = pending.len() - before;
@@ -118,7 +118,7 @@ pub fn grown(
     let mut pending = Vec::new(alloc);
     pending.push(Pending {
         exit,
-        label: canonical(alloc, label)?,
+        label: canonical_form(alloc, label)?,
     })?;
     'calls: while let Some(next) = pending.pop() {
         if made.len() >= MOST_NODES {

@@ -1,6 +1,7 @@
 //! Suspects: the nodes of a proof tree of which one has an untrue label, and which of them to ask about.
 #![tactic(auto)]
 
+mod forms;
 mod growing;
 mod instances;
 pub mod laws;

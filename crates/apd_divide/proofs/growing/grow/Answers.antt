@@ -1,9 +1,8 @@
-use Rattle.std.proofs.Common.{◌≡◌, ◌+◌, ◌++◌, ◌∙◌, sym, ap, subst, length}
+use Rattle.std.proofs.Common.{◌+◌, ◌++◌, ◌∙◌, sym, ap, subst, length}
 use Rattle.apd_term.specs.Substitution.{IsInstance}
-use Rattle.apd_term.specs.Term.{Term}
 use Rattle.apd_term.specs.declared.tuple.Tuple.{Tuple}
 use Rattle.apd_ports.specs.declared.point.Point.{Point}
-use Rattle.apd_record.specs.Reading.{exits_to, point_of}
+use Rattle.apd_record.specs.Reading.{exits_to}
 use Rattle.apd_divide.specs.Recorded.{instance_with}
 use Rattle.apd_divide.specs.Growing.{calls_for, stacked}
 use Rattle.apd_divide.proofs.Grown.{row-made, exit_there, read_at, head_at, instance_done}

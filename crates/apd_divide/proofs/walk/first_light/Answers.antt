@@ -1,4 +1,4 @@
-use Rattle.std.proofs.Common.{◌≡◌, ◌+◌, ◌-◌, ◌<◌, ◌≤◌, refl, ap, sym, ◌∙◌, subst, arith}
+use Rattle.std.proofs.Common.{◌≡◌, ◌+◌, ◌≤◌, refl, ap, sym, ◌∙◌, subst, arith}
 use Rattle.apd_divide.specs.Choice.{halving, to_heaviest}
 use Rattle.apd_divide.specs.Kept.{forest_from}
 use Rattle.apd_divide.specs.Rows.{number_among}

@@ -1,4 +1,4 @@
-use Rattle.std.proofs.Common.{◌≡◌, ◌+◌, ◌<◌, ◌≤◌, arith}
+use Rattle.std.proofs.Common.{◌≡◌, ◌+◌, ◌≤◌, arith}
 use Rattle.apd_divide.specs.Choice.{top_down}
 use Rattle.apd_divide.specs.Kept.{forest_from}
 use Rattle.apd_divide.proofs.Seeking.{seeks_at, seeks_within, top-passes, top-ends}

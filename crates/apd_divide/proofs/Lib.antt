@@ -10,6 +10,7 @@ pub mod Choosing
 pub mod Judged
 pub mod Heads
 pub mod Ground
+pub mod Spelling
 pub mod Matched
 pub mod Solved
 pub mod Grown

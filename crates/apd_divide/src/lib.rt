@@ -7,8 +7,8 @@ mod instances;
 pub mod laws;
 pub mod node;
 mod spans;
+mod spelled;
 pub mod suspects;
-mod tuples;
 mod walk;
 
 pub use node::{NodeId, Row, Standing, Strategy};

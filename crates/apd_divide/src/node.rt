@@ -1,6 +1,6 @@
 //! What is known of a node, how it is kept, and how the next one is chosen.
 
-use apd_term::Tuple;
+use crate::spelled::Spelled;
 
 /// What is known of a node's label.
 #[derive(Clone, Copy, Debug, PartialEq, Eq)]
@@ -39,5 +39,5 @@ pub struct Row {
     pub standing: Standing,
     pub clause: u32,
     /// The clause's instance, in canonical form.
-    pub tuple: Tuple,
+    pub tuple: Spelled,
 }

@@ -13,7 +13,6 @@ ghost use Rattle.apd_divide.specs.Exits.{IsLabelled};
 use crate::growing::grown;
 use crate::node::{NodeId, Row, Standing, Strategy};
 use crate::spans::set_spans;
-use crate::tuples::copy_of_tuple;
 use crate::walk::chosen_place;
 use apd_ports::PointId;
 use apd_record::Record;
@@ -105,7 +104,7 @@ impl Suspects {
         ensures row { IfSome (slice_get self.now.rows node.0) (λ (r : Row). result.now ≡ r.tuple.head) }
         ensures suspect { IfSome (cut_of self.now node.0) (λ c. result.now ≡ label c.chosen) }
     {
-        &self.rows[node.0 as usize].tuple.head
+        self.rows[node.0 as usize].tuple.head()
     }
 
     /// How many suspects there are.
@@ -162,6 +161,6 @@ impl Suspects {
         ensures tuple { IfOk result (λ r. r.1 ≡ instance (tree_of self.now)) }
     {
         let row = &self.rows[self.root];
-        Ok((row.clause, copy_of_tuple(self.alloc, &row.tuple)?))
+        Ok((row.clause, row.tuple.tuple(self.alloc)?))
     }
 }

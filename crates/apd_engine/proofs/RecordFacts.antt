@@ -1,7 +1,6 @@
 -- What the record keeps of a run on the way.
-use Rattle.std.proofs.Common.{◌≡◌, ℕ, zero, suc, ◌+◌, ◌-◌, ◌*◌, ◌<◌, ◌≤◌, List, [], ◌∷◌, ◌++◌, length, length-append, refl, ap, subst, sym, ◌∙◌, arith, Option, Some, None, Result, Ok, Err, inl, inr}
+use Rattle.std.proofs.Common.{◌≡◌, ℕ, zero, suc, ◌+◌, ◌-◌, ◌<◌, ◌≤◌, List, [], ◌∷◌, length, length-append, refl, ap, subst, ◌∙◌, arith, Option, Some, None, Result, Err, inl, inr}
 use Rattle.std.proofs.Math.Nat.{sub-zero}
-use Rattle.std.specs.Prelude.{is_err, false, OnOk}
 use Rattle.apd_term.specs.Term.{Term}
 use Rattle.apd_causes.specs.declared.run.RunError.{RunError}
 use Rattle.apd_term.specs.declared.tuple.Tuple.{Tuple}
@@ -11,40 +10,29 @@ use Rattle.apd_ports.specs.declared.event.Port.TheVariants.{Call, Exit, Redo, Fa
 use Rattle.apd_ports.specs.declared.point.Point.{Point}
 use Rattle.apd_trace.specs.Frames.{query_frame}
 use Rattle.apd_trace.specs.Trace.{search_from, up_to_error}
-use Rattle.apd_trace.specs.Run.{Run, run_of, ran_of, query_run, before_event, pass, hold, shown_of, ports_of, answers_of}
-use Rattle.apd_ports.specs.Hook.{GoesThrough, StopsAt}
-use Rattle.apd_engine.specs.Cut.{IsCut, run_fault}
+use Rattle.apd_trace.specs.Run.{Run, run_of, ran_of, query_run, before_event, hold, shown_of, ports_of, answers_of}
+use Rattle.apd_ports.specs.Hook.{GoesThrough, GoesInto, StopsAt}
+use Rattle.apd_engine.specs.Cut.{IsCut, FailsAt, run_fault}
+use Rattle.apd_engine.specs.declared.running.RunFault.{RunFault}
+use Rattle.apd_engine.specs.declared.running.RunFault.TheVariants.{WriteFault, Memory}
 use Rattle.apd_trace.specs.declared.item.Item.{Item}
 use Rattle.apd_trace.specs.declared.item.Item.TheVariants.{Passed, Answer, Made, Error}
 use Rattle.apd_trace.proofs.Deeper.{run_of-up_to_error}
-use Rattle.apd_record.specs.Recorded.{Recorded, empty, query_point, opened as box_opened, called_row, with_point, noted, passed_at}
+use Rattle.apd_record.specs.Recorded.{Recorded, empty, query_point, called_row, noted, passed_at}
 use Rattle.apd_record.specs.declared.rows.BoxRow.{BoxRow}
-use Rattle.apd_engine.specs.Search.{rest, Gives, Ends, may_make, made_in}
-use Rattle.apd_recorded.specs.Told.{told_port, told, record_from, record_of}
-use Rattle.apd_engine.specs.Recording.{newest, MayPass, MayBeTold, MayBeToldAll, with_held, told_held, MayBeToldHeld, held_count}
+use Rattle.apd_engine.specs.Search.{rest, Gives, Ends, may_make}
+use Rattle.apd_recorded.specs.Told.{told_port, record_from, record_of}
+use Rattle.apd_engine.specs.Recording.{newest, MayPass, MayBeToldAll, with_held, told_held, MayBeToldHeld, held_count}
 use Rattle.apd_engine.specs.declared.search.Search.{Search}
 use Rattle.apd_engine.specs.declared.search.Mode.{Mode}
 use Rattle.apd_engine.specs.declared.search.Mode.TheVariants.{Forward, Hand, Leave, Back}
-use Rattle.apd_engine.proofs.RunFacts.{left, left_passed, left_answer, opened, first_rest, Showing, Completes, shown_of-hold, ports_of-hold, answers_of-hold}
+use Rattle.apd_engine.specs.Progress.{left, Showing, Completes, Keeping, opened}
+use Rattle.apd_engine.proofs.RunFacts.{memory_short, left_passed, left_answer, first_rest, shown_of-hold, ports_of-hold, answers_of-hold}
 use Rattle.apd_ports.specs.declared.hook.HookFault.{HookFault}
 use Rattle.apd_ports.specs.declared.hook.HookFault.TheVariants.{WriteFault as HookWriteFault, Memory as HookMemory}
 use Rattle.apd_ports.specs.declared.hook.Shown.{Shown}
 use Rattle.apd_ports.specs.declared.hook.Shown.TheVariants.{Port as ShownPort, Answer as ShownAnswer}
 use Rattle.apd_causes.specs.declared.run.RunEnd.TheVariants.{Budget}
-
--- what is left of the run completes the record, which may be told it
-pub record Keeping (P : List Tuple) (budget answers : ℕ) (all : Run) (ports answered : ℕ) (s : Search) (held : Option Point) (R : Recorded) : Type 0 where
-  pub may : MayBeToldAll R (with_held held (left P budget answers ports answered s).passed)
-  pub agrees : record_of all.passed ≡ record_from R (with_held held (left P budget answers ports answered s).passed)
-  pub lone : held_count held + may_make s.mode ≤ 1
-  pub points : length R.points + held_count held ≡ s.points
-  pub boxes : length R.boxes ≤ ports
-  pub begun : 0 < s.points
-
--- where there was memory
-pub on_ok_from : {T E : Type 0} (r : Result T E) {P : Type 0} → is_err r ≡ false → OnOk r P → P
-on_ok_from (Ok x) e h = h
-on_ok_from (Err x) e h = cc
 
 -- Points that are held back.
 
@@ -224,11 +212,6 @@ module _ (P : List Tuple) (budget answers : ℕ) (all : Run) (ports answered : �
   pub ends_at_budget : (new : Search) (e : Event) → length s.stack ≤ ports → ports ≡ budget → Gives P s.mode s.frames s.stack s.boxes s.points (Passed e) new → record_of all.passed ≡ R
   ends_at_budget new e height spent gives = let none : budget - ports ≡ zero = omega (arith, spent) in ends_with (rw (gives.items (budget + 1) (omega (arith, height, spent)), none) refl)
 
--- a run on the way, with its hook and its record
-pub record RunOn {H : Type 0} (step : H → Shown → Result (Unit {0}) HookFault → H → Type 0) (faults : H → ℕ) (start : H) (P : List Tuple) (budget answers : ℕ) (all : Run) (ports answered : ℕ) (s : Search) (hook : H) (held : Option Point) (R : Recorded) : Type 0 where
-  pub showing : Showing step faults start P budget answers all ports answered s hook
-  pub keeping : Keeping P budget answers all ports answered s held R
-
 module _ {H : Type 0} (step : H → Shown → Result (Unit {0}) HookFault → H → Type 0) (faults : H → ℕ) (start : H) (P : List Tuple) (budget answers : ℕ) (all : Run) (ports answered : ℕ) (s : Search) (hook : H) (was : Showing step faults start P budget answers all ports answered s hook) where
   -- a point is made: nothing is shown
   pub shows_point : (new : Search) (p : Point) → Gives P s.mode s.frames s.stack s.boxes s.points (Made p) new → Showing step faults start P budget answers all ports answered new hook
@@ -298,3 +281,16 @@ module _ {H : Type 0} (step : H → Shown → Result (Unit {0}) HookFault → H 
   answer_cut new a held R hook' fault kept gives shown =
       let xs = some_left P budget answers all ports answered s held R kept new a was.going.height was.going.within gives was.going.below in
       cuts (Answer a) (ShownAnswer a) xs.0 hook' fault xs.1 refl shown
+
+  -- whatever fault it was, at a port and at an answer
+  pub port_fails : (new : Search) (e : Event) (hook' : H) (f : RunFault) → ports < budget → Gives P s.mode s.frames s.stack s.boxes s.points (Passed e) new → FailsAt step hook (ShownPort e) hook' f
+      → IsCut step start (shown_of all.passed) hook' f
+  port_fails new e hook' WriteFault within gives h = port_cut new e hook' HookWriteFault within gives h
+  port_fails new e hook' Memory within gives (inl same) = inl (subst (λ (k : H). GoesInto step start (shown_of all.passed) k) same (memory_short step faults start P budget answers all ports answered s hook was))
+  port_fails new e hook' Memory within gives (inr h) = port_cut new e hook' HookMemory within gives h
+
+  pub answer_fails : (new : Search) (a : Term) (held : Option Point) (R : Recorded) (hook' : H) (f : RunFault) → Keeping P budget answers all ports answered s held R → Gives P s.mode s.frames s.stack s.boxes s.points (Answer a) new → FailsAt step hook (ShownAnswer a) hook' f
+      → IsCut step start (shown_of all.passed) hook' f
+  answer_fails new a held R hook' WriteFault kept gives h = answer_cut new a held R hook' HookWriteFault kept gives h
+  answer_fails new a held R hook' Memory kept gives (inl same) = inl (subst (λ (k : H). GoesInto step start (shown_of all.passed) k) same (memory_short step faults start P budget answers all ports answered s hook was))
+  answer_fails new a held R hook' Memory kept gives (inr h) = answer_cut new a held R hook' HookMemory kept gives h

@@ -1,5 +1,5 @@
 -- What stays true of a run from one item to the next.
-use Rattle.std.proofs.Common.{◌≡◌, ℕ, suc, ◌+◌, ◌-◌, ◌*◌, ◌<◌, ◌≤◌, List, [], ◌∷◌, length, refl, ap, subst, sym, ◌∙◌, arith, append-nil, zero-add, inl, inr, Option, Some, None, Result, Ok}
+use Rattle.std.proofs.Common.{◌≡◌, ℕ, suc, ◌+◌, ◌-◌, ◌<◌, ◌≤◌, List, [], ◌∷◌, length, refl, ap, subst, sym, ◌∙◌, arith, append-nil, zero-add, inl, inr, Option, Some, None, Result, Ok}
 use Rattle.std.specs.Prelude.{MatchOption}
 use Rattle.std.proofs.Math.Nat.{sub-zero}
 use Rattle.std.proofs.lemmas.List.{length-map}
@@ -7,53 +7,24 @@ use Rattle.apd_term.specs.Term.{Term}
 use Rattle.apd_term.specs.declared.tuple.Tuple.{Tuple}
 use Rattle.apd_term.specs.Canonical.{by_appearance, canonical_in}
 use Rattle.apd_term.specs.Tuple.{canonical_tuple, variables_of_tuple}
-use Rattle.apd_ports.specs.Hook.{GoesThrough, GoesInto, StopsAt}
+use Rattle.apd_ports.specs.Hook.{GoesInto}
 use Rattle.apd_ports.specs.declared.event.Event.{Event}
 use Rattle.apd_ports.specs.declared.hook.HookFault.{HookFault}
 use Rattle.apd_ports.specs.declared.hook.Shown.{Shown}
 use Rattle.apd_ports.specs.declared.hook.Shown.TheVariants.{Port as ShownPort, Answer as ShownAnswer}
 use Rattle.apd_trace.specs.Frames.{query_frame}
 use Rattle.apd_trace.specs.Trace.{Out, search_from}
-use Rattle.apd_trace.specs.Run.{Run, run_of, query_run, shown_of, ports_of, answers_of, before_event, pass}
+use Rattle.apd_trace.specs.Run.{Run, query_run, shown_of, ports_of, answers_of, before_event, pass}
 use Rattle.apd_trace.specs.declared.item.Item.{Item}
 use Rattle.apd_trace.specs.declared.item.Item.TheVariants.{Passed, Answer, Made}
 use Rattle.apd_ports.specs.declared.point.Point.{Point}
 use Rattle.apd_trace.proofs.Searched.{search_same}
 use Rattle.apd_trace.proofs.Clauses.{canonical_query}
 use Rattle.apd_trace.proofs.Deeper.{run_of-up_to_error}
-use Rattle.apd_engine.specs.Search.{rest, AllWaits, Goes, Gives, Ends, may_make}
+use Rattle.apd_engine.specs.Progress.{left, Going, Completes, Showing, opened}
+use Rattle.apd_engine.specs.Search.{rest, Gives, Ends}
 use Rattle.apd_engine.specs.declared.search.Search.{Search}
 use Rattle.apd_engine.specs.declared.search.Mode.TheVariants.{Forward}
-
--- what a run still passes from this search on
-abbrev pub left : List Tuple → ℕ → ℕ → ℕ → ℕ → Search → Run
-left P budget answers ports answered s =
-    run_of (rest P (budget + 1) s.mode s.frames s.stack s.boxes s.points) (budget - ports) (answers - answered)
-
--- so many ports and answers were passed, and what is left completes the run
-pub record Going (P : List Tuple) (budget answers : ℕ) (all : Run) (ports answered : ℕ) (s : Search) : Type 0 where
-  pub end : all.end ≡ (left P budget answers ports answered s).end
-  pub ports_left : ports_of all.passed ≡ ports + ports_of (left P budget answers ports answered s).passed
-  pub answers_left : answers_of all.passed ≡ answered + answers_of (left P budget answers ports answered s).passed
-  pub goes : Goes s.boxes s.mode s.frames.current
-  pub waits : AllWaits s.boxes s.stack s.frames.saved
-  pub height : length s.stack ≤ ports
-  pub boxes : s.boxes ≤ ports
-  pub points : s.points + may_make s.mode ≤ ports + answered + 1
-  pub within : ports ≤ budget
-  pub below : answered < answers
-
--- what the hook goes through of what is left from here completes what it goes through from the start
-pub record Completes {H : Type 0} (step : H → Shown → Result (Unit {0}) HookFault → H → Type 0) (start : H) (all : List Shown) (here : H) (xs : List Shown) : Type 0 where
-  pub through : (end : H) → GoesThrough step here xs end → GoesThrough step start all end
-  pub into : (end : H) → GoesInto step here xs end → GoesInto step start all end
-  pub stops : (fault : HookFault) (end : H) → StopsAt step fault here xs end → StopsAt step fault start all end
-
--- a run on the way, and its hook
-pub record Showing {H : Type 0} (step : H → Shown → Result (Unit {0}) HookFault → H → Type 0) (faults : H → ℕ) (start : H) (P : List Tuple) (budget answers : ℕ) (all : Run) (ports answered : ℕ) (s : Search) (hook : H) : Type 0 where
-  pub going : Going P budget answers all ports answered s
-  pub completes : Completes step start (shown_of all.passed) hook (shown_of (left P budget answers ports answered s).passed)
-  pub kept : faults hook ≡ faults start
 
 -- a silent item is no port, no answer, and is not shown
 pub shown_of-hold : (p : Point) (xs : List Item) → shown_of (before_event (Made p) xs) ≡ shown_of xs
@@ -79,10 +50,6 @@ left_answer P budget answers ports answered s new a low within more gives =
     let two : answers - answered ≡ suc (suc (answers - (answered + 2))) = omega arith in
     let one : answers - (answered + 1) ≡ suc (answers - (answered + 2)) = omega arith in
     rw (gives.items (budget + 1) (omega arith), two, one) refl
-
--- the search that is opened for a query
-abbrev pub opened : Tuple → Search
-opened query = record { frames = record { current = query_frame (canonical_tuple query) ∷ []; saved = [] }; mode = Forward; stack = []; boxes = 0; points = 1 }
 
 -- at first all is left
 pub first_rest : (P : List Tuple) (query : Tuple) (budget : ℕ) → rest P (budget + 1) Forward (opened query).frames [] 0 1 ≡ (search_from P (budget + 1) (query_frame query ∷ []) 0 1).items
@@ -151,7 +118,7 @@ module _ {H : Type 0} (step : H → Shown → Result (Unit {0}) HookFault → H 
       }
 
 -- a hook that is left alone has gone through some of the things
-goes_nowhere : {H : Type 0} (step : H → Shown → Result (Unit {0}) HookFault → H → Type 0) (here : H) (xs : List Shown) → GoesInto step here xs here
+pub goes_nowhere : {H : Type 0} (step : H → Shown → Result (Unit {0}) HookFault → H → Type 0) (here : H) (xs : List Shown) → GoesInto step here xs here
 goes_nowhere step here [] = refl
 goes_nowhere step here (x ∷ xs) = inl refl
 

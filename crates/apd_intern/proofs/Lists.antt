@@ -1,0 +1,57 @@
+-- Lists that grow, and what stands in them once.
+use Rattle.std.proofs.Common.{◌≡◌, ◌≢◌, ◌⊎◌, ℕ, zero, suc, ◌<◌, Bool, true, false, List, [], ◌∷◌, ◌++◌, length, get_or, Some, refl, ap, sym, subst, ◌∙◌, inl, inr, if◌then◌else◌, append-nil, true≢false}
+use Rattle.std.specs.Prelude.{slice_get}
+use Rattle.std.specs.Bool.{Decides}
+use Rattle.std.specs.List.{list_any}
+use Rattle.std.proofs.lemmas.List.Folds.{list_any_at}
+use Rattle.std.proofs.lemmas.Option.{slice_get_within, slice_get-get_or, get_or_from_slice_get}
+use Rattle.indexmap.specs.IndexSet.{insert_key}
+use Rattle.apd_intern.specs.Nodes.{AreDistinct, Adds, IsFrontOf}
+
+pub slice_get-front : {X : Type 0} (xs more : List X) (k : ℕ) (x : X) → slice_get xs k ≡ Some x → slice_get (xs ++ more) k ≡ Some x
+slice_get-front [] more k x h = cc
+slice_get-front (y ∷ xs) more zero x h = h
+slice_get-front (y ∷ xs) more (suc k) x h = slice_get-front xs more k x h
+
+pub slice_get-last : {X : Type 0} (xs : List X) (y : X) → slice_get (xs ++ y ∷ []) (length xs) ≡ Some y
+slice_get-last [] y = refl
+slice_get-last (x ∷ xs) y = slice_get-last xs y
+
+-- an element of a list with one more: an old one, or the new one
+pub slice_get-push : {X : Type 0} (xs : List X) (y : X) (k : ℕ) (z : X) → slice_get (xs ++ y ∷ []) k ≡ Some z → (slice_get xs k ≡ Some z) ⊎ ((k ≡ length xs) × (y ≡ z))
+slice_get-push [] y zero z h = inr (refl, cc)
+slice_get-push [] y (suc k) z h = cc
+slice_get-push (x ∷ xs) y zero z h = inl h
+slice_get-push (x ∷ xs) y (suc k) z h =
+    elim (slice_get-push xs y k z h) [ inl e ↦ inl e | inr e ↦ inr (ap suc e.0, e.1) ]
+
+pub distinct_push : {X : Type 0} (xs : List X) (y : X) → AreDistinct xs → ((k : ℕ) → slice_get xs k ≢ Some y) → AreDistinct (xs ++ y ∷ [])
+distinct_push xs y d n i j x a b =
+    elim (slice_get-push xs y i x a) [
+      | inl e ↦ elim (slice_get-push xs y j x b) [ inl f ↦ d i j x e f | inr f ↦ absurd (n i (e ∙ ap Some (sym f.1))) ]
+      | inr e ↦ elim (slice_get-push xs y j x b) [ inl f ↦ absurd (n j (f ∙ ap Some (sym e.1))) | inr f ↦ e.0 ∙ sym f.0 ]
+    ]
+
+pub adds_distinct : {X : Type 0} (xs : List X) (x : X) (ys : List X) → Adds xs x ys → AreDistinct xs → AreDistinct ys
+adds_distinct xs x ys a d =
+    elim a [ inl e ↦ subst AreDistinct (sym e) d | inr e ↦ subst AreDistinct (sym e.0) (distinct_push xs x d e.1) ]
+
+pub adds_front : {X : Type 0} (xs : List X) (x : X) (ys : List X) → Adds xs x ys → IsFrontOf xs ys
+adds_front xs x ys a = elim a [ inl e ↦ ([], append-nil xs ∙ sym e) | inr e ↦ (x ∷ [], sym e.0) ]
+
+pub distinct_at : {X : Type 0} (xs : List X) (d : X) (i j : ℕ) → AreDistinct xs → i < length xs → j < length xs → get_or xs i d ≡ get_or xs j d → i ≡ j
+distinct_at xs d i j h l m e = h i j (get_or xs i d) (slice_get-get_or xs i d l) (slice_get-get_or xs j d m ∙ ap Some (sym e))
+
+-- what an insertion makes of a set's keys
+module _ {X : Type 0} (E : X → X → Bool) (same : (a b : X) → Decides (E a b) (a ≡ b)) where
+  absent : (ks : List X) (k : X) (i : ℕ) → list_any (E k) ks ≡ false → slice_get ks i ≡ Some k → ⊥
+  absent ks k i none h =
+      let at : get_or ks i k ≡ k = get_or_from_slice_get ks i k k h in
+      true≢false (sym (list_any_at (E k) ks i k (slice_get_within ks i k h) ((same k (get_or ks i k)).1 (sym at))) ∙ none)
+
+  pub inserted : (ks : List X) (k : X) → Adds ks k (insert_key E ks k)
+  inserted ks k = by (list_any (E k) ks) refl
+    where
+      by : (b : Bool) → list_any (E k) ks ≡ b → Adds ks k (if b then ks else ks ++ k ∷ [])
+      by true e = inl refl
+      by false e = inr (refl, λ i h. absent ks k i e h)

@@ -1,0 +1,136 @@
+//! Terms as nodes: a symbol, and the places of its arguments among the nodes.
+
+ghost use Rattle.std.specs.Prelude.{◌≡◌, ◌≤◌, ◌<◌, ◌^◌, length, take, drop, reverse, IfOk, IfSome, OnOk, Some, slice_get};
+ghost use Rattle.apd_term.specs.Term.{arity_of};
+ghost use Rattle.apd_intern.specs.Nodes.{Adds, IsFrontOf, AreDistinct, symbol_of, arguments_of, IsLinked, rest_at, IsRest};
+
+use crate::hints::Hints;
+use apd_term::{NameId, Sym};
+use indexmap::IndexSet;
+use std::alloc::AllocError;
+
+/// A term by its symbol and the places of its arguments.
+#[derive(Clone, Copy, PartialEq, Eq, Hash, Debug)]
+pub enum Node {
+    /// A variable with its number.
+    Variable(u64),
+    /// An integer.
+    Integer(i64),
+    /// A name, the number of its arguments, the place of the first, and where the others are: nothing where there is none,
+    /// its place where there is one, and else the place of a link. What isn't there is 0.
+    Compound(NameId, u8, u32, u32),
+}
+
+/// Two arguments or more: the place of the first, and where the others are.
+#[derive(Clone, Copy, PartialEq, Eq, Hash, Debug)]
+pub struct Link {
+    pub first: u32,
+    pub rest: u32,
+}
+
+/// How many nodes or links there may be.
+const MOST: usize = 4_294_967_295;
+
+/// The symbol of a node.
+pub fn symbol_of(node: Node) -> Sym
+    ensures { result ≡ symbol_of node }
+{
+    match node {
+        Node::Variable(v) => Sym::Var(v),
+        Node::Integer(i) => Sym::Int(i),
+        Node::Compound(name, arity, _, _) => Sym::Fun(name, arity),
+    }
+}
+
+/// Where a link stands, which is put at the end if it isn't there.
+fn put_link(links: &mut IndexSet<Link>, link: Link) -> Result<u32, AllocError>
+    ensures place { IfOk result (λ p. slice_get links.new.keys p ≡ Some link) }
+    ensures adds { Adds links.old.keys link links.new.keys }
+{
+    if links.len() >= MOST {
+        return Err(AllocError);
+    }
+    let (place, _) = links.insert_full(link)?;
+    Ok(place as u32)
+}
+
+/// Where arguments are that have these places, the last one first.
+fn put_rest(links: &mut IndexSet<Link>, places: &[u32]) -> Result<u32, AllocError>
+    ensures rest { IfOk result (λ r. IsRest links.new.keys (length places.now) r) }
+    ensures places { IfOk result (λ r. rest_at links.new.keys (length places.now) r ≡ reverse places.now) }
+    ensures grown { IsFrontOf links.old.keys links.new.keys }
+    ensures distinct { AreDistinct links.old.keys → AreDistinct links.new.keys }
+{
+    if places.is_empty() {
+        return Ok(0);
+    }
+    let mut rest = places[0];
+    'places: for i in 1..places.len() {
+        let link = Link {
+            first: places[i],
+            rest,
+        };
+        rest = put_link(links, link)?;
+    }
+    Ok(rest)
+}
+
+/// The node of a symbol over the newest of these places, which are taken off.
+pub fn node_of(
+    links: &mut IndexSet<Link>,
+    symbol: Sym,
+    places: &mut Vec<u32>,
+) -> Result<Node, AllocError>
+    requires { arity_of symbol ≤ length places.old.items }
+    ensures symbol { IfOk result (λ n. symbol_of n ≡ symbol) }
+    ensures linked { IfOk result (λ n. IsLinked links.new.keys n) }
+    ensures arguments { IfOk result (λ n. arguments_of links.new.keys n ≡ take (arity_of symbol) (reverse places.old.items)) }
+    ensures places { OnOk result (reverse places.new.items ≡ drop (arity_of symbol) (reverse places.old.items)) }
+    ensures grown { IsFrontOf links.old.keys links.new.keys }
+    ensures distinct { AreDistinct links.old.keys → AreDistinct links.new.keys }
+{
+    match symbol {
+        Sym::Var(v) => Ok(Node::Variable(v)),
+        Sym::Int(i) => Ok(Node::Integer(i)),
+        Sym::Fun(name, 0) => Ok(Node::Compound(name, 0, 0, 0)),
+        Sym::Fun(name, arity) => {
+            let end = places.len() - 1;
+            let from = places.len() - arity as usize;
+            let first = places[end];
+            let rest = put_rest(links, &places[from..end])?;
+            places.truncate(from);
+            Ok(Node::Compound(name, arity, first, rest))
+        }
+    }
+}
+
+/// Where the node stands, if it stands where the hints say.
+fn find_by_hint(nodes: &IndexSet<Node>, hints: &Hints, node: Node) -> Option<u32>
+    ensures { IfSome result (λ p. slice_get nodes.now.keys p ≡ Some node) }
+{
+    let place = hints.get(node)?;
+    let kept = nodes.get_index(place as usize)?;
+    if *kept == node { Some(place) } else { None }
+}
+
+/// Where the node stands, which is put at the end if it isn't there.
+pub fn put_node(
+    nodes: &mut IndexSet<Node>,
+    hints: &mut Hints,
+    node: Node,
+) -> Result<u32, AllocError>
+    requires { length nodes.old.keys < 2 ^ 32 }
+    ensures place { IfOk result (λ p. slice_get nodes.new.keys p ≡ Some node) }
+    ensures adds { Adds nodes.old.keys node nodes.new.keys }
+    ensures few { length nodes.new.keys < 2 ^ 32 }
+{
+    if let Some(place) = find_by_hint(nodes, hints, node) {
+        return Ok(place);
+    }
+    if nodes.len() >= MOST {
+        return Err(AllocError);
+    }
+    let (place, _) = nodes.insert_full(node)?;
+    hints.note(node, place as u32);
+    Ok(place as u32)
+}

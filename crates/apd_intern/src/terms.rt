@@ -80,7 +80,7 @@ impl Terms {
     }
 
     /// The place of the term. Those of its subterms that aren't there are put at the end, each after its arguments; where
-    /// memory is wanted, some of them.
+    /// memory is wanted, some of them. Want of memory too where there would be 2 ^ 32 terms.
     pub fn put(&mut self, t: &Flat) -> Result<TermId, AllocError>
         ensures place { IfOk result (λ id. slice_get self.new id.0 ≡ Some t.now) }
         ensures few { IfOk result (λ id. id.0 < 2 ^ 32) }

@@ -1,7 +1,9 @@
 //! The record.
 
 ghost use Rattle.std.specs.Prelude.{◌≡◌, ◌<◌, ◌≤◌, ◌+◌, ◌-◌, ◌^◌, [], ◌∷◌, length, Some, None, IfOk, OnOk, OnErr, IfSome, slice_get, vec_len, vec_capacity, map, All};
-ghost use Rattle.apd_record.specs.Recorded.{BoxRow, is_user_atom, empty, begun, opened, with_point, passed_at, completes, noted, box_at, point_at, child, exits, first_point, follow, chain};
+ghost use Rattle.apd_record.specs.Recorded.{BoxRow, is_user_atom, empty, begun, opened, with_point, completes, noted, box_at, point_at, child, exits, first_point, follow, chain};
+ghost use Rattle.apd_record.specs.Beside.{edited};
+ghost use Rattle.apd_record.specs.Kept.{kept_passed};
 ghost use Rattle.apd_record.specs.Index.{id_of, is_exit, is_after};
 ghost use Rattle.std.specs.Option.{option_map};
 ghost use Rattle.apd_ports.specs.declared.point.Point.{Point};
@@ -11,21 +13,25 @@ ghost use Rattle.apd_record.specs.Sound.{IsKept, MayOpen, MayMake};
 
 use crate::active::active_boxes;
 use crate::beside::{Links, Owned, link, link_child, note_owned};
-use crate::rows::BoxRow;
+use crate::kept::{KeptBox, KeptPoint, put_tuple, tuple_at};
 use crate::slot::Slot;
 use apd_base::Ids;
 use apd_causes::Query;
+use apd_intern::{TermId, Terms};
 use apd_ports::{Point, PointId, Port, Step};
-use apd_term::{Atoms, Flat, Tuple, canonical_tuple};
+use apd_term::{Flat, Tuple, canonical_tuple};
 use std::alloc::{AllocError, Global};
 use std::marker::Model;
 
-/// The boxes and points of a search.
+/// The boxes and points of a search. Each distinct term of them is kept once. A call that puts one wants memory too where
+/// there would be 2 ^ 32 terms or places.
 #[derive(Drop)]
 pub struct Record {
     alloc: Global,
-    boxes: Vec<BoxRow>,
-    points: Vec<Point>,
+    terms: Terms,
+    places: Vec<u32>,
+    boxes: Vec<KeptBox>,
+    points: Vec<KeptPoint>,
     query: Owned,
     owned: Vec<Owned>,
     links: Vec<Links>,
@@ -35,15 +41,15 @@ impl Model for Record {
     ghost use Rattle.std.specs.Prelude.{◌∷◌};
     ghost use Rattle.apd_record.specs.Recorded.{Recorded};
     ghost use Rattle.apd_record.specs.Codes.{recorded_code};
-    ghost use Rattle.apd_record.specs.Index.{IsStored};
+    ghost use Rattle.apd_record.specs.Kept.{told, IsHeld};
 
     ghost Value = { Recorded };
 
     ghost coded = { recorded_code };
 
-    ghost view = { λ r. record { boxes = r.boxes.items; points = r.points.items } };
+    ghost view = { λ r. told r.terms r.places.items r.boxes.items r.points.items };
 
-    ghost invariant = { λ r. IsStored (record { boxes = r.boxes.items; points = r.points.items }) (r.query ∷ r.owned.items) r.links.items };
+    ghost invariant = { λ r. IsHeld r.terms r.places.items r.boxes.items r.points.items (r.query ∷ r.owned.items) r.links.items };
 }
 
 /// Whether the whole body is solved.
@@ -63,26 +69,6 @@ fn is_after(before: Option<Step>, p: PointId) -> bool
     }
 }
 
-/// Copies of the terms.
-fn copy_of_terms(alloc: Global, terms: &[Flat]) -> Result<Atoms, AllocError>
-    ensures { IfOk result (λ copy. copy ≡ terms.now) }
-{
-    let mut copy = Atoms::new(alloc);
-    'terms: for term in terms {
-        copy.push(term.copy(alloc)?)?;
-    }
-    Ok(copy)
-}
-
-/// A copy of the tuple.
-fn copy_of_tuple(alloc: Global, tuple: &Tuple) -> Result<Tuple, AllocError>
-    ensures { IfOk result (λ t. t ≡ tuple.now) }
-{
-    let head = tuple.head.copy(alloc)?;
-    let body = copy_of_terms(alloc, tuple.body.as_slice())?;
-    Ok(Tuple { head, body })
-}
-
 /// Whether a box is complete that passes a port.
 fn completes(port: Port, complete: bool) -> bool
     ensures { result ≡ completes port complete }
@@ -94,9 +80,9 @@ fn completes(port: Port, complete: bool) -> bool
 }
 
 /// The box at this place passes a port.
-fn pass(boxes: &mut Vec<BoxRow>, place: usize, port: Port)
+fn pass(boxes: &mut Vec<KeptBox>, place: usize, port: Port)
     requires { place < length boxes.old.items }
-    ensures { boxes.new.items ≡ passed_at port place boxes.old.items }
+    ensures { boxes.new.items ≡ edited (kept_passed port) boxes.old.items place }
 {
     let row = &mut boxes[place];
     row.last = port;
@@ -116,7 +102,7 @@ fn owned_by<'a>(query: &'a Owned, owned: &'a Vec<Owned>, b: u32) -> &'a Owned
 }
 
 /// Room for a box.
-fn box_room(boxes: &mut Vec<BoxRow>, owned: &mut Vec<Owned>) -> Result<(), AllocError>
+fn box_room(boxes: &mut Vec<KeptBox>, owned: &mut Vec<Owned>) -> Result<(), AllocError>
     ensures boxes { boxes.new.items ≡ boxes.old.items }
     ensures owned { owned.new.items ≡ owned.old.items }
     ensures boxes_len { vec_len boxes.new ≡ vec_len boxes.old }
@@ -129,7 +115,7 @@ fn box_room(boxes: &mut Vec<BoxRow>, owned: &mut Vec<Owned>) -> Result<(), Alloc
 }
 
 /// Room for a point.
-fn point_room(points: &mut Vec<Point>, links: &mut Vec<Links>) -> Result<(), AllocError>
+fn point_room(points: &mut Vec<KeptPoint>, links: &mut Vec<Links>) -> Result<(), AllocError>
     ensures points { points.new.items ≡ points.old.items }
     ensures links { links.new.items ≡ links.old.items }
     ensures points_len { vec_len points.new ≡ vec_len points.old }
@@ -148,6 +134,8 @@ impl Record {
     {
         Record {
             alloc,
+            terms: Terms::new(alloc),
+            places: Vec::new(alloc),
             boxes: Vec::new(alloc),
             points: Vec::new(alloc),
             query: Owned::new(alloc),
@@ -165,13 +153,13 @@ impl Record {
         ensures opened { OnOk result (self.new ≡ opened self.old atom.now from.0) }
         ensures err { OnErr result (self.new ≡ self.old) }
     {
-        let atom = atom.copy(self.alloc)?;
+        let term = self.terms.put(atom)?;
         box_room(&mut self.boxes, &mut self.owned)?;
         let place = self.boxes.len() as u32;
         self.owned.push_reserved(Owned::new(self.alloc));
         link_child(&mut self.links, from, place);
-        self.boxes.push_reserved(BoxRow {
-            atom,
+        self.boxes.push_reserved(KeptBox {
+            atom: term.0 as u32,
             from: from.0,
             is_user: user,
             last: Port::Call,
@@ -189,6 +177,7 @@ impl Record {
         ensures err { OnErr result (self.new ≡ self.old) }
     {
         let number = self.points.len() as u32;
+        let tuple = put_tuple(&mut self.terms, &mut self.places, &point.tuple)?;
         point_room(&mut self.points, &mut self.links)?;
         let is_exit = is_exit(&point);
         let earlier = note_owned(
@@ -205,7 +194,13 @@ impl Record {
             earlier,
         });
         link(&mut self.links, point.before, number);
-        self.points.push_reserved(point);
+        self.points.push_reserved(KeptPoint {
+            owner: point.owner,
+            clause: point.clause,
+            done: point.done,
+            tuple,
+            before: point.before,
+        });
         Ok(PointId(number))
     }
 
@@ -292,7 +287,8 @@ impl Record {
         requires to { b ≤ length self.now.boxes }
         ensures { IfOk result (λ a. IfSome (box_at self.now b) (λ (r : BoxRow). a ≡ r.atom)) }
     {
-        self.boxes[b as usize - 1].atom.copy(self.alloc)
+        let kept = &self.boxes[b as usize - 1];
+        self.terms.get(TermId(kept.atom as usize))
     }
 
     /// The exits of the box in the order in which they were made.
@@ -343,7 +339,8 @@ impl Record {
         requires { p.0 < length self.now.points }
         ensures { IfOk result (λ t. IfSome (point_at self.now p.0) (λ (x : Point). t ≡ x.tuple)) }
     {
-        copy_of_tuple(self.alloc, &self.points[p.0 as usize].tuple)
+        let kept = &self.points[p.0 as usize];
+        tuple_at(self.alloc, &self.terms, &self.places, kept.tuple)
     }
 
     /// The box in which the point's next goal was called; none exactly where there is none.

@@ -6,11 +6,13 @@ ghost use Rattle.apd_term.specs.Term.{Occurs};
 ghost use Rattle.apd_term.specs.Canonical.{shifted};
 ghost use Rattle.apd_unify.specs.First.{AreApart};
 ghost use Rattle.apd_unify.specs.Numbered.{IsNumbered};
+ghost use Rattle.apd_unify.specs.Ordered.{Numbers};
 ghost use Rattle.apd_unify.specs.Store.{term_at, under_bindings, loaded, at_mark, Keeps, IsUnification, SizeWithin};
 
 use crate::first::{are_clashing, key_at, key_of};
 use crate::heap::Heap;
 use crate::reading::{resolved, size_within};
+use crate::scratch::{Scratch, numbered_within};
 use crate::stack::Stack;
 use crate::unify::{Pairs, unify};
 use crate::walk::Walk;
@@ -139,6 +141,20 @@ impl Store {
         ensures { IfOk result (SizeWithin (term_at self.now cell.0) limit) }
     {
         size_within(&self.heap, self.alloc, cell.0, limit)
+    }
+
+    /// The term at a cell, with all bindings applied and its variables numbered behind those that
+    /// have numbers; none exactly where it is over the limit.
+    pub fn number_within(
+        &self,
+        scratch: &mut Scratch,
+        cell: Cell,
+        limit: u64,
+    ) -> Result<Option<Flat>, AllocError>
+        requires { cell.0 < length self.now.cells }
+        ensures { IfOk result (Numbers scratch.old scratch.new (term_at self.now cell.0) limit) }
+    {
+        numbered_within(&self.heap, scratch, self.alloc, cell.0, limit)
     }
 
     /// The term at a cell, with all bindings applied.

@@ -1,0 +1,107 @@
+//! Terms that are written out with their variables numbered by first appearance.
+
+ghost use Rattle.std.specs.Prelude.{◌≡◌, [], ◌<◌, length, IfOk};
+ghost use Rattle.apd_unify.specs.Ordered.{Numbers, Writes};
+ghost use Rattle.apd_unify.specs.Store.{term_at};
+
+use crate::heap::Heap;
+use crate::order::Order;
+use crate::stack::Stack;
+use crate::walk::Walk;
+use apd_term::{Flat, Sym};
+use std::alloc::{AllocError, Global};
+use std::marker::Model;
+
+/// What terms are written out with, kept from term to term so that its memory is taken once. Clauses
+/// see the variables that have numbers, in the order of these.
+#[derive(Drop)]
+pub struct Scratch {
+    order: Order,
+    walk: Walk,
+    symbols: Vec<Sym>,
+}
+
+impl Model for Scratch {
+    ghost use Rattle.std.specs.Prelude.{List, ℕ};
+
+    ghost Value = { List ℕ };
+
+    ghost view = { λ s. s.order };
+}
+
+impl Scratch {
+    /// No variable has a number.
+    pub fn new(alloc: Global) -> Scratch
+        ensures { result ≡ [] }
+    {
+        Scratch {
+            order: Order::new(alloc),
+            walk: Walk {
+                at: 0,
+                left: 0,
+                rest: Stack::new(alloc),
+            },
+            symbols: Vec::new(alloc),
+        }
+    }
+
+    /// Forgets all numbers.
+    pub fn clear(&mut self)
+        ensures { self.new ≡ [] }
+    {
+        self.order.clear();
+    }
+}
+
+/// Writes the symbols of the term at a cell, with the places of its variables in the order; false
+/// exactly where it is over the limit. It passes at most one symbol more than that.
+fn write_within(
+    heap: &Heap,
+    walk: &mut Walk,
+    order: &mut Order,
+    symbols: &mut Vec<Sym>,
+    at: usize,
+    limit: u64,
+) -> Result<bool, AllocError>
+    requires { at < length heap.now.cells }
+    ensures { IfOk result
+        (λ b. Writes b order.old order.new (term_at heap.now at) limit symbols.new.items) }
+{
+    walk.start(heap, at);
+    symbols.clear();
+    'symbols: while let Some(symbol) = walk.next(heap)? {
+        if symbols.len() as u64 == limit {
+            return Ok(false);
+        }
+        let placed = order.placed(symbol)?;
+        symbols.push(placed)?;
+    }
+    Ok(true)
+}
+
+/// The term at a cell with its variables numbered behind those that have numbers; none exactly where
+/// it is over the limit.
+pub fn numbered_within(
+    heap: &Heap,
+    scratch: &mut Scratch,
+    alloc: Global,
+    at: usize,
+    limit: u64,
+) -> Result<Option<Flat>, AllocError>
+    requires { at < length heap.now.cells }
+    ensures { IfOk result (Numbers scratch.old scratch.new (term_at heap.now at) limit) }
+{
+    let written = write_within(
+        heap,
+        &mut scratch.walk,
+        &mut scratch.order,
+        &mut scratch.symbols,
+        at,
+        limit,
+    )?;
+    if !written {
+        return Ok(None);
+    }
+    let term = Flat::copy_of(alloc, scratch.symbols.as_slice())?;
+    Ok(Some(term))
+}

@@ -27,7 +27,7 @@ use Rattle.apd_trace.specs.declared.item.Item.TheVariants.{Made, Error}
 use Rattle.apd_trace.specs.declared.frame.Look.{Look}
 use Rattle.apd_trace.specs.declared.frame.Look.TheVariants.{Goal, Exit as Exits, Answer as Answers}
 use Rattle.apd_trace.proofs.Searched.{search_same, tried_same, settled_same}
-use Rattle.apd_frames.specs.Kept.{Kept, exit_in, point_in}
+use Rattle.apd_frames.specs.Kept.{Kept, Points, exit_in, point_in}
 use Rattle.apd_engine.specs.Search.{with_saved, forgotten, leaving, Postpones, AllWait, IsOpen, AllWaits, Gives, Skips, Found, back, resume}
 use Rattle.apd_engine.specs.declared.search.Search.{Search}
 use Rattle.apd_engine.proofs.Numbered.{cut}
@@ -368,6 +368,11 @@ module _ (P : List Tuple) where
           let same : last.saved ≡ old.saved = let e : old.current ∷ old.saved ≡ last.current ∷ last.saved = sym found.entered.saved ∙ restored in cc in
           gives_fault last mode Size (λ k. tries_found k ∙ begun_large (search_from P k) g (tries (search_from P k) old.current g (drop (at + 1) (clauses_for g.atom P))) new.current n m large) same is
 
+-- an instance that makes no point is too large
+pub large_without : (o : Option Point) (F : List Frame) → Points o F None → ((p : Point) → ¬ (o ≡ Some p)) → is_large_of F ≡ true
+large_without None F h none = h
+large_without (Some p) F h none = absurd (none p refl)
+
 -- the steps of a goal that was restored, and whose solution is told by the program
 module _ (P : List Tuple) (F old new : Kept) (cs : List Choice) (n m : ℕ) (g : Called) (from : ℕ) (told : Solved) (restored : F.saved ≡ old.current ∷ old.saved) (alike : AreAlike (solution old.current g m) (solution_as told new.current)) (keeps : Keeps told old new) (waiting : AllWaits n (Alternatives g from ∷ cs) F.saved) where
   waits_old : AllWaits n (Alternatives g from ∷ cs) (old.current ∷ old.saved)
@@ -386,6 +391,20 @@ module _ (P : List Tuple) (F old new : Kept) (cs : List Choice) (n m : ℕ) (g :
       let k : new.saved ≡ old.saved = subst (λ t. Keeps t old new) is keeps in
       gives_restored P F old cs n m (Error Size g.box_no) (record { frames = new; mode = mode; stack = cs; boxes = n; points = m }) g from restored
       (gives_oversolved P old cs n m g from waits_old new a k mode large at_back)
+
+  -- the frames as they are when the point is made, and when the search goes on
+  pub retries_made : told ≡ Entered → (o : Option Point) (held later : Kept) (cs' : List Choice) (p : Point) (l : Called) (e : ℕ) → Points o new.current None → o ≡ Some p → held ≡ new → Some (l, e) ≡ exit_in held.current → later ≡ held → cs' ≡ Over l g ∷ cs
+      → Gives P Back F (Alternatives g from ∷ cs) n m (Made p) (record { frames = later; mode = Leave; stack = cs'; boxes = n; points = m + 1 })
+  retries_made is o held later cs' p l e h some same exits stays pushed =
+      let w : (is_large_of new.current ≡ false) × (Some p ≡ point_in new.current None) = subst (λ x. Points x new.current None) some h in
+      subst (λ (f : Kept). Gives P Back F (Alternatives g from ∷ cs) n m (Made p) (record { frames = f; mode = Leave; stack = cs'; boxes = n; points = m + 1 })) (sym (stays ∙ same))
+      (retries_solved is cs' p l e w.0 w.1 (exits ∙ ap (λ (f : Kept). exit_in f.current) same) pushed)
+
+  pub retries_large : told ≡ Entered → (o : Option Point) (held : Kept) (mode : Mode) → Points o new.current None → ((p : Point) → ¬ (o ≡ Some p)) → held ≡ new → mode ≡ Back
+      → Gives P Back F (Alternatives g from ∷ cs) n m (Error Size g.box_no) (record { frames = held; mode = mode; stack = cs; boxes = n; points = m })
+  retries_large is o held mode h none same at_back =
+      subst (λ (f : Kept). Gives P Back F (Alternatives g from ∷ cs) n m (Error Size g.box_no) (record { frames = f; mode = mode; stack = cs; boxes = n; points = m })) (sym same)
+      (retries_oversolved is mode (large_without o new.current h none) at_back)
 
   pub retries_program : told ≡ Program → (i : Item) (end : Search) → Gives P Back (with_saved new) (Alternatives g from ∷ cs) n m i end → Gives P Back F (Alternatives g from ∷ cs) n m i end
   retries_program is i end gives =

@@ -17,8 +17,8 @@ use Rattle.apd_trace.specs.declared.frame.Look.TheVariants.{Nothing, Goal, Exit 
 use Rattle.apd_frames.specs.declared.instance.Instance.{Instance}
 use Rattle.apd_frames.specs.declared.links.Link.{Link}
 use Rattle.apd_frames.specs.declared.links.Branch.{Branch}
-use Rattle.apd_frames.specs.Instances.{terms_in, tuple_in, AreInside, IsInside}
-use Rattle.apd_frames.specs.Kept.{Kept, MayCall, Takes, exit_in, is_large_of, newest_of, point_in}
+use Rattle.apd_frames.specs.Instances.{terms_in, tuple_in, AreInside, IsInside, CanonicalWithin}
+use Rattle.apd_frames.specs.Kept.{Kept, MayCall, Points, Takes, exit_in, is_large_of, newest_of, point_in}
 use Rattle.apd_frames.specs.Linked.{numbered, frame_in, frames_at, saved_of, entered_link, handed_link, ArePlaced, IsFramed, IsGoalAt}
 use Rattle.apd_frames.proofs.Linking.{same_number, other_number, frames_some, frames_none, frames_newest, frames_applied, tuple_of, with_tuple}
 
@@ -87,17 +87,21 @@ module _ (s : Stored) (links : List Link) (l : Link) (now : Kept) (h : IsInnermo
   pub exits_so : (g : Called) → g ≡ left (frame_in s l) (frames_at s links l.around) → Some (g, l.point) ≡ exit_in now.current
   exits_so g is = ap (λ x. Some (x, l.point)) is ∙ ap exit_in (sym h.is)
 
-  pub large_so : (b : Bool) → b ≡ is_large (tuple_in s l.instance) → b ≡ is_large_of now.current
-  large_so b is = is ∙ ap is_large_of (sym h.is)
-
   pub newest_so : Some (l.box_no, l.point) ≡ newest_of now.current
   newest_so = ap newest_of (sym h.is)
 
-  pub point_so : (i t : Tuple) (before : Option Step) → i ≡ tuple_in s l.instance → t ≡ canonical_tuple i
-      → Some (record { owner = l.box_no; clause = l.clause; done = l.done; tuple = t; before = before }) ≡ point_in now.current before
-  point_so i t before e f =
-      ap (λ (x : Tuple). Some (record { owner = l.box_no; clause = l.clause; done = l.done; tuple = x; before = before })) (f ∙ ap canonical_tuple e)
-      ∙ ap (λ F. point_in F before) (sym h.is)
+  -- the innermost link as a point, or as too large
+  pub too_large : (o : Option Tuple) (before : Option Step) → CanonicalWithin (tuple_in s l.instance) o → o ≡ None → Points None now.current before
+  too_large o before c e = ap is_large_of h.is ∙ subst (CanonicalWithin (tuple_in s l.instance)) e c
+
+  pub point_so : (o : Option Tuple) (t : Tuple) (before : Option Step) → CanonicalWithin (tuple_in s l.instance) o → o ≡ Some t
+      → Points (Some (record { owner = l.box_no; clause = l.clause; done = l.done; tuple = t; before = before })) now.current before
+  point_so o t before c e =
+      let w : (is_large (tuple_in s l.instance) ≡ false) × (t ≡ canonical_tuple (tuple_in s l.instance)) = subst (CanonicalWithin (tuple_in s l.instance)) e c in (
+        ap is_large_of h.is ∙ w.0,
+        ap (λ (x : Tuple). Some (record { owner = l.box_no; clause = l.clause; done = l.done; tuple = x; before = before })) w.1
+            ∙ ap (λ F. point_in F before) (sym h.is),
+      )
 
 -- the first of the frames from a link on
 first_frame : (s : Stored) (links : List Link) (k : ℕ) (l : Link) → numbered links k ≡ Some l → (rest : List Frame) × (frames_at s links k ≡ frame_in s l ∷ rest)

@@ -16,6 +16,10 @@ use Rattle.apd_trace.specs.declared.frame.Called.{Called}
 use Rattle.apd_trace.specs.Renaming.{AreRenamed, IsBelow}
 use Rattle.apd_trace.proofs.Clauses.{canonical_back}
 use Rattle.apd_trace.proofs.Entered.{entering_by_any}
+use Rattle.apd_term.proofs.Tuples.{apply_tuple-variable}
+use Rattle.apd_unify.specs.Stored.{Stored}
+use Rattle.apd_frames.specs.declared.instance.Instance.{Instance}
+use Rattle.apd_frames.specs.Instances.{IsVariant, Instantiates, InstantiatesVariant}
 
 none_without : (a b : Term) (x : Option (List (ℕ × Term))) → IsAnswer a b x → HasNoUnifier a b → x ≡ None
 none_without a b None h none = refl
@@ -38,15 +42,29 @@ module _ (F : List Frame) (g : Called) (r : Tuple) (c m : ℕ) (goal : Term) (is
       raise v = variable (above (variables_of_frames F) + v)
 
   module _ (q : ℕ) (below : IsBelow q F) where
-    enters_any : (y : Option (List (ℕ × Term))) → IsAnswer goal (shifted_tuple q (canonical_tuple r)).head y
-        → AreRenamed (entering F g r c m) (under y (entered g (shifted_tuple q (canonical_tuple r)) c m ∷ F))
-    enters_any y answer =
-        let b = canonical_back r in
-        entering_by_any F g r (canonical_tuple r) (λ v. variable (place_of (by_appearance (variables_of_tuple r)) v)) b.0 c m q goal y refl b.1 is below answer
+    enters_any : (t : Tuple) (y : Option (List (ℕ × Term))) → IsVariant r t → IsAnswer goal (shifted_tuple q t).head y
+        → AreRenamed (entering F g r c m) (under y (entered g (shifted_tuple q t) c m ∷ F))
+    enters_any t y v answer = entering_by_any F g r t v.there v.back c m q goal y v.makes v.unmakes is below answer
 
-    pub enters_none : HasNoUnifier goal (shifted_tuple q (canonical_tuple r)).head → entering F g r c m ≡ None
-    enters_none h = renamed_none (entering F g r c m) (enters_any None h)
+    pub enters_none : (t : Tuple) → IsVariant r t → HasNoUnifier goal (shifted_tuple q t).head → entering F g r c m ≡ None
+    enters_none t v h = renamed_none (entering F g r c m) (enters_any t None v h)
 
-    pub enters_some : (s : List (ℕ × Term)) (G : List Frame) → IsUnifier goal (shifted_tuple q (canonical_tuple r)).head s
-        → G ≡ apply_frames (term_for s) (entered g (shifted_tuple q (canonical_tuple r)) c m ∷ F) → AreRenamed (entering F g r c m) (Some G)
-    enters_some s G h e = subst (λ z. AreRenamed (entering F g r c m) (Some z)) (sym e) (enters_any (Some s) h)
+    pub enters_some : (t : Tuple) (s : List (ℕ × Term)) (G : List Frame) → IsVariant r t → IsUnifier goal (shifted_tuple q t).head s
+        → G ≡ apply_frames (term_for s) (entered g (shifted_tuple q t) c m ∷ F) → AreRenamed (entering F g r c m) (Some G)
+    enters_some t s G v h e = subst (λ z. AreRenamed (entering F g r c m) (Some z)) (sym e) (enters_any t (Some s) v h)
+
+-- a clause itself, and its canonical form
+pub variant_self : (r : Tuple) → IsVariant r r
+variant_self r = record { there = variable; back = variable; makes = apply_tuple-variable r; unmakes = apply_tuple-variable r }
+
+pub variant_canonical : (r t : Tuple) → t ≡ canonical_tuple r → IsVariant r t
+variant_canonical r t e =
+    let b = canonical_back r in
+    rw e (record { there = λ v. variable (place_of (by_appearance (variables_of_tuple r)) v); back = b.0; makes = refl; unmakes = b.1 })
+
+-- the instance of the clause itself, or of its canonical form
+pub instantiates_self : (o : Option Instance) (old new : Stored) (goal : ℕ) (r : Tuple) → Instantiates o old new goal r → InstantiatesVariant o old new goal r
+instantiates_self o old new goal r h = record { variant = r; renamed = variant_self r; is = h }
+
+pub instantiates_canonical : (o : Option Instance) (old new : Stored) (goal : ℕ) (r t : Tuple) → t ≡ canonical_tuple r → Instantiates o old new goal t → InstantiatesVariant o old new goal r
+instantiates_canonical o old new goal r t e h = record { variant = t; renamed = variant_canonical r t e; is = h }

@@ -7,3 +7,5 @@ pub mod Current
 pub mod Entering
 pub mod Solving
 pub mod Moving
+pub mod Writing
+pub mod Bounds

@@ -24,7 +24,7 @@ use Rattle.apd_frames.specs.declared.builtin.Solved.TheVariants.{Program, Fault,
 use Rattle.apd_frames.specs.declared.instance.Instance.{Instance}
 use Rattle.apd_frames.specs.declared.links.Link.{Link}
 use Rattle.apd_frames.specs.declared.links.Branch.{Branch}
-use Rattle.apd_frames.specs.Instances.{terms_in, tuple_in, raised_in, AreInside, IsInside, HasGrown, IsInstantiated, IsUnited}
+use Rattle.apd_frames.specs.Instances.{terms_in, tuple_in, raised_in, AreInside, IsInside, IsVariant, HasGrown, IsInstantiated, IsUnited}
 use Rattle.apd_frames.specs.Kept.{Kept, HasEntered, Enters}
 use Rattle.apd_frames.specs.Solves.{solution_as, Settles}
 use Rattle.apd_frames.specs.Linked.{numbered, frame_in, frames_at, oldest, saved_of, entered_link, handed_link, IsFramed, IsGoalAt, IsBranchAt}
@@ -57,12 +57,11 @@ module _ (s : Stored) (links : List Link) (k : ℕ) (bs : List Branch) (now : Ke
   enters_no goal h a =
       (ap (λ (x : Kept). entering x.current g r c m) (sym view) ∙ enters_apart (frames_at s links k) g r c m (term_at s goal.0) (h.1 s) a, refl)
 
-  pub enters_back : (goal : Cell) (q : Tuple) (s' : Stored) → IsGoalAt links k (Some goal) → IsNumbered s → q ≡ canonical_tuple r → HasNoUnifier (term_at s goal.0) (shifted_tuple s.variables q).head
+  pub enters_back : (goal : Cell) (q : Tuple) (s' : Stored) → IsGoalAt links k (Some goal) → IsNumbered s → IsVariant r q → HasNoUnifier (term_at s goal.0) (shifted_tuple s.variables q).head
       → s' ≡ s → Enters (entering now.current g r c m) false now (view_of s' links k bs)
   enters_back goal q s' h numbers e none same = (
     ap (λ (x : Kept). entering x.current g r c m) (sym view)
-        ∙ enters_none (frames_at s links k) g r c m (term_at s goal.0) (h.1 s) s.variables (frames_below s numbers links k f.placed)
-        (subst (λ (t : Tuple). HasNoUnifier (term_at s goal.0) (shifted_tuple s.variables t).head) e none),
+        ∙ enters_none (frames_at s links k) g r c m (term_at s goal.0) (h.1 s) s.variables (frames_below s numbers links k f.placed) q e none,
     view_kept s s' links k bs same ∙ view,
   )
 
@@ -77,25 +76,25 @@ module _ (s : Stored) (links : List Link) (k : ℕ) (bs : List Branch) (now : Ke
         → links' ≡ l ∷ links → n ≡ length links + 1 → bs' ≡ b ∷ bs → IsFramed s' links' n bs'
     entered_framed_so l i links' n bs' inside is le ne be = rw (le, be, is) (entered_framed (entered_link g c i m b.innermost) n inside refl ne)
 
-    has_entered : (goal : Cell) (i : Instance) → IsGoalAt links k (Some goal) → IsNumbered s → IsInstantiated i s s' goal.0 (canonical_tuple r)
+    has_entered : (goal : Cell) (i : Instance) (q : Tuple) → IsGoalAt links k (Some goal) → IsNumbered s → IsVariant r q → IsInstantiated i s s' goal.0 q
         → HasEntered (entering (frames_at s links k) g r c m) (view_of s links k bs) (view_of s' (entered_link g c i m b.innermost ∷ links) (length links + 1) (b ∷ bs))
-    has_entered goal i h numbers inst =
+    has_entered goal i q h numbers v inst =
         let l = entered_link g c i m b.innermost in
-        let t = shifted_tuple s.variables (canonical_tuple r) in
+        let t = shifted_tuple s.variables q in
         let e : frames_at s' (l ∷ links) (length links + 1) ≡ apply_frames (term_for inst.pairs) (entered g t c m ∷ frames_at s links k) =
         front_applied (term_for inst.pairs) s s' links g c m b.innermost i t inst.made f.placed inst.tuple
         ∙ ap (λ j. apply_frames (term_for inst.pairs) (entered g t c m ∷ frames_at s links j)) at.innermost in
         record {
-          renamed = enters_some (frames_at s links k) g r c m (term_at s goal.0) (h.1 s) s.variables (frames_below s numbers links k f.placed) inst.pairs (frames_at s' (l ∷ links) (length links + 1)) inst.unifier e;
+          renamed = enters_some (frames_at s links k) g r c m (term_at s goal.0) (h.1 s) s.variables (frames_below s numbers links k f.placed) q inst.pairs (frames_at s' (l ∷ links) (length links + 1)) v inst.unifier e;
           saved = saved-link s' l links (b ∷ bs) branch_framed.marked ∙ saved-branch s s' links k bs b at kept f;
         }
 
-    pub enters_so : (goal : Cell) (i : Instance) (q : Tuple) (links' : List Link) (n : ℕ) (bs' : List Branch) → IsGoalAt links k (Some goal) → IsNumbered s → q ≡ canonical_tuple r
+    pub enters_so : (goal : Cell) (i : Instance) (q : Tuple) (links' : List Link) (n : ℕ) (bs' : List Branch) → IsGoalAt links k (Some goal) → IsNumbered s → IsVariant r q
         → IsInstantiated i s s' goal.0 q → links' ≡ entered_link g c i m b.innermost ∷ links → n ≡ length links + 1 → bs' ≡ b ∷ bs
         → HasEntered (entering now.current g r c m) now (view_of s' links' n bs')
-    enters_so goal i q links' n bs' h numbers e inst le ne be =
+    enters_so goal i q links' n bs' h numbers v inst le ne be =
         let k : HasEntered (entering (frames_at s links k) g r c m) (view_of s links k bs) (view_of s' (entered_link g c i m b.innermost ∷ links) (length links + 1) (b ∷ bs)) =
-        has_entered goal i h numbers (subst (IsInstantiated i s s' goal.0) e inst) in
+        has_entered goal i q h numbers v inst in
         rw (le, ne, be) (subst (λ (x : Kept). HasEntered (entering x.current g r c m) x (view_of s' (entered_link g c i m b.innermost ∷ links) (length links + 1) (b ∷ bs))) view k)
 
 -- a built-in goal

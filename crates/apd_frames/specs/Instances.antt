@@ -3,13 +3,13 @@ use Rattle.std.specs.Prelude.{◌≡◌, ℕ, ◌<◌, ◌≤◌, List, [], ◌�
 use Rattle.apd_term.specs.Term.{Term, apply}
 use Rattle.apd_term.specs.Substitution.{term_for}
 use Rattle.apd_term.specs.Canonical.{shifted}
-use Rattle.apd_term.specs.Tuple.{apply_tuple}
+use Rattle.apd_term.specs.Tuple.{apply_tuple, canonical_tuple}
 use Rattle.apd_term.specs.declared.tuple.Tuple.{Tuple}
 use Rattle.apd_unify.specs.Unifier.{IsUnifier, HasNoUnifier}
 use Rattle.apd_unify.specs.declared.store.Cell.{Cell}
 use Rattle.apd_unify.specs.Stored.{Stored}
 use Rattle.apd_unify.specs.Store.{term_at, meaning, Keeps}
-use Rattle.apd_trace.specs.Frames.{shifted_tuple}
+use Rattle.apd_trace.specs.Frames.{is_large, shifted_tuple}
 use Rattle.apd_frames.specs.declared.instance.Instance.{Instance}
 
 -- the terms at some cells
@@ -53,6 +53,19 @@ abbrev pub Instantiates : Option Instance → Stored → Stored → ℕ → Tupl
 Instantiates None old new goal rule = HasNoUnifier (term_at old goal) (shifted_tuple old.variables rule).head
 Instantiates (Some i) old new goal rule = IsInstantiated i old new goal rule
 
+-- the two are each other with their variables renamed
+pub record IsVariant (rule variant : Tuple) : Type 0 where
+  pub there : ℕ → Term
+  pub back : ℕ → Term
+  pub makes : apply_tuple there rule ≡ variant
+  pub unmakes : apply_tuple back variant ≡ rule
+
+-- the instance of a variant of the rule, or none
+pub record InstantiatesVariant (o : Option Instance) (old new : Stored) (goal : ℕ) (rule : Tuple) : Type 0 where
+  pub variant : Tuple
+  pub renamed : IsVariant rule variant
+  pub is : Instantiates o old new goal variant
+
 -- two terms were made equal by a most general unifier, which was applied to the terms of all cells
 pub record IsUnited (old new : Stored) (a b : Term) : Type 0 where
   pub pairs : List (ℕ × Term)
@@ -63,3 +76,8 @@ pub record IsUnited (old new : Stored) (a b : Term) : Type 0 where
 abbrev pub Unites : Bool → Stored → Stored → Term → Term → Type 0
 Unites true old new a b = IsUnited old new a b
 Unites false old new a b = HasNoUnifier a b
+
+-- the tuple's canonical form, or none where it is too large
+abbrev pub CanonicalWithin : Tuple → Option Tuple → Type 0
+CanonicalWithin t None = is_large t ≡ true
+CanonicalWithin t (Some c) = (is_large t ≡ false) × (c ≡ canonical_tuple t)

@@ -61,6 +61,11 @@ abbrev pub point_in : List Frame → Option Step → Option Point
 point_in [] before = None
 point_in (f ∷ F) before = Some (point_at f before)
 
+-- the innermost frame as a point, or none where its instance is too large
+abbrev pub Points : Option Point → List Frame → Option Step → Type 0
+Points None F before = is_large_of F ≡ true
+Points (Some p) F before = (is_large_of F ≡ false) × (Some p ≡ point_in F before)
+
 -- kept frames are stored as the pair of their parts
 abbrev pub kept_code : Coded Kept
 kept_code =

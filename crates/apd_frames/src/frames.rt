@@ -9,7 +9,7 @@ ghost use Rattle.apd_clauses.specs.Clauses.{IsRunnable};
 ghost use Rattle.apd_trace.specs.Frames.{entering, left, look_of, handed_all, outer, owner_of, query_frame};
 ghost use Rattle.apd_trace.specs.BuiltIn.{solution};
 ghost use Rattle.apd_trace.specs.Renaming.{AreAlike};
-ghost use Rattle.apd_frames.specs.Kept.{Enters, MayCall, Takes, exit_in, is_large_of, newest_of, point_in};
+ghost use Rattle.apd_frames.specs.Kept.{Enters, MayCall, Takes, Points, exit_in, newest_of};
 ghost use Rattle.apd_frames.specs.Linked.{frames_at, frame_in, handed_link, entered_link, IsGoalAt, IsBranchAt};
 ghost use Rattle.apd_frames.specs.Instances.{IsInside};
 ghost use Rattle.apd_unify.specs.Stored.{Stored};
@@ -18,14 +18,14 @@ ghost use Rattle.apd_term.specs.Canonical.{canonical};
 ghost use Rattle.apd_frames.specs.Solves.{solution_as, Keeps};
 
 use crate::builtin::Solved;
-use crate::instance::{Instance, instantiate, is_large, load_all, resolved};
+use crate::instance::{Instance, canonical_within, instantiate, load_all};
 use crate::links::{Branch, Link, Links};
 use crate::settling::settle;
 use apd_base::ListOf;
-use apd_term::canonical::canonical;
 use apd_term::tuple::canonical_tuple;
 use apd_term::{Flat, Tuple};
 use apd_trace::{Called, Look, Point, Step};
+use apd_unify::scratch::Scratch;
 use apd_unify::stack::Stack;
 use apd_unify::store::{Cell, Store};
 use std::alloc::{AllocError, Global};
@@ -41,6 +41,7 @@ pub struct Frames {
     links: Links,
     innermost: usize,
     branches: Stack<Branch>,
+    scratch: Scratch,
 }
 
 impl Model for Frames {
@@ -79,21 +80,29 @@ fn owner(links: &Links, number: usize) -> u32
     }
 }
 
-/// The term at a cell as it is shown.
-fn shown(store: &Store, alloc: Global, cell: Cell) -> Result<Flat, AllocError>
+/// The term at a cell as it is shown. No memory has more symbols than a u64 can count.
+fn shown(store: &Store, scratch: &mut Scratch, cell: Cell) -> Result<Flat, AllocError>
     requires { cell.0 < length store.now.cells }
     ensures { IfOk result (λ t. t ≡ canonical (term_at store.now cell.0)) }
 {
-    let term = store.resolve(cell)?;
-    canonical(alloc, &term)
+    scratch.clear();
+    match store.number_within(scratch, cell, u64::MAX)? {
+        Some(term) => Ok(term),
+        None => Err(AllocError),
+    }
 }
 
 /// The link's head in its box.
-fn left(store: &Store, links: &Links, alloc: Global, link: &Link) -> Result<Called, AllocError>
+fn left(
+    store: &Store,
+    links: &Links,
+    scratch: &mut Scratch,
+    link: &Link,
+) -> Result<Called, AllocError>
     requires { IsInside (length store.now.cells) link.now.instance }
     ensures { IfOk result (λ g. g ≡ left (frame_in store.now link.now) (frames_at store.now links.now link.now.around)) }
 {
-    let atom = shown(store, alloc, link.instance.head)?;
+    let atom = shown(store, scratch, link.instance.head)?;
     Ok(Called {
         box_no: link.box_no,
         caller: owner(links, link.around),
@@ -106,7 +115,7 @@ fn left(store: &Store, links: &Links, alloc: Global, link: &Link) -> Result<Call
 fn look(
     store: &Store,
     links: &Links,
-    alloc: Global,
+    scratch: &mut Scratch,
     link: &Link,
     box_no: u32,
 ) -> Result<Look, AllocError>
@@ -116,7 +125,7 @@ fn look(
 {
     match link.instance.goals.get(link.done as usize) {
         Some(goal) => {
-            let atom = shown(store, alloc, *goal)?;
+            let atom = shown(store, scratch, *goal)?;
             Ok(Look::Goal(Called {
                 box_no,
                 caller: link.box_no,
@@ -125,7 +134,7 @@ fn look(
             }))
         }
         None => {
-            let called = left(store, links, alloc, link)?;
+            let called = left(store, links, scratch, link)?;
             if link.box_no == 0 {
                 return Ok(Look::Answer(called.atom));
             }
@@ -206,41 +215,34 @@ impl Frames {
             links,
             innermost: 1,
             branches: Stack::new(alloc),
+            scratch: Scratch::new(alloc),
         })
     }
 
     /// What the innermost frame does next, if the next box has this number.
-    pub fn look(&self, alloc: Global, box_no: u32) -> Result<Look, AllocError>
-        requires { MayCall self.now.current }
-        ensures { IfOk result (λ l. l ≡ look_of self.now.current box_no) }
+    pub fn look(&mut self, box_no: u32) -> Result<Look, AllocError>
+        requires { MayCall self.old.current }
+        ensures look { IfOk result (λ l. l ≡ look_of self.old.current box_no) }
+        ensures kept { self.new ≡ self.old }
     {
         match self.links.get(self.innermost) {
             None => Ok(Look::Nothing),
-            Some(link) => look(&self.store, &self.links, alloc, link, box_no),
+            Some(link) => look(&self.store, &self.links, &mut self.scratch, link, box_no),
         }
     }
 
     /// The innermost frame's head in its box, and its newest point.
-    pub fn exited(&self, alloc: Global) -> Result<(Called, u32), AllocError>
-        requires { 0 < length self.now.current }
-        ensures { IfOk result (λ e. Some e ≡ exit_in self.now.current) }
+    pub fn exited(&mut self) -> Result<(Called, u32), AllocError>
+        requires { 0 < length self.old.current }
+        ensures exit { IfOk result (λ e. Some e ≡ exit_in self.old.current) }
+        ensures kept { self.new ≡ self.old }
     {
         match self.links.get(self.innermost) {
             None => unreachable!(),
             Some(link) => {
-                let called = left(&self.store, &self.links, alloc, link)?;
+                let called = left(&self.store, &self.links, &mut self.scratch, link)?;
                 Ok((called, link.point))
             }
-        }
-    }
-
-    /// Whether the innermost frame's instance is too large.
-    pub fn is_large(&self) -> Result<bool, AllocError>
-        ensures { IfOk result (λ b. b ≡ is_large_of self.now.current) }
-    {
-        match self.links.get(self.innermost) {
-            None => Ok(false),
-            Some(link) => is_large(&self.store, &link.instance),
         }
     }
 
@@ -254,23 +256,35 @@ impl Frames {
         }
     }
 
-    /// The innermost frame as a point.
-    pub fn point(&self, alloc: Global, before: Option<Step>) -> Result<Point, AllocError>
-        requires { 0 < length self.now.current }
-        ensures { IfOk result (λ p. Some p ≡ point_in self.now.current before) }
+    /// The innermost frame as a point; none exactly where its instance is too large.
+    pub fn point(
+        &mut self,
+        alloc: Global,
+        before: Option<Step>,
+    ) -> Result<Option<Point>, AllocError>
+        requires { 0 < length self.old.current }
+        ensures point { IfOk result (λ p. Points p self.old.current before) }
+        ensures kept { self.new ≡ self.old }
     {
         match self.links.get(self.innermost) {
             None => unreachable!(),
             Some(link) => {
-                let instance = resolved(&self.store, alloc, &link.instance)?;
-                let tuple = canonical_tuple(alloc, &instance)?;
-                Ok(Point {
+                let within = canonical_within(
+                    &self.store,
+                    &mut self.scratch,
+                    alloc,
+                    &link.instance,
+                )?;
+                let Some(tuple) = within else {
+                    return Ok(None);
+                };
+                Ok(Some(Point {
                     owner: link.box_no,
                     clause: link.clause,
                     done: link.done,
                     tuple,
                     before,
-                })
+                }))
             }
         }
     }
@@ -293,9 +307,8 @@ impl Frames {
         if self.store.differs(goal, &rule.head) {
             return Ok(false);
         }
-        let canonical = canonical_tuple(alloc, rule)?;
         let branch = here(&self.store, &self.links, self.innermost);
-        let Some(instance) = instantiate(&mut self.store, alloc, goal, &canonical)? else {
+        let Some(instance) = instantiate(&mut self.store, alloc, goal, rule)? else {
             self.store.undo(branch.mark);
             return Ok(false);
         };

@@ -6,12 +6,14 @@ ghost use Rattle.apd_term.specs.Term.{variables, IsAmong, Occurs};
 ghost use Rattle.apd_unify.specs.Unifier.{OccursIn};
 ghost use Rattle.apd_unify.specs.Numbered.{IsNumbered};
 ghost use Rattle.apd_unify.specs.Store.{term_at, Keeps};
+ghost use Rattle.apd_clauses.specs.Clauses.{IsRunnable};
 ghost use Rattle.apd_frames.specs.Kept.{IsSmall};
-ghost use Rattle.apd_frames.specs.Instances.{terms_in, tuple_in, raised_in, AreInside, IsInside, HasGrown, Instantiates, Unites};
-ghost use Rattle.apd_trace.specs.Frames.{is_large};
+ghost use Rattle.apd_frames.specs.Instances.{terms_in, tuple_in, raised_in, AreInside, CanonicalWithin, IsInside, HasGrown, Instantiates, InstantiatesVariant, Unites};
 
+use crate::small::has_small_variables;
 use apd_base::{ListOf, MOST_INSTANCE_SYMBOLS};
-use apd_term::{Atoms, Flat, Tuple};
+use apd_term::{Atoms, Flat, Tuple, canonical_tuple};
+use apd_unify::scratch::Scratch;
 use apd_unify::store::{Cell, Store};
 use std::alloc::{AllocError, Global};
 
@@ -42,9 +44,9 @@ pub fn load_all(
     Ok(cells)
 }
 
-/// The clause's instance for the goal at a cell, where its head unifies with it. The clause's variables are raised above
-/// all others. After none or want of memory more terms may be there, and some variables may be bound.
-pub fn instantiate(
+/// The instance of a clause whose variables have small numbers, as [`instantiate`] makes it. They are raised above all
+/// others.
+fn instantiate_small(
     store: &mut Store,
     alloc: Global,
     goal: Cell,
@@ -66,6 +68,29 @@ pub fn instantiate(
     Ok(Some(Instance { head, goals }))
 }
 
+/// The clause's instance for the goal at a cell, where its head unifies with it; the clause, or its canonical form where
+/// its variables have great numbers. After none or want of memory more terms may be there, and some variables may be bound.
+pub fn instantiate(
+    store: &mut Store,
+    alloc: Global,
+    goal: Cell,
+    rule: &Tuple,
+) -> Result<Option<Instance>, AllocError>
+    requires goal { goal.0 < length store.old.cells }
+    requires runnable { IsRunnable rule.now }
+    ensures kept { Keeps store.old store.new }
+    ensures cells { length store.old.cells ≤ length store.new.cells }
+    ensures numbered { IsNumbered store.old }
+    ensures answer { IfOk result (λ o. InstantiatesVariant o store.old store.new goal.0 rule.now) }
+{
+    let _variables = store.variables();
+    if has_small_variables(rule) {
+        return instantiate_small(store, alloc, goal, rule);
+    }
+    let canonical = canonical_tuple(alloc, rule)?;
+    instantiate_small(store, alloc, goal, &canonical)
+}
+
 /// Makes two terms equal whose variables stand in the term at a cell, where they have a unifier.
 pub fn equate(store: &mut Store, goal: Cell, left: &Flat, right: &Flat) -> Result<bool, AllocError>
     requires goal { goal.0 < length store.old.cells }
@@ -81,34 +106,29 @@ pub fn equate(store: &mut Store, goal: Cell, left: &Flat, right: &Flat) -> Resul
     store.unify(a, b)
 }
 
-/// The instance's tuple, with all bindings applied.
-pub fn resolved(store: &Store, alloc: Global, instance: &Instance) -> Result<Tuple, AllocError>
+/// The instance's tuple in canonical form, with all bindings applied; none exactly where it has more symbols than it may
+/// have. No more than these are passed.
+pub fn canonical_within(
+    store: &Store,
+    scratch: &mut Scratch,
+    alloc: Global,
+    instance: &Instance,
+) -> Result<Option<Tuple>, AllocError>
     requires { IsInside (length store.now.cells) instance.now }
-    ensures { IfOk result (λ t. t ≡ tuple_in store.now instance.now) }
+    ensures { IfOk result (CanonicalWithin (tuple_in store.now instance.now)) }
 {
-    let head = store.resolve(instance.head)?;
+    scratch.clear();
+    let Some(head) = store.number_within(scratch, instance.head, MOST_INSTANCE_SYMBOLS)? else {
+        return Ok(None);
+    };
+    let mut left = MOST_INSTANCE_SYMBOLS - head.size();
     let mut body = Atoms::new(alloc);
     'goals: for goal in instance.goals.as_slice() {
-        let atom = store.resolve(*goal)?;
+        let Some(atom) = store.number_within(scratch, *goal, left)? else {
+            return Ok(None);
+        };
+        left -= atom.size();
         body.push(atom)?;
     }
-    Ok(Tuple { head, body })
-}
-
-/// Whether the instance has more symbols than it may have. No more than these are passed.
-pub fn is_large(store: &Store, instance: &Instance) -> Result<bool, AllocError>
-    requires { IsInside (length store.now.cells) instance.now }
-    ensures { IfOk result (λ b. b ≡ is_large (tuple_in store.now instance.now)) }
-{
-    let Some(size) = store.size_within(instance.head, MOST_INSTANCE_SYMBOLS)? else {
-        return Ok(true);
-    };
-    let mut left = MOST_INSTANCE_SYMBOLS - size;
-    'goals: for goal in instance.goals.as_slice() {
-        match store.size_within(*goal, left)? {
-            None => return Ok(true),
-            Some(more) => left -= more,
-        }
-    }
-    Ok(false)
+    Ok(Some(Tuple { head, body }))
 }

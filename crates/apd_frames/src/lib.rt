@@ -8,3 +8,4 @@ pub mod frames;
 pub mod instance;
 pub mod links;
 pub mod settling;
+mod small;

@@ -4,7 +4,6 @@ use Rattle.apd_unify.specs.First.{AreApart}
 use Rattle.apd_unify.specs.Store.{term_at}
 use Rattle.apd_frames.specs.Instances.{Instantiates, IsInstantiated}
 use Rattle.apd_frames.specs.Linked.{IsFramed}
-use Rattle.apd_frames.proofs.Numbers.{IsSmall-canonical}
 use Rattle.apd_frames.proofs.Branching.{framed_kept}
 use Rattle.apd_frames.proofs.Instancing.{undone, no_instance}
 use Rattle.apd_frames.proofs.Moving.{enters_no, enters_back, enters_so, branch_framed, entered_framed_so}
@@ -22,9 +21,6 @@ returns-then-differs c =
 pub instantiate-requires-clause-goal : goal.instantiate-requires-clause-goal
 instantiate-requires-clause-goal c = c.in-Some.ensures.0 (length c.self.inside.store.cells) c.self.invariant.placed
 
-pub instantiate-requires-clause-small : goal.instantiate-requires-clause-small
-instantiate-requires-clause-small c = IsSmall-canonical c.args.rule.now c.in_ok-canonical.canonical c.requires.short c.in_ok-canonical.ensures
-
 pub invariant_of-self : goal.invariant_of-self
 invariant_of-self c =
     framed_kept c.self.inside.store c.instantiate.new.store c.self.inside.links c.self.inside.innermost c.self.inside.branches c.instantiate.ensures.kept c.instantiate.ensures.cells c.self.invariant
@@ -32,8 +28,8 @@ invariant_of-self c =
 pub returns-in_default-2 : goal.returns-in_default-2
 returns-in_default-2 c =
     enters_back c.self.inside.store c.self.inside.links c.self.inside.innermost c.self.inside.branches c.args.self.now c.self.view_is c.self.invariant c.args.called.now c.args.rule.now c.args.clause c.args.point
-    c.in-Some.goal c.in_ok-canonical.canonical c.undo.new.self c.in-Some.ensures c.instantiate.ensures.numbered c.in_ok-canonical.ensures
-    (no_instance c.in_ok-instance.field-0 c.self.inside.store c.instantiate.new.store c.in-Some.goal.0 c.in_ok-canonical.canonical c.in_default-2.not-Some c.in_ok-instance.ensures.answer)
+    c.in-Some.goal c.in_ok-instance.ensures.answer.variant c.undo.new.self c.in-Some.ensures c.instantiate.ensures.numbered c.in_ok-instance.ensures.answer.renamed
+    (no_instance c.in_ok-instance.field-0 c.self.inside.store c.instantiate.new.store c.in-Some.goal.0 c.in_ok-instance.ensures.answer.variant c.in_default-2.not-Some c.in_ok-instance.ensures.answer.is)
     (undone c.self.inside.store c.instantiate.new.store c.undo.new.self c.here-branch.result.mark.0 c.instantiate.ensures.kept c.here-branch.ensures.mark c.undo.ensures)
 
 pub invariant_of-self-in_err-push : goal.invariant_of-self-in_err-push
@@ -49,15 +45,15 @@ invariant_of-self-in_err-self-inside c =
 
 pub invariant_of-self-2 : goal.invariant_of-self-2
 invariant_of-self-2 c =
-    let inst : IsInstantiated c.in-Some-2.instance c.self.inside.store c.instantiate.new.store c.in-Some.goal.0 c.in_ok-canonical.canonical = (subst (λ o. Instantiates o c.self.inside.store c.instantiate.new.store c.in-Some.goal.0 c.in_ok-canonical.canonical) c.in-Some-2.is c.in_ok-instance.ensures.answer) in
+    let inst : IsInstantiated c.in-Some-2.instance c.self.inside.store c.instantiate.new.store c.in-Some.goal.0 c.in_ok-instance.ensures.answer.variant = (subst (λ o. Instantiates o c.self.inside.store c.instantiate.new.store c.in-Some.goal.0 c.in_ok-instance.ensures.answer.variant) c.in-Some-2.is c.in_ok-instance.ensures.answer.is) in
     entered_framed_so c.self.inside.store c.self.inside.links c.self.inside.innermost c.self.inside.branches c.args.self.now c.self.view_is c.self.invariant c.args.called.now c.args.rule.now c.args.clause c.args.point c.instantiate.new.store c.here-branch.result c.instantiate.ensures.kept c.instantiate.ensures.cells c.here-branch.ensures
     c.entered-link.result c.in-Some-2.instance c.push-2.new.self c.in_ok-self-inside.field-0 c.push.new.self inst.inside c.entered-link.ensures
     c.in_ok-self-inside.ensures.ok c.in_ok-self-inside.ensures.number c.in_ok-push.ensures.ok
 
 pub returns : goal.returns
 returns c =
-    let inst : IsInstantiated c.in-Some-2.instance c.self.inside.store c.instantiate.new.store c.in-Some.goal.0 c.in_ok-canonical.canonical = (subst (λ o. Instantiates o c.self.inside.store c.instantiate.new.store c.in-Some.goal.0 c.in_ok-canonical.canonical) c.in-Some-2.is c.in_ok-instance.ensures.answer) in
+    let inst : IsInstantiated c.in-Some-2.instance c.self.inside.store c.instantiate.new.store c.in-Some.goal.0 c.in_ok-instance.ensures.answer.variant = (subst (λ o. Instantiates o c.self.inside.store c.instantiate.new.store c.in-Some.goal.0 c.in_ok-instance.ensures.answer.variant) c.in-Some-2.is c.in_ok-instance.ensures.answer.is) in
     enters_so c.self.inside.store c.self.inside.links c.self.inside.innermost c.self.inside.branches c.args.self.now c.self.view_is c.self.invariant c.args.called.now c.args.rule.now c.args.clause c.args.point c.instantiate.new.store c.here-branch.result c.instantiate.ensures.kept c.instantiate.ensures.cells c.here-branch.ensures
-    c.in-Some.goal c.in-Some-2.instance c.in_ok-canonical.canonical c.push-2.new.self c.in_ok-self-inside.field-0 c.push.new.self
-    c.in-Some.ensures c.instantiate.ensures.numbered c.in_ok-canonical.ensures inst
+    c.in-Some.goal c.in-Some-2.instance c.in_ok-instance.ensures.answer.variant c.push-2.new.self c.in_ok-self-inside.field-0 c.push.new.self
+    c.in-Some.ensures c.instantiate.ensures.numbered c.in_ok-instance.ensures.answer.renamed inst
     (c.in_ok-self-inside.ensures.ok ∙ ap (λ l. l ∷ c.self.inside.links) c.entered-link.ensures) c.in_ok-self-inside.ensures.number c.in_ok-push.ensures.ok

@@ -8,8 +8,8 @@ unreachable-requires c = (let e = ap length (innermost_none c.self.inside.store 
 pub left-requires : goal.left-requires
 left-requires c = (innermost_some c.self.inside.store c.self.inside.links c.self.inside.innermost c.self.inside.branches c.args.self.now c.in-Some.link.now c.self.view_is c.self.invariant c.in-Some.ensures).inside
 
-pub returns : goal.returns
-returns c =
+pub returns-clause-exit : goal.returns-clause-exit
+returns-clause-exit c =
     exits_so c.self.inside.store c.self.inside.links c.in-Some.link.now c.args.self.now
     (innermost_some c.self.inside.store c.self.inside.links c.self.inside.innermost c.self.inside.branches c.args.self.now c.in-Some.link.now c.self.view_is c.self.invariant c.in-Some.ensures)
     c.in_ok-called-in-Some.called c.in_ok-called-in-Some.ensures

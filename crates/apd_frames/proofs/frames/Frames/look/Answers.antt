@@ -4,8 +4,8 @@ use Rattle.apd_trace.specs.Frames.{look_of}
 use Rattle.apd_frames.proofs.Current.{innermost_some, innermost_none, may_call}
 use Rattle.apd_frames.proofs.frames.Frames.look.Goals as goal
 
-pub returns-in-None : goal.returns-in-None
-returns-in-None c = ap (λ F. look_of F c.args.box_no) (sym (innermost_none c.self.inside.store c.self.inside.links c.self.inside.innermost c.self.inside.branches c.args.self.now c.self.view_is c.in-None.ensures))
+pub returns-in-None-clause-look : goal.returns-in-None-clause-look
+returns-in-None-clause-look c = ap (λ F. look_of F c.args.box_no) (sym (innermost_none c.self.inside.store c.self.inside.links c.self.inside.innermost c.self.inside.branches c.args.self.now c.self.view_is c.in-None.ensures))
 
 pub look-requires-clause-inside : goal.look-requires-clause-inside
 look-requires-clause-inside c = (innermost_some c.self.inside.store c.self.inside.links c.self.inside.innermost c.self.inside.branches c.args.self.now c.in-Some.link.now c.self.view_is c.self.invariant c.in-Some.ensures).inside
@@ -16,8 +16,8 @@ look-requires-clause-deep c =
     (innermost_some c.self.inside.store c.self.inside.links c.self.inside.innermost c.self.inside.branches c.args.self.now c.in-Some.link.now c.self.view_is c.self.invariant c.in-Some.ensures)
     c.requires
 
-pub returns-in-Some : goal.returns-in-Some
-returns-in-Some c =
+pub returns-in-Some-clause-look : goal.returns-in-Some-clause-look
+returns-in-Some-clause-look c =
     IfOk-weaker c.look.result _ _
     (λ l e. e ∙ ap (λ F. look_of F c.args.box_no) (sym (innermost_some c.self.inside.store c.self.inside.links c.self.inside.innermost c.self.inside.branches c.args.self.now c.in-Some.link.now c.self.view_is c.self.invariant c.in-Some.ensures).is))
     c.look.ensures

@@ -1,15 +1,22 @@
 use Rattle.std.proofs.Common.{length, ap, arith}
-use Rattle.apd_frames.proofs.Current.{innermost_some, innermost_none, point_so}
+use Rattle.apd_frames.proofs.Current.{innermost_some, innermost_none, too_large, point_so}
+use Rattle.apd_frames.proofs.Writing.{none_so}
 use Rattle.apd_frames.proofs.frames.Frames.point.Goals as goal
 
 pub unreachable-requires : goal.unreachable-requires
 unreachable-requires c = (let e = ap length (innermost_none c.self.inside.store c.self.inside.links c.self.inside.innermost c.self.inside.branches c.args.self.now c.self.view_is c.in-None.ensures) in omega (arith, c.requires, e))
 
-pub resolved-requires : goal.resolved-requires
-resolved-requires c = (innermost_some c.self.inside.store c.self.inside.links c.self.inside.innermost c.self.inside.branches c.args.self.now c.in-Some.link.now c.self.view_is c.self.invariant c.in-Some.ensures).inside
+pub canonical_within-requires : goal.canonical_within-requires
+canonical_within-requires c = (innermost_some c.self.inside.store c.self.inside.links c.self.inside.innermost c.self.inside.branches c.args.self.now c.in-Some.link.now c.self.view_is c.self.invariant c.in-Some.ensures).inside
 
-pub returns : goal.returns
-returns c =
+pub returns-in_default-clause-point : goal.returns-in_default-clause-point
+returns-in_default-clause-point c =
+    too_large c.self.inside.store c.self.inside.links c.in-Some.link.now c.args.self.now
+    (innermost_some c.self.inside.store c.self.inside.links c.self.inside.innermost c.self.inside.branches c.args.self.now c.in-Some.link.now c.self.view_is c.self.invariant c.in-Some.ensures)
+    c.in_ok-within-in-Some.within c.args.before c.in_ok-within-in-Some.ensures (none_so c.in_ok-within-in-Some.within c.in_default.not-Some)
+
+pub returns-clause-point : goal.returns-clause-point
+returns-clause-point c =
     point_so c.self.inside.store c.self.inside.links c.in-Some.link.now c.args.self.now
     (innermost_some c.self.inside.store c.self.inside.links c.self.inside.innermost c.self.inside.branches c.args.self.now c.in-Some.link.now c.self.view_is c.self.invariant c.in-Some.ensures)
-    c.in_ok-instance-in-Some.instance c.in_ok-tuple-in-Some.tuple c.args.before c.in_ok-instance-in-Some.ensures c.in_ok-tuple-in-Some.ensures
+    c.in_ok-within-in-Some.within c.in-Some-within.tuple c.args.before c.in_ok-within-in-Some.ensures c.in-Some-within.is

@@ -1,0 +1,7 @@
+use Rattle.std.proofs.Common.{drop}
+use Rattle.apd_frames.specs.Instances.{terms_in, tuple_in}
+use Rattle.apd_frames.proofs.Writing.{IsNumbering}
+use Rattle.apd_frames.proofs.instance.canonical_within.Given as goal
+
+abbrev pub invariant-goals : goal.invariant-goals
+invariant-goals l = IsNumbering (tuple_in l.store l.instance) l.scratch (terms_in l.store (drop l.goal-index l.instance.goals)) l.body l.left

@@ -4,7 +4,7 @@ ghost use Rattle.std.specs.Prelude.{◌≡◌, ◌≤◌, ◌<◌, ◌^◌, leng
 ghost use Rattle.apd_term.specs.Term.{arity_of};
 ghost use Rattle.apd_intern.specs.Nodes.{Adds, IsFrontOf, AreDistinct, symbol_of, arguments_of, IsLinked, rest_at, IsRest};
 
-use crate::hints::Hints;
+use crate::hints::{Hints, number_of, number_of_link};
 use apd_term::{NameId, Sym};
 use indexmap::IndexSet;
 use std::alloc::AllocError;
@@ -42,20 +42,37 @@ pub fn symbol_of(node: Node) -> Sym
     }
 }
 
+/// Where the link stands, if it stands where the hints say.
+fn find_link(links: &IndexSet<Link>, hints: &Hints, link: Link) -> Option<u32>
+    ensures { IfSome result (λ p. slice_get links.now.keys p ≡ Some link) }
+{
+    let place = hints.get(number_of_link(link))?;
+    let kept = links.get_index(place as usize)?;
+    if *kept == link { Some(place) } else { None }
+}
+
 /// Where a link stands, which is put at the end if it isn't there.
-fn put_link(links: &mut IndexSet<Link>, link: Link) -> Result<u32, AllocError>
+fn put_link(links: &mut IndexSet<Link>, hints: &mut Hints, link: Link) -> Result<u32, AllocError>
     ensures place { IfOk result (λ p. slice_get links.new.keys p ≡ Some link) }
     ensures adds { Adds links.old.keys link links.new.keys }
 {
+    if let Some(place) = find_link(links, hints, link) {
+        return Ok(place);
+    }
     if links.len() >= MOST {
         return Err(AllocError);
     }
     let (place, _) = links.insert_full(link)?;
+    hints.note(number_of_link(link), place as u32);
     Ok(place as u32)
 }
 
 /// Where arguments are that have these places, the last one first.
-fn put_rest(links: &mut IndexSet<Link>, places: &[u32]) -> Result<u32, AllocError>
+fn put_rest(
+    links: &mut IndexSet<Link>,
+    hints: &mut Hints,
+    places: &[u32],
+) -> Result<u32, AllocError>
     ensures rest { IfOk result (λ r. IsRest links.new.keys (length places.now) r) }
     ensures places { IfOk result (λ r. rest_at links.new.keys (length places.now) r ≡ reverse places.now) }
     ensures grown { IsFrontOf links.old.keys links.new.keys }
@@ -70,7 +87,7 @@ fn put_rest(links: &mut IndexSet<Link>, places: &[u32]) -> Result<u32, AllocErro
             first: places[i],
             rest,
         };
-        rest = put_link(links, link)?;
+        rest = put_link(links, hints, link)?;
     }
     Ok(rest)
 }
@@ -78,6 +95,7 @@ fn put_rest(links: &mut IndexSet<Link>, places: &[u32]) -> Result<u32, AllocErro
 /// The node of a symbol over the newest of these places, which are taken off.
 pub fn node_of(
     links: &mut IndexSet<Link>,
+    hints: &mut Hints,
     symbol: Sym,
     places: &mut Vec<u32>,
 ) -> Result<Node, AllocError>
@@ -97,7 +115,7 @@ pub fn node_of(
             let end = places.len() - 1;
             let from = places.len() - arity as usize;
             let first = places[end];
-            let rest = put_rest(links, &places[from..end])?;
+            let rest = put_rest(links, hints, &places[from..end])?;
             places.truncate(from);
             Ok(Node::Compound(name, arity, first, rest))
         }
@@ -108,7 +126,7 @@ pub fn node_of(
 fn find_by_hint(nodes: &IndexSet<Node>, hints: &Hints, node: Node) -> Option<u32>
     ensures { IfSome result (λ p. slice_get nodes.now.keys p ≡ Some node) }
 {
-    let place = hints.get(node)?;
+    let place = hints.get(number_of(node))?;
     let kept = nodes.get_index(place as usize)?;
     if *kept == node { Some(place) } else { None }
 }
@@ -131,6 +149,6 @@ pub fn put_node(
         return Err(AllocError);
     }
     let (place, _) = nodes.insert_full(node)?;
-    hints.note(node, place as u32);
+    hints.note(number_of(node), place as u32);
     Ok(place as u32)
 }

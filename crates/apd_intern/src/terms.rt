@@ -23,7 +23,8 @@ pub struct Terms {
     alloc: Global,
     nodes: IndexSet<Node>,
     links: IndexSet<Link>,
-    hints: Hints,
+    node_hints: Hints,
+    link_hints: Hints,
 }
 
 impl Model for Terms {
@@ -51,7 +52,8 @@ impl Terms {
             alloc,
             nodes: IndexSet::new(alloc),
             links: IndexSet::new(alloc),
-            hints: Hints::new(alloc),
+            node_hints: Hints::new(alloc),
+            link_hints: Hints::new(alloc),
         }
     }
 
@@ -73,8 +75,8 @@ impl Terms {
         ensures terms { OnOk result (terms_at self.new places.new.items ≡ applied symbol (terms_at self.old places.old.items)) }
         ensures adds { Adds self.old (first_of (applied symbol (terms_at self.old places.old.items))) self.new }
     {
-        let node = node_of(&mut self.links, symbol, places)?;
-        let place = put_node(&mut self.nodes, &mut self.hints, node)?;
+        let node = node_of(&mut self.links, &mut self.link_hints, symbol, places)?;
+        let place = put_node(&mut self.nodes, &mut self.node_hints, node)?;
         places.push(place)?;
         Ok(())
     }
@@ -86,7 +88,8 @@ impl Terms {
         ensures few { IfOk result (λ id. id.0 < 2 ^ 32) }
         ensures grown { GrowsBySubterms t.now self.old self.new }
     {
-        self.hints.make_room(self.alloc)?;
+        self.node_hints.make_room(self.alloc)?;
+        self.link_hints.make_room(self.alloc)?;
         let symbols = t.symbols();
         let mut places = Vec::new(self.alloc);
         let mut k = symbols.len();

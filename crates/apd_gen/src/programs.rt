@@ -1,6 +1,7 @@
 //! The text of the program: a line for each node.
 
-ghost use Rattle.std.specs.Prelude.{◌≡◌, ◌++◌, IfOk, OnOk};
+ghost use Rattle.std.specs.Prelude.{◌≡◌, ◌≤◌, ◌++◌, length, IfOk, OnOk};
+ghost use Rattle.apd_base.specs.declared.limits.TheConstants.{MAX_FILE};
 ghost use Rattle.apd_gen.specs.Nodes.{IsNode, IsNodeCount};
 ghost use Rattle.apd_gen.specs.Programs.{name_of, below, body_of, line_of, tree_text};
 
@@ -48,10 +49,11 @@ fn add_line(alloc: Global, n: u32, i: u32, out: &mut Text) -> Result<(), AllocEr
 }
 
 /// The program of a tree of so many nodes, from 1 to 10,000: line i has the clause of node i, whose goals are the nodes 2i and
-/// 2i + 1 as far as there are such. The only error is want of memory.
+/// 2i + 1 as far as there are such. It is no longer than a file may be. The only error is want of memory.
 pub fn tree_program(alloc: Global, n: u32) -> Result<Text, AllocError>
     requires { IsNodeCount n }
-    ensures { IfOk result (λ t. t ≡ tree_text n) }
+    ensures text { IfOk result (λ t. t ≡ tree_text n) }
+    ensures size { IfOk result (λ t. length t ≤ MAX_FILE) }
 {
     let mut text = Text::new(alloc);
     'nodes: for i in 0..n {

@@ -1,6 +1,7 @@
 -- What the getters of clap's matches give, and when it finds a fault.
-use Rattle.std.proofs.Common.{◌≡◌, ◌∙◌, ◌⊎◌, inl, inr, ℕ, List, [], ◌∷◌, true, false, Option, None, refl, sym, ap, subst, codes}
-use Rattle.std.specs.Prelude.{if◌then◌else◌}
+use Rattle.std.proofs.Common.{◌≡◌, ◌∙◌, ◌⊎◌, inl, inr, ℕ, List, [], ◌∷◌, true, false, Option, None, Some, refl, sym, ap, subst, codes}
+use Rattle.std.specs.Prelude.{MatchOption, if◌then◌else◌}
+use Rattle.std.specs.Option.{option_map}
 use Rattle.clap.specs.declared.parser.matches.Found.{Found}
 use Rattle.clap.specs.Words.{App, Kinds, IsAmong, Row, fault_of, first_value, is_simple_and_free, is_simple, matches_of, rows_of}
 use Rattle.clap.proofs.WalkLemmas.{first_value-rows}
@@ -9,20 +10,28 @@ use Rattle.clap.specs.declared.error.kind.ErrorKind.{ErrorKind}
 use Rattle.clap.specs.declared.error.kind.ErrorKind.TheVariants.{OutOfMemory}
 use Rattle.apd_ports.specs.declared.filter.Filter.{Filter}
 use Rattle.apd_divide.specs.declared.node.Strategy.{Strategy}
-use Rattle.apd_words.specs.Words.{command, filter_of, is_faultless, limit_or, options_from, options_in, options_of, strategy_or}
+use Rattle.apd_words.specs.declared.options.Subject as subjects
+use Rattle.apd_words.specs.Words.{Subject, asked_subject, command, filter_of, is_faultless, limit_or, options_from, options_in, options_of, strategy_or, subject_from}
 
 -- the options of what the getters give are those of the matches
-pub gathered : (found : Found) (budget answers : Option ℕ) (filter : Filter) (strategy : Option Strategy) (b a t s o p : Option (List ℕ)) →
-    b ≡ first_value found (codes "budget") → a ≡ first_value found (codes "answers") → t ≡ first_value found (codes "trace") → s ≡ first_value found (codes "strategy") → o ≡ first_value found (codes "oracle") → p ≡ first_value found (codes "program") →
-    budget ≡ limit_or 100000 b → answers ≡ limit_or 1000000 a → filter ≡ filter_of t → strategy ≡ strategy_or s → options_in (rows_of found) ≡ options_from budget answers filter strategy o p
-gathered found budget answers filter strategy b a t s o p is_b is_a is_t is_s is_o is_p is_budget is_answers is_filter is_strategy =
+pub gathered : (found : Found) (budget answers : Option ℕ) (filter : Filter) (strategy : Option Strategy) (subject : Option Subject) (b a t s o d p : Option (List ℕ)) →
+    b ≡ first_value found (codes "budget") → a ≡ first_value found (codes "answers") → t ≡ first_value found (codes "trace") → s ≡ first_value found (codes "strategy") → o ≡ first_value found (codes "oracle") → d ≡ first_value found (codes "demo") → p ≡ first_value found (codes "program") →
+    budget ≡ limit_or 100000 b → answers ≡ limit_or 1000000 a → filter ≡ filter_of t → strategy ≡ strategy_or s → subject ≡ subject_from d o p → options_in (rows_of found) ≡ options_from budget answers filter strategy o subject
+gathered found budget answers filter strategy subject b a t s o d p is_b is_a is_t is_s is_o is_d is_p is_budget is_answers is_filter is_strategy is_subject =
     let same_budget = ap (limit_or 100000) (sym (first_value-rows found (codes "budget")) ∙ sym is_b) ∙ sym is_budget in
     let same_answers = ap (limit_or 1000000) (sym (first_value-rows found (codes "answers")) ∙ sym is_a) ∙ sym is_answers in
     let same_filter = ap filter_of (sym (first_value-rows found (codes "trace")) ∙ sym is_t) ∙ sym is_filter in
     let same_strategy = ap strategy_or (sym (first_value-rows found (codes "strategy")) ∙ sym is_s) ∙ sym is_strategy in
     let same_oracle = sym (first_value-rows found (codes "oracle")) ∙ sym is_o in
     let same_program = sym (first_value-rows found (codes "program")) ∙ sym is_p in
-    λ i. options_from (same_budget i) (same_answers i) (same_filter i) (same_strategy i) (same_oracle i) (same_program i)
+    let same_demo = sym (first_value-rows found (codes "demo")) ∙ sym is_d in
+    let same_subject = (λ i. subject_from (same_demo i) (same_oracle i) (same_program i)) ∙ sym is_subject in
+    λ i. options_from (same_budget i) (same_answers i) (same_filter i) (same_strategy i) (same_oracle i) (same_subject i)
+
+-- what is debugged, as it is asked for
+pub subject_is : (o : Option Subject) (asked : Option subjects.Subject) → MatchOption asked (o ≡ None) (λ s. o ≡ Some (asked_subject s)) → option_map asked_subject asked ≡ o
+subject_is o None is = sym is
+subject_is o (Some s) is = sym is
 
 -- clap tells the matches and the faults of this command
 pub command_is_simple : is_simple command ≡ true

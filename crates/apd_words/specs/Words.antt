@@ -1,5 +1,5 @@
 -- What the words of the command line ask for, as the crate clap takes them for one simple command.
-use Rattle.std.specs.Prelude.{ℕ, ◌<◌, ◌≤◌, ◌&&◌, List, [], ◌∷◌, length, Bool, true, false, if◌then◌else◌, Option, None, Some, nat_le, codes, map, String, string_bytes}
+use Rattle.std.specs.Prelude.{ℕ, ◌≡◌, ◌<◌, ◌≤◌, ◌&&◌, List, [], ◌∷◌, length, Bool, true, false, if◌then◌else◌, Option, None, Some, nat_le, codes, map, String, string_bytes, ⊤}
 use Rattle.std.specs.Char.{is_ascii_digit}
 use Rattle.std.specs.List.{list_all, fold}
 use Rattle.std.specs.Option.{option_map}
@@ -11,14 +11,18 @@ use Rattle.apd_ports.specs.declared.filter.Filter.{Filter}
 use Rattle.apd_ports.specs.declared.filter.Filter.TheVariants.{Off, All}
 use Rattle.apd_divide.specs.declared.node.Strategy.{Strategy}
 use Rattle.apd_divide.specs.declared.node.Strategy.TheVariants.{Divide, Single, Top}
+use Rattle.apd_gen.specs.Nodes.{IsNodeCount}
+use Rattle.apd_gen.specs.declared.nodes.TheConstants.{MOST_NODES}
 use Rattle.apd_words.specs.declared.options.Asked.{Asked}
+use Rattle.apd_words.specs.declared.options.Subject as subjects
 use Rattle.apd_base.specs.declared.limits.TheConstants.{MOST_SHOWN, USUAL_BUDGET}
 
 -- the bytes of each word
 abbrev pub bytes_of : {A : Type 0} → List (String A) → List (List ℕ)
 bytes_of words = map (λ w. string_bytes w) words
 
--- The command: `--budget N`, `--answers N`, `--strategy NAME`, `--oracle FILE`, `--trace` and the name of a file, none of which clap requires.
+-- The command: `--budget N`, `--answers N`, `--strategy NAME`, `--oracle FILE`, `--demo N`, `--trace` and the name of a file, none of which
+-- clap requires.
 
 -- an option with one value
 abbrev pub option_rule : List ℕ → Rule
@@ -34,14 +38,28 @@ program_rule = record (new_rule (codes "program")) { action = Some Set }
 abbrev pub arguments : List Rule
 arguments =
     option_rule (codes "budget") ∷ option_rule (codes "answers") ∷ option_rule (codes "strategy") ∷ option_rule (codes "oracle") ∷
-    trace_rule ∷ program_rule ∷ []
+    option_rule (codes "demo") ∷ trace_rule ∷ program_rule ∷ []
 
 unfoldable pub command : App
 command = fold with_rule (new_app (codes "apd")) arguments
 
+-- what is debugged: the program in the file of this name, or, as a demonstration, the program of a tree of so many nodes
+pub data Subject : Type 0 where
+  InFile : List ℕ → Subject
+  OfTree : ℕ → Subject
+
+abbrev pub asked_subject : subjects.Subject → Subject
+asked_subject (subjects.TheVariants.File name) = InFile name.now
+asked_subject (subjects.TheVariants.Tree nodes) = OfTree nodes
+
+-- a tree has 1 to 10,000 nodes, and no oracle file
+abbrev pub StandsAlone : Subject → Option (List ℕ) → Type 0
+StandsAlone (InFile name) oracle = ⊤
+StandsAlone (OfTree nodes) oracle = IsNodeCount nodes × (oracle ≡ None)
+
 -- what the words ask for
 pub record Options : Type 0 where
-  pub program : List ℕ
+  pub subject : Subject
   pub budget : ℕ
   pub answers : ℕ
   pub filter : Filter
@@ -50,7 +68,7 @@ pub record Options : Type 0 where
 
 -- what was asked for, as options
 abbrev pub asked_options : Asked → Options
-asked_options a = record { program = a.program.now; budget = a.budget; answers = a.answers; filter = a.filter; strategy = a.strategy; oracle = option_map (λ s. s.now) a.oracle }
+asked_options a = record { subject = asked_subject a.subject; budget = a.budget; answers = a.answers; filter = a.filter; strategy = a.strategy; oracle = option_map (λ s. s.now) a.oracle }
 
 -- limits on ports and on answers are from 1 to 1,000,000
 pub record AreLimits (ports answers : ℕ) : Type 0 where
@@ -59,22 +77,22 @@ pub record AreLimits (ports answers : ℕ) : Type 0 where
   pub some_answers : 0 < answers
   pub few_answers : answers ≤ MOST_SHOWN
 
--- a limit is from 1 to 1,000,000
-abbrev pub limit_at : ℕ → Option ℕ
-limit_at n = if nat_le 1 n && nat_le n MOST_SHOWN then Some n else None
+-- a number from 1 to the most
+abbrev pub within : ℕ → ℕ → Option ℕ
+within most n = if nat_le 1 n && nat_le n most then Some n else None
 
 -- a word of 1 to 7 decimal digits
 abbrev pub is_number : List ℕ → Bool
 is_number word = nat_le 1 (length word) && (nat_le (length word) 7 && list_all is_ascii_digit word)
 
--- the limit that such a word writes
-abbrev pub limit_of : List ℕ → Option ℕ
-limit_of word = if is_number word then limit_at (digits_value 10 word) else None
+-- the number from 1 to the most that such a word writes
+abbrev pub number_of : ℕ → List ℕ → Option ℕ
+number_of most word = if is_number word then within most (digits_value 10 word) else None
 
--- the limit that a value gives; without a value it is the usual one
+-- the limit that a value gives, from 1 to 1,000,000; without a value it is the usual one
 abbrev pub limit_or : ℕ → Option (List ℕ) → Option ℕ
 limit_or usual None = Some usual
-limit_or usual (Some word) = limit_of word
+limit_or usual (Some word) = number_of MOST_SHOWN word
 
 -- all ports are printed where the flag is set
 abbrev pub filter_of : Option (List ℕ) → Filter
@@ -94,17 +112,33 @@ abbrev pub strategy_or : Option (List ℕ) → Option Strategy
 strategy_or None = Some Divide
 strategy_or (Some word) = strategy_named word
 
--- the options that values give, where each limit keeps its rule, the strategy is known and a file is named
-abbrev pub options_from : Option ℕ → Option ℕ → Filter → Option Strategy → Option (List ℕ) → Option (List ℕ) → Option Options
-options_from (Some budget) (Some answers) filter (Some strategy) oracle (Some program) =
-    Some (record { program = program; budget = budget; answers = answers; filter = filter; strategy = strategy; oracle = oracle })
-options_from budget answers filter strategy oracle program = None
+-- a tree of so many nodes, where there is a number
+abbrev pub tree_of : Option ℕ → Option Subject
+tree_of None = None
+tree_of (Some nodes) = Some (OfTree nodes)
+
+-- what is debugged, by the values that name how many nodes a tree has, an oracle file and a program's file: exactly one of the
+-- first and the last, and a tree has no oracle file
+abbrev pub subject_from : Option (List ℕ) → Option (List ℕ) → Option (List ℕ) → Option Subject
+subject_from None oracle None = None
+subject_from None oracle (Some program) = Some (InFile program)
+subject_from (Some demo) None None = tree_of (number_of MOST_NODES demo)
+subject_from (Some demo) None (Some program) = None
+subject_from (Some demo) (Some oracle) program = None
+
+-- the options that values give, where each limit keeps its rule, the strategy is known and something is debugged
+abbrev pub options_from : Option ℕ → Option ℕ → Filter → Option Strategy → Option (List ℕ) → Option Subject → Option Options
+options_from (Some budget) (Some answers) filter (Some strategy) oracle (Some subject) =
+    Some (record { subject = subject; budget = budget; answers = answers; filter = filter; strategy = strategy; oracle = oracle })
+options_from budget answers filter strategy oracle subject = None
 
 -- the options that clap's matches give
 abbrev pub options_in : List Row → Option Options
 options_in rows =
+    let oracle = first_of (codes "oracle") rows in
     options_from (limit_or USUAL_BUDGET (first_of (codes "budget") rows)) (limit_or MOST_SHOWN (first_of (codes "answers") rows))
-    (filter_of (first_of (codes "trace") rows)) (strategy_or (first_of (codes "strategy") rows)) (first_of (codes "oracle") rows) (first_of (codes "program") rows)
+    (filter_of (first_of (codes "trace") rows)) (strategy_or (first_of (codes "strategy") rows)) oracle
+    (subject_from (first_of (codes "demo") rows) oracle (first_of (codes "program") rows))
 
 -- there is no fault
 abbrev pub is_faultless : Kinds → Bool

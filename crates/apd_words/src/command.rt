@@ -15,7 +15,8 @@ fn option<'a>(alloc: Global, name: &'a str) -> Arg<'a>
     Arg::new(alloc, name).long(name).action(ArgAction::Set)
 }
 
-/// One simple command: two limits, a strategy, the name of an oracle file, a flag and the name of a file.
+/// One simple command: two limits, a strategy, the name of an oracle file, how many nodes a demonstration has, a flag and the
+/// name of a file.
 pub(crate) fn command<'a>(alloc: Global) -> Result<Command<'a>, AllocError>
     ensures { IfOk result (λ c. app_of c ≡ command) }
 {
@@ -23,6 +24,7 @@ pub(crate) fn command<'a>(alloc: Global) -> Result<Command<'a>, AllocError>
     let answers = option(alloc, "answers");
     let strategy = option(alloc, "strategy");
     let oracle = option(alloc, "oracle");
+    let demo = option(alloc, "demo");
     let trace = Arg::new(alloc, "trace")
         .long("trace")
         .action(ArgAction::SetTrue);
@@ -32,6 +34,7 @@ pub(crate) fn command<'a>(alloc: Global) -> Result<Command<'a>, AllocError>
         .arg(answers)?
         .arg(strategy)?
         .arg(oracle)?
+        .arg(demo)?
         .arg(trace)?
         .arg(program)?;
     Ok(command)

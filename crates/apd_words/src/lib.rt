@@ -2,7 +2,9 @@
 #![tactic(auto)]
 
 mod command;
+mod laws;
 mod limits;
 mod options;
 
-pub use options::{Asked, read_words};
+pub use laws::a_tree_stands_alone;
+pub use options::{Asked, Subject, read_words};

@@ -1,9 +1,9 @@
-//! Limits, as words write them.
+//! Limits and other numbers, as words write them.
 
 ghost use Rattle.std.specs.Prelude.{◌≡◌, ◌<◌, ◌≤◌, IfSome, option_map};
 ghost use Rattle.std.specs.Char.{is_ascii_digit};
 ghost use Rattle.std.specs.List.{list_all};
-ghost use Rattle.apd_words.specs.Words.{is_number, limit_at, limit_of, limit_or};
+ghost use Rattle.apd_words.specs.Words.{is_number, limit_or, number_of, within};
 ghost use Rattle.apd_base.specs.declared.limits.TheConstants.{MOST_SHOWN};
 
 use apd_base::MOST_SHOWN;
@@ -23,27 +23,27 @@ fn is_number(word: &[u8]) -> bool
     1 <= word.len() && (word.len() <= MOST_DIGITS && are_digits(word))
 }
 
-/// The number, where it is from 1 to 1,000,000.
-fn limit_at(number: u32) -> Option<u32>
-    ensures limit { result ≡ limit_at number }
-    ensures within { IfSome result (λ n. (0 < n) × (n ≤ MOST_SHOWN)) }
+/// The number, where it is from 1 to the most.
+fn within(most: u32, number: u32) -> Option<u32>
+    ensures number { result ≡ within most number }
+    ensures within { IfSome result (λ n. (0 < n) × (n ≤ most)) }
 {
-    if 1 <= number && number <= MOST_SHOWN {
+    if 1 <= number && number <= most {
         return Some(number);
     }
     None
 }
 
-/// The limit that a word of 1 to 7 decimal digits writes.
-fn limit_of(word: &str) -> Option<u32>
-    ensures limit { result ≡ limit_of word.now }
-    ensures within { IfSome result (λ n. (0 < n) × (n ≤ MOST_SHOWN)) }
+/// The number from 1 to the most that a word of 1 to 7 decimal digits writes.
+pub(crate) fn number_of(most: u32, word: &str) -> Option<u32>
+    ensures number { result ≡ number_of most word.now }
+    ensures within { IfSome result (λ n. (0 < n) × (n ≤ most)) }
 {
     if !is_number(word.as_bytes()) {
         return None;
     }
     match word.parse::<u32>() {
-        Ok(number) => limit_at(number),
+        Ok(number) => within(most, number),
         Err(_) => None,
     }
 }
@@ -56,6 +56,6 @@ pub(crate) fn limit_or(usual: u32, value: Option<&str>) -> Option<u32>
 {
     match value {
         None => Some(usual),
-        Some(word) => limit_of(word),
+        Some(word) => number_of(MOST_SHOWN, word),
     }
 }

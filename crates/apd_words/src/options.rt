@@ -2,23 +2,34 @@
 
 ghost use Rattle.std.specs.Prelude.{◌≡◌, ◌<◌, ◌≤◌, IfOk, IfSome, MatchOption, Some, None, option_map};
 ghost use Rattle.clap.specs.Words.{found_of, rows_of};
-ghost use Rattle.apd_words.specs.Words.{AreLimits, Options, asked_options, bytes_of, filter_of, options_from, options_in, options_of, strategy_named, strategy_or};
+ghost use Rattle.apd_words.specs.Words.{AreLimits, asked_options, asked_subject, bytes_of, filter_of, options_from, options_in, options_of, number_of, strategy_named, strategy_or, subject_from, tree_of};
 ghost use Rattle.apd_base.specs.declared.limits.TheConstants.{MOST_SHOWN};
+ghost use Rattle.apd_gen.specs.declared.nodes.TheConstants.{MOST_NODES};
 
 use crate::command::command;
-use crate::limits::limit_or;
+use crate::limits::{limit_or, number_of};
 use apd_base::{MOST_SHOWN, USUAL_BUDGET};
 use apd_divide::Strategy;
+use apd_gen::MOST_NODES;
 use apd_ports::Filter;
 use clap::ArgMatches;
 use clap::error::ErrorKind;
 use std::alloc::{AllocError, Global};
 
+/// What is debugged.
+#[derive(Clone, Copy)]
+pub enum Subject<'a> {
+    /// The program in the file of this name.
+    File(&'a str),
+    /// As a demonstration, the program of a tree of so many nodes, from 1 to 10,000.
+    Tree(u32),
+}
+
 /// What the words ask for.
 #[derive(Drop)]
 pub struct Asked<'a> {
-    /// The name of the program's file.
-    pub program: &'a str,
+    /// What is debugged.
+    pub subject: Subject<'a>,
     /// The most ports that a run shows, from 1 to 1,000,000.
     pub budget: u32,
     /// The most answers that a run shows, from 1 to 1,000,000.
@@ -27,7 +38,7 @@ pub struct Asked<'a> {
     pub filter: Filter,
     /// How a diagnosis chooses what it asks about.
     pub strategy: Strategy,
-    /// The name of the oracle file, where one is given.
+    /// The name of the oracle file, where one is given, which a tree has not.
     pub oracle: Option<&'a str>,
 }
 
@@ -63,24 +74,51 @@ fn strategy_or(value: Option<&str>) -> Option<Strategy>
     }
 }
 
-/// The options that values give, where each limit keeps its rule, the strategy is known and a file is named.
+/// The tree of so many nodes as a word writes.
+fn tree_of<'a>(word: &str) -> Option<Subject<'a>>
+    ensures { let nodes = number_of MOST_NODES word.now in
+        MatchOption result (tree_of nodes ≡ None) (λ s. tree_of nodes ≡ Some (asked_subject s)) }
+{
+    let nodes = number_of(MOST_NODES, word)?;
+    Some(Subject::Tree(nodes))
+}
+
+/// What is debugged: a tree or a file, exactly one of which is given. A tree has no oracle file.
+fn subject_from<'a>(
+    demo: Option<&'a str>,
+    oracle: Option<&'a str>,
+    program: Option<&'a str>,
+) -> Option<Subject<'a>>
+    ensures { let subject = subject_from (option_map (λ s. s.now) demo.entry)
+        (option_map (λ s. s.now) oracle.entry) (option_map (λ s. s.now) program.entry) in
+        MatchOption result (subject ≡ None) (λ s. subject ≡ Some (asked_subject s)) }
+{
+    match (demo, oracle, program) {
+        (None, _, Some(program)) => Some(Subject::File(program)),
+        (Some(demo), None, None) => tree_of(demo),
+        _ => None,
+    }
+}
+
+/// The options that values give, where each limit keeps its rule, the strategy is known and something is debugged.
 fn options_from<'a>(
     budget: Option<u32>,
     answers: Option<u32>,
     filter: Filter,
     strategy: Option<Strategy>,
     oracle: Option<&'a str>,
-    program: Option<&'a str>,
+    subject: Option<Subject<'a>>,
 ) -> Option<Asked<'a>>
     requires budget { IfSome budget (λ n. (0 < n) × (n ≤ MOST_SHOWN)) }
     requires answers { IfSome answers (λ n. (0 < n) × (n ≤ MOST_SHOWN)) }
-    ensures options { let options = options_from budget answers filter strategy (option_map (λ s. s.now) oracle.entry) (option_map (λ s. s.now) program.entry) in
+    ensures options { let options = options_from budget answers filter strategy
+        (option_map (λ s. s.now) oracle.entry) (option_map asked_subject subject.entry) in
         MatchOption result (options ≡ None) (λ a. options ≡ Some (asked_options a)) }
     ensures limits { IfSome result (λ a. AreLimits a.budget a.answers) }
 {
-    match (budget, answers, strategy, program) {
-        (Some(budget), Some(answers), Some(strategy), Some(program)) => Some(Asked {
-            program,
+    match (budget, answers, strategy, subject) {
+        (Some(budget), Some(answers), Some(strategy), Some(subject)) => Some(Asked {
+            subject,
             budget,
             answers,
             filter,
@@ -91,7 +129,7 @@ fn options_from<'a>(
     }
 }
 
-/// The options that clap's matches give, where each limit keeps its rule, the strategy is known and a file is named.
+/// The options that clap's matches give, where each limit keeps its rule, the strategy is known and something is debugged.
 fn options_in<'a>(matches: &ArgMatches<'a>) -> Option<Asked<'a>>
     ensures options { let options = options_in (rows_of (found_of matches.now)) in
         MatchOption result (options ≡ None) (λ a. options ≡ Some (asked_options a)) }
@@ -102,8 +140,10 @@ fn options_in<'a>(matches: &ArgMatches<'a>) -> Option<Asked<'a>>
     let filter = filter_of(matches.get_str("trace"));
     let strategy = strategy_or(matches.get_str("strategy"));
     let oracle = matches.get_str("oracle");
+    let demo = matches.get_str("demo");
     let program = matches.get_str("program");
-    options_from(budget, answers, filter, strategy, oracle, program)
+    let subject = subject_from(demo, oracle, program);
+    options_from(budget, answers, filter, strategy, oracle, subject)
 }
 
 /// The options that the words give, of which the first is the program's own name; none where they break their rules.

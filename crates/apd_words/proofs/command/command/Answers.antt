@@ -12,5 +12,6 @@ returns c =
     let second = c.in_ok-arg-2.ensures.shape c.option-answers.ensures.local ∙ ap₂ with_rule first c.option-answers.ensures.rule in
     let third = c.in_ok-arg-3.ensures.shape c.option-strategy.ensures.local ∙ ap₂ with_rule second c.option-strategy.ensures.rule in
     let fourth = c.in_ok-arg-4.ensures.shape c.option-oracle.ensures.local ∙ ap₂ with_rule third c.option-oracle.ensures.rule in
-    let fifth = c.in_ok-arg-5.ensures.shape (search rules) ∙ ap₂ with_rule fourth trace in
-    c.in_ok-command.ensures.shape (search rules) ∙ ap₂ with_rule fifth program
+    let fifth = c.in_ok-arg-5.ensures.shape c.option-demo.ensures.local ∙ ap₂ with_rule fourth c.option-demo.ensures.rule in
+    let sixth = c.in_ok-arg-6.ensures.shape (search rules) ∙ ap₂ with_rule fifth trace in
+    c.in_ok-command.ensures.shape (search rules) ∙ ap₂ with_rule sixth program

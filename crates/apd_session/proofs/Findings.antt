@@ -1,5 +1,5 @@
 -- What a session says is right: by its lines, and then for the whole.
-use Rattle.std.proofs.Common.{◌≡◌, ℕ, Bool, true, false, List, [], ◌∷◌, ◌++◌, length, Option, Some, None, Result, Ok, Err, refl, sym, ◌∙◌, ap, subst, append_assoc}
+use Rattle.std.proofs.Common.{◌≡◌, ℕ, Bool, true, false, List, [], ◌∷◌, ◌++◌, length, Option, Some, None, Result, Ok, Err, refl, sym, ◌∙◌, ap, subst, append_assoc, arith}
 use borrow.Author.Tests.{ltb-false}
 use Rattle.std.specs.Prelude.{All, IfSome, if◌then◌else◌, nat_lt, slice_get, ℤ}
 use Rattle.apd_causes.specs.declared.faults.BodyFault.{BodyFault}
@@ -51,16 +51,22 @@ use Rattle.apd_commands.specs.Commands.{command_in, command_of, integer_at, miss
 use Rattle.apd_commands.specs.declared.commands.Command.TheVariants as command
 use Rattle.apd_oracle.specs.Replies.{spoken_of}
 use Rattle.apd_oracle.proofs.Fitting.{reply_fits}
-use Rattle.apd_words.specs.Words.{Options, options_of}
+use Rattle.apd_commands.specs.declared.commands.Command.{Command}
+use Rattle.apd_gen.proofs.Sizes.{tree-short}
+use Rattle.apd_gen.specs.Programs.{tree_text}
+use Rattle.apd_query.specs.declared.state.State.{State}
+use Rattle.apd_session.specs.Demo.{asked_said, blamed, query_line, shown_said}
+use Rattle.apd_words.proofs.Alone.{words-alone}
+use Rattle.apd_words.specs.Words.{InFile, OfTree, Options, StandsAlone, Subject, options_of}
 use Rattle.apd_session.specs.Headline.{AreRightFor, account_with, replies_in}
-use Rattle.apd_session.specs.Outcome.{IsFileLoad}
-use Rattle.apd_session.specs.Session.{World, FileLoad, Gives, Faults, Transcript, after_load, after_options, after_prepared, after_words, ends_before, first_state, prepared, prepared_by, prepared_from, says_one, session_of}
+use Rattle.apd_session.specs.Outcome.{IsFileLoad, IsSubjectText}
+use Rattle.apd_session.specs.Session.{World, FileLoad, Gives, Faults, Transcript, after_load, after_options, after_prepared, after_subject, after_tree, after_words, ends_before, first_state, prepared, prepared_by, prepared_from, says_one, session_of}
 use Rattle.apd_session.specs.declared.preparing.Prepared.TheVariants.{Knows, Refuses}
 use Rattle.apd_session.specs.declared.status.Status.{Status}
-use Rattle.apd_session.specs.Steps.{Situation, Waiting, ForCommand, ForWrong, ForMissing, ForLoop, known_said, load_said, opening_said, ready_in, remarks, step_for, talker}
+use Rattle.apd_session.specs.Steps.{Situation, Waiting, ForCommand, ForWrong, ForMissing, ForLoop, after_run, known_said, load_said, opening_said, query_said, ready_in, remarks, step_for, talker}
 use Rattle.apd_session.specs.declared.status.Status.TheVariants as status
 use Rattle.apd_session.specs.declared.notes.Noted.TheVariants as noted
-use Rattle.apd_session.proofs.Righting.{IsMode, Stands, IsStep, command-step, loop_reply-step, missing_reply-step, wrong_reply-step, closing-right, remarks-right}
+use Rattle.apd_session.proofs.Righting.{IsMode, IsTold, Stands, IsStep, blamed-right, command-step, loop_reply-step, missing_reply-step, wrong_reply-step, closing-right, remarks-right}
 
 -- A query that is asked has atoms as its goals.
 
@@ -173,6 +179,27 @@ module _ (m : Interpretation) (program : List Clause) (is : IsProgram program) (
   before-right a passed called statements us r =
       subst (Right a) (sym (append_assoc (load_said ops names program passed called) (known_said ops names statements) us)) (opening-right a passed called (known_said ops names statements ++ us) (known-right a statements us r))
 
+  -- the query of a demonstration is run, and its answer is diagnosed
+  asked-right : (a : Account) (nodes : ℕ) (s : State) (c : Command) → ((q : Query) → c ≡ command.Query q → All IsAtom q.tuple.body) → IsTold m program is strategy s s.replies a → Right a (asked_said ops names nodes s c)
+  asked-right a nodes s (command.Query q) atoms h =
+      let st = command-step m program is strategy ops names s a (command.Query q) atoms h in
+      both-right a (query_said ops names s q) (blamed ops names nodes (after_run s q) (after_run s q).last) st.right
+      (blamed-right m program is strategy ops names nodes (after_run s q) (after_entries program a (entries_of (query_said ops names s q))) (after_run s q).last st.stands.state st.stands.state.last)
+  asked-right a nodes s command.Nothing atoms h = tt
+  asked-right a nodes s command.Quit atoms h = tt
+  asked-right a nodes s (command.Refused r) atoms h = tt
+  asked-right a nodes s (command.Wrong b k) atoms h = tt
+  asked-right a nodes s (command.Missing b atom) atoms h = tt
+  asked-right a nodes s command.Loop atoms h = tt
+  asked-right a nodes s (command.Trace f) atoms h = tt
+
+  shown-right : (a : Account) (nodes : ℕ) (s : State) (passed called : List Note) → IsTold m program is strategy s s.replies a → s.program ≡ program → Right a (shown_said ops names nodes s passed called (command_in reader ops query_line))
+  shown-right a nodes s passed called h same =
+      let c = command_in reader ops query_line in
+      subst (λ (P : List Clause). Right a (opening_said ops names P passed called None ++ asked_said ops names nodes s c)) (sym same)
+      (before-right a passed called None (asked_said ops names nodes s c)
+      (asked-right a nodes s c (λ q e. query_atoms reader ops query_line q e) h))
+
 -- Each session.
 
 first_stands : (m : Interpretation) (options : Options) (program : List Clause) (pairs : List Pair) (is : IsProgram program) → AllFit pairs
@@ -246,8 +273,20 @@ module _ (m : Interpretation) {names : List (List ℕ)} (reader : Reader names) 
     file-right world text Faults is h = fault-right (program_of reader text)
     file-right world text (Gives bytes) is h = subst (λ t. RightFor (entries_of (after_words reader world options (Gives t)).utterances) (program_of reader text)) (sym is) (text-right world text h)
 
+    -- a demonstration
+    tree-right : (nodes : ℕ) (o : Loads) → IsProgramIn o → options.oracle ≡ None → RightFor (entries_of (after_tree reader options nodes o).utterances) o
+    tree-right nodes (refused line cause) is none = tt
+    tree-right nodes (loads l) is none = rw none (shown-right m l.program is options.strategy names reader l.ops (account_with []) nodes (first_state l.program options []) l.passed (warnings_of l.program) (first_stands m options l.program [] is tt).state refl)
+
+    subject-right : (world : World) (text : List ℕ) (s : Subject) → options.subject ≡ s → IsSubjectText s text world.program → StandsAlone s options.oracle → IfSome options.oracle (λ n. IsFileLoad (Some known) world.oracle)
+        → RightFor (entries_of (after_subject reader world options s).utterances) (program_of reader text)
+    subject-right world text (InFile name) subject is alone h = file-right world text world.program is h
+    subject-right world text (OfTree nodes) subject is alone h =
+        let size = tree-short nodes alone.0.1 in
+        rw is (tree-right nodes (program_of reader (tree_text nodes)) (loaded_is_program names reader (tree_text nodes) (omega (arith, size))) alone.1)
+
 -- whatever the loads of files give that have these texts
 pub session-right : (m : Interpretation) (words names : List (List ℕ)) (reader : Reader names) (world : World) (options : Options) (text known : List ℕ) → options_of words ≡ Some options
-    → IsFileLoad (Some text) world.program → IfSome options.oracle (λ n. IsFileLoad (Some known) world.oracle) → AreRightFor m reader options known (entries_of (session_of words reader world).utterances) (program_of reader text)
+    → IsSubjectText options.subject text world.program → IfSome options.oracle (λ n. IsFileLoad (Some known) world.oracle) → AreRightFor m reader options known (entries_of (session_of words reader world).utterances) (program_of reader text)
 session-right m words names reader world options text known named file oracle_file =
-    subst (λ o. AreRightFor m reader options known (entries_of (after_options reader world o).utterances) (program_of reader text)) (sym named) (file-right m reader options known world text world.program file oracle_file)
+    subst (λ o. AreRightFor m reader options known (entries_of (after_options reader world o).utterances) (program_of reader text)) (sym named) (subject-right m reader options known world text options.subject refl file (words-alone words options named) oracle_file)

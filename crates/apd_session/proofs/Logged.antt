@@ -15,12 +15,12 @@ use Rattle.apd_talk.specs.Utterance.{Utterance, UttersFront, Pushed, entries_of}
 use Rattle.apd_text.specs.declared.entry.Entry.{Entry}
 use Rattle.apd_text.specs.declared.entry.Entry.TheVariants.{Run}
 use Rattle.apd_text.specs.declared.log.Log.{Log}
-use Rattle.apd_words.specs.Words.{Options, options_of}
+use Rattle.apd_words.specs.Words.{InFile, OfTree, Options, Subject, options_of}
 use Rattle.apd_session.proofs.Findings.{session-right}
 use Rattle.apd_answers.specs.declared.store.Pair.{Pair}
 use Rattle.apd_session.specs.Headline.{AreRightFor, IsRightLog, account_with, replies_in}
 use Rattle.apd_session.specs.Known.{Outside}
-use Rattle.apd_session.specs.Outcome.{IsFileLoad, IsNamedLoad, IsSaid, IsWhole, Meets}
+use Rattle.apd_session.specs.Outcome.{IsFileLoad, IsNamedLoad, IsSaid, IsSubjectLoad, IsSubjectText, IsText, IsWhole, Meets}
 use Rattle.apd_session.specs.Session.{FileLoad, Gives, Transcript, prepared, session_of}
 use Rattle.apd_session.specs.declared.status.Status.{Status}
 use Rattle.apd_session.specs.declared.status.Status.TheVariants as status
@@ -72,18 +72,23 @@ known_load : (content : List ℕ → Option (List ℕ)) (known : List ℕ) (file
 known_load content known file None is told = tt
 known_load content known file (Some name) is told = subst (λ c. IsFileLoad c file) told is
 
+-- what is debugged has this text, whatever its load gives
+subject_text : (content : List ℕ → Option (List ℕ)) (s : Subject) (text : List ℕ) (loading : FileLoad) → IsSubjectLoad content s loading → IsText content s text → IsSubjectText s text loading
+subject_text content (InFile name) text loading is told = subst (λ c. IsFileLoad c loading) told is
+subject_text content (OfTree nodes) text loading is told = told
+
 -- a log whose session meets a world
 pub log-right : (m : Interpretation) (words : List (List ℕ)) (p q : Outside) (st : Status) (log : Log) → Lasting log.names (λ names. (reader : Reader names) → Meets words reader p q st log) → IsRightLog m words p log
 log-right m words p q st log meaning = by (options_of words) refl
   where
     by : (o : Option Options) → options_of words ≡ o
-        → IfSome o (λ options. (text known : List ℕ) → p.content options.program ≡ Some text → IfSome options.oracle (λ name. p.content name ≡ Some known) →
+        → IfSome o (λ options. (text known : List ℕ) → IsText p.content options.subject text → IfSome options.oracle (λ name. p.content name ≡ Some known) →
         Lasting log.names (λ names. (reader : Reader names) → AreRightFor m reader options known log.entries.list (program_of reader text)))
     by None named = tt
     by (Some options) named = λ text known told stated names grew reader.
         let met = meaning names grew reader in
-        let file : IsFileLoad (p.content options.program) met.world.program = subst (λ o. IfSome o (λ (z : Options). IsFileLoad (p.content z.program) met.world.program)) named met.met.program in
-        let given : IsFileLoad (Some text) met.world.program = subst (λ c. IsFileLoad c met.world.program) told file in
+        let file : IsSubjectLoad p.content options.subject met.world.program = subst (λ o. IfSome o (λ (z : Options). IsSubjectLoad p.content z.subject met.world.program)) named met.met.program in
+        let given = subject_text p.content options.subject text met.world.program file told in
         let oracle : IsNamedLoad p.content options.oracle met.world.oracle = subst (λ o. IfSome o (λ (z : Options). IsNamedLoad p.content z.oracle met.world.oracle)) named met.met.oracle in
         said-right_for m reader options known st (session_of words reader met.world) log p.streams.held q.streams.held (program_of reader text) met.said
         (session-right m words names reader met.world options text known named given (known_load p.content known met.world.oracle options.oracle oracle stated))

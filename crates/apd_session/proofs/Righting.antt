@@ -1,6 +1,6 @@
 -- Each step of a session says entries that are right.
 use Rattle.std.proofs.Common.{◌≡◌, ℕ, ℤ, List, [], ◌∷◌, ◌++◌, Option, Some, None, Result, Ok, Err, refl, sym, ◌∙◌, ap, subst}
-use Rattle.std.specs.Prelude.{All, IfSome, length}
+use Rattle.std.specs.Prelude.{All, IfSome, length, pos}
 use Rattle.apd_base.specs.Counts.{risen}
 use Rattle.apd_term.specs.Term.{Term}
 use Rattle.apd_causes.specs.declared.run.Query.{Query}
@@ -24,13 +24,22 @@ use Rattle.apd_answers.specs.Findings.{IsByReplies}
 use Rattle.apd_answers.specs.Fitting.{AllFit}
 use Rattle.apd_answers.proofs.Fitted.{fit_added}
 use Rattle.apd_answers.specs.declared.store.Pair.{Pair}
-use Rattle.apd_answers.specs.Dialogue.{Turn, asks, goes, ends, next_turn}
+use Rattle.apd_answers.specs.Dialogue.{Exchange, Turn, asks, goes, ends, dialogue, next_turn, replied as exchanged}
+use Rattle.std.specs.List.{AllByRecursion}
+use Rattle.apd_demo.specs.Answered.{replies_by}
+use Rattle.apd_demo.specs.Replies.{reply_to}
+use Rattle.apd_demo.proofs.Answering.{answered-fit}
+use Rattle.apd_demo.proofs.Fitting.{reply-fits}
+use Rattle.apd_answers.specs.declared.finding.Finding.{Finding}
+use Rattle.apd_wrong.specs.Wrong.{wrong}
+use Rattle.apd_session.specs.Demo.{blamed, blamed_at, dialogue_said, found_said}
+use Rattle.apd_symptoms.specs.Symptoms.{exit_of}
 use Rattle.apd_answers.specs.Interpretation.{Interpretation}
 use Rattle.apd_answers.specs.Questions.{FitsAsked}
 use Rattle.apd_answers.specs.Store.{with_pair}
 use Rattle.apd_divide.specs.declared.node.Strategy.{Strategy}
 use Rattle.apd_divide.specs.Recorded.{tree}
-use Rattle.apd_divide.specs.Tree.{Tree}
+use Rattle.apd_divide.specs.Tree.{Tree, suspects}
 use Rattle.apd_loop.specs.Loop.{Looping, left_in, loop_start}
 use Rattle.apd_loop.specs.declared.LoopEnd.{LoopEnd}
 use Rattle.apd_loop.specs.declared.LoopEnd.TheVariants as loop_ends
@@ -55,7 +64,6 @@ use Rattle.apd_query.specs.Runs.{last_run, run_for, run_said, said_for}
 use Rattle.apd_query.specs.declared.state.LastRun.{LastRun}
 use Rattle.apd_query.specs.declared.state.State.{State}
 use Rattle.apd_symptoms.specs.Chains.{stopped_chain}
-use Rattle.apd_symptoms.specs.Symptoms.{exit_of}
 use Rattle.apd_symptoms.specs.Unanswered.{unanswered_box}
 use Rattle.apd_text.specs.declared.entry.Told.{Told}
 use Rattle.apd_text.specs.declared.entry.Told.TheVariants.{Wrong, Missing, NoEnd}
@@ -242,6 +250,65 @@ module _ (m : Interpretation) (program : List Clause) (is : IsProgram program) (
           let atom = (point_of a.history n).tuple.head in
           begins-step by_wrong (IsKnownTree (tuples_of program)) wrong_left (IsByReplies (tuples_of program)) wrong_rightly ops names s a (Wrong atom) (tree a.history n atom) h tt (fit_added a.pairs (True atom) No h.fit tt)
           (wrong_begins (tuples_of program) a.history a.pairs n atom l.1.sound x.exit x.head)
+
+  -- The diagnosis of a demonstration.
+
+  abbrev AllFit' : List Exchange → Type 0
+  AllFit' exchanges = AllByRecursion (λ (e : Exchange). FitsAsked e.asked e.reply) exchanges
+
+  abbrev IsDialogueRight : List Reply → Type 0
+  IsDialogueRight rs = (ops : Table) (names : List (List ℕ)) (nodes : ℕ) (s : State) (pairs : List Pair) (count : ℕ) (a : Account) (x : Tree) → IsTold s pairs a → IsKnownTree (tuples_of program) a.history a.pairs a.symptom x
+      → AllFit' (dialogue (wrong s.strategy) rs pairs x).exchanges → AreRight m program strategy a (entries_of (dialogue_said ops names s.program nodes count (dialogue (wrong s.strategy) rs pairs x)))
+
+  found_said-right : (ops : Table) (names : List (List ℕ)) (nodes : ℕ) (s : State) (pairs : List Pair) (count : ℕ) (a : Account) (turn : Turn Tree Finding) → IsTold s pairs a
+      → RightTurn strategy (IsKnownTree (tuples_of program)) wrong_left (IsByReplies (tuples_of program)) a.history a.pairs a.symptom turn
+      → AreRight m program strategy a (entries_of (found_said ops names s.program nodes count turn))
+  found_said-right ops names nodes s pairs count a (asks asked next) h k = tt
+  found_said-right ops names nodes s pairs count a (goes y) h k = tt
+  found_said-right ops names nodes s pairs count a (ends f) h k = (found-right m program a f k, (tt, tt))
+
+  replied_said-right : (r : Reply) (rs : List Reply) → IsDialogueRight rs → (ops : Table) (names : List (List ℕ)) (nodes : ℕ) (s : State) (pairs : List Pair) (count : ℕ) (a : Account) (turn : Turn Tree Finding) → IsTold s pairs a
+      → RightTurn strategy (IsKnownTree (tuples_of program)) wrong_left (IsByReplies (tuples_of program)) a.history a.pairs a.symptom turn
+      → AllFit' (exchanged (wrong s.strategy).left (dialogue (wrong s.strategy) rs) pairs r turn).exchanges
+      → AreRight m program strategy a (entries_of (dialogue_said ops names s.program nodes count (exchanged (wrong s.strategy).left (dialogue (wrong s.strategy) rs) pairs r turn)))
+  replied_said-right r rs rest ops names nodes s pairs count a (goes y) h k fits = absurd k
+  replied_said-right r rs rest ops names nodes s pairs count a (ends f) h k fits = found_said-right ops names nodes s pairs count a (ends f) h k
+  replied_said-right r rs rest ops names nodes s pairs count a (asks asked next) h k fits =
+      let b = with_reply (with_asked a asked) (Some asked) r in
+      let told : IsTold s (with_pair pairs asked.question r) b =
+      record { program_is = h.program_is; strategy_is = h.strategy_is; pairs_are = ap (λ ps. with_pair ps asked.question r) h.pairs_are; fit = fit_added a.pairs asked.question r h.fit fits.0; last = h.last } in (
+        k.undecided,
+        (
+          reply-right strategy (IsKnownTree (tuples_of program)) wrong_left (with_asked a asked) asked next r (waits strategy (IsKnownTree (tuples_of program)) wrong_left a asked next k) fits.0,
+          rest ops names nodes s (with_pair pairs asked.question r) (risen count) b (next r) told (k.known r fits.0) fits.1,
+        ),
+      )
+
+  dialogue-right : (rs : List Reply) → IsDialogueRight rs
+  dialogue-right [] ops names nodes s pairs count a x h k fits = found_said-right ops names nodes s pairs count a (next_turn (wrong s.strategy) pairs x) h (wrong_rightly.turns s pairs a x h k)
+  dialogue-right (r ∷ rs) ops names nodes s pairs count a x h k fits =
+      replied_said-right r rs (dialogue-right rs) ops names nodes s pairs count a (next_turn (wrong s.strategy) pairs x) h (wrong_rightly.turns s pairs a x h k) fits
+
+  -- what is said of the last run
+  pub blamed-right : (ops : Table) (names : List (List ℕ)) (nodes : ℕ) (s : State) (a : Account) (last : Option LastRun) → IsTold s s.replies a → IsLast last a.history → AreRight m program strategy a (entries_of (blamed ops names nodes s last))
+  blamed-right ops names nodes s a None h l = tt
+  blamed-right ops names nodes s a (Some run) h l = subst (λ R. AreRight m program strategy a (entries_of (blamed_at ops names nodes s R (exit_of R (pos 1) (pos 1))))) (sym l.0) (by (exit_of a.history (pos 1) (pos 1)) refl)
+    where
+      by : (r : Result ℕ Refusal) → exit_of a.history (pos 1) (pos 1) ≡ r → AreRight m program strategy a (entries_of (blamed_at ops names nodes s a.history r))
+      by (Err r) e = (tt, tt)
+      by (Ok n) e =
+          let x = exit_of-exits a.history (pos 1) (pos 1) n e in
+          let atom = (point_of a.history n).tuple.head in
+          let pairs = with_told s.replies (Wrong atom) in
+          let b = after_told a (Wrong atom) in
+          let told : IsTold s pairs b =
+          record { program_is = h.program_is; strategy_is = h.strategy_is; pairs_are = ap (λ ps. with_told ps (Wrong atom)) h.pairs_are; fit = fit_added a.pairs (True atom) No h.fit tt; last = h.last } in
+          let t = tree a.history n atom in (
+            tt,
+            dialogue-right (replies_by (reply_to nodes s.program) (wrong s.strategy) (suspects t) pairs t) ops names nodes s pairs s.asked b t told
+                (wrong_begins (tuples_of program) a.history a.pairs n atom l.1.sound x.exit x.head)
+                (answered-fit (reply_to nodes s.program) s.strategy (reply-fits nodes s.program) (suspects t) pairs t),
+          )
 
   missing-step : (ops : Table) (names : List (List ℕ)) (s : State) (a : Account) (b : ℤ) (atom : Term) (last : Option LastRun) → IsTold s s.replies a → IsLast last a.history → IsStep a (missing_step ops names s last b atom)
   missing-step ops names s a b atom None h l = refused-step ops names s a _ h

@@ -6,6 +6,7 @@ use Rattle.apd_answers.specs.Interpretation.{Interpretation}
 use Rattle.apd_load.specs.Program.{Loads, refused, loads, program_of}
 use Rattle.apd_read.specs.Reader.{Reader}
 use Rattle.apd_session.specs.Known.{Outside}
+use Rattle.apd_session.specs.Outcome.{IsText}
 use Rattle.apd_answers.specs.declared.store.Pair.{Pair}
 use Rattle.apd_session.specs.Session.{Gives, prepared}
 use Rattle.apd_session.specs.declared.preparing.Prepared.{Prepared}
@@ -31,10 +32,10 @@ AreRightFor m reader options known entries (refused line cause) = ⊤
 AreRightFor m reader options known entries (loads l) =
     AreRight m l.program options.strategy (account_with (replies_in (prepared reader l.ops options.oracle (Gives known)))) entries
 
--- where the words name files whose contents are known, the log is right for the program and the replies that they make, whatever
--- names are kept later
+-- where this is the text of what is debugged, and the content of an oracle file that the words name is known, the log is right for
+-- the program and the replies that they make, whatever names are kept later
 abbrev pub IsRightLog : Interpretation → List (List ℕ) → Outside → Log → Type 0
-IsRightLog m words p log = IfSome (options_of words) (λ options. (text known : List ℕ) → p.content options.program ≡ Some text →
+IsRightLog m words p log = IfSome (options_of words) (λ options. (text known : List ℕ) → IsText p.content options.subject text →
     IfSome options.oracle (λ name. p.content name ≡ Some known) →
     Lasting log.names (λ names. (reader : Reader names) → AreRightFor m reader options known log.entries.list (program_of reader text)))
 

@@ -1,0 +1,146 @@
+-- A demonstration: what it says in parts, and as a session.
+use Rattle.std.proofs.Common.{◌≡◌, ℕ, List, [], ◌∷◌, ◌++◌, length, refl, sym, ap, ◌∙◌, subst, inl, inr, Option, Some, None}
+use Rattle.std.specs.Prelude.{Result, Ok, Err, pos}
+use Rattle.apd_account.specs.Account.{with_told}
+use Rattle.apd_answers.specs.Dialogue.{Dialogue}
+use Rattle.apd_answers.specs.declared.finding.Finding.{Finding}
+use Rattle.apd_debug.specs.Replying.{count_after, exchanges_said}
+use Rattle.apd_demo.specs.Answered.{demonstrated}
+use Rattle.apd_divide.specs.Recorded.{tree}
+use Rattle.apd_divide.specs.Tree.{Tree}
+use Rattle.apd_ops.specs.Table.{Table}
+use Rattle.apd_query.specs.declared.state.LastRun.{LastRun}
+use Rattle.apd_query.specs.declared.state.State.{State}
+use Rattle.apd_record.specs.Reading.{point_of}
+use Rattle.apd_symptoms.specs.Symptoms.{exit_of}
+use Rattle.apd_io.specs.Outside.{Rose}
+use Rattle.apd_session.proofs.Loading.{broken_no_limit, broken_no_read}
+use Rattle.apd_talk.specs.Speech.{HasWriteCause, Says, Speech, Spoken, begun, one}
+use Rattle.apd_talk.specs.Utterance.{Utterance, Utters, UttersFront}
+use Rattle.apd_talk.specs.declared.talk.Trouble.{Trouble}
+use Rattle.apd_talk.specs.declared.talk.Trouble.TheVariants as trouble
+use Rattle.apd_talk.proofs.Speaking.{both}
+use Rattle.apd_talk.proofs.Uttering.{UttersFront-none}
+use Rattle.apd_term.specs.Growth.{Grown}
+use Rattle.apd_term.specs.Term.{Term}
+use Rattle.apd_text.specs.declared.entry.Entry.{Entry}
+use Rattle.apd_text.specs.declared.entry.Entry.TheVariants.{ProgramRefused, Refused, Symptom}
+use Rattle.apd_text.specs.declared.entry.Refusal.{Refusal}
+use Rattle.apd_text.specs.declared.entry.Told.TheVariants.{Wrong}
+use Rattle.apd_text.specs.declared.log.Log.{Log}
+use Rattle.apd_commands.specs.Commands.{command_in}
+use Rattle.apd_commands.specs.declared.commands.Command.{Command}
+use Rattle.apd_commands.specs.declared.commands.Command.TheVariants as command
+use Rattle.apd_causes.specs.declared.run.Query.{Query}
+use Rattle.apd_load.specs.Warnings.{warnings_of}
+use Rattle.apd_load.specs.declared.Note.{Note}
+use Rattle.apd_read.specs.Reader.{Reader}
+use Rattle.apd_session.specs.Demo.{asked_said, blamed, blamed_at, found_said, query_line, shown_said}
+use Rattle.apd_session.specs.Outcome.{IsFront, IsSaid, IsWhole, status_of, status_shown}
+use Rattle.apd_causes.specs.declared.faults.LoadCause.{LoadCause}
+use Rattle.apd_clauses.specs.declared.clause.Clause.{Clause}
+use Rattle.apd_gen.specs.Programs.{tree_text}
+use Rattle.apd_load.specs.Program.{Loads, loads, program_of, refused}
+use Rattle.apd_ops.specs.Standard.{standard_table}
+use Rattle.apd_session.specs.Session.{Transcript, after_tree, demonstrates, first_state, says_one}
+use Rattle.apd_session.specs.declared.status.Status.{Status}
+use Rattle.apd_words.specs.Words.{Options}
+use Rattle.apd_session.specs.declared.status.Status.TheVariants as status
+
+front_said : (t : Trouble) (told : Transcript) (log : Log) (x y : Option (List ℕ)) → log.ops ≡ told.ops → IsFront told log x y → IsSaid (status_of t) told log x y
+front_said trouble.WriteFault told log x y left front = (front, left)
+front_said trouble.Memory told log x y left front = (front, inl left)
+
+-- what was said from an empty log is what was to be said, or its front
+pub shown_so : (result : Result (Unit {0}) Trouble) (speech : Speech) (told : Transcript) (p q : Spoken) (names : List (List ℕ)) → Says speech p q result → p.log.entries.list ≡ [] → Grown p.log.names names → told.status ≡ status.Done → told.ops ≡ p.log.ops
+    → speech p.log.ops names ≡ told.utterances → IsSaid (status_shown result) told q.log p.held q.held
+shown_so (Ok t) speech told p q names says empty grew done ops same = record {
+  status_is = done;
+  ops_are = says.ops ∙ sym ops;
+  says = subst (λ (us : List (Utterance Entry)). Utters [] q.log.entries.list p.held q.held us) same (subst (λ (l : List Entry). Utters l q.log.entries.list p.held q.held (speech p.log.ops names)) empty (says.all names grew));
+}
+shown_so (Err t) speech told p q names says empty grew done ops same =
+    front_said t told q.log p.held q.held (says.ops ∙ sym ops)
+    (subst (λ (us : List (Utterance Entry)). UttersFront begun [] q.log.entries.list p.held q.held us) same (subst (λ (l : List Entry). UttersFront begun l q.log.entries.list p.held q.held (speech p.log.ops names)) empty (says.front names grew)))
+
+-- memory ran out before anything was said
+pub none_shown : (told : Transcript) (log : Log) (x : Option (List ℕ)) → log.entries.list ≡ [] → log.ops ≡ told.ops → IsSaid status.Memory told log x x
+none_shown told log x empty ops = (UttersFront-none begun [] log.entries.list x told.utterances empty, inl ops)
+
+-- what is said of the last run, by what its first exit is
+pub blamed_none : (ops : Table) (names : List (List ℕ)) (nodes : ℕ) (s : State) → s.last ≡ None → blamed ops names nodes s s.last ≡ []
+blamed_none ops names nodes s last = rw last refl
+
+pub blamed_refused : (ops : Table) (names : List (List ℕ)) (nodes : ℕ) (s : State) (run : LastRun) (r : Refusal) → s.last ≡ Some run → exit_of run.history (pos 1) (pos 1) ≡ Err r → blamed ops names nodes s s.last ≡ one (Refused r) ops names
+blamed_refused ops names nodes s run r last is = ap (blamed ops names nodes s) last ∙ ap (blamed_at ops names nodes s run.history) is
+
+-- the dialogue about an exit with this atom as its head
+abbrev pub dialogue_of : ℕ → State → LastRun → ℕ → Term → Dialogue Tree Finding
+dialogue_of nodes s run e atom = demonstrated nodes s.program s.strategy (with_told s.replies (Wrong atom)) (tree run.history e atom)
+
+-- the symptom, the questions with their replies, and what was found
+abbrev pub symptom_of : Term → Speech
+symptom_of atom = one (Symptom (Wrong atom))
+
+abbrev pub questions_of : ℕ → State → LastRun → ℕ → Term → Speech
+questions_of nodes s run e atom ops names = exchanges_said ops names s.asked (dialogue_of nodes s run e atom).exchanges
+
+abbrev pub found_of : ℕ → State → LastRun → ℕ → Term → Speech
+found_of nodes s run e atom ops names =
+    found_said ops names s.program nodes (count_after s.asked (dialogue_of nodes s run e atom).exchanges) (dialogue_of nodes s run e atom).turn
+
+pub blamed_parts : (nodes : ℕ) (s : State) (run : LastRun) (e : ℕ) (atom : Term) → s.last ≡ Some run → exit_of run.history (pos 1) (pos 1) ≡ Ok e → (point_of run.history e).tuple.head ≡ atom
+    → (ops : Table) (names : List (List ℕ)) → both (symptom_of atom) (both (questions_of nodes s run e atom) (found_of nodes s run e atom)) ops names ≡ blamed ops names nodes s s.last
+blamed_parts nodes s run e atom last is head ops names =
+    let at : List (Utterance Entry) = symptom_of atom ops names ++ (questions_of nodes s run e atom ops names ++ found_of nodes s run e atom ops names) in
+    sym (ap (blamed ops names nodes s) last ∙ ap (blamed_at ops names nodes s run.history) is ∙ ap (λ (t : Term). symptom_of t ops names ++ (questions_of nodes s run e t ops names ++ found_of nodes s run e t ops names)) head)
+
+-- the command that was read, whatever names are kept later
+pub transcript_is : {names : List (List ℕ)} (reader : Reader names) (ops : Table) (nodes : ℕ) (s : State) (passed called : List Note) (c : Command) → called ≡ warnings_of s.program → c ≡ command_in reader ops query_line
+    → shown_said ops names nodes s passed called c ≡ (demonstrates reader nodes s ops passed).utterances
+transcript_is {names} reader ops nodes s passed called c warned is =
+    ap (λ (ns : List Note). shown_said ops names nodes s passed ns c) warned ∙ ap (λ (d : Command). shown_said ops names nodes s passed (warnings_of s.program) d) is
+
+-- what the text of the tree made
+pub tree_made : {names : List (List ℕ)} (reader : Reader names) (options : Options) (nodes : ℕ) (text bytes : List ℕ) (program now : List Clause) (ops ops_now : Table) (passed passed_now : List Note) (st : Status) (log : Log) (x y : Option (List ℕ))
+    → IsSaid st (demonstrates reader nodes (first_state now options []) ops_now passed_now) log x y → bytes ≡ text → text ≡ tree_text nodes → program_of reader bytes ≡ loads (record { program = program; ops = ops; passed = passed })
+    → program ≡ now → ops ≡ ops_now → passed ≡ passed_now → IsSaid st (after_tree reader options nodes (program_of reader (tree_text nodes))) log x y
+tree_made reader options nodes text bytes program now ops ops_now passed passed_now st log x y said b t made p o q =
+    let is : program_of reader (tree_text nodes) ≡ loads (record { program = now; ops = ops_now; passed = passed_now }) =
+    ap (program_of reader) (sym (b ∙ t)) ∙ made ∙ (λ i. loads (record { program = p i; ops = o i; passed = q i })) in
+    subst (λ (l : Loads). IsSaid st (after_tree reader options nodes l) log x y) (sym is) said
+
+pub tree_refused : {names : List (List ℕ)} (reader : Reader names) (options : Options) (nodes : ℕ) (text bytes : List ℕ) (line : ℕ) (cause : LoadCause) (st : Status) (log : Log) (x y : Option (List ℕ))
+    → IsSaid st (says_one names (ProgramRefused line cause) status.Program) log x y → bytes ≡ text → text ≡ tree_text nodes → program_of reader bytes ≡ refused line cause
+    → IsSaid st (after_tree reader options nodes (program_of reader (tree_text nodes))) log x y
+tree_refused reader options nodes text bytes line cause st log x y said b t made =
+    subst (λ (l : Loads). IsSaid st (after_tree reader options nodes l) log x y) (sym (ap (program_of reader) (sym (b ∙ t)) ∙ made)) said
+
+-- memory ran out before a program was loaded
+pub tree_unsaid : {names : List (List ℕ)} (reader : Reader names) (options : Options) (nodes : ℕ) (o : Loads) (log : Log) (x : Option (List ℕ)) → log.entries.list ≡ [] → log.ops ≡ standard_table → IsSaid status.Memory (after_tree reader options nodes o) log x x
+tree_unsaid reader options nodes o log x empty ops = (UttersFront-none begun [] log.entries.list x (after_tree reader options nodes o).utterances empty, inr ops)
+
+-- a command that is no query asks nothing
+pub asked_none : (ops : Table) (names : List (List ℕ)) (nodes : ℕ) (s : State) (c : Command) → ((q : Query) → c ≡ command.Query q → ⊥) → asked_said ops names nodes s c ≡ []
+asked_none ops names nodes s (command.Query q) other = absurd (other q refl)
+asked_none ops names nodes s command.Nothing other = refl
+asked_none ops names nodes s command.Quit other = refl
+asked_none ops names nodes s (command.Refused r) other = refl
+asked_none ops names nodes s (command.Wrong b k) other = refl
+asked_none ops names nodes s (command.Missing b a) other = refl
+asked_none ops names nodes s command.Loop other = refl
+asked_none ops names nodes s (command.Trace f) other = refl
+
+-- nothing is read, and a write fault is counted
+pub shown_no_limit : (r : Result (Unit {0}) Trouble) → status_shown r ≡ status.InputLimit → ⊥
+shown_no_limit (Ok t) is = cc
+shown_no_limit (Err t) is = broken_no_limit t is
+
+pub shown_no_read : (r : Result (Unit {0}) Trouble) → status_shown r ≡ status.ReadFault → ⊥
+shown_no_read (Ok t) is = cc
+shown_no_read (Err t) is = broken_no_read t is
+
+pub shown_rose : (r : Result (Unit {0}) Trouble) (before now : ℕ) → HasWriteCause before now r → status_shown r ≡ status.WriteFault → Rose before now
+shown_rose (Ok t) before now cause is = absurd (cc)
+shown_rose (Err trouble.WriteFault) before now cause is = cause.0
+shown_rose (Err trouble.Memory) before now cause is = absurd (cc)

@@ -3,7 +3,6 @@ ghost use Rattle.std.specs.Prelude.{◌≡◌, ◌≢◌, ◌<◌, ◌≤◌, �
 ghost use Rattle.apd_term.specs.Named.{IsNamed};
 ghost use Rattle.apd_clauses.specs.Queries.{IsQueryTerm, query_from};
 ghost use Rattle.apd_read.specs.Reader.{Reader};
-ghost use Rattle.apd_term.specs.StandardNames.{standard_names};
 ghost use Rattle.apd_term.specs.Term.{arguments, predicate_of};
 ghost use Rattle.apd_lines.specs.Lines.{IsOfLine, LineFits, LineGrows, LineIsNamed};
 ghost use Rattle.apd_commands.specs.Commands.{command_in, command_of, integer_at, integer_of, missing_asked, query_asked, term_asked, wrong_asked};
@@ -186,7 +185,6 @@ pub fn read_command(
     line: &Line,
 ) -> Result<Command, AllocError>
     requires fits { LineFits (length names.old) line.now }
-    requires standard { length standard_names ≤ length names.old }
     ensures names { LineGrows line.now names.old names.new }
     ensures command { IfOk result (λ c. Lasting names.new (λ n. (reader : Reader n) →
         c ≡ command_in reader ops.now line.now)) }

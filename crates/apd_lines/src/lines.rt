@@ -2,7 +2,6 @@
 ghost use Rattle.std.specs.Prelude.{◌≡◌, ◌≢◌, ◌<◌, ◌≤◌, ◌+◌, List, ℕ, length, IfOk, OnOk, Ok};
 ghost use Rattle.apd_read.specs.Reader.{Reader};
 ghost use Rattle.apd_term.specs.Growth.{GrowsBy};
-ghost use Rattle.apd_term.specs.StandardNames.{standard_names};
 ghost use Rattle.apd_token.specs.Grammar.{HasTokens};
 ghost use Rattle.apd_talk.specs.Speech.{Lasting};
 ghost use Rattle.apd_lines.specs.Lines.{IsOfLine, LineFits, LineGrows, LineIsNamed, line_from, line_in, line_of};
@@ -74,13 +73,13 @@ fn tokens_line(
     requires tokens { HasTokens line.now tokens.now }
     requires some { 0 < length tokens.now }
     requires room { length names.old + length line.now < MOST_NAMES }
-    requires standard { length standard_names ≤ length names.old }
     ensures names { GrowsBy (length line.now) names.old names.new }
     ensures line { IfOk result (λ l. Lasting names.new (λ n. (reader : Reader n) →
         l ≡ line_of tokens.now (reader.clause ops.now line.now tokens.now 0))) }
     ensures named { IfOk result (LineIsNamed (length names.new)) }
 {
     ops.has_no_clash();
+    let _count = names.count();
     match read_clause(alloc, ops, names, line, tokens, 0) {
         Ok(read) => Ok(whole_line(read, tokens.as_slice())),
         Err(fault) => bad_reading(fault),
@@ -96,7 +95,6 @@ fn text_line(
 ) -> Result<LineRead, AllocError>
     requires short { length line.now ≤ MAX_LINE }
     requires room { length names.old + length line.now < MOST_NAMES }
-    requires standard { length standard_names ≤ length names.old }
     ensures names { GrowsBy (length line.now) names.old names.new }
     ensures line { IfOk result (λ l. Lasting names.new (λ n. (reader : Reader n) →
         l ≡ line_from reader ops.now line.now (reader.division line.now))) }
@@ -125,7 +123,6 @@ pub fn read_line(
     line: &Line,
 ) -> Result<LineRead, AllocError>
     requires fits { LineFits (length names.old) line.now }
-    requires standard { length standard_names ≤ length names.old }
     ensures names { LineGrows line.now names.old names.new }
     ensures line { IfOk result (λ l. Lasting names.new (λ n. (reader : Reader n) →
         l ≡ line_in reader ops.now line.now)) }

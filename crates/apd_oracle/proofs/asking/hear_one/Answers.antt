@@ -12,8 +12,8 @@ returns-in-Err-clause-heard g c = rw c.end_of_line.ensures
     (heard_end c.args.question.now (moment g.S.Source g.K.Sink c.args.console.now c.args.source.now c.args.log.now c.args.sink.now) c.line.new.self (g.S.Source.left c.line.new.source) (g.S.Source.faults c.line.new.source) c.line.ensures.sound
     c.in-Err.end c.in-Err.ensures.line c.in-Err.ensures.cause)
 
-pub read_line-requires-clause-fits : goal.read_line-requires-clause-fits
-read_line-requires-clause-fits g c = line_fits (length c.args.log.now.names) c.args.console.now c.line.new.self _ _ c.in-Ok.line c.in-Ok.ensures.line c.requires.room
+pub read_line-requires : goal.read_line-requires
+read_line-requires g c = record { fits = line_fits (length c.args.log.now.names) c.args.console.now c.line.new.self _ _ c.in-Ok.line c.in-Ok.ensures.line c.requires.room }
 
 pub returns-in_err-read-clause-heard : goal.returns-in_err-read-clause-heard
 returns-in_err-read-clause-heard g c =

@@ -23,12 +23,12 @@ returns-in_err-line-clause-said g c =
 pub returns-in_err-line-clause-names : goal.returns-in_err-line-clause-names
 returns-in_err-line-clause-names g c = grows_none 65536 _ _ refl
 
-pub read_command-requires-clause-fits : goal.read_command-requires-clause-fits
-read_command-requires-clause-fits g c =
+pub read_command-requires : goal.read_command-requires
+read_command-requires g c =
     let room = c.requires.room in
     let fits : length c.args.log.now.names + 6 < 4000000000 = omega (arith, room) in
     let short : 6 ≤ 65536 = omega arith in
-    rw c.in_ok-line.ensures (fits, short)
+    record { fits = rw c.in_ok-line.ensures (fits, short) }
 
 pub returns-in_err-command-clause-said : goal.returns-in_err-command-clause-said
 returns-in_err-command-clause-said g c =

@@ -1,4 +1,4 @@
-use Rattle.std.proofs.Common.{◌≡◌, ◌≤◌, sym, refl, subst, arith, List, ℕ, length, inl}
+use Rattle.std.proofs.Common.{◌≡◌, ◌≤◌, sym, refl, subst, arith, List, ℕ, length, inl, inr}
 use Rattle.apd_clauses.specs.Clauses.{tuples_of}
 use Rattle.apd_debug.specs.NamedStates.{AreReplies}
 use Rattle.apd_io.specs.Outside.{Rose}
@@ -12,6 +12,7 @@ use Rattle.apd_session.specs.Turns.{IsPrepared}
 use Rattle.apd_session.specs.declared.preparing.Prepared.{Prepared}
 use Rattle.apd_session.specs.declared.preparing.Prepared.TheVariants.{Knows, Refuses}
 use Rattle.apd_term.specs.Growth.{Grown}
+use Rattle.apd_term.specs.StandardNames.{standard_names}
 use Rattle.apd_text.specs.declared.log.Log.{Log}
 use Rattle.apd_words.specs.Words.{asked_options}
 use Rattle.apd_session.proofs.Loading.{grew_both, grew_by, ops_left, prepared_answers}
@@ -22,7 +23,7 @@ use Rattle.apd_session.proofs.top.go_on.Goals as goal
 pub meet-requires-clause-ready : goal.meet-requires-clause-ready
 meet-requires-clause-ready g c =
     let more : length c.args.log.now.names ≤ length c.prepare.new.names = Grown-length _ _ (grew_by _ _ _ c.prepare.ensures.grows) in
-    let standard = c.requires.standard in
+    let standard : length standard_names ≤ length c.args.log.now.names = Grown-length _ _ c.count-count.ensures.standard in
     let replies : AreReplies (length c.prepare.new.names) c.in-Ok-Knows.replies = rw c.in-Ok-Knows.field-0-is at c.in-Ok-Knows.ensures.ready in
     let ready : IsPrepared (length c.prepare.new.names) (first_state c.args.program (asked_options c.args.asked) c.in-Ok-Knows.replies) = record {
       ready = record { limits = c.requires.limits; standard = omega (arith, standard, more); named = all_named_more _ _ (tuples_of c.args.program) more c.requires.program; last = tt };
@@ -50,6 +51,9 @@ returns-in-Ok-Knows-clause-answers g c = λ names grew reader.
     let answers : Answers (λ input ends. after_prepared reader (asked_options c.args.asked) input ends c.args.program c.args.log.now.ops c.args.passed.now x) (streams g.S.Source g.K.Sink c.args.input.now c.args.out.now) (streams g.S.Source g.K.Sink c.meet.new.input c.meet.new.out) c.meet.result c.meet.new.log =
     rw c.first_state-state.ensures at (c.meet.ensures.answers names grew reader) in
     prepared_answers names reader (asked_options c.args.asked) c.args.program c.args.log.now.ops c.args.passed.now _ _ c.prepare.new.names x prepares grown _ _ c.meet.result c.meet.new.log answers
+
+pub returns-in-Ok-Knows-clause-read : goal.returns-in-Ok-Knows-clause-read
+returns-in-Ok-Knows-clause-read g c = λ fault. inr (c.meet.ensures.read fault)
 
 pub returns-in-Ok-Knows-clause-names : goal.returns-in-Ok-Knows-clause-names
 returns-in-Ok-Knows-clause-names g c = grew_both 1048576 16777216 c.args.log.now.names c.prepare.new.names c.meet.new.log.names c.prepare.ensures.grows c.meet.ensures.names

@@ -1,0 +1,45 @@
+//! The names and the operators by which a row's terms are read and written.
+
+use apd_causes::Read;
+use apd_ops::Ops;
+use apd_term::{NameId, Names};
+use std::alloc::{AllocError, Global};
+
+/// More names than a row brings; fewer than that are there when a text is read.
+pub const MOST_ROW_NAMES: usize = 1_000_000;
+
+/// The greatest priority of a term that is written.
+pub const MOST_PRIORITY: u16 = 1200;
+
+/// The names and the operators by which terms are read and written.
+#[derive(Drop)]
+pub struct Scene {
+    pub names: Names,
+    pub ops: Ops,
+}
+
+impl Scene {
+    /// The standard names and operators.
+    pub fn new(alloc: Global) -> Result<Scene, AllocError> {
+        let names = Names::standard(alloc)?;
+        let ops = Ops::standard(alloc)?;
+        Ok(Scene { names, ops })
+    }
+
+    /// The clause that a text is, with its end or without.
+    pub fn read(&mut self, alloc: Global, text: &str) -> Option<Read> {
+        let ended = format!(in alloc; "{text} .").ok()?;
+        match self.first(alloc, ended.as_str().as_bytes()) {
+            Ok(first) => Some(first.read),
+            Err(_) => None,
+        }
+    }
+
+    /// The name of a text. An error also where there are too many names.
+    pub fn name(&mut self, text: &[u8]) -> Result<NameId, AllocError> {
+        if self.names.count() > MOST_ROW_NAMES {
+            return Err(AllocError);
+        }
+        self.names.intern(text)
+    }
+}

@@ -1,0 +1,99 @@
+//! What a row is tried with.
+
+ghost use Rattle.std.specs.Prelude.{◌≡◌, length};
+ghost use Rattle.apd_term.specs.Term.{arguments};
+
+use crate::builder::Builder;
+use crate::rows::Row;
+use crate::scene::Scene;
+use apd_causes::Read;
+use apd_term::{Flat, Pred, Tuple};
+use std::alloc::{AllocError, Global};
+
+/// A row that is tried, with its names and operators and what it has given so far.
+#[derive(Drop)]
+pub struct Trial {
+    pub alloc: Global,
+    pub scene: Scene,
+    pub row: Row,
+    pub given: Builder,
+}
+
+/// The two arguments of a term, as of `a = b`.
+#[derive(Drop)]
+pub struct Sides {
+    pub left: Flat,
+    pub right: Flat,
+}
+
+fn sides_of(alloc: Global, term: &Flat) -> Result<Sides, AllocError>
+    requires { length (arguments term.now) ≡ 2 }
+{
+    let left = term.arg(alloc, 0)?;
+    let right = term.arg(alloc, 1)?;
+    Ok(Sides { left, right })
+}
+
+impl Trial {
+    /// The row with the standard names and operators, before it gives anything.
+    pub fn new(alloc: Global, row: Row) -> Result<Trial, AllocError> {
+        let scene = Scene::new(alloc)?;
+        Ok(Trial {
+            alloc,
+            scene,
+            row,
+            given: Builder::new(alloc),
+        })
+    }
+
+    /// Has the operators hold that the first field names.
+    pub fn change(&mut self) -> Option<()> {
+        self.scene.change(self.row.text(0))
+    }
+
+    /// The clause that a field is, with its end or without.
+    pub fn read(&mut self, at: usize) -> Option<Read> {
+        self.scene.read(self.alloc, self.row.text(at))
+    }
+
+    /// The term that a field is.
+    pub fn term(&mut self, at: usize) -> Option<Flat> {
+        let read = self.read(at)?;
+        Some(read.term)
+    }
+
+    /// The two arguments of the term that a field is.
+    pub fn sides(&mut self, at: usize) -> Option<Sides> {
+        let term = self.term(at)?;
+        let Some(Pred { arity: 2, .. }) = term.pred() else {
+            return None;
+        };
+        sides_of(self.alloc, &term).ok()
+    }
+
+    /// The predicate of the term that a field is.
+    pub fn pred(&mut self, at: usize) -> Option<Pred> {
+        let term = self.term(at)?;
+        term.pred()
+    }
+
+    /// Gives a term's text.
+    pub fn put_term(&mut self, term: &Flat) {
+        self.given.put_term(&self.scene, term);
+    }
+
+    /// Gives the text of a term that a call made.
+    pub fn put_made_term(&mut self, made: Result<Flat, AllocError>) {
+        self.given.put_made_term(&self.scene, made);
+    }
+
+    /// Gives the text of a head, and those of the goals.
+    pub fn put_tuple(&mut self, tuple: &Tuple) {
+        self.given.put_tuple(&self.scene, tuple);
+    }
+
+    /// Whether what is given is what the row wants.
+    pub fn is_alike(&self) -> bool {
+        self.given.is(self.row.wanted())
+    }
+}

@@ -1,12 +1,13 @@
 #!/bin/sh
 # Times searches: what a port costs after 10,000, 100,000 and 1,000,000 ports where the search goes back (queens by generate
 # and test, the colouring of a map over facts); programs that nest, as far as they are carried (a counting loop, hanoi, naive
-# reverse of 30 and of 100 elements, a goal that calls itself); and what a printed port costs. Each row has the ports, the time
+# reverse of 30 to 690 elements, a goal that calls itself); and what a printed port costs. Each row has the ports, the time
 # and the peak memory.
 # Where SWI-Prolog is installed (`swipl`), the last rows have what a port takes beside its bare engine with the occurs check,
 # which neither counts ports nor records them; the ports are those that apd counts.
 # It ends with 1 where a port of 1,000,000 takes more than 1.5 times the time of a port of 10,000, or more than 15 times that of
-# SWI-Prolog (60 times in naive reverse).
+# SWI-Prolog (60 times in naive reverse); where the naive reverse of 200 elements takes more than 1 s or 100 MB, or that of 690
+# more than 1 GB.
 top=$(cd "$(dirname "$0")/.." && pwd) || exit 1
 work=$(mktemp -d) || exit 1
 trap 'rm -rf "$work"' EXIT
@@ -57,7 +58,7 @@ append([X|Xs], Ys, [X|Zs]) :- append(Xs, Ys, Zs).
 reverse([], []).
 reverse([X|Xs], Ys) :- reverse(Xs, Zs), append(Zs, [X], Ys).
 PROGRAM
-for n in 30 100; do
+for n in 30 100 200 690; do
     cp "$work/reverse.pl" "$work/reverse$n.pl"
     awk -v n="$n" 'BEGIN { printf "?- reverse([1"; for (i = 2; i <= n; i++) printf ",%d", i; print "], Ys)." }' >"$work/reverse$n"
 done
@@ -113,6 +114,17 @@ nest() {
 for program_that_nests in count hanoi reverse30 reverse100 loop; do
     nest $program_that_nests 10000 100000 1000000
 done
+# Whether the last run took at most so many milliseconds and so many MB.
+within() {
+    [ "$took" -le $(($1 * 1000000)) ] && [ "$(cat "$work/peak")" -le $(($2 * 1024)) ] && return
+    echo "NOT MET: at most $1 ms and $2 MB"
+    failed=1
+}
+
+nest reverse200 100000
+within 1000 100
+nest reverse690 1000000
+within 60000 1024
 base=$(nanoseconds colours 100000 1)
 took=$(nanoseconds colours 100000 1 --trace)
 awk -v took="$took" -v base="$base" -v ports="$(ports)" 'BEGIN { printf "a printed port takes %.0f ns more\n", (took - base) / ports }'

@@ -1,10 +1,9 @@
 -- What stays of the frames at branches.
-use Rattle.std.proofs.Common.{◌≡◌, ◌≢◌, ℕ, suc, ◌+◌, ◌-◌, ◌<◌, ◌≤◌, List, [], ◌∷◌, length, drop, refl, sym, ◌∙◌, ap, subst, arith}
+use Rattle.std.proofs.Common.{◌≡◌, ℕ, suc, ◌+◌, ◌-◌, ◌≤◌, List, [], ◌∷◌, length, drop, refl, sym, ◌∙◌, ap, subst, arith}
 use Rattle.std.proofs.lemmas.List.{length-drop, drop-drop}
 use Rattle.apd_unify.specs.Stored.{Stored}
 use Rattle.apd_unify.specs.Store.{at_mark, Keeps}
 use Rattle.apd_unify.proofs.Keeping.{at_mark-at_mark, length-before}
-use Rattle.apd_trace.specs.declared.frame.Frame.{Frame}
 use Rattle.apd_frames.specs.declared.links.Link.{Link}
 use Rattle.apd_frames.specs.declared.links.Branch.{Branch}
 use Rattle.apd_frames.specs.Instances.{AreInside, IsInside}
@@ -124,14 +123,6 @@ module _ (old new : Stored) (links : List Link) (k : ℕ) (bs : List Branch) (b 
     );
   }
 
--- back at the newest branch
-pub framed_back : (s : Stored) (links : List Link) (k : ℕ) (b : Branch) (bs : List Branch) → IsFramed s links k (b ∷ bs) → IsFramed (at_mark b.mark.0 s) (oldest b.links links) b.innermost bs
-framed_back s links k b bs f = record {
-  placed = f.marked.3;
-  within = omega (arith, f.marked.2, length-oldest links b.links f.marked.1);
-  marked = f.marked.4;
-}
-
 -- without the newest branch
 module _ (s : Stored) (links : List Link) (b : Branch) (l : b.mark.0 ≤ length s.trail) (m : b.links ≤ length links) where
   trail_there : length (at_mark b.mark.0 s).trail ≡ b.mark.0
@@ -160,3 +151,23 @@ module _ (s : Stored) (links : List Link) (b : Branch) (l : b.mark.0 ≤ length 
         subst (λ (ls : List Link). ArePlaced (length (at_mark c.mark.0 s).cells) ls) o (subst (λ (t : Stored). ArePlaced (length t.cells) (oldest c.links (oldest b.links links))) e h.3),
         subst (λ (ls : List Link). AreMarked (at_mark c.mark.0 s) ls bs) o (subst (λ (t : Stored). AreMarked t (oldest c.links (oldest b.links links)) bs) e h.4),
       )
+
+  -- back at the newest branch, which stays
+  pub framed_there : (k : ℕ) (bs : List Branch) → IsFramed s links k (b ∷ bs) → IsFramed (at_mark b.mark.0 s) (oldest b.links links) b.innermost (b ∷ bs)
+  framed_there k bs f =
+      let t = at_mark b.mark.0 s in
+      let ls = oldest b.links links in
+      let n : length ls ≡ b.links = length-oldest links b.links m in
+      let e : at_mark b.mark.0 t ≡ t = earlier b.mark.0 (omega (arith, trail_there)) in
+      let o : oldest b.links ls ≡ ls = older b.links (omega (arith, n)) in
+      record {
+        placed = f.marked.3;
+        within = omega (arith, f.marked.2, n);
+        marked = (
+          omega (arith, trail_there),
+          omega (arith, n),
+          f.marked.2,
+          subst (λ (x : Stored). ArePlaced (length x.cells) (oldest b.links ls)) (sym e) (subst (ArePlaced (length t.cells)) (sym o) f.marked.3),
+          subst (λ (x : Stored). AreMarked x (oldest b.links ls) bs) (sym e) (subst (λ (xs : List Link). AreMarked t xs bs) (sym o) f.marked.4),
+        );
+      }

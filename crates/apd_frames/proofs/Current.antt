@@ -1,16 +1,19 @@
 -- What the innermost link says of the frames.
 use Rattle.std.proofs.lemmas.Bool.{cases_eq}
-use Rattle.std.proofs.Common.{◌≡◌, ◌≢◌, inl, inr, ℕ, zero, suc, ◌+◌, ◌<◌, ◌≤◌, List, [], ◌∷◌, length, map, refl, sym, ◌∙◌, ap, subst, arith, Bool, true, false, Option, Some, None}
-use Rattle.std.specs.Prelude.{slice_get}
-use Rattle.apd_term.specs.Term.{Term, apply}
-use Rattle.apd_term.specs.Canonical.{canonical}
+use Rattle.std.proofs.Common.{◌≡◌, ◌≢◌, inl, inr, ℕ, zero, suc, ◌+◌, ◌<◌, ◌≤◌, List, [], ◌∷◌, length, refl, sym, ◌∙◌, ap, subst, arith, true, false, Option, Some, None}
+use Rattle.std.specs.Prelude.{slice_get, ◌==◌, if◌then◌else◌}
+use Rattle.apd_term.specs.Term.{Term, variable, integer, compound, apply, variables_all, predicate_of}
+use Rattle.apd_term.specs.declared.term.Pred.{Pred}
+use Rattle.apd_term.specs.declared.term.NameId.{NameId}
+use Rattle.apd_term.proofs.Spelling.{length-apply_all}
+use Rattle.apd_term.specs.Canonical.{canonical, by_appearance, place_of}
 use Rattle.apd_term.specs.Tuple.{apply_tuple, canonical_tuple}
 use Rattle.apd_term.specs.declared.tuple.Tuple.{Tuple}
 use Rattle.apd_unify.specs.declared.store.Cell.{Cell}
 use Rattle.apd_unify.specs.Stored.{Stored}
 use Rattle.apd_unify.specs.Store.{term_at}
 use Rattle.apd_ports.specs.declared.point.Step.{Step}
-use Rattle.apd_trace.specs.Frames.{apply_frames, is_large, look_at, look_of, next_goal, left, outer, owner_of, entered, handed, handed_all}
+use Rattle.apd_trace.specs.Frames.{apply_frames, is_large, called, goal_of, look_at, look_of, next_goal, left, owner_of, entered}
 use Rattle.apd_trace.specs.declared.frame.Frame.{Frame}
 use Rattle.apd_trace.specs.declared.frame.Called.{Called}
 use Rattle.apd_trace.specs.declared.frame.Look.TheVariants.{Nothing, Goal, Exit as Exits, Answer as Answers}
@@ -18,9 +21,9 @@ use Rattle.apd_frames.specs.declared.instance.Instance.{Instance}
 use Rattle.apd_frames.specs.declared.links.Link.{Link}
 use Rattle.apd_frames.specs.declared.links.Branch.{Branch}
 use Rattle.apd_frames.specs.Instances.{terms_in, tuple_in, AreInside, IsInside, CanonicalWithin}
-use Rattle.apd_frames.specs.Kept.{Kept, MayCall, Points, Takes, exit_in, is_large_of, newest_of, point_in}
-use Rattle.apd_frames.specs.Linked.{numbered, frame_in, frames_at, saved_of, entered_link, handed_link, ArePlaced, IsFramed, IsGoalAt}
-use Rattle.apd_frames.proofs.Linking.{same_number, other_number, frames_some, frames_none, frames_newest, frames_applied, tuple_of, with_tuple}
+use Rattle.apd_frames.specs.Kept.{Kept, Calls, IsIn, MayCall, Points, Takes, exit_in, is_large_of, newest_of, point_in}
+use Rattle.apd_frames.specs.Linked.{numbered, frame_in, frames_at, saved_of, entered_link, ArePlaced, IsFramed, IsGoalAt}
+use Rattle.apd_frames.proofs.Linking.{same_number, other_number, frames_some, frames_none, frames_newest, frames_applied, with_tuple}
 
 -- the view of frames
 abbrev pub view_of : Stored → List Link → ℕ → List Branch → Kept
@@ -141,6 +144,70 @@ owner_some links k l e s = let r = first_frame s links k l e in ap owner_of (sym
 
 pub owner_none : (links : List Link) (k : ℕ) → numbered links k ≡ None → (s : Stored) → 0 ≡ owner_of (frames_at s links k)
 owner_none links k e s = ap owner_of (sym (frames_none s links k e))
+
+-- a called goal is in its box, one deeper than its frame
+called_at : (o : Option Term) (f : Frame) (F : List Frame) (n : ℕ) (g : Called) → look_at o f F n ≡ Goal g → IsIn n (f.depth + 1) g
+called_at (Some a) f F n g e = let same : called f a n ≡ g = cc in subst (IsIn n (f.depth + 1)) same (record { box = refl; deep = refl })
+called_at None f F n g e = elim (f.box_no == 0) as (λ b. (if b then Answers (canonical f.tuple.head) else Exits (left f F) f.point) ≡ Goal g → IsIn n (f.depth + 1) g) [ true ↦ λ bad. cc | false ↦ λ bad. cc ] e
+
+pub calls_some : (links : List Link) (k : ℕ) (l : Link) → numbered links k ≡ Some l → (s : Stored) (n : ℕ) (g : Called) → Calls (frames_at s links k) n g → IsIn n (l.depth + 1) g
+calls_some links k l e s n g h =
+    let r = first_frame s links k l e in
+    called_at (goal_of (frame_in s l)) (frame_in s l) r.0 n g (subst (λ F. look_of F n ≡ Goal g) r.1 h)
+
+calls_nowhere : (F : List Frame) (n : ℕ) (g : Called) → F ≡ [] → Calls F n g → ⊥
+calls_nowhere F n g e h = let bad : Nothing ≡ Goal g = subst (λ (G : List Frame). look_of G n ≡ Goal g) e h in cc
+
+pub calls_none : (links : List Link) (k : ℕ) → numbered links k ≡ None → (s : Stored) (n : ℕ) (g : Called) → Calls (frames_at s links k) n g → IsIn n 0 g
+calls_none links k e s n g h = absurd (calls_nowhere (frames_at s links k) n g (frames_none s links k e) h)
+
+pub may_call_so : (links : List Link) (k : ℕ) (l : Link) → numbered links k ≡ Some l → (s : Stored) → MayCall (frames_at s links k) → l.depth + 1 < 4294967296
+may_call_so links k l e s h = subst MayCall (first_frame s links k l e).1 h
+
+-- how deep a frame is doesn't depend on the store
+pub may_call_any : (links : List Link) (k : ℕ) (s t : Stored) → MayCall (frames_at s links k) → MayCall (frames_at t links k)
+may_call_any links k s t h = by (numbered links k) refl
+  where
+    by : (o : Option Link) → numbered links k ≡ o → MayCall (frames_at t links k)
+    by None e = subst MayCall (sym (frames_none t links k e)) tt
+    by (Some l) e = subst MayCall (sym (first_frame t links k l e).1) (may_call_so links k l e s h)
+
+abbrev pred_of : NameId → ℕ → Option Pred
+pred_of f n = Some (record { name = f; arity = n })
+
+-- the predicate of a goal is that of its atom as it is shown
+predicate_shown : (a : Term) → predicate_of a ≡ predicate_of (canonical a)
+predicate_shown (variable v) = refl
+predicate_shown (integer i) = refl
+predicate_shown (compound f ts) = ap (pred_of f) (sym (length-apply_all (λ v. variable (place_of (by_appearance (variables_all ts)) v)) ts))
+
+predicate_by : (o : Option Term) (f : Frame) (F : List Frame) (n : ℕ) (g : Called) (a : Term) → o ≡ Some a → look_at o f F n ≡ Goal g → predicate_of a ≡ predicate_of g.atom
+predicate_by None f F n g a e h = cc
+predicate_by (Some b) f F n g a e h =
+    let same : called f b n ≡ g = cc in
+    let is : b ≡ a = cc in
+    subst (λ t. predicate_of t ≡ predicate_of g.atom) is (predicate_shown b ∙ ap (λ (c : Called). predicate_of c.atom) same)
+
+predicate_in : (F : List Frame) (n : ℕ) (g : Called) (a : Term) → next_goal F ≡ Some a → look_of F n ≡ Goal g → predicate_of a ≡ predicate_of g.atom
+predicate_in [] n g a e h = cc
+predicate_in (f ∷ F) n g a e h = predicate_by (goal_of f) f F n g a e h
+
+none_called : (F : List Frame) (n : ℕ) (g : Called) → next_goal F ≡ None → look_of F n ≡ Goal g → ⊥
+none_called [] n g e h = cc
+none_called (f ∷ F) n g e h = by (goal_of f) e h
+  where
+    by : (o : Option Term) → o ≡ None → look_at o f F n ≡ Goal g → ⊥
+    by None e' h' = elim (f.box_no == 0) as (λ b. (if b then Answers (canonical f.tuple.head) else Exits (left f F) f.point) ≡ Goal g → ⊥) [ true ↦ λ bad. cc | false ↦ λ bad. cc ] h'
+    by (Some a) e' h' = cc
+
+-- the predicate of the next goal
+module _ (s : Stored) (links : List Link) (k : ℕ) (bs : List Branch) (now : Kept) (view : view_of s links k bs ≡ now) where
+  pub predicate_some : (c : Cell) (o : Option Pred) → IsGoalAt links k (Some c) → o ≡ predicate_of (term_at s c.0) → (n : ℕ) (g : Called) → Calls now.current n g → o ≡ predicate_of g.atom
+  predicate_some c o at e n g h =
+      e ∙ predicate_in (frames_at s links k) n g (term_at s c.0) (at.1 s) (subst (λ (x : Kept). Calls x.current n g) (sym view) h)
+
+  pub predicate_none : IsGoalAt links k None → (n : ℕ) (g : Called) → Calls now.current n g → (o : Option Pred) → o ≡ predicate_of g.atom
+  predicate_none at n g h o = absurd (none_called (frames_at s links k) n g (at s) (subst (λ (x : Kept). Calls x.current n g) (sym view) h))
 
 -- a link in front, in a store where a substitution was applied to the older frames
 pub front_applied : (f : ℕ → Term) (old new : Stored) (links : List Link) (g : Called) (c m k : ℕ) (i : Instance) (t : Tuple)

@@ -1,6 +1,6 @@
 -- What entering a clause makes, by the store's unifier and its own numbers.
-use Rattle.std.proofs.Common.{◌≡◌, ℕ, ◌+◌, List, [], ◌∷◌, refl, sym, ◌∙◌, ap, subst, Option, Some, None}
-use Rattle.apd_term.specs.Term.{Term, variable, apply}
+use Rattle.std.proofs.Common.{◌≡◌, ℕ, ◌+◌, List, ◌∷◌, refl, sym, ◌∙◌, subst, Option, Some, None}
+use Rattle.apd_term.specs.Term.{Term, variable}
 use Rattle.apd_term.specs.Canonical.{by_appearance, place_of}
 use Rattle.apd_term.specs.Substitution.{term_for, followed_by}
 use Rattle.apd_term.specs.Tuple.{variables_of_tuple, canonical_tuple}

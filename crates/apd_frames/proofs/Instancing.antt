@@ -1,5 +1,5 @@
 -- Loading terms, and what unification makes of them.
-use Rattle.std.proofs.Common.{◌≡◌, ◌≢◌, inl, inr, ℕ, zero, suc, ◌+◌, ◌-◌, ◌<◌, ◌≤◌, ◌^◌, List, [], ◌∷◌, ◌++◌, length, get_or, take, drop, map, refl, sym, ◌∙◌, ap, subst, arith, Bool, true, false, Option, Some, None}
+use Rattle.std.proofs.Common.{◌≡◌, ℕ, zero, suc, ◌+◌, ◌-◌, ◌<◌, ◌≤◌, List, [], ◌∷◌, ◌++◌, length, get_or, take, drop, map, refl, sym, ◌∙◌, ap, subst, arith, Bool, true, false, Option, Some, None}
 use Rattle.std.specs.Prelude.{nat_lt}
 use Rattle.std.proofs.lemmas.Bool.Decides.{nat_tests}
 use Rattle.std.specs.List.{flat_map}
@@ -7,7 +7,7 @@ use Rattle.std.proofs.lemmas.List.{take_all, take_more, take-append-drop, map_mo
 use Rattle.apd_term.specs.Term.{Term, variable, integer, compound, apply, spell, size, variables, IsAmong, Occurs}
 use Rattle.apd_term.specs.Substitution.{term_for, followed_by}
 use Rattle.apd_term.specs.Canonical.{shifted}
-use Rattle.apd_term.specs.Tuple.{apply_tuple, variables_of_tuple, sizes}
+use Rattle.apd_term.specs.Tuple.{sizes}
 use Rattle.apd_term.specs.declared.tuple.Tuple.{Tuple}
 use Rattle.apd_term.proofs.Among.{IsAmong-left, IsAmong-right}
 use Rattle.apd_term.proofs.Applying.{apply-followed_by, apply-same, apply-variable}
@@ -21,8 +21,7 @@ use Rattle.apd_unify.proofs.Keeping.{meaning-loaded, Keeps-trans}
 use Rattle.apd_unify.proofs.Rounding.{Keeps-self}
 use Rattle.apd_trace.specs.Frames.{shifted_tuple, is_large}
 use Rattle.apd_frames.specs.declared.instance.Instance.{Instance}
-use Rattle.apd_frames.specs.Instances.{terms_in, tuple_in, raised_in, AreInside, IsInside, HasGrown, IsInstantiated, Instantiates, IsUnited, Unites}
-use Rattle.apd_frames.specs.Kept.{IsSmall}
+use Rattle.apd_frames.specs.Instances.{terms_in, tuple_in, raised_in, AreInside, HasGrown, IsInstantiated, Instantiates, Unites}
 use Rattle.apd_frames.proofs.Branching.{inside_more}
 use Rattle.apd_frames.proofs.Linking.{tuple_of}
 

@@ -1,12 +1,12 @@
 -- Links by their numbers, and the frames that they make.
-use Rattle.std.proofs.Common.{◌≡◌, ◌≢◌, inl, inr, ℕ, zero, suc, ◌+◌, ◌-◌, ◌<◌, ◌≤◌, List, [], ◌∷◌, ◌++◌, length, take, drop, map, refl, sym, ◌∙◌, ap, subst, arith, Bool, true, false, Option, Some, None}
+use Rattle.std.proofs.Common.{◌≡◌, ◌≢◌, inl, inr, ℕ, zero, suc, ◌+◌, ◌-◌, ◌<◌, ◌≤◌, List, [], ◌∷◌, ◌++◌, length, take, drop, map, refl, sym, ◌∙◌, ap, subst, arith, Bool, true, false, Some, None}
 use Rattle.std.specs.Prelude.{if◌then◌else◌, ◌==◌, slice_get, reverse}
 use Rattle.std.specs.Bool.{Decides}
 use Rattle.std.specs.List.{flat_map}
 use Rattle.std.proofs.lemmas.Bool.{cases_eq}
 use Rattle.std.proofs.lemmas.Bool.Decides.{Decides-eqb}
 use Rattle.std.proofs.lemmas.List.{reverse-append, length-reverse, length-append, length-drop, take-append-drop, drop_at}
-use Rattle.apd_term.specs.Term.{Term, apply, variables, IsAmong, Occurs}
+use Rattle.apd_term.specs.Term.{Term, apply, variables, IsAmong}
 use Rattle.apd_term.specs.Tuple.{apply_tuple, variables_of_tuple}
 use Rattle.apd_term.specs.declared.tuple.Tuple.{Tuple}
 use Rattle.apd_term.proofs.Among.{IsAmong-append}

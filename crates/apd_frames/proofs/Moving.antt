@@ -1,10 +1,10 @@
 -- What the calls that change frames make of them.
-use Rattle.std.proofs.Common.{◌≡◌, ◌≢◌, ◌⊎◌, inl, inr, ℕ, ◌+◌, ◌<◌, ◌≤◌, List, [], ◌∷◌, length, drop, map, refl, sym, ◌∙◌, ap, subst, arith, Bool, true, false, Option, Some, None}
+use Rattle.std.proofs.Common.{◌≡◌, ◌≢◌, ℕ, ◌+◌, ◌<◌, ◌≤◌, List, [], ◌∷◌, length, drop, map, refl, sym, ◌∙◌, ap, subst, arith, false, Option, Some, None}
 use Rattle.std.specs.Prelude.{MatchOption}
 use Rattle.apd_term.specs.Term.{Term, variable, apply}
 use Rattle.apd_term.specs.Substitution.{term_for}
 use Rattle.apd_term.specs.Canonical.{shifted}
-use Rattle.apd_term.specs.Tuple.{apply_tuple, canonical_tuple}
+use Rattle.apd_term.specs.Tuple.{canonical_tuple}
 use Rattle.apd_term.specs.declared.tuple.Tuple.{Tuple}
 use Rattle.apd_unify.specs.Unifier.{HasNoUnifier}
 use Rattle.apd_unify.specs.declared.store.Cell.{Cell}
@@ -14,22 +14,22 @@ use Rattle.apd_unify.specs.Numbered.{IsNumbered}
 use Rattle.apd_unify.specs.First.{AreApart}
 use Rattle.apd_unify.proofs.Keeping.{meaning-loaded}
 use Rattle.apd_unify.proofs.Rounding.{Keeps-self}
-use Rattle.apd_trace.specs.Frames.{apply_frames, entering, entered, shifted_tuple, next_goal, outer, handed_all, query_frame}
+use Rattle.apd_trace.specs.Frames.{apply_frames, entering, entered, shifted_tuple, outer, handed_all, query_frame}
 use Rattle.apd_trace.specs.BuiltIn.{built, solution, of_program}
-use Rattle.apd_trace.specs.Renaming.{AreRenamed, AreAlike}
+use Rattle.apd_trace.specs.Renaming.{AreAlike}
 use Rattle.apd_trace.specs.declared.frame.Frame.{Frame}
 use Rattle.apd_trace.specs.declared.frame.Called.{Called}
 use Rattle.apd_frames.specs.declared.builtin.Solved.{Solved}
-use Rattle.apd_frames.specs.declared.builtin.Solved.TheVariants.{Program, Fault, Failed, Entered}
+use Rattle.apd_frames.specs.declared.builtin.Solved.TheVariants.{Entered}
 use Rattle.apd_frames.specs.declared.instance.Instance.{Instance}
 use Rattle.apd_frames.specs.declared.links.Link.{Link}
 use Rattle.apd_frames.specs.declared.links.Branch.{Branch}
-use Rattle.apd_frames.specs.Instances.{terms_in, tuple_in, raised_in, AreInside, IsInside, IsVariant, HasGrown, IsInstantiated, IsUnited}
+use Rattle.apd_frames.specs.Instances.{terms_in, tuple_in, raised_in, IsInside, IsVariant, HasGrown, IsInstantiated}
 use Rattle.apd_frames.specs.Kept.{Kept, HasEntered, Enters}
 use Rattle.apd_frames.specs.Solves.{solution_as, Settles}
-use Rattle.apd_frames.specs.Linked.{numbered, frame_in, frames_at, oldest, saved_of, entered_link, handed_link, IsFramed, IsGoalAt, IsBranchAt}
-use Rattle.apd_frames.proofs.Linking.{frames_none, frames_newest, frames_below, numbered-zero, tuple_of, with_tuple}
-use Rattle.apd_frames.proofs.Branching.{framed_kept, framed_link, framed_at, framed_back, saved-branch, framed_branch, saved-link, saved-kept, saved-forgotten, marked-forgotten}
+use Rattle.apd_frames.specs.Linked.{frames_at, oldest, saved_of, entered_link, handed_link, IsFramed, IsGoalAt, IsBranchAt}
+use Rattle.apd_frames.proofs.Linking.{frames_newest, frames_below, tuple_of, with_tuple}
+use Rattle.apd_frames.proofs.Branching.{framed_kept, framed_link, framed_there, saved-branch, framed_branch, saved-link, saved-kept, saved-forgotten, marked-forgotten}
 use Rattle.apd_frames.proofs.Instancing.{loaded_free}
 use Rattle.apd_frames.proofs.Current.{view_of, IsInnermost, front_applied}
 use Rattle.apd_frames.proofs.Entering.{enters_apart, enters_none, enters_some}
@@ -65,37 +65,32 @@ module _ (s : Stored) (links : List Link) (k : ℕ) (bs : List Branch) (now : Ke
     view_kept s s' links k bs same ∙ view,
   )
 
-  module _ (s' : Stored) (b : Branch) (kept : Keeps s s') (more : length s.cells ≤ length s'.cells) (at : IsBranchAt s links k b) where
-    pub branch_framed : IsFramed s' links k (b ∷ bs)
-    branch_framed = framed_branch s s' links k bs b at kept f k more f.within
+  module _ (s' : Stored) (kept : Keeps s s') (more : length s.cells ≤ length s'.cells) where
+    framed_so : IsFramed s' links k bs
+    framed_so = framed_kept s s' links k bs kept more f
 
-    pub entered_framed : (l : Link) (n : ℕ) → IsInside (length s'.cells) l.instance → l.around ≡ b.innermost → n ≡ length links + 1 → IsFramed s' (l ∷ links) n (b ∷ bs)
-    entered_framed l n i a e = framed_link s' l links k n (b ∷ bs) branch_framed i (omega (arith, a, at.innermost, f.within)) (omega arith)
-
-    pub entered_framed_so : (l : Link) (i : Instance) (links' : List Link) (n : ℕ) (bs' : List Branch) → IsInside (length s'.cells) i → l ≡ entered_link g c i m b.innermost
-        → links' ≡ l ∷ links → n ≡ length links + 1 → bs' ≡ b ∷ bs → IsFramed s' links' n bs'
-    entered_framed_so l i links' n bs' inside is le ne be = rw (le, be, is) (entered_framed (entered_link g c i m b.innermost) n inside refl ne)
+    pub entered_framed : (l : Link) (i : Instance) (links' : List Link) (n : ℕ) → IsInside (length s'.cells) i → l ≡ entered_link g c i m k → links' ≡ l ∷ links → n ≡ length links + 1 → IsFramed s' links' n bs
+    entered_framed l i links' n inside is le ne = rw (le, is) (framed_link s' (entered_link g c i m k) links k n bs framed_so inside f.within (omega arith))
 
     has_entered : (goal : Cell) (i : Instance) (q : Tuple) → IsGoalAt links k (Some goal) → IsNumbered s → IsVariant r q → IsInstantiated i s s' goal.0 q
-        → HasEntered (entering (frames_at s links k) g r c m) (view_of s links k bs) (view_of s' (entered_link g c i m b.innermost ∷ links) (length links + 1) (b ∷ bs))
+        → HasEntered (entering (frames_at s links k) g r c m) (view_of s links k bs) (view_of s' (entered_link g c i m k ∷ links) (length links + 1) bs)
     has_entered goal i q h numbers v inst =
-        let l = entered_link g c i m b.innermost in
+        let l = entered_link g c i m k in
         let t = shifted_tuple s.variables q in
         let e : frames_at s' (l ∷ links) (length links + 1) ≡ apply_frames (term_for inst.pairs) (entered g t c m ∷ frames_at s links k) =
-        front_applied (term_for inst.pairs) s s' links g c m b.innermost i t inst.made f.placed inst.tuple
-        ∙ ap (λ j. apply_frames (term_for inst.pairs) (entered g t c m ∷ frames_at s links j)) at.innermost in
+        front_applied (term_for inst.pairs) s s' links g c m k i t inst.made f.placed inst.tuple in
         record {
           renamed = enters_some (frames_at s links k) g r c m (term_at s goal.0) (h.1 s) s.variables (frames_below s numbers links k f.placed) q inst.pairs (frames_at s' (l ∷ links) (length links + 1)) v inst.unifier e;
-          saved = saved-link s' l links (b ∷ bs) branch_framed.marked ∙ saved-branch s s' links k bs b at kept f;
+          saved = saved-link s' l links bs framed_so.marked ∙ saved-kept s s' links bs kept f.marked;
         }
 
-    pub enters_so : (goal : Cell) (i : Instance) (q : Tuple) (links' : List Link) (n : ℕ) (bs' : List Branch) → IsGoalAt links k (Some goal) → IsNumbered s → IsVariant r q
-        → IsInstantiated i s s' goal.0 q → links' ≡ entered_link g c i m b.innermost ∷ links → n ≡ length links + 1 → bs' ≡ b ∷ bs
-        → HasEntered (entering now.current g r c m) now (view_of s' links' n bs')
-    enters_so goal i q links' n bs' h numbers v inst le ne be =
-        let k : HasEntered (entering (frames_at s links k) g r c m) (view_of s links k bs) (view_of s' (entered_link g c i m b.innermost ∷ links) (length links + 1) (b ∷ bs)) =
+    pub enters_so : (goal : Cell) (i : Instance) (q : Tuple) (l : Link) (links' : List Link) (n : ℕ) → IsGoalAt links k (Some goal) → IsNumbered s → IsVariant r q
+        → IsInstantiated i s s' goal.0 q → l ≡ entered_link g c i m k → links' ≡ l ∷ links → n ≡ length links + 1
+        → HasEntered (entering now.current g r c m) now (view_of s' links' n bs)
+    enters_so goal i q l links' n h numbers v inst is le ne =
+        let k' : HasEntered (entering (frames_at s links k) g r c m) (view_of s links k bs) (view_of s' (entered_link g c i m k ∷ links) (length links + 1) bs) =
         has_entered goal i q h numbers v inst in
-        rw (le, ne, be) (subst (λ (x : Kept). HasEntered (entering x.current g r c m) x (view_of s' (entered_link g c i m b.innermost ∷ links) (length links + 1) (b ∷ bs))) view k)
+        rw (le, ne, is) (subst (λ (x : Kept). HasEntered (entering x.current g r c m) x (view_of s' (entered_link g c i m k ∷ links) (length links + 1) bs)) view k')
 
 -- a built-in goal
 module _ (s : Stored) (links : List Link) (k : ℕ) (bs : List Branch) (now : Kept) (view : view_of s links k bs ≡ now) (f : IsFramed s links k bs) (g : Called) (m : ℕ) where
@@ -153,23 +148,31 @@ pub leaves_nothing : (now : Kept) → now.current ≡ [] → now ≡ kept_of (ou
 leaves_nothing now e = kept_so now.current (outer now.current) now.saved now.saved (e ∙ ap outer (sym e)) refl
 
 pub saves : (s : Stored) (links : List Link) (k : ℕ) (bs bs' : List Branch) (now : Kept) (b : Branch) → view_of s links k bs ≡ now → IsFramed s links k bs → IsBranchAt s links k b → bs' ≡ b ∷ bs
-    → view_of s links 0 bs' ≡ kept_of [] (now.current ∷ now.saved)
+    → view_of s links k bs' ≡ kept_of now.current (now.current ∷ now.saved)
 saves s links k bs bs' now b view f at e =
-    rw e (kept_so (frames_at s links 0) [] (saved_of s links (b ∷ bs)) (now.current ∷ now.saved)
-    (frames_none s links 0 (numbered-zero links))
+    rw e (kept_so (frames_at s links k) now.current (saved_of s links (b ∷ bs)) (now.current ∷ now.saved)
+    (ap (λ (x : Kept). x.current) view)
     (saved-branch s s links k bs b at (Keeps-self s) f ∙ ap (λ (x : Kept). x.current ∷ x.saved) view))
 
-pub saves_framed : (s : Stored) (links : List Link) (k n : ℕ) (bs bs' : List Branch) (b : Branch) → IsFramed s links k bs → IsBranchAt s links k b → bs' ≡ b ∷ bs → n ≤ length links → IsFramed s links n bs'
-saves_framed s links k n bs bs' b f at e le = rw e (framed_branch s s links k bs b at (Keeps-self s) f n (omega arith) le)
+pub saves_framed : (s : Stored) (links : List Link) (k : ℕ) (bs bs' : List Branch) (b : Branch) → IsFramed s links k bs → IsBranchAt s links k b → bs' ≡ b ∷ bs → IsFramed s links k bs'
+saves_framed s links k bs bs' b f at e = rw e (framed_branch s s links k bs b at (Keeps-self s) f k (omega arith) f.within)
 
-pub restores : (s s' : Stored) (links links' : List Link) (k : ℕ) (bs bs' : List Branch) (now : Kept) (b : Branch) → view_of s links k bs ≡ now → bs ≡ b ∷ bs' → s' ≡ at_mark b.mark.0 s → links' ≡ oldest b.links links
-    → now.saved ≡ frames_at s' links' b.innermost ∷ saved_of s' links' bs'
-restores s s' links links' k bs bs' now b view e se le =
-    ap (λ (x : Kept). x.saved) (sym view) ∙ ap (saved_of s links) e ∙ sym (rw (se, le) refl)
+-- back at the newest branch, which stays
+module _ (s s' : Stored) (links links' : List Link) (k : ℕ) (bs rest : List Branch) (b : Branch) (f : IsFramed s links k bs) (e : bs ≡ b ∷ rest) (se : s' ≡ at_mark b.mark.0 s) (le : links' ≡ oldest b.links links) where
+  framed_first : IsFramed s links k (b ∷ rest)
+  framed_first = subst (IsFramed s links k) e f
 
-pub restores_framed : (s s' : Stored) (links links' : List Link) (k : ℕ) (bs bs' : List Branch) (b : Branch) → IsFramed s links k bs → bs ≡ b ∷ bs' → s' ≡ at_mark b.mark.0 s → links' ≡ oldest b.links links
-    → IsFramed s' links' b.innermost bs'
-restores_framed s s' links links' k bs bs' b f e se le = rw (se, le) (framed_back s links k b bs' (subst (IsFramed s links k) e f))
+  framed_here : IsFramed (at_mark b.mark.0 s) (oldest b.links links) b.innermost (b ∷ rest)
+  framed_here = framed_there s links b framed_first.marked.0 framed_first.marked.1 k rest framed_first
+
+  pub restores_framed : IsFramed s' links' b.innermost bs
+  restores_framed = rw (se, le, e) framed_here
+
+  pub restores_saved : saved_of s' links' bs ≡ saved_of s links bs
+  restores_saved = rw (se, le, e) (saved-forgotten s links b framed_first.marked.0 framed_first.marked.1 (b ∷ rest) framed_here.marked)
+
+  pub restores_current : saved_of s links bs ≡ frames_at s' links' b.innermost ∷ drop 1 (saved_of s links bs)
+  restores_current = rw (se, le, e) refl
 
 pub forgets_framed : (s : Stored) (links : List Link) (k : ℕ) (bs bs' : List Branch) (o : Option Branch) → IsFramed s links k bs → MatchOption o ((bs ≡ []) × (bs' ≡ [])) (λ b. bs ≡ b ∷ bs') → IsFramed s links k bs'
 forgets_framed s links k bs bs' None f h = rw h.1 (record { placed = f.placed; within = f.within; marked = tt })

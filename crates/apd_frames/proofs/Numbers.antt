@@ -1,5 +1,5 @@
 -- Bounds on the numbers of variables.
-use Rattle.std.proofs.Common.{◌≡◌, ℕ, ◌+◌, ◌<◌, ◌≤◌, subst, arith}
+use Rattle.std.proofs.Common.{◌≡◌, ◌≤◌, subst, arith}
 use Rattle.apd_term.specs.Term.{IsAmong}
 use Rattle.apd_term.specs.Tuple.{canonical_tuple, size_of_tuple, variables_of_tuple}
 use Rattle.apd_term.specs.declared.tuple.Tuple.{Tuple}

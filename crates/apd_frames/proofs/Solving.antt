@@ -1,6 +1,6 @@
 -- What comes of a goal, by the program's unifier.
 use Rattle.std.proofs.Common.{◌≡◌, ◌≢◌, ◌⊎◌, ◌<◌, length, inl, inr, ℕ, List, [], ◌∷◌, ◌++◌, refl, sym, ◌∙◌, ap, subst, Bool, true, false, Option, Some, None, Result, Ok, Err}
-use Rattle.apd_term.specs.Term.{Term, Terms, variable, apply, integer, compound, none, more, list_of, variables, variables_all, IsAmong}
+use Rattle.apd_term.specs.Term.{Term, Terms, arguments, variable, apply, integer, compound, none, more, list_of, variables, variables_all, IsAmong}
 use Rattle.apd_term.specs.Substitution.{term_for}
 use Rattle.apd_term.proofs.Among.{IsAmong-append, IsAmong-left, IsAmong-right}
 use Rattle.apd_arith.specs.declared.fault.ArithFault.{ArithFault}
@@ -14,11 +14,10 @@ use Rattle.apd_unify.specs.Unifier.{IsAnswer, OccursIn}
 use Rattle.apd_unify.specs.Textbook.{unifier_of}
 use Rattle.apd_unify.proofs.Textbook.{unifier_of-right}
 use Rattle.apd_term.proofs.Applying.{apply-variable}
-use Rattle.apd_trace.specs.Frames.{apply_frames, next_goal, under, variables_of_frames}
+use Rattle.apd_trace.specs.Frames.{apply_frames, next_goal, under}
 use Rattle.apd_trace.specs.BuiltIn.{outcome_of_is, outcome_of_comparison, outcome_of_none, outcome_of_two, outcome_of, outcome_by, outcome, built, Solution, of_program, faulted, failed, solved, solved_or, solution_by, solution}
 use Rattle.apd_trace.specs.declared.frame.Frame.{Frame}
 use Rattle.apd_trace.specs.declared.frame.Called.{Called}
-use Rattle.apd_causes.specs.declared.run.RunError.{RunError}
 use Rattle.apd_trace.specs.declared.frame.Outcome.{Outcome}
 use Rattle.apd_trace.specs.declared.frame.Outcome.TheVariants.{User, Faults, Fails, Succeeds, Equates}
 use Rattle.apd_trace.proofs.Applied.{apply_frames-variable}
@@ -28,7 +27,6 @@ use Rattle.apd_trace.proofs.Renamed.{renamed_self}
 use Rattle.apd_unify.specs.Stored.{Stored}
 use Rattle.apd_unify.specs.Store.{term_at}
 use Rattle.apd_frames.specs.Kept.{Kept}
-use Rattle.apd_frames.specs.Instances.{IsUnited}
 use Rattle.apd_frames.specs.Solves.{HasClash, HasUnited, Settles, solution_as, Keeps}
 use Rattle.apd_frames.specs.declared.builtin.Solved.{Solved}
 use Rattle.apd_frames.specs.declared.builtin.Solved.TheVariants.{Program, Fault, Failed, Entered}
@@ -87,6 +85,12 @@ unfolding outcome
 outcome_within (variable v) = tt
 outcome_within (integer i) = tt
 outcome_within (compound f ts) = by_within (builtin_of_atom (compound f ts)) ts
+
+-- a goal that isn't built in is one of the program's
+pub user_goal : (a : Term) (o : Option Builtin) → o ≡ builtin_of_atom a → ((b : Builtin) → o ≢ Some b) → outcome a ≡ User
+unfolding outcome
+user_goal a None is h = ap (λ x. outcome_by x (arguments a)) (sym is)
+user_goal a (Some b) is h = absurd (h b refl)
 
 -- the terms that a goal equates have only variables of its own
 pub equates_within : (a l r : Term) → outcome a ≡ Equates l r → (v : ℕ) → OccursIn l r v → IsAmong (variables a) v

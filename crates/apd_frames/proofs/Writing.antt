@@ -1,10 +1,10 @@
 -- Tuples whose terms are written out with one numbering.
-use Rattle.std.proofs.Common.{◌≡◌, ℕ, ◌+◌, ◌-◌, ◌<◌, ◌≤◌, List, [], ◌∷◌, ◌++◌, length, get_or, drop, map, refl, sym, ◌∙◌, ap, subst, arith, append_assoc, Bool, true, false, Option, Some, None}
+use Rattle.std.proofs.Common.{◌≡◌, ℕ, ◌+◌, ◌-◌, ◌<◌, ◌≤◌, List, [], ◌∷◌, ◌++◌, length, get_or, drop, map, refl, sym, ◌∙◌, ap, subst, arith, append_assoc, true, false, Option, Some, None}
 use Rattle.std.specs.Prelude.{nat_lt}
 use Rattle.std.specs.List.{flat_map, fold}
 use Rattle.std.proofs.lemmas.Bool.Decides.{nat_tests}
 use Rattle.std.proofs.lemmas.List.{append-nil, drop_more, drop_all}
-use Rattle.apd_term.specs.Term.{Term, size, variables, IsAmong, Occurs}
+use Rattle.apd_term.specs.Term.{Term, size, variables, IsAmong}
 use Rattle.apd_term.specs.Canonical.{with_new, by_appearance, canonical, canonical_in}
 use Rattle.apd_term.specs.Tuple.{canonical_tuple, variables_of_tuple, sizes, size_of_tuple}
 use Rattle.apd_term.specs.declared.tuple.Tuple.{Tuple}
@@ -15,7 +15,7 @@ use Rattle.apd_unify.specs.declared.store.Cell.{Cell}
 use Rattle.apd_unify.proofs.Ordered.{among_seen, canonical_kept}
 use Rattle.apd_trace.specs.Frames.{is_large}
 use Rattle.apd_frames.specs.declared.instance.Instance.{Instance}
-use Rattle.apd_frames.specs.Instances.{terms_in, tuple_in}
+use Rattle.apd_frames.specs.Instances.{terms_in}
 
 pub numbers_some : (old new : List ℕ) (t r : Term) (k : ℕ) (o : Option Term) → Numbers old new t k o → o ≡ Some r → IsNumberedAnew old new t k r
 numbers_some old new t r k o h e = subst (Numbers old new t k) e h

@@ -5,7 +5,8 @@ use Rattle.apd_term.specs.Term.{IsAmong}
 use Rattle.apd_frames.specs.Codes.{frame_code}
 use Rattle.apd_term.specs.Tuple.{variables_of_tuple}
 use Rattle.apd_term.specs.declared.tuple.Tuple.{Tuple}
-use Rattle.apd_trace.specs.Frames.{is_large, left, point_at}
+use Rattle.apd_trace.specs.Frames.{is_large, left, look_of, point_at}
+use Rattle.apd_trace.specs.declared.frame.Look.TheVariants.{Goal}
 use Rattle.apd_trace.specs.declared.frame.Frame.{Frame}
 use Rattle.apd_trace.specs.declared.frame.Called.{Called}
 use Rattle.apd_ports.specs.declared.point.Step.{Step}
@@ -21,10 +22,19 @@ pub record Kept : Type 0 where
 abbrev pub IsSmall : Tuple → Type 0
 IsSmall r = (v : ℕ) → IsAmong (variables_of_tuple r) v → v < 4294967297
 
--- a clause was entered: the frames are those, renamed, and the frames before are saved
+-- the next goal of the innermost frame, called in box n
+abbrev pub Calls : List Frame → ℕ → Called → Type 0
+Calls F n g = look_of F n ≡ Goal g
+
+-- the goal is called in box n, d deep
+pub record IsIn (n d : ℕ) (g : Called) : Type 0 where
+  pub box : g.box_no ≡ n
+  pub deep : g.depth ≡ d
+
+-- a clause was entered: the frames are those, renamed
 pub record HasEntered (entered : Option (List Frame)) (old new : Kept) : Type 0 where
   pub renamed : AreRenamed entered (Some new.current)
-  pub saved : new.saved ≡ old.current ∷ old.saved
+  pub saved : new.saved ≡ old.saved
 
 -- it was, or it can't be and nothing changed
 abbrev pub Enters : Option (List Frame) → Bool → Kept → Kept → Type 0

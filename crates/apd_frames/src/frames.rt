@@ -3,13 +3,15 @@
 //! The search reaches frames by these functions alone. Contracts see the list of the frames'
 //! tuples with all bindings applied, up to a renaming of variables.
 
-ghost use Rattle.std.specs.Prelude.{◌≡◌, ◌∷◌, [], ◌+◌, ◌<◌, length, drop, None, Some, OnOk, IfOk, MatchOption};
+ghost use Rattle.std.specs.Prelude.{◌≡◌, ℕ, ◌∷◌, [], ◌+◌, ◌<◌, length, drop, None, Some, OnOk, IfOk, MatchOption};
 ghost use Rattle.apd_term.specs.Tuple.{canonical_tuple};
 ghost use Rattle.apd_clauses.specs.Clauses.{IsRunnable};
 ghost use Rattle.apd_trace.specs.Frames.{entering, left, look_of, handed_all, outer, owner_of, query_frame};
 ghost use Rattle.apd_trace.specs.BuiltIn.{solution};
 ghost use Rattle.apd_trace.specs.Renaming.{AreAlike};
-ghost use Rattle.apd_frames.specs.Kept.{Enters, MayCall, Takes, Points, exit_in, newest_of};
+ghost use Rattle.apd_frames.specs.Kept.{Calls, Enters, IsIn, MayCall, Takes, Points, exit_in, newest_of};
+ghost use Rattle.apd_trace.specs.declared.frame.Called.{Called};
+ghost use Rattle.apd_term.specs.Term.{predicate_of};
 ghost use Rattle.apd_frames.specs.Linked.{frames_at, frame_in, handed_link, entered_link, IsGoalAt, IsBranchAt};
 ghost use Rattle.apd_frames.specs.Instances.{IsInside};
 ghost use Rattle.apd_unify.specs.Stored.{Stored};
@@ -20,10 +22,10 @@ ghost use Rattle.apd_frames.specs.Solves.{solution_as, Keeps};
 use crate::builtin::Solved;
 use crate::instance::{Instance, canonical_within, instantiate, load_all};
 use crate::links::{Branch, Link, Links};
-use crate::settling::settle;
+use crate::settling::{predicate_at, settle};
 use apd_base::ListOf;
 use apd_term::tuple::canonical_tuple;
-use apd_term::{Flat, Tuple};
+use apd_term::{Flat, Pred, Tuple};
 use apd_trace::{Called, Look, Point, Step};
 use apd_unify::scratch::Scratch;
 use apd_unify::stack::Stack;
@@ -67,6 +69,17 @@ fn next_goal(links: &Links, number: usize) -> Option<Cell>
             None => None,
             Some(goal) => Some(*goal),
         },
+    }
+}
+
+/// How deep the next goal of the link with this number is called.
+fn goal_depth(links: &Links, number: usize) -> u32
+    requires { (s : Stored) → MayCall (frames_at s links.now number) }
+    ensures { (s : Stored) (n : ℕ) (g : Called) → Calls (frames_at s links.now number) n g → IsIn n result g }
+{
+    match links.get(number) {
+        None => 0,
+        Some(link) => link.depth + 1,
     }
 }
 
@@ -175,13 +188,20 @@ fn handed(alloc: Global, link: &Link, point: u32) -> Result<Link, AllocError>
     })
 }
 
-/// The link of a clause that is entered for the called goal, or of a built-in goal that succeeds.
-fn entered(called: &Called, clause: u32, instance: Instance, point: u32, around: usize) -> Link
-    ensures { result ≡ entered_link called.now clause instance point around }
+/// The link of a clause that is entered for the goal of this box, or of a built-in goal that succeeds.
+fn entered(
+    box_no: u32,
+    depth: u32,
+    clause: u32,
+    instance: Instance,
+    point: u32,
+    around: usize,
+) -> Link
+    ensures { (g : Called) → IsIn box_no depth g → result ≡ entered_link g clause instance point around }
 {
     Link {
-        box_no: called.box_no,
-        depth: called.depth,
+        box_no,
+        depth,
         clause,
         instance,
         done: 0,
@@ -289,17 +309,26 @@ impl Frames {
         }
     }
 
-    /// Enters a clause for the innermost frame's next goal where it can, and saves the frames as they were.
+    /// The predicate of the innermost frame's next goal; none where it calls none.
+    pub fn predicate(&self) -> Option<Pred>
+        ensures { (n : ℕ) (g : Called) → Calls self.now.current n g → result ≡ predicate_of g.atom }
+    {
+        let goal = next_goal(&self.links, self.innermost)?;
+        predicate_at(&self.store, goal)
+    }
+
+    /// Enters a clause for the innermost frame's next goal, called in this box, where it can.
     pub fn enter(
         &mut self,
         alloc: Global,
-        called: &Called,
+        box_no: u32,
         clause: u32,
         rule: &Tuple,
         point: u32,
     ) -> Result<bool, AllocError>
-        requires { IsRunnable rule.now }
-        ensures { IfOk result (λ b. Enters (entering self.old.current called.now rule.now clause point) b self.old self.new) }
+        requires deep { MayCall self.old.current }
+        requires runnable { IsRunnable rule.now }
+        ensures { IfOk result (λ b. (g : Called) → Calls self.old.current box_no g → Enters (entering self.old.current g rule.now clause point) b self.old self.new) }
     {
         let Some(goal) = next_goal(&self.links, self.innermost) else {
             return Ok(false);
@@ -307,25 +336,21 @@ impl Frames {
         if self.store.differs(goal, &rule.head) {
             return Ok(false);
         }
-        let branch = here(&self.store, &self.links, self.innermost);
+        let mark = self.store.mark();
         let Some(instance) = instantiate(&mut self.store, alloc, goal, rule)? else {
-            self.store.undo(branch.mark);
+            self.store.undo(mark);
             return Ok(false);
         };
-        self.branches.push(branch)?;
-        let link = entered(called, clause, instance, point, branch.innermost);
+        let depth = goal_depth(&self.links, self.innermost);
+        let link = entered(box_no, depth, clause, instance, point, self.innermost);
         self.innermost = self.links.push(link)?;
         Ok(true)
     }
 
-    /// Solves the innermost frame's next goal, if it is built in.
-    pub fn solve(
-        &mut self,
-        alloc: Global,
-        called: &Called,
-        point: u32,
-    ) -> Result<Solved, AllocError>
-        ensures alike { IfOk result (λ r. AreAlike (solution self.old.current called.now point) (solution_as r self.new.current)) }
+    /// Solves the innermost frame's next goal, called in this box, if it is built in.
+    pub fn solve(&mut self, alloc: Global, box_no: u32, point: u32) -> Result<Solved, AllocError>
+        requires { MayCall self.old.current }
+        ensures alike { IfOk result (λ r. (g : Called) → Calls self.old.current box_no g → AreAlike (solution self.old.current g point) (solution_as r self.new.current)) }
         ensures kept { IfOk result (λ r. Keeps r self.old self.new) }
     {
         let Some(goal) = next_goal(&self.links, self.innermost) else {
@@ -339,7 +364,8 @@ impl Frames {
             head: goal,
             goals: ListOf::new(alloc),
         };
-        let link = entered(called, BUILTIN, instance, point, self.innermost);
+        let depth = goal_depth(&self.links, self.innermost);
+        let link = entered(box_no, depth, BUILTIN, instance, point, self.innermost);
         self.innermost = self.links.push(link)?;
         Ok(solved)
     }
@@ -369,22 +395,22 @@ impl Frames {
         }
     }
 
-    /// Saves the frames for a choice. Until they are restored there are none.
+    /// Saves the frames for a choice.
     pub fn save(&mut self) -> Result<(), AllocError>
-        ensures { OnOk result (self.new ≡ record { current = []; saved = self.old.current ∷ self.old.saved }) }
+        ensures { OnOk result (self.new ≡ record { current = self.old.current; saved = self.old.current ∷ self.old.saved }) }
     {
         let branch = here(&self.store, &self.links, self.innermost);
         self.branches.push(branch)?;
-        self.innermost = 0;
         Ok(())
     }
 
-    /// Goes back to the frames as they were at the newest choice.
+    /// Goes back to the frames as they were at the newest choice. They stay saved.
     pub fn restore(&mut self)
         requires { 0 < length self.old.saved }
-        ensures { self.old.saved ≡ self.new.current ∷ self.new.saved }
+        ensures current { self.old.saved ≡ self.new.current ∷ drop 1 self.old.saved }
+        ensures saved { self.new.saved ≡ self.old.saved }
     {
-        match self.branches.pop() {
+        match self.branches.top() {
             None => unreachable!(),
             Some(branch) => {
                 self.store.undo(branch.mark);

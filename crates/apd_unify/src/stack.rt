@@ -1,6 +1,6 @@
 //! A stack.
 
-ghost use Rattle.std.specs.Prelude.{◌≡◌, ◌∷◌, [], length, OnOk, OnErr, MatchOption};
+ghost use Rattle.std.specs.Prelude.{◌≡◌, ◌∷◌, [], length, drop, OnOk, OnErr, MatchOption};
 
 use std::alloc::{AllocError, Global};
 use std::marker::Model;
@@ -44,6 +44,15 @@ impl<T> Stack<T> {
             (λ x. self.old ≡ x ∷ self.new) }
     {
         self.oldest_first.pop()
+    }
+
+    /// The newest.
+    pub fn top(&self) -> Option<&T>
+        ensures { MatchOption result
+            (self.now ≡ [])
+            (λ x. self.now ≡ x.now ∷ drop 1 self.now) }
+    {
+        self.oldest_first.last()
     }
 
     pub fn len(&self) -> usize

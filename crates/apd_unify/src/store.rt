@@ -7,16 +7,17 @@ ghost use Rattle.apd_term.specs.Canonical.{shifted};
 ghost use Rattle.apd_unify.specs.First.{AreApart};
 ghost use Rattle.apd_unify.specs.Numbered.{IsNumbered};
 ghost use Rattle.apd_unify.specs.Ordered.{Numbers};
+ghost use Rattle.apd_unify.specs.Step.{first_symbol};
 ghost use Rattle.apd_unify.specs.Store.{term_at, under_bindings, loaded, at_mark, Keeps, IsUnification, SizeWithin};
 
-use crate::first::{are_clashing, key_at, key_of};
+use crate::first::{are_clashing, first_symbol, key_at, key_of};
 use crate::heap::Heap;
 use crate::reading::{resolved, size_within};
 use crate::scratch::{Scratch, numbered_within};
 use crate::stack::Stack;
 use crate::unify::{Pairs, unify};
 use crate::walk::Walk;
-use apd_term::Flat;
+use apd_term::{Flat, Sym};
 use std::alloc::{AllocError, Global};
 use std::marker::Model;
 
@@ -118,6 +119,14 @@ impl Store {
         ensures { OnTrue result (AreApart (term_at self.now cell.0) other.now) }
     {
         are_clashing(key_at(&self.heap, cell.0), key_of(other))
+    }
+
+    /// The first symbol of the term at a cell.
+    pub fn symbol(&self, cell: Cell) -> Sym
+        requires { cell.0 < length self.now.cells }
+        ensures { result ≡ first_symbol (term_at self.now cell.0) }
+    {
+        first_symbol(&self.heap, cell.0)
     }
 
     /// Where the trail ends.

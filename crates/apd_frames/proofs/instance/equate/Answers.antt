@@ -1,4 +1,4 @@
-use Rattle.std.proofs.Common.{◌+◌, ◌<◌, arith}
+use Rattle.std.proofs.Common.{arith}
 use Rattle.std.proofs.lemmas.Result.{IfOk-weaker}
 use Rattle.apd_term.specs.Term.{variables}
 use Rattle.apd_term.proofs.Among.{IsAmong-left, IsAmong-right}

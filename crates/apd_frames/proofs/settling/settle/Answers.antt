@@ -1,10 +1,10 @@
-use Rattle.std.proofs.Common.{ℕ, ◌∙◌, sym, subst}
+use Rattle.std.proofs.Common.{ℕ, ◌∙◌, refl, sym, subst}
 use Rattle.apd_term.specs.Term.{Occurs}
 use Rattle.apd_unify.specs.Unifier.{OccursIn}
 use Rattle.apd_unify.proofs.Rounding.{Keeps-self}
-use Rattle.apd_unify.specs.Store.{Keeps}
+use Rattle.apd_unify.specs.Store.{term_at, Keeps}
 use Rattle.apd_frames.proofs.Instancing.{undone}
-use Rattle.apd_frames.proofs.Solving.{equates_within}
+use Rattle.apd_frames.proofs.Solving.{equates_within, user_goal}
 use Rattle.apd_frames.proofs.settling.settle.Goals as goal
 
 pub returns-in_err-atom-clause-kept : goal.returns-in_err-atom-clause-kept
@@ -33,3 +33,9 @@ equate-requires-clause-within c =
 pub returns-clause-kept : goal.returns-clause-kept
 returns-clause-kept c =
     subst (Keeps c.args.store.now) (sym (undone c.args.store.now c.equate.new.store c.undo.new.self c.mark-mark.result.0 c.equate.ensures.kept c.mark-mark.ensures c.undo.ensures)) (Keeps-self c.args.store.now)
+
+pub returns-in_default-clause-kept : goal.returns-in_default-clause-kept
+returns-in_default-clause-kept c = Keeps-self c.args.store.now
+
+pub returns-in_default-clause-answer : goal.returns-in_default-clause-answer
+returns-in_default-clause-answer c = (refl, user_goal (term_at c.args.store.now c.args.goal.0) c.builtin_at.result c.builtin_at.ensures c.in_default.not-Some)

@@ -1,7 +1,5 @@
-use Rattle.std.proofs.Common.{ℕ, ◌<◌, true, subst, sym}
-use Rattle.std.specs.Bool.{OnTrue}
+use Rattle.std.proofs.Common.{ℕ, ◌<◌, subst}
 use Rattle.apd_term.specs.Term.{Occurs}
-use Rattle.apd_frames.specs.Kept.{IsSmall}
 use Rattle.apd_frames.proofs.Bounds.{atom_more, whole_clause, on_true}
 use Rattle.apd_frames.proofs.small.has_small_variables.Goals as goal
 

@@ -1,20 +1,24 @@
-use Rattle.std.proofs.Common.{◌≡◌, ◌∷◌, ◌∙◌, length, ap, sym, subst}
+use Rattle.std.proofs.Common.{length, refl, sym, subst}
 use Rattle.std.specs.Bool.{OnTrue}
+use Rattle.apd_term.specs.Term.{variable}
 use Rattle.apd_unify.specs.First.{AreApart}
 use Rattle.apd_unify.specs.Store.{term_at}
+use Rattle.apd_trace.specs.declared.frame.Called.{Called}
+use Rattle.apd_frames.specs.Kept.{Kept, MayCall, Calls}
 use Rattle.apd_frames.specs.Instances.{Instantiates, IsInstantiated}
 use Rattle.apd_frames.specs.Linked.{IsFramed}
 use Rattle.apd_frames.proofs.Branching.{framed_kept}
+use Rattle.apd_frames.proofs.Current.{may_call_any}
 use Rattle.apd_frames.proofs.Instancing.{undone, no_instance}
-use Rattle.apd_frames.proofs.Moving.{enters_no, enters_back, enters_so, branch_framed, entered_framed_so}
+use Rattle.apd_frames.proofs.Moving.{enters_no, enters_back, enters_so, entered_framed}
 use Rattle.apd_frames.proofs.frames.Frames.enter.Goals as goal
 
 pub differs-requires : goal.differs-requires
 differs-requires c = c.in-Some.ensures.0 (length c.self.inside.store.cells) c.self.invariant.placed
 
 pub returns-then-differs : goal.returns-then-differs
-returns-then-differs c =
-    enters_no c.self.inside.store c.self.inside.links c.self.inside.innermost c.self.inside.branches c.args.self.now c.self.view_is c.self.invariant c.args.called.now c.args.rule.now c.args.clause c.args.point
+returns-then-differs c = λ g calls.
+    enters_no c.self.inside.store c.self.inside.links c.self.inside.innermost c.self.inside.branches c.args.self.now c.self.view_is c.self.invariant g c.args.rule.now c.args.clause c.args.point
     c.in-Some.goal c.in-Some.ensures
     (subst (λ b. OnTrue b (AreApart (term_at c.self.inside.store c.in-Some.goal.0) c.args.rule.now.head)) c.if-differs.true c.differs.ensures)
 
@@ -26,34 +30,34 @@ invariant_of-self c =
     framed_kept c.self.inside.store c.instantiate.new.store c.self.inside.links c.self.inside.innermost c.self.inside.branches c.instantiate.ensures.kept c.instantiate.ensures.cells c.self.invariant
 
 pub returns-in_default-2 : goal.returns-in_default-2
-returns-in_default-2 c =
-    enters_back c.self.inside.store c.self.inside.links c.self.inside.innermost c.self.inside.branches c.args.self.now c.self.view_is c.self.invariant c.args.called.now c.args.rule.now c.args.clause c.args.point
+returns-in_default-2 c = λ g calls.
+    enters_back c.self.inside.store c.self.inside.links c.self.inside.innermost c.self.inside.branches c.args.self.now c.self.view_is c.self.invariant g c.args.rule.now c.args.clause c.args.point
     c.in-Some.goal c.in_ok-instance.ensures.answer.variant c.undo.new.self c.in-Some.ensures c.instantiate.ensures.numbered c.in_ok-instance.ensures.answer.renamed
     (no_instance c.in_ok-instance.field-0 c.self.inside.store c.instantiate.new.store c.in-Some.goal.0 c.in_ok-instance.ensures.answer.variant c.in_default-2.not-Some c.in_ok-instance.ensures.answer.is)
-    (undone c.self.inside.store c.instantiate.new.store c.undo.new.self c.here-branch.result.mark.0 c.instantiate.ensures.kept c.here-branch.ensures.mark c.undo.ensures)
+    (undone c.self.inside.store c.instantiate.new.store c.undo.new.self c.mark-mark.result.0 c.instantiate.ensures.kept c.mark-mark.ensures c.undo.ensures)
 
-pub invariant_of-self-in_err-push : goal.invariant_of-self-in_err-push
-invariant_of-self-in_err-push c =
-    subst (IsFramed c.instantiate.new.store c.self.inside.links c.self.inside.innermost) (sym c.in_err-push.ensures.err)
-    (framed_kept c.self.inside.store c.instantiate.new.store c.self.inside.links c.self.inside.innermost c.self.inside.branches c.instantiate.ensures.kept c.instantiate.ensures.cells c.self.invariant)
+pub goal_depth-depth-requires : goal.goal_depth-depth-requires
+goal_depth-depth-requires c = λ s.
+    may_call_any c.self.inside.links c.self.inside.innermost c.self.inside.store s (subst (λ (x : Kept). MayCall x.current) (sym c.self.view_is) c.requires.deep)
 
 pub invariant_of-self-in_err-self-inside : goal.invariant_of-self-in_err-self-inside
 invariant_of-self-in_err-self-inside c =
-    subst (λ ls. IsFramed c.instantiate.new.store ls c.self.inside.innermost c.push.new.self) (sym c.in_err-self-inside.ensures.err)
-    (subst (IsFramed c.instantiate.new.store c.self.inside.links c.self.inside.innermost) (sym c.in_ok-push.ensures.ok)
-    (branch_framed c.self.inside.store c.self.inside.links c.self.inside.innermost c.self.inside.branches c.args.self.now c.self.view_is c.self.invariant c.args.called.now c.args.rule.now c.args.clause c.args.point c.instantiate.new.store c.here-branch.result c.instantiate.ensures.kept c.instantiate.ensures.cells c.here-branch.ensures))
+    subst (λ ls. IsFramed c.instantiate.new.store ls c.self.inside.innermost c.self.inside.branches) (sym c.in_err-self-inside.ensures.err)
+    (framed_kept c.self.inside.store c.instantiate.new.store c.self.inside.links c.self.inside.innermost c.self.inside.branches c.instantiate.ensures.kept c.instantiate.ensures.cells c.self.invariant)
 
 pub invariant_of-self-2 : goal.invariant_of-self-2
 invariant_of-self-2 c =
     let inst : IsInstantiated c.in-Some-2.instance c.self.inside.store c.instantiate.new.store c.in-Some.goal.0 c.in_ok-instance.ensures.answer.variant = (subst (λ o. Instantiates o c.self.inside.store c.instantiate.new.store c.in-Some.goal.0 c.in_ok-instance.ensures.answer.variant) c.in-Some-2.is c.in_ok-instance.ensures.answer.is) in
-    entered_framed_so c.self.inside.store c.self.inside.links c.self.inside.innermost c.self.inside.branches c.args.self.now c.self.view_is c.self.invariant c.args.called.now c.args.rule.now c.args.clause c.args.point c.instantiate.new.store c.here-branch.result c.instantiate.ensures.kept c.instantiate.ensures.cells c.here-branch.ensures
-    c.entered-link.result c.in-Some-2.instance c.push-2.new.self c.in_ok-self-inside.field-0 c.push.new.self inst.inside c.entered-link.ensures
-    c.in_ok-self-inside.ensures.ok c.in_ok-self-inside.ensures.number c.in_ok-push.ensures.ok
+    let g : Called = record { box_no = c.args.box_no; caller = 0; depth = c.goal_depth-depth.result; atom = variable 0 } in
+    entered_framed c.self.inside.store c.self.inside.links c.self.inside.innermost c.self.inside.branches c.args.self.now c.self.view_is c.self.invariant g c.args.rule.now c.args.clause c.args.point c.instantiate.new.store c.instantiate.ensures.kept c.instantiate.ensures.cells
+    c.entered-link.result c.in-Some-2.instance c.push.new.self c.in_ok-self-inside.field-0 inst.inside (c.entered-link.ensures g (record { box = refl; deep = refl }))
+    c.in_ok-self-inside.ensures.ok c.in_ok-self-inside.ensures.number
 
 pub returns : goal.returns
-returns c =
+returns c = λ g calls.
     let inst : IsInstantiated c.in-Some-2.instance c.self.inside.store c.instantiate.new.store c.in-Some.goal.0 c.in_ok-instance.ensures.answer.variant = (subst (λ o. Instantiates o c.self.inside.store c.instantiate.new.store c.in-Some.goal.0 c.in_ok-instance.ensures.answer.variant) c.in-Some-2.is c.in_ok-instance.ensures.answer.is) in
-    enters_so c.self.inside.store c.self.inside.links c.self.inside.innermost c.self.inside.branches c.args.self.now c.self.view_is c.self.invariant c.args.called.now c.args.rule.now c.args.clause c.args.point c.instantiate.new.store c.here-branch.result c.instantiate.ensures.kept c.instantiate.ensures.cells c.here-branch.ensures
-    c.in-Some.goal c.in-Some-2.instance c.in_ok-instance.ensures.answer.variant c.push-2.new.self c.in_ok-self-inside.field-0 c.push.new.self
+    enters_so c.self.inside.store c.self.inside.links c.self.inside.innermost c.self.inside.branches c.args.self.now c.self.view_is c.self.invariant g c.args.rule.now c.args.clause c.args.point c.instantiate.new.store c.instantiate.ensures.kept c.instantiate.ensures.cells
+    c.in-Some.goal c.in-Some-2.instance c.in_ok-instance.ensures.answer.variant c.entered-link.result c.push.new.self c.in_ok-self-inside.field-0
     c.in-Some.ensures c.instantiate.ensures.numbered c.in_ok-instance.ensures.answer.renamed inst
-    (c.in_ok-self-inside.ensures.ok ∙ ap (λ l. l ∷ c.self.inside.links) c.entered-link.ensures) c.in_ok-self-inside.ensures.number c.in_ok-push.ensures.ok
+    (c.entered-link.ensures g (c.goal_depth-depth.ensures c.self.inside.store c.args.box_no g (subst (λ (x : Kept). Calls x.current c.args.box_no g) (sym c.self.view_is) calls)))
+    c.in_ok-self-inside.ensures.ok c.in_ok-self-inside.ensures.number

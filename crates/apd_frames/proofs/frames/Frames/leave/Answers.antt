@@ -1,4 +1,3 @@
-use Rattle.std.proofs.Common.{◌∙◌, [], sym, ap}
 use Rattle.apd_frames.proofs.Current.{innermost_some, innermost_none}
 use Rattle.apd_frames.proofs.Branching.{framed_at}
 use Rattle.apd_frames.proofs.Moving.{leaves, leaves_nothing}

@@ -1,4 +1,4 @@
-use Rattle.std.proofs.Common.{◌≡◌, ◌+◌, ◌<◌, [], ◌∷◌, ◌∙◌, length, map, refl, ap, subst, arith}
+use Rattle.std.proofs.Common.{◌∷◌, ◌∙◌, map, refl, ap, subst, arith}
 use Rattle.std.specs.List.{flat_map}
 use Rattle.apd_term.specs.Term.{variables, IsAmong}
 use Rattle.apd_term.proofs.Among.{IsAmong-left, IsAmong-right}

@@ -27,13 +27,10 @@ use Rattle.apd_trace.specs.declared.item.Item.TheVariants.{Made, Error}
 use Rattle.apd_trace.specs.declared.frame.Look.{Look}
 use Rattle.apd_trace.specs.declared.frame.Look.TheVariants.{Goal, Exit as Exits, Answer as Answers}
 use Rattle.apd_trace.proofs.Searched.{search_same, tried_same, settled_same}
-use Rattle.apd_frames.specs.Kept.{Kept, Points, exit_in, point_in}
-use Rattle.apd_engine.specs.Search.{with_saved, forgotten, leaving, Postpones, AllWait, IsOpen, AllWaits, Gives, Skips, Found, back, resume}
+use Rattle.apd_frames.specs.Kept.{Kept, Calls, MayCall, Points, exit_in, point_in}
+use Rattle.apd_engine.specs.Search.{leaving, Postpones, AllWait, IsBack, IsOpen, IsCalling, AllWaits, Gives, Skips, Found, back, resume}
 use Rattle.apd_engine.specs.declared.search.Search.{Search}
 use Rattle.apd_engine.proofs.Numbered.{cut}
-use Rattle.apd_frames.specs.Solves.{solution_as, Keeps}
-use Rattle.apd_frames.specs.declared.builtin.Solved.{Solved}
-use Rattle.apd_frames.specs.declared.builtin.Solved.TheVariants.{Program, Entered}
 use Rattle.apd_engine.specs.declared.search.Choice.{Choice}
 use Rattle.apd_engine.specs.declared.search.Choice.TheVariants.{Alternatives, Again, Closing, Over}
 use Rattle.apd_engine.specs.declared.search.Mode.{Mode}
@@ -45,17 +42,33 @@ pub AllWait-more : (n m : ℕ) (F : List Frame) → n ≤ m → AllWait n F → 
 AllWait-more n m [] le h = tt
 AllWait-more n m (f ∷ F) le h = (h.0, h.1, omega (arith, h.2), AllWait-more n m F le h.3)
 
+IsCalling-more : (n m b : ℕ) (F : List Frame) → n ≤ m → IsCalling n b F → IsCalling m b F
+IsCalling-more n m b F le h = record { goal = h.goal; calls = h.calls; deep = omega (arith, h.deep); waits = AllWait-more n m F le h.waits }
+
 pub AllWaits-more : (n m : ℕ) (cs : List Choice) (saved : List (List Frame)) → n ≤ m → AllWaits n cs saved → AllWaits m cs saved
 AllWaits-more n m [] saved le h = tt
-AllWaits-more n m (Again g ∷ cs) saved le h = AllWaits-more n m cs saved le h
-AllWaits-more n m (Closing g ∷ cs) saved le h = AllWaits-more n m cs saved le h
-AllWaits-more n m (Over l g ∷ cs) saved le h = AllWaits-more n m cs saved le h
-AllWaits-more n m (Alternatives g c ∷ cs) [] le h = h
-AllWaits-more n m (Alternatives g c ∷ cs) (F ∷ saved) le h = (omega (arith, h.0), AllWait-more n m F le h.1, AllWaits-more n m cs saved le h.2)
+AllWaits-more n m (Alternatives b i ∷ cs) [] le h = h
+AllWaits-more n m (Alternatives b i ∷ cs) (F ∷ saved) le h = (IsCalling-more n m b F le h.0, AllWaits-more n m cs saved le h.1)
+AllWaits-more n m (Again ∷ cs) [] le h = h
+AllWaits-more n m (Again ∷ cs) (E ∷ saved) le h = (h.0, AllWaits-more n m cs saved le h.1)
+AllWaits-more n m (Closing b ∷ cs) [] le h = h
+AllWaits-more n m (Closing b ∷ cs) (F ∷ saved) le h = (IsCalling-more n m b F le h.0, AllWaits-more n m cs saved le h.1)
+AllWaits-more n m (Over b ∷ cs) [] le h = h
+AllWaits-more n m (Over b ∷ cs) (E ∷ []) le h = h
+AllWaits-more n m (Over b ∷ cs) (E ∷ F ∷ saved) le h = (h.0, IsCalling-more n m b F le h.1, AllWaits-more n m cs saved le h.2)
 
 -- fuel that is left above so many choices is one more than above one choice more
 pub fuel : (K h : ℕ) → h < K → K - h ≡ suc (K - suc h)
 fuel K h lt = omega arith
+
+-- a goal that is called in a box has its number
+box_at : (o : Option Term) (f : Frame) (F : List Frame) (n : ℕ) (g : Called) → look_at o f F n ≡ Goal g → g.box_no ≡ n
+box_at (Some a) f F n g e = let same : called f a n ≡ g = cc in sym (ap (λ (c : Called). c.box_no) same)
+box_at None f F n g e = elim (f.box_no == 0) as (λ b. (if b then Answers (canonical f.tuple.head) else Exits (left f F) f.point) ≡ Goal g → g.box_no ≡ n) [ true ↦ λ bad. cc | false ↦ λ bad. cc ] e
+
+pub box_of : (F : List Frame) (n : ℕ) (g : Called) → Calls F n g → g.box_no ≡ n
+box_of [] n g e = cc
+box_of (f ∷ F) n g e = box_at (goal_of f) f F n g e
 
 -- a goal that is called is at most n + 1 deep, and its frames wait for it
 goal_at : (o : Option Term) (f : Frame) (F : List Frame) (n : ℕ) (g : Called) → goal_of f ≡ o → look_at o f F (n + 1) ≡ Goal g → IsOpen n (f ∷ F) → (g.depth ≤ n + 1) × AllWait (n + 1) (f ∷ F)
@@ -73,7 +86,25 @@ pub outer_waits : (F : List Frame) (n : ℕ) → IsOpen n F → AllWait n (outer
 outer_waits [] n ready = tt
 outer_waits (f ∷ F) n ready = ready.2
 
-pub gives_call : (P : List Tuple) (F F' : Kept) (cs cs' : List Choice) (n m : ℕ) (look : Look) (g : Called) (i : Item) → look ≡ look_of F.current (n + 1) → look ≡ Goal g → IsOpen n F.current → AllWaits n cs F.saved → F' ≡ record { current = []; saved = F.current ∷ F.saved } → cs' ≡ Alternatives g 0 ∷ cs → i ≡ at_port Call g → Gives P Forward F cs n m i (record { frames = F'; mode = Back; stack = cs'; boxes = n + 1; points = m })
+-- an exit that frames look at is the one that they leave
+exits_at : (o : Option Term) (f : Frame) (F : List Frame) (n e : ℕ) (g : Called) → look_at o f F n ≡ Exits g e → ◌≡◌ {A = Option (Called × ℕ)} (Some (left f F, f.point)) (Some (g, e))
+exits_at (Some a) f F n e g h = cc
+exits_at None f F n e g h = elim (f.box_no == 0) as (λ b. (if b then Answers (canonical f.tuple.head) else Exits (left f F) f.point) ≡ Exits g e → ◌≡◌ {A = Option (Called × ℕ)} (Some (left f F, f.point)) (Some (g, e))) [ true ↦ λ bad. cc | false ↦ λ same. cc ] h
+
+exits_look : (F : List Frame) (n e : ℕ) (g : Called) → look_of F n ≡ Exits g e → exit_in F ≡ Some (g, e)
+exits_look [] n e g h = cc
+exits_look (f ∷ F) n e g h = exits_at (goal_of f) f F n e g h
+
+-- open frames are left at an exit
+pub open_some : (F : List Frame) (n : ℕ) → IsOpen n F → 0 < length F
+open_some [] n h = elim h [ ]
+open_some (f ∷ F) n h = omega arith
+
+pub exit_some : (F : List Frame) → 0 < length F → (x : Called × ℕ) × (exit_in F ≡ Some x)
+exit_some [] h = absurd (omega (arith, h))
+exit_some (f ∷ F) h = ((left f F, f.point), refl)
+
+pub gives_call : (P : List Tuple) (F F' : Kept) (cs cs' : List Choice) (n m : ℕ) (look : Look) (g : Called) (i : Item) → look ≡ look_of F.current (n + 1) → look ≡ Goal g → IsOpen n F.current → AllWaits n cs F.saved → F' ≡ record { current = F.current; saved = F.current ∷ F.saved } → cs' ≡ Alternatives (n + 1) 0 ∷ cs → i ≡ at_port Call g → Gives P Forward F cs n m i (record { frames = F'; mode = Back; stack = cs'; boxes = n + 1; points = m })
 gives_call P F F' cs cs' n m look g i looks is ready waits kept pushed told =
     let goal : look_of F.current (n + 1) ≡ Goal g = sym looks ∙ is in
     let wait = goal_waits F.current n g goal ready in
@@ -84,20 +115,20 @@ gives_call P F F' cs cs' n m look g i looks is ready waits kept pushed told =
       points_made = omega arith;
       pace = omega arith;
       goes = tt;
-      waits = (wait.0, wait.1, AllWaits-more n (n + 1) cs F.saved (omega arith) waits);
+      waits = (record { goal = g; calls = goal; deep = wait.0; waits = wait.1 }, AllWaits-more n (n + 1) cs F.saved (omega arith) waits);
     })
 
-pub gives_exit : (P : List Tuple) (F F' : Kept) (cs cs' : List Choice) (n m e : ℕ) (look : Look) (g : Called) (i : Item) → look ≡ look_of F.current (n + 1) → look ≡ Exits g e → IsOpen n F.current → AllWaits n cs F.saved → F' ≡ record { current = outer F.current; saved = F.saved } → cs' ≡ Again g ∷ cs → i ≡ at_port Exit g → Gives P Forward F cs n m i (record { frames = F'; mode = Hand e; stack = cs'; boxes = n; points = m })
+pub gives_exit : (P : List Tuple) (F F' : Kept) (cs cs' : List Choice) (n m e : ℕ) (look : Look) (g : Called) (i : Item) → look ≡ look_of F.current (n + 1) → look ≡ Exits g e → IsOpen n F.current → AllWaits n cs F.saved → F' ≡ record { current = outer F.current; saved = F.current ∷ F.saved } → cs' ≡ Again ∷ cs → i ≡ at_port Exit g → Gives P Forward F cs n m i (record { frames = F'; mode = Hand e; stack = cs'; boxes = n; points = m })
 gives_exit P F F' cs cs' n m e look g i looks is ready waits kept pushed told =
     let exit : look_of F.current (n + 1) ≡ Exits g e = sym looks ∙ is in
     rw (kept, pushed, told) (record {
-      items = λ K below. rw (fuel K (length cs) below, exit, append_assoc) refl;
+      items = λ K below. rw (fuel K (length cs) below, exit, exits_look F.current (n + 1) e g exit, append_assoc) refl;
       height = omega arith;
       boxes_made = omega arith;
       points_made = omega arith;
       pace = omega arith;
       goes = outer_waits F.current n ready;
-      waits = waits;
+      waits = (open_some F.current n ready, waits);
     })
 
 -- frames that wait do so under a substitution
@@ -196,217 +227,343 @@ module _ (P : List Tuple) where
           let point : e ≡ f.point = ap (λ (x : Called × ℕ). x.1) both in
           rw (same, point) refl
 
-  -- Redo of a built-in goal, and its Fail is left
-  pub gives_redo : (F : Kept) (cs cs' : List Choice) (n m : ℕ) (l g : Called) (mode : Mode) (i : Item) → AllWaits n cs F.saved → cs' ≡ Closing g ∷ cs → mode ≡ Back → i ≡ at_port Redo l → Gives P Back F (Over l g ∷ cs) n m i (record { frames = F; mode = mode; stack = cs'; boxes = n; points = m })
-  gives_redo F cs cs' n m l g mode i waits pushed is told =
-      rw (pushed, is, told) (record {
-        items = λ K below. refl;
+  -- Redo of a box that was left
+  pub gives_again : (F G : Kept) (cs : List Choice) (n m e : ℕ) (l : Called) (mode : Mode) (i : Item) (E : List Frame) (S : List (List Frame)) → F.saved ≡ E ∷ S → G.saved ≡ S → exit_in E ≡ Some (l, e) → AllWaits n cs S → mode ≡ Back → i ≡ at_port Redo l
+      → Gives P Back F (Again ∷ cs) n m i (record { frames = G; mode = mode; stack = cs; boxes = n; points = m })
+  gives_again F G cs n m e l mode i E S was now exits waits is told =
+      rw (is, told) (record {
+        items = λ K below. rw (was, now, exits) refl;
         height = omega arith;
         boxes_made = omega arith;
         points_made = omega arith;
         pace = omega arith;
         goes = tt;
-        waits = waits;
+        waits = subst (AllWaits n cs) (sym now) waits;
+      })
+
+  -- Fail of a goal
+  pub gives_closed : (F G : Kept) (cs : List Choice) (n m b : ℕ) (g : Called) (mode : Mode) (i : Item) (E : List Frame) (S : List (List Frame)) → F.saved ≡ E ∷ S → G.saved ≡ S → look_of E b ≡ Goal g → AllWaits n cs S → mode ≡ Back → i ≡ at_port Fail g
+      → Gives P Back F (Closing b ∷ cs) n m i (record { frames = G; mode = mode; stack = cs; boxes = n; points = m })
+  gives_closed F G cs n m b g mode i E S was now calls waits is told =
+      rw (is, told) (record {
+        items = λ K below. rw (was, now, calls) refl;
+        height = omega arith;
+        boxes_made = omega arith;
+        points_made = omega arith;
+        pace = omega arith;
+        goes = tt;
+        waits = subst (AllWaits n cs) (sym now) waits;
+      })
+
+  -- Redo of a built-in goal, and its Fail is left
+  pub gives_redo : (F G : Kept) (cs cs' : List Choice) (n m b e : ℕ) (l : Called) (mode : Mode) (i : Item) (E C : List Frame) (S : List (List Frame)) → F.saved ≡ E ∷ C ∷ S → G.saved ≡ C ∷ S → exit_in E ≡ Some (l, e) → IsCalling n b C → AllWaits n cs S → cs' ≡ Closing b ∷ cs → mode ≡ Back → i ≡ at_port Redo l
+      → Gives P Back F (Over b ∷ cs) n m i (record { frames = G; mode = mode; stack = cs'; boxes = n; points = m })
+  gives_redo F G cs cs' n m b e l mode i E C S was now exits calling waits pushed is told =
+      rw (pushed, is, told) (record {
+        items = λ K below. rw (was, now, exits, calling.calls) refl;
+        height = omega arith;
+        boxes_made = omega arith;
+        points_made = omega arith;
+        pace = omega arith;
+        goes = tt;
+        waits = subst (AllWaits n (Closing b ∷ cs)) (sym now) (calling, waits);
       })
 
   -- what comes of a goal, where that is known up to a renaming
   settled_as : (k : ℕ) (F : List Frame) (g : Called) (i n m : ℕ) (x : Solution) → AreAlike (solution F g m) x → resume P k g F i n m ≡ settled (search_from P k) (drop i (clauses_for g.atom P)) F g x n m
   settled_as k F g i n m x h = settled_same P (search_from P k) (search_same P k) g (drop i (clauses_for g.atom P)) F F (solution F g m) x n m h (renamed_self F)
 
-  -- a state that was restored from the frames saved last
-  pub gives_restored : (F old : Kept) (cs : List Choice) (n m : ℕ) (i : Item) (new : Search) (g : Called) (c : ℕ) → F.saved ≡ old.current ∷ old.saved → Gives P Back (with_saved old) (Alternatives g c ∷ cs) n m i new → Gives P Back F (Alternatives g c ∷ cs) n m i new
-  gives_restored F old cs n m i new g c restored gives =
-      record {
-        items = λ K below. rw restored (gives.items K below);
-        height = gives.height;
-        boxes_made = gives.boxes_made;
-        points_made = gives.points_made;
-        pace = gives.pace;
-        goes = gives.goes;
-        waits = gives.waits;
-      }
+  -- the frames R were restored from what was saved at X, and call the goal g in box b
+  module _ (X R : Kept) (S : List (List Frame)) (was : X.saved ≡ R.current ∷ S) (here : R.saved ≡ R.current ∷ S) (cs : List Choice) (n m b from : ℕ) (calling : IsCalling n b R.current) (waiting : AllWaits n cs S) where
+    abbrev g : Called
+    g = calling.goal
 
-  module _ (old : Kept) (cs : List Choice) (n m : ℕ) (g : Called) (from : ℕ) (waiting : AllWaits n (Alternatives g from ∷ cs) (old.current ∷ old.saved)) where
     -- no clause is left, or the goal is built in and fails
-    pub gives_fail : (new : Kept) (mode : Mode) (i : Item) → ((k : ℕ) → resume P k g old.current from n m ≡ closing g n m) → new ≡ old → mode ≡ Back → i ≡ at_port Fail g → Gives P Back (with_saved old) (Alternatives g from ∷ cs) n m i (record { frames = new; mode = mode; stack = cs; boxes = n; points = m })
-    gives_fail new mode i closes same is told =
-        rw (same, is, told) (record {
-          items = λ K below. rw (closes (K - suc (length cs))) refl;
+    gives_fail : (new : Kept) (mode : Mode) (i : Item) → ((k : ℕ) → resume P k g R.current from n m ≡ closing g n m) → new.saved ≡ S → mode ≡ Back → i ≡ at_port Fail g → Gives P Back X (Alternatives b from ∷ cs) n m i (record { frames = new; mode = mode; stack = cs; boxes = n; points = m })
+    gives_fail new mode i closes now is told =
+        rw (is, told) (record {
+          items = λ K below. rw (was, now, calling.calls, closes (K - suc (length cs))) refl;
           height = omega arith;
           boxes_made = omega arith;
           points_made = omega arith;
           pace = omega arith;
           goes = tt;
-          waits = waiting.2;
+          waits = subst (AllWaits n cs) (sym now) waiting;
         })
 
-    pub gives_failed : (new : Kept) (mode : Mode) (i : Item) → AreAlike (solution old.current g m) failed → new ≡ old → mode ≡ Back → i ≡ at_port Fail g → Gives P Back (with_saved old) (Alternatives g from ∷ cs) n m i (record { frames = new; mode = mode; stack = cs; boxes = n; points = m })
-    gives_failed new mode i alike same is told = gives_fail new mode i (λ k. settled_as k old.current g from n m failed alike) same is told
+    pub gives_failed : (new : Kept) (mode : Mode) (i : Item) → AreAlike (solution R.current g m) failed → new.saved ≡ S → mode ≡ Back → i ≡ at_port Fail g → Gives P Back X (Alternatives b from ∷ cs) n m i (record { frames = new; mode = mode; stack = cs; boxes = n; points = m })
+    gives_failed new mode i alike now is told = gives_fail new mode i (λ k. settled_as k R.current g from n m failed alike) now is told
 
-    pub gives_last : (new : Kept) (mode : Mode) (i : Item) (at : ℕ) → AreAlike (solution old.current g m) of_program → Skips P old.current g m from at → length (clauses_for g.atom P) ≤ at → new ≡ old → mode ≡ Back → i ≡ at_port Fail g → Gives P Back (with_saved old) (Alternatives g from ∷ cs) n m i (record { frames = new; mode = mode; stack = cs; boxes = n; points = m })
-    gives_last new mode i at alike skips past same is told =
-        gives_fail new mode i (λ k. settled_as k old.current g from n m of_program alike ∙ skips (search_from P k) n ∙ ap (λ rs. tries (search_from P k) old.current g rs n m) (drop_past (clauses_for g.atom P) at past)) same is told
+    pub gives_last : (new : Kept) (mode : Mode) (i : Item) (at : ℕ) → AreAlike (solution R.current g m) of_program → Skips P R.current g m from at → length (clauses_for g.atom P) ≤ at → new.saved ≡ S → mode ≡ Back → i ≡ at_port Fail g → Gives P Back X (Alternatives b from ∷ cs) n m i (record { frames = new; mode = mode; stack = cs; boxes = n; points = m })
+    gives_last new mode i at alike skips past now is told =
+        gives_fail new mode i (λ k. settled_as k R.current g from n m of_program alike ∙ skips (search_from P k) n ∙ ap (λ rs. tries (search_from P k) R.current g rs n m) (drop_past (clauses_for g.atom P) at past)) now is told
 
     -- an error
-    pub gives_fault : (new : Kept) (mode : Mode) (e : RunError) → ((k : ℕ) → resume P k g old.current from n m ≡ emit (Error e g.box_no) (nothing n m)) → new.saved ≡ old.saved → mode ≡ Back → Gives P Back (with_saved old) (Alternatives g from ∷ cs) n m (Error e g.box_no) (record { frames = new; mode = mode; stack = cs; boxes = n; points = m })
-    gives_fault new mode e ends same is =
-        rw is (record {
-          items = λ K below. rw (ends (K - suc (length cs)), same) refl;
+    gives_fault : (new : Kept) (mode : Mode) (e : RunError) (i : Item) → ((k : ℕ) → resume P k g R.current from n m ≡ emit (Error e g.box_no) (nothing n m)) → i ≡ Error e g.box_no → new.saved ≡ S → mode ≡ Back → Gives P Back X (Alternatives b from ∷ cs) n m i (record { frames = new; mode = mode; stack = cs; boxes = n; points = m })
+    gives_fault new mode e i ends told now is =
+        rw (is, told) (record {
+          items = λ K below. rw (was, now, calling.calls, ends (K - suc (length cs))) refl;
           height = omega arith;
           boxes_made = omega arith;
           points_made = omega arith;
           pace = omega arith;
           goes = tt;
-          waits = subst (AllWaits n cs) (sym same) waiting.2;
+          waits = subst (AllWaits n cs) (sym now) waiting;
         })
 
-    pub gives_faulted : (new : Kept) (mode : Mode) (e : RunError) → AreAlike (solution old.current g m) (faulted e) → new ≡ old → mode ≡ Back → Gives P Back (with_saved old) (Alternatives g from ∷ cs) n m (Error e g.box_no) (record { frames = new; mode = mode; stack = cs; boxes = n; points = m })
-    gives_faulted new mode e alike same is =
-        gives_fault new mode e (λ k. settled_as k old.current g from n m (faulted e) alike) (ap (λ (x : Kept). x.saved) same) is
+    pub gives_faulted : (new : Kept) (mode : Mode) (e : RunError) (i : Item) → AreAlike (solution R.current g m) (faulted e) → i ≡ Error e g.box_no → new.saved ≡ S → mode ≡ Back → Gives P Back X (Alternatives b from ∷ cs) n m i (record { frames = new; mode = mode; stack = cs; boxes = n; points = m })
+    gives_faulted new mode e i alike told now is = gives_fault new mode e i (λ k. settled_as k R.current g from n m (faulted e) alike) told now is
 
     -- a built-in goal succeeds
-    module _ (new : Kept) (alike : AreAlike (solution old.current g m) (solved new.current)) (saved : new.saved ≡ old.saved) where
-      pub gives_solved : (cs' : List Choice) (p : Point) (l : Called) (e : ℕ) → is_large_of new.current ≡ false → Some p ≡ point_in new.current None → Some (l, e) ≡ exit_in new.current → cs' ≡ Over l g ∷ cs → Gives P Back (with_saved old) (Alternatives g from ∷ cs) n m (Made p) (record { frames = new; mode = Leave; stack = cs'; boxes = n; points = m + 1 })
-      gives_solved cs' p l e large is exits pushed =
-          rw pushed (record {
+    module _ (E : List Frame) (alike : AreAlike (solution R.current g m) (solved E)) where
+      solved_open : IsOpen n E
+      solved_open = opened_at n (next_goal R.current) R.current g m E alike calling.deep calling.waits
+
+      pub gives_solved : (new : Kept) (cs' : List Choice) (p : Point) → is_large_of E ≡ false → Some p ≡ point_in E None → new ≡ record { current = E; saved = E ∷ R.current ∷ S } → cs' ≡ Over b ∷ cs → Gives P Back X (Alternatives b from ∷ cs) n m (Made p) (record { frames = new; mode = Leave; stack = cs'; boxes = n; points = m + 1 })
+      gives_solved new cs' p large is now pushed =
+          let x = exit_some E (open_some E n solved_open) in
+          rw (now, pushed) (record {
             items = λ K below.
                 let k : ℕ = K - suc (length cs) in
-                let made : resume P k g old.current from n m ≡ emit (Made p) (and_then (leaving (search_from P k) new.current n (m + 1)) (over l g)) =
-                settled_as k old.current g from n m (solved new.current) alike ∙ succeeded_made (search_from P k) g l e new.current n m p large is exits in
-                rw (made, saved) (seam (Made p) (leaving (search_from P k) new.current n (m + 1)) (over l g) (back P K cs old.saved));
+                let made : resume P k g R.current from n m ≡ emit (Made p) (and_then (leaving (search_from P k) E n (m + 1)) (over x.0.0 g)) =
+                settled_as k R.current g from n m (solved E) alike ∙ succeeded_made (search_from P k) g x.0.0 x.0.1 E n m p large is (sym x.1) in
+                rw (was, calling.calls, made, x.1) (seam (Made p) (leaving (search_from P k) E n (m + 1)) (over x.0.0 g) (back P K cs S));
             height = omega arith;
             boxes_made = omega arith;
             points_made = omega arith;
             pace = omega arith;
-            goes = opened_at n (next_goal old.current) old.current g m new.current alike waiting.0 waiting.1;
-            waits = subst (AllWaits n cs) (sym saved) waiting.2;
+            goes = solved_open;
+            waits = (open_some E n solved_open, calling, waiting);
           })
 
-      pub gives_oversolved : (mode : Mode) → is_large_of new.current ≡ true → mode ≡ Back → Gives P Back (with_saved old) (Alternatives g from ∷ cs) n m (Error Size g.box_no) (record { frames = new; mode = mode; stack = cs; boxes = n; points = m })
-      gives_oversolved mode large is =
-          gives_fault new mode Size (λ k. settled_as k old.current g from n m (solved new.current) alike ∙ succeeded_large (search_from P k) g new.current n m large) saved is
+      pub gives_oversolved : (new : Kept) (mode : Mode) (i : Item) → is_large_of E ≡ true → i ≡ Error Size g.box_no → new.saved ≡ S → mode ≡ Back → Gives P Back X (Alternatives b from ∷ cs) n m i (record { frames = new; mode = mode; stack = cs; boxes = n; points = m })
+      gives_oversolved new mode i large told now is =
+          gives_fault new mode Size i (λ k. settled_as k R.current g from n m (solved E) alike ∙ succeeded_large (search_from P k) g E n m large) told now is
 
     -- the goal's clauses from an index on, where those before `at` can't be entered and that one was
-    module _ (new : Kept) (at : ℕ) (alike : AreAlike (solution old.current g m) of_program) (skips : Skips P old.current g m from at) (found : Found P g m at old new) where
-      tries_found : (k : ℕ) → resume P k g old.current from n m ≡ begun (search_from P k) g (tries (search_from P k) old.current g (drop (at + 1) (clauses_for g.atom P))) new.current n m
+    module _ (new : Kept) (at : ℕ) (alike : AreAlike (solution R.current g m) of_program) (skips : Skips P R.current g m from at) (found : Found P g m at R new) where
+      tries_found : (k : ℕ) → resume P k g R.current from n m ≡ begun (search_from P k) g (tries (search_from P k) R.current g (drop (at + 1) (clauses_for g.atom P))) new.current n m
       tries_found k =
-          settled_as k old.current g from n m of_program alike
+          settled_as k R.current g from n m of_program alike
           ∙ skips (search_from P k) n
-          ∙ ap (λ rs. tries (search_from P k) old.current g rs n m) (cut (clauses_for g.atom P) at found.clause found.there)
-          ∙ tried_same P (search_from P k) (search_same P k) g (tries (search_from P k) old.current g (drop (at + 1) (clauses_for g.atom P))) (tries (search_from P k) old.current g (drop (at + 1) (clauses_for g.atom P))) (entering old.current g found.clause.1 found.clause.0 m) (Some new.current) n m found.entered.renamed (λ n' m'. refl)
+          ∙ ap (λ rs. tries (search_from P k) R.current g rs n m) (cut (clauses_for g.atom P) at found.clause found.there)
+          ∙ tried_same P (search_from P k) (search_same P k) g (tries (search_from P k) R.current g (drop (at + 1) (clauses_for g.atom P))) (tries (search_from P k) R.current g (drop (at + 1) (clauses_for g.atom P))) (entering R.current g found.clause.1 found.clause.0 m) (Some new.current) n m found.entered.renamed (λ n' m'. refl)
 
       -- what the later clauses give is what the choice gives that waits for them
-      later : (k n' m' : ℕ) → resume P k g old.current (at + 1) n' m' ≡ tries (search_from P k) old.current g (drop (at + 1) (clauses_for g.atom P)) n' m'
-      later k n' m' = later_at (next_goal old.current) alike
+      later : (k n' m' : ℕ) → resume P k g R.current (at + 1) n' m' ≡ tries (search_from P k) R.current g (drop (at + 1) (clauses_for g.atom P)) n' m'
+      later k n' m' = later_at (next_goal R.current) alike
         where
-          by_outcome : (o : Outcome) (a : Term) (rs : List (ℕ × Tuple)) → AreAlike (solution_by o a old.current g m) of_program → settled (search_from P k) rs old.current g (solution_by o a old.current g m') n' m' ≡ tries (search_from P k) old.current g rs n' m'
+          by_outcome : (o : Outcome) (a : Term) (rs : List (ℕ × Tuple)) → AreAlike (solution_by o a R.current g m) of_program → settled (search_from P k) rs R.current g (solution_by o a R.current g m') n' m' ≡ tries (search_from P k) R.current g rs n' m'
           by_outcome User a rs h = refl
           by_outcome (Faults e) a rs h = elim h [ ]
           by_outcome Fails a rs h = elim h [ ]
           by_outcome Succeeds a rs h = elim h [ ]
           by_outcome (Equates l r) a rs h = by_unifier (unifier_of l r) h
             where
-              by_unifier : (x : Option (List (ℕ × Term))) → AreAlike (solved_or (under x (built g a m ∷ old.current))) of_program → settled (search_from P k) rs old.current g (solved_or (under x (built g a m' ∷ old.current))) n' m' ≡ tries (search_from P k) old.current g rs n' m'
+              by_unifier : (x : Option (List (ℕ × Term))) → AreAlike (solved_or (under x (built g a m ∷ R.current))) of_program → settled (search_from P k) rs R.current g (solved_or (under x (built g a m' ∷ R.current))) n' m' ≡ tries (search_from P k) R.current g rs n' m'
               by_unifier None h = elim h [ ]
               by_unifier (Some s) h = elim h [ ]
 
-          later_at : (o : Option Term) → AreAlike (solution_at o old.current g m) of_program → settled (search_from P k) (drop (at + 1) (clauses_for g.atom P)) old.current g (solution_at o old.current g m') n' m' ≡ tries (search_from P k) old.current g (drop (at + 1) (clauses_for g.atom P)) n' m'
+          later_at : (o : Option Term) → AreAlike (solution_at o R.current g m) of_program → settled (search_from P k) (drop (at + 1) (clauses_for g.atom P)) R.current g (solution_at o R.current g m') n' m' ≡ tries (search_from P k) R.current g (drop (at + 1) (clauses_for g.atom P)) n' m'
           later_at None h = refl
           later_at (Some a) h = by_outcome (outcome a) a (drop (at + 1) (clauses_for g.atom P)) h
 
       -- the clauses up to `at` are passed over, and that one is entered
       module _ (p : Point) (large : is_large_of new.current ≡ false) (point : Some p ≡ point_in new.current None) where
-        made : (k : ℕ) → resume P k g old.current from n m ≡ emit (Made p) (and_then (search_from P k new.current n (m + 1)) (tries (search_from P k) old.current g (drop (at + 1) (clauses_for g.atom P))))
-        made k = tries_found k ∙ begun_made (search_from P k) g (tries (search_from P k) old.current g (drop (at + 1) (clauses_for g.atom P))) new.current n m p large point
+        made : (k : ℕ) → resume P k g R.current from n m ≡ emit (Made p) (and_then (search_from P k new.current n (m + 1)) (tries (search_from P k) R.current g (drop (at + 1) (clauses_for g.atom P))))
+        made k = tries_found k ∙ begun_made (search_from P k) g (tries (search_from P k) R.current g (drop (at + 1) (clauses_for g.atom P))) new.current n m p large point
 
         goes_on : IsOpen n new.current
         goes_on =
-            opened n (next_goal old.current) (entered g (apart old.current found.clause.1) found.clause.0 m) old.current new.current found.entered.renamed
-            (few_apart old.current found.clause.1 found.runnable, waiting.0, waiting.1)
+            opened n (next_goal R.current) (entered g (apart R.current found.clause.1) found.clause.0 m) R.current new.current found.entered.renamed
+            (few_apart R.current found.clause.1 found.runnable, calling.deep, calling.waits)
+
+        saved_so : new.saved ≡ R.current ∷ S
+        saved_so = found.entered.saved ∙ here
 
         -- other clauses are left
-        gives_more : (kept : Kept) (cs' : List Choice) → kept ≡ new → cs' ≡ Alternatives g (at + 1) ∷ cs → Gives P Back (with_saved old) (Alternatives g from ∷ cs) n m (Made p) (record { frames = kept; mode = Forward; stack = cs'; boxes = n; points = m + 1 })
+        gives_more : (kept : Kept) (cs' : List Choice) → kept ≡ new → cs' ≡ Alternatives b (at + 1) ∷ cs → Gives P Back X (Alternatives b from ∷ cs) n m (Made p) (record { frames = kept; mode = Forward; stack = cs'; boxes = n; points = m + 1 })
         gives_more kept cs' same pushed =
             rw (same, pushed) (record {
               items = λ K below.
                   let k : ℕ = K - suc (length cs) in
                   let o : Out = search_from P k new.current n (m + 1) in
-                  rw (made k, found.entered.saved, later k o.boxes o.points) (seam (Made p) o (tries (search_from P k) old.current g (drop (at + 1) (clauses_for g.atom P))) (back P K cs old.saved));
+                  rw (was, saved_so, calling.calls, made k, later k o.boxes o.points) (seam (Made p) o (tries (search_from P k) R.current g (drop (at + 1) (clauses_for g.atom P))) (back P K cs S));
               height = omega arith;
               boxes_made = omega arith;
               points_made = omega arith;
               pace = omega arith;
               goes = goes_on;
-              waits = subst (AllWaits n (Alternatives g (at + 1) ∷ cs)) (sym found.entered.saved) waiting;
+              waits = subst (AllWaits n (Alternatives b (at + 1) ∷ cs)) (sym saved_so) (calling, waiting);
             })
 
         -- it was the last one
-        gives_only : (kept : Kept) (cs' : List Choice) → length (clauses_for g.atom P) ≤ at + 1 → kept ≡ forgotten new → cs' ≡ Closing g ∷ cs → Gives P Back (with_saved old) (Alternatives g from ∷ cs) n m (Made p) (record { frames = kept; mode = Forward; stack = cs'; boxes = n; points = m + 1 })
+        gives_only : (kept : Kept) (cs' : List Choice) → length (clauses_for g.atom P) ≤ at + 1 → kept ≡ new → cs' ≡ Closing b ∷ cs → Gives P Back X (Alternatives b from ∷ cs) n m (Made p) (record { frames = kept; mode = Forward; stack = cs'; boxes = n; points = m + 1 })
         gives_only kept cs' past same pushed =
-            let bare : drop 1 new.saved ≡ old.saved = ap (drop 1) found.entered.saved in
             rw (same, pushed) (record {
               items = λ K below.
                   let k : ℕ = K - suc (length cs) in
                   let o : Out = search_from P k new.current n (m + 1) in
                   let none : drop (at + 1) (clauses_for g.atom P) ≡ [] = drop_past (clauses_for g.atom P) (at + 1) past in
-                  rw (made k, none, bare) (seam (Made p) o (closing g) (back P K cs old.saved));
+                  rw (was, saved_so, calling.calls, made k, none) (seam (Made p) o (closing g) (back P K cs S));
               height = omega arith;
               boxes_made = omega arith;
               points_made = omega arith;
               pace = omega arith;
               goes = goes_on;
-              waits = subst (AllWaits n cs) (sym bare) waiting.2;
+              waits = subst (AllWaits n (Closing b ∷ cs)) (sym saved_so) (calling, waiting);
             })
 
-        pub gives_made : (count : ℕ) (kept : Kept) (cs' : List Choice) → count ≡ length (clauses_for g.atom P) → Postpones g (at + 1) count new cs kept cs' → Gives P Back (with_saved old) (Alternatives g from ∷ cs) n m (Made p) (record { frames = kept; mode = Forward; stack = cs'; boxes = n; points = m + 1 })
-        gives_made count kept cs' all (inl more) = gives_more kept cs' more.2 more.1
-        gives_made count kept cs' all (inr last) = gives_only kept cs' (omega (arith, last.0)) last.2 last.1
+        pub gives_made : (count : ℕ) (kept : Kept) (cs' : List Choice) → count ≡ length (clauses_for g.atom P) → kept ≡ new → Postpones b (at + 1) count cs cs' → Gives P Back X (Alternatives b from ∷ cs) n m (Made p) (record { frames = kept; mode = Forward; stack = cs'; boxes = n; points = m + 1 })
+        gives_made count kept cs' all same (inl more) = gives_more kept cs' same more.1
+        gives_made count kept cs' all same (inr last) = gives_only kept cs' (omega (arith, last.0)) same last.1
 
       -- that one is entered, and too large
-      pub gives_large : (last : Kept) (mode : Mode) → is_large_of new.current ≡ true → new.saved ≡ last.current ∷ last.saved → mode ≡ Back → Gives P Back (with_saved old) (Alternatives g from ∷ cs) n m (Error Size g.box_no) (record { frames = last; mode = mode; stack = cs; boxes = n; points = m })
-      gives_large last mode large restored is =
-          let same : last.saved ≡ old.saved = let e : old.current ∷ old.saved ≡ last.current ∷ last.saved = sym found.entered.saved ∙ restored in cc in
-          gives_fault last mode Size (λ k. tries_found k ∙ begun_large (search_from P k) g (tries (search_from P k) old.current g (drop (at + 1) (clauses_for g.atom P))) new.current n m large) same is
+      pub gives_large : (last : Kept) (mode : Mode) (i : Item) → is_large_of new.current ≡ true → i ≡ Error Size g.box_no → last.saved ≡ S → mode ≡ Back → Gives P Back X (Alternatives b from ∷ cs) n m i (record { frames = last; mode = mode; stack = cs; boxes = n; points = m })
+      gives_large last mode i large told now is =
+          gives_fault last mode Size i (λ k. tries_found k ∙ begun_large (search_from P k) g (tries (search_from P k) R.current g (drop (at + 1) (clauses_for g.atom P))) new.current n m large) told now is
 
 -- an instance that makes no point is too large
 pub large_without : (o : Option Point) (F : List Frame) → Points o F None → ((p : Point) → ¬ (o ≡ Some p)) → is_large_of F ≡ true
 large_without None F h none = h
 large_without (Some p) F h none = absurd (none p refl)
 
--- the steps of a goal that was restored, and whose solution is told by the program
-module _ (P : List Tuple) (F old new : Kept) (cs : List Choice) (n m : ℕ) (g : Called) (from : ℕ) (told : Solved) (restored : F.saved ≡ old.current ∷ old.saved) (alike : AreAlike (solution old.current g m) (solution_as told new.current)) (keeps : Keeps told old new) (waiting : AllWaits n (Alternatives g from ∷ cs) F.saved) where
-  waits_old : AllWaits n (Alternatives g from ∷ cs) (old.current ∷ old.saved)
-  waits_old = subst (AllWaits n (Alternatives g from ∷ cs)) restored waiting
+-- a search whose frames have the same ones saved
+pub gives_same : (P : List Tuple) (F G : Kept) (cs : List Choice) (n m : ℕ) (i : Item) (new : Search) → F.saved ≡ G.saved → Gives P Back G cs n m i new → Gives P Back F cs n m i new
+gives_same P F G cs n m i new same gives =
+    record {
+      items = λ K below. rw same (gives.items K below);
+      height = gives.height;
+      boxes_made = gives.boxes_made;
+      points_made = gives.points_made;
+      pace = gives.pace;
+      goes = gives.goes;
+      waits = gives.waits;
+    }
 
-  pub retries_solved : told ≡ Entered → (cs' : List Choice) (p : Point) (l : Called) (e : ℕ) → is_large_of new.current ≡ false → Some p ≡ point_in new.current None → Some (l, e) ≡ exit_in new.current → cs' ≡ Over l g ∷ cs → Gives P Back F (Alternatives g from ∷ cs) n m (Made p) (record { frames = new; mode = Leave; stack = cs'; boxes = n; points = m + 1 })
-  retries_solved is cs' p l e large point exits pushed =
-      let a : AreAlike (solution old.current g m) (solved new.current) = subst (λ t. AreAlike (solution old.current g m) (solution_as t new.current)) is alike in
-      let k : new.saved ≡ old.saved = subst (λ t. Keeps t old new) is keeps in
-      gives_restored P F old cs n m (Made p) (record { frames = new; mode = Leave; stack = cs'; boxes = n; points = m + 1 }) g from restored
-      (gives_solved P old cs n m g from waits_old new a k cs' p l e large point exits pushed)
+-- frames that wait may call
+pub may_call : (n : ℕ) (F : List Frame) → AllWait n F → n + 1 < 4294967296 → MayCall F
+may_call n [] waits low = tt
+may_call n (f ∷ F) waits low = omega (arith, waits.2)
 
-  pub retries_oversolved : told ≡ Entered → (mode : Mode) → is_large_of new.current ≡ true → mode ≡ Back → Gives P Back F (Alternatives g from ∷ cs) n m (Error Size g.box_no) (record { frames = new; mode = mode; stack = cs; boxes = n; points = m })
-  retries_oversolved is mode large at_back =
-      let a : AreAlike (solution old.current g m) (solved new.current) = subst (λ t. AreAlike (solution old.current g m) (solution_as t new.current)) is alike in
-      let k : new.saved ≡ old.saved = subst (λ t. Keeps t old new) is keeps in
-      gives_restored P F old cs n m (Error Size g.box_no) (record { frames = new; mode = mode; stack = cs; boxes = n; points = m }) g from restored
-      (gives_oversolved P old cs n m g from waits_old new a k mode large at_back)
+-- what waits for the newest choice was saved
+pub again_waits : (n : ℕ) (cs : List Choice) (saved : List (List Frame)) → AllWaits n (Again ∷ cs) saved → 0 < length saved
+again_waits n cs [] h = elim h [ ]
+again_waits n cs (E ∷ saved) h = omega arith
 
-  -- the frames as they are when the point is made, and when the search goes on
-  pub retries_made : told ≡ Entered → (o : Option Point) (held later : Kept) (cs' : List Choice) (p : Point) (l : Called) (e : ℕ) → Points o new.current None → o ≡ Some p → held ≡ new → Some (l, e) ≡ exit_in held.current → later ≡ held → cs' ≡ Over l g ∷ cs
-      → Gives P Back F (Alternatives g from ∷ cs) n m (Made p) (record { frames = later; mode = Leave; stack = cs'; boxes = n; points = m + 1 })
-  retries_made is o held later cs' p l e h some same exits stays pushed =
-      let w : (is_large_of new.current ≡ false) × (Some p ≡ point_in new.current None) = subst (λ x. Points x new.current None) some h in
-      subst (λ (f : Kept). Gives P Back F (Alternatives g from ∷ cs) n m (Made p) (record { frames = f; mode = Leave; stack = cs'; boxes = n; points = m + 1 })) (sym (stays ∙ same))
-      (retries_solved is cs' p l e w.0 w.1 (exits ∙ ap (λ (f : Kept). exit_in f.current) same) pushed)
+pub closing_waits : (n b : ℕ) (cs : List Choice) (saved : List (List Frame)) → AllWaits n (Closing b ∷ cs) saved → 0 < length saved
+closing_waits n b cs [] h = elim h [ ]
+closing_waits n b cs (E ∷ saved) h = omega arith
 
-  pub retries_large : told ≡ Entered → (o : Option Point) (held : Kept) (mode : Mode) → Points o new.current None → ((p : Point) → ¬ (o ≡ Some p)) → held ≡ new → mode ≡ Back
-      → Gives P Back F (Alternatives g from ∷ cs) n m (Error Size g.box_no) (record { frames = held; mode = mode; stack = cs; boxes = n; points = m })
-  retries_large is o held mode h none same at_back =
-      subst (λ (f : Kept). Gives P Back F (Alternatives g from ∷ cs) n m (Error Size g.box_no) (record { frames = f; mode = mode; stack = cs; boxes = n; points = m })) (sym same)
-      (retries_oversolved is mode (large_without o new.current h none) at_back)
+pub over_waits : (n b : ℕ) (cs : List Choice) (saved : List (List Frame)) → AllWaits n (Over b ∷ cs) saved → 0 < length saved
+over_waits n b cs [] h = elim h [ ]
+over_waits n b cs (E ∷ saved) h = omega arith
 
-  pub retries_program : told ≡ Program → (i : Item) (end : Search) → Gives P Back (with_saved new) (Alternatives g from ∷ cs) n m i end → Gives P Back F (Alternatives g from ∷ cs) n m i end
-  retries_program is i end gives =
-      let same : new ≡ old = subst (λ t. Keeps t old new) is keeps in
-      gives_restored P F old cs n m i end g from restored (subst (λ x. Gives P Back (with_saved x) (Alternatives g from ∷ cs) n m i end) same gives)
+pub alternatives_wait : (n b i : ℕ) (cs : List Choice) (saved : List (List Frame)) → AllWaits n (Alternatives b i ∷ cs) saved → 0 < length saved
+alternatives_wait n b i cs [] h = elim h [ ]
+alternatives_wait n b i cs (E ∷ saved) h = omega arith
+
+-- the frames that were saved last, and those before
+pub record IsRestored (X R : Kept) : Type 0 where
+  pub current : X.saved ≡ R.current ∷ drop 1 X.saved
+  pub saved : R.saved ≡ X.saved
+
+module _ (X R : Kept) (h : IsRestored X R) where
+  pub restored_here : R.saved ≡ R.current ∷ drop 1 X.saved
+  restored_here = h.saved ∙ h.current
+
+  pub restored_back : IsBack R
+  restored_back = h.saved ∙ h.current ∙ ap (λ S. R.current ∷ drop 1 S) (sym h.saved)
+
+  pub forgotten_so : (held : Kept) → held ≡ R → drop 1 held.saved ≡ drop 1 X.saved
+  forgotten_so held same = ap (λ (f : Kept). drop 1 f.saved) same ∙ ap (drop 1) h.saved
+
+  module _ (n b i : ℕ) (cs : List Choice) where
+    pub calling_first : AllWaits n (Alternatives b i ∷ cs) X.saved → IsCalling n b R.current × AllWaits n cs (drop 1 X.saved)
+    calling_first waits = subst (AllWaits n (Alternatives b i ∷ cs)) h.current waits
+
+    pub calling_last : AllWaits n (Closing b ∷ cs) X.saved → IsCalling n b R.current × AllWaits n cs (drop 1 X.saved)
+    calling_last waits = subst (AllWaits n (Closing b ∷ cs)) h.current waits
+
+    pub left_first : AllWaits n (Again ∷ cs) X.saved → (0 < length R.current) × AllWaits n cs (drop 1 X.saved)
+    left_first waits = subst (AllWaits n (Again ∷ cs)) h.current waits
+
+-- the frames R were restored from what was saved at X, for the goal that they call in box b
+module _ (P : List Tuple) (X R : Kept) (h : IsRestored X R) (cs : List Choice) (n m b from : ℕ) (waits : AllWaits n (Alternatives b from ∷ cs) X.saved) where
+  abbrev S : List (List Frame)
+  S = drop 1 X.saved
+
+  pub calling : IsCalling n b R.current
+  calling = (calling_first X R h n b from cs waits).0
+
+  waiting : AllWaits n cs S
+  waiting = (calling_first X R h n b from cs waits).1
+
+  -- what holds of the goal that is called there
+  abbrev OfGoal : (Called → Type 0) → Type 0
+  OfGoal B = (g : Called) → Calls R.current b g → B g
+
+  pub tells_box : OfGoal (λ g. b ≡ g.box_no)
+  tells_box g calls = sym (box_of R.current b g calls)
+
+  same_box : b ≡ calling.goal.box_no
+  same_box = tells_box calling.goal calling.calls
+
+  pub retries_failed : (new : Kept) (mode : Mode) (i : Item) → OfGoal (λ g. AreAlike (solution R.current g m) failed) → new.saved ≡ S → mode ≡ Back → OfGoal (λ g. i ≡ at_port Fail g)
+      → Gives P Back X (Alternatives b from ∷ cs) n m i (record { frames = new; mode = mode; stack = cs; boxes = n; points = m })
+  retries_failed new mode i alike now is told =
+      gives_failed P X R S h.current (restored_here X R h) cs n m b from calling waiting new mode i (alike calling.goal calling.calls) now is (told calling.goal calling.calls)
+
+  pub retries_faulted : (new : Kept) (mode : Mode) (e : RunError) → OfGoal (λ g. AreAlike (solution R.current g m) (faulted e)) → new.saved ≡ S → mode ≡ Back
+      → Gives P Back X (Alternatives b from ∷ cs) n m (Error e b) (record { frames = new; mode = mode; stack = cs; boxes = n; points = m })
+  retries_faulted new mode e alike now is =
+      gives_faulted P X R S h.current (restored_here X R h) cs n m b from calling waiting new mode e (Error e b) (alike calling.goal calling.calls) (ap (Error e) same_box) now is
+
+  pub retries_solved : (E : List Frame) (new : Kept) (cs' : List Choice) (o : Option Point) (p : Point) → OfGoal (λ g. AreAlike (solution R.current g m) (solved E)) → Points o E None → o ≡ Some p → new ≡ record { current = E; saved = E ∷ R.current ∷ S } → cs' ≡ Over b ∷ cs
+      → Gives P Back X (Alternatives b from ∷ cs) n m (Made p) (record { frames = new; mode = Leave; stack = cs'; boxes = n; points = m + 1 })
+  retries_solved E new cs' o p alike points some now pushed =
+      let w : (is_large_of E ≡ false) × (Some p ≡ point_in E None) = subst (λ x. Points x E None) some points in
+      gives_solved P X R S h.current (restored_here X R h) cs n m b from calling waiting E (alike calling.goal calling.calls) new cs' p w.0 w.1 now pushed
+
+  pub retries_large : (E : List Frame) (new : Kept) (mode : Mode) (o : Option Point) → OfGoal (λ g. AreAlike (solution R.current g m) (solved E)) → Points o E None → ((p : Point) → ¬ (o ≡ Some p)) → new.saved ≡ S → mode ≡ Back
+      → Gives P Back X (Alternatives b from ∷ cs) n m (Error Size b) (record { frames = new; mode = mode; stack = cs; boxes = n; points = m })
+  retries_large E new mode o alike points none now is =
+      gives_oversolved P X R S h.current (restored_here X R h) cs n m b from calling waiting E (alike calling.goal calling.calls) new mode (Error Size b) (large_without o E points none) (ap (Error Size) same_box) now is
+
+  module _ (alike : OfGoal (λ g. AreAlike (solution R.current g m) of_program)) (at : ℕ) (skips : OfGoal (λ g. Skips P R.current g m from at)) where
+    pub tries_last : (new : Kept) (mode : Mode) (i : Item) (count : ℕ) → OfGoal (λ g. count ≡ length (clauses_for g.atom P)) → count ≤ at → new.saved ≡ S → mode ≡ Back → OfGoal (λ g. i ≡ at_port Fail g)
+        → Gives P Back X (Alternatives b from ∷ cs) n m i (record { frames = new; mode = mode; stack = cs; boxes = n; points = m })
+    tries_last new mode i count all past now is told =
+        gives_last P X R S h.current (restored_here X R h) cs n m b from calling waiting new mode i at (alike calling.goal calling.calls) (skips calling.goal calling.calls)
+        (omega (arith, all calling.goal calling.calls, past)) now is (told calling.goal calling.calls)
+
+    module _ (new : Kept) (found : OfGoal (λ g. Found P g m at R new)) where
+      pub found_open : IsOpen n new.current
+      found_open =
+          let f = found calling.goal calling.calls in
+          opened n (next_goal R.current) (entered calling.goal (apart R.current f.clause.1) f.clause.0 m) R.current new.current f.entered.renamed
+          (few_apart R.current f.clause.1 f.runnable, calling.deep, calling.waits)
+
+      pub found_saved : new.saved ≡ R.saved
+      found_saved = (found calling.goal calling.calls).entered.saved
+
+      pub tries_made : (kept : Kept) (cs' : List Choice) (count : ℕ) (o : Option Point) (p : Point) → OfGoal (λ g. count ≡ length (clauses_for g.atom P)) → Points o new.current None → o ≡ Some p → kept ≡ new → Postpones b (at + 1) count cs cs'
+          → Gives P Back X (Alternatives b from ∷ cs) n m (Made p) (record { frames = kept; mode = Forward; stack = cs'; boxes = n; points = m + 1 })
+      tries_made kept cs' count o p all points some same postponed =
+          let w : (is_large_of new.current ≡ false) × (Some p ≡ point_in new.current None) = subst (λ x. Points x new.current None) some points in
+          gives_made P X R S h.current (restored_here X R h) cs n m b from calling waiting new at (alike calling.goal calling.calls) (skips calling.goal calling.calls) (found calling.goal calling.calls)
+          p w.0 w.1 count kept cs' (all calling.goal calling.calls) same postponed
+
+      pub tries_large : (last : Kept) (mode : Mode) (o : Option Point) → Points o new.current None → ((p : Point) → ¬ (o ≡ Some p)) → last.saved ≡ S → mode ≡ Back
+          → Gives P Back X (Alternatives b from ∷ cs) n m (Error Size b) (record { frames = last; mode = mode; stack = cs; boxes = n; points = m })
+      tries_large last mode o points none now is =
+          gives_large P X R S h.current (restored_here X R h) cs n m b from calling waiting new at (alike calling.goal calling.calls) (skips calling.goal calling.calls) (found calling.goal calling.calls)
+          last mode (Error Size b) (large_without o new.current points none) (ap (Error Size) same_box) now is
+
+  -- a built-in goal that was solved is open
+  pub solved_some : (E : List Frame) → OfGoal (λ g. AreAlike (solution R.current g m) (solved E)) → 0 < length E
+  solved_some E alike =
+      open_some E n (opened_at n (next_goal R.current) R.current calling.goal m E (alike calling.goal calling.calls) calling.deep calling.waits)
+
+  pub here_saved : R.saved ≡ R.current ∷ S
+  here_saved = restored_here X R h

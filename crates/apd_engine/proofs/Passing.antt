@@ -18,9 +18,9 @@ use Rattle.apd_trace.specs.Trace.{search_from, up_to_error}
 use Rattle.apd_trace.specs.declared.item.Item.{Item}
 use Rattle.apd_trace.specs.declared.item.Item.TheVariants.{Passed, Answer, Made, Error}
 use Rattle.apd_engine.specs.Cut.{FailsAt, IsCut}
-use Rattle.apd_engine.specs.Progress.{Course, HasEnded, IsOn, at_first, left, opened, to_come}
+use Rattle.apd_engine.specs.Progress.{Course, HasEnded, IsOn, at_first, left, to_come}
 use Rattle.apd_engine.specs.Recording.{newest, told_held, MayBeToldAll, MayBeToldHeld, MayPass}
-use Rattle.apd_engine.specs.Search.{Gives, Ends}
+use Rattle.apd_engine.specs.Search.{opened, Gives, Ends}
 use Rattle.apd_engine.specs.declared.progress.Limits.{Limits}
 use Rattle.apd_engine.specs.declared.progress.Progress.{Progress}
 use Rattle.apd_engine.specs.declared.running.RunFault.{RunFault}

@@ -20,13 +20,13 @@ use Rattle.apd_trace.specs.declared.item.Item.TheVariants.{Passed, Answer, Made,
 use Rattle.apd_trace.proofs.Deeper.{run_of-up_to_error}
 use Rattle.apd_record.specs.Recorded.{Recorded, empty, query_point, called_row, noted, passed_at}
 use Rattle.apd_record.specs.declared.rows.BoxRow.{BoxRow}
-use Rattle.apd_engine.specs.Search.{rest, Gives, Ends, may_make}
+use Rattle.apd_engine.specs.Search.{opened, rest, Gives, Ends, may_make}
 use Rattle.apd_recorded.specs.Told.{told_port, record_from, record_of}
 use Rattle.apd_engine.specs.Recording.{newest, MayPass, MayBeToldAll, with_held, told_held, MayBeToldHeld, held_count}
 use Rattle.apd_engine.specs.declared.search.Search.{Search}
 use Rattle.apd_engine.specs.declared.search.Mode.{Mode}
 use Rattle.apd_engine.specs.declared.search.Mode.TheVariants.{Forward, Hand, Leave, Back}
-use Rattle.apd_engine.specs.Progress.{left, Showing, Completes, Keeping, opened}
+use Rattle.apd_engine.specs.Progress.{left, Showing, Completes, Keeping}
 use Rattle.apd_engine.proofs.RunFacts.{memory_short, left_passed, left_answer, first_rest, shown_of-hold, ports_of-hold, answers_of-hold}
 use Rattle.apd_ports.specs.declared.hook.HookFault.{HookFault}
 use Rattle.apd_ports.specs.declared.hook.HookFault.TheVariants.{WriteFault as HookWriteFault, Memory as HookMemory}

@@ -21,8 +21,8 @@ use Rattle.apd_ports.specs.declared.point.Point.{Point}
 use Rattle.apd_trace.proofs.Searched.{search_same}
 use Rattle.apd_trace.proofs.Clauses.{canonical_query}
 use Rattle.apd_trace.proofs.Deeper.{run_of-up_to_error}
-use Rattle.apd_engine.specs.Progress.{left, Going, Completes, Showing, opened}
-use Rattle.apd_engine.specs.Search.{rest, Gives, Ends}
+use Rattle.apd_engine.specs.Progress.{left, Going, Completes, Showing}
+use Rattle.apd_engine.specs.Search.{opened, rest, Gives, Ends}
 use Rattle.apd_engine.specs.declared.search.Search.{Search}
 use Rattle.apd_engine.specs.declared.search.Mode.TheVariants.{Forward}
 

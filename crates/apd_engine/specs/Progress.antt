@@ -1,7 +1,6 @@
 -- A run on the way: what is left of it, and what holds from one item to the next.
-use Rattle.std.specs.Prelude.{◌≡◌, ℕ, ◌+◌, ◌-◌, ◌*◌, ◌<◌, ◌≤◌, List, [], ◌∷◌, length, Option, Some, Result}
+use Rattle.std.specs.Prelude.{◌≡◌, ℕ, ◌+◌, ◌-◌, ◌*◌, ◌<◌, ◌≤◌, List, length, Option, Some, Result}
 use Rattle.apd_causes.specs.declared.run.Ran.{Ran}
-use Rattle.apd_term.specs.Tuple.{canonical_tuple}
 use Rattle.apd_term.specs.declared.tuple.Tuple.{Tuple}
 use Rattle.apd_ports.specs.Hook.{GoesThrough, GoesInto, StopsAt}
 use Rattle.apd_ports.specs.declared.hook.HookFault.{HookFault}
@@ -9,23 +8,17 @@ use Rattle.apd_ports.specs.declared.hook.Shown.{Shown}
 use Rattle.apd_ports.specs.declared.point.Point.{Point}
 use Rattle.apd_record.specs.Recorded.{Recorded, query_point}
 use Rattle.apd_recorded.specs.Told.{record_from, record_of}
-use Rattle.apd_trace.specs.Frames.{query_frame}
 use Rattle.apd_trace.specs.Run.{Run, run_of, ran_of, shown_of, ports_of, answers_of}
 use Rattle.apd_engine.specs.Recording.{MayBeToldAll, with_held, held_count}
-use Rattle.apd_engine.specs.Search.{rest, AllWaits, Goes, may_make}
+use Rattle.apd_engine.specs.Search.{opened, rest, AllWaits, Goes, may_make}
 use Rattle.apd_engine.specs.declared.progress.Limits.{Limits}
 use Rattle.apd_engine.specs.declared.progress.Progress.{Progress}
-use Rattle.apd_engine.specs.declared.search.Mode.TheVariants.{Forward}
 use Rattle.apd_engine.specs.declared.search.Search.{Search}
 
 -- a run that is to be passed, and the hook before its first item
 pub record Course (H : Type 0) : Type 0 where
   pub start : H
   pub run : Run
-
--- the search that is opened for a query
-abbrev pub opened : Tuple → Search
-opened query = record { frames = record { current = query_frame (canonical_tuple query) ∷ []; saved = [] }; mode = Forward; stack = []; boxes = 0; points = 1 }
 
 -- nothing was passed yet, and the query's point is held back
 abbrev pub at_first : Tuple → Progress

@@ -4,7 +4,7 @@ use Rattle.std.proofs.lemmas.List.{length-drop, drop-drop}
 use Rattle.apd_unify.specs.Stored.{Stored}
 use Rattle.apd_unify.specs.Store.{at_mark, Keeps}
 use Rattle.apd_unify.proofs.Keeping.{at_mark-at_mark, length-before}
-use Rattle.apd_frames.specs.declared.links.Link.{Link}
+use Rattle.apd_frames.specs.Links.{Link}
 use Rattle.apd_frames.specs.declared.links.Branch.{Branch}
 use Rattle.apd_frames.specs.Instances.{AreInside, IsInside}
 use Rattle.apd_frames.specs.Linked.{frames_at, oldest, saved_of, ArePlaced, AreMarked, IsFramed, IsBranchAt}

@@ -1,7 +1,7 @@
 -- What the innermost link says of the frames.
 use Rattle.std.proofs.lemmas.Bool.{cases_eq}
 use Rattle.std.proofs.Common.{◌≡◌, ◌≢◌, inl, inr, ℕ, zero, suc, ◌+◌, ◌<◌, ◌≤◌, List, [], ◌∷◌, length, refl, sym, ◌∙◌, ap, subst, arith, true, false, Option, Some, None}
-use Rattle.std.specs.Prelude.{slice_get, ◌==◌, if◌then◌else◌}
+use Rattle.std.specs.Prelude.{slice_get, MatchOption, ◌==◌, if◌then◌else◌}
 use Rattle.apd_term.specs.Term.{Term, variable, integer, compound, apply, variables_all, predicate_of}
 use Rattle.apd_term.specs.declared.term.Pred.{Pred}
 use Rattle.apd_term.specs.declared.term.NameId.{NameId}
@@ -17,8 +17,7 @@ use Rattle.apd_trace.specs.Frames.{apply_frames, is_large, called, goal_of, look
 use Rattle.apd_trace.specs.declared.frame.Frame.{Frame}
 use Rattle.apd_trace.specs.declared.frame.Called.{Called}
 use Rattle.apd_trace.specs.declared.frame.Look.TheVariants.{Nothing, Goal, Exit as Exits, Answer as Answers}
-use Rattle.apd_frames.specs.declared.instance.Instance.{Instance}
-use Rattle.apd_frames.specs.declared.links.Link.{Link}
+use Rattle.apd_frames.specs.Links.{Instance, Link}
 use Rattle.apd_frames.specs.declared.links.Branch.{Branch}
 use Rattle.apd_frames.specs.Instances.{terms_in, tuple_in, AreInside, IsInside, CanonicalWithin}
 use Rattle.apd_frames.specs.Kept.{Kept, Calls, IsIn, MayCall, Points, Takes, exit_in, is_large_of, newest_of, point_in}
@@ -127,14 +126,18 @@ link_inside : (n : ℕ) (links : List Link) (k : ℕ) (l : Link) → ArePlaced n
 link_inside n links k l p e = (frames_some (record { cells = []; variables = 0; trail = [] }) n links k l p e).inside
 
 -- the next goal of a link
-pub goal_some : (links : List Link) (k : ℕ) (l : Link) (c : Cell) → numbered links k ≡ Some l → slice_get l.instance.goals l.done ≡ Some c → IsGoalAt links k (Some c)
+goal_some : (links : List Link) (k : ℕ) (l : Link) (c : Cell) → numbered links k ≡ Some l → slice_get l.instance.goals l.done ≡ Some c → IsGoalAt links k (Some c)
 goal_some links k l c e h = (
   λ n p. get_inside n l.instance.goals l.done c (link_inside n links k l p e).goals h,
   λ s. (let r = first_frame s links k l e in ap next_goal r.1 ∙ get_terms s l.instance.goals l.done c h),
 )
 
-pub goal_none : (links : List Link) (k : ℕ) (l : Link) → numbered links k ≡ Some l → length l.instance.goals ≤ l.done → IsGoalAt links k None
+goal_none : (links : List Link) (k : ℕ) (l : Link) → numbered links k ≡ Some l → length l.instance.goals ≤ l.done → IsGoalAt links k None
 goal_none links k l e h = λ s. (let r = first_frame s links k l e in ap next_goal r.1 ∙ get_none s l.instance.goals l.done h)
+
+pub goal_by : (links : List Link) (k : ℕ) (l : Link) (o : Option Cell) → numbered links k ≡ Some l → MatchOption o (length l.instance.goals ≤ l.done) (λ c. slice_get l.instance.goals l.done ≡ Some c) → IsGoalAt links k o
+goal_by links k l None e h = goal_none links k l e h
+goal_by links k l (Some c) e h = goal_some links k l c e h
 
 pub goal_nowhere : (links : List Link) (k : ℕ) → numbered links k ≡ None → IsGoalAt links k None
 goal_nowhere links k e = λ s. ap next_goal (frames_none s links k e)

@@ -18,7 +18,7 @@ use Rattle.apd_trace.proofs.Clauses.{canonical_back}
 use Rattle.apd_trace.proofs.Entered.{entering_by_any}
 use Rattle.apd_term.proofs.Tuples.{apply_tuple-variable}
 use Rattle.apd_unify.specs.Stored.{Stored}
-use Rattle.apd_frames.specs.declared.instance.Instance.{Instance}
+use Rattle.apd_frames.specs.Links.{Instance}
 use Rattle.apd_frames.specs.Instances.{IsVariant, Instantiates, InstantiatesVariant}
 
 none_without : (a b : Term) (x : Option (List (ℕ × Term))) → IsAnswer a b x → HasNoUnifier a b → x ≡ None

@@ -20,8 +20,8 @@ use Rattle.apd_unify.specs.Numbered.{IsNumbered}
 use Rattle.apd_unify.proofs.Keeping.{meaning-loaded, Keeps-trans}
 use Rattle.apd_unify.proofs.Rounding.{Keeps-self}
 use Rattle.apd_trace.specs.Frames.{shifted_tuple, is_large}
-use Rattle.apd_frames.specs.declared.instance.Instance.{Instance}
-use Rattle.apd_frames.specs.Instances.{terms_in, tuple_in, raised_in, AreInside, HasGrown, IsInstantiated, Instantiates, Unites}
+use Rattle.apd_frames.specs.Links.{Instance, instance_of}
+use Rattle.apd_frames.specs.Instances.{with_goals, terms_in, tuple_in, raised_in, AreInside, HasGrown, IsInstantiated, Instantiates, Unites}
 use Rattle.apd_frames.proofs.Branching.{inside_more}
 use Rattle.apd_frames.proofs.Linking.{tuple_of}
 
@@ -244,6 +244,12 @@ left_after s i items n k d o j e count l within is =
     omega (arith, count, w.0, w.1, sizes_more s i.goals n d m)
 
 -- an instance that isn't there
-pub no_instance : (o : Option Instance) (old new : Stored) (goal : ℕ) (rule : Tuple) → ((i : Instance) → ¬ (o ≡ Some i)) → Instantiates o old new goal rule → HasNoUnifier (term_at old goal) (shifted_tuple old.variables rule).head
-no_instance None old new goal rule n h = h
-no_instance (Some i) old new goal rule n h = absurd (n i refl)
+pub no_instance : (goals : List Cell) (o : Option Cell) (old new : Stored) (goal : ℕ) (rule : Tuple) → ((c : Cell) → ¬ (o ≡ Some c)) → Instantiates (with_goals goals o) old new goal rule → HasNoUnifier (term_at old goal) (shifted_tuple old.variables rule).head
+no_instance goals None old new goal rule n h = h
+no_instance goals (Some c) old new goal rule n h = absurd (n c refl)
+
+-- an instance that is there
+pub instance_there : (goals seen : List Cell) (o : Option Cell) (head : Cell) (old new : Stored) (goal : ℕ) (rule : Tuple) → seen ≡ goals → o ≡ Some head → Instantiates (with_goals goals o) old new goal rule
+    → IsInstantiated (instance_of head seen) old new goal rule
+instance_there goals seen o head old new goal rule e is h =
+    subst (λ cs. IsInstantiated (instance_of head cs) old new goal rule) (sym e) (subst (λ x. Instantiates (with_goals goals x) old new goal rule) is h)

@@ -1,6 +1,7 @@
 pub mod Outcomes
 pub mod Numbers
 pub mod Linking
+pub mod Spans
 pub mod Branching
 pub mod Instancing
 pub mod Current

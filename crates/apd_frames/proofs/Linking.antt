@@ -17,10 +17,9 @@ use Rattle.apd_unify.specs.Numbered.{IsNumbered}
 use Rattle.apd_trace.specs.Frames.{apply_frame, apply_frames, variables_of_frames}
 use Rattle.apd_trace.specs.Renaming.{IsBelow}
 use Rattle.apd_trace.specs.declared.frame.Frame.{Frame}
-use Rattle.apd_frames.specs.declared.instance.Instance.{Instance}
-use Rattle.apd_frames.specs.declared.links.Link.{Link}
+use Rattle.apd_frames.specs.Links.{Instance, Link}
 use Rattle.apd_frames.specs.Instances.{terms_in, tuple_in, AreInside, IsInside}
-use Rattle.apd_frames.specs.Linked.{numbered, frame_in, frames_at, oldest, ArePlaced}
+use Rattle.apd_frames.specs.Linked.{numbered, frame_in, frames_at, ArePlaced}
 
 pub same_number : {X : Type 0} (k m : ℕ) (x y : X) → k ≡ m → (if k == m then x else y) ≡ x
 same_number k m x y e = by (k == m) (Decides-eqb k m)
@@ -67,7 +66,7 @@ numbered-reverse (x ∷ xs) zero = ap (λ ys. numbered ys 1) (reverse-append (x 
 numbered-reverse (x ∷ xs) (suc i) = ap (λ ys. numbered ys (suc (suc i))) (reverse-append (x ∷ []) xs) ∙ numbered-more (reverse xs) x i ∙ numbered-reverse xs i
 
 -- the oldest links stand first
-pub oldest-reverse : (xs : List Link) (n : ℕ) → reverse (take n xs) ≡ oldest n (reverse xs)
+pub oldest-reverse : {X : Type 0} (xs : List X) (n : ℕ) → reverse (take n xs) ≡ drop (length (reverse xs) - n) (reverse xs)
 oldest-reverse xs n =
     let e : reverse xs ≡ reverse (drop n xs) ++ reverse (take n xs) = ap reverse (sym (take-append-drop n xs)) ∙ reverse-append (take n xs) (drop n xs) in
     let k : length (reverse (drop n xs)) ≡ length (reverse xs) - n = omega (arith, length-reverse xs, length-reverse (drop n xs), length-drop n xs) in
@@ -184,9 +183,3 @@ module _ (s : Stored) (numbers : IsNumbered s) where
     | inr d ↦
         subst (IsBelow s.variables) (sym (other_number k (length older + 1) (frame_in s l ∷ frames_at s older l.around) (frames_at s older k) d)) (frames_below older k h.2)
   ]
-
-pub numbered-at : (xs : List Link) (k : ℕ) → k ≢ 0 → numbered (reverse xs) k ≡ slice_get xs (k - 1)
-numbered-at xs zero h = absurd (h refl)
-numbered-at xs (suc i) h =
-    let e : suc i - 1 ≡ i = omega arith in
-    numbered-reverse xs i ∙ ap (slice_get xs) (sym e)

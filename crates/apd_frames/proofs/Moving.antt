@@ -21,8 +21,7 @@ use Rattle.apd_trace.specs.declared.frame.Frame.{Frame}
 use Rattle.apd_trace.specs.declared.frame.Called.{Called}
 use Rattle.apd_frames.specs.declared.builtin.Solved.{Solved}
 use Rattle.apd_frames.specs.declared.builtin.Solved.TheVariants.{Entered}
-use Rattle.apd_frames.specs.declared.instance.Instance.{Instance}
-use Rattle.apd_frames.specs.declared.links.Link.{Link}
+use Rattle.apd_frames.specs.Links.{Instance, Link}
 use Rattle.apd_frames.specs.declared.links.Branch.{Branch}
 use Rattle.apd_frames.specs.Instances.{terms_in, tuple_in, raised_in, IsInside, IsVariant, HasGrown, IsInstantiated}
 use Rattle.apd_frames.specs.Kept.{Kept, HasEntered, Enters}

@@ -14,7 +14,7 @@ use Rattle.apd_unify.specs.Store.{term_at}
 use Rattle.apd_unify.specs.declared.store.Cell.{Cell}
 use Rattle.apd_unify.proofs.Ordered.{among_seen, canonical_kept}
 use Rattle.apd_trace.specs.Frames.{is_large}
-use Rattle.apd_frames.specs.declared.instance.Instance.{Instance}
+use Rattle.apd_frames.specs.Links.{Instance}
 use Rattle.apd_frames.specs.Instances.{terms_in}
 
 pub numbers_some : (old new : List ℕ) (t r : Term) (k : ℕ) (o : Option Term) → Numbers old new t k o → o ≡ Some r → IsNumberedAnew old new t k r

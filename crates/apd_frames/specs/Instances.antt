@@ -10,11 +10,16 @@ use Rattle.apd_unify.specs.declared.store.Cell.{Cell}
 use Rattle.apd_unify.specs.Stored.{Stored}
 use Rattle.apd_unify.specs.Store.{term_at, meaning, Keeps}
 use Rattle.apd_trace.specs.Frames.{is_large, shifted_tuple}
-use Rattle.apd_frames.specs.declared.instance.Instance.{Instance}
+use Rattle.apd_frames.specs.Links.{Instance, instance_of}
 
 -- the terms at some cells
 abbrev pub terms_in : Stored → List Cell → List Term
 terms_in s cs = map (λ (c : Cell). term_at s c.0) cs
+
+-- the instance of a head, where there is one, and these goals
+abbrev pub with_goals : List Cell → Option Cell → Option Instance
+with_goals goals None = None
+with_goals goals (Some head) = Some (instance_of head goals)
 
 -- the tuple that an instance is
 abbrev pub tuple_in : Stored → Instance → Tuple

@@ -1,5 +1,6 @@
 pub mod Codes
 pub mod Kept
 pub mod Solves
+pub mod Links
 pub mod Instances
 pub mod Linked

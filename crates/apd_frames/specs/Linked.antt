@@ -5,9 +5,8 @@ use Rattle.apd_unify.specs.declared.store.Cell.{Cell}
 use Rattle.apd_unify.specs.Store.{term_at, at_mark}
 use Rattle.apd_trace.specs.Frames.{next_goal}
 use Rattle.apd_trace.specs.declared.frame.Called.{Called}
-use Rattle.apd_frames.specs.declared.instance.Instance.{Instance}
 use Rattle.apd_trace.specs.declared.frame.Frame.{Frame}
-use Rattle.apd_frames.specs.declared.links.Link.{Link}
+use Rattle.apd_frames.specs.Links.{Instance, Link}
 use Rattle.apd_frames.specs.declared.links.Branch.{Branch}
 use Rattle.apd_frames.specs.Instances.{tuple_in, IsInside}
 
@@ -53,6 +52,22 @@ handed_link l m =
       point = m;
       around = l.around;
     }
+
+-- the link with this number, if there is one, has fewer than 64 goals solved
+abbrev pub MayHand : List Link → ℕ → Type 0
+MayHand links k = (l : Link) → numbered links k ≡ Some l → l.done < 64
+
+-- link k stands behind the others once more, with one more goal solved at point m, and has number n there
+pub record HasHanded (n : ℕ) (old new : List Link) (k m : ℕ) : Type 0 where
+  pub link : Link
+  pub is : numbered old k ≡ Some link
+  pub more : new ≡ handed_link link m ∷ old
+  pub number : n ≡ length old + 1
+
+-- it does, or there is no link with this number and nothing changed
+abbrev pub Hands : Option ℕ → List Link → List Link → ℕ → ℕ → Type 0
+Hands None old new k m = (numbered old k ≡ None) × (new ≡ old)
+Hands (Some n) old new k m = HasHanded n old new k m
 
 -- the frames from the link with this number outwards
 abbrev pub frames_at : Stored → List Link → ℕ → List Frame

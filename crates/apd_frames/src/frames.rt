@@ -3,29 +3,26 @@
 //! The search reaches frames by these functions alone. Contracts see the list of the frames'
 //! tuples with all bindings applied, up to a renaming of variables.
 
-ghost use Rattle.std.specs.Prelude.{◌≡◌, ℕ, ◌∷◌, [], ◌+◌, ◌<◌, length, drop, None, Some, OnOk, IfOk, MatchOption};
+ghost use Rattle.std.specs.Prelude.{◌≡◌, ℕ, ◌∷◌, [], ◌<◌, length, drop, Some, OnOk, IfOk};
 ghost use Rattle.apd_term.specs.Tuple.{canonical_tuple};
 ghost use Rattle.apd_clauses.specs.Clauses.{IsRunnable};
-ghost use Rattle.apd_trace.specs.Frames.{entering, left, look_of, handed_all, outer, owner_of, query_frame};
+ghost use Rattle.apd_trace.specs.Frames.{entering, look_of, handed_all, outer, query_frame};
 ghost use Rattle.apd_trace.specs.BuiltIn.{solution};
 ghost use Rattle.apd_trace.specs.Renaming.{AreAlike};
 ghost use Rattle.apd_frames.specs.Kept.{Calls, Enters, IsIn, MayCall, Takes, Points, exit_in, newest_of};
 ghost use Rattle.apd_trace.specs.declared.frame.Called.{Called};
 ghost use Rattle.apd_term.specs.Term.{predicate_of};
-ghost use Rattle.apd_frames.specs.Linked.{frames_at, frame_in, handed_link, entered_link, IsGoalAt, IsBranchAt};
-ghost use Rattle.apd_frames.specs.Instances.{IsInside};
-ghost use Rattle.apd_unify.specs.Stored.{Stored};
-ghost use Rattle.apd_unify.specs.Store.{term_at};
-ghost use Rattle.apd_term.specs.Canonical.{canonical};
+ghost use Rattle.apd_frames.specs.Links.{link_of, instance_of};
+ghost use Rattle.apd_frames.specs.Linked.{entered_link, IsBranchAt};
 ghost use Rattle.apd_frames.specs.Solves.{solution_as, Keeps};
 
 use crate::builtin::Solved;
-use crate::instance::{Instance, canonical_within, instantiate, load_all};
-use crate::links::{Branch, Link, Links};
+use crate::instance::{canonical_within, instantiate, load_all};
+use crate::links::{Branch, LinkRef, Links};
+use crate::reading::{goal_depth, left, look, next_goal};
 use crate::settling::{predicate_at, settle};
-use apd_base::ListOf;
 use apd_term::tuple::canonical_tuple;
-use apd_term::{Flat, Pred, Tuple};
+use apd_term::{Pred, Tuple};
 use apd_trace::{Called, Look, Point, Step};
 use apd_unify::scratch::Scratch;
 use apd_unify::stack::Stack;
@@ -44,6 +41,8 @@ pub struct Frames {
     innermost: usize,
     branches: Stack<Branch>,
     scratch: Scratch,
+    /// The goals of the clause that was entered last, kept from clause to clause for its memory.
+    goals: Vec<Cell>,
 }
 
 impl Model for Frames {
@@ -59,103 +58,6 @@ impl Model for Frames {
     ghost invariant = { λ f. IsFramed f.store f.links f.innermost f.branches };
 }
 
-/// The next goal of the link with this number.
-fn next_goal(links: &Links, number: usize) -> Option<Cell>
-    ensures { IsGoalAt links.now number result }
-{
-    match links.get(number) {
-        None => None,
-        Some(link) => match link.instance.goals.get(link.done as usize) {
-            None => None,
-            Some(goal) => Some(*goal),
-        },
-    }
-}
-
-/// How deep the next goal of the link with this number is called.
-fn goal_depth(links: &Links, number: usize) -> u32
-    requires { (s : Stored) → MayCall (frames_at s links.now number) }
-    ensures { (s : Stored) (n : ℕ) (g : Called) → Calls (frames_at s links.now number) n g → IsIn n result g }
-{
-    match links.get(number) {
-        None => 0,
-        Some(link) => link.depth + 1,
-    }
-}
-
-/// The box that owns the link with this number.
-fn owner(links: &Links, number: usize) -> u32
-    ensures { (s : Stored) → result ≡ owner_of (frames_at s links.now number) }
-{
-    match links.get(number) {
-        None => 0,
-        Some(link) => link.box_no,
-    }
-}
-
-/// The term at a cell as it is shown. No memory has more symbols than a u64 can count.
-fn shown(store: &Store, scratch: &mut Scratch, cell: Cell) -> Result<Flat, AllocError>
-    requires { cell.0 < length store.now.cells }
-    ensures { IfOk result (λ t. t ≡ canonical (term_at store.now cell.0)) }
-{
-    scratch.clear();
-    match store.number_within(scratch, cell, u64::MAX)? {
-        Some(term) => Ok(term),
-        None => Err(AllocError),
-    }
-}
-
-/// The link's head in its box.
-fn left(
-    store: &Store,
-    links: &Links,
-    scratch: &mut Scratch,
-    link: &Link,
-) -> Result<Called, AllocError>
-    requires { IsInside (length store.now.cells) link.now.instance }
-    ensures { IfOk result (λ g. g ≡ left (frame_in store.now link.now) (frames_at store.now links.now link.now.around)) }
-{
-    let atom = shown(store, scratch, link.instance.head)?;
-    Ok(Called {
-        box_no: link.box_no,
-        caller: owner(links, link.around),
-        depth: link.depth,
-        atom,
-    })
-}
-
-/// What the frame of a link does next, if the next box has this number.
-fn look(
-    store: &Store,
-    links: &Links,
-    scratch: &mut Scratch,
-    link: &Link,
-    box_no: u32,
-) -> Result<Look, AllocError>
-    requires inside { IsInside (length store.now.cells) link.now.instance }
-    requires deep { link.now.depth + 1 < 4294967296 }
-    ensures { IfOk result (λ l. l ≡ look_of (frame_in store.now link.now ∷ frames_at store.now links.now link.now.around) box_no) }
-{
-    match link.instance.goals.get(link.done as usize) {
-        Some(goal) => {
-            let atom = shown(store, scratch, *goal)?;
-            Ok(Look::Goal(Called {
-                box_no,
-                caller: link.box_no,
-                depth: link.depth + 1,
-                atom,
-            }))
-        }
-        None => {
-            let called = left(store, links, scratch, link)?;
-            if link.box_no == 0 {
-                return Ok(Look::Answer(called.atom));
-            }
-            Ok(Look::Exit(called, link.point))
-        }
-    }
-}
-
 /// The branch at a store and its links.
 fn here(store: &Store, links: &Links, innermost: usize) -> Branch
     ensures { IsBranchAt store.now links.now innermost result }
@@ -167,43 +69,24 @@ fn here(store: &Store, links: &Links, innermost: usize) -> Branch
     }
 }
 
-/// The link with one more goal solved, at a point.
-fn handed(alloc: Global, link: &Link, point: u32) -> Result<Link, AllocError>
-    requires { link.now.done < 64 }
-    ensures { IfOk result (λ l. l ≡ handed_link link.now point) }
-{
-    let mut goals = ListOf::new(alloc);
-    goals.extend(link.instance.goals.as_slice())?;
-    Ok(Link {
-        box_no: link.box_no,
-        depth: link.depth,
-        clause: link.clause,
-        instance: Instance {
-            head: link.instance.head,
-            goals,
-        },
-        done: link.done + 1,
-        point,
-        around: link.around,
-    })
-}
-
 /// The link of a clause that is entered for the goal of this box, or of a built-in goal that succeeds.
-fn entered(
+fn entered<'a>(
     box_no: u32,
     depth: u32,
     clause: u32,
-    instance: Instance,
+    head: Cell,
+    goals: &'a [Cell],
     point: u32,
     around: usize,
-) -> Link
-    ensures { (g : Called) → IsIn box_no depth g → result ≡ entered_link g clause instance point around }
+) -> LinkRef<'a>
+    ensures { (g : Called) → IsIn box_no depth g → link_of result ≡ entered_link g clause (instance_of head goals.now) point around }
 {
-    Link {
+    LinkRef {
         box_no,
         depth,
         clause,
-        instance,
+        head,
+        goals,
         done: 0,
         point,
         around,
@@ -219,13 +102,15 @@ impl Frames {
         let tuple = canonical_tuple(alloc, query)?;
         let mut store = Store::new(alloc);
         let head = store.load(&tuple.head, 0)?;
-        let goals = load_all(&mut store, alloc, tuple.body.as_slice(), 0)?;
+        let mut goals = Vec::new(alloc);
+        load_all(&mut store, &mut goals, tuple.body.as_slice(), 0)?;
         let mut links = Links::new(alloc);
-        links.push(Link {
+        links.push(&LinkRef {
             box_no: 0,
             depth: 0,
             clause: 0,
-            instance: Instance { head, goals },
+            head,
+            goals: goals.as_slice(),
             done: 0,
             point: 0,
             around: 0,
@@ -236,6 +121,7 @@ impl Frames {
             innermost: 1,
             branches: Stack::new(alloc),
             scratch: Scratch::new(alloc),
+            goals,
         })
     }
 
@@ -247,7 +133,7 @@ impl Frames {
     {
         match self.links.get(self.innermost) {
             None => Ok(Look::Nothing),
-            Some(link) => look(&self.store, &self.links, &mut self.scratch, link, box_no),
+            Some(link) => look(&self.store, &self.links, &mut self.scratch, &link, box_no),
         }
     }
 
@@ -260,7 +146,7 @@ impl Frames {
         match self.links.get(self.innermost) {
             None => unreachable!(),
             Some(link) => {
-                let called = left(&self.store, &self.links, &mut self.scratch, link)?;
+                let called = left(&self.store, &self.links, &mut self.scratch, &link)?;
                 Ok((called, link.point))
             }
         }
@@ -289,12 +175,7 @@ impl Frames {
         match self.links.get(self.innermost) {
             None => unreachable!(),
             Some(link) => {
-                let within = canonical_within(
-                    &self.store,
-                    &mut self.scratch,
-                    alloc,
-                    &link.instance,
-                )?;
+                let within = canonical_within(&self.store, &mut self.scratch, alloc, &link)?;
                 let Some(tuple) = within else {
                     return Ok(None);
                 };
@@ -337,13 +218,14 @@ impl Frames {
             return Ok(false);
         }
         let mark = self.store.mark();
-        let Some(instance) = instantiate(&mut self.store, alloc, goal, rule)? else {
+        let Some(head) = instantiate(&mut self.store, &mut self.goals, alloc, goal, rule)? else {
             self.store.undo(mark);
             return Ok(false);
         };
         let depth = goal_depth(&self.links, self.innermost);
-        let link = entered(box_no, depth, clause, instance, point, self.innermost);
-        self.innermost = self.links.push(link)?;
+        let goals = self.goals.as_slice();
+        let link = entered(box_no, depth, clause, head, goals, point, self.innermost);
+        self.innermost = self.links.push(&link)?;
         Ok(true)
     }
 
@@ -360,13 +242,9 @@ impl Frames {
         if solved != Solved::Entered {
             return Ok(solved);
         }
-        let instance = Instance {
-            head: goal,
-            goals: ListOf::new(alloc),
-        };
         let depth = goal_depth(&self.links, self.innermost);
-        let link = entered(box_no, depth, BUILTIN, instance, point, self.innermost);
-        self.innermost = self.links.push(link)?;
+        let link = entered(box_no, depth, BUILTIN, goal, &[], point, self.innermost);
+        self.innermost = self.links.push(&link)?;
         Ok(solved)
     }
 
@@ -381,18 +259,14 @@ impl Frames {
     }
 
     /// The innermost frame takes over an exit.
-    pub fn take_over(&mut self, alloc: Global, point: u32) -> Result<(), AllocError>
+    pub fn take_over(&mut self, _alloc: Global, point: u32) -> Result<(), AllocError>
         requires { Takes self.old.current }
         ensures { OnOk result (self.new ≡ record { current = handed_all self.old.current point; saved = self.old.saved }) }
     {
-        match self.links.get(self.innermost) {
-            None => Ok(()),
-            Some(link) => {
-                let after = handed(alloc, link, point)?;
-                self.innermost = self.links.push(after)?;
-                Ok(())
-            }
+        if let Some(number) = self.links.push_handed(self.innermost, point)? {
+            self.innermost = number;
         }
+        Ok(())
     }
 
     /// Saves the frames for a choice.

@@ -1,6 +1,6 @@
 //! Instances of clauses in a store.
 
-ghost use Rattle.std.specs.Prelude.{◌≡◌, ℕ, ◌+◌, ◌<◌, ◌≤◌, ◌^◌, length, map, IfOk};
+ghost use Rattle.std.specs.Prelude.{◌≡◌, ℕ, ◌+◌, ◌<◌, ◌≤◌, ◌^◌, length, map, IfOk, OnOk};
 ghost use Rattle.std.specs.List.{flat_map};
 ghost use Rattle.apd_term.specs.Term.{variables, IsAmong, Occurs};
 ghost use Rattle.apd_unify.specs.Unifier.{OccursIn};
@@ -8,87 +8,84 @@ ghost use Rattle.apd_unify.specs.Numbered.{IsNumbered};
 ghost use Rattle.apd_unify.specs.Store.{term_at, Keeps};
 ghost use Rattle.apd_clauses.specs.Clauses.{IsRunnable};
 ghost use Rattle.apd_frames.specs.Kept.{IsSmall};
-ghost use Rattle.apd_frames.specs.Instances.{terms_in, tuple_in, raised_in, AreInside, CanonicalWithin, IsInside, HasGrown, Instantiates, InstantiatesVariant, Unites};
+ghost use Rattle.apd_frames.specs.Links.{link_of};
+ghost use Rattle.apd_frames.specs.Instances.{terms_in, tuple_in, raised_in, with_goals, AreInside, CanonicalWithin, IsInside, HasGrown, Instantiates, InstantiatesVariant, Unites};
 
+use crate::links::LinkRef;
 use crate::small::has_small_variables;
-use apd_base::{ListOf, MOST_INSTANCE_SYMBOLS};
+use apd_base::MOST_INSTANCE_SYMBOLS;
 use apd_term::{Atoms, Flat, Tuple, canonical_tuple};
 use apd_unify::scratch::Scratch;
 use apd_unify::store::{Cell, Store};
 use std::alloc::{AllocError, Global};
 
-/// The cells of a clause's head and of its body's goals.
-#[derive(Drop)]
-pub struct Instance {
-    pub head: Cell,
-    pub goals: ListOf<Cell>,
-}
-
-/// Loads the terms, their variables raised by `base`.
+/// Loads the terms, their variables raised by `base`, and leaves their cells alone in `cells`.
 pub fn load_all(
     store: &mut Store,
-    alloc: Global,
+    cells: &mut Vec<Cell>,
     terms: &[Flat],
     base: u64,
-) -> Result<ListOf<Cell>, AllocError>
+) -> Result<(), AllocError>
     requires { (v : ℕ) → IsAmong (flat_map variables terms.now) v → base + v < 2 ^ 64 }
     ensures grown { HasGrown store.old store.new }
-    ensures made { IfOk result (λ cs. terms_in store.new cs ≡ map (raised_in store.old base) terms.now) }
-    ensures inside { IfOk result (λ cs. AreInside (length store.new.cells) cs) }
+    ensures made { OnOk result (terms_in store.new cells.new.items ≡ map (raised_in store.old base) terms.now) }
+    ensures inside { OnOk result (AreInside (length store.new.cells) cells.new.items) }
 {
-    let mut cells = ListOf::new(alloc);
+    cells.clear();
     'terms: for term in terms {
         let cell = store.load(term, base)?;
         cells.push(cell)?;
     }
-    Ok(cells)
+    Ok(())
 }
 
 /// The instance of a clause whose variables have small numbers, as [`instantiate`] makes it. They are raised above all
 /// others.
 fn instantiate_small(
     store: &mut Store,
-    alloc: Global,
+    goals: &mut Vec<Cell>,
     goal: Cell,
     rule: &Tuple,
-) -> Result<Option<Instance>, AllocError>
+) -> Result<Option<Cell>, AllocError>
     requires goal { goal.0 < length store.old.cells }
     requires small { IsSmall rule.now }
     ensures kept { Keeps store.old store.new }
     ensures cells { length store.old.cells ≤ length store.new.cells }
     ensures numbered { IsNumbered store.old }
-    ensures answer { IfOk result (λ o. Instantiates o store.old store.new goal.0 rule.now) }
+    ensures answer { IfOk result (λ o. Instantiates (with_goals goals.new.items o) store.old store.new goal.0 rule.now) }
 {
     let base = store.variables() as u64;
     let head = store.load(&rule.head, base)?;
     if !store.unify(goal, head)? {
         return Ok(None);
     }
-    let goals = load_all(store, alloc, rule.body.as_slice(), base)?;
-    Ok(Some(Instance { head, goals }))
+    load_all(store, goals, rule.body.as_slice(), base)?;
+    Ok(Some(head))
 }
 
-/// The clause's instance for the goal at a cell, where its head unifies with it; the clause, or its canonical form where
-/// its variables have great numbers. After none or want of memory more terms may be there, and some variables may be bound.
+/// The clause's instance for the goal at a cell, where its head unifies with it: the head's cell, with the goals' cells
+/// alone in `goals`. It is one of the clause, or of its canonical form where its variables have great numbers. After none
+/// or want of memory more terms may be there, and some variables may be bound.
 pub fn instantiate(
     store: &mut Store,
+    goals: &mut Vec<Cell>,
     alloc: Global,
     goal: Cell,
     rule: &Tuple,
-) -> Result<Option<Instance>, AllocError>
+) -> Result<Option<Cell>, AllocError>
     requires goal { goal.0 < length store.old.cells }
     requires runnable { IsRunnable rule.now }
     ensures kept { Keeps store.old store.new }
     ensures cells { length store.old.cells ≤ length store.new.cells }
     ensures numbered { IsNumbered store.old }
-    ensures answer { IfOk result (λ o. InstantiatesVariant o store.old store.new goal.0 rule.now) }
+    ensures answer { IfOk result (λ o. InstantiatesVariant (with_goals goals.new.items o) store.old store.new goal.0 rule.now) }
 {
     let _variables = store.variables();
     if has_small_variables(rule) {
-        return instantiate_small(store, alloc, goal, rule);
+        return instantiate_small(store, goals, goal, rule);
     }
     let canonical = canonical_tuple(alloc, rule)?;
-    instantiate_small(store, alloc, goal, &canonical)
+    instantiate_small(store, goals, goal, &canonical)
 }
 
 /// Makes two terms equal whose variables stand in the term at a cell, where they have a unifier.
@@ -106,24 +103,24 @@ pub fn equate(store: &mut Store, goal: Cell, left: &Flat, right: &Flat) -> Resul
     store.unify(a, b)
 }
 
-/// The instance's tuple in canonical form, with all bindings applied; none exactly where it has more symbols than it may
-/// have. No more than these are passed.
+/// The tuple of a link's instance in canonical form, with all bindings applied; none exactly where it has more symbols than
+/// it may have. No more than these are passed.
 pub fn canonical_within(
     store: &Store,
     scratch: &mut Scratch,
     alloc: Global,
-    instance: &Instance,
+    link: &LinkRef<'_>,
 ) -> Result<Option<Tuple>, AllocError>
-    requires { IsInside (length store.now.cells) instance.now }
-    ensures { IfOk result (CanonicalWithin (tuple_in store.now instance.now)) }
+    requires { IsInside (length store.now.cells) (link_of link.now).instance }
+    ensures { IfOk result (CanonicalWithin (tuple_in store.now (link_of link.now).instance)) }
 {
     scratch.clear();
-    let Some(head) = store.number_within(scratch, instance.head, MOST_INSTANCE_SYMBOLS)? else {
+    let Some(head) = store.number_within(scratch, link.head, MOST_INSTANCE_SYMBOLS)? else {
         return Ok(None);
     };
     let mut left = MOST_INSTANCE_SYMBOLS - head.size();
     let mut body = Atoms::new(alloc);
-    'goals: for goal in instance.goals.as_slice() {
+    'goals: for goal in link.goals {
         let Some(atom) = store.number_within(scratch, *goal, left)? else {
             return Ok(None);
         };

@@ -7,5 +7,6 @@ pub mod builtin;
 pub mod frames;
 pub mod instance;
 pub mod links;
+mod reading;
 pub mod settling;
 mod small;

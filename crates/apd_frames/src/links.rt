@@ -1,24 +1,43 @@
 //! Links between clause instances.
 
-ghost use Rattle.std.specs.Prelude.{◌≡◌, ◌∷◌, [], ◌+◌, ◌≤◌, length, slice_get, None, Some, IfOk, OnOk, OnErr, MatchOption};
-ghost use Rattle.apd_frames.specs.Linked.{numbered, oldest};
+ghost use Rattle.std.specs.Prelude.{◌≡◌, ◌∷◌, [], ◌+◌, ◌<◌, ◌≤◌, length, reverse, None, Some, IfOk, OnOk, OnErr, MatchOption};
+ghost use Rattle.apd_frames.specs.Links.{link_of, link_in, row_at, row_of, handed_row, cells_of, IsSpanned};
+ghost use Rattle.apd_frames.specs.Linked.{numbered, oldest, Hands, MayHand};
 
-use crate::instance::Instance;
-use apd_unify::store::Mark;
+use apd_unify::store::{Cell, Mark};
 use std::alloc::{AllocError, Global};
 use std::marker::Model;
 
 /// A clause instance in its box, with so many goals of its body solved, and its newest point.
-#[derive(Drop)]
-pub struct Link {
+#[derive(Clone, Copy)]
+pub struct LinkRef<'a> {
     pub box_no: u32,
     pub depth: u32,
     pub clause: u32,
-    pub instance: Instance,
+    pub head: Cell,
+    pub goals: &'a [Cell],
     pub done: u8,
     pub point: u32,
     /// The number of the link around it, whose next goal is its head; 0 for none.
     pub around: usize,
+}
+
+/// A link as it is kept. Its goals' cells stand among those of all links, and a link that is handed
+/// an exit shares them with the link that it comes from.
+#[derive(Clone, Copy)]
+pub struct Row {
+    pub box_no: u32,
+    pub depth: u32,
+    pub clause: u32,
+    pub head: u32,
+    /// Where its goals' cells begin, and where they end.
+    pub from: u32,
+    pub to: u32,
+    /// How many cells of goals there were with it.
+    pub cells: u32,
+    pub done: u8,
+    pub point: u32,
+    pub around: u32,
 }
 
 /// Where a search may come back to: the store's mark, and how many links there were, and which was the innermost.
@@ -32,23 +51,107 @@ pub struct Branch {
 /// Links, numbered from 1. Clauses see their list, the newest first.
 #[derive(Drop)]
 pub struct Links {
-    oldest_first: Vec<Link>,
+    oldest_first: Vec<Row>,
+    /// The cells of all links' goals.
+    cells: Vec<Cell>,
 }
 
 impl Model for Links {
-    ghost use Rattle.std.specs.Prelude.{List, reverse};
-    ghost use Rattle.apd_frames.specs.declared.links.Link.{Link};
+    ghost use Rattle.std.specs.Prelude.{List, length, reverse};
+    ghost use Rattle.apd_frames.specs.Links.{Link, links_in, AreSpanned};
 
     ghost Value = { List Link };
 
-    ghost view = { λ s. reverse s.oldest_first.items };
+    ghost view = { λ s. links_in s.cells.items (reverse s.oldest_first.items) };
+
+    ghost invariant = { λ s. AreSpanned (length s.cells.items) (reverse s.oldest_first.items) };
 }
 
-/// The link at a place, counted from 0.
-fn at(links: &[Link], place: usize) -> Option<&Link>
-    ensures { MatchOption result (slice_get links.now place ≡ None) (λ l. slice_get links.now place ≡ Some l.now) }
+/// The greatest number that is kept.
+const MOST: usize = 4_294_967_295;
+
+/// The number as it is kept; want of memory where it is too great.
+fn narrow(n: usize) -> Result<u32, AllocError>
+    ensures { IfOk result (λ k. k ≡ n) }
 {
-    links.get(place)
+    if n > MOST {
+        return Err(AllocError);
+    }
+    Ok(n as u32)
+}
+
+/// The row of a link whose goals' cells are put behind so many others.
+fn row_of(link: &LinkRef<'_>, cells: usize) -> Result<Row, AllocError>
+    ensures { IfOk result (λ r. r ≡ row_of link.now cells) }
+{
+    let from = narrow(cells)?;
+    let goals = narrow(link.goals.len())?;
+    let to = narrow(from as usize + goals as usize)?;
+    Ok(Row {
+        box_no: link.box_no,
+        depth: link.depth,
+        clause: link.clause,
+        head: narrow(link.head.0)?,
+        from,
+        to,
+        cells: to,
+        done: link.done,
+        point: link.point,
+        around: narrow(link.around)?,
+    })
+}
+
+/// The row with this number, counted from 1.
+fn row_at(rows: &[Row], number: usize) -> Option<Row>
+    ensures { result ≡ row_at rows.now number }
+{
+    if number == 0 {
+        return None;
+    }
+    match rows.get(number - 1) {
+        None => None,
+        Some(row) => Some(*row),
+    }
+}
+
+/// The link that is kept as a row.
+fn link_in<'a>(cells: &'a [Cell], row: Row) -> LinkRef<'a>
+    requires { IsSpanned (length cells.now) row }
+    ensures { link_of result ≡ link_in cells.now row }
+{
+    LinkRef {
+        box_no: row.box_no,
+        depth: row.depth,
+        clause: row.clause,
+        head: Cell(row.head as usize),
+        goals: &cells[row.from as usize..row.to as usize],
+        done: row.done,
+        point: row.point,
+        around: row.around as usize,
+    }
+}
+
+/// The row with one more goal solved, at a point, where there are so many cells.
+fn handed(row: Row, cells: u32, point: u32) -> Row
+    requires { row.done < 64 }
+    ensures { result ≡ handed_row row cells point }
+{
+    Row {
+        cells,
+        done: row.done + 1,
+        point,
+        ..row
+    }
+}
+
+/// How many cells there were with the newest row.
+fn cells_of(rows: &[Row]) -> usize
+    ensures { result ≡ cells_of (reverse rows.now) }
+{
+    match rows.last() {
+        None => 0,
+        Some(row) => row.cells as usize,
+    }
 }
 
 impl Links {
@@ -57,6 +160,7 @@ impl Links {
     {
         Links {
             oldest_first: Vec::new(alloc),
+            cells: Vec::new(alloc),
         }
     }
 
@@ -67,23 +171,40 @@ impl Links {
     }
 
     /// The link with this number.
-    pub fn get(&self, number: usize) -> Option<&Link>
-        ensures { MatchOption result (numbered self.now number ≡ None) (λ l. numbered self.now number ≡ Some l.now) }
+    pub fn get(&self, number: usize) -> Option<LinkRef<'_>>
+        ensures { MatchOption result (numbered self.now number ≡ None) (λ l. numbered self.now number ≡ Some (link_of l)) }
     {
-        if number == 0 {
-            return None;
+        match row_at(self.oldest_first.as_slice(), number) {
+            None => None,
+            Some(row) => Some(link_in(self.cells.as_slice(), row)),
         }
-        at(self.oldest_first.as_slice(), number - 1)
     }
 
     /// Puts a link behind the others, and tells its number.
-    pub fn push(&mut self, link: Link) -> Result<usize, AllocError>
-        ensures ok { OnOk result (self.new ≡ link ∷ self.old) }
+    pub fn push(&mut self, link: &LinkRef<'_>) -> Result<usize, AllocError>
+        ensures ok { OnOk result (self.new ≡ link_of link.now ∷ self.old) }
         ensures number { IfOk result (λ n. n ≡ length self.old + 1) }
         ensures err { OnErr result (self.new ≡ self.old) }
     {
-        self.oldest_first.push(link)?;
+        let row = row_of(link, self.cells.len())?;
+        self.cells.extend_from_slice(link.goals)?;
+        self.oldest_first.push(row)?;
         Ok(self.oldest_first.len())
+    }
+
+    /// Puts the link with this number behind the others once more, with one more goal solved, at a
+    /// point, and tells its new number; none where no link has this number.
+    pub fn push_handed(&mut self, number: usize, point: u32) -> Result<Option<usize>, AllocError>
+        requires { MayHand self.old number }
+        ensures ok { IfOk result (λ o. Hands o self.old self.new number point) }
+        ensures err { OnErr result (self.new ≡ self.old) }
+    {
+        let Some(row) = row_at(self.oldest_first.as_slice(), number) else {
+            return Ok(None);
+        };
+        let cells = narrow(self.cells.len())?;
+        self.oldest_first.push(handed(row, cells, point))?;
+        Ok(Some(self.oldest_first.len()))
     }
 
     /// Keeps the oldest links, so many of them.
@@ -92,5 +213,7 @@ impl Links {
         ensures { self.new ≡ oldest count self.old }
     {
         self.oldest_first.truncate(count);
+        let cells = cells_of(self.oldest_first.as_slice());
+        self.cells.truncate(cells);
     }
 }

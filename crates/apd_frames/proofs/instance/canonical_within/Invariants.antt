@@ -1,7 +1,8 @@
+use Rattle.apd_frames.specs.Links.{link_of}
 use Rattle.std.proofs.Common.{drop}
 use Rattle.apd_frames.specs.Instances.{terms_in, tuple_in}
 use Rattle.apd_frames.proofs.Writing.{IsNumbering}
 use Rattle.apd_frames.proofs.instance.canonical_within.Given as goal
 
 abbrev pub invariant-goals : goal.invariant-goals
-invariant-goals l = IsNumbering (tuple_in l.store l.instance) l.scratch (terms_in l.store (drop l.goal-index l.instance.goals)) l.body l.left
+invariant-goals l = IsNumbering (tuple_in l.store (link_of l.link).instance) l.scratch (terms_in l.store (drop l.goal-index l.link.goals.now)) l.body l.left

@@ -1,3 +1,4 @@
+use Rattle.apd_frames.specs.Instances.{with_goals}
 use Rattle.std.proofs.lemmas.Result.{IfOk-weaker}
 use Rattle.apd_unify.proofs.Rounding.{Keeps-self}
 use Rattle.apd_frames.proofs.Numbers.{IsSmall-canonical}
@@ -8,7 +9,7 @@ pub returns-then-has_small_variables-clause-answer :
     goal.returns-then-has_small_variables-clause-answer
 returns-then-has_small_variables-clause-answer c =
     IfOk-weaker c.instantiate_small.result _ _
-    (λ o h. instantiates_self o c.args.store.now c.instantiate_small.new.store c.args.goal.0 c.args.rule.now h)
+    (λ o h. instantiates_self (with_goals c.instantiate_small.new.goals.items o) c.args.store.now c.instantiate_small.new.store c.args.goal.0 c.args.rule.now h)
     c.instantiate_small.ensures.answer
 
 pub returns-in_err-canonical-clause-kept : goal.returns-in_err-canonical-clause-kept
@@ -20,5 +21,5 @@ instantiate_small-requires-2-clause-small c = IsSmall-canonical c.args.rule.now 
 pub returns-clause-answer : goal.returns-clause-answer
 returns-clause-answer c =
     IfOk-weaker c.instantiate_small-2.result _ _
-    (λ o h. instantiates_canonical o c.args.store.now c.instantiate_small-2.new.store c.args.goal.0 c.args.rule.now c.in_ok-canonical.canonical c.in_ok-canonical.ensures h)
+    (λ o h. instantiates_canonical (with_goals c.instantiate_small-2.new.goals.items o) c.args.store.now c.instantiate_small-2.new.store c.args.goal.0 c.args.rule.now c.in_ok-canonical.canonical c.in_ok-canonical.ensures h)
     c.instantiate_small-2.ensures.answer

@@ -5,7 +5,7 @@ use Rattle.apd_term.proofs.Among.{IsAmong-left, IsAmong-right}
 use Rattle.apd_unify.specs.Store.{IsUnification}
 use Rattle.apd_unify.proofs.Keeping.{Keeps-trans}
 use Rattle.apd_frames.specs.Instances.{raised_in}
-use Rattle.apd_frames.specs.declared.instance.Instance.{Instance}
+use Rattle.apd_frames.specs.Links.{Instance}
 use Rattle.apd_frames.proofs.Instancing.{inside_new, not_instantiated, instantiated}
 use Rattle.apd_frames.proofs.instance.instantiate_small.Goals as goal
 
@@ -34,8 +34,8 @@ load_all-requires c = λ v o.
     (let h = c.requires.small v (IsAmong-right (variables c.args.rule.now.head) (flat_map variables c.args.rule.now.body) v (subst (λ xs. IsAmong (flat_map variables xs) v) c.as_slice.ensures o)) in
     omega (arith, h, c.variables-base.ensures.room))
 
-pub returns-in_err-goals-clause-kept : goal.returns-in_err-goals-clause-kept
-returns-in_err-goals-clause-kept c =
+pub returns-in_err-load_all-clause-kept : goal.returns-in_err-load_all-clause-kept
+returns-in_err-load_all-clause-kept c =
     Keeps-trans c.args.store.now c.load.new.self c.load_all.new.store c.in_ok-head.ensures.kept
     (Keeps-trans c.load.new.self c.unify.new.self c.load_all.new.store c.unify.ensures.kept c.load_all.ensures.grown.kept)
 
@@ -46,7 +46,7 @@ returns-clause-kept c =
 
 pub returns-clause-answer : goal.returns-clause-answer
 returns-clause-answer c =
-    let i : Instance = record { head = c.in_ok-head.head; goals = c.in_ok-goals.goals } in
+    let i : Instance = record { head = c.in_ok-head.head; goals = c.load_all.new.cells.items } in
     let new = inside_new c.args.store.now c.load.new.self c.args.rule.now.head c.variables-base.result c.in_ok-head.head.0 c.in_ok-head.ensures.ok c.in_ok-head.ensures.cell in
     instantiated c.args.store.now c.load.new.self c.unify.new.self c.args.goal.0 c.in_ok-head.head.0 c.variables-base.result c.args.rule.now
     c.variables-base.ensures.numbered c.variables-base.ensures.count c.requires.goal c.in_ok-head.ensures.ok c.in_ok-head.ensures.others c.in_ok-head.ensures.made
@@ -54,5 +54,5 @@ returns-clause-answer c =
     c.unify.ensures.cells c.load_all.new.store i
     (subst (λ cells. c.in_ok-head.head.0 < length cells) (sym c.unify.ensures.cells) new)
     c.load_all.ensures.grown
-    (c.in_ok-goals.ensures.made ∙ ap (map (raised_in c.unify.new.self c.variables-base.result)) c.as_slice.ensures)
-    c.in_ok-goals.ensures.inside refl
+    (c.in_ok-load_all.ensures.made ∙ ap (map (raised_in c.unify.new.self c.variables-base.result)) c.as_slice.ensures)
+    c.in_ok-load_all.ensures.inside refl

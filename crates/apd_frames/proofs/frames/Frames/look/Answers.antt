@@ -1,3 +1,4 @@
+use Rattle.apd_frames.specs.Links.{link_of}
 use Rattle.std.proofs.Common.{◌∙◌, sym, ap}
 use Rattle.std.proofs.lemmas.Result.{IfOk-weaker}
 use Rattle.apd_trace.specs.Frames.{look_of}
@@ -8,16 +9,16 @@ pub returns-in-None-clause-look : goal.returns-in-None-clause-look
 returns-in-None-clause-look c = ap (λ F. look_of F c.args.box_no) (sym (innermost_none c.self.inside.store c.self.inside.links c.self.inside.innermost c.self.inside.branches c.args.self.now c.self.view_is c.in-None.ensures))
 
 pub look-requires-clause-inside : goal.look-requires-clause-inside
-look-requires-clause-inside c = (innermost_some c.self.inside.store c.self.inside.links c.self.inside.innermost c.self.inside.branches c.args.self.now c.in-Some.link.now c.self.view_is c.self.invariant c.in-Some.ensures).inside
+look-requires-clause-inside c = (innermost_some c.self.inside.store c.self.inside.links c.self.inside.innermost c.self.inside.branches c.args.self.now (link_of c.in-Some.link) c.self.view_is c.self.invariant c.in-Some.ensures).inside
 
 pub look-requires-clause-deep : goal.look-requires-clause-deep
 look-requires-clause-deep c =
-    may_call c.self.inside.store c.self.inside.links c.in-Some.link.now c.args.self.now
-    (innermost_some c.self.inside.store c.self.inside.links c.self.inside.innermost c.self.inside.branches c.args.self.now c.in-Some.link.now c.self.view_is c.self.invariant c.in-Some.ensures)
+    may_call c.self.inside.store c.self.inside.links (link_of c.in-Some.link) c.args.self.now
+    (innermost_some c.self.inside.store c.self.inside.links c.self.inside.innermost c.self.inside.branches c.args.self.now (link_of c.in-Some.link) c.self.view_is c.self.invariant c.in-Some.ensures)
     c.requires
 
 pub returns-in-Some-clause-look : goal.returns-in-Some-clause-look
 returns-in-Some-clause-look c =
     IfOk-weaker c.look.result _ _
-    (λ l e. e ∙ ap (λ F. look_of F c.args.box_no) (sym (innermost_some c.self.inside.store c.self.inside.links c.self.inside.innermost c.self.inside.branches c.args.self.now c.in-Some.link.now c.self.view_is c.self.invariant c.in-Some.ensures).is))
+    (λ l e. e ∙ ap (λ F. look_of F c.args.box_no) (sym (innermost_some c.self.inside.store c.self.inside.links c.self.inside.innermost c.self.inside.branches c.args.self.now (link_of c.in-Some.link) c.self.view_is c.self.invariant c.in-Some.ensures).is))
     c.look.ensures

@@ -1,3 +1,4 @@
+use Rattle.apd_frames.specs.Links.{link_of}
 use Rattle.std.proofs.Common.{sym, ap}
 use Rattle.apd_frames.specs.Kept.{newest_of}
 use Rattle.apd_frames.proofs.Current.{innermost_some, innermost_none, newest_so}
@@ -8,5 +9,5 @@ returns-in-None c = ap newest_of (sym (innermost_none c.self.inside.store c.self
 
 pub returns-in-Some : goal.returns-in-Some
 returns-in-Some c =
-    newest_so c.self.inside.store c.self.inside.links c.in-Some.link.now c.args.self.now
-    (innermost_some c.self.inside.store c.self.inside.links c.self.inside.innermost c.self.inside.branches c.args.self.now c.in-Some.link.now c.self.view_is c.self.invariant c.in-Some.ensures)
+    newest_so c.self.inside.store c.self.inside.links (link_of c.in-Some.link) c.args.self.now
+    (innermost_some c.self.inside.store c.self.inside.links c.self.inside.innermost c.self.inside.branches c.args.self.now (link_of c.in-Some.link) c.self.view_is c.self.invariant c.in-Some.ensures)

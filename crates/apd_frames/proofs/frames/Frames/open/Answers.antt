@@ -1,10 +1,9 @@
-use Rattle.std.proofs.Common.{◌∷◌, ◌∙◌, map, refl, ap, subst, arith}
+use Rattle.std.proofs.Common.{◌∷◌, ◌∙◌, length, map, refl, sym, ap, subst, arith}
 use Rattle.std.specs.List.{flat_map}
 use Rattle.apd_term.specs.Term.{variables, IsAmong}
 use Rattle.apd_term.proofs.Among.{IsAmong-left, IsAmong-right}
-use Rattle.apd_frames.specs.declared.instance.Instance.{Instance}
-use Rattle.apd_frames.specs.declared.links.Link.{Link}
-use Rattle.apd_frames.specs.Instances.{raised_in}
+use Rattle.apd_frames.specs.Links.{Instance, Link}
+use Rattle.apd_frames.specs.Instances.{terms_in, raised_in, AreInside}
 use Rattle.apd_frames.proofs.Numbers.{IsSmall-canonical}
 use Rattle.apd_frames.proofs.Instancing.{inside_new}
 use Rattle.apd_frames.proofs.Moving.{opened, opened_framed}
@@ -23,18 +22,18 @@ load_all-requires c = λ v o.
 
 pub invariant_of-result : goal.invariant_of-result
 invariant_of-result c =
-    let i : Instance = record { head = c.in_ok-head.head; goals = c.in_ok-goals.goals } in
+    let i : Instance = record { head = c.in_ok-head.head; goals = c.as_slice-2.result.now } in
     let l : Link = record { box_no = 0; depth = 0; clause = 0; instance = i; done = 0; point = 0; around = 0 } in
     let h = inside_new c.new-store.result c.load.new.self c.in_ok-tuple.tuple.head 0 c.in_ok-head.head.0 c.in_ok-head.ensures.ok c.in_ok-head.ensures.cell in
     opened_framed c.load_all.new.store l c.push.new.self c.new.result (c.in_ok-push.ensures.ok ∙ ap (λ ls. l ∷ ls) c.new-links.ensures) c.new.ensures refl
-    (record { head = omega (arith, h, c.load_all.ensures.grown.cells); goals = c.in_ok-goals.ensures.inside })
+    (record { head = omega (arith, h, c.load_all.ensures.grown.cells); goals = subst (AreInside (length c.load_all.new.store.cells)) (sym c.as_slice-2.ensures.value) c.in_ok-load_all.ensures.inside })
 
 pub returns : goal.returns
 returns c =
-    let i : Instance = record { head = c.in_ok-head.head; goals = c.in_ok-goals.goals } in
+    let i : Instance = record { head = c.in_ok-head.head; goals = c.as_slice-2.result.now } in
     let l : Link = record { box_no = 0; depth = 0; clause = 0; instance = i; done = 0; point = 0; around = 0 } in
     let h = inside_new c.new-store.result c.load.new.self c.in_ok-tuple.tuple.head 0 c.in_ok-head.head.0 c.in_ok-head.ensures.ok c.in_ok-head.ensures.cell in
     opened c.new-store.result c.load.new.self c.load_all.new.store c.in_ok-tuple.tuple c.args.query.now c.in_ok-head.head.0 i c.new-store.ensures c.in_ok-tuple.ensures
     c.in_ok-head.ensures.ok h c.in_ok-head.ensures.made c.load_all.ensures.grown
-    (c.in_ok-goals.ensures.made ∙ ap (map (raised_in c.load.new.self 0)) c.as_slice.ensures) refl
+    (ap (terms_in c.load_all.new.store) c.as_slice-2.ensures.value ∙ c.in_ok-load_all.ensures.made ∙ ap (map (raised_in c.load.new.self 0)) c.as_slice.ensures) refl
     l c.push.new.self c.new.result (c.in_ok-push.ensures.ok ∙ ap (λ ls. l ∷ ls) c.new-links.ensures) c.new.ensures refl

@@ -1,15 +1,23 @@
-use Rattle.std.proofs.Common.{◌≡◌, ◌∙◌, ◌-◌, None, Some, subst, sym, ap}
-use Rattle.std.specs.Prelude.{MatchOption, slice_get}
+use Rattle.std.proofs.Common.{◌∙◌, length, ap, sym, subst, Some}
+use Rattle.apd_frames.specs.Links.{link_in, row_at, IsSpanned}
 use Rattle.apd_frames.specs.Linked.{numbered}
-use Rattle.apd_frames.proofs.Linking.{numbered-zero, numbered-at}
+use Rattle.apd_frames.proofs.Spans.{row_among, numbered_none, numbered_some}
 use Rattle.apd_frames.proofs.links.Links.get.Goals as goal
 
-pub returns-then-number-eq0 : goal.returns-then-number-eq0
-returns-then-number-eq0 c = ap (numbered c.args.self.now) c.if-number-eq0.true ∙ numbered-zero c.args.self.now
+pub link_in-requires : goal.link_in-requires
+link_in-requires c =
+    subst (λ cs. IsSpanned (length cs) c.in-Some.row) (sym c.as_slice-in-Some.ensures.value)
+    (row_among (length c.self.inside.cells.items) c.self.inside.oldest_first.items c.args.number c.in-Some.row c.self.invariant
+    (ap (λ rows. row_at rows c.args.number) (sym c.as_slice.ensures.value) ∙ sym c.row_at.ensures ∙ c.in-Some.is))
 
-pub returns : goal.returns
-returns c =
-    let e : numbered c.args.self.now c.args.number ≡ slice_get c.self.inside.oldest_first.items (c.args.number - 1) =
-    ap (λ ls. numbered ls c.args.number) (sym c.self.view_is) ∙ numbered-at c.self.inside.oldest_first.items c.args.number c.if-number-eq0.false in
-    subst (λ z. MatchOption c.at.result (z ≡ None) (λ l. z ≡ Some l.now)) (sym e)
-    (subst (λ xs. MatchOption c.at.result (slice_get xs (c.args.number - 1) ≡ None) (λ l. slice_get xs (c.args.number - 1) ≡ Some l.now)) c.as_slice.ensures.value c.at.ensures)
+pub returns-in-None : goal.returns-in-None
+returns-in-None c =
+    ap (λ ls. numbered ls c.args.number) (sym c.self.view_is)
+    ∙ numbered_none c.self.inside.cells.items c.self.inside.oldest_first.items c.args.number c.row_at.result (c.row_at.ensures ∙ ap (λ rows. row_at rows c.args.number) c.as_slice.ensures.value) c.in-None.is
+
+pub returns-in-Some : goal.returns-in-Some
+returns-in-Some c =
+    ap (λ ls. numbered ls c.args.number) (sym c.self.view_is)
+    ∙ numbered_some c.self.inside.cells.items c.self.inside.oldest_first.items c.args.number c.row_at.result c.in-Some.row (c.row_at.ensures ∙ ap (λ rows. row_at rows c.args.number) c.as_slice.ensures.value) c.in-Some.is
+    ∙ ap (λ cs. Some (link_in cs c.in-Some.row)) (sym c.as_slice-in-Some.ensures.value)
+    ∙ ap (λ l. Some l) (sym c.link_in.ensures)

@@ -1,6 +1,6 @@
 use Rattle.apd_unify.specs.Store.{term_at}
 use Rattle.apd_frames.proofs.Writing.{canonical_alone}
-use Rattle.apd_frames.proofs.frames.shown.Goals as goal
+use Rattle.apd_frames.proofs.reading.shown.Goals as goal
 
 pub returns-in-Some : goal.returns-in-Some
 returns-in-Some c =

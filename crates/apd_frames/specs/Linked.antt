@@ -6,8 +6,9 @@ use Rattle.apd_unify.specs.Store.{term_at, at_mark}
 use Rattle.apd_trace.specs.Frames.{next_goal}
 use Rattle.apd_trace.specs.declared.frame.Called.{Called}
 use Rattle.apd_trace.specs.declared.frame.Frame.{Frame}
-use Rattle.apd_frames.specs.Links.{Instance, Link}
+use Rattle.apd_frames.specs.Links.{Instance, Link, link_of}
 use Rattle.apd_frames.specs.declared.links.Branch.{Branch}
+use Rattle.apd_frames.specs.declared.links.LinkRef.{LinkRef}
 use Rattle.apd_frames.specs.Instances.{tuple_in, IsInside}
 
 -- the link with this number, counted from 1 at the oldest; the links are given the newest first
@@ -57,14 +58,14 @@ handed_link l m =
 abbrev pub MayHand : List Link → ℕ → Type 0
 MayHand links k = (l : Link) → numbered links k ≡ Some l → l.done < 64
 
--- link k stands behind the others once more, with one more goal solved at point m, and has number n there
+-- link k was put behind the others once more, with one more goal solved at point m, and has number n there
 pub record HasHanded (n : ℕ) (old new : List Link) (k m : ℕ) : Type 0 where
   pub link : Link
   pub is : numbered old k ≡ Some link
   pub more : new ≡ handed_link link m ∷ old
   pub number : n ≡ length old + 1
 
--- it does, or there is no link with this number and nothing changed
+-- it was, or there is no link with this number and nothing changed
 abbrev pub Hands : Option ℕ → List Link → List Link → ℕ → ℕ → Type 0
 Hands None old new k m = (numbered old k ≡ None) × (new ≡ old)
 Hands (Some n) old new k m = HasHanded n old new k m
@@ -73,6 +74,14 @@ Hands (Some n) old new k m = HasHanded n old new k m
 abbrev pub frames_at : Stored → List Link → ℕ → List Frame
 frames_at s [] k = []
 frames_at s (l ∷ older) k = if k == length older + 1 then frame_in s l ∷ frames_at s older l.around else frames_at s older k
+
+-- the frames from a link outwards
+abbrev pub frames_from : Stored → List Link → LinkRef → List Frame
+frames_from s links l = frame_in s (link_of l) ∷ frames_at s links l.around
+
+-- a link's instance is in the cells that are there
+abbrev pub IsThere : Stored → LinkRef → Type 0
+IsThere s l = IsInside (length s.cells) (link_of l).instance
 
 -- each link's instance is in the first n cells, and the link around it is older
 abbrev pub ArePlaced : ℕ → List Link → Type 0

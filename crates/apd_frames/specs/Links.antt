@@ -1,4 +1,4 @@
--- Links, and how they are kept: the cells of all links' goals stand in one list, one link's after another's.
+-- Links, and how they are kept: the cells of all links' goals stand in one list.
 use Rattle.std.specs.Prelude.{ℕ, zero, suc, ◌+◌, ◌≤◌, List, [], ◌∷◌, length, map, take, drop, Option, None, slice_get}
 use Rattle.apd_unify.specs.declared.store.Cell.{Cell}
 use Rattle.apd_frames.specs.declared.links.Row.{Row}
@@ -9,8 +9,8 @@ pub record Instance : Type 0 where
   pub head : Cell
   pub goals : List Cell
 
--- a clause instance in its box, with so many goals of its body solved, and its newest point; and the number of the link
--- around it, whose next goal is its head, or 0
+-- a clause instance in its box, with so many goals of its body solved, and its newest point; the link with the number
+-- `around` has its head as next goal, and 0 is none
 pub record Link : Type 0 where
   pub box_no : ℕ
   pub depth : ℕ
@@ -60,8 +60,8 @@ pub record IsSpanned (n : ℕ) (r : Row) : Type 0 where
   pub order : r.from ≤ r.to
   pub within : r.to ≤ n
 
--- each row's goals are among the cells that were there with it: no more than with any newer row, or than the n that are
--- there now; the newest row is given first
+-- the rows are given the newest first: the goals of each are among the cells that were there with it, no more than were
+-- there with a newer one, or are there now, n
 abbrev pub AreSpanned : ℕ → List Row → Type 0
 AreSpanned n [] = Unit {0}
 AreSpanned n (r ∷ older) = IsSpanned r.cells r × (r.cells ≤ n) × AreSpanned r.cells older

@@ -79,7 +79,8 @@ fn entered<'a>(
     point: u32,
     around: usize,
 ) -> LinkRef<'a>
-    ensures { (g : Called) → IsIn box_no depth g → link_of result ≡ entered_link g clause (instance_of head goals.now) point around }
+    ensures { (g : Called) → IsIn box_no depth g →
+        link_of result ≡ entered_link g clause (instance_of head goals.now) point around }
 {
     LinkRef {
         box_no,

@@ -9,7 +9,8 @@ ghost use Rattle.apd_unify.specs.Store.{term_at, Keeps};
 ghost use Rattle.apd_clauses.specs.Clauses.{IsRunnable};
 ghost use Rattle.apd_frames.specs.Kept.{IsSmall};
 ghost use Rattle.apd_frames.specs.Links.{link_of};
-ghost use Rattle.apd_frames.specs.Instances.{terms_in, tuple_in, raised_in, with_goals, AreInside, CanonicalWithin, IsInside, HasGrown, Instantiates, InstantiatesVariant, Unites};
+ghost use Rattle.apd_frames.specs.Linked.{IsThere};
+ghost use Rattle.apd_frames.specs.Instances.{terms_in, tuple_in, raised_in, with_goals, AreInside, CanonicalWithin, HasGrown, Instantiates, InstantiatesVariant, Unites};
 
 use crate::links::LinkRef;
 use crate::small::has_small_variables;
@@ -28,7 +29,8 @@ pub fn load_all(
 ) -> Result<(), AllocError>
     requires { (v : ℕ) → IsAmong (flat_map variables terms.now) v → base + v < 2 ^ 64 }
     ensures grown { HasGrown store.old store.new }
-    ensures made { OnOk result (terms_in store.new cells.new.items ≡ map (raised_in store.old base) terms.now) }
+    ensures made { OnOk result
+        (terms_in store.new cells.new.items ≡ map (raised_in store.old base) terms.now) }
     ensures inside { OnOk result (AreInside (length store.new.cells) cells.new.items) }
 {
     cells.clear();
@@ -52,7 +54,8 @@ fn instantiate_small(
     ensures kept { Keeps store.old store.new }
     ensures cells { length store.old.cells ≤ length store.new.cells }
     ensures numbered { IsNumbered store.old }
-    ensures answer { IfOk result (λ o. Instantiates (with_goals goals.new.items o) store.old store.new goal.0 rule.now) }
+    ensures answer { IfOk result
+        (λ o. Instantiates (with_goals goals.new.items o) store.old store.new goal.0 rule.now) }
 {
     let base = store.variables() as u64;
     let head = store.load(&rule.head, base)?;
@@ -63,9 +66,10 @@ fn instantiate_small(
     Ok(Some(head))
 }
 
-/// The clause's instance for the goal at a cell, where its head unifies with it: the head's cell, with the goals' cells
-/// alone in `goals`. It is one of the clause, or of its canonical form where its variables have great numbers. After none
-/// or want of memory more terms may be there, and some variables may be bound.
+/// The clause's instance for the goal at a cell, where its head unifies with it: the head's cell, with
+/// the goals' cells alone in `goals`. The clause's canonical form is taken where its variables have
+/// great numbers. After none or want of memory more terms may be there, and some variables may be
+/// bound.
 pub fn instantiate(
     store: &mut Store,
     goals: &mut Vec<Cell>,
@@ -78,7 +82,8 @@ pub fn instantiate(
     ensures kept { Keeps store.old store.new }
     ensures cells { length store.old.cells ≤ length store.new.cells }
     ensures numbered { IsNumbered store.old }
-    ensures answer { IfOk result (λ o. InstantiatesVariant (with_goals goals.new.items o) store.old store.new goal.0 rule.now) }
+    ensures answer { IfOk result
+        (λ o. InstantiatesVariant (with_goals goals.new.items o) store.old store.new goal.0 rule.now) }
 {
     let _variables = store.variables();
     if has_small_variables(rule) {
@@ -103,15 +108,15 @@ pub fn equate(store: &mut Store, goal: Cell, left: &Flat, right: &Flat) -> Resul
     store.unify(a, b)
 }
 
-/// The tuple of a link's instance in canonical form, with all bindings applied; none exactly where it has more symbols than
-/// it may have. No more than these are passed.
+/// The tuple of a link's instance in canonical form, with all bindings applied; none exactly where it
+/// has more symbols than it may have. No more than these are passed.
 pub fn canonical_within(
     store: &Store,
     scratch: &mut Scratch,
     alloc: Global,
     link: &LinkRef<'_>,
 ) -> Result<Option<Tuple>, AllocError>
-    requires { IsInside (length store.now.cells) (link_of link.now).instance }
+    requires { IsThere store.now link.now }
     ensures { IfOk result (CanonicalWithin (tuple_in store.now (link_of link.now).instance)) }
 {
     scratch.clear();

@@ -172,7 +172,9 @@ impl Links {
 
     /// The link with this number.
     pub fn get(&self, number: usize) -> Option<LinkRef<'_>>
-        ensures { MatchOption result (numbered self.now number ≡ None) (λ l. numbered self.now number ≡ Some (link_of l)) }
+        ensures { MatchOption result
+            (numbered self.now number ≡ None)
+            (λ l. numbered self.now number ≡ Some (link_of l)) }
     {
         match row_at(self.oldest_first.as_slice(), number) {
             None => None,

@@ -1,6 +1,6 @@
 //! What a link and those around it say.
 
-ghost use Rattle.std.specs.Prelude.{◌≡◌, ℕ, ◌∷◌, ◌+◌, ◌<◌, ◌≤◌, length, slice_get, Some, IfOk, MatchOption};
+ghost use Rattle.std.specs.Prelude.{◌≡◌, ℕ, ◌+◌, ◌<◌, ◌≤◌, length, slice_get, Some, IfOk, MatchOption};
 ghost use Rattle.apd_term.specs.Canonical.{canonical};
 ghost use Rattle.apd_unify.specs.Stored.{Stored};
 ghost use Rattle.apd_unify.specs.Store.{term_at};
@@ -8,8 +8,7 @@ ghost use Rattle.apd_trace.specs.Frames.{left, look_of, owner_of};
 ghost use Rattle.apd_trace.specs.declared.frame.Called.{Called};
 ghost use Rattle.apd_frames.specs.Kept.{Calls, IsIn, MayCall};
 ghost use Rattle.apd_frames.specs.Links.{link_of};
-ghost use Rattle.apd_frames.specs.Instances.{IsInside};
-ghost use Rattle.apd_frames.specs.Linked.{frames_at, frame_in, IsGoalAt};
+ghost use Rattle.apd_frames.specs.Linked.{frames_at, frame_in, frames_from, IsGoalAt, IsThere};
 
 use crate::links::{LinkRef, Links};
 use apd_term::Flat;
@@ -20,7 +19,9 @@ use std::alloc::AllocError;
 
 /// The next goal of a link.
 fn goal_of(link: &LinkRef<'_>) -> Option<Cell>
-    ensures { MatchOption result (length link.now.goals.now ≤ link.now.done) (λ c. slice_get link.now.goals.now link.now.done ≡ Some c) }
+    ensures { MatchOption result
+        (length link.now.goals.now ≤ link.now.done)
+        (λ c. slice_get link.now.goals.now link.now.done ≡ Some c) }
 {
     match link.goals.get(link.done as usize) {
         None => None,
@@ -78,8 +79,9 @@ pub fn left(
     scratch: &mut Scratch,
     link: &LinkRef<'_>,
 ) -> Result<Called, AllocError>
-    requires { IsInside (length store.now.cells) (link_of link.now).instance }
-    ensures { IfOk result (λ g. g ≡ left (frame_in store.now (link_of link.now)) (frames_at store.now links.now link.now.around)) }
+    requires { IsThere store.now link.now }
+    ensures { IfOk result
+        (λ g. g ≡ left (frame_in store.now (link_of link.now)) (frames_at store.now links.now link.now.around)) }
 {
     let atom = shown(store, scratch, link.head)?;
     Ok(Called {
@@ -98,9 +100,10 @@ pub fn look(
     link: &LinkRef<'_>,
     box_no: u32,
 ) -> Result<Look, AllocError>
-    requires inside { IsInside (length store.now.cells) (link_of link.now).instance }
+    requires inside { IsThere store.now link.now }
     requires deep { link.now.depth + 1 < 4294967296 }
-    ensures { IfOk result (λ l. l ≡ look_of (frame_in store.now (link_of link.now) ∷ frames_at store.now links.now link.now.around) box_no) }
+    ensures { IfOk result
+        (λ l. l ≡ look_of (frames_from store.now links.now link.now) box_no) }
 {
     match goal_of(link) {
         Some(goal) => {

@@ -1,6 +1,6 @@
-use Rattle.apd_frames.specs.Links.{link_of}
 use Rattle.std.proofs.Common.{◌+◌, drop, length, refl, subst}
 use Rattle.apd_unify.specs.Store.{term_at}
+use Rattle.apd_frames.specs.Links.{link_of}
 use Rattle.apd_frames.specs.Instances.{terms_in, tuple_in}
 use Rattle.apd_frames.proofs.Instancing.{inside_or}
 use Rattle.apd_frames.proofs.Writing.{IsNumbering, head_written, numbering_more, numbering_last, next_left, none_left, less}

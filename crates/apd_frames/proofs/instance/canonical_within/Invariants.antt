@@ -1,5 +1,5 @@
-use Rattle.apd_frames.specs.Links.{link_of}
 use Rattle.std.proofs.Common.{drop}
+use Rattle.apd_frames.specs.Links.{link_of}
 use Rattle.apd_frames.specs.Instances.{terms_in, tuple_in}
 use Rattle.apd_frames.proofs.Writing.{IsNumbering}
 use Rattle.apd_frames.proofs.instance.canonical_within.Given as goal

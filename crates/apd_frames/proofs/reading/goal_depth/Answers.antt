@@ -1,5 +1,5 @@
-use Rattle.apd_frames.specs.Links.{link_of}
 use Rattle.std.proofs.Common.{[], arith}
+use Rattle.apd_frames.specs.Links.{link_of}
 use Rattle.apd_frames.proofs.Current.{calls_some, calls_none, may_call_so}
 use Rattle.apd_frames.proofs.reading.goal_depth.Goals as goal
 

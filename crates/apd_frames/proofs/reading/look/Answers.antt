@@ -1,5 +1,5 @@
-use Rattle.apd_frames.specs.Links.{link_of}
 use Rattle.std.proofs.Common.{length}
+use Rattle.apd_frames.specs.Links.{link_of}
 use Rattle.apd_frames.proofs.Current.{get_inside, look_goal, look_answer, look_exit}
 use Rattle.apd_frames.proofs.reading.look.Goals as goal
 

@@ -1,7 +1,7 @@
-use Rattle.apd_frames.specs.Links.{link_of}
 use Rattle.std.proofs.Common.{◌∙◌, sym, ap}
 use Rattle.std.proofs.lemmas.Result.{IfOk-weaker}
 use Rattle.apd_trace.specs.Frames.{look_of}
+use Rattle.apd_frames.specs.Links.{link_of}
 use Rattle.apd_frames.proofs.Current.{innermost_some, innermost_none, may_call}
 use Rattle.apd_frames.proofs.frames.Frames.look.Goals as goal
 

@@ -1,5 +1,5 @@
-use Rattle.apd_frames.specs.Links.{link_of}
 use Rattle.std.proofs.Common.{sym, ap}
+use Rattle.apd_frames.specs.Links.{link_of}
 use Rattle.apd_frames.specs.Kept.{newest_of}
 use Rattle.apd_frames.proofs.Current.{innermost_some, innermost_none, newest_so}
 use Rattle.apd_frames.proofs.frames.Frames.newest.Goals as goal

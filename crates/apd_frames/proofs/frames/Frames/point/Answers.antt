@@ -1,5 +1,5 @@
-use Rattle.apd_frames.specs.Links.{link_of}
 use Rattle.std.proofs.Common.{length, ap, arith}
+use Rattle.apd_frames.specs.Links.{link_of}
 use Rattle.apd_frames.proofs.Current.{innermost_some, innermost_none, too_large, point_so}
 use Rattle.apd_frames.proofs.Writing.{none_so}
 use Rattle.apd_frames.proofs.frames.Frames.point.Goals as goal

@@ -4,7 +4,7 @@ ghost use Rattle.std.specs.Prelude.{◌≡◌, ◌≤◌, ◌<◌, ◌^◌, leng
 ghost use Rattle.apd_term.specs.Term.{arity_of};
 ghost use Rattle.apd_intern.specs.Nodes.{Adds, IsFrontOf, AreDistinct, symbol_of, arguments_of, IsLinked, rest_at, IsRest};
 
-use crate::hints::{Hints, number_of, number_of_link};
+use crate::hints::{Hints, key_of, key_of_link};
 use apd_term::{NameId, Sym};
 use indexmap::IndexSet;
 use std::alloc::AllocError;
@@ -46,7 +46,7 @@ pub fn symbol_of(node: Node) -> Sym
 fn find_link(links: &IndexSet<Link>, hints: &Hints, link: Link) -> Option<u32>
     ensures { IfSome result (λ p. slice_get links.now.keys p ≡ Some link) }
 {
-    let place = hints.get(number_of_link(link))?;
+    let place = hints.get(key_of_link(link))?;
     let kept = links.get_index(place as usize)?;
     if *kept == link { Some(place) } else { None }
 }
@@ -63,7 +63,7 @@ fn put_link(links: &mut IndexSet<Link>, hints: &mut Hints, link: Link) -> Result
         return Err(AllocError);
     }
     let (place, _) = links.insert_full(link)?;
-    hints.note(number_of_link(link), place as u32);
+    hints.note(key_of_link(link), place as u32);
     Ok(place as u32)
 }
 
@@ -126,7 +126,7 @@ pub fn node_of(
 fn find_by_hint(nodes: &IndexSet<Node>, hints: &Hints, node: Node) -> Option<u32>
     ensures { IfSome result (λ p. slice_get nodes.now.keys p ≡ Some node) }
 {
-    let place = hints.get(number_of(node))?;
+    let place = hints.get(key_of(node))?;
     let kept = nodes.get_index(place as usize)?;
     if *kept == node { Some(place) } else { None }
 }
@@ -149,6 +149,6 @@ pub fn put_node(
         return Err(AllocError);
     }
     let (place, _) = nodes.insert_full(node)?;
-    hints.note(number_of(node), place as u32);
+    hints.note(key_of(node), place as u32);
     Ok(place as u32)
 }

@@ -25,6 +25,8 @@ pub struct Terms {
     links: IndexSet<Link>,
     node_hints: Hints,
     link_hints: Hints,
+    /// The places of a term's symbols while it is put, kept from term to term so that its memory is taken once.
+    places: Vec<u32>,
 }
 
 impl Model for Terms {
@@ -54,6 +56,7 @@ impl Terms {
             links: IndexSet::new(alloc),
             node_hints: Hints::new(alloc),
             link_hints: Hints::new(alloc),
+            places: Vec::new(alloc),
         }
     }
 
@@ -91,13 +94,16 @@ impl Terms {
         self.node_hints.make_room(self.alloc)?;
         self.link_hints.make_room(self.alloc)?;
         let symbols = t.symbols();
-        let mut places = Vec::new(self.alloc);
+        let mut places = std::mem::replace(&mut self.places, Vec::new(self.alloc));
+        places.clear();
         let mut k = symbols.len();
         'symbols: while k > 0 {
             k -= 1;
             self.put_symbol(symbols[k], &mut places)?;
         }
-        Ok(TermId(places[0] as usize))
+        let place = places[0];
+        self.places = places;
+        Ok(TermId(place as usize))
     }
 
     /// The term at a place.

@@ -1,6 +1,7 @@
-use Rattle.std.proofs.Common.{ap, ◌∙◌, ◌≡◌, ◌-◌, ◌<◌, ◌∷◌, arith, sym, reverse, length, drop, get_or}
+use Rattle.std.proofs.Common.{List, Some, subst, ap, ◌∙◌, ◌≡◌, ◌-◌, ◌<◌, ◌∷◌, arith, sym, reverse, length, drop, get_or}
 use Rattle.std.proofs.lemmas.List.{length-map, length-reverse}
-use Rattle.apd_term.specs.Term.{read_all}
+use Rattle.std.specs.Prelude.{slice_get}
+use Rattle.apd_term.specs.Term.{Term, read_all}
 use Rattle.apd_term.specs.declared.term.Sym.{Sym}
 use Rattle.apd_term.specs.declared.term.Sym.TheVariants.{Var}
 use Rattle.apd_intern.specs.Nodes.{terms_at, term_at, applied}
@@ -39,12 +40,13 @@ returns-in_err-put_symbol-clause-grown c =
     let below : k - 1 < length symbols = omega (arith, c.symbols-test.true, c.symbols.invariant.within) in
     grown_step c.args.t.now symbols k (k - 1) x (terms_at c.symbols.self c.symbols.places.items) c.args.self.now c.symbols.self c.put_symbol.new.self c.symbols-symbols.ensures below d c.symbols.invariant.terms c.symbols.invariant.grown c.put_symbol.ensures.adds
 
-pub index-requires : goal.index-requires
-index-requires c =
+pub index-place-requires : goal.index-place-requires
+index-place-requires c =
     let is = put_terms c.args.t.now c.symbols-symbols.result.now c.symbols.k (terms_at c.symbols.self c.symbols.places.items) c.symbols-symbols.ensures c.symbols-test.false c.symbols.invariant.terms in
     omega (arith, some_place c.symbols.self c.symbols.places.items c.args.t.now is, c.symbols.places.ok.0)
 
 pub returns-clause-place : goal.returns-clause-place
 returns-clause-place c =
     let is = put_terms c.args.t.now c.symbols-symbols.result.now c.symbols.k (terms_at c.symbols.self c.symbols.places.items) c.symbols-symbols.ensures c.symbols-test.false c.symbols.invariant.terms in
-    only_place c.symbols.self c.symbols.places.items c.args.t.now c.index.result.now is c.symbols.invariant.there c.index.ensures
+    subst (λ (ts : List Term). slice_get ts c.index-place.result.now ≡ Some c.args.t.now) (sym c.self-2.view_is)
+    (only_place c.symbols.self c.symbols.places.items c.args.t.now c.index-place.result.now is c.symbols.invariant.there c.index-place.ensures)

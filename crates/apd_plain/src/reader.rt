@@ -3,17 +3,16 @@
 //! [`plain_read`] keeps no stack of operators. It collects the operands and operators of an item as
 //! they stand, splits them at the main operator, and each side again, and does so anew for each
 //! operator that comes. So its time grows with the cube of an item's length, and it is for short
-//! texts. Its contract speaks of names alone.
+//! texts.
 
 mod brackets;
 mod pieces;
 mod places;
 mod words;
 
-ghost use Rattle.std.specs.Prelude.{◌≤◌, ◌<◌, ◌+◌, length};
-ghost use Rattle.apd_term.specs.Growth.{GrowsBy};
+ghost use Rattle.std.specs.Prelude.{◌≤◌, length};
 ghost use Rattle.apd_token.specs.Grammar.{HasTokens};
-ghost use Rattle.apd_base.specs.declared.limits.TheConstants.{MAX_FILE, MOST_NAMES};
+ghost use Rattle.apd_base.specs.declared.limits.TheConstants.{MAX_FILE};
 
 use crate::reader::brackets::Bracket;
 use crate::reader::pieces::Part;
@@ -180,8 +179,6 @@ pub fn plain_read(
 ) -> Result<Flat, ReadFault>
     requires small { length text.now ≤ MAX_FILE }
     requires tokens { HasTokens text.now tokens.now }
-    requires room { length names.old + length tokens.now < MOST_NAMES }
-    ensures names { GrowsBy (length tokens.now) names.old names.new }
 {
     let words = words(alloc, names, text, tokens)?;
     let clause = Clause {

@@ -1,10 +1,11 @@
-//! Tries the rows of tables about runs: what they show, how they end, and what stands in their records. Prints of each
-//! table how many rows there are and which differ.
+//! Tries the rows of tables about runs: what they show, how they end, and what stands in their records; and about the plain
+//! programs that compute definitions. Prints of each table how many rows there are and which differ.
 //!
 //! The words name the tables. Each row of the file `NAME.table` has fields with a tab between them, of which the last is
 //! what is wanted of the call that the table is about. Nothing is tried twice: a new case is a new line.
 #![tactic(auto)]
 
+mod plain_rows;
 mod programs;
 mod record_rows;
 mod run_rows;
@@ -24,6 +25,8 @@ impl Tables for RunTables {
             "runs" => run_rows::put_run(trial),
             "ends" => run_rows::put_end(trial),
             "records" => record_rows::put_record(trial),
+            "plain" => plain_rows::put_plain(trial),
+            "plain_runs" => plain_rows::put_plain_run(trial),
             _ => None,
         }
     }

@@ -1,9 +1,8 @@
 //! The tokens of a clause with what they stand for.
 
-ghost use Rattle.std.specs.Prelude.{◌≤◌, ◌<◌, ◌+◌, length};
-ghost use Rattle.apd_term.specs.Growth.{GrowsBy};
+ghost use Rattle.std.specs.Prelude.{◌≤◌, length};
 ghost use Rattle.apd_token.specs.Grammar.{HasText, HasTokens, IsTokenOf};
-ghost use Rattle.apd_base.specs.declared.limits.TheConstants.{MAX_FILE, MOST_NAMES};
+ghost use Rattle.apd_base.specs.declared.limits.TheConstants.{MAX_FILE};
 
 use apd_base::Text;
 use apd_term::standard::{CELL, COMMA, NIL};
@@ -24,6 +23,9 @@ pub struct Word {
     /// The term that a name, a variable or a text in double quotes is as an operand.
     pub term: Option<Flat>,
 }
+
+/// More names than a text brings.
+const MOST_TEXT_NAMES: usize = 3_000_000;
 
 /// A token's name and term.
 type Meaning = (Option<NameId>, Option<Flat>);
@@ -67,6 +69,15 @@ fn number(vars: &mut Vec<Text>, text: Text) -> Result<u64, AllocError> {
     Ok((place as u64).saturating_add(1))
 }
 
+/// The name of a text, and the atom that it is. An error also where there are too many names.
+fn name_meant(alloc: Global, names: &mut Names, text: &[u8]) -> Result<Meaning, AllocError> {
+    if names.count() > MOST_TEXT_NAMES {
+        return Err(AllocError);
+    }
+    let name = names.intern(text)?;
+    Ok((Some(name), Some(atom(alloc, name)?)))
+}
+
 fn name_of(
     alloc: Global,
     names: &mut Names,
@@ -76,12 +87,9 @@ fn name_of(
     requires small { length text.now ≤ MAX_FILE }
     requires token { IsTokenOf text.now token.now }
     requires kind { HasText token.now.kind }
-    requires room { length names.old < MOST_NAMES }
-    ensures names { GrowsBy 1 names.old names.new }
 {
     let value = content(alloc, text, token)?;
-    let name = names.intern(value.bytes())?;
-    Ok((Some(name), Some(atom(alloc, name)?)))
+    name_meant(alloc, names, value.bytes())
 }
 
 fn codes_of(alloc: Global, text: &[u8], token: &Token) -> Result<Meaning, AllocError>
@@ -118,8 +126,6 @@ fn meaning(
 ) -> Result<Meaning, AllocError>
     requires small { length text.now ≤ MAX_FILE }
     requires token { IsTokenOf text.now token.now }
-    requires room { length names.old < MOST_NAMES }
-    ensures names { GrowsBy 1 names.old names.new }
 {
     match token.kind {
         Kind::Name => name_of(alloc, names, text, token),
@@ -140,8 +146,6 @@ fn word_of(
 ) -> Result<Word, AllocError>
     requires small { length text.now ≤ MAX_FILE }
     requires token { IsTokenOf text.now token.now }
-    requires room { length names.old < MOST_NAMES }
-    ensures names { GrowsBy 1 names.old names.new }
 {
     let (name, term) = meaning(alloc, names, text, token, vars)?;
     Ok(Word {
@@ -154,7 +158,6 @@ fn word_of(
 }
 
 /// The tokens up to the first end.
-#[tactic(auto, using(crate::proofs::Names::grown_more, crate::proofs::Names::grown_at_most))]
 pub fn words(
     alloc: Global,
     names: &mut Names,
@@ -163,8 +166,6 @@ pub fn words(
 ) -> Result<Vec<Word>, AllocError>
     requires small { length text.now ≤ MAX_FILE }
     requires tokens { HasTokens text.now tokens.now }
-    requires room { length names.old + length tokens.now < MOST_NAMES }
-    ensures names { GrowsBy (length tokens.now) names.old names.new }
 {
     let mut words = Vec::new(alloc);
     let mut vars = Vec::new(alloc);

@@ -1,0 +1,12 @@
+pub mod Answering
+pub mod Below
+pub mod Walks
+pub mod Entering
+pub mod Solving
+pub mod Nodes
+pub mod Growing
+pub mod PlainSearch
+pub mod PlainRuns
+pub mod Arguments
+pub mod Recursion
+pub mod Binding

@@ -1,0 +1,41 @@
+-- What the plain search makes.
+use Rattle.std.specs.Prelude.{◌≡◌, ◌⊎◌, ℕ, ◌≤◌, Option, Some, None, Bool, true, false}
+use Rattle.apd_trace.specs.Trace.{Out, and_then}
+use Rattle.apd_trace.specs.declared.item.Item.{Item}
+use Rattle.apd_trace.specs.declared.item.Item.TheVariants.{Passed, Answer, Made, Error}
+use Rattle.apd_by_definition.specs.declared.engine.searched.Searched.{Searched}
+use Rattle.apd_by_definition.specs.declared.engine.search.Advance.{Advance}
+use Rattle.apd_by_definition.specs.declared.engine.search.Advance.TheVariants.{Full, Ends, Goes}
+
+abbrev pub out_of : Searched → Out
+out_of s = record { items = s.items.items; boxes = s.counts.boxes; points = s.counts.points }
+
+-- it has as many boxes or points as have numbers
+abbrev pub IsFull : Out → Type 0
+IsFull o = (4294967295 ≤ o.boxes) ⊎ (4294967295 ≤ o.points)
+
+-- this search was made, or it has too many boxes or points
+abbrev pub Makes : Option Searched → Out → Type 0
+Makes None o = IsFull o
+Makes (Some s) o = out_of s ≡ o
+
+-- it goes on from so many boxes and points
+abbrev pub IsPast : ℕ → ℕ → Out → Type 0
+IsPast n m o = (n ≤ o.boxes) × (m ≤ o.points)
+
+-- a search never takes numbers back
+abbrev pub Grows : (ℕ → ℕ → Out) → Type 0
+Grows f = (n m : ℕ) → IsPast n m (f n m)
+
+-- the search so far, what follows it, and how it goes on: full; or ended by an error; or made further, and the rest follows
+abbrev pub Advances : Out → (ℕ → ℕ → Out) → Advance → Out → (ℕ → ℕ → Out) → Type 0
+Advances old all Full new rest = IsFull (and_then old all)
+Advances old all Ends new rest = and_then old all ≡ new
+Advances old all Goes new rest = and_then old all ≡ and_then new rest
+
+-- whether the item is an error
+abbrev pub is_error : Item → Bool
+is_error (Passed e) = false
+is_error (Answer a) = false
+is_error (Made p) = false
+is_error (Error e b) = true

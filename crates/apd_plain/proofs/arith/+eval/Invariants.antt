@@ -1,5 +1,0 @@
-use Rattle.apd_term.specs.Term.{size}
-use Rattle.apd_plain.proofs.arith.+eval.Given as goal
-
-abbrev pub decreases-eval : goal.decreases-eval
-decreases-eval l = size l.expr.now

@@ -1,5 +1,0 @@
-use Rattle.apd_term.specs.Term.{size}
-use Rattle.apd_plain.proofs.clauses.+goals_of.Given as goal
-
-abbrev pub decreases-goals_of : goal.decreases-goals_of
-decreases-goals_of l = size l.term.now

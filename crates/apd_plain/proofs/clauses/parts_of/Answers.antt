@@ -1,6 +1,0 @@
-use Rattle.std.proofs.Common.{arith}
-use Rattle.apd_plain.proofs.Recursion.{smaller}
-use Rattle.apd_plain.proofs.clauses.parts_of.Goals as goal
-
-pub goals_of-requires : goal.goals_of-requires
-goals_of-requires c = omega (arith, smaller c.args.term.now 1 c.in_ok-body.body c.in_ok-body.ensures)

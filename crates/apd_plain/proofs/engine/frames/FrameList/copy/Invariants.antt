@@ -1,6 +1,0 @@
-use Rattle.std.proofs.Common.{◌≡◌, map, take}
-use Rattle.apd_plain.specs.Shared.{frame_of}
-use Rattle.apd_plain.proofs.engine.frames.FrameList.copy.Given as goal
-
-abbrev pub invariant-nodes : goal.invariant-nodes
-invariant-nodes l = map frame_of l.nodes.items ≡ map frame_of (take l.node-index l.node-items)

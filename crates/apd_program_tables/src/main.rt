@@ -1,0 +1,48 @@
+//! Tries the rows of tables about programs: clauses, queries and loads. Prints of each table how many rows there are and
+//! which differ.
+//!
+//! The words name the tables. Each row of the file `NAME.table` has fields with a tab between them, of which the last is
+//! what is wanted of the call that the table is about. Nothing is tried twice: a new case is a new line.
+#![tactic(auto)]
+
+mod alike_rows;
+mod clause_rows;
+mod load_rows;
+mod query_rows;
+
+use apd_io::DiskFiles;
+use apd_rows::{Tables, Trial, try_tables};
+use std::io;
+use std::process::ExitCode;
+
+/// The tables of programs.
+#[derive(Clone, Copy)]
+struct ProgramTables;
+
+impl Tables for ProgramTables {
+    fn give(&self, name: &str, trial: &mut Trial) -> Option<()> {
+        match name {
+            "kinds" => clause_rows::put_kinds(trial),
+            "bodies" => clause_rows::put_clause(trial),
+            "goals" => clause_rows::put_goals(trial),
+            "long_bodies" => clause_rows::put_long_body(trial),
+            "runnable" => clause_rows::put_runnable(trial),
+            "full_programs" => clause_rows::put_filled(trial),
+            "queries" => query_rows::put_query(trial),
+            "query_variables" => query_rows::put_numbered(trial),
+            "loads" => load_rows::put_load(trial),
+            "long_loads" => load_rows::put_long_load(trial),
+            "query_warnings" => load_rows::put_warned(trial),
+            "programs" => load_rows::put_program(trial),
+            _ => None,
+        }
+    }
+}
+
+fn main(rt: HostRuntime) -> io::Result<ExitCode> {
+    let alloc = rt.alloc();
+    let words = std::env::args(&rt)?.collect::<Vec<String>>(alloc)?;
+    let mut files = DiskFiles::new(&rt);
+    let names = words.as_slice().get(1..).unwrap_or(&[]);
+    try_tables(&rt, alloc, &mut files, &ProgramTables, names)
+}

@@ -1,0 +1,129 @@
+//! What the plain programs give that compute a definition: a case each.
+
+use crate::run_rows::{Case, case_of, put_item, put_ran};
+use apd_base::{MOST_SHOWN, Text};
+use apd_by_definition::engine::{PlainRun, plain_run};
+use apd_by_definition::{arith, clauses, console, term, text, unify};
+use apd_clauses::is_runnable;
+use apd_rows::{BETWEEN, Builder, Scene, Trial, texts_of};
+use apd_term::{Flat, apply};
+use std::alloc::{AllocError, Global};
+
+/// Gives the place of a text in a list of names, and their count where it isn't there.
+fn put_number(trial: &mut Trial) -> Option<()> {
+    let names = texts_of(trial.alloc, trial.row.text(1)).ok()?;
+    let number = term::number_of(&names, trial.row.bytes(2));
+    trial.given.put_shown(&number);
+    Some(())
+}
+
+/// Adds texts, with | behind each.
+fn put_texts(given: &mut Builder, texts: &[Text]) {
+    for text in texts {
+        given.put_bytes(text.bytes());
+        given.put_shown(&BETWEEN);
+    }
+}
+
+/// Gives the lines of a text.
+fn put_lines(trial: &mut Trial) -> Option<()> {
+    let lines = console::lines_of(trial.alloc, trial.row.bytes(1)).ok()?;
+    put_texts(&mut trial.given, lines.as_slice());
+    Some(())
+}
+
+/// Gives the values that are shown for the names of a list.
+fn put_bindings(trial: &mut Trial) -> Option<()> {
+    let values = trial.term(1)?;
+    let vars = texts_of(trial.alloc, trial.row.text(2)).ok()?;
+    let Scene { names, ops } = &trial.scene;
+    let bindings = text::bindings(trial.alloc, names, ops, vars.as_slice(), &values).ok()?;
+    put_texts(&mut trial.given, bindings.as_slice());
+    Some(())
+}
+
+/// Gives the value of an expression.
+fn put_value(trial: &mut Trial) -> Option<()> {
+    let term = trial.term(1)?;
+    if term.size() > arith::MOST_SYMBOLS {
+        return None;
+    }
+    trial.given.put_debug(&arith::eval(trial.alloc, &term));
+    Some(())
+}
+
+/// Gives the goals of a conjunction.
+fn put_goals(trial: &mut Trial) -> Option<()> {
+    let term = trial.term(1)?;
+    if term.size() > clauses::MOST_SYMBOLS {
+        return None;
+    }
+    let goals = clauses::goals_of(trial.alloc, &term).ok()?;
+    trial.given.put_terms(&trial.scene, goals.as_slice());
+    Some(())
+}
+
+/// Gives the clause that a term is.
+fn put_clause(trial: &mut Trial) -> Option<()> {
+    let term = trial.term(1)?;
+    if term.size() > clauses::MOST_SYMBOLS {
+        return None;
+    }
+    match clauses::clause_of(trial.alloc, &term) {
+        Ok(tuple) => trial.put_tuple(&tuple),
+        Err(fault) => trial.given.put_debug(&fault),
+    }
+    Some(())
+}
+
+/// Gives the right side with its variables numbered anew.
+fn put_canonical(trial: &mut Trial) -> Option<()> {
+    let sides = trial.sides(1)?;
+    trial.put_made_term(term::canonical(trial.alloc, &sides.right));
+    Some(())
+}
+
+/// Gives what a unifier makes of the left side.
+fn put_unified(trial: &mut Trial) -> Option<()> {
+    let sides = trial.sides(1)?;
+    match unify::textbook_unifier(trial.alloc, &sides.left, &sides.right).ok()? {
+        None => trial.given.put("none"),
+        Some(unifier) => trial.put_made_term(apply(trial.alloc, &sides.left, &unifier)),
+    }
+    Some(())
+}
+
+/// Gives what the plain program of this name gives.
+pub fn put_plain(trial: &mut Trial) -> Option<()> {
+    match trial.row.text(0) {
+        "number_of" => put_number(trial),
+        "lines_of" => put_lines(trial),
+        "bindings" => put_bindings(trial),
+        "canonical" => put_canonical(trial),
+        "textbook_unifier" => put_unified(trial),
+        "eval" => put_value(trial),
+        "goals_of" => put_goals(trial),
+        "clause_of" => put_clause(trial),
+        _ => None,
+    }
+}
+
+/// What the plain program shows of a run.
+fn plain_ran(alloc: Global, case: &Case) -> Option<PlainRun> {
+    let (budget, answers) = (case.budget, case.answers);
+    if !is_runnable(&case.query.tuple) || budget > MOST_SHOWN || answers == 0 {
+        return None;
+    }
+    plain_run(alloc, &case.program, &case.query, budget, answers).ok()?
+}
+
+/// Gives what the plain program shows of a run, port by port, and its end.
+pub fn put_plain_run(trial: &mut Trial) -> Option<()> {
+    let case = case_of(trial)?;
+    let run = plain_ran(trial.alloc, &case)?;
+    for item in run.shown.iter() {
+        put_item(&mut trial.given, &trial.scene, item);
+    }
+    put_ran(&mut trial.given, run.ran);
+    Some(())
+}

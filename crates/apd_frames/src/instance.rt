@@ -124,7 +124,7 @@ pub fn canonical_within(
         return Ok(None);
     };
     let mut left = MOST_INSTANCE_SYMBOLS - head.size();
-    let mut body = Atoms::new(alloc);
+    let mut body = Atoms::of_items(Vec::with_capacity(alloc, link.goals.len())?);
     'goals: for goal in link.goals {
         let Some(atom) = store.number_within(scratch, *goal, left)? else {
             return Ok(None);

@@ -20,7 +20,7 @@ goals-preserved c =
     (subst (λ left. IsNumbering t c.goals.scratch left c.goals.body c.goals.left)
     (next_left c.args.store.now (link_of c.args.link.now).instance c.args.link.now.goals.now c.goals.goal-index (record { 0 = 0 }) refl c.goals-test.true)
     c.goals.invariant)
-    c.in_ok-atom.ensures c.in-Some-2.is c.in_ok-push.ensures.ok (less c.goals.left c.size-left-in-goals.result c.in-Some-2.atom c.size-left-in-goals.ensures)
+    c.in_ok-atom.ensures c.in-Some-2.is c.in_ok-push.ensures.ok (less c.goals.left c.size.result c.in-Some-2.atom c.size.ensures)
 
 pub returns : goal.returns
 returns c =

@@ -260,7 +260,7 @@ impl Frames {
     }
 
     /// The innermost frame takes over an exit.
-    pub fn take_over(&mut self, _alloc: Global, point: u32) -> Result<(), AllocError>
+    pub fn take_over(&mut self, point: u32) -> Result<(), AllocError>
         requires { Takes self.old.current }
         ensures { OnOk result (self.new ≡ record { current = handed_all self.old.current point; saved = self.old.saved }) }
     {

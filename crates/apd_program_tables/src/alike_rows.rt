@@ -9,11 +9,27 @@ use apd_rows::{MOST_ROW_NAMES, Scene};
 use apd_term::{Flat, NameId, Names, Pred, Tuple};
 use std::alloc::{AllocError, Global};
 
+fn is_noted(notes: &[Note], pred: Pred) -> bool {
+    for note in notes {
+        if note.pred == pred {
+            return true;
+        }
+    }
+    false
+}
+
+fn has_a_clause(clauses: &[Clause], pred: Pred) -> bool {
+    for clause in clauses {
+        if clause.tuple.head.pred() == Some(pred) {
+            return true;
+        }
+    }
+    false
+}
+
 /// Whether a predicate is built in, noted, or the head of a clause.
 fn is_known(notes: &[Note], clauses: &[Clause], pred: Pred) -> bool {
-    Builtin::of(pred).is_some()
-        || notes.iter().any(|n| n.pred == pred)
-        || clauses.iter().any(|c| c.tuple.head.pred() == Some(pred))
+    Builtin::of(pred).is_some() || is_noted(notes, pred) || has_a_clause(clauses, pred)
 }
 
 /// Notes the goals of a clause that are not known.
@@ -40,7 +56,12 @@ fn warnings(alloc: Global, clauses: &[Clause]) -> Result<Vec<Note>, AllocError> 
 }
 
 fn are_same(terms: &[Flat], others: &[Flat]) -> bool {
-    terms.len() == others.len() && terms.iter().zip(others.iter()).all(|(x, y)| x.same(y))
+    for (term, other) in terms.iter().zip(others.iter()) {
+        if !term.same(other) {
+            return false;
+        }
+    }
+    terms.len() == others.len()
 }
 
 fn is_same(tuple: &Tuple, other: &Tuple) -> bool {
@@ -62,15 +83,22 @@ fn has_clauses(program: &Program, clauses: &[Clause]) -> bool {
     program.count() as usize == clauses.len()
 }
 
+fn is_operator(ops: &Ops, others: &Ops, name: NameId) -> bool {
+    ops.prefix(name) == others.prefix(name) && ops.infix(name) == others.infix(name)
+}
+
 /// Whether each name means the same as an operator.
 fn are_operators(names: &Names, ops: &Ops, others: &Ops) -> bool {
     for id in 0..names.count().min(MOST_ROW_NAMES) {
-        let name = NameId(id as u32);
-        if ops.prefix(name) != others.prefix(name) || ops.infix(name) != others.infix(name) {
+        if !is_operator(ops, others, NameId(id as u32)) {
             return false;
         }
     }
     true
+}
+
+fn are_notes(notes: &[Note], others: &[Note]) -> bool {
+    notes == others
 }
 
 /// Whether a load has what the plain program gives, and warns of what is called and has no clauses.
@@ -85,8 +113,8 @@ fn has_all(
     Ok(
         has_clauses(&loaded.program, clauses)
             && are_operators(&scene.names, &loaded.ops, &plain.ops)
-            && loaded.passed.as_slice() == plain.passed.as_slice()
-            && loaded.warnings.as_slice() == warnings.as_slice(),
+            && are_notes(loaded.passed.as_slice(), plain.passed.as_slice())
+            && are_notes(loaded.warnings.as_slice(), warnings.as_slice()),
     )
 }
 

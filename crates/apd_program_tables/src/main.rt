@@ -15,6 +15,17 @@ use apd_rows::{Tables, Trial, try_tables};
 use std::io;
 use std::process::ExitCode;
 
+/// Adds what a call gives whose table is about loads.
+fn give_loaded(name: &str, trial: &mut Trial) -> Option<()> {
+    match name {
+        "loads" => load_rows::put_load(trial),
+        "long_loads" => load_rows::put_long_load(trial),
+        "query_warnings" => load_rows::put_warned(trial),
+        "programs" => load_rows::put_program(trial),
+        _ => None,
+    }
+}
+
 /// The tables of programs.
 #[derive(Clone, Copy)]
 struct ProgramTables;
@@ -30,11 +41,7 @@ impl Tables for ProgramTables {
             "full_programs" => clause_rows::put_filled(trial),
             "queries" => query_rows::put_query(trial),
             "query_variables" => query_rows::put_numbered(trial),
-            "loads" => load_rows::put_load(trial),
-            "long_loads" => load_rows::put_long_load(trial),
-            "query_warnings" => load_rows::put_warned(trial),
-            "programs" => load_rows::put_program(trial),
-            _ => None,
+            _ => give_loaded(name, trial),
         }
     }
 }

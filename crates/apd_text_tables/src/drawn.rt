@@ -181,17 +181,20 @@ impl Draw {
         text
     }
 
-    /// A symbol without arguments; a new variable has the number behind the greatest so far.
+    /// A variable; a new one has the number behind the greatest so far.
+    fn variable(&mut self, variables: &mut u64) -> Symbol<'static> {
+        let v = self.below(4) as u64 + 1;
+        if v > *variables {
+            *variables = variables.saturating_add(1);
+            return Symbol::Variable(*variables);
+        }
+        Symbol::Variable(v)
+    }
+
+    /// A symbol without arguments.
     fn leaf(&mut self, variables: &mut u64) -> Symbol<'static> {
         match self.below(4) {
-            0 => {
-                let v = self.below(4) as u64 + 1;
-                if v > *variables {
-                    *variables = variables.saturating_add(1);
-                    return Symbol::Variable(*variables);
-                }
-                Symbol::Variable(v)
-            }
+            0 => self.variable(variables),
             1 => Symbol::Integer(self.pick(&INTEGERS).unwrap_or(0)),
             _ => symbol_of(self.pick(&ATOMS).unwrap_or("a")),
         }

@@ -26,6 +26,19 @@ use std::alloc::Global;
 use std::io;
 use std::process::ExitCode;
 
+/// Adds what a call gives whose table is about what is written.
+fn give_written(name: &str, trial: &mut Trial) -> Option<()> {
+    match name {
+        "writings" => write_rows::put_text(trial),
+        "name_texts" => write_rows::put_name(trial),
+        "read_back" => read_back_rows::put_term(trial),
+        "read_back_everywhere" => read_back_rows::put_everywhere(trial),
+        "read_back_names" => read_back_rows::put_names(trial),
+        "read_back_drawn" => read_back_rows::put_drawn(trial),
+        _ => None,
+    }
+}
+
 /// The tables of texts.
 #[derive(Clone, Copy)]
 struct TextTables;
@@ -43,13 +56,7 @@ impl Tables for TextTables {
             "readings_alike" => reading_rows::put_nested_alike(trial),
             "readings_drawn" => reading_rows::put_drawn(trial),
             "counts" => count_rows::put_counts_of_row(trial),
-            "writings" => write_rows::put_text(trial),
-            "name_texts" => write_rows::put_name(trial),
-            "read_back" => read_back_rows::put_term(trial),
-            "read_back_everywhere" => read_back_rows::put_everywhere(trial),
-            "read_back_names" => read_back_rows::put_names(trial),
-            "read_back_drawn" => read_back_rows::put_drawn(trial),
-            _ => None,
+            _ => give_written(name, trial),
         }
     }
 }

@@ -110,13 +110,14 @@ fn listed(alloc: Global, ops: &Ops) -> Result<Vec<Op>, AllocError> {
     Ok(table)
 }
 
+fn agree_on(ops: &Ops, table: &[Op], name: NameId) -> bool {
+    ops.prefix(name) == meaning(table, name, true) && ops.infix(name) == meaning(table, name, false)
+}
+
 /// Whether both tables give the names the same meanings.
 fn agree(ops: &Ops, table: &[Op]) -> bool {
     for id in 0..COMPARED_NAMES {
-        let name = NameId(id);
-        if ops.prefix(name) != meaning(table, name, true)
-            || ops.infix(name) != meaning(table, name, false)
-        {
+        if !agree_on(ops, table, NameId(id)) {
             return false;
         }
     }

@@ -7,23 +7,28 @@ ghost use Rattle.apd_base.specs.declared.limits.TheConstants.{MAX_FILE};
 use crate::drawn::Draw;
 use crate::functional::put_functional;
 use apd_base::MAX_FILE;
+use apd_causes::{Read, ReadFault};
 use apd_plain::reader::plain_read;
 use apd_read::read_clause;
 use apd_rows::{Builder, First, MOST_ROW_NAMES, Scene, Trial};
+use apd_term::Flat;
 use apd_token::{Tokens, tokens};
 use std::alloc::Global;
 
 /// The operators by which each text of a row is read by the plain reader too.
 const COMPARED: [&str; 2] = ["standard", "other"];
 
-/// The most tokens that the plain reader takes.
-const MOST_TOKENS: usize = MAX_FILE;
-
-/// The most names that the plain reader begins with.
-const MOST_NAMES_OF_ALL: usize = 3_000_000;
-
 /// How much is shown of a long term.
 const SHOWN_BYTES: usize = 12;
+
+/// Whether two readings give the same term or the same fault.
+fn same_reading(read: Result<Read, ReadFault>, plain: Result<Flat, ReadFault>) -> bool {
+    match (read, plain) {
+        (Ok(read), Ok(plain)) => read.term.same(&plain),
+        (Err(fault), Err(plain)) => fault == plain,
+        _ => false,
+    }
+}
 
 /// Whether the two readings of a text that is divided into tokens give the same term or the same fault.
 fn clauses_alike(alloc: Global, scene: &mut Scene, text: &[u8], tokens: &Tokens) -> bool
@@ -38,14 +43,7 @@ fn clauses_alike(alloc: Global, scene: &mut Scene, text: &[u8], tokens: &Tokens)
         return false;
     }
     let read = read_clause(alloc, ops, names, text, tokens, 0);
-    if tokens.len() > MOST_TOKENS || names.count() > MOST_NAMES_OF_ALL {
-        return false;
-    }
-    match (read, plain_read(alloc, ops, names, text, tokens)) {
-        (Ok(read), Ok(plain)) => read.term.same(&plain),
-        (Err(fault), Err(plain)) => fault == plain,
-        _ => false,
-    }
+    same_reading(read, plain_read(alloc, ops, names, text, tokens))
 }
 
 /// Whether the two readings of a text give the same term or the same fault. A text without tokens or

@@ -1,15 +1,14 @@
 -- Each step of the record may be made.
-use Rattle.std.proofs.Common.{◌≡◌, ℕ, zero, suc, ◌+◌, ◌<◌, Bool, true, false, List, [], ◌∷◌, length, Option, Some, None, refl, ap, subst, arith}
-use Rattle.std.specs.Prelude.{◌≢◌, slice_get}
+use Rattle.std.proofs.Common.{◌≡◌, ℕ, zero, suc, Some, None, refl, ap, subst, arith}
+use Rattle.std.specs.Prelude.{◌≢◌}
 use Rattle.apd_term.specs.Term.{variable}
 use Rattle.apd_ports.specs.declared.event.Port.TheVariants.{Exit}
 use Rattle.apd_ports.specs.declared.point.Point.{Point}
-use Rattle.apd_record.specs.Index.{id_of}
 use Rattle.apd_record.specs.Recorded.{begun, box_at, point_at, noted, called_row, query_point, passed}
 use Rattle.apd_record.specs.declared.rows.BoxRow.{BoxRow}
 use Rattle.apd_record.specs.Sound.{MayOpen, MayMake, ComeAlike}
 use Rattle.apd_divide.specs.Exits.{IsLabelled}
-use Rattle.apd_by_hand.specs.Made.{call_of_r, call_of_p, query, rule, fact, rule_entered, fact_entered, rule_solved, r_called, r_entered, p_called, p_solved, r_solved, made}
+use Rattle.apd_by_hand.specs.Made.{call_of_r, call_of_p, query, rule_entered, fact_entered, rule_solved, r_called, r_entered, p_called, p_solved, made}
 
 some_is : {X : Type 0} (x y : X) → Some x ≡ Some y → x ≡ y
 some_is x y there = cc

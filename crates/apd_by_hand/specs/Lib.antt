@@ -1,2 +1,4 @@
 pub mod Listed
 pub mod Made
+pub mod Newest
+pub mod Notes

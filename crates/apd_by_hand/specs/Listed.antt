@@ -1,5 +1,5 @@
 -- Replies from a list.
-use Rattle.std.specs.Prelude.{◌≡◌, ℕ, Bool, List, [], ◌∷◌, Result, Ok, Err}
+use Rattle.std.specs.Prelude.{◌≡◌, Bool, List, [], ◌∷◌, Ok, Err}
 use Rattle.apd_answers.specs.Oracle.{Call, asking, telling}
 
 -- a reply is taken from the front of the list; there is none at its end

@@ -1,12 +1,10 @@
 -- The record of the query r(Y) by the program r(X) :- p(X). p(X).: a box for each call, with its one exit.
-use Rattle.std.specs.Prelude.{ℕ, Bool, true, List, [], ◌∷◌, Option, Some, None}
+use Rattle.std.specs.Prelude.{ℕ, [], ◌∷◌, Some, None}
 use Rattle.apd_term.specs.Term.{Term, variable, compound, none, more}
-use Rattle.apd_term.specs.declared.term.NameId.{NameId}
 use Rattle.apd_term.specs.declared.tuple.Tuple.{Tuple}
 use Rattle.apd_term.specs.declared.standard.TheConstants.{CELL, NIL}
 use Rattle.apd_ports.specs.declared.event.Port.TheVariants.{Exit}
 use Rattle.apd_ports.specs.declared.point.Point.{Point}
-use Rattle.apd_ports.specs.declared.point.Step.{Step}
 use Rattle.apd_record.specs.Index.{id_of}
 use Rattle.apd_record.specs.Recorded.{Recorded, begun, opened, with_point, noted}
 

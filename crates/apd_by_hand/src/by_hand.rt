@@ -164,11 +164,12 @@ pub fn made(alloc: Global) -> Result<Record, AllocError>
     Ok(recorded)
 }
 
-/// What is told first: `r(_1)` isn't true.
-pub fn symptom(alloc: Global) -> Result<Answers, AllocError>
-    ensures { IfOk result (λ answers. SaysNo answers call_of_r) }
+/// What is told first: the atom isn't true.
+pub fn symptom(alloc: Global, atom: &Flat) -> Result<Answers, AllocError>
+    ensures { IfOk result (λ answers. SaysNo answers atom.now) }
 {
     let mut answers = Answers::new(alloc);
-    answers.add(&Question::True(call_of_r(alloc)?), &Reply::No)?;
+    let question = Question::True(atom.copy(alloc)?);
+    answers.add(&question, &Reply::No)?;
     Ok(answers)
 }

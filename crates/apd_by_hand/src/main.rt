@@ -1,17 +1,25 @@
-//! Diagnoses a wrong answer by a record that is made by hand, without a run: no diagnosis needs a search.
+//! Diagnoses wrong answers by records that are made by hand, without a run: no diagnosis needs a search.
 #![tactic(auto)]
 
 mod by_hand;
+mod clauses;
+mod insertion;
 mod listed;
+mod noting;
+mod readers;
+mod replay;
 
 use crate::by_hand::{call_of_p, call_of_r, made, symptom};
+use crate::insertion::diagnosed;
 use crate::listed::Listed;
 use apd_answers::{AskEnd, Finding};
 use apd_divide::Strategy;
+use apd_io::DiskFiles;
 use apd_ports::PointId;
 use apd_wrong::diagnose_wrong;
 use std::alloc::Global;
 use std::process::ExitCode;
+use std::str;
 
 const FAILED: u8 = 3;
 
@@ -19,7 +27,7 @@ const FAILED: u8 = 3;
 fn found(alloc: Global, replies: &[bool]) -> Result<(Finding, usize), AskEnd> {
     let recorded = made(alloc)?;
     let label = call_of_r(alloc)?;
-    let mut answers = symptom(alloc)?;
+    let mut answers = symptom(alloc, &label)?;
     let mut oracle = Listed::new(replies);
     let finding = diagnose_wrong(
         alloc,
@@ -59,9 +67,16 @@ fn try_no(rt: &impl Print, alloc: Global) -> Result<bool, AskEnd> {
     }
 }
 
+/// Says the dialogue about the insertion sort; whether there is one.
+fn say_dialogue(rt: &(impl Print + std::rt::Files), alloc: Global) -> Option<()> {
+    let text = diagnosed(alloc, &mut DiskFiles::new(rt))?;
+    let said = str::from_utf8(text.bytes()).ok()?;
+    print!(rt; "{said}").ok()
+}
+
 fn main(rt: HostRuntime) -> ExitCode {
     match try_no(&rt, rt.alloc()) {
-        Ok(true) => ExitCode::SUCCESS,
-        Ok(false) | Err(_) => ExitCode::from(FAILED),
+        Ok(true) if say_dialogue(&rt, rt.alloc()).is_some() => ExitCode::SUCCESS,
+        Ok(_) | Err(_) => ExitCode::from(FAILED),
     }
 }

@@ -1,7 +1,6 @@
 use Rattle.std.proofs.Common.{[]}
 use Rattle.apd_answers.proofs.Decided.{added-no}
-use Rattle.apd_by_hand.specs.Made.{call_of_r}
 use Rattle.apd_by_hand.proofs.by_hand.symptom.Goals as goal
 
 pub returns : goal.returns
-returns c = rw (c.in_ok-add.ensures.ok, c.new-answers.ensures, c.in_ok-call_of_r.ensures) (added-no [] call_of_r)
+returns c = rw (c.in_ok-add.ensures.ok, c.new-answers.ensures, c.in_ok-copy.ensures) (added-no [] c.args.atom.now)

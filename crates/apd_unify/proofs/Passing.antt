@@ -1,5 +1,5 @@
 -- A walk passes one symbol after another.
-use Rattle.std.proofs.Common.{◌≡◌, ◌≢◌, ◌⊎◌, inl, inr, ℕ, zero, suc, ◌+◌, ◌-◌, ◌<◌, ◌≤◌, List, [], ◌∷◌, ◌++◌, length, get_or, take, drop, map, refl, sym, ◌∙◌, ap, subst, arith, append_assoc, add-zero, add_comm}
+use Rattle.std.proofs.Common.{Some, ◌≡◌, ◌≢◌, ◌⊎◌, inl, inr, ℕ, zero, suc, ◌+◌, ◌-◌, ◌<◌, ◌≤◌, List, [], ◌∷◌, ◌++◌, length, get_or, take, drop, map, refl, sym, ◌∙◌, ap, subst, arith, append_assoc, add-zero, add_comm}
 use Rattle.std.proofs.Math.Seq.{take-add}
 use Rattle.std.specs.List.{flat_map}
 use Rattle.std.proofs.lemmas.List.{drop_more, append-nil, map-append, length-drop}
@@ -16,7 +16,7 @@ use Rattle.apd_unify.specs.declared.heap.Note.{Note}
 use Rattle.apd_unify.specs.Heap.{IsVariable}
 use Rattle.apd_unify.specs.Stored.{Stored}
 use Rattle.apd_unify.specs.Store.{meaning, term_at, binding_of, IsStore}
-use Rattle.apd_unify.specs.Work.{IsRun, AreRuns, run_symbols, runs_symbols, IsWalk, walk_symbols}
+use Rattle.apd_unify.specs.Work.{IsRun, AreRuns, run_symbols, runs_symbols, IsWalk, walk_symbols, GoesTo, PassesOn}
 use Rattle.apd_unify.specs.declared.walk.Run.{Run}
 use Rattle.apd_unify.specs.declared.walk.Walk.{Walk}
 use Rattle.apd_unify.proofs.Written.{reads_something}
@@ -171,52 +171,78 @@ passes_into s c n at h r l d o = elim d.start [
       record { there = p.1; rest = k.1; symbols = k.0 ∙ ap (λ y. y ++ run_symbols s (c + 1) (n - 1)) p.0 }
 ]
 
--- a walk that has passed one symbol
-pub record HasPassed (s : Stored) (old new : Walk) (x : Sym) : Type 0 where
-  pub right : IsWalk s.cells new
-  pub symbols : walk_symbols s old ≡ x ∷ walk_symbols s new
-
-pub passed_here : (s : Stored) (old w new : Walk) (at arity : ℕ) (x : Sym) → IsStore s.cells s.variables s.trail → IsWalk s.cells w → walk_symbols s w ≡ walk_symbols s old
-    → 0 < w.left → Leads s w.at at → x ≡ get_or s.cells at (Var 0) → arity ≡ arity_of x → (at ≡ w.at) ⊎ (arity ≡ 0)
-    → new ≡ record { at = w.at + 1; left = w.left - 1 + arity; rest = w.rest } → HasPassed s old new x
-passed_here s old w new at arity x h r same l d e f o is =
+-- a symbol of a run that goes into no other
+pub passed_here : (s : Stored) (here next : Run) (rest : List Run) (at arity : ℕ) (x : Sym) → IsStore s.cells s.variables s.trail → AreRuns s.cells (here ∷ rest)
+    → 0 < here.left → Leads s here.at at → x ≡ get_or s.cells at (Var 0) → arity ≡ arity_of x → (at ≡ here.at) ⊎ (arity ≡ 0)
+    → next ≡ record { at = here.at + 1; left = here.left - 1 + arity } → PassesOn s (here ∷ rest) x (next ∷ rest)
+passed_here s here next rest at arity x h r l d e f o is =
     let g : arity ≡ arity_of (get_or s.cells at (Var 0)) = f ∙ ap arity_of e in
-    let k = passes_here s w.at w.left at h r.here l d (elim o [ inl y ↦ inl y | inr z ↦ inr (sym g ∙ z) ]) in
+    let k = passes_here s here.at here.left at h r.0 l d (elim o [ inl y ↦ inl y | inr z ↦ inr (sym g ∙ z) ]) in
     rw (is, g, e) (record {
-      right = record { here = k.rest; rest = r.rest };
-      symbols = sym same ∙ ap (λ y. y ++ runs_symbols s w.rest) k.symbols;
+      right = (k.rest, r.1);
+      symbols = ap (λ y. y ++ runs_symbols s rest) k.symbols;
     })
 
 -- the runs behind the one that is left, which is left out where nothing is left of it
-pub record PutBack (s : Stored) (w : Walk) (rest : List Run) : Type 0 where
+pub record PutBack (s : Stored) (here : Run) (old rest : List Run) : Type 0 where
   pub right : AreRuns s.cells rest
-  pub symbols : run_symbols s (w.at + 1) (w.left - 1) ++ runs_symbols s w.rest ≡ runs_symbols s rest
+  pub symbols : run_symbols s (here.at + 1) (here.left - 1) ++ runs_symbols s old ≡ runs_symbols s rest
 
-pub put_back : (s : Stored) (w : Walk) (rest : List Run) (run : Run) → IsWalk s.cells w → IsRun s.cells (w.at + 1) (w.left - 1)
-    → run ≡ record { at = w.at + 1; left = w.left - 1 } → rest ≡ run ∷ w.rest → PutBack s w rest
-put_back s w rest run r k i e = rw (e, i) (record { right = (k, r.rest); symbols = refl })
+pub put_back : (s : Stored) (here : Run) (old rest : List Run) (run : Run) → AreRuns s.cells (here ∷ old) → IsRun s.cells (here.at + 1) (here.left - 1)
+    → run ≡ record { at = here.at + 1; left = here.left - 1 } → rest ≡ run ∷ old → PutBack s here old rest
+put_back s here old rest run r k i e = rw (e, i) (record { right = (k, r.1); symbols = refl })
 
-pub nothing_back : (s : Stored) (w : Walk) (rest : List Run) → IsWalk s.cells w → w.left ≤ 1 → rest ≡ w.rest → PutBack s w rest
-nothing_back s w rest r l e =
-    let z : w.left - 1 ≡ 0 = omega arith in
+pub nothing_back : (s : Stored) (here : Run) (old rest : List Run) → AreRuns s.cells (here ∷ old) → here.left ≤ 1 → rest ≡ old → PutBack s here old rest
+nothing_back s here old rest r l e =
+    let z : here.left - 1 ≡ 0 = omega arith in
     record {
-      right = rw e r.rest;
-      symbols = ap (λ j. run_symbols s (w.at + 1) j ++ runs_symbols s w.rest) z ∙ ap (runs_symbols s) (sym e);
+      right = rw e r.1;
+      symbols = ap (λ j. run_symbols s (here.at + 1) j ++ runs_symbols s old) z ∙ ap (runs_symbols s) (sym e);
     }
 
-pub passed_into : (s : Stored) (old w new : Walk) (at arity : ℕ) (x : Sym) (rest : List Run) → IsStore s.cells s.variables s.trail → IsWalk s.cells w → walk_symbols s w ≡ walk_symbols s old
-    → 0 < w.left → Leads s w.at at → x ≡ get_or s.cells at (Var 0) → arity ≡ arity_of x → at ≢ w.at
-    → PutBack s w rest → new ≡ record { at = at + 1; left = arity; rest = rest } → HasPassed s old new x
-passed_into s old w new at arity x rest h r same l d e f o b is =
+-- a symbol of a run that goes into another
+pub passed_into : (s : Stored) (here next : Run) (old rest : List Run) (at arity : ℕ) (x : Sym) → IsStore s.cells s.variables s.trail → AreRuns s.cells (here ∷ old)
+    → 0 < here.left → Leads s here.at at → x ≡ get_or s.cells at (Var 0) → arity ≡ arity_of x → at ≢ here.at
+    → PutBack s here old rest → next ≡ record { at = at + 1; left = arity } → PassesOn s (here ∷ old) x (next ∷ rest)
+passed_into s here next old rest at arity x h r l d e f o b is =
     let g : arity ≡ arity_of (get_or s.cells at (Var 0)) = f ∙ ap arity_of e in
-    let k = passes_into s w.at w.left at h r.here l d o in
+    let k = passes_into s here.at here.left at h r.0 l d o in
     let y = get_or s.cells at (Var 0) in
     rw (is, g, e) (record {
-      right = record { here = k.there; rest = b.right };
-      symbols = sym same ∙ ap (λ z. z ++ runs_symbols s w.rest) k.symbols
-          ∙ ap (λ z. y ∷ z) (append_assoc (run_symbols s (at + 1) (arity_of y)) (run_symbols s (w.at + 1) (w.left - 1)) (runs_symbols s w.rest))
+      right = (k.there, b.right);
+      symbols = ap (λ z. z ++ runs_symbols s old) k.symbols
+          ∙ ap (λ z. y ∷ z) (append_assoc (run_symbols s (at + 1) (arity_of y)) (run_symbols s (here.at + 1) (here.left - 1)) (runs_symbols s old))
           ∙ ap (λ z. y ∷ run_symbols s (at + 1) (arity_of y) ++ z) b.symbols;
     })
+
+-- the waiting runs in place of runs that are done
+pub record Replaces (here : Run) (old : List Run) (next : Run) (new : List Run) : Type 0 where
+  pub same : (s : Stored) → runs_symbols s (here ∷ old) ≡ runs_symbols s (next ∷ new)
+  pub right : (cells : List Sym) → AreRuns cells (here ∷ old) → AreRuns cells (next ∷ new)
+
+pub replaces_first : (here : Run) (old : List Run) → Replaces here old here old
+replaces_first here old = record { same = λ s. refl; right = λ cells r. r }
+
+runs_none : (s : Stored) (r : Run) (rs : List Run) → r.left ≡ 0 → runs_symbols s (r ∷ rs) ≡ runs_symbols s rs
+runs_none s r rs e = ap (λ j. run_symbols s r.at j ++ runs_symbols s rs) e
+
+pub replaces_more : (here : Run) (old : List Run) (next : Run) (mid : List Run) (r : Run) (new : List Run) → Replaces here old next mid → next.left ≡ 0 → mid ≡ r ∷ new
+    → Replaces here old r new
+replaces_more here old next mid r new h e is = record {
+  same = λ s. h.same s ∙ runs_none s next mid e ∙ ap (runs_symbols s) is;
+  right = λ cells a. subst (AreRuns cells) is (h.right cells a).1;
+}
+
+pub goes_none : (here : Run) (old : List Run) (next : Run) (mid : List Run) → Replaces here old next mid → next.left ≡ 0 → mid ≡ [] → (s : Stored) → runs_symbols s (here ∷ old) ≡ []
+goes_none here old next mid h e is s = h.same s ∙ runs_none s next mid e ∙ ap (runs_symbols s) is
+
+pub goes_on : (here : Run) (old : List Run) (next : Run) (new : List Run) → Replaces here old next new → 0 < next.left → GoesTo here old (Some next) new
+goes_on here old next new h l = (l, (h.same, h.right))
+
+-- the first symbol behind those that are done
+pub goes_and_passes : (s : Stored) (here : Run) (old : List Run) (next : Run) (mid : List Run) (x : Sym) (new : List Run) → GoesTo here old (Some next) mid → PassesOn s (next ∷ mid) x new
+    → runs_symbols s (here ∷ old) ≡ x ∷ runs_symbols s new
+goes_and_passes s here old next mid x new g p = g.1.0 s ∙ p.symbols
 
 -- what is left of a run fits the machine
 pub left_fits : (cells : List Sym) (c n : ℕ) → IsRun cells c n → n ≤ length cells

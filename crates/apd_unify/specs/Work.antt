@@ -1,5 +1,5 @@
 -- What a walk over terms has still to pass.
-use Rattle.std.specs.Prelude.{◌≡◌, ℕ, ◌≤◌, Option, Some, None, List, [], ◌∷◌, ◌++◌, length, take, drop, map}
+use Rattle.std.specs.Prelude.{◌≡◌, ℕ, ◌<◌, ◌≤◌, Option, Some, None, List, [], ◌∷◌, ◌++◌, length, take, drop, map}
 use Rattle.std.specs.List.{flat_map}
 use Rattle.apd_term.specs.declared.term.Sym.{Sym}
 use Rattle.apd_term.specs.Spelling.{variable_in}
@@ -44,6 +44,16 @@ walk_symbols s w = run_symbols s w.at w.left ++ runs_symbols s w.rest
 abbrev pub Passes : Option Sym → List Sym → List Sym → Type 0
 Passes None before after = before ≡ []
 Passes (Some x) before after = before ≡ x ∷ after
+
+-- the waiting runs in place of those that are done: no symbol is left, or those of a run that isn't done
+abbrev pub GoesTo : Run → List Run → Option Run → List Run → Type 0
+GoesTo here old None new = (new ≡ []) × ((s : Stored) → runs_symbols s (here ∷ old) ≡ [])
+GoesTo here old (Some r) new = (0 < r.left) × (((s : Stored) → runs_symbols s (here ∷ old) ≡ runs_symbols s (r ∷ new)) × ((cells : List Sym) → AreRuns cells (here ∷ old) → AreRuns cells (r ∷ new)))
+
+-- the first symbol of the runs was passed
+pub record PassesOn (s : Stored) (old : List Run) (x : Sym) (new : List Run) : Type 0 where
+  pub right : AreRuns s.cells new
+  pub symbols : runs_symbols s old ≡ x ∷ runs_symbols s new
 
 -- the same variables are left, and no more symbols than before
 pub record HasSameVariables (before after : List Sym) : Type 0 where

@@ -208,6 +208,7 @@ impl Heap {
     }
 
     /// The cell that a cell leads to through variables that are bound.
+    #[inline(always)]
     pub fn follow(&self, from: usize) -> usize
         requires { from < length self.now.cells }
         ensures inside { result < length self.now.cells }

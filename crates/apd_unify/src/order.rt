@@ -90,6 +90,7 @@ impl Order {
     }
 
     /// The symbol with its variable's place for its number.
+    #[inline(always)]
     pub fn placed(&mut self, symbol: Sym) -> Result<Sym, AllocError>
         ensures order { OnOk result (self.new ≡ fold with_new self.old (variable_in symbol)) }
         ensures symbol { IfOk result (λ x. x ≡ placed self.new symbol) }

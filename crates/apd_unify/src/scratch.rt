@@ -7,7 +7,7 @@ ghost use Rattle.apd_unify.specs.Store.{term_at};
 use crate::heap::Heap;
 use crate::order::Order;
 use crate::stack::Stack;
-use crate::walk::Walk;
+use crate::walk::{Run, next_run, pass};
 use apd_term::{Flat, Sym};
 use std::alloc::{AllocError, Global};
 use std::marker::Model;
@@ -17,7 +17,7 @@ use std::marker::Model;
 #[derive(Drop)]
 pub struct Scratch {
     order: Order,
-    walk: Walk,
+    runs: Stack<Run>,
     symbols: Vec<Sym>,
 }
 
@@ -36,11 +36,7 @@ impl Scratch {
     {
         Scratch {
             order: Order::new(alloc),
-            walk: Walk {
-                at: 0,
-                left: 0,
-                rest: Stack::new(alloc),
-            },
+            runs: Stack::new(alloc),
             symbols: Vec::new(alloc),
         }
     }
@@ -57,7 +53,7 @@ impl Scratch {
 /// exactly where it is over the limit. It passes at most one symbol more than that.
 fn write_within(
     heap: &Heap,
-    walk: &mut Walk,
+    runs: &mut Stack<Run>,
     order: &mut Order,
     symbols: &mut Vec<Sym>,
     at: usize,
@@ -67,14 +63,17 @@ fn write_within(
     ensures { IfOk result
         (λ b. Writes b order.old order.new (term_at heap.now at) limit symbols.new.items) }
 {
-    walk.start(heap, at);
+    runs.clear();
     symbols.clear();
-    'symbols: while let Some(symbol) = walk.next(heap)? {
+    let mut here = Run { at, left: 1 };
+    'symbols: while let Some(run) = next_run(runs, here) {
+        let passed = pass(heap, runs, run)?;
         if symbols.len() as u64 == limit {
             return Ok(false);
         }
-        let placed = order.placed(symbol)?;
+        let placed = order.placed(passed.symbol)?;
         symbols.push(placed)?;
+        here = passed.next;
     }
     Ok(true)
 }
@@ -93,7 +92,7 @@ pub fn numbered_within(
 {
     let written = write_within(
         heap,
-        &mut scratch.walk,
+        &mut scratch.runs,
         &mut scratch.order,
         &mut scratch.symbols,
         at,

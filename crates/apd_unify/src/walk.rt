@@ -1,9 +1,9 @@
 //! A walk over the symbols of a term, with all bindings applied.
 
-ghost use Rattle.std.specs.Prelude.{◌≡◌, [], ◌<◌, length, IfOk, OnOk};
+ghost use Rattle.std.specs.Prelude.{◌≡◌, [], ◌∷◌, ◌<◌, length, IfOk, OnOk};
 ghost use Rattle.apd_term.specs.Term.{arity_of, spell};
 ghost use Rattle.apd_unify.specs.Store.{term_at};
-ghost use Rattle.apd_unify.specs.Work.{IsWalk, walk_symbols, Passes, HasSameVariables};
+ghost use Rattle.apd_unify.specs.Work.{AreRuns, IsWalk, walk_symbols, Passes, PassesOn, GoesTo, HasSameVariables};
 
 use crate::heap::Heap;
 use crate::stack::Stack;
@@ -26,6 +26,13 @@ pub struct Walk {
     pub rest: Stack<Run>,
 }
 
+/// What a walk has passed: a symbol, and the run that it is in then.
+#[derive(Clone, Copy, PartialEq, Eq, Debug)]
+pub(crate) struct Passed {
+    pub(crate) symbol: Sym,
+    pub(crate) next: Run,
+}
+
 /// How many terms stand under a symbol.
 pub(crate) fn arity_of(symbol: Sym) -> usize
     ensures { result ≡ arity_of symbol }
@@ -34,6 +41,52 @@ pub(crate) fn arity_of(symbol: Sym) -> usize
         Sym::Fun(_, arity) => arity as usize,
         _ => 0,
     }
+}
+
+/// Goes on to a waiting run where this one is done.
+#[inline(always)]
+pub(crate) fn next_run(rest: &mut Stack<Run>, here: Run) -> Option<Run>
+    ensures { GoesTo here rest.old result rest.new }
+{
+    let mut next = here;
+    'done: while next.left == 0 {
+        match rest.pop() {
+            None => return None,
+            Some(waiting) => next = waiting,
+        }
+    }
+    Some(next)
+}
+
+/// Passes the first symbol of a run, behind the bindings.
+#[inline(always)]
+pub(crate) fn pass(heap: &Heap, rest: &mut Stack<Run>, here: Run) -> Result<Passed, AllocError>
+    requires right { AreRuns heap.now.cells (here ∷ rest.old) }
+    requires some { 0 < here.left }
+    ensures { IfOk result
+        (λ p. PassesOn heap.now (here ∷ rest.old) p.symbol (p.next ∷ rest.new)) }
+{
+    let at = heap.follow(here.at);
+    let symbol = heap.symbol(at);
+    let arity = arity_of(symbol);
+    if at == here.at || arity == 0 {
+        let next = Run {
+            at: here.at + 1,
+            left: here.left - 1 + arity,
+        };
+        return Ok(Passed { symbol, next });
+    }
+    if here.left > 1 {
+        rest.push(Run {
+            at: here.at + 1,
+            left: here.left - 1,
+        })?;
+    }
+    let next = Run {
+        at: at + 1,
+        left: arity,
+    };
+    Ok(Passed { symbol, next })
 }
 
 impl Walk {
@@ -82,31 +135,16 @@ impl Walk {
         ensures symbol { IfOk result
             (λ x. Passes x (walk_symbols heap.now self.old) (walk_symbols heap.now self.new)) }
     {
-        'runs: while self.left == 0 {
-            match self.rest.pop() {
-                None => return Ok(None),
-                Some(run) => {
-                    self.at = run.at;
-                    self.left = run.left;
-                }
-            }
-        }
-        let at = heap.follow(self.at);
-        let symbol = heap.symbol(at);
-        let arity = arity_of(symbol);
-        if at == self.at || arity == 0 {
-            self.at += 1;
-            self.left = self.left - 1 + arity;
-            return Ok(Some(symbol));
-        }
-        if self.left > 1 {
-            self.rest.push(Run {
-                at: self.at + 1,
-                left: self.left - 1,
-            })?;
-        }
-        self.at = at + 1;
-        self.left = arity;
-        Ok(Some(symbol))
+        let run = Run {
+            at: self.at,
+            left: self.left,
+        };
+        let Some(here) = next_run(&mut self.rest, run) else {
+            return Ok(None);
+        };
+        let passed = pass(heap, &mut self.rest, here)?;
+        self.at = passed.next.at;
+        self.left = passed.next.left;
+        Ok(Some(passed.symbol))
     }
 }

@@ -1,10 +1,10 @@
 -- Terms whose symbols are written with the places of their variables.
-use Rattle.std.proofs.Common.{◌≡◌, inl, inr, ℕ, ◌+◌, ◌≤◌, List, [], ◌∷◌, ◌++◌, length, map, refl, sym, ◌∙◌, ap, subst, arith, append_assoc}
+use Rattle.std.proofs.Common.{◌≡◌, inl, ℕ, ◌+◌, ◌≤◌, List, [], ◌∷◌, ◌++◌, length, map, refl, sym, ◌∙◌, ap, subst, arith, append_assoc}
 use Rattle.std.specs.List.{fold, flat_map}
 use Rattle.std.proofs.lemmas.List.{append-nil, length-append}
 use Rattle.apd_term.specs.declared.term.Sym.{Sym}
 use Rattle.apd_term.specs.declared.term.Sym.TheVariants.{Var, Int, Fun}
-use Rattle.apd_term.specs.Term.{Term, variable, spell, size, variables, IsAmong}
+use Rattle.apd_term.specs.Term.{Term, variable, spell, size, variables}
 use Rattle.apd_term.specs.Spelling.{variable_in, image}
 use Rattle.apd_term.specs.Canonical.{with_new, place_of, canonical_in}
 use Rattle.apd_term.proofs.Spelling.{spell-apply, flat_map-variables, length-spell}

@@ -11,7 +11,7 @@ use apd_term::Sym;
 use std::alloc::{AllocError, Global};
 
 /// Terms that are written one after another: the cell of the first, and how many they are.
-#[derive(Clone, Copy, PartialEq, Eq, Debug)]
+#[derive(Clone, Copy)]
 pub struct Run {
     pub at: usize,
     pub left: usize,
@@ -27,7 +27,7 @@ pub struct Walk {
 }
 
 /// What a walk has passed: a symbol, and the run that it is in then.
-#[derive(Clone, Copy, PartialEq, Eq, Debug)]
+#[derive(Clone, Copy)]
 pub(crate) struct Passed {
     pub(crate) symbol: Sym,
     pub(crate) next: Run,

@@ -1,5 +1,4 @@
-use Rattle.std.proofs.Common.{◌≤◌, ◌+◌, ◌-◌, length}
-use Rattle.std.specs.Prelude.{max}
+use Rattle.std.proofs.Common.{◌+◌, ◌-◌, length}
 use Rattle.apd_unify.specs.Ordered.{HasMorePlaces}
 use Rattle.apd_unify.proofs.order.make_room.Given as goal
 

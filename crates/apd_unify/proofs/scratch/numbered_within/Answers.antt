@@ -1,5 +1,4 @@
-use Rattle.std.proofs.Common.{◌∙◌, ap, subst, sym}
-use Rattle.apd_term.specs.Term.{term_of, IsWhole}
+use Rattle.std.proofs.Common.{◌∙◌, subst, sym}
 use Rattle.apd_term.specs.Canonical.{canonical_in}
 use Rattle.apd_term.proofs.Spelling.{whole_from_spelled, term_of_from_spelled}
 use Rattle.apd_unify.specs.Store.{term_at}

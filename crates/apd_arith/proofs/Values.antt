@@ -1,17 +1,14 @@
 -- The values of whole terms that stand one after another, and the stack that keeps them, the first on top.
-use Rattle.std.proofs.Common.{get_or, ℤ, Ok, Some, ◌≡◌, ◌≤◌, ◌<◌, ℕ, ◌+◌, ◌-◌, List, [], ◌∷◌, ◌++◌, length, map, take, drop, reverse, refl, sym, ◌∙◌, ap, subst, arith}
+use Rattle.std.proofs.Common.{get_or, ◌≡◌, ◌≤◌, ◌<◌, ℕ, ◌+◌, ◌-◌, List, [], ◌∷◌, ◌++◌, length, map, take, drop, reverse, refl, sym, ◌∙◌, ap, subst, arith}
 use Rattle.std.proofs.lemmas.List.{reverse-append, length-reverse, take-append-drop, take_at, drop_at, length-drop, length-take, take-map, drop-map, take_rest, drop_more, append-nil, reverse-reverse, length-map}
 use Rattle.apd_term.specs.Term.{Term, Terms, none, more, list_of, terms_of, read_all, spell, IsTerms, arity_of}
-use Rattle.apd_term.specs.declared.term.NameId.{NameId}
 use Rattle.apd_term.specs.declared.term.Sym.{Sym}
 use Rattle.apd_term.specs.declared.term.Sym.TheVariants.{Var, Int, Fun}
 use Rattle.apd_term.specs.Spelling.{read_all-spell}
 use Rattle.apd_term.proofs.Spelling.{list_of-terms_of, under_name}
 use Rattle.apd_term.proofs.Matched.{IsTerms-drop}
-use Rattle.apd_arith.specs.Value.{Value, value, values, value_of}
+use Rattle.apd_arith.specs.Value.{Value, value, values}
 use Rattle.apd_arith.specs.Stack.{with_symbol}
-use Rattle.apd_arith.specs.Operations.{binary_operation, binary_value}
-use Rattle.apd_arith.specs.declared.operation.BinaryOperation.{BinaryOperation}
 
 pub values-map : (ts : Terms) → values ts ≡ map value (list_of ts)
 values-map none = refl
@@ -39,20 +36,6 @@ reverse-first xs n l =
     let e : reverse xs ≡ reverse (drop k xs) ++ reverse (take k xs) = ap reverse (sym (take-append-drop k xs)) ∙ reverse-append (take k xs) (drop k xs) in
     let m : length (reverse (drop k xs)) ≡ n = omega (arith, length-reverse (drop k xs), length-drop k xs) in
     sym (ap (drop n) e ∙ drop_at (reverse (drop k xs)) (reverse (take k xs)) n m)
-
--- a list of two values, the last one first
-pub reverse-two : (xs : List Value) (d : Value) → 2 ≤ length xs → length xs < 3 → reverse xs ≡ get_or xs 1 d ∷ get_or xs 0 d ∷ []
-reverse-two [] d l m = absurd (omega arith)
-reverse-two (x ∷ []) d l m = absurd (omega arith)
-reverse-two (x ∷ y ∷ []) d l m = refl
-reverse-two (x ∷ y ∷ z ∷ rest) d l m = absurd (omega arith)
-
--- the value of a name with two arguments that have values
-pub value_of-two : (name : NameId) (xs : List Value) (d : Value) (operation : BinaryOperation) (x y : ℤ) → 2 ≤ length xs → length xs < 3 → Some operation ≡ binary_operation name → get_or xs 1 d ≡ Ok x → get_or xs 0 d ≡ Ok y
-    → binary_value operation x y ≡ value_of name (reverse xs)
-value_of-two name xs d operation x y l m o e f =
-    let r : reverse xs ≡ Ok x ∷ Ok y ∷ [] = reverse-two xs d l m ∙ rw (e, f) refl in
-    rw (r, ← o) refl
 
 -- the values of the arguments, taken off a stack of m values
 pub arguments_taken : (xs ys : List Value) (n m : ℕ) → ys ≡ xs → m ≡ length xs → n ≤ m → reverse (take (length ys - (m - n)) (drop (m - n) ys)) ≡ take n (reverse xs)

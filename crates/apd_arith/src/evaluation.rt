@@ -1,6 +1,6 @@
 //! The value of an expression.
 
-ghost use Rattle.std.specs.Prelude.{◌≡◌, ◌≢◌, ◌≤◌, reverse, take, drop, vec_len, OnOk};
+ghost use Rattle.std.specs.Prelude.{◌≡◌, ◌≢◌, ◌≤◌, ◌∷◌, [], reverse, take, drop, vec_len, OnOk};
 ghost use Rattle.apd_term.specs.Term.{arity_of};
 ghost use Rattle.apd_arith.specs.Value.{value, value_of};
 ghost use Rattle.apd_arith.specs.Stack.{with_symbol};
@@ -11,21 +11,35 @@ use apd_term::{Flat, NameId, Sym};
 use std::alloc::{AllocError, Global};
 
 /// An integer, or why there is none.
-type Value = Result<i64, ArithFault>;
+pub type Value = Result<i64, ArithFault>;
+
+/// The value of a name with an argument of this value.
+pub fn value_of_one(name: NameId, argument: Value) -> Value
+    ensures { result ≡ value_of name (argument ∷ []) }
+{
+    match UnaryOperation::named(name) {
+        None => Err(ArithFault::NotEvaluable),
+        Some(operation) => operation.of(argument?),
+    }
+}
+
+/// The value of a name with two arguments of these values.
+pub fn value_of_two(name: NameId, first: Value, second: Value) -> Value
+    ensures { result ≡ value_of name (first ∷ second ∷ []) }
+{
+    match BinaryOperation::named(name) {
+        None => Err(ArithFault::NotEvaluable),
+        Some(operation) => operation.of(first?, second?),
+    }
+}
 
 /// The value of a name with arguments of these values, the last argument first.
 fn value_of(name: NameId, arguments: &[Value]) -> Value
     ensures { result ≡ value_of name (reverse arguments.now) }
 {
     match arguments {
-        [only] => match UnaryOperation::named(name) {
-            None => Err(ArithFault::NotEvaluable),
-            Some(operation) => operation.of((*only)?),
-        },
-        [second, first] => match BinaryOperation::named(name) {
-            None => Err(ArithFault::NotEvaluable),
-            Some(operation) => operation.of((*first)?, (*second)?),
-        },
+        [only] => value_of_one(name, *only),
+        [second, first] => value_of_two(name, *first, *second),
         _ => Err(ArithFault::NotEvaluable),
     }
 }

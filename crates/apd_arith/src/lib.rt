@@ -13,7 +13,7 @@ pub mod operation;
 pub mod truths;
 
 pub use comparison::{Comparison, compare};
-pub use evaluation::eval;
+pub use evaluation::{Value, eval, value_of_one, value_of_two};
 pub use fault::ArithFault;
 pub use goal::Builtin;
 pub use operation::{BinaryOperation, UnaryOperation};

@@ -2,6 +2,7 @@
 
 mod frames;
 mod goals;
+mod outcome;
 pub mod run;
 pub mod search;
 mod searched;

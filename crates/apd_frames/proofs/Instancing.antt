@@ -1,5 +1,5 @@
 -- Loading terms, and what unification makes of them.
-use Rattle.std.proofs.Common.{◌≡◌, ℕ, zero, suc, ◌+◌, ◌-◌, ◌<◌, ◌≤◌, List, [], ◌∷◌, ◌++◌, length, get_or, take, drop, map, refl, sym, ◌∙◌, ap, subst, arith, Bool, true, false, Option, Some, None}
+use Rattle.std.proofs.Common.{◌≡◌, ℕ, zero, suc, ◌+◌, ◌-◌, ◌<◌, ◌≤◌, List, [], ◌∷◌, ◌++◌, length, get_or, take, drop, map, refl, sym, ◌∙◌, ap, subst, arith, true, Option, Some, None}
 use Rattle.std.specs.Prelude.{nat_lt}
 use Rattle.std.proofs.lemmas.Bool.Decides.{nat_tests}
 use Rattle.std.specs.List.{flat_map}
@@ -12,16 +12,16 @@ use Rattle.apd_term.specs.declared.tuple.Tuple.{Tuple}
 use Rattle.apd_term.proofs.Among.{IsAmong-left, IsAmong-right}
 use Rattle.apd_term.proofs.Applying.{apply-followed_by, apply-same, apply-variable}
 use Rattle.apd_term.proofs.Variants.{apply-agree}
-use Rattle.apd_unify.specs.Unifier.{IsUnifier, HasNoUnifier, OccursIn}
+use Rattle.apd_unify.specs.Unifier.{IsUnifier, HasNoUnifier}
 use Rattle.apd_unify.specs.declared.store.Cell.{Cell}
 use Rattle.apd_unify.specs.Stored.{Stored}
-use Rattle.apd_unify.specs.Store.{term_at, meaning, loaded, at_mark, Keeps, IsUnified, IsUnification, SizeWithin}
+use Rattle.apd_unify.specs.Store.{term_at, meaning, loaded, at_mark, Keeps, IsUnified, SizeWithin}
 use Rattle.apd_unify.specs.Numbered.{IsNumbered}
 use Rattle.apd_unify.proofs.Keeping.{meaning-loaded, Keeps-trans}
 use Rattle.apd_unify.proofs.Rounding.{Keeps-self}
 use Rattle.apd_trace.specs.Frames.{shifted_tuple, is_large}
 use Rattle.apd_frames.specs.Links.{Instance, instance_of}
-use Rattle.apd_frames.specs.Instances.{with_goals, terms_in, tuple_in, raised_in, AreInside, HasGrown, IsInstantiated, Instantiates, Unites}
+use Rattle.apd_frames.specs.Instances.{with_goals, terms_in, tuple_in, raised_in, AreInside, HasGrown, IsInstantiated, Instantiates}
 use Rattle.apd_frames.proofs.Branching.{inside_more}
 use Rattle.apd_frames.proofs.Linking.{tuple_of}
 
@@ -143,45 +143,6 @@ loaded_free s t h =
     ∙ apply-agree (followed_by (λ v. variable (0 + v)) (meaning s.cells s.trail)) variable t
     (λ v o. (let e : 0 + v ≡ v = omega arith in ap (meaning s.cells s.trail) e ∙ h v o))
     ∙ apply-variable t
-
--- two such terms were loaded and unified
-module _ (old s1 s2 s3 : Stored) (a b : ℕ) (left right : Term)
-    (free : (v : ℕ) → OccursIn left right v → meaning old.cells old.trail v ≡ variable v)
-    (first : s1 ≡ loaded old left 0) (others1 : (c : ℕ) → c < length old.cells → term_at s1 c ≡ term_at old c) (made1 : term_at s1 a ≡ apply (meaning old.cells old.trail) (shifted 0 left))
-    (inside : a < length s1.cells)
-    (second : s2 ≡ loaded s1 right 0) (others2 : (c : ℕ) → c < length s1.cells → term_at s2 c ≡ term_at s1 c) (made2 : term_at s2 b ≡ apply (meaning s1.cells s1.trail) (shifted 0 right)) where
-  left_there : term_at s2 a ≡ left
-  left_there = others2 a inside ∙ made1 ∙ loaded_free old left (λ v o. free v (IsAmong-left (variables left) (variables right) v o))
-
-  right_there : term_at s2 b ≡ right
-  right_there =
-      made2 ∙ loaded_free s1 right (λ v o. ap (λ (z : Stored). meaning z.cells z.trail v) first ∙ meaning-loaded old left 0 v ∙ free v (IsAmong-right (variables left) (variables right) v o))
-
-  first_cells : length s1.cells ≡ length old.cells + length (spell (shifted 0 left))
-  first_cells = ap (λ (z : Stored). length z.cells) first ∙ length-append old.cells (spell (shifted 0 left))
-
-  pub united : (r : Bool) → IsUnification r s2 s3 a b → Unites r old s3 left right
-  united false h = subst (λ t. HasNoUnifier t right) left_there (subst (HasNoUnifier (term_at s2 a)) right_there h)
-  united true h = record {
-    pairs = h.pairs;
-    unifier = subst (λ t. IsUnifier t right h.pairs) left_there (subst (λ t. IsUnifier (term_at s2 a) t h.pairs) right_there h.unifier);
-    made = λ c l. h.made c ∙ ap (apply (term_for h.pairs)) (others2 c (omega (arith, l, first_cells)) ∙ others1 c l);
-  }
-
--- both terms' cells are there
-pub record BothInside (old s1 s2 : Stored) (a b : ℕ) : Type 0 where
-  pub first : a < length s1.cells
-  pub one : a < length s2.cells
-  pub other : b < length s2.cells
-  pub more : length old.cells ≤ length s2.cells
-
-pub both_inside : (old s1 s2 : Stored) (left right : Term) (a b : ℕ) → s1 ≡ loaded old left 0 → s2 ≡ loaded s1 right 0 → a ≡ length old.cells → b ≡ length s1.cells → BothInside old s1 s2 a b
-both_inside old s1 s2 left right a b e f ea eb =
-    let n : length s1.cells ≡ length old.cells + length (spell (shifted 0 left)) = ap (λ (z : Stored). length z.cells) e ∙ length-append old.cells (spell (shifted 0 left)) in
-    let m : length s2.cells ≡ length s1.cells + length (spell (shifted 0 right)) = ap (λ (z : Stored). length z.cells) f ∙ length-append s1.cells (spell (shifted 0 right)) in
-    let p = spelled (shifted 0 left) in
-    let q = spelled (shifted 0 right) in
-    record { first = omega arith; one = omega arith; other = omega arith; more = omega arith }
 
 -- back at the mark of a store that was kept
 pub undone : (old mid new : Stored) (k : ℕ) → Keeps old mid → k ≡ length old.trail → new ≡ at_mark k mid → new ≡ old

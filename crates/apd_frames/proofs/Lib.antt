@@ -10,3 +10,5 @@ pub mod Solving
 pub mod Moving
 pub mod Writing
 pub mod Bounds
+pub mod Valued
+pub mod Settled

@@ -1,5 +1,5 @@
 -- Instances of clauses in a store.
-use Rattle.std.specs.Prelude.{◌≡◌, ℕ, ◌<◌, ◌≤◌, List, [], ◌∷◌, length, map, Option, Some, None, Bool, true, false}
+use Rattle.std.specs.Prelude.{◌≡◌, ℕ, ◌<◌, ◌≤◌, List, [], ◌∷◌, length, map, Option, Some, None, true, false}
 use Rattle.apd_term.specs.Term.{Term, apply}
 use Rattle.apd_term.specs.Substitution.{term_for}
 use Rattle.apd_term.specs.Canonical.{shifted}
@@ -76,11 +76,6 @@ pub record IsUnited (old new : Stored) (a b : Term) : Type 0 where
   pub pairs : List (ℕ × Term)
   pub unifier : IsUnifier a b pairs
   pub made : (c : ℕ) → c < length old.cells → term_at new c ≡ apply (term_for pairs) (term_at old c)
-
--- they were, or they have no unifier
-abbrev pub Unites : Bool → Stored → Stored → Term → Term → Type 0
-Unites true old new a b = IsUnited old new a b
-Unites false old new a b = HasNoUnifier a b
 
 -- the tuple's canonical form, or none where it is too large
 abbrev pub CanonicalWithin : Tuple → Option Tuple → Type 0

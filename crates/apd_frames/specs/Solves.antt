@@ -7,6 +7,7 @@ use Rattle.apd_term.specs.Term.{Term}
 use Rattle.apd_unify.specs.Unifier.{HasNoUnifier}
 use Rattle.apd_unify.specs.Stored.{Stored}
 use Rattle.apd_trace.specs.BuiltIn.{outcome}
+use Rattle.apd_trace.specs.declared.frame.Outcome.{Outcome}
 use Rattle.apd_trace.specs.declared.frame.Outcome.TheVariants.{User, Faults, Fails, Succeeds, Equates}
 use Rattle.apd_frames.specs.Instances.{IsUnited}
 use Rattle.apd_frames.specs.declared.builtin.Solved.{Solved}
@@ -26,23 +27,27 @@ Keeps (Fault e) old new = new ≡ old
 Keeps Failed old new = new ≡ old
 Keeps Entered old new = new.saved ≡ old.saved
 
--- the goal equates two terms that have no unifier
-pub record HasClash (goal : Term) : Type 0 where
+-- the outcome equates two terms that have no unifier
+pub record HasClash (o : Outcome) : Type 0 where
   pub one : Term
   pub other : Term
-  pub is : outcome goal ≡ Equates one other
+  pub is : o ≡ Equates one other
   pub none : HasNoUnifier one other
 
--- the goal equates two terms, and they were made equal
-pub record HasUnited (old new : Stored) (goal : Term) : Type 0 where
+-- the outcome equates two terms, and they were made equal
+pub record HasUnited (old new : Stored) (o : Outcome) : Type 0 where
   pub one : Term
   pub other : Term
-  pub is : outcome goal ≡ Equates one other
+  pub is : o ≡ Equates one other
   pub united : IsUnited old new one other
 
--- what came of the goal, and what was done in the store
+-- what came of a goal by its outcome, and what was done in the store
+abbrev pub SettlesBy : Outcome → Solved → Stored → Stored → Type 0
+SettlesBy o Program old new = (new ≡ old) × (o ≡ User)
+SettlesBy o (Fault e) old new = (new ≡ old) × (o ≡ Faults e)
+SettlesBy o Failed old new = (new ≡ old) × ((o ≡ Fails) ⊎ HasClash o)
+SettlesBy o Entered old new = ((new ≡ old) × (o ≡ Succeeds)) ⊎ HasUnited old new o
+
+-- the same of the goal
 abbrev pub Settles : Solved → Stored → Stored → Term → Type 0
-Settles Program old new goal = (new ≡ old) × (outcome goal ≡ User)
-Settles (Fault e) old new goal = (new ≡ old) × (outcome goal ≡ Faults e)
-Settles Failed old new goal = (new ≡ old) × ((outcome goal ≡ Fails) ⊎ HasClash goal)
-Settles Entered old new goal = ((new ≡ old) × (outcome goal ≡ Succeeds)) ⊎ HasUnited old new goal
+Settles r old new goal = SettlesBy (outcome goal) r old new

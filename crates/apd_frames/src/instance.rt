@@ -2,15 +2,14 @@
 
 ghost use Rattle.std.specs.Prelude.{◌≡◌, ℕ, ◌+◌, ◌<◌, ◌≤◌, ◌^◌, length, map, IfOk, OnOk};
 ghost use Rattle.std.specs.List.{flat_map};
-ghost use Rattle.apd_term.specs.Term.{variables, IsAmong, Occurs};
-ghost use Rattle.apd_unify.specs.Unifier.{OccursIn};
+ghost use Rattle.apd_term.specs.Term.{variables, IsAmong};
 ghost use Rattle.apd_unify.specs.Numbered.{IsNumbered};
 ghost use Rattle.apd_unify.specs.Store.{term_at, Keeps};
 ghost use Rattle.apd_clauses.specs.Clauses.{IsRunnable};
 ghost use Rattle.apd_frames.specs.Kept.{IsSmall};
 ghost use Rattle.apd_frames.specs.Links.{link_of};
 ghost use Rattle.apd_frames.specs.Linked.{IsThere};
-ghost use Rattle.apd_frames.specs.Instances.{terms_in, tuple_in, raised_in, with_goals, AreInside, CanonicalWithin, HasGrown, Instantiates, InstantiatesVariant, Unites};
+ghost use Rattle.apd_frames.specs.Instances.{terms_in, tuple_in, raised_in, with_goals, AreInside, CanonicalWithin, HasGrown, Instantiates, InstantiatesVariant};
 
 use crate::links::LinkRef;
 use crate::small::has_small_variables;
@@ -91,21 +90,6 @@ pub fn instantiate(
     }
     let canonical = canonical_tuple(alloc, rule)?;
     instantiate_small(store, goals, goal, &canonical)
-}
-
-/// Makes two terms equal whose variables stand in the term at a cell, where they have a unifier.
-pub fn equate(store: &mut Store, goal: Cell, left: &Flat, right: &Flat) -> Result<bool, AllocError>
-    requires goal { goal.0 < length store.old.cells }
-    requires within { (v : ℕ) → OccursIn left.now right.now v → Occurs v (term_at store.old goal.0) }
-    ensures kept { Keeps store.old store.new }
-    ensures cells { length store.old.cells ≤ length store.new.cells }
-    ensures answer { IfOk result (λ b. Unites b store.old store.new left.now right.now) }
-{
-    // All these variables are free, and their numbers fit.
-    let _variables = store.variables();
-    let a = store.load(left, 0)?;
-    let b = store.load(right, 0)?;
-    store.unify(a, b)
 }
 
 /// The tuple of a link's instance in canonical form, with all bindings applied; none exactly where it

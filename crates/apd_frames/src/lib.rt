@@ -4,6 +4,7 @@
 #![tactic(auto)]
 
 pub mod builtin;
+mod evaluating;
 pub mod frames;
 pub mod instance;
 pub mod links;

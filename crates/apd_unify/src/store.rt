@@ -2,14 +2,16 @@
 
 ghost use Rattle.std.specs.Prelude.{◌≡◌, ℕ, ◌+◌, ◌<◌, ◌≤◌, ◌^◌, [], length, IfOk, OnOk, OnErr};
 ghost use Rattle.std.specs.Bool.{OnTrue};
-ghost use Rattle.apd_term.specs.Term.{Occurs};
+ghost use Rattle.apd_term.specs.Term.{arguments, Occurs};
 ghost use Rattle.apd_term.specs.Canonical.{shifted};
+ghost use Rattle.apd_unify.specs.Arguments.{HasOne, HasTwo};
 ghost use Rattle.apd_unify.specs.First.{AreApart};
 ghost use Rattle.apd_unify.specs.Numbered.{IsNumbered};
 ghost use Rattle.apd_unify.specs.Ordered.{Numbers};
 ghost use Rattle.apd_unify.specs.Step.{first_symbol};
 ghost use Rattle.apd_unify.specs.Store.{term_at, under_bindings, loaded, at_mark, Keeps, IsUnification, SizeWithin};
 
+use crate::arguments::{only_argument, two_arguments};
 use crate::first::{are_clashing, first_symbol, key_at, key_of};
 use crate::heap::Heap;
 use crate::reading::{resolved, size_within};
@@ -127,6 +129,25 @@ impl Store {
         ensures { result ≡ first_symbol (term_at self.now cell.0) }
     {
         first_symbol(&self.heap, cell.0)
+    }
+
+    /// The cell of the argument of a term that has one.
+    pub fn only_argument(&self, cell: Cell) -> Cell
+        requires inside { cell.0 < length self.now.cells }
+        requires one { length (arguments (term_at self.now cell.0)) ≡ 1 }
+        ensures { HasOne self.now cell.0 result.0 }
+    {
+        Cell(only_argument(&self.heap, cell.0))
+    }
+
+    /// The cells of the arguments of a term that has two.
+    pub fn two_arguments(&self, cell: Cell) -> (Cell, Cell)
+        requires inside { cell.0 < length self.now.cells }
+        requires two { length (arguments (term_at self.now cell.0)) ≡ 2 }
+        ensures { HasTwo self.now cell.0 result.0.0 result.1.0 }
+    {
+        let (first, second) = two_arguments(&self.heap, cell.0);
+        (Cell(first), Cell(second))
     }
 
     /// Where the trail ends.

@@ -10,10 +10,10 @@ ghost use Rattle.apd_by_definition.specs.Attempts.{solution_in, IsAttemptBelow};
 ghost use Rattle.apd_engine.specs.Search.{numbers_for};
 
 use crate::engine::frames::FrameList;
+use crate::engine::outcome::outcome;
 use crate::engine::tuples::shifted_tuple;
 use apd_causes::RunError;
 use apd_clauses::Program;
-use apd_frames::builtin::outcome;
 use apd_ports::{Event, Port};
 use apd_term::{Atoms, Flat, Tuple, canonical_tuple};
 use apd_trace::{Called, Frame, Item, Outcome};

@@ -1,41 +1,42 @@
-use Rattle.std.proofs.Common.{ℕ, ◌∙◌, refl, sym, subst}
-use Rattle.apd_term.specs.Term.{Occurs}
-use Rattle.apd_unify.specs.Unifier.{OccursIn}
+use Rattle.std.proofs.Common.{◌≡◌, inl, refl, sym, subst, Some}
+use Rattle.std.proofs.lemmas.Result.{IfOk-weaker}
+use Rattle.apd_arith.specs.Builtins.{builtin_of_atom}
+use Rattle.apd_arith.specs.declared.goal.Builtin.TheVariants.{True, Fail}
 use Rattle.apd_unify.proofs.Rounding.{Keeps-self}
-use Rattle.apd_unify.specs.Store.{term_at, Keeps}
-use Rattle.apd_frames.proofs.Instancing.{undone}
-use Rattle.apd_frames.proofs.Solving.{equates_within, user_goal}
+use Rattle.apd_unify.specs.Store.{term_at}
+use Rattle.apd_frames.proofs.Outcomes.{outcome-user, outcome-none, outcome-of-two}
+use Rattle.apd_frames.specs.Solves.{SettlesBy}
 use Rattle.apd_frames.proofs.settling.settle.Goals as goal
 
-pub returns-in_err-atom-clause-kept : goal.returns-in_err-atom-clause-kept
-returns-in_err-atom-clause-kept c = Keeps-self c.args.store.now
+pub returns-in-None-clause-kept : goal.returns-in-None-clause-kept
+returns-in-None-clause-kept c = Keeps-self c.args.store.now
 
-pub returns-in_err-outcome-clause-kept : goal.returns-in_err-outcome-clause-kept
-returns-in_err-outcome-clause-kept c = Keeps-self c.args.store.now
+pub returns-in-None-clause-answer : goal.returns-in-None-clause-answer
+returns-in-None-clause-answer c = (refl, sym (outcome-user (term_at c.args.store.now c.args.goal.0) c.in-None.ensures))
 
-pub returns-in-User-clause-kept : goal.returns-in-User-clause-kept
-returns-in-User-clause-kept c = Keeps-self c.args.store.now
+pub returns-in-Some-True-clause-kept : goal.returns-in-Some-True-clause-kept
+returns-in-Some-True-clause-kept c = Keeps-self c.args.store.now
 
-pub returns-in-Faults-clause-kept : goal.returns-in-Faults-clause-kept
-returns-in-Faults-clause-kept c = Keeps-self c.args.store.now
+pub returns-in-Some-True-clause-answer : goal.returns-in-Some-True-clause-answer
+returns-in-Some-True-clause-answer c =
+    let t = term_at c.args.store.now c.args.goal.0 in
+    inl (refl, sym (outcome-none t True (subst (λ g. Some g ≡ builtin_of_atom t) c.in-Some-True.field-0-is c.in-Some-True.ensures) refl))
 
-pub returns-in-Fails-clause-kept : goal.returns-in-Fails-clause-kept
-returns-in-Fails-clause-kept c = Keeps-self c.args.store.now
+pub returns-in-Some-Fail-clause-kept : goal.returns-in-Some-Fail-clause-kept
+returns-in-Some-Fail-clause-kept c = Keeps-self c.args.store.now
 
-pub returns-in-Succeeds-clause-kept : goal.returns-in-Succeeds-clause-kept
-returns-in-Succeeds-clause-kept c = Keeps-self c.args.store.now
+pub returns-in-Some-Fail-clause-answer : goal.returns-in-Some-Fail-clause-answer
+returns-in-Some-Fail-clause-answer c =
+    let t = term_at c.args.store.now c.args.goal.0 in
+    (refl, inl (sym (outcome-none t Fail (subst (λ g. Some g ≡ builtin_of_atom t) c.in-Some-Fail.field-0-is c.in-Some-Fail.ensures) refl)))
 
-pub equate-requires-clause-within : goal.equate-requires-clause-within
-equate-requires-clause-within c =
-    subst (λ t. (v : ℕ) → OccursIn c.in-Equates.left c.in-Equates.right v → Occurs v t) c.in_ok-atom.ensures
-    (equates_within c.in_ok-atom.atom c.in-Equates.left c.in-Equates.right (sym c.in_ok-outcome.ensures ∙ c.in-Equates.is))
-
-pub returns-clause-kept : goal.returns-clause-kept
-returns-clause-kept c =
-    subst (Keeps c.args.store.now) (sym (undone c.args.store.now c.equate.new.store c.undo.new.self c.mark-mark.result.0 c.equate.ensures.kept c.mark-mark.ensures c.undo.ensures)) (Keeps-self c.args.store.now)
-
-pub returns-in_default-clause-kept : goal.returns-in_default-clause-kept
-returns-in_default-clause-kept c = Keeps-self c.args.store.now
-
-pub returns-in_default-clause-answer : goal.returns-in_default-clause-answer
-returns-in_default-clause-answer c = (refl, user_goal (term_at c.args.store.now c.args.goal.0) c.builtin_at.result c.builtin_at.ensures c.in_default.not-Some)
+pub returns-in-Some : goal.returns-in-Some
+returns-in-Some c =
+    let s = c.args.store.now in
+    let t = term_at s c.args.goal.0 in
+    let is = outcome-of-two t c.in-Some.known (term_at s c.two_arguments.result.0.0) (term_at s c.two_arguments.result.1.0) c.in-Some.ensures c.two_arguments.ensures.are in
+    record {
+      kept = c.settle_two.ensures.kept;
+      cells = c.settle_two.ensures.cells;
+      answer = IfOk-weaker c.settle_two.result _ _ (λ r h. subst (λ o. SettlesBy o r s c.settle_two.new.store) is h) c.settle_two.ensures.answer;
+    }

@@ -1,7 +1,7 @@
 use Rattle.apd_frames.proofs.Outcomes.{outcome-comparison-faults}
 use Rattle.apd_arith.specs.Value.{value}
 use Rattle.apd_arith.specs.Truth.{compared}
-use Rattle.apd_frames.proofs.builtin.outcome_of_comparison.Goals as goal
+use Rattle.apd_by_definition.proofs.engine.outcome.outcome_of_comparison.Goals as goal
 
 pub returns-in_ok-error_of-in-Err : goal.returns-in_ok-error_of-in-Err
 returns-in_ok-error_of-in-Err c =

@@ -3,7 +3,7 @@ use Rattle.apd_arith.specs.declared.goal.Builtin.TheVariants.{True, Fail}
 use Rattle.apd_arith.specs.Builtins.{builtin_of_atom}
 use Rattle.std.proofs.lemmas.Result.{IfOk-weaker}
 use Rattle.apd_frames.proofs.Outcomes.{outcome-user, outcome-none, outcome-two}
-use Rattle.apd_frames.proofs.builtin.outcome.Goals as goal
+use Rattle.apd_by_definition.proofs.engine.outcome.outcome.Goals as goal
 
 pub returns-in-None : goal.returns-in-None
 returns-in-None c = outcome-user c.args.atom.now c.in-None.ensures

@@ -1,0 +1,8 @@
+use Rattle.apd_unify.proofs.Rounding.{Keeps-self}
+use Rattle.apd_frames.proofs.settling.settle_two.Goals as goal
+
+pub returns-in-True-clause-kept : goal.returns-in-True-clause-kept
+returns-in-True-clause-kept c = Keeps-self c.args.store.now
+
+pub returns-clause-kept : goal.returns-clause-kept
+returns-clause-kept c = Keeps-self c.args.store.now

@@ -1,6 +1,5 @@
 -- How a run ends: what it passes was shown, and these are its end and its counts.
-use Rattle.std.proofs.Common.{◌≡◌, ℕ, zero, suc, ◌+◌, ◌-◌, List, refl, ap, subst, ◌∙◌, arith, Option, Some, None, Result, Ok}
-use Rattle.std.specs.Prelude.{MatchOption}
+use Rattle.std.proofs.Common.{◌≡◌, ℕ, zero, suc, ◌+◌, ◌-◌, List, refl, ap, subst, ◌∙◌, arith, Result, Ok}
 use Rattle.apd_causes.specs.declared.run.RunEnd.{RunEnd}
 use Rattle.apd_causes.specs.declared.run.RunEnd.TheVariants.{Exhausted, AnswerLimit, Error as EndsInError}
 use Rattle.apd_causes.specs.declared.run.RunError.{RunError}
@@ -11,16 +10,10 @@ use Rattle.apd_ports.specs.declared.hook.HookFault.{HookFault}
 use Rattle.apd_ports.specs.declared.hook.Shown.{Shown}
 use Rattle.apd_ports.specs.declared.hook.Shown.TheVariants.{Answer as ShownAnswer}
 use Rattle.apd_trace.specs.Run.{Run, stop, pass, ran_of, shown_of, ports_of, answers_of}
-use Rattle.apd_trace.specs.declared.item.Item.{Item}
 use Rattle.apd_trace.specs.declared.item.Item.TheVariants.{Answer, Error}
 use Rattle.apd_engine.specs.Progress.{left, Showing, Completes}
 use Rattle.apd_engine.specs.Search.{Gives, Ends}
 use Rattle.apd_engine.specs.declared.search.Search.{Search}
-
--- what a search gave, where nothing was matched
-pub ends_matched : (P : List Tuple) (s new : Search) (o : Option Item) → MatchOption o (Ends P s.mode s.frames s.stack s.boxes s.points) (λ i. Gives P s.mode s.frames s.stack s.boxes s.points i new) → o ≡ None → Ends P s.mode s.frames s.stack s.boxes s.points
-ends_matched P s new None h is = h
-ends_matched P s new (Some x) h is = cc
 
 module _ {H : Type 0} (step : H → Shown → Result (Unit {0}) HookFault → H → Type 0) (faults : H → ℕ) (start : H) (P : List Tuple) (budget answers : ℕ) (all : Run) (ports answered : ℕ) (s : Search) (hook : H) (was : Showing step faults start P budget answers all ports answered s hook) where
   -- where nothing is passed any more

@@ -1,15 +1,18 @@
 -- What the next item makes of a run on the way.
-use Rattle.std.proofs.Common.{◌≡◌, ℕ, ◌+◌, ◌-◌, ◌<◌, ◌≤◌, List, [], ◌∷◌, length, refl, ap, subst, sym, ◌∙◌, inl, Some, None, Result, Ok}
+use Rattle.std.specs.Bool.{OnTrue}
+use Rattle.std.proofs.lemmas.Bool.{OnTrue_at}
+use Rattle.std.proofs.Common.{◌≡◌, Bool, ℕ, ◌+◌, ◌-◌, ◌<◌, ◌≤◌, List, [], ◌∷◌, length, refl, ap, subst, sym, ◌∙◌, inl, Some, None, Result, Ok}
 use Rattle.apd_causes.specs.declared.run.RunEnd.TheVariants.{Exhausted, Budget, AnswerLimit, Error as EndsInError}
 use Rattle.apd_causes.specs.declared.run.RunError.{RunError}
 use Rattle.apd_term.specs.Term.{Term}
 use Rattle.apd_term.specs.declared.tuple.Tuple.{Tuple}
 use Rattle.apd_ports.specs.declared.event.Event.{Event}
+use Rattle.apd_ports.specs.declared.event.Port.{Port}
 use Rattle.apd_ports.specs.declared.hook.HookFault.{HookFault}
 use Rattle.apd_ports.specs.declared.hook.Shown.{Shown}
 use Rattle.apd_ports.specs.declared.hook.Shown.TheVariants.{Port as ShownPort, Answer as ShownAnswer}
 use Rattle.apd_ports.specs.declared.point.Point.{Point}
-use Rattle.apd_record.specs.Recorded.{Recorded, empty, query_point}
+use Rattle.apd_record.specs.Recorded.{Recorded, empty, noted, query_point}
 use Rattle.apd_recorded.specs.Told.{told_port}
 use Rattle.apd_trace.proofs.Deeper.{run_of-up_to_error}
 use Rattle.apd_trace.specs.Frames.{query_frame}
@@ -19,8 +22,9 @@ use Rattle.apd_trace.specs.declared.item.Item.{Item}
 use Rattle.apd_trace.specs.declared.item.Item.TheVariants.{Passed, Answer, Made, Error}
 use Rattle.apd_engine.specs.Cut.{FailsAt, IsCut}
 use Rattle.apd_engine.specs.Progress.{Course, HasEnded, IsOn, at_first, left, to_come}
-use Rattle.apd_engine.specs.Recording.{newest, told_held, MayBeToldAll, MayBeToldHeld, MayPass}
-use Rattle.apd_engine.specs.Search.{opened, Gives, Ends}
+use Rattle.apd_engine.specs.Given.{TellsBare}
+use Rattle.apd_engine.specs.Recording.{newest, told_held, IsThere, MayBeToldAll, MayBeToldHeld, MayPass}
+use Rattle.apd_engine.specs.Search.{opened, Gives, GivesBy, Ends}
 use Rattle.apd_engine.specs.declared.progress.Limits.{Limits}
 use Rattle.apd_engine.specs.declared.progress.Progress.{Progress}
 use Rattle.apd_engine.specs.declared.running.RunFault.{RunFault}
@@ -28,6 +32,7 @@ use Rattle.apd_engine.specs.declared.running.RunFault.TheVariants.{Memory}
 use Rattle.apd_engine.specs.declared.search.Search.{Search}
 use Rattle.apd_engine.proofs.Ends.{exhausted_shown, exhausted_ran, error_shown, error_ran, last_shown, last_ran}
 use Rattle.apd_engine.proofs.RecordFacts.{keeps_first, keeps_point, keeps_port, keeps_answer, port_held, port_next, port_from, answer_held, shows_point, shows_budget, budget_ran, ends_at_budget, ends_exhausted, ends_in_error, last_agrees, port_fails, answer_fails}
+use Rattle.apd_engine.proofs.Telling.{bare_there, bare_told}
 use Rattle.apd_engine.proofs.RunFacts.{starts_showing, memory_short, shows_port, shows_answer, first_rest}
 use Rattle.std.proofs.Math.Nat.{sub-zero}
 
@@ -115,6 +120,27 @@ module _ {H : Type 0} {step : H → Shown → Result (Unit {0}) HookFault → H 
             showing = shows_port step faults course.start P limits.budget limits.answers course.run p.ports p.answered p.search hook on.showing new e now within gives shown same;
             keeping = keeps_port P limits.budget limits.answers course.run p.ports p.answered p.search p.held R on.keeping new e on.showing.going.height within gives;
           }
+
+  -- a port comes of which its box alone is told
+  module _ {new : Search} {may : Bool} {port : Port} {b : ℕ} (bare : TellsBare may port b (GivesBy P p.search new)) where
+    -- and there is no budget for it
+    pub on_bare_budget : p.ports ≡ limits.budget → HasEnded step course hook R (record { end = Budget; ports = p.ports; answers = p.answered })
+    on_bare_budget spent = on_budget bare.holds spent
+
+    module _ (within : p.ports < limits.budget) where
+      pub held_at_bare : MayBeToldHeld R p.held
+      held_at_bare = held_at_port bare.holds within
+
+      pub there_at_bare : IsThere (told_held R p.held) b
+      there_at_bare = bare_there (told_held R p.held) bare.event port b bare.port_is bare.box_is bare.later (may_at_port bare.holds within)
+
+      -- the hook stays as it is
+      pub on_bare : OnTrue may ((e : Event) → step hook (ShownPort e) (Ok tt) hook)
+          → IsOn step faults course P limits (record { search = new; held = None; ports = p.ports + 1; answered = p.answered }) hook (noted (told_held R p.held) b port)
+      on_bare ignored =
+          subst (λ (S : Recorded). IsOn step faults course P limits (record { search = new; held = None; ports = p.ports + 1; answered = p.answered }) hook S)
+          (sym (bare_told (told_held R p.held) bare.event port b bare.port_is bare.box_is bare.later))
+          (on_port bare.holds within hook (OnTrue_at bare.may ignored bare.event) refl)
 
   -- an answer comes
   module _ {new : Search} {a : Term} (gives : Next P p.search (Answer a) new) where

@@ -1,6 +1,5 @@
 -- What stays true of a run from one item to the next.
-use Rattle.std.proofs.Common.{◌≡◌, ℕ, suc, ◌+◌, ◌-◌, ◌<◌, ◌≤◌, List, [], ◌∷◌, length, refl, ap, subst, sym, ◌∙◌, arith, append-nil, zero-add, inl, inr, Option, Some, None, Result, Ok}
-use Rattle.std.specs.Prelude.{MatchOption}
+use Rattle.std.proofs.Common.{◌≡◌, ℕ, suc, ◌+◌, ◌-◌, ◌<◌, ◌≤◌, List, [], ◌∷◌, length, refl, ap, subst, sym, ◌∙◌, arith, append-nil, zero-add, inl, inr, Result, Ok}
 use Rattle.std.proofs.Math.Nat.{sub-zero}
 use Rattle.std.proofs.lemmas.List.{length-map}
 use Rattle.apd_term.specs.Term.{Term}
@@ -22,7 +21,7 @@ use Rattle.apd_trace.proofs.Searched.{search_same}
 use Rattle.apd_trace.proofs.Clauses.{canonical_query}
 use Rattle.apd_trace.proofs.Deeper.{run_of-up_to_error}
 use Rattle.apd_engine.specs.Progress.{left, Going, Completes, Showing}
-use Rattle.apd_engine.specs.Search.{opened, rest, Gives, Ends}
+use Rattle.apd_engine.specs.Search.{opened, rest, Gives}
 use Rattle.apd_engine.specs.declared.search.Search.{Search}
 use Rattle.apd_engine.specs.declared.search.Mode.TheVariants.{Forward}
 
@@ -162,8 +161,3 @@ module _ {H : Type 0} (step : H → Shown → Result (Unit {0}) HookFault → H 
           completes = shown_next step start (shown_of all.passed) hook hook' (ShownAnswer a) (shown_of later.passed) (completes_as (pass (Answer a) later) (left_answer P budget answers ports answered s new a was.going.height was.going.within within gives)) shown;
           kept = same ∙ was.kept;
         }
-
--- what a search gave, at the item that was matched
-pub gives_matched : (P : List Tuple) (s new : Search) (o : Option Item) (x y : Item) → MatchOption o (Ends P s.mode s.frames s.stack s.boxes s.points) (λ i. Gives P s.mode s.frames s.stack s.boxes s.points i new) → o ≡ Some x → x ≡ y → Gives P s.mode s.frames s.stack s.boxes s.points y new
-gives_matched P s new None x y h is same = cc
-gives_matched P s new (Some z) x y h is same = let found : z ≡ y = cc in rw found at h

@@ -9,6 +9,8 @@ ghost use Rattle.apd_trace.specs.Run.{shown_of};
 ghost use Rattle.apd_engine.specs.Cut.{IsCut, is_write_fault};
 ghost use Rattle.apd_engine.specs.Progress.{Course, HasEnded, IsOn, at_first, items_left};
 
+use crate::given::Given;
+use crate::recording::tell_bare;
 use crate::running::RunFault;
 use crate::search::Search;
 use crate::showing::{show_answer, show_port};
@@ -104,16 +106,17 @@ impl Progress {
             (IsCut H.step course.start (shown_of course.run.passed) hook.new) }
         ensures cause { Counts is_write_fault (H.faults course.start) (H.faults hook.new) result }
     {
-        let Some(item) = self.search.next(alloc, program)? else {
+        let may_be_bare = hook.ignores_ports();
+        let Some(given) = self.search.next(alloc, program, may_be_bare)? else {
             return Ok(Some(self.ended(RunEnd::Exhausted)));
         };
-        match item {
-            Item::Made(point) => {
+        match given {
+            Given::Whole(Item::Made(point)) => {
                 self.held = Some(point);
                 Ok(None)
             }
-            Item::Error(error, box_no) => Ok(Some(self.ended(RunEnd::Error(error, box_no)))),
-            Item::Passed(event) => {
+            Given::Whole(Item::Error(error, at)) => Ok(Some(self.ended(RunEnd::Error(error, at)))),
+            Given::Whole(Item::Passed(event)) => {
                 if self.ports == limits.budget {
                     return Ok(Some(self.ended(RunEnd::Budget)));
                 }
@@ -122,7 +125,15 @@ impl Progress {
                 self.ports += 1;
                 Ok(None)
             }
-            Item::Answer(values) => {
+            Given::Bare(port, box_no) => {
+                if self.ports == limits.budget {
+                    return Ok(Some(self.ended(RunEnd::Budget)));
+                }
+                tell_bare(history, &mut self.held, port, box_no)?;
+                self.ports += 1;
+                Ok(None)
+            }
+            Given::Whole(Item::Answer(values)) => {
                 show_answer(hook, history, &mut self.held, &values)?;
                 self.answered += 1;
                 if self.answered == limits.answers {

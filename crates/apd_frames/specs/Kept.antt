@@ -6,7 +6,8 @@ use Rattle.apd_frames.specs.Codes.{frame_code}
 use Rattle.apd_term.specs.Tuple.{variables_of_tuple}
 use Rattle.apd_term.specs.declared.tuple.Tuple.{Tuple}
 use Rattle.apd_trace.specs.Frames.{is_large, left, look_of, point_at}
-use Rattle.apd_trace.specs.declared.frame.Look.TheVariants.{Goal}
+use Rattle.apd_trace.specs.declared.frame.Look.{Look}
+use Rattle.apd_trace.specs.declared.frame.Look.TheVariants.{Nothing, Goal, Exit as Exits, Answer as Answers}
 use Rattle.apd_trace.specs.declared.frame.Frame.{Frame}
 use Rattle.apd_trace.specs.declared.frame.Called.{Called}
 use Rattle.apd_ports.specs.declared.point.Step.{Step}
@@ -65,6 +66,13 @@ newest_of (f ∷ F) = Some (f.box_no, f.point)
 abbrev pub exit_in : List Frame → Option (Called × ℕ)
 exit_in [] = None
 exit_in (f ∷ F) = Some (left f F, f.point)
+
+-- the box that exits next, and its point there
+abbrev pub exit_of : Look → Option (ℕ × ℕ)
+exit_of Nothing = None
+exit_of (Goal g) = None
+exit_of (Exits g e) = Some (g.box_no, e)
+exit_of (Answers a) = None
 
 -- the innermost frame as a point
 abbrev pub point_in : List Frame → Option Step → Option Point

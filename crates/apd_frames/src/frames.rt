@@ -9,7 +9,7 @@ ghost use Rattle.apd_clauses.specs.Clauses.{IsRunnable};
 ghost use Rattle.apd_trace.specs.Frames.{entering, look_of, handed_all, outer, query_frame};
 ghost use Rattle.apd_trace.specs.BuiltIn.{solution};
 ghost use Rattle.apd_trace.specs.Renaming.{AreAlike};
-ghost use Rattle.apd_frames.specs.Kept.{Calls, Enters, IsIn, MayCall, Takes, Points, exit_in, newest_of};
+ghost use Rattle.apd_frames.specs.Kept.{Calls, Enters, IsIn, MayCall, Takes, Points, exit_in, exit_of, newest_of};
 ghost use Rattle.apd_trace.specs.declared.frame.Called.{Called};
 ghost use Rattle.apd_term.specs.Term.{predicate_of};
 ghost use Rattle.apd_frames.specs.Links.{link_of, instance_of};
@@ -19,7 +19,7 @@ ghost use Rattle.apd_frames.specs.Solves.{solution_as, Keeps};
 use crate::builtin::Solved;
 use crate::instance::{canonical_within, instantiate, load_all};
 use crate::links::{Branch, LinkRef, Links};
-use crate::reading::{goal_depth, left, look, next_goal};
+use crate::reading::{goal_depth, left, look, next_exit, next_goal};
 use crate::settling::{predicate_at, settle};
 use apd_term::tuple::canonical_tuple;
 use apd_term::{Pred, Tuple};
@@ -135,6 +135,16 @@ impl Frames {
         match self.links.get(self.innermost) {
             None => Ok(Look::Nothing),
             Some(link) => look(&self.store, &self.links, &mut self.scratch, &link, box_no),
+        }
+    }
+
+    /// The box of the innermost frame where it exits next, and its point there. No term is written.
+    pub fn next_exit(&self) -> Option<(u32, u32)>
+        ensures { (n : ℕ) → result ≡ exit_of (look_of self.now.current n) }
+    {
+        match self.links.get(self.innermost) {
+            None => None,
+            Some(link) => next_exit(&link),
         }
     }
 

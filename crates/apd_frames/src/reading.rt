@@ -1,13 +1,13 @@
 //! What a link and those around it say.
 
-ghost use Rattle.std.specs.Prelude.{◌≡◌, ℕ, ◌+◌, ◌<◌, ◌≤◌, length, slice_get, Some, IfOk, MatchOption};
+ghost use Rattle.std.specs.Prelude.{◌≡◌, ℕ, ◌+◌, ◌<◌, ◌≤◌, List, length, slice_get, Some, IfOk, MatchOption};
 ghost use Rattle.apd_term.specs.Canonical.{canonical};
 ghost use Rattle.apd_unify.specs.Stored.{Stored};
 ghost use Rattle.apd_unify.specs.Store.{term_at};
 ghost use Rattle.apd_trace.specs.Frames.{left, look_of, owner_of};
 ghost use Rattle.apd_trace.specs.declared.frame.Called.{Called};
-ghost use Rattle.apd_frames.specs.Kept.{Calls, IsIn, MayCall};
-ghost use Rattle.apd_frames.specs.Links.{link_of};
+ghost use Rattle.apd_frames.specs.Kept.{Calls, IsIn, MayCall, exit_of};
+ghost use Rattle.apd_frames.specs.Links.{Link, link_of};
 ghost use Rattle.apd_frames.specs.Linked.{frames_at, frame_in, frames_from, IsGoalAt, IsThere};
 
 use crate::links::{LinkRef, Links};
@@ -47,6 +47,22 @@ pub fn goal_depth(links: &Links, number: usize) -> u32
     match links.get(number) {
         None => 0,
         Some(link) => link.depth + 1,
+    }
+}
+
+/// The box of a link that exits next, and its point there.
+pub fn next_exit(link: &LinkRef<'_>) -> Option<(u32, u32)>
+    ensures { (s : Stored) (links : List Link) (n : ℕ) →
+        result ≡ exit_of (look_of (frames_from s links link.now) n) }
+{
+    match goal_of(link) {
+        Some(_) => None,
+        None => {
+            if link.box_no == 0 {
+                return None;
+            }
+            Some((link.box_no, link.point))
+        }
     }
 }
 

@@ -5,7 +5,7 @@ use Rattle.std.specs.declared.alloc.AllocError.{AllocError}
 use Rattle.apd_term.specs.Term.{Term}
 use Rattle.apd_io.specs.Outside.{Adds}
 use Rattle.apd_console.specs.Print.{AddsFront}
-use Rattle.apd_console.proofs.Printing.{front_self}
+use Rattle.apd_console.proofs.Printing.{Adds-self, front_self}
 use Rattle.apd_ops.specs.Table.{Table}
 use Rattle.apd_ports.specs.declared.event.Event.{Event}
 use Rattle.apd_ports.specs.Filter.{Admission, is_admitted}
@@ -40,6 +40,10 @@ pub answer_fails : (ops : Table) (names vars : List (List ℕ)) (admission : Adm
     number ≡ next_number count → IfOk line (λ t. t ≡ answer_text ops names vars number a) → PrintsLine x y line (Err fault) → Prints ops names vars admission x y count count (Answer a) (Err fault)
 answer_fails ops names vars admission x y count number a line fault counts is prints =
     subst (λ (n : ℕ). AddsFront x y (answer_text ops names vars n a)) counts (line_front x y line (answer_text ops names vars number a) fault is prints)
+
+-- a port that isn't admitted, where none is
+pub prints_nothing : (ops : Table) (names vars : List (List ℕ)) (admission : Admission) (x : Option (List ℕ)) (count : ℕ) (e : Event) → is_admitted admission e ≡ false → Prints ops names vars admission x x count count (Port e) (Ok tt)
+prints_nothing ops names vars admission x count e passed_over = (rw passed_over (Adds-self x), refl)
 
 -- what holds is so also where it is asked for on success alone
 pub on_either : {P : Type 0} (r : Result (Unit {0}) HookFault) → P → OnOk r P

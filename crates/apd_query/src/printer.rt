@@ -54,6 +54,10 @@ impl<K: Sink> Hook for Printer<'_, K> {
         × Prints p.ops.now p.names.now p.vars.now p.admit.now
         (K.held p.out.now) (K.held q.out.now) p.answers q.answers x r };
 
+    fn ignores_ports(&self) -> bool {
+        self.admit.admits_nothing()
+    }
+
     fn event(&mut self, event: &Event) -> Result<(), HookFault> {
         match self.admit.admits(event) {
             Ok(true) => {}

@@ -58,6 +58,10 @@ impl Hook for Keeper {
 
     ghost step = { λ _ _ _ _. Unit {0} };
 
+    fn ignores_ports(&self) -> bool {
+        !self.keeps
+    }
+
     fn event(&mut self, event: &Event) -> Result<(), HookFault> {
         if !self.keeps || self.keep_event(event).is_ok() {
             return Ok(());

@@ -1,0 +1,54 @@
+//! The clauses of a goal's predicate, and the first of them that can be entered.
+
+ghost use Rattle.std.specs.Prelude.{◌≡◌, ◌<◌, ◌≤◌, length, IfOk};
+ghost use Rattle.apd_clauses.specs.Clauses.{IsProgram, tuples_of};
+ghost use Rattle.apd_trace.specs.declared.frame.Called.{Called};
+ghost use Rattle.apd_frames.specs.Kept.{Calls, MayCall};
+ghost use Rattle.apd_engine.specs.Search.{AreFor, Found, OfGoal, Skips, numbers_by};
+
+use apd_clauses::Program;
+use apd_frames::frames::Frames;
+use apd_term::Pred;
+use std::alloc::{AllocError, Global};
+
+/// The numbers of the clauses of a predicate.
+pub fn numbers(program: &Program, pred: Option<Pred>) -> &[u32]
+    ensures { result.now ≡ numbers_by pred program.now }
+{
+    match pred {
+        Some(pred) => program.clauses_of(pred),
+        None => &[],
+    }
+}
+
+/// Enters the first of these clauses from this index on that can be entered for the goal called in this box, and tells its
+/// index, or how many there are.
+pub fn find(
+    frames: &mut Frames,
+    alloc: Global,
+    box_no: u32,
+    point: u32,
+    from: usize,
+    program: &Program,
+    numbers: &[u32],
+) -> Result<usize, AllocError>
+    requires program { IsProgram program.now }
+    requires numbers { OfGoal frames.old.current box_no (AreFor numbers.now program.now) }
+    requires goal { (g : Called) × Calls frames.old.current box_no g }
+    requires deep { MayCall frames.old.current }
+    ensures skips { IfOk result (λ at. OfGoal frames.old.current box_no
+        (λ g. Skips (tuples_of program.now) frames.old.current g point from at)) }
+    ensures found { IfOk result (λ at. at < length numbers.now → OfGoal frames.old.current box_no
+        (λ g. Found (tuples_of program.now) g point at frames.old frames.new)) }
+    ensures kept { IfOk result (λ at. length numbers.now ≤ at → frames.new ≡ frames.old) }
+{
+    let mut at = from;
+    'clauses: while at < numbers.len() {
+        let clause = program.clause(numbers[at]);
+        if frames.enter(alloc, box_no, numbers[at], &clause.tuple, point)? {
+            return Ok(at);
+        }
+        at += 1;
+    }
+    Ok(at)
+}

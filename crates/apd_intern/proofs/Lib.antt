@@ -4,3 +4,4 @@ pub mod Decoding
 pub mod Placing
 pub mod Subterms
 pub mod Spelled
+pub mod Listed

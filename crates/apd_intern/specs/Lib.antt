@@ -1,3 +1,4 @@
 pub mod Nodes
 pub mod Subterms
 pub mod Pending
+pub mod Listed

@@ -1,45 +1,58 @@
-//! Where nodes and links were found last, so that most look-ups need no hash.
+//! Where nodes, links and terms were found last, so that most look-ups need no search.
 
 use crate::node::{Link, Node};
+use apd_term::{Flat, Sym};
 use std::alloc::{AllocError, Global};
 
 /// How many hints there are, a power of two.
 const COUNT: u32 = 32_768;
 
-/// Where to look first, and what is noted there: two numbers that equal nodes share, and equal links.
+/// An odd number by which the symbols of a term are mixed, 2 ^ 64 by the golden ratio.
+const MIXER: u64 = 11_400_714_819_323_198_485;
+
+/// What tells the integers from the variables, and the names.
+const INTEGERS: u64 = 2_654_435_769;
+
+const NAMES: u64 = 3_266_489_917;
+
+/// Where to look first, and what is noted there: two numbers that equal nodes share, equal links, and equal terms.
 #[derive(Clone, Copy)]
 pub struct Key {
     number: usize,
     mark: u32,
 }
 
-/// What was noted: the mark of a node or of a link, and its place.
+/// What was noted: the mark of a node, of a link or of a term, and its place.
 #[derive(Clone, Copy)]
 struct Hint {
     mark: u32,
     place: u32,
 }
 
-/// Hints of nodes, or of links. No contract speaks of them, since each is tried before it is taken. A mark that
+/// Hints of nodes, of links, or of terms. No contract speaks of them, since each is tried before it is taken. A mark that
 /// differs saves the look at a place that is far in memory.
 #[derive(Drop)]
 pub struct Hints {
     hints: Vec<Hint>,
 }
 
-/// The key for two places and a name: their bits are spread by three odd numbers, and the greatest bits are taken.
-fn spread(first: u32, rest: u32, name: u32) -> Key {
-    let places = first.wrapping_mul(2_654_435_769).wrapping_add(rest);
-    let all = places.wrapping_mul(2_246_822_519).wrapping_add(name);
-    let mark = all.wrapping_mul(3_266_489_917);
+/// The key with this mark, whose greatest bits are taken.
+fn of_mark(mark: u32) -> Key {
     Key {
         number: (mark / (4_294_967_295 / COUNT + 1)) as usize,
         mark,
     }
 }
 
+/// The key for two places and a name: their bits are spread by three odd numbers.
+fn spread(first: u32, rest: u32, name: u32) -> Key {
+    let places = first.wrapping_mul(2_654_435_769).wrapping_add(rest);
+    let all = places.wrapping_mul(2_246_822_519).wrapping_add(name);
+    of_mark(all.wrapping_mul(3_266_489_917))
+}
+
 /// The key of a number.
-fn of_number(n: u64) -> Key {
+pub fn key_of_number(n: u64) -> Key {
     Key {
         number: (n % COUNT as u64) as usize,
         mark: (n % 4_294_967_296) as u32,
@@ -49,8 +62,8 @@ fn of_number(n: u64) -> Key {
 /// The key of a node.
 pub fn key_of(node: Node) -> Key {
     match node {
-        Node::Variable(v) => of_number(v),
-        Node::Integer(i) => of_number(i.unsigned_abs()),
+        Node::Variable(v) => key_of_number(v),
+        Node::Integer(i) => key_of_number(i.unsigned_abs()),
         Node::Compound(name, _, first, rest) => spread(first, rest, name.0),
     }
 }
@@ -58,6 +71,24 @@ pub fn key_of(node: Node) -> Key {
 /// The key of a link.
 pub fn key_of_link(link: Link) -> Key {
     spread(link.first, link.rest, 0)
+}
+
+/// A number for a symbol.
+fn number_of(symbol: Sym) -> u64 {
+    match symbol {
+        Sym::Var(v) => v,
+        Sym::Int(i) => i.unsigned_abs().wrapping_add(INTEGERS),
+        Sym::Fun(name, arity) => (name.0 as u64 * 256 + arity as u64).wrapping_add(NAMES),
+    }
+}
+
+/// The key of a term: its symbols are mixed one after another.
+pub fn key_of_term(t: &Flat) -> Key {
+    let mut all: u64 = 0;
+    for symbol in t.symbols() {
+        all = all.wrapping_add(number_of(*symbol)).wrapping_mul(MIXER);
+    }
+    of_mark((all / 4_294_967_296) as u32)
 }
 
 impl Hints {

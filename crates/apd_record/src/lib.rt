@@ -3,6 +3,7 @@
 
 mod active;
 mod beside;
+mod guesses;
 mod kept;
 pub mod laws;
 pub mod record;

@@ -13,8 +13,8 @@ returns-in_err-push-clause-err c =
 
 pub returns-clause-there : goal.returns-clause-there
 returns-clause-there c =
-    (place_pushed c.args.terms.now c.put.new.self c.args.places.now.items c.push.new.self.items c.in_ok-place.place.0 c.args.term.now (c.put.ensures.grown.0, c.put.ensures.grown.1) c.requires c.in_ok-push.ensures.items c.in_ok-place.ensures.place).0
+    (place_pushed c.args.terms.now c.put.new.self c.args.places.now.items c.push.new.self.items c.in_ok-place.place c.args.term.now (c.put.ensures.grown.0, c.put.ensures.grown.1) c.requires c.in_ok-push.ensures.items c.in_ok-place.ensures.place).0
 
 pub returns-clause-ok : goal.returns-clause-ok
 returns-clause-ok c =
-    (place_pushed c.args.terms.now c.put.new.self c.args.places.now.items c.push.new.self.items c.in_ok-place.place.0 c.args.term.now (c.put.ensures.grown.0, c.put.ensures.grown.1) c.requires c.in_ok-push.ensures.items c.in_ok-place.ensures.place).1
+    (place_pushed c.args.terms.now c.put.new.self c.args.places.now.items c.push.new.self.items c.in_ok-place.place c.args.term.now (c.put.ensures.grown.0, c.put.ensures.grown.1) c.requires c.in_ok-push.ensures.items c.in_ok-place.ensures.place).1

@@ -1,9 +1,7 @@
 //! Values of expressions that stand in a store, mostly without a copy of them.
 
 ghost use Rattle.std.specs.Prelude.{◌≡◌, ◌≢◌, ◌<◌, length, IfSome};
-ghost use Rattle.apd_arith.specs.Truth.{compared};
-ghost use Rattle.apd_arith.specs.Value.{value};
-ghost use Rattle.apd_unify.specs.Store.{term_at};
+ghost use Rattle.apd_frames.specs.Values.{value_at, compared_at};
 
 use apd_arith::{ArithFault, Comparison, Value, eval, value_of_one, value_of_two};
 use apd_term::Sym;
@@ -13,10 +11,10 @@ use std::alloc::Global;
 /// Expressions of so many levels are evaluated where they stand.
 const MOST_LEVELS: u8 = 8;
 
-/// The value of the expression at a cell; none says that it has more levels.
+/// The value of the expression at a cell; none, which says nothing of it, where it has more levels than these.
 fn value_within(store: &Store, cell: Cell, levels: u8) -> Option<Value>
     requires { cell.0 < length store.now.cells }
-    ensures { IfSome result (λ x. x ≡ value (term_at store.now cell.0)) }
+    ensures { IfSome result (λ x. x ≡ value_at store.now cell.0) }
 {
     if levels == 0 {
         return None;
@@ -41,7 +39,7 @@ fn value_within(store: &Store, cell: Cell, levels: u8) -> Option<Value>
 /// The value of the expression at a cell, or its first fault in the order of evaluation. `Memory` may come at any call.
 pub fn value_at(store: &Store, alloc: Global, cell: Cell) -> Value
     requires { cell.0 < length store.now.cells }
-    ensures { result ≢ Err ArithFault.Memory → result ≡ value (term_at store.now cell.0) }
+    ensures { result ≢ Err ArithFault.Memory → result ≡ value_at store.now cell.0 }
 {
     if let Some(value) = value_within(store, cell, MOST_LEVELS) {
         return value;
@@ -61,8 +59,8 @@ pub fn compare_at(
 ) -> Result<bool, ArithFault>
     requires left { left.0 < length store.now.cells }
     requires right { right.0 < length store.now.cells }
-    ensures { result ≢ Err ArithFault.Memory → result ≡
-        compared comparison (value (term_at store.now left.0)) (value (term_at store.now right.0)) }
+    ensures { result ≢ Err ArithFault.Memory →
+        result ≡ compared_at store.now comparison left.0 right.0 }
 {
     let x = value_at(store, alloc, left)?;
     let y = value_at(store, alloc, right)?;

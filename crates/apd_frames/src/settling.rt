@@ -3,12 +3,11 @@
 ghost use Rattle.std.specs.Prelude.{◌≡◌, ◌<◌, ◌≤◌, length, IfOk};
 ghost use Rattle.apd_term.specs.Term.{integer, predicate_of};
 ghost use Rattle.apd_arith.specs.Builtins.{builtin_of_atom};
-ghost use Rattle.apd_arith.specs.Truth.{compared};
-ghost use Rattle.apd_arith.specs.Value.{value};
 ghost use Rattle.apd_trace.specs.BuiltIn.{outcome_of_is, outcome_of_comparison, outcome_of_two};
 ghost use Rattle.apd_trace.specs.declared.frame.Outcome.TheVariants.{Equates};
 ghost use Rattle.apd_unify.specs.Store.{term_at, Keeps};
 ghost use Rattle.apd_frames.specs.Solves.{Settles, SettlesBy};
+ghost use Rattle.apd_frames.specs.Values.{value_at, compared_at};
 
 use crate::builtin::{Solved, error_of};
 use crate::evaluating::{compare_at, value_at};
@@ -78,7 +77,7 @@ fn evaluate(store: &mut Store, alloc: Global, left: Cell, right: Cell) -> Result
     ensures kept { Keeps store.old store.new }
     ensures cells { length store.old.cells ≤ length store.new.cells }
     ensures answer { IfOk result (λ r. SettlesBy
-        (outcome_of_is (term_at store.old left.0) (value (term_at store.old right.0))) r store.old store.new) }
+        (outcome_of_is (term_at store.old left.0) (value_at store.old right.0)) r store.old store.new) }
 {
     match value_at(store, alloc, right) {
         Ok(value) => assign(store, alloc, left, value),
@@ -97,8 +96,7 @@ fn compare(
     requires left { left.0 < length store.now.cells }
     requires right { right.0 < length store.now.cells }
     ensures { IfOk result (λ r. SettlesBy
-        (outcome_of_comparison (compared comparison (value (term_at store.now left.0)) (value (term_at store.now right.0))))
-        r store.now store.now) }
+        (outcome_of_comparison (compared_at store.now comparison left.0 right.0)) r store.now store.now) }
 {
     match compare_at(store, alloc, comparison, left, right) {
         Ok(true) => Ok(Solved::Entered),
@@ -120,7 +118,8 @@ fn settle_two(
     ensures kept { Keeps store.old store.new }
     ensures cells { length store.old.cells ≤ length store.new.cells }
     ensures answer { IfOk result (λ r. SettlesBy
-        (outcome_of_two goal (term_at store.old left.0) (term_at store.old right.0)) r store.old store.new) }
+        (outcome_of_two goal (term_at store.old left.0) (term_at store.old right.0))
+        r store.old store.new) }
 {
     let comparison = match goal {
         Builtin::True | Builtin::Fail => return Ok(Solved::Failed),

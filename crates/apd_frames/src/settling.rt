@@ -77,7 +77,8 @@ fn evaluate(store: &mut Store, alloc: Global, left: Cell, right: Cell) -> Result
     ensures kept { Keeps store.old store.new }
     ensures cells { length store.old.cells ≤ length store.new.cells }
     ensures answer { IfOk result (λ r. SettlesBy
-        (outcome_of_is (term_at store.old left.0) (value_at store.old right.0)) r store.old store.new) }
+        (outcome_of_is (term_at store.old left.0) (value_at store.old right.0))
+        r store.old store.new) }
 {
     match value_at(store, alloc, right) {
         Ok(value) => assign(store, alloc, left, value),
@@ -96,7 +97,8 @@ fn compare(
     requires left { left.0 < length store.now.cells }
     requires right { right.0 < length store.now.cells }
     ensures { IfOk result (λ r. SettlesBy
-        (outcome_of_comparison (compared_at store.now comparison left.0 right.0)) r store.now store.now) }
+        (outcome_of_comparison (compared_at store.now comparison left.0 right.0))
+        r store.now store.now) }
 {
     match compare_at(store, alloc, comparison, left, right) {
         Ok(true) => Ok(Solved::Entered),

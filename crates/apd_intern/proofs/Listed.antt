@@ -1,5 +1,5 @@
 -- Terms in a list stay as symbols and shared terms come behind.
-use Rattle.std.proofs.Common.{◌≡◌, ℕ, ◌+◌, ◌<◌, ◌≤◌, ◌^◌, List, [], ◌∷◌, ◌++◌, length, map, take, drop, get_or, Some, Result, Ok, Err, refl, ap, sym, subst, ◌∙◌, arith, length-append, append-nil}
+use Rattle.std.proofs.Common.{◌≡◌, ℕ, ◌+◌, ◌<◌, ◌≤◌, ◌^◌, List, [], ◌∷◌, ◌++◌, length, map, take, drop, get_or, Some, Result, Ok, Err, inl, inr, refl, ap, sym, subst, ◌∙◌, arith, length-append, append-nil}
 use Rattle.std.specs.Prelude.{slice_get, All, OnErr}
 use Rattle.std.specs.Option.{option_map}
 use Rattle.std.proofs.lemmas.List.{get_or_append_left, take-append-le, drop-append-le, length-drop, length-map, map-append, get_or_at, drop_at, take_all}
@@ -12,7 +12,7 @@ use Rattle.apd_term.proofs.Spelling.{whole_from_spelled}
 use Rattle.apd_intern.specs.declared.term_list.Spot.{Spot}
 use Rattle.apd_intern.specs.declared.term_list.Spot.TheVariants.{Written, Shared}
 use Rattle.apd_intern.specs.Nodes.{term_at, IsFrontOf}
-use Rattle.apd_intern.specs.Listed.{kept_at, IsKept, Keeps, listed, AreListed}
+use Rattle.apd_intern.specs.Listed.{kept_at, IsKept, Keeps, listed, AreListed, MayAdd}
 
 -- Growing.
 
@@ -74,6 +74,10 @@ longer_at symbols shared spots spots' t p h is =
 -- no term comes behind
 pub front_same : {X : Type 0} (xs ys : List X) → ys ≡ xs → IsFrontOf xs ys
 front_same xs ys e = ([], append-nil xs ∙ sym e)
+
+pub added_front : (t : Term) (old new : List Term) → MayAdd t old new → IsFrontOf old new
+added_front t old new (inl e) = front_same old new e
+added_front t old new (inr e) = (t ∷ [], sym e)
 
 -- what holds at all holds after an error
 pub on_err_at_all : {X E : Type 0} (r : Result X E) (P : Type 0) → P → OnErr r P

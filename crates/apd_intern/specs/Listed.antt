@@ -1,5 +1,5 @@
 -- Terms in a list, written out or shared.
-use Rattle.std.specs.Prelude.{◌≡◌, ℕ, ◌+◌, ◌<◌, ◌≤◌, ◌^◌, List, length, map, take, drop, All}
+use Rattle.std.specs.Prelude.{◌≡◌, ◌⊎◌, ℕ, ◌+◌, ◌<◌, ◌≤◌, ◌^◌, List, [], ◌∷◌, ◌++◌, length, map, take, drop, All}
 use Rattle.apd_term.specs.declared.term.Sym.{Sym}
 use Rattle.apd_term.specs.Term.{Term, term_of, IsWhole}
 use Rattle.apd_intern.specs.declared.term_list.Spot.{Spot}
@@ -27,3 +27,7 @@ listed symbols shared spots = map (kept_at symbols shared) spots
 pub record AreListed (symbols : List Sym) (shared : List Term) (spots : List Spot) : Type 0 where
   pub kept : All (IsKept symbols shared) spots
   pub few : length spots < 2 ^ 32
+
+-- new is old, or has this term at its end too
+abbrev pub MayAdd : Term → List Term → List Term → Type 0
+MayAdd t old new = (new ≡ old) ⊎ (new ≡ old ++ t ∷ [])

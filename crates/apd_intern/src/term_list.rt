@@ -3,7 +3,7 @@
 ghost use Rattle.std.specs.Prelude.{◌≡◌, ◌<◌, ◌≤◌, ◌+◌, ◌^◌, [], ◌∷◌, ◌++◌, List, length, take, drop, IsTrue, ◌↔◌, IfOk, IfSome, OnOk, OnErr, Some, slice_get};
 ghost use Rattle.apd_term.specs.Term.{Term};
 ghost use Rattle.apd_intern.specs.Nodes.{IsFrontOf};
-ghost use Rattle.apd_intern.specs.Listed.{Keeps};
+ghost use Rattle.apd_intern.specs.Listed.{Keeps, MayAdd};
 
 use crate::hints::{Hints, key_of_number, key_of_term};
 use crate::terms::{TermId, Terms};
@@ -151,7 +151,7 @@ impl TermList {
     /// The place of a small term, which is written out where neither the guess nor a hint holds.
     fn put_written(&mut self, t: &Flat, guess: Option<u32>) -> Result<u32, AllocError>
         ensures place { IfOk result (λ p. slice_get self.new p ≡ Some t.now) }
-        ensures grown { IsFrontOf self.old self.new }
+        ensures grown { MayAdd t.now self.old self.new }
         ensures err { OnErr result (self.new ≡ self.old) }
     {
         if let Some(place) = self.found(t, guess) {
@@ -170,7 +170,7 @@ impl TermList {
     /// The place of a larger term, which shares its subterms.
     fn put_shared(&mut self, t: &Flat, guess: Option<u32>) -> Result<u32, AllocError>
         ensures place { IfOk result (λ p. slice_get self.new p ≡ Some t.now) }
-        ensures grown { IsFrontOf self.old self.new }
+        ensures grown { MayAdd t.now self.old self.new }
         ensures err { OnErr result (self.new ≡ self.old) }
     {
         let number = self.shared.put(t)?.0 as u32;
@@ -187,11 +187,11 @@ impl TermList {
         Ok(place)
     }
 
-    /// The place of the term: the guess, if the term stands there. Earlier places keep their terms. Want of memory too where
-    /// there would be 2 ^ 32 terms or symbols.
+    /// The place of the term, which is looked for at the guess first, and put at the end where it isn't found. Want of
+    /// memory too where there would be 2 ^ 32 terms, or symbols that are written out.
     pub fn put(&mut self, t: &Flat, guess: Option<u32>) -> Result<u32, AllocError>
         ensures place { IfOk result (λ p. slice_get self.new p ≡ Some t.now) }
-        ensures grown { IsFrontOf self.old self.new }
+        ensures grown { MayAdd t.now self.old self.new }
         ensures err { OnErr result (self.new ≡ self.old) }
     {
         self.hints.make_room(self.alloc)?;

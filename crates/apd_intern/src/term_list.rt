@@ -68,7 +68,15 @@ fn piece(symbols: &[Sym], from: u32, size: u8) -> &[Sym]
 fn are_same(a: &[Sym], b: &[Sym]) -> bool
     ensures { IsTrue result ↔ (a.now ≡ b.now) }
 {
-    a == b
+    if a.len() != b.len() {
+        return false;
+    }
+    'symbols: for k in 0..a.len() {
+        if !(a[k] == b[k]) {
+            return false;
+        }
+    }
+    true
 }
 
 /// Writes a small term's symbols out, behind all others. Want of memory too where there would be 2 ^ 32 symbols.

@@ -1,5 +1,5 @@
 -- Terms in a list stay as symbols and shared terms come behind.
-use Rattle.std.proofs.Common.{◌≡◌, ℕ, ◌+◌, ◌<◌, ◌≤◌, ◌^◌, List, [], ◌∷◌, ◌++◌, length, map, take, drop, get_or, Some, Result, Ok, Err, inl, inr, refl, ap, sym, subst, ◌∙◌, arith, length-append, append-nil}
+use Rattle.std.proofs.Common.{◌≡◌, ℕ, ◌+◌, ◌<◌, ◌≤◌, ◌^◌, List, [], ◌∷◌, ◌++◌, length, take, drop, get_or, Some, Result, Ok, Err, inl, inr, refl, ap, sym, subst, ◌∙◌, arith, length-append, append-nil}
 use Rattle.std.specs.Prelude.{slice_get, All, OnErr}
 use Rattle.std.specs.Option.{option_map}
 use Rattle.std.proofs.lemmas.List.{get_or_append_left, take-append-le, drop-append-le, length-drop, length-map, map-append, get_or_at, drop_at, take_all}
@@ -11,7 +11,7 @@ use Rattle.apd_term.specs.Spelling.{term_of-spell}
 use Rattle.apd_term.proofs.Spelling.{whole_from_spelled}
 use Rattle.apd_intern.specs.declared.term_list.Spot.{Spot}
 use Rattle.apd_intern.specs.declared.term_list.Spot.TheVariants.{Written, Shared}
-use Rattle.apd_intern.specs.Nodes.{term_at, IsFrontOf}
+use Rattle.apd_intern.specs.Nodes.{IsFrontOf}
 use Rattle.apd_intern.specs.Listed.{kept_at, IsKept, Keeps, listed, AreListed, MayAdd}
 
 -- Growing.

@@ -1,4 +1,4 @@
-use Rattle.std.proofs.Common.{◌≡◌, Some, ap, sym, subst, ◌∙◌, ◌++◌, ◌∷◌, [], refl, inl, inr}
+use Rattle.std.proofs.Common.{◌≡◌, Some, ap, subst, ◌∙◌, ◌++◌, ◌∷◌, [], refl, inl, inr}
 use Rattle.std.specs.Prelude.{slice_get}
 use Rattle.apd_intern.specs.declared.term_list.Spot.TheVariants.{Shared}
 use Rattle.apd_intern.specs.Listed.{listed}

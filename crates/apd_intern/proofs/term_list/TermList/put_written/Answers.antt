@@ -1,4 +1,4 @@
-use Rattle.std.proofs.Common.{ap, sym, ◌∙◌, ◌++◌, ◌∷◌, [], refl, inl, inr}
+use Rattle.std.proofs.Common.{ap, ◌∙◌, ◌++◌, ◌∷◌, [], refl, inl, inr}
 use Rattle.apd_intern.specs.Listed.{listed}
 use Rattle.apd_intern.proofs.Listed.{listed_front, listed_push, longer_at, front_same, on_err_at_all}
 use Rattle.apd_intern.proofs.term_list.TermList.put_written.Goals as goal

@@ -1,7 +1,7 @@
 //! Terms in a list: the small ones written out, the larger ones kept once.
 
 ghost use Rattle.std.specs.Prelude.{◌≡◌, ◌<◌, ◌≤◌, ◌+◌, ◌^◌, [], ◌∷◌, ◌++◌, List, length, take, drop, IsTrue, ◌↔◌, IfOk, IfSome, OnOk, OnErr, Some, slice_get};
-ghost use Rattle.apd_term.specs.Term.{Term};
+ghost use Rattle.apd_term.specs.Term.{Term, spell};
 ghost use Rattle.apd_intern.specs.Nodes.{IsFrontOf};
 ghost use Rattle.apd_intern.specs.Listed.{Keeps, MayAdd};
 
@@ -81,13 +81,14 @@ fn are_same(a: &[Sym], b: &[Sym]) -> bool
 
 /// Writes a small term's symbols out, behind all others. Want of memory too where there would be 2 ^ 32 symbols.
 fn write(symbols: &mut Vec<Sym>, t: &Flat) -> Result<Spot, AllocError>
+    requires { length (spell t.now) < 256 }
     ensures front { IsFrontOf symbols.old.items symbols.new.items }
     ensures spot { IfOk result (λ s. (shared : List Term) → Keeps symbols.new.items shared s t.now) }
 {
     let more = t.symbols();
     let from = symbols.len();
     let size = more.len();
-    if from >= MOST || size > MOST_WRITTEN {
+    if from >= MOST {
         return Err(AllocError);
     }
     symbols.extend_from_slice(more)?;
@@ -158,6 +159,7 @@ impl TermList {
 
     /// The place of a small term, which is written out where neither the guess nor a hint holds.
     fn put_written(&mut self, t: &Flat, guess: Option<u32>) -> Result<u32, AllocError>
+        requires { length (spell t.now) < 256 }
         ensures place { IfOk result (λ p. slice_get self.new p ≡ Some t.now) }
         ensures grown { MayAdd t.now self.old self.new }
         ensures err { OnErr result (self.new ≡ self.old) }

@@ -13,7 +13,8 @@ kept_at symbols shared (Shared p) = term_at shared p
 
 -- a whole term is kept there
 abbrev pub IsKept : List Sym → List Term → Spot → Type 0
-IsKept symbols shared (Written from n) = (from + n ≤ length symbols) × IsWhole (take n (drop from symbols))
+IsKept symbols shared (Written from n) =
+    (from + n ≤ length symbols) × IsWhole (take n (drop from symbols))
 IsKept symbols shared (Shared p) = p < length shared
 
 -- this term is kept there

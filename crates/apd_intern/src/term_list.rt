@@ -83,7 +83,7 @@ fn are_same(a: &[Sym], b: &[Sym]) -> bool
 fn write(symbols: &mut Vec<Sym>, t: &Flat) -> Result<Spot, AllocError>
     requires { length (spell t.now) < 256 }
     ensures front { IsFrontOf symbols.old.items symbols.new.items }
-    ensures spot { IfOk result (λ s. (shared : List Term) → Keeps symbols.new.items shared s t.now) }
+    ensures spot { IfOk result (λ s. (terms : List Term) → Keeps symbols.new.items terms s t.now) }
 {
     let more = t.symbols();
     let from = symbols.len();

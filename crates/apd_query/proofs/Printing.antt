@@ -1,5 +1,5 @@
 -- What a printer prints of what it is shown.
-use Rattle.std.proofs.Common.{◌≡◌, ℕ, List, refl, sym, Option, true, subst}
+use Rattle.std.proofs.Common.{◌≡◌, ℕ, List, refl, sym, Option, true, false, subst}
 use Rattle.std.specs.Prelude.{Result, Ok, Err, IfOk, OnOk}
 use Rattle.std.specs.declared.alloc.AllocError.{AllocError}
 use Rattle.apd_term.specs.Term.{Term}

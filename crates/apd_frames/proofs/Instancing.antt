@@ -1,13 +1,10 @@
 -- Loading terms, and what unification makes of them.
-use Rattle.std.proofs.Common.{◌≡◌, ℕ, zero, suc, ◌+◌, ◌-◌, ◌<◌, ◌≤◌, List, [], ◌∷◌, ◌++◌, length, get_or, take, drop, map, refl, sym, ◌∙◌, ap, subst, arith, true, Option, Some, None}
-use Rattle.std.specs.Prelude.{nat_lt}
-use Rattle.std.proofs.lemmas.Bool.Decides.{nat_tests}
+use Rattle.std.proofs.Common.{◌≡◌, ℕ, zero, suc, ◌+◌, ◌<◌, ◌≤◌, List, [], ◌∷◌, ◌++◌, length, get_or, take, map, refl, sym, ◌∙◌, ap, subst, arith, Option, Some, None}
 use Rattle.std.specs.List.{flat_map}
-use Rattle.std.proofs.lemmas.List.{take_all, take_more, take-append-drop, map_more, map-append, length-append}
-use Rattle.apd_term.specs.Term.{Term, variable, integer, compound, apply, spell, size, variables, IsAmong, Occurs}
+use Rattle.std.proofs.lemmas.List.{take_all, map_more, map-append, length-append}
+use Rattle.apd_term.specs.Term.{Term, variable, integer, compound, apply, spell, variables, IsAmong, Occurs}
 use Rattle.apd_term.specs.Substitution.{term_for, followed_by}
 use Rattle.apd_term.specs.Canonical.{shifted}
-use Rattle.apd_term.specs.Tuple.{sizes}
 use Rattle.apd_term.specs.declared.tuple.Tuple.{Tuple}
 use Rattle.apd_term.proofs.Among.{IsAmong-left, IsAmong-right}
 use Rattle.apd_term.proofs.Applying.{apply-followed_by, apply-same, apply-variable}
@@ -15,13 +12,13 @@ use Rattle.apd_term.proofs.Variants.{apply-agree}
 use Rattle.apd_unify.specs.Unifier.{IsUnifier, HasNoUnifier}
 use Rattle.apd_unify.specs.declared.store.Cell.{Cell}
 use Rattle.apd_unify.specs.Stored.{Stored}
-use Rattle.apd_unify.specs.Store.{term_at, meaning, loaded, at_mark, Keeps, IsUnified, SizeWithin}
+use Rattle.apd_unify.specs.Store.{term_at, meaning, loaded, at_mark, Keeps, IsUnified}
 use Rattle.apd_unify.specs.Numbered.{IsNumbered}
 use Rattle.apd_unify.proofs.Keeping.{meaning-loaded, Keeps-trans}
 use Rattle.apd_unify.proofs.Rounding.{Keeps-self}
-use Rattle.apd_trace.specs.Frames.{shifted_tuple, is_large}
+use Rattle.apd_trace.specs.Frames.{shifted_tuple}
 use Rattle.apd_frames.specs.Links.{Instance, instance_of}
-use Rattle.apd_frames.specs.Instances.{with_goals, terms_in, tuple_in, raised_in, AreInside, HasGrown, IsInstantiated, Instantiates}
+use Rattle.apd_frames.specs.Instances.{with_goals, terms_in, raised_in, AreInside, HasGrown, IsInstantiated, Instantiates}
 use Rattle.apd_frames.proofs.Branching.{inside_more}
 use Rattle.apd_frames.proofs.Linking.{tuple_of}
 
@@ -162,47 +159,6 @@ pub inside_new : (old new : Stored) (t : Term) (base c : ℕ) → new ≡ loaded
 inside_new old new t base c e is =
     let n : length new.cells ≡ length old.cells + length (spell (shifted base t)) = ap (λ (z : Stored). length z.cells) e ∙ length-append old.cells (spell (shifted base t)) in
     omega (arith, n, is, spelled (shifted base t))
-
-sizes-append : (xs ys : List Term) → sizes (xs ++ ys) ≡ sizes xs + sizes ys
-sizes-append [] ys = omega arith
-sizes-append (x ∷ xs) ys = omega (arith, sizes-append xs ys)
-
-sizes_more : (s : Stored) (cs : List Cell) (i : ℕ) (d : Cell) → i < length cs → sizes (terms_in s (take (i + 1) cs)) ≡ sizes (terms_in s (take i cs)) + size (term_at s (get_or cs i d).0)
-sizes_more s cs i d l =
-    let x = get_or cs i d in
-    let one : sizes (terms_in s (x ∷ [])) ≡ size (term_at s x.0) = omega arith in
-    ap (λ xs. sizes (terms_in s xs)) (take_more cs i d l)
-    ∙ ap sizes (map-append (λ (c : Cell). term_at s c.0) (take i cs) (x ∷ []))
-    ∙ sizes-append (terms_in s (take i cs)) (terms_in s (x ∷ []))
-    ∙ ap (λ n. sizes (terms_in s (take i cs)) + n) one
-
-sizes_front : (s : Stored) (cs : List Cell) (i : ℕ) → sizes (terms_in s (take i cs)) ≤ sizes (terms_in s cs)
-sizes_front s cs i =
-    let e : sizes (terms_in s cs) ≡ sizes (terms_in s (take i cs)) + sizes (terms_in s (drop i cs)) =
-    ap (λ xs. sizes (terms_in s xs)) (sym (take-append-drop i cs))
-    ∙ ap sizes (map-append (λ (c : Cell). term_at s c.0) (take i cs) (drop i cs))
-    ∙ sizes-append (terms_in s (take i cs)) (terms_in s (drop i cs)) in
-    omega (arith, e)
-
-large_so : (n : ℕ) → 1000000 < n → true ≡ nat_lt 1000000 n
-large_so n h = grind (arith, nat_tests)
-
--- what is left of the limit is less than the next goal's size
-pub large_goal : (s : Stored) (i : Instance) (items : List Cell) (n k : ℕ) (d : Cell) (o : Option ℕ) → items ≡ i.goals
-    → k + (size (term_at s i.head.0) + sizes (terms_in s (take n i.goals))) ≡ 1000000 → n < length items → SizeWithin (term_at s (get_or items n d).0) k o → o ≡ None → true ≡ is_large (tuple_in s i)
-large_goal s i items n k d o e count l within is =
-    let more : k < size (term_at s (get_or i.goals n d).0) = subst (λ cs. k < size (term_at s (get_or cs n d).0)) e (subst (SizeWithin (term_at s (get_or items n d).0) k) is within) in
-    let m : n < length i.goals = subst (λ cs. n < length cs) e l in
-    large_so (size (term_at s i.head.0) + sizes (terms_in s i.goals)) (omega (arith, count, more, sizes_more s i.goals n d m, sizes_front s i.goals (n + 1)))
-
--- the next goal's size is within what is left
-pub left_after : (s : Stored) (i : Instance) (items : List Cell) (n k : ℕ) (d : Cell) (o : Option ℕ) (j : ℕ) → items ≡ i.goals
-    → k + (size (term_at s i.head.0) + sizes (terms_in s (take n i.goals))) ≡ 1000000 → n < length items → SizeWithin (term_at s (get_or items n d).0) k o → o ≡ Some j
-    → k - j + (size (term_at s i.head.0) + sizes (terms_in s (take (n + 1) i.goals))) ≡ 1000000
-left_after s i items n k d o j e count l within is =
-    let w : (j ≡ size (term_at s (get_or i.goals n d).0)) × (j ≤ k) = subst (λ cs. (j ≡ size (term_at s (get_or cs n d).0)) × (j ≤ k)) e (subst (SizeWithin (term_at s (get_or items n d).0) k) is within) in
-    let m : n < length i.goals = subst (λ cs. n < length cs) e l in
-    omega (arith, count, w.0, w.1, sizes_more s i.goals n d m)
 
 -- an instance that isn't there
 pub no_instance : (goals : List Cell) (o : Option Cell) (old new : Stored) (goal : ℕ) (rule : Tuple) → ((c : Cell) → ¬ (o ≡ Some c)) → Instantiates (with_goals goals o) old new goal rule → HasNoUnifier (term_at old goal) (shifted_tuple old.variables rule).head

@@ -10,7 +10,7 @@ use Rattle.apd_term.specs.Tuple.{canonical_tuple, variables_of_tuple, sizes, siz
 use Rattle.apd_term.specs.declared.tuple.Tuple.{Tuple}
 use Rattle.apd_unify.specs.Ordered.{IsNumberedAnew, Numbers}
 use Rattle.apd_unify.specs.Stored.{Stored}
-use Rattle.apd_unify.specs.Store.{term_at}
+use Rattle.apd_unify.specs.Store.{term_at, SizeWithin}
 use Rattle.apd_unify.specs.declared.store.Cell.{Cell}
 use Rattle.apd_unify.proofs.Ordered.{among_seen, canonical_kept}
 use Rattle.apd_trace.specs.Frames.{is_large}
@@ -106,6 +106,37 @@ numbering_last t seen left body head k w none h =
       small_so (size_of_tuple t) (omega (arith, e.limit)),
       ap (λ x. record { head = x; body = body }) h ∙ ap (λ x. record { head = canonical_in (order_of t) t.head; body = x }) b,
     )
+
+-- while a tuple's symbols are counted: what is left of the limit, and the goals that are left
+pub record IsCounting (t : Tuple) (left : List Term) (k : ℕ) : Type 0 where
+  pub limit : k + size_of_tuple t ≡ 1000000 + sizes left
+
+pub size_some : (t : Term) (k n : ℕ) (o : Option ℕ) → SizeWithin t k o → o ≡ Some n → (n ≡ size t) × (n ≤ k)
+size_some t k n o h e = subst (SizeWithin t k) e h
+
+pub size_none : (t : Term) (k : ℕ) (o : Option ℕ) → SizeWithin t k o → o ≡ None → k < size t
+size_none t k o h e = subst (SizeWithin t k) e h
+
+pub counting_first : (t : Tuple) (n k : ℕ) (o : Option ℕ) → SizeWithin t.head 1000000 o → o ≡ Some n → k ≡ 1000000 - n → IsCounting t t.body k
+counting_first t n k o h e is =
+    let s = size_some t.head 1000000 n o h e in
+    record { limit = omega (arith, is, s.0, s.1) }
+
+pub counting_more : (t : Tuple) (x : Term) (left : List Term) (n k j : ℕ) (o : Option ℕ) → IsCounting t (x ∷ left) k → SizeWithin x k o → o ≡ Some n → j ≡ k - n → IsCounting t left j
+counting_more t x left n k j o w h e is =
+    let s = size_some x k n o h e in
+    record { limit = omega (arith, is, s.0, s.1, w.limit) }
+
+pub counting_last : (t : Tuple) (left : List Term) (k : ℕ) → IsCounting t left k → left ≡ [] → is_large t ≡ false
+counting_last t left k w none =
+    let e : IsCounting t [] k = subst (λ l. IsCounting t l k) none w in
+    small_so (size_of_tuple t) (omega (arith, e.limit))
+
+pub counted_head : (t : Tuple) (o : Option ℕ) → SizeWithin t.head 1000000 o → o ≡ None → is_large t ≡ true
+counted_head t o h e = large_so (size_of_tuple t) (omega (arith, size_none t.head 1000000 o h e))
+
+pub counted_goal : (t : Tuple) (x : Term) (left : List Term) (k : ℕ) (o : Option ℕ) → IsCounting t (x ∷ left) k → SizeWithin x k o → o ≡ None → is_large t ≡ true
+counted_goal t x left k o w h e = large_so (size_of_tuple t) (omega (arith, size_none x k o h e, w.limit))
 
 -- the goals of an instance that are left
 pub next_left : (s : Stored) (i : Instance) (items : List Cell) (n : ℕ) (d : Cell) → items ≡ i.goals → n < length items

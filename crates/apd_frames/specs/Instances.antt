@@ -1,5 +1,5 @@
 -- Instances of clauses in a store.
-use Rattle.std.specs.Prelude.{◌≡◌, ℕ, ◌<◌, ◌≤◌, List, [], ◌∷◌, length, map, Option, Some, None, true, false}
+use Rattle.std.specs.Prelude.{◌≡◌, ℕ, ◌<◌, ◌≤◌, List, [], ◌∷◌, length, map, Option, Some, None, Bool, true, false, not}
 use Rattle.apd_term.specs.Term.{Term, apply}
 use Rattle.apd_term.specs.Substitution.{term_for}
 use Rattle.apd_term.specs.Canonical.{shifted}
@@ -76,6 +76,10 @@ pub record IsUnited (old new : Stored) (a b : Term) : Type 0 where
   pub pairs : List (ℕ × Term)
   pub unifier : IsUnifier a b pairs
   pub made : (c : ℕ) → c < length old.cells → term_at new c ≡ apply (term_for pairs) (term_at old c)
+
+-- whether the tuple isn't too large
+abbrev pub IsWithin : Bool → Tuple → Type 0
+IsWithin b t = b ≡ not (is_large t)
 
 -- the tuple's canonical form, or none where it is too large
 abbrev pub CanonicalWithin : Tuple → Option Tuple → Type 0

@@ -1,5 +1,5 @@
 -- The frames that a search keeps.
-use Rattle.std.specs.Prelude.{◌≡◌, ℕ, ◌+◌, ◌<◌, List, [], ◌∷◌, Option, Some, None, Bool, true, false, refl}
+use Rattle.std.specs.Prelude.{◌≡◌, ℕ, ◌+◌, ◌<◌, List, [], ◌∷◌, Option, Some, None, Bool, true, false, not, refl}
 use Rattle.std.specs.Coded.{Coded, code_by, coded_list, coded×}
 use Rattle.apd_term.specs.Term.{IsAmong}
 use Rattle.apd_frames.specs.Codes.{frame_code}
@@ -13,6 +13,8 @@ use Rattle.apd_trace.specs.declared.frame.Called.{Called}
 use Rattle.apd_ports.specs.declared.point.Step.{Step}
 use Rattle.apd_ports.specs.declared.point.Point.{Point}
 use Rattle.apd_trace.specs.Renaming.{AreRenamed}
+use Rattle.apd_frames.specs.declared.ahead.Ahead.{Ahead}
+use Rattle.apd_frames.specs.declared.ahead.Ahead.TheVariants.{Nothing as Nowhere, Call, Exit, Answer}
 
 -- the current frames, and those saved at earlier choices, the newest first
 pub record Kept : Type 0 where
@@ -67,12 +69,16 @@ abbrev pub exit_in : List Frame → Option (Called × ℕ)
 exit_in [] = None
 exit_in (f ∷ F) = Some (left f F, f.point)
 
--- the box that exits next, and its point there
-abbrev pub exit_of : Look → Option (ℕ × ℕ)
-exit_of Nothing = None
-exit_of (Goal g) = None
-exit_of (Exits g e) = Some (g.box_no, e)
-exit_of (Answers a) = None
+-- what frames do next, without its terms
+abbrev pub ahead_of : Look → Ahead
+ahead_of Nothing = Nowhere
+ahead_of (Goal g) = Call
+ahead_of (Exits g e) = Exit g.box_no e
+ahead_of (Answers a) = Answer
+
+-- the innermost frame's instance isn't too large
+abbrev pub fits : List Frame → Bool
+fits F = not (is_large_of F)
 
 -- the innermost frame as a point
 abbrev pub point_in : List Frame → Option Step → Option Point

@@ -9,17 +9,18 @@ ghost use Rattle.apd_clauses.specs.Clauses.{IsRunnable};
 ghost use Rattle.apd_trace.specs.Frames.{entering, look_of, handed_all, outer, query_frame};
 ghost use Rattle.apd_trace.specs.BuiltIn.{solution};
 ghost use Rattle.apd_trace.specs.Renaming.{AreAlike};
-ghost use Rattle.apd_frames.specs.Kept.{Calls, Enters, IsIn, MayCall, Takes, Points, exit_in, exit_of, newest_of};
+ghost use Rattle.apd_frames.specs.Kept.{Calls, Enters, IsIn, MayCall, Takes, Points, ahead_of, exit_in, fits, newest_of};
 ghost use Rattle.apd_trace.specs.declared.frame.Called.{Called};
 ghost use Rattle.apd_term.specs.Term.{predicate_of};
 ghost use Rattle.apd_frames.specs.Links.{link_of, instance_of};
 ghost use Rattle.apd_frames.specs.Linked.{entered_link, IsBranchAt};
 ghost use Rattle.apd_frames.specs.Solves.{solution_as, Keeps};
 
+use crate::ahead::Ahead;
 use crate::builtin::Solved;
-use crate::instance::{canonical_within, instantiate, load_all};
+use crate::instance::{canonical_within, instantiate, is_within, load_all};
 use crate::links::{Branch, LinkRef, Links};
-use crate::reading::{goal_depth, left, look, next_exit, next_goal};
+use crate::reading::{ahead, goal_depth, left, look, next_goal};
 use crate::settling::{predicate_at, settle};
 use apd_term::tuple::canonical_tuple;
 use apd_term::{Pred, Tuple};
@@ -138,13 +139,13 @@ impl Frames {
         }
     }
 
-    /// The box of the innermost frame where it exits next, and its point there. No term is written.
-    pub fn next_exit(&self) -> Option<(u32, u32)>
-        ensures { (n : ℕ) → result ≡ exit_of (look_of self.now.current n) }
+    /// What the innermost frame does next, without its terms: none is written.
+    pub fn ahead(&self) -> Ahead
+        ensures { (n : ℕ) → result ≡ ahead_of (look_of self.now.current n) }
     {
         match self.links.get(self.innermost) {
-            None => None,
-            Some(link) => next_exit(&link),
+            None => Ahead::Nothing,
+            Some(link) => ahead(&link),
         }
     }
 
@@ -198,6 +199,16 @@ impl Frames {
                     before,
                 }))
             }
+        }
+    }
+
+    /// Whether the innermost frame's instance is small enough for a point. No term is written.
+    pub fn fits(&self) -> Result<bool, AllocError>
+        ensures { IfOk result (λ b. b ≡ fits self.now.current) }
+    {
+        match self.links.get(self.innermost) {
+            None => Ok(true),
+            Some(link) => is_within(&self.store, &link),
         }
     }
 

@@ -9,7 +9,7 @@ ghost use Rattle.apd_clauses.specs.Clauses.{IsRunnable};
 ghost use Rattle.apd_frames.specs.Kept.{IsSmall};
 ghost use Rattle.apd_frames.specs.Links.{link_of};
 ghost use Rattle.apd_frames.specs.Linked.{IsThere};
-ghost use Rattle.apd_frames.specs.Instances.{terms_in, tuple_in, raised_in, with_goals, AreInside, CanonicalWithin, HasGrown, Instantiates, InstantiatesVariant};
+ghost use Rattle.apd_frames.specs.Instances.{terms_in, tuple_in, raised_in, with_goals, AreInside, CanonicalWithin, IsWithin, HasGrown, Instantiates, InstantiatesVariant};
 
 use crate::links::LinkRef;
 use crate::small::has_small_variables;
@@ -90,6 +90,24 @@ pub fn instantiate(
     }
     let canonical = canonical_tuple(alloc, rule)?;
     instantiate_small(store, goals, goal, &canonical)
+}
+
+/// Whether a link's instance has no more symbols than it may have. No more than these are passed.
+pub fn is_within(store: &Store, link: &LinkRef<'_>) -> Result<bool, AllocError>
+    requires { IsThere store.now link.now }
+    ensures { IfOk result (λ b. IsWithin b (tuple_in store.now (link_of link.now).instance)) }
+{
+    let Some(head) = store.size_within(link.head, MOST_INSTANCE_SYMBOLS)? else {
+        return Ok(false);
+    };
+    let mut left = MOST_INSTANCE_SYMBOLS - head;
+    'goals: for goal in link.goals {
+        let Some(size) = store.size_within(*goal, left)? else {
+            return Ok(false);
+        };
+        left -= size;
+    }
+    Ok(true)
 }
 
 /// The tuple of a link's instance in canonical form, with all bindings applied; none exactly where it

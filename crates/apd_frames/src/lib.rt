@@ -3,6 +3,7 @@
 //! Frames are links to each other and to cells. A choice keeps marks only, and nothing is copied.
 #![tactic(auto)]
 
+pub mod ahead;
 pub mod builtin;
 mod evaluating;
 pub mod frames;

@@ -6,10 +6,11 @@ ghost use Rattle.apd_unify.specs.Stored.{Stored};
 ghost use Rattle.apd_unify.specs.Store.{term_at};
 ghost use Rattle.apd_trace.specs.Frames.{left, look_of, owner_of};
 ghost use Rattle.apd_trace.specs.declared.frame.Called.{Called};
-ghost use Rattle.apd_frames.specs.Kept.{Calls, IsIn, MayCall, exit_of};
+ghost use Rattle.apd_frames.specs.Kept.{Calls, IsIn, MayCall, ahead_of};
 ghost use Rattle.apd_frames.specs.Links.{Link, link_of};
 ghost use Rattle.apd_frames.specs.Linked.{frames_at, frame_in, frames_from, IsGoalAt, IsThere};
 
+use crate::ahead::Ahead;
 use crate::links::{LinkRef, Links};
 use apd_term::Flat;
 use apd_trace::{Called, Look};
@@ -50,18 +51,18 @@ pub fn goal_depth(links: &Links, number: usize) -> u32
     }
 }
 
-/// The box of a link that exits next, and its point there.
-pub fn next_exit(link: &LinkRef<'_>) -> Option<(u32, u32)>
+/// What the frame of a link does next, without its terms.
+pub fn ahead(link: &LinkRef<'_>) -> Ahead
     ensures { (s : Stored) (links : List Link) (n : ℕ) →
-        result ≡ exit_of (look_of (frames_from s links link.now) n) }
+        result ≡ ahead_of (look_of (frames_from s links link.now) n) }
 {
     match goal_of(link) {
-        Some(_) => None,
+        Some(_) => Ahead::Call,
         None => {
             if link.box_no == 0 {
-                return None;
+                return Ahead::Answer;
             }
-            Some((link.box_no, link.point))
+            Ahead::Exit(link.box_no, link.point)
         }
     }
 }

@@ -1,11 +1,12 @@
 //! Cells, bindings and the trail.
 
-ghost use Rattle.std.specs.Prelude.{◌≡◌, ℕ, ◌+◌, ◌<◌, ◌≤◌, ◌^◌, ◌⊎◌, ◌++◌, [], length, min, max, IfOk, OnOk, OnErr, take};
+ghost use Rattle.std.specs.Prelude.{◌≡◌, ℕ, ◌+◌, ◌<◌, ◌≤◌, ◌^◌, ◌⊎◌, ◌++◌, [], length, get_or, min, max, IfOk, OnOk, OnErr, take};
 ghost use Rattle.std.specs.Bool.{OnTrue};
 ghost use Rattle.apd_term.specs.Term.{Occurs, spell, variables, size};
 ghost use Rattle.apd_term.specs.Canonical.{shifted};
 ghost use Rattle.apd_term.specs.declared.term.Sym.TheVariants.{Var};
 ghost use Rattle.apd_term.specs.Spelling.{variable_in};
+ghost use Rattle.apd_unify.specs.Flat.{compound_in};
 ghost use Rattle.apd_unify.specs.Heap.{HasMore, IsVariable, raised};
 ghost use Rattle.apd_unify.specs.Store.{term_at, written, symbol_at, MayBind, bound, loaded, above, before_note, at_mark, IsSound, IsEnd, IsTwin};
 
@@ -42,6 +43,8 @@ pub struct Heap {
     touched: usize,
     /// A front of the cells: those before the newest load, or none.
     front: Front,
+    /// How many bindings lead to a term that has arguments.
+    compounds: usize,
 }
 
 /// So many of the first cells, and a number above their variables.
@@ -52,7 +55,8 @@ pub struct Front {
 }
 
 impl Model for Heap {
-    ghost use Rattle.std.specs.Prelude.{length};
+    ghost use Rattle.std.specs.Prelude.{length, ◌≡◌};
+    ghost use Rattle.apd_unify.specs.Flat.{compound_count};
     ghost use Rattle.apd_unify.specs.Stored.{Stored, stored_code};
     ghost use Rattle.apd_unify.specs.Heap.{IsHeap, IsMarked};
 
@@ -62,7 +66,7 @@ impl Model for Heap {
 
     ghost view = { λ h. record { cells = h.cells.items; variables = length h.bindings.items; trail = h.trail } };
 
-    ghost invariant = { λ h. IsHeap h.cells.items h.bindings.items h.trail × IsMarked h.cells.items h.trail h.touched h.front };
+    ghost invariant = { λ h. IsHeap h.cells.items h.bindings.items h.trail × IsMarked h.cells.items h.trail h.touched h.front × (h.compounds ≡ compound_count h.cells.items h.trail) };
 }
 
 /// Free variables behind those that are there, so that this one is there too.
@@ -124,6 +128,18 @@ fn append(
     Ok(())
 }
 
+/// 1 where the symbol at this place has arguments.
+fn compound_at(cells: &[Sym], at: usize) -> usize
+    requires { at < length cells.now }
+    ensures { result ≡ compound_in (get_or cells.now at (Var 0)) }
+{
+    match cells[at] {
+        Sym::Fun(_, 0) => 0,
+        Sym::Fun(..) => 1,
+        _ => 0,
+    }
+}
+
 fn greater(a: usize, b: usize) -> usize
     ensures { result ≡ max a b }
 {
@@ -166,6 +182,7 @@ impl Heap {
                 cells: 0,
                 variables: 0,
             },
+            compounds: 0,
         }
     }
 
@@ -237,6 +254,17 @@ impl Heap {
         term_end(self.cells.as_slice(), at)
     }
 
+    /// Whether no binding leads to a term that has arguments: then a term has as many symbols as are written of it. False
+    /// says nothing.
+    pub fn is_flat(&self) -> bool
+        ensures { OnTrue result ((c : ℕ) → size (term_at self.now c) ≡ size (written self.now.cells c)) }
+    {
+        if self.compounds > 0 {
+            return false;
+        }
+        true
+    }
+
     /// Whether the variable is so new that it can't stand in the term at a cell; false says
     /// nothing.
     pub fn is_apart(&self, v: u64, at: usize) -> bool
@@ -263,8 +291,11 @@ impl Heap {
     {
         let count = self.bindings.len();
         let above = above_term(self.front, to, count);
+        let compound = compound_at(self.cells.as_slice(), to);
         self.trail.push(Note::Bound(v, to))?;
+        let _notes = self.trail.len();
         self.bindings[v as usize] = Binding::At(to);
+        self.compounds += compound;
         self.touched = greater(self.touched, above);
         Ok(())
     }
@@ -313,7 +344,10 @@ impl Heap {
                 };
                 self.touched = smaller(self.touched, variables);
             }
-            Some(Note::Bound(v, _to)) => self.bindings[v as usize] = Binding::Free,
+            Some(Note::Bound(v, to)) => {
+                self.bindings[v as usize] = Binding::Free;
+                self.compounds -= compound_at(self.cells.as_slice(), to);
+            }
         }
     }
 

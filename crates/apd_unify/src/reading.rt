@@ -1,11 +1,12 @@
 //! What the term at a cell is, with all bindings applied.
 
-ghost use Rattle.std.specs.Prelude.{◌≡◌, ◌<◌, ◌↔◌, length, IfOk, IsTrue};
+ghost use Rattle.std.specs.Prelude.{◌≡◌, ◌<◌, ◌≤◌, ◌↔◌, length, IfOk, IsTrue, MatchOption};
 ghost use Rattle.apd_term.specs.Term.{Occurs};
 ghost use Rattle.apd_unify.specs.Store.{term_at, SizeWithin};
 
 use crate::heap::Heap;
-use crate::walk::Walk;
+use crate::stack::Stack;
+use crate::walk::{Run, Walk, next_run, pass};
 use apd_term::{Flat, Sym, Syms};
 use std::alloc::{AllocError, Global};
 
@@ -22,8 +23,19 @@ pub fn resolved(heap: &Heap, alloc: Global, at: usize) -> Result<Flat, AllocErro
     Ok(Flat::of_symbols(symbols))
 }
 
+/// The number, if it is within the limit.
+fn at_most(n: u64, limit: u64) -> Option<u64>
+    ensures { MatchOption result (limit < n) (λ k. (k ≡ n) × (k ≤ limit)) }
+{
+    if n > limit {
+        return None;
+    }
+    Some(n)
+}
+
 /// The size of the term at a cell; none exactly where it is over the limit. It passes at most one
-/// symbol more than that.
+/// symbol more than that, but where no binding leads to a term that has arguments: there it passes what
+/// is written.
 pub fn size_within(
     heap: &Heap,
     alloc: Global,
@@ -33,13 +45,19 @@ pub fn size_within(
     requires { at < length heap.now.cells }
     ensures { IfOk result (SizeWithin (term_at heap.now at) limit) }
 {
-    let mut walk = Walk::over(heap, alloc, at);
+    if heap.is_flat() {
+        return Ok(at_most((heap.end(at) - at) as u64, limit));
+    }
+    let mut runs = Stack::new(alloc);
+    let mut here = Run { at, left: 1 };
     let mut count: u64 = 0;
-    'symbols: while let Some(_symbol) = walk.next(heap)? {
+    'symbols: while let Some(run) = next_run(&mut runs, here) {
+        let passed = pass(heap, &mut runs, run)?;
         if count == limit {
             return Ok(None);
         }
         count += 1;
+        here = passed.next;
     }
     Ok(Some(count))
 }

@@ -1,8 +1,9 @@
-use Rattle.std.proofs.Common.{◌≡◌, ◌∙◌, length, arith, refl}
+use Rattle.std.proofs.Common.{◌≡◌, ◌∙◌, length, arith, refl, sym}
 use Rattle.apd_term.specs.Term.{spell}
 use Rattle.apd_term.specs.Canonical.{shifted}
 use Rattle.apd_unify.proofs.Loading.{heap_loaded}
 use Rattle.apd_unify.proofs.Touching.{marked_loaded}
+use Rattle.apd_unify.proofs.Flat.{compound_loaded}
 use Rattle.apd_unify.proofs.heap.Heap.load.Goals as goal
 
 pub invariant_of-self-2 : goal.invariant_of-self-2
@@ -16,4 +17,5 @@ invariant_of-self-2 c =
       marked_loaded c.self.inside.cells.items c.append.new.cells.items (spell (shifted c.args.base c.args.t.now)) (length c.self.inside.bindings.items)
           c.self.inside.trail c.push.new.self c.self.inside.touched c.self.inside.front _
           c.self.invariant.0.kept c.self.invariant.1 c.in_default.ensures.cells g (rw (e, f) refl),
+      c.self.invariant.2 ∙ sym (compound_loaded c.self.inside.cells.items c.append.new.cells.items c.self.inside.trail c.push.new.self _ c.in_default.ensures.front g),
     )

@@ -1,6 +1,7 @@
 use Rattle.std.proofs.Common.{◌∷◌, ◌∙◌, ap, length, refl}
 use Rattle.apd_unify.proofs.Undoing.{heap_before_load}
 use Rattle.apd_unify.proofs.Touching.{marked_unloaded_by}
+use Rattle.apd_unify.specs.Flat.{compound_count}
 use Rattle.apd_unify.proofs.heap.Heap.undo_note.Goals as goal
 
 pub invariant_of-self-in-Some-Loaded : goal.invariant_of-self-in-Some-Loaded
@@ -13,4 +14,5 @@ invariant_of-self-in-Some-Loaded c =
           (marked_unloaded_by c.self.inside.cells.items (length c.self.inside.bindings.items) c.self.inside.trail c.pop.new.self c.self.inside.touched _
           c.in-Some-Loaded.cells c.in-Some-Loaded.variables c.self.inside.front _
           c.self.invariant.0.kept c.self.invariant.1 newest refl c.smaller-self-inside.ensures),
+      c.self.invariant.2 ∙ ap (compound_count c.self.inside.cells.items) newest ∙ rw c.truncate.ensures.items refl,
     )

@@ -1,6 +1,5 @@
 -- What the record keeps of a run on the way.
 use Rattle.std.proofs.Common.{◌≡◌, ℕ, zero, suc, ◌+◌, ◌-◌, ◌<◌, ◌≤◌, List, [], ◌∷◌, length, length-append, refl, ap, subst, ◌∙◌, arith, Option, Some, None, Result, Err, inl, inr}
-use Rattle.std.proofs.Math.Nat.{sub-zero}
 use Rattle.apd_term.specs.Term.{Term}
 use Rattle.apd_causes.specs.declared.run.RunError.{RunError}
 use Rattle.apd_term.specs.declared.tuple.Tuple.{Tuple}
@@ -8,8 +7,6 @@ use Rattle.apd_ports.specs.declared.event.Event.{Event}
 use Rattle.apd_ports.specs.declared.event.Port.{Port}
 use Rattle.apd_ports.specs.declared.event.Port.TheVariants.{Call, Exit, Redo, Fail}
 use Rattle.apd_ports.specs.declared.point.Point.{Point}
-use Rattle.apd_trace.specs.Frames.{query_frame}
-use Rattle.apd_trace.specs.Trace.{search_from, up_to_error}
 use Rattle.apd_trace.specs.Run.{Run, run_of, ran_of, query_run, before_event, hold, shown_of, ports_of, answers_of}
 use Rattle.apd_ports.specs.Hook.{GoesThrough, GoesInto, StopsAt}
 use Rattle.apd_engine.specs.Cut.{IsCut, FailsAt, run_fault}
@@ -17,7 +14,6 @@ use Rattle.apd_engine.specs.declared.running.RunFault.{RunFault}
 use Rattle.apd_engine.specs.declared.running.RunFault.TheVariants.{WriteFault, Memory}
 use Rattle.apd_trace.specs.declared.item.Item.{Item}
 use Rattle.apd_trace.specs.declared.item.Item.TheVariants.{Passed, Answer, Made, Error}
-use Rattle.apd_trace.proofs.Deeper.{run_of-up_to_error}
 use Rattle.apd_record.specs.Recorded.{Recorded, empty, query_point, called_row, noted, passed_at}
 use Rattle.apd_record.specs.declared.rows.BoxRow.{BoxRow}
 use Rattle.apd_engine.specs.Search.{opened, rest, Gives, Ends, may_make}
@@ -27,7 +23,7 @@ use Rattle.apd_engine.specs.declared.search.Search.{Search}
 use Rattle.apd_engine.specs.declared.search.Mode.{Mode}
 use Rattle.apd_engine.specs.declared.search.Mode.TheVariants.{Forward, Hand, Leave, Back}
 use Rattle.apd_engine.specs.Progress.{left, Showing, Completes, Keeping}
-use Rattle.apd_engine.proofs.RunFacts.{memory_short, left_passed, left_answer, first_rest, shown_of-hold, ports_of-hold, answers_of-hold}
+use Rattle.apd_engine.proofs.RunFacts.{memory_short, left_passed, left_answer, some_left, first_run, shown_of-hold, ports_of-hold, answers_of-hold}
 use Rattle.apd_ports.specs.declared.hook.HookFault.{HookFault}
 use Rattle.apd_ports.specs.declared.hook.HookFault.TheVariants.{WriteFault as HookWriteFault, Memory as HookMemory}
 use Rattle.apd_ports.specs.declared.hook.Shown.{Shown}
@@ -93,9 +89,8 @@ may_make-small Back = omega arith
 -- at first the query's point is held back
 pub keeps_first : (P : List Tuple) (query : Tuple) (budget answers : ℕ) (s : Search) → s ≡ opened query → MayBeToldAll empty (query_run P query budget answers).passed → Keeping P budget answers (query_run P query budget answers) 0 0 s (Some (query_point query)) empty
 keeps_first P query budget answers s is may =
-    let later : run_of (search_from P (budget + 1) (query_frame query ∷ []) 0 1).items budget answers ≡ left P budget answers 0 0 s = rw (is, first_rest P query budget, sub-zero, sub-zero) refl in
-    let same : run_of (up_to_error (search_from P (budget + 1) (query_frame query ∷ []) 0 1).items) budget answers ≡ left P budget answers 0 0 s = run_of-up_to_error (search_from P (budget + 1) (query_frame query ∷ []) 0 1).items budget answers ∙ later in
-    let first : (query_run P query budget answers).passed ≡ before_event (Made (query_point query)) (left P budget answers 0 0 s).passed = ap (λ (r : Run). before_event (Made (query_point query)) r.passed) same in
+    let first : (query_run P query budget answers).passed ≡ before_event (Made (query_point query)) (left P budget answers 0 0 s).passed =
+    rw is (ap (λ (r : Run). r.passed) (first_run P query budget answers)) in
     record {
       may = subst (MayBeToldAll empty) first may;
       agrees = ap record_of first;
@@ -161,17 +156,10 @@ module _ (P : List Tuple) (budget answers : ℕ) (all : Run) (ports answered : �
     last_left : answered + 1 ≡ answers → (left P budget answers ports answered s).passed ≡ Answer a ∷ []
     last_left last = let one : answers - answered ≡ suc zero = omega (arith, last) in rw (answer_items, one) refl
 
-    -- whether it is the last or not
-    some_left : answered < answers → (xs : List Item) × ((left P budget answers ports answered s).passed ≡ Answer a ∷ xs)
-    some_left below = by_count (answers - answered) refl
-      where
-        by_count : (n : ℕ) → answers - answered ≡ n → (xs : List Item) × ((left P budget answers ports answered s).passed ≡ Answer a ∷ xs)
-        by_count zero e = absurd (omega (arith, below, e))
-        by_count (suc zero) e = ([], rw (answer_items, e) refl)
-        by_count (suc (suc n)) e = ((run_of (rest P (budget + 1) new.mode new.frames new.stack new.boxes new.points) (budget - ports) (suc n)).passed, rw (answer_items, e) refl)
-
     pub answer_held : answered < answers → MayBeToldHeld R held
-    answer_held below = let xs = some_left below in (may_held R held (Answer a) xs.0 (rw xs.1 at was.may)).0
+    answer_held below =
+        let xs = some_left P budget answers ports answered s new a height within below gives in
+        (may_held R held (Answer a) xs.0 (rw xs.1 at was.may)).0
 
     pub last_agrees : answered + 1 ≡ answers → record_of all.passed ≡ told_held R held
     last_agrees last = was.agrees ∙ rw (last_left last) (recorded_held R held (Answer a) [])
@@ -276,10 +264,10 @@ module _ {H : Type 0} (step : H → Shown → Result (Unit {0}) HookFault → H 
       cuts (Passed e) (ShownPort e) (left P budget answers (ports + 1) answered new).passed hook' fault (ap (λ (r : Run). r.passed) (left_passed P budget answers ports answered s new e was.going.height within gives)) refl shown
 
   -- at an answer
-  pub answer_cut : (new : Search) (a : Term) (held : Option Point) (R : Recorded) (hook' : H) (fault : HookFault) → Keeping P budget answers all ports answered s held R → Gives P s.mode s.frames s.stack s.boxes s.points (Answer a) new → step hook (ShownAnswer a) (Err fault) hook'
+  pub answer_cut : (new : Search) (a : Term) (hook' : H) (fault : HookFault) → Gives P s.mode s.frames s.stack s.boxes s.points (Answer a) new → step hook (ShownAnswer a) (Err fault) hook'
       → IsCut step start (shown_of all.passed) hook' (run_fault fault)
-  answer_cut new a held R hook' fault kept gives shown =
-      let xs = some_left P budget answers all ports answered s held R kept new a was.going.height was.going.within gives was.going.below in
+  answer_cut new a hook' fault gives shown =
+      let xs = some_left P budget answers ports answered s new a was.going.height was.going.within was.going.below gives in
       cuts (Answer a) (ShownAnswer a) xs.0 hook' fault xs.1 refl shown
 
   -- whatever fault it was, at a port and at an answer
@@ -289,8 +277,8 @@ module _ {H : Type 0} (step : H → Shown → Result (Unit {0}) HookFault → H 
   port_fails new e hook' Memory within gives (inl same) = inl (subst (λ (k : H). GoesInto step start (shown_of all.passed) k) same (memory_short step faults start P budget answers all ports answered s hook was))
   port_fails new e hook' Memory within gives (inr h) = port_cut new e hook' HookMemory within gives h
 
-  pub answer_fails : (new : Search) (a : Term) (held : Option Point) (R : Recorded) (hook' : H) (f : RunFault) → Keeping P budget answers all ports answered s held R → Gives P s.mode s.frames s.stack s.boxes s.points (Answer a) new → FailsAt step hook (ShownAnswer a) hook' f
+  pub answer_fails : (new : Search) (a : Term) (hook' : H) (f : RunFault) → Gives P s.mode s.frames s.stack s.boxes s.points (Answer a) new → FailsAt step hook (ShownAnswer a) hook' f
       → IsCut step start (shown_of all.passed) hook' f
-  answer_fails new a held R hook' WriteFault kept gives h = answer_cut new a held R hook' HookWriteFault kept gives h
-  answer_fails new a held R hook' Memory kept gives (inl same) = inl (subst (λ (k : H). GoesInto step start (shown_of all.passed) k) same (memory_short step faults start P budget answers all ports answered s hook was))
-  answer_fails new a held R hook' Memory kept gives (inr h) = answer_cut new a held R hook' HookMemory kept gives h
+  answer_fails new a hook' WriteFault gives h = answer_cut new a hook' HookWriteFault gives h
+  answer_fails new a hook' Memory gives (inl same) = inl (subst (λ (k : H). GoesInto step start (shown_of all.passed) k) same (memory_short step faults start P budget answers all ports answered s hook was))
+  answer_fails new a hook' Memory gives (inr h) = answer_cut new a hook' HookMemory gives h

@@ -1,5 +1,5 @@
 -- What stays true of a run from one item to the next.
-use Rattle.std.proofs.Common.{◌≡◌, ℕ, suc, ◌+◌, ◌-◌, ◌<◌, ◌≤◌, List, [], ◌∷◌, length, refl, ap, subst, sym, ◌∙◌, arith, append-nil, zero-add, inl, inr, Result, Ok}
+use Rattle.std.proofs.Common.{◌≡◌, ℕ, zero, suc, ◌+◌, ◌-◌, ◌<◌, ◌≤◌, List, [], ◌∷◌, length, refl, ap, subst, sym, ◌∙◌, arith, append-nil, zero-add, inl, inr, Result, Ok}
 use Rattle.std.proofs.Math.Nat.{sub-zero}
 use Rattle.std.proofs.lemmas.List.{length-map}
 use Rattle.apd_term.specs.Term.{Term}
@@ -13,10 +13,11 @@ use Rattle.apd_ports.specs.declared.hook.Shown.{Shown}
 use Rattle.apd_ports.specs.declared.hook.Shown.TheVariants.{Port as ShownPort, Answer as ShownAnswer}
 use Rattle.apd_trace.specs.Frames.{query_frame}
 use Rattle.apd_trace.specs.Trace.{Out, search_from}
-use Rattle.apd_trace.specs.Run.{Run, query_run, shown_of, ports_of, answers_of, before_event, pass}
+use Rattle.apd_trace.specs.Run.{Run, run_of, query_run, shown_of, ports_of, ran_of, answers_of, before_event, hold, pass}
 use Rattle.apd_trace.specs.declared.item.Item.{Item}
 use Rattle.apd_trace.specs.declared.item.Item.TheVariants.{Passed, Answer, Made}
 use Rattle.apd_ports.specs.declared.point.Point.{Point}
+use Rattle.apd_record.specs.Recorded.{query_point}
 use Rattle.apd_trace.proofs.Searched.{search_same}
 use Rattle.apd_trace.proofs.Clauses.{canonical_query}
 use Rattle.apd_trace.proofs.Deeper.{run_of-up_to_error}
@@ -38,6 +39,9 @@ pub answers_of-hold : (p : Point) (xs : List Item) → answers_of (before_event 
 answers_of-hold p [] = refl
 answers_of-hold p (x ∷ xs) = refl
 
+pub ran_of-hold : (p : Point) (r : Run) → ran_of (hold (Made p) r) ≡ ran_of r
+ran_of-hold p r = rw (ports_of-hold, answers_of-hold) refl
+
 -- what is left of a run before an item, and after it
 pub left_passed : (P : List Tuple) (budget answers ports answered : ℕ) (s new : Search) (e : Event) → length s.stack ≤ ports → ports < budget → Gives P s.mode s.frames s.stack s.boxes s.points (Passed e) new → left P budget answers ports answered s ≡ pass (Passed e) (left P budget answers (ports + 1) answered new)
 left_passed P budget answers ports answered s new e low within gives =
@@ -50,9 +54,27 @@ left_answer P budget answers ports answered s new a low within more gives =
     let one : answers - (answered + 1) ≡ suc (answers - (answered + 2)) = omega arith in
     rw (gives.items (budget + 1) (omega arith), two, one) refl
 
+-- before an answer something is left, whether it is the last answer or not
+pub some_left : (P : List Tuple) (budget answers ports answered : ℕ) (s new : Search) (a : Term) → length s.stack ≤ ports → ports ≤ budget → answered < answers → Gives P s.mode s.frames s.stack s.boxes s.points (Answer a) new → (xs : List Item) × ((left P budget answers ports answered s).passed ≡ Answer a ∷ xs)
+some_left P budget answers ports answered s new a low within below gives = by_count (answers - answered) refl
+  where
+    items : rest P (budget + 1) s.mode s.frames s.stack s.boxes s.points ≡ Answer a ∷ rest P (budget + 1) new.mode new.frames new.stack new.boxes new.points
+    items = gives.items (budget + 1) (omega (arith, low, within))
+
+    by_count : (n : ℕ) → answers - answered ≡ n → (xs : List Item) × ((left P budget answers ports answered s).passed ≡ Answer a ∷ xs)
+    by_count zero e = absurd (omega (arith, below, e))
+    by_count (suc zero) e = ([], rw (items, e) refl)
+    by_count (suc (suc n)) e = ((run_of (rest P (budget + 1) new.mode new.frames new.stack new.boxes new.points) (budget - ports) (suc n)).passed, rw (items, e) refl)
+
 -- at first all is left
 pub first_rest : (P : List Tuple) (query : Tuple) (budget : ℕ) → rest P (budget + 1) Forward (opened query).frames [] 0 1 ≡ (search_from P (budget + 1) (query_frame query ∷ []) 0 1).items
 first_rest P query budget = simp (append-nil, sub-zero) (ap (λ (o : Out). o.items) (sym (search_same P (budget + 1) (query_frame query ∷ []) (query_frame (canonical_tuple query) ∷ []) 0 1 (canonical_query query))))
+
+-- the whole run is the query's point, and what is left at first
+pub first_run : (P : List Tuple) (query : Tuple) (budget answers : ℕ) → query_run P query budget answers ≡ hold (Made (query_point query)) (left P budget answers 0 0 (opened query))
+first_run P query budget answers =
+    let later : run_of (search_from P (budget + 1) (query_frame query ∷ []) 0 1).items budget answers ≡ left P budget answers 0 0 (opened query) = rw (first_rest P query budget, sub-zero, sub-zero) refl in
+    ap (hold (Made (query_point query))) (run_of-up_to_error (search_from P (budget + 1) (query_frame query ∷ []) 0 1).items budget answers ∙ later)
 
 starts : (P : List Tuple) (query : Tuple) (budget answers : ℕ) (s : Search) → 0 < answers → length query.body ≤ 64 → s ≡ opened query → Going P budget answers (query_run P query budget answers) 0 0 s
 starts P query budget answers s some few is =

@@ -9,9 +9,9 @@ use Rattle.apd_term.specs.Substitution.{term_for}
 use Rattle.apd_term.specs.Canonical.{canonical}
 use Rattle.apd_term.specs.declared.tuple.Tuple.{Tuple}
 use Rattle.apd_unify.specs.Textbook.{unifier_of}
-use Rattle.apd_trace.specs.Frames.{above, variables_of_frames, apply_frames, apart, goal_of, next_goal, entered, entering, resolved, under, outer, look_at, look_of, called, left, point_at}
+use Rattle.apd_trace.specs.Frames.{above, variables_of_frames, apply_frames, apart, goal_of, next_goal, entered, entering, handed, handed_all, resolved, under, outer, look_at, look_of, called, left, point_at, step_from}
 use Rattle.apd_frames.specs.Kept.{is_large_of}
-use Rattle.apd_trace.specs.BuiltIn.{Solution, of_program, faulted, failed, solved, solved_or, solution_by, solution_at, solution, outcome, built}
+use Rattle.apd_trace.specs.BuiltIn.{Solution, of_program, failed, solved, solved_or, solution_by, solution_at, solution, outcome, built}
 use Rattle.apd_trace.specs.Trace.{Out, Next, nothing, emit, and_then, at_port, hand, closing, over, begun, succeeded, tries, settled, search_from}
 use Rattle.apd_causes.specs.declared.run.RunError.{RunError}
 use Rattle.apd_causes.specs.declared.run.RunError.TheVariants.{Size}
@@ -27,9 +27,9 @@ use Rattle.apd_trace.specs.declared.item.Item.TheVariants.{Made, Error}
 use Rattle.apd_trace.specs.declared.frame.Look.{Look}
 use Rattle.apd_trace.specs.declared.frame.Look.TheVariants.{Goal, Exit as Exits, Answer as Answers}
 use Rattle.apd_trace.proofs.Searched.{search_same, tried_same, settled_same}
-use Rattle.apd_frames.specs.Kept.{Kept, Calls, MayCall, Points, exit_in, point_in}
-use Rattle.apd_engine.specs.Search.{leaving, Postpones, AllWait, IsBack, IsOpen, IsCalling, AllWaits, Gives, Skips, Found, back, resume}
-use Rattle.apd_engine.specs.declared.search.Search.{Search}
+use Rattle.apd_frames.specs.Kept.{Kept, Calls, MayCall, Points, exit_in, newest_of, point_in}
+use Rattle.apd_engine.specs.Search.{leaving, Postpones, AllWait, IsOpen, IsCalling, AllWaits, Gives, Skips, Found, back, resume}
+use Rattle.apd_engine.specs.Given.{IsPointOf}
 use Rattle.apd_engine.proofs.Numbered.{cut}
 use Rattle.apd_engine.specs.declared.search.Choice.{Choice}
 use Rattle.apd_engine.specs.declared.search.Choice.TheVariants.{Alternatives, Again, Closing, Over}
@@ -227,6 +227,53 @@ module _ (P : List Tuple) where
           let point : e ≡ f.point = ap (λ (x : Called × ℕ). x.1) both in
           rw (same, point) refl
 
+  -- an exit that is handed to the innermost frame
+  module _ (F T G : Kept) (cs : List Choice) (n m e b p : ℕ) (newest : Some (b, p) ≡ newest_of F.current) (waiting : AllWait n F.current) (waits : AllWaits n cs F.saved) (taken : T ≡ record { current = handed_all F.current m; saved = F.saved }) (kept : G ≡ T) where
+    pub gives_handed : (i : Item) → IsPointOf T.current (Some (step_from p e)) i → Gives P (Hand e) F cs n m i (record { frames = G; mode = Forward; stack = cs; boxes = n; points = m + 1 })
+    gives_handed i made =
+        let w : Points (Some made.point) (handed_all F.current m) (Some (step_from p e)) = subst (λ (k : Kept). Points (Some made.point) k.current (Some (step_from p e))) taken made.points in
+        rw (kept, taken, made.is) (record {
+          items = λ K below. ap (λ (o : Out). o.items ++ back P K cs F.saved o.boxes o.points) (hands (search_from P (K - length cs)) F.current made.point newest w.0 w.1);
+          height = omega arith;
+          boxes_made = omega arith;
+          points_made = omega arith;
+          pace = omega arith;
+          goes = opens F.current newest waiting;
+          waits = waits;
+        })
+      where
+        hands : (next : Next) (H : List Frame) (x : Point) → Some (b, p) ≡ newest_of H → is_large_of (handed_all H m) ≡ false → Some x ≡ point_in (handed_all H m) (Some (step_from p e)) → hand next H e n m ≡ emit (Made x) (next (handed_all H m) n (m + 1))
+        hands next [] x there small is = cc
+        hands next (f ∷ H) x there small is =
+            let same : x ≡ point_at (handed f m) (Some (step_from p e)) = cc in
+            let both : (b, p) ≡ (f.box_no, f.point) = cc in
+            let point : p ≡ f.point = ap (λ (y : ℕ × ℕ). y.1) both in
+            rw (small, same, point) refl
+
+        opens : (H : List Frame) → Some (b, p) ≡ newest_of H → AllWait n H → IsOpen n (handed_all H m)
+        opens [] there h = cc
+        opens (f ∷ H) there h = (h.1, h.2, h.3)
+
+    pub gives_handed_large : is_large_of T.current ≡ true → Gives P (Hand e) F cs n m (Error Size b) (record { frames = G; mode = Back; stack = cs; boxes = n; points = m })
+    gives_handed_large large =
+        let w : is_large_of (handed_all F.current m) ≡ true = subst (λ (k : Kept). is_large_of k.current ≡ true) taken large in
+        rw (kept, taken) (record {
+          items = λ K below. ap (λ (o : Out). o.items ++ back P K cs F.saved o.boxes o.points) (hands (search_from P (K - length cs)) F.current newest w);
+          height = omega arith;
+          boxes_made = omega arith;
+          points_made = omega arith;
+          pace = omega arith;
+          goes = tt;
+          waits = waits;
+        })
+      where
+        hands : (next : Next) (H : List Frame) → Some (b, p) ≡ newest_of H → is_large_of (handed_all H m) ≡ true → hand next H e n m ≡ emit (Error Size b) (nothing n m)
+        hands next [] there large = cc
+        hands next (f ∷ H) there large =
+            let both : (b, p) ≡ (f.box_no, f.point) = cc in
+            let box : b ≡ f.box_no = ap (λ (y : ℕ × ℕ). y.0) both in
+            rw (large, box) refl
+
   -- Redo of a box that was left
   pub gives_again : (F G : Kept) (cs : List Choice) (n m e : ℕ) (l : Called) (mode : Mode) (i : Item) (E : List Frame) (S : List (List Frame)) → F.saved ≡ E ∷ S → G.saved ≡ S → exit_in E ≡ Some (l, e) → AllWaits n cs S → mode ≡ Back → i ≡ at_port Redo l
       → Gives P Back F (Again ∷ cs) n m i (record { frames = G; mode = mode; stack = cs; boxes = n; points = m })
@@ -310,9 +357,6 @@ module _ (P : List Tuple) where
           goes = tt;
           waits = subst (AllWaits n cs) (sym now) waiting;
         })
-
-    pub gives_faulted : (new : Kept) (mode : Mode) (e : RunError) (i : Item) → AreAlike (solution R.current g m) (faulted e) → i ≡ Error e g.box_no → new.saved ≡ S → mode ≡ Back → Gives P Back X (Alternatives b from ∷ cs) n m i (record { frames = new; mode = mode; stack = cs; boxes = n; points = m })
-    gives_faulted new mode e i alike told now is = gives_fault new mode e i (λ k. settled_as k R.current g from n m (faulted e) alike) told now is
 
     -- a built-in goal succeeds
     module _ (E : List Frame) (alike : AreAlike (solution R.current g m) (solved E)) where
@@ -423,45 +467,10 @@ module _ (P : List Tuple) where
       gives_large last mode i large told now is =
           gives_fault last mode Size i (λ k. tries_found k ∙ begun_large (search_from P k) g (tries (search_from P k) R.current g (drop (at + 1) (clauses_for g.atom P))) new.current n m large) told now is
 
--- an instance that makes no point is too large
-pub large_without : (o : Option Point) (F : List Frame) → Points o F None → ((p : Point) → ¬ (o ≡ Some p)) → is_large_of F ≡ true
-large_without None F h none = h
-large_without (Some p) F h none = absurd (none p refl)
-
--- a search whose frames have the same ones saved
-pub gives_same : (P : List Tuple) (F G : Kept) (cs : List Choice) (n m : ℕ) (i : Item) (new : Search) → F.saved ≡ G.saved → Gives P Back G cs n m i new → Gives P Back F cs n m i new
-gives_same P F G cs n m i new same gives =
-    record {
-      items = λ K below. rw same (gives.items K below);
-      height = gives.height;
-      boxes_made = gives.boxes_made;
-      points_made = gives.points_made;
-      pace = gives.pace;
-      goes = gives.goes;
-      waits = gives.waits;
-    }
-
 -- frames that wait may call
 pub may_call : (n : ℕ) (F : List Frame) → AllWait n F → n + 1 < 4294967296 → MayCall F
 may_call n [] waits low = tt
 may_call n (f ∷ F) waits low = omega (arith, waits.2)
-
--- what waits for the newest choice was saved
-pub again_waits : (n : ℕ) (cs : List Choice) (saved : List (List Frame)) → AllWaits n (Again ∷ cs) saved → 0 < length saved
-again_waits n cs [] h = elim h [ ]
-again_waits n cs (E ∷ saved) h = omega arith
-
-pub closing_waits : (n b : ℕ) (cs : List Choice) (saved : List (List Frame)) → AllWaits n (Closing b ∷ cs) saved → 0 < length saved
-closing_waits n b cs [] h = elim h [ ]
-closing_waits n b cs (E ∷ saved) h = omega arith
-
-pub over_waits : (n b : ℕ) (cs : List Choice) (saved : List (List Frame)) → AllWaits n (Over b ∷ cs) saved → 0 < length saved
-over_waits n b cs [] h = elim h [ ]
-over_waits n b cs (E ∷ saved) h = omega arith
-
-pub alternatives_wait : (n b i : ℕ) (cs : List Choice) (saved : List (List Frame)) → AllWaits n (Alternatives b i ∷ cs) saved → 0 < length saved
-alternatives_wait n b i cs [] h = elim h [ ]
-alternatives_wait n b i cs (E ∷ saved) h = omega arith
 
 -- the frames that were saved last, and those before
 pub record IsRestored (X R : Kept) : Type 0 where
@@ -471,9 +480,6 @@ pub record IsRestored (X R : Kept) : Type 0 where
 module _ (X R : Kept) (h : IsRestored X R) where
   pub restored_here : R.saved ≡ R.current ∷ drop 1 X.saved
   restored_here = h.saved ∙ h.current
-
-  pub restored_back : IsBack R
-  restored_back = h.saved ∙ h.current ∙ ap (λ S. R.current ∷ drop 1 S) (sym h.saved)
 
   pub forgotten_so : (held : Kept) → held ≡ R → drop 1 held.saved ≡ drop 1 X.saved
   forgotten_so held same = ap (λ (f : Kept). drop 1 f.saved) same ∙ ap (drop 1) h.saved
@@ -514,21 +520,16 @@ module _ (P : List Tuple) (X R : Kept) (h : IsRestored X R) (cs : List Choice) (
   retries_failed new mode i alike now is told =
       gives_failed P X R S h.current (restored_here X R h) cs n m b from calling waiting new mode i (alike calling.goal calling.calls) now is (told calling.goal calling.calls)
 
-  pub retries_faulted : (new : Kept) (mode : Mode) (e : RunError) → OfGoal (λ g. AreAlike (solution R.current g m) (faulted e)) → new.saved ≡ S → mode ≡ Back
-      → Gives P Back X (Alternatives b from ∷ cs) n m (Error e b) (record { frames = new; mode = mode; stack = cs; boxes = n; points = m })
-  retries_faulted new mode e alike now is =
-      gives_faulted P X R S h.current (restored_here X R h) cs n m b from calling waiting new mode e (Error e b) (alike calling.goal calling.calls) (ap (Error e) same_box) now is
+  pub retries_solved : (E : List Frame) (new : Kept) (cs' : List Choice) (i : Item) → OfGoal (λ g. AreAlike (solution R.current g m) (solved E)) → IsPointOf E None i → new ≡ record { current = E; saved = E ∷ R.current ∷ S } → cs' ≡ Over b ∷ cs
+      → Gives P Back X (Alternatives b from ∷ cs) n m i (record { frames = new; mode = Leave; stack = cs'; boxes = n; points = m + 1 })
+  retries_solved E new cs' i alike made now pushed =
+      subst (λ (j : Item). Gives P Back X (Alternatives b from ∷ cs) n m j (record { frames = new; mode = Leave; stack = cs'; boxes = n; points = m + 1 })) (sym made.is)
+      (gives_solved P X R S h.current (restored_here X R h) cs n m b from calling waiting E (alike calling.goal calling.calls) new cs' made.point made.points.0 made.points.1 now pushed)
 
-  pub retries_solved : (E : List Frame) (new : Kept) (cs' : List Choice) (o : Option Point) (p : Point) → OfGoal (λ g. AreAlike (solution R.current g m) (solved E)) → Points o E None → o ≡ Some p → new ≡ record { current = E; saved = E ∷ R.current ∷ S } → cs' ≡ Over b ∷ cs
-      → Gives P Back X (Alternatives b from ∷ cs) n m (Made p) (record { frames = new; mode = Leave; stack = cs'; boxes = n; points = m + 1 })
-  retries_solved E new cs' o p alike points some now pushed =
-      let w : (is_large_of E ≡ false) × (Some p ≡ point_in E None) = subst (λ x. Points x E None) some points in
-      gives_solved P X R S h.current (restored_here X R h) cs n m b from calling waiting E (alike calling.goal calling.calls) new cs' p w.0 w.1 now pushed
-
-  pub retries_large : (E : List Frame) (new : Kept) (mode : Mode) (o : Option Point) → OfGoal (λ g. AreAlike (solution R.current g m) (solved E)) → Points o E None → ((p : Point) → ¬ (o ≡ Some p)) → new.saved ≡ S → mode ≡ Back
+  pub retries_large : (E : List Frame) (new : Kept) (mode : Mode) → OfGoal (λ g. AreAlike (solution R.current g m) (solved E)) → is_large_of E ≡ true → new.saved ≡ S → mode ≡ Back
       → Gives P Back X (Alternatives b from ∷ cs) n m (Error Size b) (record { frames = new; mode = mode; stack = cs; boxes = n; points = m })
-  retries_large E new mode o alike points none now is =
-      gives_oversolved P X R S h.current (restored_here X R h) cs n m b from calling waiting E (alike calling.goal calling.calls) new mode (Error Size b) (large_without o E points none) (ap (Error Size) same_box) now is
+  retries_large E new mode alike large now is =
+      gives_oversolved P X R S h.current (restored_here X R h) cs n m b from calling waiting E (alike calling.goal calling.calls) new mode (Error Size b) large (ap (Error Size) same_box) now is
 
   module _ (alike : OfGoal (λ g. AreAlike (solution R.current g m) of_program)) (at : ℕ) (skips : OfGoal (λ g. Skips P R.current g m from at)) where
     pub tries_last : (new : Kept) (mode : Mode) (i : Item) (count : ℕ) → OfGoal (λ g. count ≡ length (clauses_for g.atom P)) → count ≤ at → new.saved ≡ S → mode ≡ Back → OfGoal (λ g. i ≡ at_port Fail g)
@@ -547,18 +548,18 @@ module _ (P : List Tuple) (X R : Kept) (h : IsRestored X R) (cs : List Choice) (
       pub found_saved : new.saved ≡ R.saved
       found_saved = (found calling.goal calling.calls).entered.saved
 
-      pub tries_made : (kept : Kept) (cs' : List Choice) (count : ℕ) (o : Option Point) (p : Point) → OfGoal (λ g. count ≡ length (clauses_for g.atom P)) → Points o new.current None → o ≡ Some p → kept ≡ new → Postpones b (at + 1) count cs cs'
-          → Gives P Back X (Alternatives b from ∷ cs) n m (Made p) (record { frames = kept; mode = Forward; stack = cs'; boxes = n; points = m + 1 })
-      tries_made kept cs' count o p all points some same postponed =
-          let w : (is_large_of new.current ≡ false) × (Some p ≡ point_in new.current None) = subst (λ x. Points x new.current None) some points in
-          gives_made P X R S h.current (restored_here X R h) cs n m b from calling waiting new at (alike calling.goal calling.calls) (skips calling.goal calling.calls) (found calling.goal calling.calls)
-          p w.0 w.1 count kept cs' (all calling.goal calling.calls) same postponed
+      pub tries_made : (kept : Kept) (cs' : List Choice) (count : ℕ) (i : Item) → OfGoal (λ g. count ≡ length (clauses_for g.atom P)) → IsPointOf new.current None i → kept ≡ new → Postpones b (at + 1) count cs cs'
+          → Gives P Back X (Alternatives b from ∷ cs) n m i (record { frames = kept; mode = Forward; stack = cs'; boxes = n; points = m + 1 })
+      tries_made kept cs' count i all made same postponed =
+          subst (λ (j : Item). Gives P Back X (Alternatives b from ∷ cs) n m j (record { frames = kept; mode = Forward; stack = cs'; boxes = n; points = m + 1 })) (sym made.is)
+          (gives_made P X R S h.current (restored_here X R h) cs n m b from calling waiting new at (alike calling.goal calling.calls) (skips calling.goal calling.calls) (found calling.goal calling.calls)
+          made.point made.points.0 made.points.1 count kept cs' (all calling.goal calling.calls) same postponed)
 
-      pub tries_large : (last : Kept) (mode : Mode) (o : Option Point) → Points o new.current None → ((p : Point) → ¬ (o ≡ Some p)) → last.saved ≡ S → mode ≡ Back
+      pub tries_large : (last : Kept) (mode : Mode) → is_large_of new.current ≡ true → last.saved ≡ S → mode ≡ Back
           → Gives P Back X (Alternatives b from ∷ cs) n m (Error Size b) (record { frames = last; mode = mode; stack = cs; boxes = n; points = m })
-      tries_large last mode o points none now is =
+      tries_large last mode large now is =
           gives_large P X R S h.current (restored_here X R h) cs n m b from calling waiting new at (alike calling.goal calling.calls) (skips calling.goal calling.calls) (found calling.goal calling.calls)
-          last mode (Error Size b) (large_without o new.current points none) (ap (Error Size) same_box) now is
+          last mode (Error Size b) large (ap (Error Size) same_box) now is
 
   -- a built-in goal that was solved is open
   pub solved_some : (E : List Frame) → OfGoal (λ g. AreAlike (solution R.current g m) (solved E)) → 0 < length E

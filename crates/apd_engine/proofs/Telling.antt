@@ -1,58 +1,64 @@
 -- What is told of an item.
-use Rattle.std.proofs.Common.{◌≡◌, ◌≢◌, ℕ, ◌+◌, ◌<◌, Bool, true, List, [], ◌∷◌, length, drop, refl, ap, sym, ◌∙◌, subst, arith, Option, Some, None}
+use Rattle.std.proofs.Common.{◌≡◌, ◌≢◌, ℕ, ◌+◌, ◌<◌, true, false, List, [], ◌∷◌, length, drop, refl, ap, sym, ◌∙◌, subst, arith, Option, Some, None}
+use Rattle.std.proofs.lemmas.Bool.{not-true}
 use Rattle.apd_term.specs.declared.tuple.Tuple.{Tuple}
 use Rattle.apd_ports.specs.declared.event.Event.{Event}
 use Rattle.apd_ports.specs.declared.event.Port.{Port}
 use Rattle.apd_ports.specs.declared.event.Port.TheVariants.{Call, Exit, Redo, Fail}
+use Rattle.apd_ports.specs.declared.point.Step.{Step}
 use Rattle.apd_record.specs.Recorded.{Recorded, noted}
 use Rattle.apd_recorded.specs.Told.{told_port}
-use Rattle.apd_trace.specs.Frames.{look_of, left}
+use Rattle.apd_trace.specs.Frames.{look_of, left, point_at}
 use Rattle.apd_trace.specs.Trace.{at_port}
 use Rattle.apd_trace.specs.declared.frame.Called.{Called}
 use Rattle.apd_trace.specs.declared.frame.Frame.{Frame}
 use Rattle.apd_trace.specs.declared.frame.Look.{Look}
 use Rattle.apd_trace.specs.declared.frame.Look.TheVariants.{Nothing, Goal, Exit as Exits, Answer as Answers}
 use Rattle.apd_trace.specs.declared.item.Item.{Item}
-use Rattle.apd_trace.specs.declared.item.Item.TheVariants.{Passed}
-use Rattle.apd_frames.specs.Kept.{Kept, Calls, exit_in, exit_of, newest_of}
-use Rattle.apd_engine.specs.Given.{Tells, TellsBare, TellsSome}
+use Rattle.apd_trace.specs.declared.item.Item.TheVariants.{Passed, Made}
+use Rattle.apd_frames.specs.Kept.{Kept, Calls, ahead_of, exit_in, fits, is_large_of, newest_of}
+use Rattle.apd_frames.specs.declared.ahead.Ahead.TheVariants.{Call as CallsNext, Exit as ExitsNext}
+use Rattle.apd_engine.specs.Given.{IsPointOf, Makes, Tells, TellsPoint, TellsPort, TellsSome}
 use Rattle.apd_engine.specs.Recording.{IsThere, MayPass}
-use Rattle.apd_engine.specs.Search.{Ends, GivesAlways, GivesBy, GivesOrEnds, HasFailed, IsCalling, IsLeft, IsOpen, AllWaits, Waits, in_mode, left_at}
+use Rattle.apd_engine.specs.Search.{Ends, GivesAlways, GivesBy, GivesOrEnds, HasFailed, IsCalling, IsLeft, IsOpen, AllWaits, Waits, called_at, in_mode, left_at}
 use Rattle.apd_engine.specs.declared.given.Given.{Given}
-use Rattle.apd_engine.specs.declared.given.Given.TheVariants.{Whole, Bare}
+use Rattle.apd_engine.specs.declared.given.Given.TheVariants.{Whole, Port as PortOf, Point as SomePoint}
+use Rattle.apd_engine.specs.declared.given.Unread.{Unread}
 use Rattle.apd_engine.specs.declared.search.Choice.{Choice}
 use Rattle.apd_engine.specs.declared.search.Choice.TheVariants.{Over}
 use Rattle.apd_engine.specs.declared.search.Mode.TheVariants.{Forward}
 use Rattle.apd_engine.specs.declared.search.Search.{Search}
-use Rattle.apd_engine.proofs.Steps.{IsRestored, box_of, gives_exit}
+use Rattle.apd_engine.proofs.Steps.{IsRestored, box_of, gives_call, gives_exit}
 
 -- what follows for each item follows for the one that is told
-pub tells_weaker : (may : Bool) (given : Given) (A B : Item → Type 0) → ((i : Item) → A i → B i) → Tells may given A → Tells may given B
-tells_weaker may (Whole i) A B weaker h = weaker i h
-tells_weaker may (Bare port b) A B weaker h =
+pub tells_weaker : (unread : Unread) (given : Given) (A B : Item → Type 0) → ((i : Item) → A i → B i) → Tells unread given A → Tells unread given B
+tells_weaker unread (Whole i) A B weaker h = weaker i h
+tells_weaker unread (PortOf port b) A B weaker h =
     record {
       event = h.event;
       holds = weaker (Passed h.event) h.holds;
       port_is = h.port_is;
       box_is = h.box_is;
-      later = h.later;
+      may = h.may;
+      call = h.call;
+    }
+tells_weaker unread SomePoint A B weaker h =
+    record {
+      point = h.point;
+      holds = weaker (Made h.point) h.holds;
       may = h.may;
     }
 
-pub tells_some_weaker : (may : Bool) (o : Option Given) (A B : Option Item → Type 0) → ((o : Option Item) → A o → B o) → TellsSome may o A → TellsSome may o B
-tells_some_weaker may None A B weaker h = weaker None h
-tells_some_weaker may (Some given) A B weaker h = tells_weaker may given (λ i. A (Some i)) (λ i. B (Some i)) (λ i. weaker (Some i)) h
-
 -- a port of a goal, told by its box
-tells_port : (port : Port) (g : Called) (b : ℕ) (B : Item → Type 0) → g.box_no ≡ b → port ≢ Call → B (at_port port g) → TellsBare true port b B
-tells_port port g b B box_is later holds =
+tells_port : (unread : Unread) (port : Port) (g : Called) (b : ℕ) (B : Item → Type 0) → g.box_no ≡ b → unread.ports ≡ true → (port ≡ Call → unread.points ≡ true) → B (at_port port g) → TellsPort unread port b B
+tells_port unread port g b B box_is may call holds =
     record {
       event = record { port = port; box_no = g.box_no; caller = g.caller; depth = g.depth; atom = g.atom };
       holds = holds;
       port_is = refl;
       box_is = box_is;
-      later = later;
-      may = refl;
+      may = may;
+      call = call;
     }
 
 -- the port of the box that the frames leave
@@ -66,11 +72,29 @@ pub some_newest : (F : List Frame) → 0 < length F → newest_of F ≡ None →
 some_newest [] some none = omega arith
 some_newest (f ∷ F) some none = cc
 
-pub tells_left : (may : Bool) (port : Port) (F : List Frame) (b e : ℕ) → may ≡ true → port ≢ Call → newest_of F ≡ Some (b, e) → Tells may (Bare port b) (IsLeft F port e)
-tells_left may port F b e is later newest =
+pub tells_left : (unread : Unread) (port : Port) (F : List Frame) (b e : ℕ) → unread.ports ≡ true → port ≢ Call → newest_of F ≡ Some (b, e) → Tells unread (PortOf port b) (IsLeft F port e)
+tells_left unread port F b e may later newest =
     let l = newest_left F b e newest in
-    subst (λ (m : Bool). Tells m (Bare port b) (IsLeft F port e)) (sym is)
-    (tells_port port l.0 b (IsLeft F port e) l.2 later (record { goal = l.0; exit = l.1; item = refl }))
+    tells_port unread port l.0 b (IsLeft F port e) l.2 may (λ call. absurd (later call)) (record { goal = l.0; exit = l.1; item = refl })
+
+-- the innermost frame as a point
+pub tells_point : (unread : Unread) (F : List Frame) (before : Option Step) → unread.points ≡ true → 0 < length F → fits F ≡ true → Tells unread SomePoint (IsPointOf F before)
+tells_point unread [] before may some fit = absurd (omega (arith, some))
+tells_point unread (f ∷ F) before may some fit =
+    record {
+      point = point_at f before;
+      holds = record { point = point_at f before; is = refl; points = (not-true (is_large_of (f ∷ F)) fit, refl) };
+      may = may;
+    }
+
+-- an instance that makes no point is too large
+pub large_without : (unread : Unread) (o : Option Given) (F : List Frame) (before : Option Step) → Makes unread o F before → ((given : Given) → ¬ (o ≡ Some given)) → is_large_of F ≡ true
+large_without unread None F before h none = h
+large_without unread (Some given) F before h none = absurd (none given refl)
+
+-- one that does is told
+pub made_some : (unread : Unread) (o : Option Given) (given : Given) (F : List Frame) (before : Option Step) → Makes unread o F before → o ≡ Some given → Tells unread given (IsPointOf F before)
+made_some unread o given F before h is = subst (λ (x : Option Given). Makes unread x F before) is h
 
 -- what waits behind a built-in goal that has exited
 pub record IsOver (n b : ℕ) (cs : List Choice) (saved : List (List Frame)) : Type 0 where
@@ -91,42 +115,62 @@ over_first X R h n b cs waits = behind (drop 1 X.saved) (subst (AllWaits n (Over
 same_goal : (look : Look) (g h : Called) → look ≡ Goal g → look ≡ Goal h → g ≡ h
 same_goal look g h one other = cc
 
-pub tells_failed : (may : Bool) (b : ℕ) (old new : Kept) (g : Called) → may ≡ true → Calls old.current b g → new.saved ≡ drop 1 old.saved → Tells may (Bare Fail b) (HasFailed b old new)
-tells_failed may b old new g is calls saved =
-    subst (λ (m : Bool). Tells m (Bare Fail b) (HasFailed b old new)) (sym is)
-    (tells_port Fail g b (HasFailed b old new) (box_of old.current b g calls) (λ same. cc)
-    (record { saved = saved; item = λ h others. ap (at_port Fail) (same_goal (look_of old.current b) g h calls others) }))
+pub tells_failed : (unread : Unread) (b : ℕ) (old new : Kept) (g : Called) → unread.ports ≡ true → Calls old.current b g → new.saved ≡ drop 1 old.saved → Tells unread (PortOf Fail b) (HasFailed b old new)
+tells_failed unread b old new g may calls saved =
+    tells_port unread Fail g b (HasFailed b old new) (box_of old.current b g calls) may (λ same. cc)
+    (record { saved = saved; item = λ h others. ap (at_port Fail) (same_goal (look_of old.current b) g h calls others) })
 
--- an exit that comes next
-exit_so : (look : Look) (b e : ℕ) → Some (b, e) ≡ exit_of look → (g : Called) × (look ≡ Exits g e) × (g.box_no ≡ b)
+-- a call and an exit that come next
+call_so : (look : Look) → CallsNext ≡ ahead_of look → (g : Called) × (look ≡ Goal g)
+call_so Nothing is = cc
+call_so (Goal g) is = (g, refl)
+call_so (Exits g e) is = cc
+call_so (Answers a) is = cc
+
+exit_so : (look : Look) (b e : ℕ) → ExitsNext b e ≡ ahead_of look → (g : Called) × (look ≡ Exits g e) × (g.box_no ≡ b)
 exit_so Nothing b e is = cc
 exit_so (Goal g) b e is = cc
 exit_so (Answers a) b e is = cc
 exit_so (Exits g x) b e is =
-    let both : (b, e) ≡ (g.box_no, x) = cc in
-    (g, ap (Exits g) (sym (ap (λ (y : ℕ × ℕ). y.1) both)), sym (ap (λ (y : ℕ × ℕ). y.0) both))
+    let exit : x ≡ e = cc in
+    let box : g.box_no ≡ b = cc in
+    (g, ap (Exits g) exit, box)
 
-pub tells_exit : (may : Bool) (s new : Search) (b e : ℕ) → may ≡ true → ((n : ℕ) → Some (b, e) ≡ exit_of (look_of s.frames.current n)) → IsOpen s.boxes s.frames.current → Waits s → new ≡ left_at s e → Tells may (Bare Exit b) (GivesAlways (in_mode Forward s) new)
-tells_exit may s new b e is exits ready waits now =
+pub tells_call : (unread : Unread) (s new : Search) → unread.ports ≡ true → unread.points ≡ true → ((n : ℕ) → CallsNext ≡ ahead_of (look_of s.frames.current n)) → IsOpen s.boxes s.frames.current → Waits s → new ≡ called_at s → Tells unread (PortOf Call new.boxes) (GivesAlways (in_mode Forward s) new)
+tells_call unread s new may points calls ready waits now =
+    let x = call_so (look_of s.frames.current (s.boxes + 1)) (calls (s.boxes + 1)) in
+    tells_port unread Call x.0 new.boxes (GivesAlways (in_mode Forward s) new) (box_of s.frames.current (s.boxes + 1) x.0 x.1 ∙ sym (ap (λ (t : Search). t.boxes) now)) may (λ same. points)
+    (λ P. subst (λ (t : Search). GivesBy P (in_mode Forward s) t (at_port Call x.0)) (sym now)
+    (gives_call P s.frames (called_at s).frames s.stack (called_at s).stack s.boxes s.points (look_of s.frames.current (s.boxes + 1)) x.0 (at_port Call x.0) refl x.1 ready waits refl refl refl))
+
+pub tells_exit : (unread : Unread) (s new : Search) (b e : ℕ) → unread.ports ≡ true → ((n : ℕ) → ExitsNext b e ≡ ahead_of (look_of s.frames.current n)) → IsOpen s.boxes s.frames.current → Waits s → new ≡ left_at s e → Tells unread (PortOf Exit b) (GivesAlways (in_mode Forward s) new)
+tells_exit unread s new b e may exits ready waits now =
     let x = exit_so (look_of s.frames.current (s.boxes + 1)) b e (exits (s.boxes + 1)) in
-    subst (λ (m : Bool). Tells m (Bare Exit b) (GivesAlways (in_mode Forward s) new)) (sym is)
-    (tells_port Exit x.0 b (GivesAlways (in_mode Forward s) new) x.2 (λ same. cc)
+    tells_port unread Exit x.0 b (GivesAlways (in_mode Forward s) new) x.2 may (λ same. cc)
     (λ P. subst (λ (t : Search). GivesBy P (in_mode Forward s) t (at_port Exit x.0)) (sym now)
-    (gives_exit P s.frames (left_at s e).frames s.stack (left_at s e).stack s.boxes s.points e (look_of s.frames.current (s.boxes + 1)) x.0 (at_port Exit x.0) refl x.1 ready waits refl refl refl)))
+    (gives_exit P s.frames (left_at s e).frames s.stack (left_at s e).stack s.boxes s.points e (look_of s.frames.current (s.boxes + 1)) x.0 (at_port Exit x.0) refl x.1 ready waits refl refl refl))
 
 -- what was told of the item that was matched
-module _ (P : List Tuple) (may : Bool) (s new : Search) (o : Option Given) (h : TellsSome may o (GivesOrEnds P s new)) where
+module _ (P : List Tuple) (unread : Unread) (s new : Search) (o : Option Given) (h : TellsSome unread o (GivesOrEnds P s new)) where
   pub ends_told : o ≡ None → Ends P s.mode s.frames s.stack s.boxes s.points
-  ends_told is = subst (λ (x : Option Given). TellsSome may x (GivesOrEnds P s new)) is h
+  ends_told is = subst (λ (x : Option Given). TellsSome unread x (GivesOrEnds P s new)) is h
 
-  pub gives_told : (given : Given) → o ≡ Some given → Tells may given (GivesBy P s new)
-  gives_told given is = subst (λ (x : Option Given). TellsSome may x (GivesOrEnds P s new)) is h
+  gives_told : (given : Given) → o ≡ Some given → Tells unread given (GivesBy P s new)
+  gives_told given is = subst (λ (x : Option Given). TellsSome unread x (GivesOrEnds P s new)) is h
 
-  pub gives_whole : (given : Given) (i : Item) → o ≡ Some given → given ≡ Whole i → GivesBy P s new i
-  gives_whole given i is whole = subst (λ (x : Given). Tells may x (GivesBy P s new)) whole (gives_told given is)
+  module _ (given : Given) (is : o ≡ Some given) where
+    pub gives_whole : (i : Item) → given ≡ Whole i → GivesBy P s new i
+    gives_whole i whole = subst (λ (x : Given). Tells unread x (GivesBy P s new)) whole (gives_told given is)
 
-  pub gives_bare : (given : Given) (port : Port) (b : ℕ) → o ≡ Some given → given ≡ Bare port b → TellsBare may port b (GivesBy P s new)
-  gives_bare given port b is bare = subst (λ (x : Given). Tells may x (GivesBy P s new)) bare (gives_told given is)
+    pub gives_port : (port : Port) (b : ℕ) → given ≡ PortOf port b → TellsPort unread port b (GivesBy P s new)
+    gives_port port b bare = subst (λ (x : Given). Tells unread x (GivesBy P s new)) bare (gives_told given is)
+
+    pub gives_point : given ≡ SomePoint → TellsPoint unread (GivesBy P s new)
+    gives_point bare = subst (λ (x : Given). Tells unread x (GivesBy P s new)) bare (gives_told given is)
+
+-- a Call is told whole where points are read
+pub later_than_call : (unread : Unread) (port : Port) → unread.points ≡ false → (port ≡ Call → unread.points ≡ true) → port ≢ Call
+later_than_call unread port read call = λ same. let unread_too : unread.points ≡ true = call same in cc
 
 -- what a port other than Call tells the record, and when it may
 later_port : (R : Recorded) (e : Event) (port : Port) → port ≢ Call → noted R e.box_no port ≡ told_port R e port

@@ -5,20 +5,31 @@ ghost use Rattle.apd_trace.specs.Trace.{at_port};
 ghost use Rattle.apd_trace.specs.declared.frame.Called.{Called};
 ghost use Rattle.apd_frames.specs.Kept.{Calls, MayCall};
 ghost use Rattle.apd_engine.specs.Search.{HasFailed, IsLeft};
-ghost use Rattle.apd_engine.specs.Given.{Tells};
+ghost use Rattle.apd_engine.specs.Given.{Makes, Tells};
 
 use apd_frames::frames::Frames;
 use apd_ports::{Event, Port};
-use apd_trace::{Called, Item, Look};
-use std::alloc::AllocError;
+use apd_trace::{Called, Item, Look, Step};
+use std::alloc::{AllocError, Global};
+
+/// What nobody reads, so that it may be given bare.
+#[derive(Clone, Copy, Debug)]
+pub struct Unread {
+    /// Ports. A Call is read with the points, where a record is made of them.
+    pub ports: bool,
+    /// Points.
+    pub points: bool,
+}
 
 /// What is given of an item.
 #[derive(Drop)]
 pub enum Given {
     /// The item itself.
     Whole(Item),
-    /// A port other than Call and its box: its atom isn't written out.
-    Bare(Port, u32),
+    /// A port and its box: its atom isn't written out.
+    Port(Port, u32),
+    /// A point: it isn't written out.
+    Point,
 }
 
 /// The port of a box.
@@ -34,39 +45,58 @@ pub fn event(port: Port, g: Called) -> Item
     })
 }
 
-/// A port of the box that the innermost frame leaves, and the frame's newest point. The port may be given bare.
-pub fn leaving(
+/// The innermost frame as a point; none exactly where its instance is too large.
+pub fn made(
     frames: &mut Frames,
-    port: Port,
-    may_be_bare: bool,
-) -> Result<(Given, u32), AllocError>
+    alloc: Global,
+    before: Option<Step>,
+    unread: Unread,
+) -> Result<Option<Given>, AllocError>
+    requires { 0 < length frames.old.current }
+    ensures made { IfOk result (λ o. Makes unread o frames.old.current before) }
+    ensures kept { frames.new ≡ frames.old }
+{
+    if unread.points {
+        if !frames.fits()? {
+            return Ok(None);
+        }
+        return Ok(Some(Given::Point));
+    }
+    match frames.point(alloc, before)? {
+        Some(point) => Ok(Some(Given::Whole(Item::Made(point)))),
+        None => Ok(None),
+    }
+}
+
+/// A port of the box that the innermost frame leaves, and the frame's newest point.
+pub fn leaving(frames: &mut Frames, port: Port, unread: Unread) -> Result<(Given, u32), AllocError>
     requires some { 0 < length frames.old.current }
     requires later { port ≢ Port.Call }
     ensures left { IfOk result
-        (λ x. Tells may_be_bare x.0 (IsLeft frames.old.current port x.1)) }
+        (λ x. Tells unread x.0 (IsLeft frames.old.current port x.1)) }
     ensures kept { frames.new ≡ frames.old }
 {
-    if !may_be_bare {
+    if !unread.ports {
         let (left, point) = frames.exited()?;
         return Ok((Given::Whole(event(port, left)), point));
     }
     match frames.newest() {
         None => unreachable!(),
-        Some((box_no, point)) => Ok((Given::Bare(port, box_no), point)),
+        Some((box_no, point)) => Ok((Given::Port(port, box_no), point)),
     }
 }
 
-/// Fail of the goal that the frames call in this box; what was saved for it is given up. The port may be given bare.
-pub fn fail(frames: &mut Frames, box_no: u32, may_be_bare: bool) -> Result<Given, AllocError>
+/// Fail of the goal that the frames call in this box; what was saved for it is given up.
+pub fn fail(frames: &mut Frames, box_no: u32, unread: Unread) -> Result<Given, AllocError>
     requires saved { 0 < length frames.old.saved }
     requires deep { MayCall frames.old.current }
     requires goal { (g : Called) × Calls frames.old.current box_no g }
     ensures { IfOk result
-        (λ given. Tells may_be_bare given (HasFailed box_no frames.old frames.new)) }
+        (λ given. Tells unread given (HasFailed box_no frames.old frames.new)) }
 {
-    if may_be_bare {
+    if unread.ports {
         frames.forget();
-        return Ok(Given::Bare(Port::Fail, box_no));
+        return Ok(Given::Port(Port::Fail, box_no));
     }
     match frames.look(box_no)? {
         Look::Goal(g) => {

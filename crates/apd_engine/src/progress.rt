@@ -9,7 +9,7 @@ ghost use Rattle.apd_trace.specs.Run.{shown_of};
 ghost use Rattle.apd_engine.specs.Cut.{IsCut, is_write_fault};
 ghost use Rattle.apd_engine.specs.Progress.{Course, HasEnded, IsOn, at_first, items_left};
 
-use crate::given::Given;
+use crate::given::{Given, Unread};
 use crate::recording::tell_bare;
 use crate::running::RunFault;
 use crate::search::Search;
@@ -106,8 +106,11 @@ impl Progress {
             (IsCut H.step course.start (shown_of course.run.passed) hook.new) }
         ensures cause { Counts is_write_fault (H.faults course.start) (H.faults hook.new) result }
     {
-        let may_be_bare = hook.ignores_ports();
-        let Some(given) = self.search.next(alloc, program, may_be_bare)? else {
+        let unread = Unread {
+            ports: hook.ignores_ports(),
+            points: false,
+        };
+        let Some(given) = self.search.next(alloc, program, unread)? else {
             return Ok(Some(self.ended(RunEnd::Exhausted)));
         };
         match given {
@@ -125,7 +128,8 @@ impl Progress {
                 self.ports += 1;
                 Ok(None)
             }
-            Given::Bare(port, box_no) => {
+            Given::Point => unreachable!(),
+            Given::Port(port, box_no) => {
                 if self.ports == limits.budget {
                     return Ok(Some(self.ended(RunEnd::Budget)));
                 }

@@ -3,6 +3,6 @@ use Rattle.apd_frames.specs.Kept.{Kept}
 use Rattle.apd_engine.proofs.Telling.{tells_failed}
 use Rattle.apd_engine.proofs.given.fail.Goals as goal
 
-pub returns-then-may_be_bare : goal.returns-then-may_be_bare
-returns-then-may_be_bare c =
-    tells_failed c.args.may_be_bare c.args.box_no c.args.frames.now c.forget.new.self c.requires.goal.0 c.if-may_be_bare.true c.requires.goal.1 (ap (λ (f : Kept). f.saved) c.forget.ensures)
+pub returns-then-unread : goal.returns-then-unread
+returns-then-unread c =
+    tells_failed c.args.unread c.args.box_no c.args.frames.now c.forget.new.self c.requires.goal.0 c.if-unread.true c.requires.goal.1 (ap (λ (f : Kept). f.saved) c.forget.ensures)

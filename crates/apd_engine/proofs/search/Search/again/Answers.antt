@@ -11,7 +11,7 @@ pub returns : goal.returns
 returns c =
     let s = c.args.self.now in
     let h : IsRestored s.frames c.restore.new.self = record { current = c.restore.ensures.current; saved = c.restore.ensures.saved } in
-    tells_weaker c.args.may_be_bare c.in_ok-given.given (IsLeft c.restore.new.self.current Redo c.in_ok-given.field-0-1) (GivesAlways (coming_back Again s) _)
+    tells_weaker c.args.unread c.in_ok-given.given (IsLeft c.restore.new.self.current Redo c.in_ok-given.field-0-1) (GivesAlways (coming_back Again s) _)
     (λ i left P.
     gives_again P s.frames c.forget.new.self s.stack s.boxes s.points c.in_ok-given.field-0-1 left.goal s.mode i c.restore.new.self.current (drop 1 s.frames.saved) c.restore.ensures.current
     (ap (λ (f : Kept). f.saved) c.forget.ensures ∙ forgotten_so s.frames c.restore.new.self h c.leaving.new.frames c.in_ok-given.ensures.kept)

@@ -1,15 +1,19 @@
-use Rattle.std.proofs.Common.{◌≡◌, ◌∙◌, ◌∷◌, ap, subst, sym, refl}
+use Rattle.std.proofs.Common.{◌≡◌, ◌∙◌, ap, subst, sym, refl}
 use Rattle.apd_frames.specs.Kept.{Kept}
-use Rattle.apd_engine.specs.Search.{Gives, left_at}
+use Rattle.apd_engine.specs.Search.{Gives, called_at, left_at}
 use Rattle.apd_engine.specs.declared.search.Mode.TheVariants.{Forward}
 use Rattle.apd_engine.specs.declared.search.Search.{Search}
 use Rattle.apd_engine.proofs.Steps.{gives_call, gives_exit}
 use Rattle.apd_engine.proofs.search.Search.forward_whole.Goals as goal
 
-pub returns-in_ok-push-in-Goal : goal.returns-in_ok-push-in-Goal
-returns-in_ok-push-in-Goal c = λ P.
-    gives_call P c.args.self.now.frames c.save.new.self c.args.self.now.stack c.push.new.self c.args.self.now.boxes c.args.self.now.points c.in_ok-look.field-0 c.in-Goal.g c.event.result
-    c.in_ok-look.ensures.look c.in-Goal.is c.requires.goes c.requires.waits (c.in_ok-save-in-Goal.ensures ∙ ap (λ (f : Kept). record { current = f.current; saved = f.current ∷ f.saved }) c.in_ok-look.ensures.kept) c.in_ok-push-in-Goal.ensures.ok c.event.ensures
+pub returns-in_ok-call-in-Goal : goal.returns-in_ok-call-in-Goal
+returns-in_ok-call-in-Goal c = λ P.
+    let s = c.args.self.now in
+    let now : c.call.new.self ≡ called_at s =
+    c.in_ok-call-in-Goal.ensures ∙ ap (λ (f : Kept). called_at (record { frames = f; mode = s.mode; stack = s.stack; boxes = s.boxes; points = s.points })) c.in_ok-look.ensures.kept in
+    subst (λ (t : Search). Gives P Forward s.frames s.stack s.boxes s.points c.event.result t) (sym now)
+    (gives_call P s.frames (called_at s).frames s.stack (called_at s).stack s.boxes s.points c.in_ok-look.field-0 c.in-Goal.g c.event.result
+    c.in_ok-look.ensures.look c.in-Goal.is c.requires.goes c.requires.waits refl refl c.event.ensures)
 
 pub returns-in_ok-exit-in-Exit : goal.returns-in_ok-exit-in-Exit
 returns-in_ok-exit-in-Exit c = λ P.

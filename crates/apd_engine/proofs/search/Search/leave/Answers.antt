@@ -11,7 +11,7 @@ use Rattle.apd_engine.proofs.search.Search.leave.Goals as goal
 pub returns : goal.returns
 returns c =
     let s = c.args.self.now in
-    tells_weaker c.args.may_be_bare c.in_ok-given.given (IsLeft s.frames.current Exit c.in_ok-given.exit) (GivesAlways (in_mode Leave s) _)
+    tells_weaker c.args.unread c.in_ok-given.given (IsLeft s.frames.current Exit c.in_ok-given.exit) (GivesAlways (in_mode Leave s) _)
     (λ i left P.
     gives_leave P s.frames c.leave.new.self s.stack s.boxes s.points c.in_ok-given.exit left.goal i (sym left.exit) c.requires.goes c.requires.waits
     (c.leave.ensures ∙ ap (λ (f : Kept). record { current = outer f.current; saved = f.saved }) c.in_ok-given.ensures.kept) left.item)

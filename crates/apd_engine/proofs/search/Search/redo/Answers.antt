@@ -12,7 +12,7 @@ returns c =
     let s = c.args.self.now in
     let h : IsRestored s.frames c.restore.new.self = record { current = c.restore.ensures.current; saved = c.restore.ensures.saved } in
     let over = over_first s.frames c.restore.new.self h s.boxes c.args.box_no s.stack c.requires.waits in
-    tells_weaker c.args.may_be_bare c.in_ok-given.given (IsLeft c.restore.new.self.current Redo c.in_ok-given.field-0-1) (GivesAlways (coming_back (Over c.args.box_no) s) _)
+    tells_weaker c.args.unread c.in_ok-given.given (IsLeft c.restore.new.self.current Redo c.in_ok-given.field-0-1) (GivesAlways (coming_back (Over c.args.box_no) s) _)
     (λ i left P.
     gives_redo P s.frames c.forget.new.self s.stack c.push.new.self s.boxes s.points c.args.box_no c.in_ok-given.field-0-1 left.goal s.mode i c.restore.new.self.current over.frames over.older
     (c.restore.ensures.current ∙ ap (λ S. c.restore.new.self.current ∷ S) over.is)

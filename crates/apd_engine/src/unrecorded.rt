@@ -1,0 +1,142 @@
+//! A run on the way that leaves no record: its ports and answers are shown, and no point of it is written out.
+
+ghost use Rattle.std.specs.Prelude.{◌≡◌, ◌<◌, ◌≤◌, MatchOption, IfNone, IfOk, IfErr};
+ghost use Rattle.apd_base.specs.Counts.{Counts};
+ghost use Rattle.apd_base.specs.declared.limits.TheConstants.{MOST_SHOWN};
+ghost use Rattle.apd_clauses.specs.Clauses.{IsProgram, IsRunnable, tuples_of};
+ghost use Rattle.apd_trace.specs.Run.{shown_of};
+ghost use Rattle.apd_engine.specs.Cut.{IsCut, is_write_fault};
+ghost use Rattle.apd_engine.specs.Progress.{Course};
+ghost use Rattle.apd_engine.specs.Unrecorded.{HasShown, IsShowing, first_shown, items_ahead};
+
+use crate::given::{Given, Unread};
+use crate::progress::Limits;
+use crate::running::RunFault;
+use crate::search::Search;
+use apd_causes::{Ran, RunEnd};
+use apd_clauses::Program;
+use apd_ports::Hook;
+use apd_term::Tuple;
+use apd_trace::Item;
+use std::alloc::{AllocError, Global};
+
+/// Where such a run stands: its search, and how many ports and answers were passed.
+#[derive(Drop)]
+pub struct Unrecorded {
+    search: Search,
+    ports: u32,
+    answered: u32,
+}
+
+impl Unrecorded {
+    /// A run before its first item.
+    pub fn open(alloc: Global, query: &Tuple) -> Result<Unrecorded, AllocError>
+        requires { IsRunnable query.now }
+        ensures { IfOk result (λ p. p ≡ first_shown query.now) }
+    {
+        let search = Search::open(alloc, query)?;
+        Ok(Unrecorded {
+            search,
+            ports: 0,
+            answered: 0,
+        })
+    }
+
+    /// The run ends so here.
+    fn ended(&self, end: RunEnd) -> Ran
+        ensures { result ≡
+            record { end = end; ports = self.now.ports; answers = self.now.answered } }
+    {
+        Ran {
+            end,
+            ports: self.ports,
+            answers: self.answered,
+        }
+    }
+
+    /// Passes the next item; or tells how the run ended, where it passes no more after this.
+    fn pass<H: Hook>(
+        &mut self,
+        alloc: Global,
+        program: &Program,
+        limits: Limits,
+        hook: &mut H,
+    ) -> Result<Option<Ran>, RunFault>
+        ghost course: { Course H }
+        requires program { IsProgram program.now }
+        requires budget_limit { limits.budget ≤ MOST_SHOWN }
+        requires answers_limit { limits.answers ≤ MOST_SHOWN }
+        requires on { IsShowing H.step H.faults course (tuples_of program.now) limits
+            self.old hook.old }
+        ensures passed { IfOk result (λ o. MatchOption o
+            (IsShowing H.step H.faults course (tuples_of program.now) limits self.new hook.new)
+            (λ ran. HasShown H.step course hook.new ran)) }
+        ensures nearer { IfOk result (λ o. IfNone o
+            (items_ahead limits self.new < items_ahead limits self.old)) }
+        ensures cut { IfErr result
+            (IsCut H.step course.start (shown_of course.run.passed) hook.new) }
+        ensures cause { Counts is_write_fault (H.faults course.start) (H.faults hook.new) result }
+    {
+        let unread = Unread {
+            ports: hook.ignores_ports(),
+            points: true,
+        };
+        let Some(given) = self.search.next(alloc, program, unread)? else {
+            return Ok(Some(self.ended(RunEnd::Exhausted)));
+        };
+        match given {
+            Given::Point => Ok(None),
+            Given::Whole(Item::Made(_)) => Ok(None),
+            Given::Whole(Item::Error(error, at)) => Ok(Some(self.ended(RunEnd::Error(error, at)))),
+            Given::Whole(Item::Passed(event)) => {
+                if self.ports == limits.budget {
+                    return Ok(Some(self.ended(RunEnd::Budget)));
+                }
+                hook.event(&event)?;
+                self.ports += 1;
+                Ok(None)
+            }
+            Given::Port(_, _) => {
+                if self.ports == limits.budget {
+                    return Ok(Some(self.ended(RunEnd::Budget)));
+                }
+                self.ports += 1;
+                Ok(None)
+            }
+            Given::Whole(Item::Answer(values)) => {
+                hook.answer(&values)?;
+                self.answered += 1;
+                if self.answered == limits.answers {
+                    return Ok(Some(self.ended(RunEnd::AnswerLimit)));
+                }
+                Ok(None)
+            }
+        }
+    }
+
+    /// Passes items until the run ends, and tells how.
+    pub fn pass_all<H: Hook>(
+        &mut self,
+        alloc: Global,
+        program: &Program,
+        limits: Limits,
+        hook: &mut H,
+    ) -> Result<Ran, RunFault>
+        ghost course: { Course H }
+        requires program { IsProgram program.now }
+        requires budget_limit { limits.budget ≤ MOST_SHOWN }
+        requires answers_limit { limits.answers ≤ MOST_SHOWN }
+        requires on { IsShowing H.step H.faults course (tuples_of program.now) limits
+            self.old hook.old }
+        ensures ended { IfOk result (λ ran. HasShown H.step course hook.new ran) }
+        ensures cut { IfErr result
+            (IsCut H.step course.start (shown_of course.run.passed) hook.new) }
+        ensures cause { Counts is_write_fault (H.faults course.start) (H.faults hook.new) result }
+    {
+        'items: loop {
+            if let Some(ran) = self.pass(alloc, program, limits, hook)? {
+                return Ok(ran);
+            }
+        }
+    }
+}

@@ -11,9 +11,9 @@
 top=$(cd "$(dirname "$0")/.." && pwd) || exit 1
 work=$(mktemp -d) || exit 1
 trap 'rm -rf "$work"' EXIT
-# The launcher builds the program; it is then timed by itself.
-"$top/apd" "$top/examples/facts.pl" </dev/null >/dev/null
-program=$top/crates/apd/out/apd
+# The launcher builds the program, unless one is named; it is then timed by itself.
+[ -n "$1" ] || "$top/apd" "$top/examples/facts.pl" </dev/null >/dev/null
+program=${1:-$top/crates/apd/out/apd}
 
 cat >"$work/queens.pl" <<'PROGRAM'
 queens(Qs) :- permutation([1,2,3,4,5,6,7,8], Qs), safe(Qs).

@@ -1,4 +1,5 @@
 pub mod Runs
+pub mod Histories
 pub mod Printing
 pub mod Printed
 pub mod Running

@@ -3,25 +3,24 @@ ghost use Rattle.std.specs.Prelude.{◌≡◌, ◌<◌, ◌≤◌, [], ◌∷◌
 ghost use Rattle.apd_clauses.specs.Clauses.{MayRun};
 ghost use Rattle.apd_console.specs.Print.{AddsFront};
 ghost use Rattle.apd_io.specs.Outside.{Adds};
-ghost use Rattle.apd_record.specs.Recorded.{empty};
 ghost use Rattle.apd_term.specs.Named.{TupleIsNamed};
 ghost use Rattle.apd_text.specs.Entries.{Finishes};
 ghost use Rattle.apd_text.specs.Lines.{end_text};
 ghost use Rattle.apd_trace.specs.Run.{ran_of};
 ghost use Rattle.apd_words.specs.Words.{AreLimits};
 ghost use Rattle.apd_query.specs.Printed.{lines_by};
-ghost use Rattle.apd_query.specs.Running.{Begins, BeginsFront, IsReady, IsRecordOf, IsRunOf, lines_of};
+ghost use Rattle.apd_query.specs.Running.{Begins, BeginsFront, IsReady, IsRunOf, lines_of};
 ghost use Rattle.apd_query.specs.Runs.{last_run, run_in, said_for};
 ghost use Rattle.apd_talk.specs.Speech.{HasWriteCause, Says, spoken};
 
+use crate::history::History;
 use crate::printer::Printer;
 use crate::state::{LastRun, State};
 use apd_causes::{Query, Ran};
 use apd_console::Console;
-use apd_engine::{RunFault, run};
+use apd_engine::{RunFault, show};
 use apd_io::Sink;
 use apd_ports::Admit;
-use apd_record::Record;
 use apd_talk::Trouble;
 use apd_text::{Entry, Log, end_line, head_line};
 use std::alloc::Global;
@@ -57,13 +56,12 @@ fn begin_run<K: Sink>(
     Ok(())
 }
 
-/// Searches, and shows the printer the ports and the answers, and the record what is passed.
-fn show<K: Sink>(
+/// Searches, and shows the printer the ports and the answers.
+fn show_to<K: Sink>(
     alloc: Global,
     state: &State,
     query: &Query,
     printer: &mut Printer<K>,
-    history: &mut Record,
 ) -> Result<Ran, Trouble>
     requires limits { AreLimits state.now.budget state.now.answers }
     requires runnable { MayRun query.now.tuple }
@@ -74,20 +72,11 @@ fn show<K: Sink>(
         (lines_by printer.old (run_in state.now query.now))) }
     ensures err { OnErr result (AddsFront (K.held printer.old.out.now) (K.held printer.new.out.now)
         (lines_by printer.old (run_in state.now query.now))) }
-    ensures kept { OnOk result (IsRecordOf state.now query.now history.new) }
-    ensures emptied { OnErr result (history.new ≡ empty) }
     ensures cause { HasWriteCause
         (K.faults printer.old.out.now) (K.faults printer.new.out.now) result }
 {
-    match run(
-        alloc,
-        &state.program,
-        query,
-        state.budget,
-        state.answers,
-        printer,
-        history,
-    ) {
+    let program = state.program.get();
+    match show(alloc, program, query, state.budget, state.answers, printer) {
         Ok(ran) => Ok(ran),
         Err(RunFault::WriteFault) => Err(Trouble::WriteFault),
         Err(RunFault::Memory) => Err(Trouble::Memory),
@@ -101,7 +90,6 @@ fn search<K: Sink>(
     query: &Query,
     log: &Log,
     out: &mut K,
-    history: &mut Record,
 ) -> Result<Ran, Trouble>
     requires ready { IsReady (length log.now.names) state.now }
     requires runnable { MayRun query.now.tuple }
@@ -110,11 +98,8 @@ fn search<K: Sink>(
         (lines_of log.now.ops log.now.names state.now query.now)) }
     ensures err { OnErr result (AddsFront (K.held out.old) (K.held out.new)
         (lines_of log.now.ops log.now.names state.now query.now)) }
-    ensures kept { OnOk result (IsRecordOf state.now query.now history.new) }
-    ensures emptied { OnErr result (history.new ≡ empty) }
     ensures cause { HasWriteCause (K.faults out.old) (K.faults out.new) result }
 {
-    *history = Record::new(alloc);
     let mut admit = Admit::new(alloc, &state.filter)?;
     let mut printer = Printer {
         alloc,
@@ -125,7 +110,7 @@ fn search<K: Sink>(
         admit: &mut admit,
         answers: 0,
     };
-    show(alloc, state, query, &mut printer, history)
+    show_to(alloc, state, query, &mut printer)
 }
 
 /// Sets the end of a run in the log, and prints its last line.
@@ -163,9 +148,12 @@ pub fn run_query<K: Sink>(
     ensures says { Says (λ ops names. said_for ops names state.now query ∷ [])
         (spoken K.Sink log.old out.old) (spoken K.Sink log.new out.new) result }
 {
+    let _count = state.program.get().count();
+    let program = state.program.share()?;
+    let asked = query.copy(alloc)?;
+    let history = History::new(program, asked, state.budget, state.answers);
     begin_run(alloc, state, &query, out, log)?;
-    let mut history = Record::new(alloc);
-    let ran = search(alloc, state, &query, log, out, &mut history)?;
+    let ran = search(alloc, state, &query, log, out)?;
     end_run(alloc, ran, out, log)?;
     Ok(LastRun {
         query,

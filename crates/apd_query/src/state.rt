@@ -1,17 +1,17 @@
+use crate::history::History;
+use crate::shared::SharedProgram;
 use apd_answers::Answers;
 use apd_causes::{Query, RunEnd};
-use apd_clauses::Program;
 use apd_divide::Strategy;
 use apd_ports::Filter;
-use apd_record::Record;
 
 /// The last run of a session.
 #[derive(Drop)]
 pub struct LastRun {
     /// What was asked.
     pub query: Query,
-    /// The boxes and points of its search.
-    pub history: Record,
+    /// The boxes and points of its search, recorded when they are first asked for.
+    pub history: History,
     /// How it ended.
     pub end: RunEnd,
 }
@@ -20,7 +20,7 @@ pub struct LastRun {
 #[derive(Drop)]
 pub struct State {
     /// The program that was loaded.
-    pub program: Program,
+    pub program: SharedProgram,
     /// The most ports that a run shows, from 1 to 1,000,000.
     pub budget: u32,
     /// The most answers that a run shows, from 1 to 1,000,000.

@@ -22,6 +22,7 @@ ghost use Rattle.apd_words.specs.Words.{AreLimits, asked_options};
 
 use crate::diagnosing::keep_symptom;
 use crate::notes::say_opening;
+use crate::remembering::remember;
 use crate::status::{Status, status_of};
 use crate::top::{end_with, first_state};
 use crate::turns::answer;
@@ -109,21 +110,22 @@ fn blame<K: Sink>(
     let Some(run) = &state.last else {
         return Ok(());
     };
-    let exit = match exit_of(&run.history, 1, 1) {
+    let history = run.history.made()?;
+    let exit = match exit_of(history, 1, 1) {
         Ok(exit) => exit,
         Err(refusal) => return say(alloc, out, log, Entry::Refused { refusal }),
     };
-    let Tuple { head: label, .. } = run.history.tuple(exit)?;
+    let Tuple { head: label, .. } = history.tuple(exit)?;
     let what = Told::Wrong(label.copy(alloc)?);
     keep_symptom(alloc, what, &mut state.replies, out, log)?;
     let tree = Tree {
         nodes,
-        program: &state.program,
+        program: state.program.get(),
     };
     let finding = diagnose_tree(
         alloc,
         tree,
-        &run.history,
+        history,
         exit,
         &label,
         state.strategy,
@@ -132,7 +134,15 @@ fn blame<K: Sink>(
         out,
         log,
     )?;
-    say_found(alloc, nodes, state.asked, &state.program, finding, out, log)
+    say_found(
+        alloc,
+        nodes,
+        state.asked,
+        state.program.get(),
+        finding,
+        out,
+        log,
+    )
 }
 
 /// Runs the query that a command asks for, and diagnoses its answer.
@@ -153,6 +163,7 @@ fn ask<K: Sink>(
     match command {
         Command::Query(query) => {
             answer(alloc, state, query, out, log)?;
+            remember(alloc, state)?;
             blame(alloc, nodes, state, out, log)
         }
         _ => Ok(()),
@@ -179,7 +190,7 @@ fn demonstrate<K: Sink>(
         shown_said ops names nodes state.old passed.now called.now command)
         (spoken K.Sink log.old out.old) (spoken K.Sink log.new out.new) result }
 {
-    say_opening(alloc, &state.program, passed, called, None, out, log)?;
+    say_opening(alloc, state.program.get(), passed, called, None, out, log)?;
     ask(alloc, nodes, state, command, out, log)
 }
 
@@ -262,8 +273,10 @@ pub(crate) fn serve_tree<K: Sink>(
                 warnings,
             },
         ) => {
+            let Ok(mut state) = first_state(alloc, asked, program, Answers::new(alloc)) else {
+                return Status::Memory;
+            };
             log.ops = ops;
-            let mut state = first_state(asked, program, Answers::new(alloc));
             let passed = passed.as_slice();
             let called = warnings.as_slice();
             status_shown(show(alloc, nodes, &mut state, passed, called, out, log))

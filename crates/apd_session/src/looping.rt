@@ -126,16 +126,17 @@ pub(crate) fn no_end<S: Source, K: Sink>(
     let Some(run) = &state.last else {
         return refuse(alloc, Refusal::NoRun, out, log);
     };
-    let calls = match stopped_chain(&run.history, run.end)? {
+    let history = run.history.made()?;
+    let calls = match stopped_chain(history, run.end)? {
         Ok(calls) => calls,
         Err(refusal) => return refuse(alloc, refusal, out, log),
     };
-    is_program(&state.program);
-    let count = call_count(&run.history, &calls);
+    is_program(state.program.get());
+    let count = call_count(history, &calls);
     keep_symptom(alloc, Told::NoEnd(count), &mut state.replies, out, log)?;
     let answer = diagnose(
         alloc,
-        &run.history,
+        history,
         &calls,
         state.strategy,
         &mut state.replies,
@@ -145,5 +146,5 @@ pub(crate) fn no_end<S: Source, K: Sink>(
         out,
         log,
     );
-    conclude_loop(alloc, &state.program, count, answer, out, log)
+    conclude_loop(alloc, state.program.get(), count, answer, out, log)
 }

@@ -131,7 +131,8 @@ pub(crate) fn missing<S: Source, K: Sink>(
     let Some(run) = &state.last else {
         return refuse(alloc, Refusal::NoRun, out, log);
     };
-    let found = match unanswered_box(alloc, &run.history, box_no, &atom)? {
+    let history = run.history.made()?;
+    let found = match unanswered_box(alloc, history, box_no, &atom)? {
         Ok(found) => found,
         Err(refusal) => return refuse(alloc, refusal, out, log),
     };
@@ -139,8 +140,8 @@ pub(crate) fn missing<S: Source, K: Sink>(
     keep_symptom(alloc, what, &mut state.replies, out, log)?;
     let answer = diagnose(
         alloc,
-        &state.program,
-        &run.history,
+        state.program.get(),
+        history,
         found,
         &atom,
         &mut state.replies,
@@ -150,5 +151,5 @@ pub(crate) fn missing<S: Source, K: Sink>(
         out,
         log,
     );
-    conclude(alloc, &state.program, answer, out, log)
+    conclude(alloc, state.program.get(), answer, out, log)
 }

@@ -124,16 +124,17 @@ pub(crate) fn wrong<S: Source, K: Sink>(
     let Some(run) = &state.last else {
         return refuse(alloc, Refusal::NoRun, out, log);
     };
-    let exit = match exit_of(&run.history, box_no, exit) {
+    let history = run.history.made()?;
+    let exit = match exit_of(history, box_no, exit) {
         Ok(exit) => exit,
         Err(refusal) => return refuse(alloc, refusal, out, log),
     };
-    let Tuple { head: label, .. } = run.history.tuple(exit)?;
+    let Tuple { head: label, .. } = history.tuple(exit)?;
     let what = Told::Wrong(label.copy(alloc)?);
     keep_symptom(alloc, what, &mut state.replies, out, log)?;
     let answer = diagnose(
         alloc,
-        &run.history,
+        history,
         exit,
         &label,
         state.strategy,
@@ -144,5 +145,5 @@ pub(crate) fn wrong<S: Source, K: Sink>(
         out,
         log,
     );
-    conclude(alloc, &state.program, answer, out, log)
+    conclude(alloc, state.program.get(), answer, out, log)
 }

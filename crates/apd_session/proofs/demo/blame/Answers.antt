@@ -20,17 +20,22 @@ returns-in_default g c =
     Says-as (λ ops names. []) (λ ops names. blamed ops names c.args.nodes c.args.state.now c.args.state.now.last) _ _ (Ok (tt {0})) (λ ops names. sym (blamed_none ops names c.args.nodes c.args.state.now c.in_default.is))
     (Says-nothing (spoken g.K.Sink c.args.log.now c.args.out.now) (tt {0}))
 
+pub returns-in_err-history : goal.returns-in_err-history
+returns-in_err-history g c =
+    let e = err_from_is_err_and c.from_residual.result c.from_residual.ensures.1 in
+    rw (e.1, e.2) (Says-none (λ ops names. blamed ops names c.args.nodes c.args.state.now c.args.state.now.last) _ _ refl refl refl refl refl)
+
 pub returns-in-Err : goal.returns-in-Err
 returns-in-Err g c =
     Says-as (one (Refused c.in-Err.refusal)) (λ ops names. blamed ops names c.args.nodes c.args.state.now c.args.state.now.last) _ _ c.say.result
-    (λ ops names. sym (blamed_refused ops names c.args.nodes c.args.state.now c.in-Some.run' c.in-Err.refusal c.in-Some.is c.in-Err.ensures.exit)) c.say.ensures
+    (λ ops names. sym (blamed_refused ops names c.args.nodes c.args.state.now c.in-Some.run' c.in-Err.refusal c.in-Some.is (rw c.in_ok-history.ensures at c.in-Err.ensures.exit))) c.say.ensures
 
 pub tuple-requires : goal.tuple-requires
 tuple-requires g c = point_below _ _ c.in-Ok.ensures.user.point c.in-Ok.ensures.user.there
 
 pub returns-in_err-label : goal.returns-in_err-label
 returns-in_err-label g c =
-    let e = err_from_is_err_and c.from_residual.result c.from_residual.ensures.1 in
+    let e = err_from_is_err_and c.from_residual-in_err-label.result c.from_residual-in_err-label.ensures.1 in
     rw (e.1, e.2) (Says-none (λ ops names. blamed ops names c.args.nodes c.args.state.now c.args.state.now.last) _ _ refl refl refl refl refl)
 
 pub returns-in_err-copy : goal.returns-in_err-copy
@@ -40,14 +45,14 @@ returns-in_err-copy g c =
 
 pub keep_symptom-requires : goal.keep_symptom-requires
 keep_symptom-requires g c =
-    let user = c.in-Ok.ensures.user in
-    let label = label_named (length c.args.log.now.names) c.args.state.now c.in-Some.run' c.in-Ok.exit.0 user.point c.in_ok-label.field-0 c.in-Some.is c.requires.ready.ready user.there (rw user.there at c.in_ok-label.ensures) in
+    let user = rw c.in_ok-history.ensures at c.in-Ok.ensures.user in
+    let label = label_named (length c.args.log.now.names) c.args.state.now c.in-Some.run' c.in-Ok.exit.0 user.point c.in_ok-label.field-0 c.in-Some.is c.requires.ready.ready user.there (rw user.there at (rw c.in_ok-history.ensures at c.in_ok-label.ensures)) in
     rw c.in_ok-copy.ensures label
 
 pub returns-in_err-keep_symptom : goal.returns-in_err-keep_symptom
 returns-in_err-keep_symptom g c =
-    let user = c.in-Ok.ensures.user in
-    let tuple = rw user.there at c.in_ok-label.ensures in
+    let user = rw c.in_ok-history.ensures at c.in-Ok.ensures.user in
+    let tuple = rw user.there at (rw c.in_ok-history.ensures at c.in_ok-label.ensures) in
     let head = head_is c.in-Some.run'.history c.in-Ok.exit.0 user.point c.in_ok-label.field-0 user.there tuple in
     let atom = c.in_ok-label.field-0.head in
     let e = err_from_is_err_and c.from_residual-in_err-keep_symptom.result c.from_residual-in_err-keep_symptom.ensures.1 in
@@ -55,36 +60,37 @@ returns-in_err-keep_symptom g c =
     let questions = questions_of c.args.nodes c.args.state.now c.in-Some.run' c.in-Ok.exit.0 atom in
     let found = found_of c.args.nodes c.args.state.now c.in-Some.run' c.in-Ok.exit.0 atom in
     rw (e.1, e.2)
-    (Says-as (both first (both questions found)) (λ ops names. blamed ops names c.args.nodes c.args.state.now c.args.state.now.last) _ _ (Err _) (blamed_parts c.args.nodes c.args.state.now c.in-Some.run' c.in-Ok.exit.0 atom c.in-Some.is c.in-Ok.ensures.exit head)
+    (Says-as (both first (both questions found)) (λ ops names. blamed ops names c.args.nodes c.args.state.now c.args.state.now.last) _ _ (Err _) (blamed_parts c.args.nodes c.args.state.now c.in-Some.run' c.in-Ok.exit.0 atom c.in-Some.is (rw c.in_ok-history.ensures at c.in-Ok.ensures.exit) head)
     (Says-less first (both questions found) _ _ _ (rw c.in_ok-copy.ensures at c.in_err-keep_symptom.ensures.says)))
 
 pub diagnose_tree-requires-clause-labelled : goal.diagnose_tree-requires-clause-labelled
 diagnose_tree-requires-clause-labelled g c =
-    let user = c.in-Ok.ensures.user in labelled c.in-Some.run'.history c.in-Ok.exit.0 c.in_ok-label.field-0 user (rw user.there at c.in_ok-label.ensures)
+    let user = rw c.in_ok-history.ensures at c.in-Ok.ensures.user in
+    rw c.in_ok-history.ensures (labelled c.in-Some.run'.history c.in-Ok.exit.0 c.in_ok-label.field-0 user (rw user.there at (rw c.in_ok-history.ensures at c.in_ok-label.ensures)))
 
 pub diagnose_tree-requires-clause-symptom : goal.diagnose_tree-requires-clause-symptom
 diagnose_tree-requires-clause-symptom g c = rw (c.in_ok-keep_symptom.ensures.replies, c.in_ok-copy.ensures) (added-no c.args.state.now.replies c.in_ok-label.field-0.head)
 
 pub diagnose_tree-requires-clause-known : goal.diagnose_tree-requires-clause-known
 diagnose_tree-requires-clause-known g c =
-    let user = c.in-Ok.ensures.user in
-    let label = label_named (length c.args.log.now.names) c.args.state.now c.in-Some.run' c.in-Ok.exit.0 user.point c.in_ok-label.field-0 c.in-Some.is c.requires.ready.ready user.there (rw user.there at c.in_ok-label.ensures) in
+    let user = rw c.in_ok-history.ensures at c.in-Ok.ensures.user in
+    let label = label_named (length c.args.log.now.names) c.args.state.now c.in-Some.run' c.in-Ok.exit.0 user.point c.in_ok-label.field-0 c.in-Some.is c.requires.ready.ready user.there (rw user.there at (rw c.in_ok-history.ensures at c.in_ok-label.ensures)) in
     let n : ℕ = length c.args.log.now.names in
-    rw c.in_ok-keep_symptom.ensures.says.names (c.requires.ready.ready.standard, tree-named n c.in-Some.run'.history c.in-Ok.exit.0 c.in_ok-label.field-0.head (run_named n c.args.state.now c.in-Some.run' c.in-Some.is c.requires.ready.ready) label)
+    rw (c.in_ok-history.ensures, c.in_ok-keep_symptom.ensures.says.names) (c.requires.ready.ready.standard, tree-named n c.in-Some.run'.history c.in-Ok.exit.0 c.in_ok-label.field-0.head (run_named n c.args.state.now c.in-Some.run' c.in-Some.is c.requires.ready.ready) label)
 
 pub returns-in_err-finding : goal.returns-in_err-finding
 returns-in_err-finding g c =
-    let user = c.in-Ok.ensures.user in
-    let tuple = rw user.there at c.in_ok-label.ensures in
+    let user = rw c.in_ok-history.ensures at c.in-Ok.ensures.user in
+    let tuple = rw user.there at (rw c.in_ok-history.ensures at c.in_ok-label.ensures) in
     let head = head_is c.in-Some.run'.history c.in-Ok.exit.0 user.point c.in_ok-label.field-0 user.there tuple in
     let atom = c.in_ok-label.field-0.head in
     let e = err_from_is_err_and c.from_residual-in_err-finding.result c.from_residual-in_err-finding.ensures.1 in
     let first = symptom_of atom in
     let questions = questions_of c.args.nodes c.args.state.now c.in-Some.run' c.in-Ok.exit.0 atom in
     let found = found_of c.args.nodes c.args.state.now c.in-Some.run' c.in-Ok.exit.0 atom in
-    let said = rw (c.in_ok-keep_symptom.ensures.replies, c.in_ok-copy.ensures) at c.in_err-finding.ensures.says in
+    let said = rw (c.in_ok-keep_symptom.ensures.replies, c.in_ok-copy.ensures) at (rw (c.in_ok-history.ensures, c.get.ensures) at c.in_err-finding.ensures.says) in
     rw (e.1, e.2)
-    (Says-as (both first (both questions found)) (λ ops names. blamed ops names c.args.nodes c.args.state.now c.args.state.now.last) _ _ (Err _) (blamed_parts c.args.nodes c.args.state.now c.in-Some.run' c.in-Ok.exit.0 atom c.in-Some.is c.in-Ok.ensures.exit head)
+    (Says-as (both first (both questions found)) (λ ops names. blamed ops names c.args.nodes c.args.state.now c.args.state.now.last) _ _ (Err _) (blamed_parts c.args.nodes c.args.state.now c.in-Some.run' c.in-Ok.exit.0 atom c.in-Some.is (rw c.in_ok-history.ensures at c.in-Ok.ensures.exit) head)
     (Says-more first (both questions found) _ (spoken g.K.Sink c.keep_symptom.new.log c.keep_symptom.new.out) _ _ (Err _) (rw c.in_ok-copy.ensures at c.in_ok-keep_symptom.ensures.says)
     (Says-less questions found _ _ _ said)))
 
@@ -99,16 +105,16 @@ say_found-requires-clause-named g c = rw c.in_ok-finding.ensures.says.names c.in
 
 pub returns : goal.returns
 returns g c =
-    let user = c.in-Ok.ensures.user in
-    let tuple = rw user.there at c.in_ok-label.ensures in
+    let user = rw c.in_ok-history.ensures at c.in-Ok.ensures.user in
+    let tuple = rw user.there at (rw c.in_ok-history.ensures at c.in_ok-label.ensures) in
     let head = head_is c.in-Some.run'.history c.in-Ok.exit.0 user.point c.in_ok-label.field-0 user.there tuple in
     let atom = c.in_ok-label.field-0.head in
     let first = symptom_of atom in
     let questions = questions_of c.args.nodes c.args.state.now c.in-Some.run' c.in-Ok.exit.0 atom in
     let found = found_of c.args.nodes c.args.state.now c.in-Some.run' c.in-Ok.exit.0 atom in
-    let done = rw (c.in_ok-keep_symptom.ensures.replies, c.in_ok-copy.ensures) at c.in_ok-finding.ensures in
-    Says-as (both first (both questions found)) (λ ops names. blamed ops names c.args.nodes c.args.state.now c.args.state.now.last) _ _ c.say_found.result (blamed_parts c.args.nodes c.args.state.now c.in-Some.run' c.in-Ok.exit.0 atom c.in-Some.is c.in-Ok.ensures.exit head)
+    let done = rw (c.in_ok-keep_symptom.ensures.replies, c.in_ok-copy.ensures) at (rw (c.in_ok-history.ensures, c.get.ensures) at c.in_ok-finding.ensures) in
+    Says-as (both first (both questions found)) (λ ops names. blamed ops names c.args.nodes c.args.state.now c.args.state.now.last) _ _ c.say_found.result (blamed_parts c.args.nodes c.args.state.now c.in-Some.run' c.in-Ok.exit.0 atom c.in-Some.is (rw c.in_ok-history.ensures at c.in-Ok.ensures.exit) head)
     (Says-more first (both questions found) _ (spoken g.K.Sink c.keep_symptom.new.log c.keep_symptom.new.out) _ _ c.say_found.result (rw c.in_ok-copy.ensures at c.in_ok-keep_symptom.ensures.says)
     (Says-more questions found _ (spoken g.K.Sink c.diagnose_tree.new.log c.diagnose_tree.new.sink) _ _ c.say_found.result done.says
     (Says-as (λ ops names. found_said ops names c.args.state.now.program c.args.nodes c.diagnose_tree.new.asked (ends c.in_ok-finding.finding)) found _ _ c.say_found.result
-    (λ ops names. ap₂ (λ (k : ℕ) (t : Turn Tree Finding). found_said ops names c.args.state.now.program c.args.nodes k t) done.done.asked (sym done.done.ends_so)) c.say_found.ensures)))
+    (λ ops names. ap₂ (λ (k : ℕ) (t : Turn Tree Finding). found_said ops names c.args.state.now.program c.args.nodes k t) done.done.asked (sym done.done.ends_so)) (rw c.get-2.ensures at c.say_found.ensures))))

@@ -38,6 +38,11 @@ returns-clause-said g c = λ names grew reader.
     let log : Log = record { names = c.load.new.names; ops = c.args.log.now.ops; entries = c.args.log.now.entries } in
     tree_unsaid reader (asked_options c.args.asked) c.args.nodes _ log (g.K.Sink.held c.args.out.now) c.requires.empty c.requires.ops
 
+pub returns-in_default-first_state-clause-said : goal.returns-in_default-first_state-clause-said
+returns-in_default-first_state-clause-said g c = λ names grew reader.
+    let log : Log = record { names = c.load.new.names; ops = c.args.log.now.ops; entries = c.args.log.now.entries } in
+    tree_unsaid reader (asked_options c.args.asked) c.args.nodes _ log (g.K.Sink.held c.args.out.now) c.requires.empty c.requires.ops
+
 pub show-requires-clause-ready : goal.show-requires-clause-ready
 show-requires-clause-ready g c =
     let grown : length c.args.log.now.names ≤ length c.load.new.names = Grown-length _ _ (grew_by _ _ _ c.load.ensures.grows) in
@@ -45,7 +50,7 @@ show-requires-clause-ready g c =
     let ready : IsPrepared (length c.load.new.names) (first_state c.in-Ok-load.field-0.program (asked_options c.args.asked) []) = record {
       ready = record { limits = c.requires.limits; standard = omega (arith, grown, e); named = c.in-Ok-load.ensures.named; last = tt };
       replies = tt;
-    } in rw (c.first_state-state.ensures, c.new.ensures) ready
+    } in rw (c.in-Ok-first_state.ensures, c.new.ensures) ready
 
 pub show-requires-clause-room : goal.show-requires-clause-room
 show-requires-clause-room g c =
@@ -63,7 +68,7 @@ returns-in-Ok-load-clause-said g c = λ names grew reader.
     let program = c.in-Ok-load.program-is in
     let ops = c.in-Ok-load.ops-is in
     let passed = c.as_slice-passed.ensures in
-    let said = rw (← c.status_shown.ensures, c.first_state-state.ensures, c.new.ensures) at (c.show.ensures.said names grew reader) in
+    let said = rw (← c.status_shown.ensures, c.in-Ok-first_state.ensures, c.new.ensures) at (c.show.ensures.said names grew reader) in
     tree_made reader (asked_options c.args.asked) c.args.nodes c.in-Ok.text c.bytes.result.now _ _ _ _ _ _ c.status_shown.result c.show.new.log (g.K.Sink.held c.args.out.now) (g.K.Sink.held c.show.new.out) said c.bytes.ensures c.in-Ok.ensures.text
     (only names reader _ _ (c.in-Ok-load.ensures.loaded names grown)) (cc) (cc) (cc)
 

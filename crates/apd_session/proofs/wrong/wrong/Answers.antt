@@ -24,9 +24,17 @@ returns-in_default g c =
     (moment g.S.Source g.K.Sink c.args.console.now c.args.input.now c.refuse.new.log c.refuse.new.out) refl refl refl (λ ops names. wrong_none ops names c.args.state.now c.args.box_no c.args.exit c.in_default.is)
     c.requires.sound c.refuse.result c.refuse.ensures.says c.refuse.ensures.goes c.requires.ready
 
+pub returns-in_err-history : goal.returns-in_err-history
+returns-in_err-history g c =
+    let p : Moment = moment g.S.Source g.K.Sink c.args.console.now c.args.input.now c.args.log.now c.args.out.now in
+    let e = err_from_is_err_and c.from_residual.result c.from_residual.ensures.1 in
+    rw (e.1, e.2)
+    (leads_broken (λ ops names. command_step ops names c.args.state.now (command.Wrong c.args.box_no c.args.exit)) p p refl refl refl c.requires.sound {T = Next} c.args.state.now _
+    (Says-none {T = Next} (λ ops names. (command_step ops names c.args.state.now (command.Wrong c.args.box_no c.args.exit)).utterances) p.spoken p.spoken refl refl refl refl refl))
+
 pub returns-in-Err : goal.returns-in-Err
 returns-in-Err g c =
-    let exit = rw (to_z-of_z _ c.args.box_no c.ranges.box_no, to_z-of_z _ c.args.exit c.ranges.exit) at c.in-Err.ensures.exit in
+    let exit = rw (to_z-of_z _ c.args.box_no c.ranges.box_no, to_z-of_z _ c.args.exit c.ranges.exit) at (rw c.in_ok-history.ensures at c.in-Err.ensures.exit) in
     refused_leads c.args.state.now (command.Wrong c.args.box_no c.args.exit) _ (moment g.S.Source g.K.Sink c.args.console.now c.args.input.now c.args.log.now c.args.out.now)
     (moment g.S.Source g.K.Sink c.args.console.now c.args.input.now c.refuse-in-Err.new.log c.refuse-in-Err.new.out) refl refl refl
     (λ ops names. wrong_refused ops names c.args.state.now c.args.box_no c.args.exit c.in-Some.run' c.in-Err.refusal c.in-Some.is exit)
@@ -38,7 +46,7 @@ tuple-requires g c = point_below _ _ c.in-Ok.ensures.user.point c.in-Ok.ensures.
 pub returns-in_err-label : goal.returns-in_err-label
 returns-in_err-label g c =
     let p : Moment = moment g.S.Source g.K.Sink c.args.console.now c.args.input.now c.args.log.now c.args.out.now in
-    let e = err_from_is_err_and c.from_residual.result c.from_residual.ensures.1 in
+    let e = err_from_is_err_and c.from_residual-in_err-label.result c.from_residual-in_err-label.ensures.1 in
     rw (e.1, e.2)
     (leads_broken (λ ops names. command_step ops names c.args.state.now (command.Wrong c.args.box_no c.args.exit)) p p refl refl refl c.requires.sound {T = Next} c.args.state.now _
     (Says-none {T = Next} (λ ops names. (command_step ops names c.args.state.now (command.Wrong c.args.box_no c.args.exit)).utterances) p.spoken p.spoken refl refl refl refl refl))
@@ -53,15 +61,15 @@ returns-in_err-copy g c =
 
 pub keep_symptom-requires : goal.keep_symptom-requires
 keep_symptom-requires g c =
-    let user = c.in-Ok.ensures.user in
-    let label = label_named (length c.args.log.now.names) c.args.state.now c.in-Some.run' c.in-Ok.exit.0 user.point c.in_ok-label.field-0 c.in-Some.is c.requires.ready.ready user.there (rw user.there at c.in_ok-label.ensures) in
+    let user = rw c.in_ok-history.ensures at c.in-Ok.ensures.user in
+    let label = label_named (length c.args.log.now.names) c.args.state.now c.in-Some.run' c.in-Ok.exit.0 user.point c.in_ok-label.field-0 c.in-Some.is c.requires.ready.ready user.there (rw user.there at (rw c.in_ok-history.ensures at c.in_ok-label.ensures)) in
     rw c.in_ok-copy.ensures label
 
 pub returns-in_err-keep_symptom : goal.returns-in_err-keep_symptom
 returns-in_err-keep_symptom g c =
-    let user = c.in-Ok.ensures.user in
-    let tuple = rw user.there at c.in_ok-label.ensures in
-    let exit = rw (to_z-of_z _ c.args.box_no c.ranges.box_no, to_z-of_z _ c.args.exit c.ranges.exit) at c.in-Ok.ensures.exit in
+    let user = rw c.in_ok-history.ensures at c.in-Ok.ensures.user in
+    let tuple = rw user.there at (rw c.in_ok-history.ensures at c.in_ok-label.ensures) in
+    let exit = rw (to_z-of_z _ c.args.box_no c.ranges.box_no, to_z-of_z _ c.args.exit c.ranges.exit) at (rw c.in_ok-history.ensures at c.in-Ok.ensures.exit) in
     let head = head_is c.in-Some.run'.history c.in-Ok.exit.0 user.point c.in_ok-label.field-0 user.there tuple in
     let e = err_from_is_err_and c.from_residual-in_err-keep_symptom.result c.from_residual-in_err-keep_symptom.ensures.1 in
     rw (e.1, e.2)
@@ -70,7 +78,8 @@ returns-in_err-keep_symptom g c =
 
 pub diagnose-answer-requires-clause-labelled : goal.diagnose-answer-requires-clause-labelled
 diagnose-answer-requires-clause-labelled g c =
-    let user = c.in-Ok.ensures.user in labelled c.in-Some.run'.history c.in-Ok.exit.0 c.in_ok-label.field-0 user (rw user.there at c.in_ok-label.ensures)
+    let user = rw c.in_ok-history.ensures at c.in-Ok.ensures.user in
+    rw c.in_ok-history.ensures (labelled c.in-Some.run'.history c.in-Ok.exit.0 c.in_ok-label.field-0 user (rw user.there at (rw c.in_ok-history.ensures at c.in_ok-label.ensures)))
 
 pub diagnose-answer-requires-clause-symptom : goal.diagnose-answer-requires-clause-symptom
 diagnose-answer-requires-clause-symptom g c = rw (c.in_ok-keep_symptom.ensures.replies, c.in_ok-copy.ensures) (added-no c.args.state.now.replies c.in_ok-label.field-0.head)
@@ -81,22 +90,22 @@ diagnose-answer-requires-clause-replies g c =
 
 pub diagnose-answer-requires-clause-named : goal.diagnose-answer-requires-clause-named
 diagnose-answer-requires-clause-named g c =
-    let user = c.in-Ok.ensures.user in
-    let label = label_named (length c.args.log.now.names) c.args.state.now c.in-Some.run' c.in-Ok.exit.0 user.point c.in_ok-label.field-0 c.in-Some.is c.requires.ready.ready user.there (rw user.there at c.in_ok-label.ensures) in
+    let user = rw c.in_ok-history.ensures at c.in-Ok.ensures.user in
+    let label = label_named (length c.args.log.now.names) c.args.state.now c.in-Some.run' c.in-Ok.exit.0 user.point c.in_ok-label.field-0 c.in-Some.is c.requires.ready.ready user.there (rw user.there at (rw c.in_ok-history.ensures at c.in_ok-label.ensures)) in
     let n : ℕ = length c.args.log.now.names in
-    rw c.in_ok-keep_symptom.ensures.says.names (tree-named n c.in-Some.run'.history c.in-Ok.exit.0 c.in_ok-label.field-0.head (run_named n c.args.state.now c.in-Some.run' c.in-Some.is c.requires.ready.ready) label)
+    rw (c.in_ok-history.ensures, c.in_ok-keep_symptom.ensures.says.names) (tree-named n c.in-Some.run'.history c.in-Ok.exit.0 c.in_ok-label.field-0.head (run_named n c.args.state.now c.in-Some.run' c.in-Some.is c.requires.ready.ready) label)
 
 pub conclude-requires-clause-named : goal.conclude-requires-clause-named
 conclude-requires-clause-named g c = c.diagnose-answer.ensures.named c.args.state.now
 
 pub returns : goal.returns
 returns g c =
-    let user = c.in-Ok.ensures.user in
-    let tuple = rw user.there at c.in_ok-label.ensures in
-    let exit = rw (to_z-of_z _ c.args.box_no c.ranges.box_no, to_z-of_z _ c.args.exit c.ranges.exit) at c.in-Ok.ensures.exit in
+    let user = rw c.in_ok-history.ensures at c.in-Ok.ensures.user in
+    let tuple = rw user.there at (rw c.in_ok-history.ensures at c.in_ok-label.ensures) in
+    let exit = rw (to_z-of_z _ c.args.box_no c.ranges.box_no, to_z-of_z _ c.args.exit c.ranges.exit) at (rw c.in_ok-history.ensures at c.in-Ok.ensures.exit) in
     let head = head_is c.in-Some.run'.history c.in-Ok.exit.0 user.point c.in_ok-label.field-0 user.there tuple in
     symptom_leads by_wrong c.args.state.now (command.Wrong c.args.box_no c.args.exit) (Wrong c.in_ok-label.field-0.head) (tree c.in-Some.run'.history c.in-Ok.exit.0 c.in_ok-label.field-0.head) (λ ops names. wrong_begins ops names c.args.state.now c.args.box_no c.args.exit c.in-Some.run' c.in-Ok.exit.0 c.in_ok-label.field-0.head c.in-Some.is exit head)
     (moment g.S.Source g.K.Sink c.args.console.now c.args.input.now c.args.log.now c.args.out.now) (spoken g.K.Sink c.keep_symptom.new.log c.keep_symptom.new.out) c.requires.sound (wrong c.args.state.now.strategy) refl
     _ (moment g.S.Source g.K.Sink c.diagnose-answer.new.console c.diagnose-answer.new.input c.diagnose-answer.new.log c.diagnose-answer.new.out) (spoken g.K.Sink c.conclude.new.log c.conclude.new.out)
     (answered c.diagnose-answer.new.replies c.diagnose-answer.new.asked) c.diagnose-answer.result c.conclude.result (rw c.in_ok-copy.ensures at c.in_ok-keep_symptom.ensures.says)
-    (rw (c.in_ok-keep_symptom.ensures.replies, c.in_ok-copy.ensures) at c.diagnose-answer.ensures) c.conclude.ensures c.requires.ready.ready
+    (rw (c.in_ok-keep_symptom.ensures.replies, c.in_ok-copy.ensures) at (rw c.in_ok-history.ensures at c.diagnose-answer.ensures)) (rw c.get.ensures at c.conclude.ensures) c.requires.ready.ready

@@ -18,7 +18,7 @@ use Rattle.apd_trace.specs.declared.item.Item.{Item}
 use Rattle.apd_trace.specs.declared.item.Item.TheVariants.{Passed, Made}
 use Rattle.apd_frames.specs.Kept.{Kept, Calls, ahead_of, exit_in, fits, is_large_of, newest_of}
 use Rattle.apd_frames.specs.declared.ahead.Ahead.TheVariants.{Call as CallsNext, Exit as ExitsNext}
-use Rattle.apd_engine.specs.Given.{IsPointOf, Makes, Tells, TellsPoint, TellsPort, TellsSome}
+use Rattle.apd_engine.specs.Given.{IsPointOf, IsWhole, Makes, Tells, TellsPoint, TellsPort, TellsSome}
 use Rattle.apd_engine.specs.Recording.{IsThere, MayPass}
 use Rattle.apd_engine.specs.Search.{Ends, GivesAlways, GivesBy, GivesOrEnds, HasFailed, IsCalling, IsLeft, IsOpen, AllWaits, Waits, called_at, in_mode, left_at}
 use Rattle.apd_engine.specs.declared.given.Given.{Given}
@@ -32,7 +32,7 @@ use Rattle.apd_engine.proofs.Steps.{IsRestored, box_of, gives_call, gives_exit}
 
 -- what follows for each item follows for the one that is told
 pub tells_weaker : (unread : Unread) (given : Given) (A B : Item → Type 0) → ((i : Item) → A i → B i) → Tells unread given A → Tells unread given B
-tells_weaker unread (Whole i) A B weaker h = weaker i h
+tells_weaker unread (Whole i) A B weaker h = weaker i.value h
 tells_weaker unread (PortOf port b) A B weaker h =
     record {
       event = h.event;
@@ -48,6 +48,17 @@ tells_weaker unread SomePoint A B weaker h =
       holds = weaker (Made h.point) h.holds;
       may = h.may;
     }
+
+-- what holds of an item is told by it, whole
+pub tells_whole : (unread : Unread) (given : Given) (i : Item) (B : Item → Type 0) → IsWhole given i → B i → Tells unread given B
+tells_whole unread (Whole w) i B is h = subst B (sym is) h
+tells_whole unread (PortOf port b) i B is h = absurd is
+tells_whole unread SomePoint i B is h = absurd is
+
+pub whole_told : (unread : Unread) (given : Given) (i : Item) (B : Item → Type 0) → IsWhole given i → Tells unread given B → B i
+whole_told unread (Whole w) i B is h = subst B is h
+whole_told unread (PortOf port b) i B is h = absurd is
+whole_told unread SomePoint i B is h = absurd is
 
 -- a port of a goal, told by its box
 tells_port : (unread : Unread) (port : Port) (g : Called) (b : ℕ) (B : Item → Type 0) → g.box_no ≡ b → unread.ports ≡ true → (port ≡ Call → unread.points ≡ true) → B (at_port port g) → TellsPort unread port b B
@@ -159,8 +170,11 @@ module _ (P : List Tuple) (unread : Unread) (s new : Search) (o : Option Given) 
   gives_told given is = subst (λ (x : Option Given). TellsSome unread x (GivesOrEnds P s new)) is h
 
   module _ (given : Given) (is : o ≡ Some given) where
-    pub gives_whole : (i : Item) → given ≡ Whole i → GivesBy P s new i
-    gives_whole i whole = subst (λ (x : Given). Tells unread x (GivesBy P s new)) whole (gives_told given is)
+    pub gives_whole : (i : Item) → IsWhole given i → GivesBy P s new i
+    gives_whole i whole = whole_told unread given i (GivesBy P s new) whole (gives_told given is)
+
+    pub gives_of : (r i : Item) → IsWhole given r → r ≡ i → GivesBy P s new i
+    gives_of r i whole e = subst (GivesBy P s new) e (gives_whole r whole)
 
     pub gives_port : (port : Port) (b : ℕ) → given ≡ PortOf port b → TellsPort unread port b (GivesBy P s new)
     gives_port port b bare = subst (λ (x : Given). Tells unread x (GivesBy P s new)) bare (gives_told given is)

@@ -28,9 +28,15 @@ pub record TellsPoint (unread : Unread) (B : Item → Type 0) : Type 0 where
   pub holds : B (Made point)
   pub may : unread.points ≡ true
 
+-- the item is given whole
+abbrev pub IsWhole : Given → Item → Type 0
+IsWhole (Whole whole) i = whole.value ≡ i
+IsWhole (PortOf port b) i = ⊥
+IsWhole SomePoint i = ⊥
+
 -- B holds of the item of which this is told
 abbrev pub Tells : Unread → Given → (Item → Type 0) → Type 0
-Tells unread (Whole i) B = B i
+Tells unread (Whole i) B = B i.value
 Tells unread (PortOf port b) B = TellsPort unread port b B
 Tells unread SomePoint B = TellsPoint unread B
 

@@ -5,12 +5,13 @@ ghost use Rattle.apd_trace.specs.Trace.{at_port};
 ghost use Rattle.apd_trace.specs.declared.frame.Called.{Called};
 ghost use Rattle.apd_frames.specs.Kept.{Calls, MayCall};
 ghost use Rattle.apd_engine.specs.Search.{HasFailed, IsLeft};
-ghost use Rattle.apd_engine.specs.Given.{Makes, Tells};
+ghost use Rattle.apd_engine.specs.Given.{IsWhole, Makes, Tells};
 
 use apd_frames::frames::Frames;
 use apd_ports::{Event, Port};
 use apd_trace::{Called, Item, Look, Step};
 use std::alloc::{AllocError, Global};
+use std::boxed::Box;
 
 /// What nobody reads, so that it may be given bare.
 #[derive(Clone, Copy, Debug)]
@@ -24,12 +25,20 @@ pub struct Unread {
 /// What is given of an item.
 #[derive(Drop)]
 pub enum Given {
-    /// The item itself.
-    Whole(Item),
+    /// The item itself, behind a pointer: what is given is handed on through several calls.
+    Whole(Box<Item>),
     /// A port and its box: its atom isn't written out.
     Port(Port, u32),
     /// A point: it isn't written out.
     Point,
+}
+
+/// The item, given whole.
+pub fn whole(alloc: Global, item: Item) -> Result<Given, AllocError>
+    ensures { IfOk result (λ given. IsWhole given item) }
+{
+    let item = Box::new(alloc, item)?;
+    Ok(Given::Whole(item))
 }
 
 /// The port of a box.
@@ -63,13 +72,18 @@ pub fn made(
         return Ok(Some(Given::Point));
     }
     match frames.point(alloc, before)? {
-        Some(point) => Ok(Some(Given::Whole(Item::Made(point)))),
+        Some(point) => Ok(Some(whole(alloc, Item::Made(point))?)),
         None => Ok(None),
     }
 }
 
 /// A port of the box that the innermost frame leaves, and the frame's newest point.
-pub fn leaving(frames: &mut Frames, port: Port, unread: Unread) -> Result<(Given, u32), AllocError>
+pub fn leaving(
+    frames: &mut Frames,
+    alloc: Global,
+    port: Port,
+    unread: Unread,
+) -> Result<(Given, u32), AllocError>
     requires some { 0 < length frames.old.current }
     requires later { port ≢ Port.Call }
     ensures left { IfOk result
@@ -78,7 +92,7 @@ pub fn leaving(frames: &mut Frames, port: Port, unread: Unread) -> Result<(Given
 {
     if !unread.ports {
         let (left, point) = frames.exited()?;
-        return Ok((Given::Whole(event(port, left)), point));
+        return Ok((whole(alloc, event(port, left))?, point));
     }
     match frames.newest() {
         None => unreachable!(),
@@ -87,7 +101,12 @@ pub fn leaving(frames: &mut Frames, port: Port, unread: Unread) -> Result<(Given
 }
 
 /// Fail of the goal that the frames call in this box; what was saved for it is given up.
-pub fn fail(frames: &mut Frames, box_no: u32, unread: Unread) -> Result<Given, AllocError>
+pub fn fail(
+    frames: &mut Frames,
+    alloc: Global,
+    box_no: u32,
+    unread: Unread,
+) -> Result<Given, AllocError>
     requires saved { 0 < length frames.old.saved }
     requires deep { MayCall frames.old.current }
     requires goal { (g : Called) × Calls frames.old.current box_no g }
@@ -101,7 +120,7 @@ pub fn fail(frames: &mut Frames, box_no: u32, unread: Unread) -> Result<Given, A
     match frames.look(box_no)? {
         Look::Goal(g) => {
             frames.forget();
-            Ok(Given::Whole(event(Port::Fail, g)))
+            whole(alloc, event(Port::Fail, g))
         }
         _ => unreachable!(),
     }

@@ -21,6 +21,7 @@ use apd_record::Record;
 use apd_term::{Tuple, canonical_tuple};
 use apd_trace::Item;
 use std::alloc::{AllocError, Global};
+use std::boxed::Box;
 
 /// How many ports and answers a run passes at most.
 #[derive(Clone, Copy, Debug)]
@@ -114,20 +115,30 @@ impl Progress {
             return Ok(Some(self.ended(RunEnd::Exhausted)));
         };
         match given {
-            Given::Whole(Item::Made(point)) => {
-                self.held = Some(point);
-                Ok(None)
-            }
-            Given::Whole(Item::Error(error, at)) => Ok(Some(self.ended(RunEnd::Error(error, at)))),
-            Given::Whole(Item::Passed(event)) => {
-                if self.ports == limits.budget {
-                    return Ok(Some(self.ended(RunEnd::Budget)));
+            Given::Whole(item) => match Box::into_inner(item) {
+                Item::Made(point) => {
+                    self.held = Some(point);
+                    Ok(None)
                 }
-                let from = self.search.newest();
-                show_port(hook, history, &mut self.held, &event, from)?;
-                self.ports += 1;
-                Ok(None)
-            }
+                Item::Error(error, at) => Ok(Some(self.ended(RunEnd::Error(error, at)))),
+                Item::Passed(event) => {
+                    if self.ports == limits.budget {
+                        return Ok(Some(self.ended(RunEnd::Budget)));
+                    }
+                    let from = self.search.newest();
+                    show_port(hook, history, &mut self.held, &event, from)?;
+                    self.ports += 1;
+                    Ok(None)
+                }
+                Item::Answer(values) => {
+                    show_answer(hook, history, &mut self.held, &values)?;
+                    self.answered += 1;
+                    if self.answered == limits.answers {
+                        return Ok(Some(self.ended(RunEnd::AnswerLimit)));
+                    }
+                    Ok(None)
+                }
+            },
             Given::Point => unreachable!(),
             Given::Port(port, box_no) => {
                 if self.ports == limits.budget {
@@ -135,14 +146,6 @@ impl Progress {
                 }
                 tell_bare(history, &mut self.held, port, box_no)?;
                 self.ports += 1;
-                Ok(None)
-            }
-            Given::Whole(Item::Answer(values)) => {
-                show_answer(hook, history, &mut self.held, &values)?;
-                self.answered += 1;
-                if self.answered == limits.answers {
-                    return Ok(Some(self.ended(RunEnd::AnswerLimit)));
-                }
                 Ok(None)
             }
         }

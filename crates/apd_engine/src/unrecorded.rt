@@ -19,6 +19,7 @@ use apd_ports::Hook;
 use apd_term::Tuple;
 use apd_trace::Item;
 use std::alloc::{AllocError, Global};
+use std::boxed::Box;
 
 /// Where such a run stands: its search, and how many ports and answers were passed.
 #[derive(Drop)]
@@ -85,30 +86,32 @@ impl Unrecorded {
             return Ok(Some(self.ended(RunEnd::Exhausted)));
         };
         match given {
-            Given::Point => Ok(None),
-            Given::Whole(Item::Made(_)) => Ok(None),
-            Given::Whole(Item::Error(error, at)) => Ok(Some(self.ended(RunEnd::Error(error, at)))),
-            Given::Whole(Item::Passed(event)) => {
-                if self.ports == limits.budget {
-                    return Ok(Some(self.ended(RunEnd::Budget)));
+            Given::Whole(item) => match Box::into_inner(item) {
+                Item::Made(_) => Ok(None),
+                Item::Error(error, at) => Ok(Some(self.ended(RunEnd::Error(error, at)))),
+                Item::Passed(event) => {
+                    if self.ports == limits.budget {
+                        return Ok(Some(self.ended(RunEnd::Budget)));
+                    }
+                    hook.event(&event)?;
+                    self.ports += 1;
+                    Ok(None)
                 }
-                hook.event(&event)?;
-                self.ports += 1;
-                Ok(None)
-            }
+                Item::Answer(values) => {
+                    hook.answer(&values)?;
+                    self.answered += 1;
+                    if self.answered == limits.answers {
+                        return Ok(Some(self.ended(RunEnd::AnswerLimit)));
+                    }
+                    Ok(None)
+                }
+            },
+            Given::Point => Ok(None),
             Given::Port(_, _) => {
                 if self.ports == limits.budget {
                     return Ok(Some(self.ended(RunEnd::Budget)));
                 }
                 self.ports += 1;
-                Ok(None)
-            }
-            Given::Whole(Item::Answer(values)) => {
-                hook.answer(&values)?;
-                self.answered += 1;
-                if self.answered == limits.answers {
-                    return Ok(Some(self.ended(RunEnd::AnswerLimit)));
-                }
                 Ok(None)
             }
         }

@@ -1,5 +1,5 @@
 -- Tuples whose terms are written out with one numbering.
-use Rattle.std.proofs.Common.{◌≡◌, ℕ, ◌+◌, ◌-◌, ◌<◌, ◌≤◌, List, [], ◌∷◌, ◌++◌, length, get_or, drop, map, refl, sym, ◌∙◌, ap, subst, arith, append_assoc, true, false, Option, Some, None}
+use Rattle.std.proofs.Common.{◌≡◌, ℕ, ◌+◌, ◌-◌, ◌*◌, ◌<◌, ◌≤◌, List, [], ◌∷◌, ◌++◌, length, get_or, drop, map, refl, sym, ◌∙◌, ap, subst, arith, append_assoc, true, false, Option, Some, None}
 use Rattle.std.specs.Prelude.{nat_lt}
 use Rattle.std.specs.List.{flat_map, fold}
 use Rattle.std.proofs.lemmas.Bool.Decides.{nat_tests}
@@ -15,7 +15,7 @@ use Rattle.apd_unify.specs.declared.store.Cell.{Cell}
 use Rattle.apd_unify.proofs.Ordered.{among_seen, canonical_kept}
 use Rattle.apd_trace.specs.Frames.{is_large}
 use Rattle.apd_frames.specs.Links.{Instance}
-use Rattle.apd_frames.specs.Instances.{terms_in}
+use Rattle.apd_frames.specs.Instances.{terms_in, tuple_in, AreInside, IsInside}
 
 pub numbers_some : (old new : List ℕ) (t r : Term) (k : ℕ) (o : Option Term) → Numbers old new t k o → o ≡ Some r → IsNumberedAnew old new t k r
 numbers_some old new t r k o h e = subst (Numbers old new t k) e h
@@ -86,6 +86,14 @@ large_so n h = grind (arith, nat_tests)
 
 small_so : (n : ℕ) → n ≤ 1000000 → nat_lt 1000000 n ≡ false
 small_so n h = grind (arith, nat_tests)
+
+-- terms that are all short are small together
+short_terms : (s : Stored) (cs : List Cell) → ((c : ℕ) → c < length s.cells → size (term_at s c) ≤ 15384) → AreInside (length s.cells) cs → sizes (terms_in s cs) ≤ 15384 * length cs
+short_terms s [] h i = omega arith
+short_terms s (c ∷ cs) h i = omega (arith, h c.0 i.0, short_terms s cs h i.1)
+
+pub short_instance : (s : Stored) (i : Instance) → ((c : ℕ) → c < length s.cells → size (term_at s c) ≤ 15384) → IsInside (length s.cells) i → length i.goals ≤ 64 → is_large (tuple_in s i) ≡ false
+short_instance s i h p l = small_so (size_of_tuple (tuple_in s i)) (omega (arith, h i.head.0 p.head, short_terms s i.goals h p.goals, l))
 
 pub large_head : (t : Tuple) (seen new : List ℕ) (o : Option Term) → Numbers seen new t.head 1000000 o → o ≡ None → is_large t ≡ true
 large_head t seen new o h e =

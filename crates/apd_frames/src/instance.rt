@@ -13,7 +13,7 @@ ghost use Rattle.apd_frames.specs.Instances.{terms_in, tuple_in, raised_in, with
 
 use crate::links::LinkRef;
 use crate::small::has_small_variables;
-use apd_base::MOST_INSTANCE_SYMBOLS;
+use apd_base::{MOST_GOALS, MOST_INSTANCE_SYMBOLS};
 use apd_term::{Atoms, Flat, Tuple, canonical_tuple};
 use apd_unify::scratch::Scratch;
 use apd_unify::store::{Cell, Store};
@@ -92,11 +92,18 @@ pub fn instantiate(
     instantiate_small(store, goals, goal, &canonical)
 }
 
-/// Whether a link's instance has no more symbols than it may have. No more than these are passed.
+/// A head and [`MOST_GOALS`] goals of so many symbols have no more together than an instance may have.
+const MOST_OF_EACH: usize = 15_384;
+
+/// Whether a link's instance has no more symbols than it may have. No more than these are passed, and
+/// none where the store tells that no term is long.
 pub fn is_within(store: &Store, link: &LinkRef<'_>) -> Result<bool, AllocError>
     requires { IsThere store.now link.now }
     ensures { IfOk result (λ b. IsWithin b (tuple_in store.now (link_of link.now).instance)) }
 {
+    if link.goals.len() <= MOST_GOALS && store.are_within(MOST_OF_EACH) {
+        return Ok(true);
+    }
     let Some(head) = store.size_within(link.head, MOST_INSTANCE_SYMBOLS)? else {
         return Ok(false);
     };

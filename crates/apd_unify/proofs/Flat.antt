@@ -1,18 +1,27 @@
 -- Bindings to terms without arguments leave the sizes of terms as they are.
-use Rattle.std.proofs.Common.{◌≡◌, inl, inr, ℕ, ◌+◌, ◌<◌, ◌≤◌, List, [], ◌∷◌, length, get_or, take, drop, refl, sym, ◌∙◌, ap, arith}
+use Rattle.std.proofs.Common.{◌≡◌, inl, inr, ℕ, ◌+◌, ◌-◌, ◌<◌, ◌≤◌, List, [], ◌∷◌, ◌++◌, length, get_or, take, drop, refl, sym, ◌∙◌, ap, subst, Bool, true, false, arith}
+use Rattle.std.specs.Bool.{OnTrue}
+use Rattle.std.specs.List.{flat_map}
+use Rattle.std.specs.Prelude.{max}
 use Rattle.std.proofs.lemmas.Bool.{cases_eq}
 use Rattle.std.proofs.lemmas.Bool.Decides.{nat_tests}
-use Rattle.std.proofs.lemmas.List.{drop_more}
+use Rattle.std.proofs.lemmas.List.{drop_more, length-append, length-drop, length-take}
 use Rattle.apd_term.specs.declared.term.NameId.{NameId}
 use Rattle.apd_term.specs.declared.term.Sym.{Sym}
 use Rattle.apd_term.specs.declared.term.Sym.TheVariants.{Var, Int, Fun}
-use Rattle.apd_term.specs.Term.{Term, Terms, variable, integer, compound, none, more, apply, apply_all, size, size_all, first_of, read_all}
+use Rattle.apd_term.specs.Term.{Term, Terms, variable, integer, compound, none, more, apply, apply_all, size, size_all, spell, first_of, read_all, IsTerms}
 use Rattle.apd_term.specs.Substitution.{term_for, single}
 use Rattle.apd_term.proofs.Pairs.{term_for-same, term_for-other}
+use Rattle.apd_term.proofs.Spelling.{length-spell, split_terms}
+use Rattle.apd_unify.proofs.Apart.{IsTerms-drop}
+use Rattle.apd_unify.proofs.Written.{written-take}
+use Rattle.apd_unify.proofs.Meaning.{HasCells-of}
+use Rattle.apd_unify.proofs.Undoing.{le_or_lt}
 use Rattle.apd_unify.specs.declared.heap.Note.{Note}
 use Rattle.apd_unify.specs.declared.heap.Note.TheVariants.{Loaded, Bound}
-use Rattle.apd_unify.specs.Store.{IsStore, meaning, written}
-use Rattle.apd_unify.specs.Flat.{compound_in, compound_count}
+use Rattle.apd_unify.specs.Stored.{Stored}
+use Rattle.apd_unify.specs.Store.{IsStore, meaning, term_at, written}
+use Rattle.apd_unify.specs.Flat.{compound_in, compound_count, AreShort}
 
 compound_most : (x : Sym) → compound_in x ≤ 1
 compound_most (Var v) = omega arith
@@ -72,3 +81,42 @@ module _ (cells : List Sym) (notes later : List Note) where
 
 pub compound_loaded : (cells longer : List Sym) (notes later : List Note) (n : ℕ) → take (length cells) longer ≡ cells → later ≡ Loaded (length cells) n ∷ notes → compound_count longer later ≡ compound_count cells notes
 compound_loaded cells longer notes later n front new = ap (compound_count longer) new ∙ ap (λ xs. compound_count xs notes) front
+
+-- where the newest term is put, none is longer than before or than it
+short_more : (cells : List Sym) (notes : List Note) (j k : ℕ) → j ≤ k → AreShort cells notes j → AreShort cells notes k
+short_more cells [] j k l h = omega arith
+short_more cells (Loaded c n ∷ notes) j k l h = (omega (arith, h.0), short_more (take c cells) notes j k l h.1)
+short_more cells (Bound v c ∷ notes) j k l h = short_more cells notes j k l h
+
+pub short_loaded : (cells longer : List Sym) (notes later : List Note) (n j k : ℕ) → take (length cells) longer ≡ cells → later ≡ Loaded (length cells) n ∷ notes
+    → AreShort cells notes j → k ≡ max j (length longer - length cells) → AreShort longer later k
+short_loaded cells longer notes later n j k front new h e =
+    subst (λ z. AreShort longer z k) (sym new) (omega arith, subst (λ z. AreShort z notes k) (sym front) (short_more cells notes j k (omega arith) h))
+
+pub short_unloaded : (cells : List Sym) (notes before : List Note) (c n k : ℕ) → notes ≡ Loaded c n ∷ before → AreShort cells notes k → AreShort (take c cells) before k
+short_unloaded cells notes before c n k e h = (subst (λ z. AreShort cells z k) e h).1
+
+-- a written term stands among the cells
+written_inside : (cells : List Sym) (c : ℕ) → IsTerms cells → c < length cells → c + size (written cells c) ≤ length cells
+written_inside cells c h l =
+    let d = drop c cells in
+    let t = first_of (read_all d) in
+    let rest = flat_map spell (drop 1 (read_all d)) in
+    let e : d ≡ spell t ++ rest = split_terms d (IsTerms-drop c cells h) (omega (arith, length-drop c cells)) in
+    omega (arith, length-drop c cells, ap length e, length-append (spell t) rest, length-spell t)
+
+pub short_written : (cells : List Sym) (n : ℕ) (notes : List Note) (k c : ℕ) → IsStore cells n notes → AreShort cells notes k → c < length cells → size (written cells c) ≤ k
+short_written cells n [] k c h s l = omega (arith, written_inside cells c h.whole l, s)
+short_written cells n (Loaded b m ∷ notes) k c h s l = elim (le_or_lt b c) [
+  | inl o ↦ omega (arith, written_inside cells c h.0.whole l, s.0, o)
+  | inr o ↦
+      (let there : c < length (take b cells) = omega (arith, length-take b cells, o, l) in
+      subst (λ t. size t ≤ k) (written-take cells b c (HasCells-of (take b cells) m notes h.1.1.1).whole there) (short_written (take b cells) m notes k c h.1.1.1 s.1 there))
+]
+short_written cells n (Bound v b ∷ notes) k c h s l = short_written cells n notes k c h.1 s l
+
+-- where terms have the sizes that are written, the longest of those tells of them all
+pub are_within_if : (b : Bool) (s : Stored) (longest most : ℕ) → ((c : ℕ) → c < length s.cells → size (written s.cells c) ≤ longest) → longest ≤ most
+    → OnTrue b ((c : ℕ) → size (term_at s c) ≡ size (written s.cells c)) → OnTrue b ((c : ℕ) → c < length s.cells → size (term_at s c) ≤ most)
+are_within_if true s longest most short m flat = λ c l. omega (arith, short c l, flat c)
+are_within_if false s longest most short m flat = flat

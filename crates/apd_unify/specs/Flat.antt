@@ -1,5 +1,6 @@
--- Bindings to terms that have arguments. Where there is none, bindings leave the sizes of terms as they are.
-use Rattle.std.specs.Prelude.{ℕ, ◌+◌, ◌==◌, List, [], ◌∷◌, take, get_or, if◌then◌else◌}
+-- Bindings to terms that have arguments, and how long the terms are that were loaded. Where there is no such binding, bindings leave
+-- the sizes of terms as they are.
+use Rattle.std.specs.Prelude.{ℕ, ◌+◌, ◌≤◌, ◌==◌, List, [], ◌∷◌, length, take, get_or, if◌then◌else◌}
 use Rattle.apd_term.specs.declared.term.Sym.{Sym}
 use Rattle.apd_term.specs.declared.term.Sym.TheVariants.{Var, Int, Fun}
 use Rattle.apd_unify.specs.declared.heap.Note.{Note}
@@ -16,3 +17,9 @@ abbrev pub compound_count : List Sym → List Note → ℕ
 compound_count cells [] = 0
 compound_count cells (Loaded c n ∷ notes) = compound_count (take c cells) notes
 compound_count cells (Bound v c ∷ notes) = compound_in (get_or cells c (Var 0)) + compound_count cells notes
+
+-- no term that was loaded has more than k symbols
+abbrev pub AreShort : List Sym → List Note → ℕ → Type 0
+AreShort cells [] k = length cells ≤ k
+AreShort cells (Loaded c n ∷ notes) k = (length cells ≤ c + k) × AreShort (take c cells) notes k
+AreShort cells (Bound v c ∷ notes) k = AreShort cells notes k

@@ -45,6 +45,8 @@ pub struct Heap {
     front: Front,
     /// How many bindings lead to a term that has arguments.
     compounds: usize,
+    /// No term that was loaded has more symbols.
+    longest: usize,
 }
 
 /// So many of the first cells, and a number above their variables.
@@ -56,7 +58,7 @@ pub struct Front {
 
 impl Model for Heap {
     ghost use Rattle.std.specs.Prelude.{length, ◌≡◌};
-    ghost use Rattle.apd_unify.specs.Flat.{compound_count};
+    ghost use Rattle.apd_unify.specs.Flat.{compound_count, AreShort};
     ghost use Rattle.apd_unify.specs.Stored.{Stored, stored_code};
     ghost use Rattle.apd_unify.specs.Heap.{IsHeap, IsMarked};
 
@@ -66,7 +68,7 @@ impl Model for Heap {
 
     ghost view = { λ h. record { cells = h.cells.items; variables = length h.bindings.items; trail = h.trail } };
 
-    ghost invariant = { λ h. IsHeap h.cells.items h.bindings.items h.trail × IsMarked h.cells.items h.trail h.touched h.front × (h.compounds ≡ compound_count h.cells.items h.trail) };
+    ghost invariant = { λ h. IsHeap h.cells.items h.bindings.items h.trail × IsMarked h.cells.items h.trail h.touched h.front × (h.compounds ≡ compound_count h.cells.items h.trail) × AreShort h.cells.items h.trail h.longest };
 }
 
 /// Free variables behind those that are there, so that this one is there too.
@@ -183,6 +185,7 @@ impl Heap {
                 variables: 0,
             },
             compounds: 0,
+            longest: 0,
         }
     }
 
@@ -265,6 +268,17 @@ impl Heap {
         true
     }
 
+    /// Whether no term has more symbols than this, with all bindings applied. False says nothing.
+    pub fn are_within(&self, most: usize) -> bool
+        ensures { OnTrue result
+            ((c : ℕ) → c < length self.now.cells → size (term_at self.now c) ≤ most) }
+    {
+        if self.longest > most {
+            return false;
+        }
+        self.is_flat()
+    }
+
     /// Whether the variable is so new that it can't stand in the term at a cell; false says
     /// nothing.
     pub fn is_apart(&self, v: u64, at: usize) -> bool
@@ -319,6 +333,7 @@ impl Heap {
             return Err(e);
         }
         self.front = Front { cells, variables };
+        self.longest = greater(self.longest, self.cells.len() - cells);
         Ok(cells)
     }
 

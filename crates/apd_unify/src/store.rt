@@ -2,7 +2,7 @@
 
 ghost use Rattle.std.specs.Prelude.{◌≡◌, ℕ, ◌+◌, ◌<◌, ◌≤◌, ◌^◌, [], length, IfOk, OnOk, OnErr};
 ghost use Rattle.std.specs.Bool.{OnTrue};
-ghost use Rattle.apd_term.specs.Term.{arguments, Occurs};
+ghost use Rattle.apd_term.specs.Term.{arguments, Occurs, size};
 ghost use Rattle.apd_term.specs.Canonical.{shifted};
 ghost use Rattle.apd_unify.specs.Arguments.{HasOne, HasTwo};
 ghost use Rattle.apd_unify.specs.First.{AreApart};
@@ -171,6 +171,14 @@ impl Store {
         ensures { IfOk result (SizeWithin (term_at self.now cell.0) limit) }
     {
         size_within(&self.heap, self.alloc, cell.0, limit)
+    }
+
+    /// Whether no cell's term has more symbols than this; false says nothing.
+    pub fn are_within(&self, most: usize) -> bool
+        ensures { OnTrue result
+            ((c : ℕ) → c < length self.now.cells → size (term_at self.now c) ≤ most) }
+    {
+        self.heap.are_within(most)
     }
 
     /// The term at a cell, with all bindings applied and its variables numbered behind those that

@@ -1,11 +1,15 @@
-use Rattle.std.proofs.Common.{◌+◌, drop, get_or, length, refl, subst, sym, ap}
+use Rattle.std.proofs.Common.{arith, ◌+◌, drop, get_or, length, refl, subst, sym, ap}
 use Rattle.std.specs.Prelude.{not}
 use Rattle.apd_unify.specs.Store.{term_at}
 use Rattle.apd_frames.specs.Links.{link_of}
 use Rattle.apd_frames.specs.Instances.{terms_in, tuple_in}
 use Rattle.apd_frames.proofs.Instancing.{inside_or}
-use Rattle.apd_frames.proofs.Writing.{IsCounting, counting_more, counting_last, next_left, none_left}
+use Rattle.apd_frames.proofs.Writing.{IsCounting, counting_more, counting_last, next_left, none_left, short_instance}
 use Rattle.apd_frames.proofs.instance.is_within.Goals as goal
+
+pub returns-then-are_within : goal.returns-then-are_within
+returns-then-are_within c =
+    sym (ap not (short_instance c.args.store.now (link_of c.args.link.now).instance c.if-are_within.ensures (record { head = c.requires.head; goals = c.requires.goals }) (omega (arith, c.if-link-le-MOST_GOALS.true))))
 
 pub size_within-requires-in-goals : goal.size_within-requires-in-goals
 size_within-requires-in-goals c =

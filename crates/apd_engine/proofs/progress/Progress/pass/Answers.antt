@@ -1,8 +1,7 @@
-use Rattle.std.proofs.Common.{◌≡◌, ◌+◌, ◌<◌, ◌∙◌, true, false, refl, ap, arith}
+use Rattle.std.proofs.Common.{◌≡◌, ◌+◌, ◌<◌, true, false, refl, arith, sym}
 use Rattle.std.proofs.lemmas.Result.{err_from_is_err_and}
 use Rattle.apd_clauses.specs.Clauses.{tuples_of}
-use Rattle.apd_engine.specs.declared.given.Given.TheVariants.{Whole}
-use Rattle.apd_engine.proofs.Telling.{ends_told, gives_point, gives_port, gives_whole}
+use Rattle.apd_engine.proofs.Telling.{ends_told, gives_point, gives_port, gives_of}
 use Rattle.apd_engine.proofs.Shown.{memory_cut, cut_at_port, cut_at_answer}
 use Rattle.apd_engine.proofs.Passing.{on_exhausted, on_error, on_point, on_budget, on_bare, on_bare_budget, held_at_bare, there_at_bare, held_at_port, may_at_port, from_at_port, on_port, held_at_answer, on_last, on_answer}
 use Rattle.apd_engine.proofs.progress.Progress.pass.Goals as goal
@@ -15,44 +14,44 @@ pub returns-in_default-clause-passed : goal.returns-in_default-clause-passed
 returns-in_default-clause-passed g c =
     rw c.ended.ensures (on_exhausted c.requires.1.1.1.1 (ends_told (tuples_of c.args.program.now) _ c.args.self.now.search c.next.new.self _ c.in_ok-given.ensures c.in_default.is))
 
-pub returns-in-Whole-Made-clause-passed : goal.returns-in-Whole-Made-clause-passed
-returns-in-Whole-Made-clause-passed g c =
-    on_point c.requires.1.1.1.1 (gives_whole (tuples_of c.args.program.now) _ c.args.self.now.search c.next.new.self _ c.in_ok-given.ensures _ c.in-Some.is _ (c.in-Whole-Made.is ∙ ap Whole c.in-Whole-Made.field-0-is))
+pub returns-in-Made-clause-passed : goal.returns-in-Made-clause-passed
+returns-in-Made-clause-passed g c =
+    on_point c.requires.1.1.1.1 (gives_of (tuples_of c.args.program.now) _ c.args.self.now.search c.next.new.self _ c.in_ok-given.ensures _ c.in-Some.is c.into_inner.result _ (rw c.in-Whole.is (sym c.into_inner.ensures)) c.in-Made.is)
 
-pub returns-in-Whole-Error-clause-passed : goal.returns-in-Whole-Error-clause-passed
-returns-in-Whole-Error-clause-passed g c =
-    rw c.ended-in-Whole-Error.ensures (on_error c.requires.1.1.1.1 (gives_whole (tuples_of c.args.program.now) _ c.args.self.now.search c.next.new.self _ c.in_ok-given.ensures _ c.in-Some.is _ (c.in-Whole-Error.is ∙ ap Whole c.in-Whole-Error.field-0-is)))
+pub returns-in-Error-clause-passed : goal.returns-in-Error-clause-passed
+returns-in-Error-clause-passed g c =
+    rw c.ended-in-Error.ensures (on_error c.requires.1.1.1.1 (gives_of (tuples_of c.args.program.now) _ c.args.self.now.search c.next.new.self _ c.in_ok-given.ensures _ c.in-Some.is c.into_inner.result _ (rw c.in-Whole.is (sym c.into_inner.ensures)) c.in-Error.is))
 
 pub returns-then-self-limits-clause-passed : goal.returns-then-self-limits-clause-passed
 returns-then-self-limits-clause-passed g c =
-    rw c.ended-then-self-limits.ensures (on_budget c.requires.1.1.1.1 (gives_whole (tuples_of c.args.program.now) _ c.args.self.now.search c.next.new.self _ c.in_ok-given.ensures _ c.in-Some.is _ (c.in-Whole-Passed.is ∙ ap Whole c.in-Whole-Passed.field-0-is)) (omega (arith, c.requires.1.1.1.1.showing.going.within)))
+    rw c.ended-then-self-limits.ensures (on_budget c.requires.1.1.1.1 (gives_of (tuples_of c.args.program.now) _ c.args.self.now.search c.next.new.self _ c.in_ok-given.ensures _ c.in-Some.is c.into_inner.result _ (rw c.in-Whole.is (sym c.into_inner.ensures)) c.in-Passed.is) (omega (arith, c.requires.1.1.1.1.showing.going.within)))
 
 pub show_port-requires-clause-held : goal.show_port-requires-clause-held
 show_port-requires-clause-held g c =
     let within : c.args.self.now.ports < c.args.limits.budget = omega (arith, c.requires.1.1.1.1.showing.going.within) in
-    held_at_port c.requires.1.1.1.1 (gives_whole (tuples_of c.args.program.now) _ c.args.self.now.search c.next.new.self _ c.in_ok-given.ensures _ c.in-Some.is _ (c.in-Whole-Passed.is ∙ ap Whole c.in-Whole-Passed.field-0-is)) within
+    held_at_port c.requires.1.1.1.1 (gives_of (tuples_of c.args.program.now) _ c.args.self.now.search c.next.new.self _ c.in_ok-given.ensures _ c.in-Some.is c.into_inner.result _ (rw c.in-Whole.is (sym c.into_inner.ensures)) c.in-Passed.is) within
 
 pub show_port-requires-clause-may : goal.show_port-requires-clause-may
 show_port-requires-clause-may g c =
     let within : c.args.self.now.ports < c.args.limits.budget = omega (arith, c.requires.1.1.1.1.showing.going.within) in
-    may_at_port c.requires.1.1.1.1 (gives_whole (tuples_of c.args.program.now) _ c.args.self.now.search c.next.new.self _ c.in_ok-given.ensures _ c.in-Some.is _ (c.in-Whole-Passed.is ∙ ap Whole c.in-Whole-Passed.field-0-is)) within
+    may_at_port c.requires.1.1.1.1 (gives_of (tuples_of c.args.program.now) _ c.args.self.now.search c.next.new.self _ c.in_ok-given.ensures _ c.in-Some.is c.into_inner.result _ (rw c.in-Whole.is (sym c.into_inner.ensures)) c.in-Passed.is) within
 
 pub show_port-requires-clause-from : goal.show_port-requires-clause-from
 show_port-requires-clause-from g c =
     let within : c.args.self.now.ports < c.args.limits.budget = omega (arith, c.requires.1.1.1.1.showing.going.within) in
-    rw c.newest-from.ensures (from_at_port c.requires.1.1.1.1 (gives_whole (tuples_of c.args.program.now) _ c.args.self.now.search c.next.new.self _ c.in_ok-given.ensures _ c.in-Some.is _ (c.in-Whole-Passed.is ∙ ap Whole c.in-Whole-Passed.field-0-is)) within)
+    rw c.newest-from.ensures (from_at_port c.requires.1.1.1.1 (gives_of (tuples_of c.args.program.now) _ c.args.self.now.search c.next.new.self _ c.in_ok-given.ensures _ c.in-Some.is c.into_inner.result _ (rw c.in-Whole.is (sym c.into_inner.ensures)) c.in-Passed.is) within)
 
-pub returns-in_err-show_port-in-Whole-Passed-clause-cut : goal.returns-in_err-show_port-in-Whole-Passed-clause-cut
-returns-in_err-show_port-in-Whole-Passed-clause-cut g c =
+pub returns-in_err-show_port-in-Passed-clause-cut : goal.returns-in_err-show_port-in-Passed-clause-cut
+returns-in_err-show_port-in-Passed-clause-cut g c =
     let within : c.args.self.now.ports < c.args.limits.budget = omega (arith, c.requires.1.1.1.1.showing.going.within) in
-    let p = err_from_is_err_and c.from_residual-in_err-show_port-in-Whole-Passed.result c.from_residual-in_err-show_port-in-Whole-Passed.ensures.1 in
-    rw (p.1, p.2) (cut_at_port g.course c.requires.1.1.1.1.showing (gives_whole (tuples_of c.args.program.now) _ c.args.self.now.search c.next.new.self _ c.in_ok-given.ensures _ c.in-Some.is _ (c.in-Whole-Passed.is ∙ ap Whole c.in-Whole-Passed.field-0-is)) within c.show_port.new.hook _ c.in_err-show_port-in-Whole-Passed.ensures.cut)
+    let p = err_from_is_err_and c.from_residual-in_err-show_port-in-Passed.result c.from_residual-in_err-show_port-in-Passed.ensures.1 in
+    rw (p.1, p.2) (cut_at_port g.course c.requires.1.1.1.1.showing (gives_of (tuples_of c.args.program.now) _ c.args.self.now.search c.next.new.self _ c.in_ok-given.ensures _ c.in-Some.is c.into_inner.result _ (rw c.in-Whole.is (sym c.into_inner.ensures)) c.in-Passed.is) within c.show_port.new.hook _ c.in_err-show_port-in-Passed.ensures.cut)
 
-pub returns-in_ok-show_port-in-Whole-Passed-clause-passed : goal.returns-in_ok-show_port-in-Whole-Passed-clause-passed
-returns-in_ok-show_port-in-Whole-Passed-clause-passed g c =
+pub returns-in_ok-show_port-in-Passed-clause-passed : goal.returns-in_ok-show_port-in-Passed-clause-passed
+returns-in_ok-show_port-in-Passed-clause-passed g c =
     let within : c.args.self.now.ports < c.args.limits.budget = omega (arith, c.requires.1.1.1.1.showing.going.within) in
-    rw (c.in_ok-show_port-in-Whole-Passed.ensures.none, c.in_ok-show_port-in-Whole-Passed.ensures.told)
-    (on_port c.requires.1.1.1.1 (gives_whole (tuples_of c.args.program.now) _ c.args.self.now.search c.next.new.self _ c.in_ok-given.ensures _ c.in-Some.is _ (c.in-Whole-Passed.is ∙ ap Whole c.in-Whole-Passed.field-0-is)) within c.show_port.new.hook c.in_ok-show_port-in-Whole-Passed.ensures.shown c.in_ok-show_port-in-Whole-Passed.ensures.cause)
+    rw (c.in_ok-show_port-in-Passed.ensures.none, c.in_ok-show_port-in-Passed.ensures.told)
+    (on_port c.requires.1.1.1.1 (gives_of (tuples_of c.args.program.now) _ c.args.self.now.search c.next.new.self _ c.in_ok-given.ensures _ c.in-Some.is c.into_inner.result _ (rw c.in-Whole.is (sym c.into_inner.ensures)) c.in-Passed.is) within c.show_port.new.hook c.in_ok-show_port-in-Passed.ensures.shown c.in_ok-show_port-in-Passed.ensures.cause)
 
 pub unreachable-requires : goal.unreachable-requires
 unreachable-requires g c =
@@ -85,20 +84,20 @@ returns-in_ok-tell_bare-in-Port-clause-passed g c =
 
 pub show_answer-requires-clause-held : goal.show_answer-requires-clause-held
 show_answer-requires-clause-held g c =
-    held_at_answer c.requires.1.1.1.1 (gives_whole (tuples_of c.args.program.now) _ c.args.self.now.search c.next.new.self _ c.in_ok-given.ensures _ c.in-Some.is _ (c.in-Whole-Answer.is ∙ ap Whole c.in-Whole-Answer.field-0-is))
+    held_at_answer c.requires.1.1.1.1 (gives_of (tuples_of c.args.program.now) _ c.args.self.now.search c.next.new.self _ c.in_ok-given.ensures _ c.in-Some.is c.into_inner.result _ (rw c.in-Whole.is (sym c.into_inner.ensures)) c.in-Answer.is)
 
-pub returns-in_err-show_answer-in-Whole-Answer-clause-cut : goal.returns-in_err-show_answer-in-Whole-Answer-clause-cut
-returns-in_err-show_answer-in-Whole-Answer-clause-cut g c =
-    let p = err_from_is_err_and c.from_residual-in_err-show_answer-in-Whole-Answer.result c.from_residual-in_err-show_answer-in-Whole-Answer.ensures.1 in
-    rw (p.1, p.2) (cut_at_answer g.course c.requires.1.1.1.1.showing (gives_whole (tuples_of c.args.program.now) _ c.args.self.now.search c.next.new.self _ c.in_ok-given.ensures _ c.in-Some.is _ (c.in-Whole-Answer.is ∙ ap Whole c.in-Whole-Answer.field-0-is)) c.show_answer.new.hook _ c.in_err-show_answer-in-Whole-Answer.ensures.cut)
+pub returns-in_err-show_answer-in-Answer-clause-cut : goal.returns-in_err-show_answer-in-Answer-clause-cut
+returns-in_err-show_answer-in-Answer-clause-cut g c =
+    let p = err_from_is_err_and c.from_residual-in_err-show_answer-in-Answer.result c.from_residual-in_err-show_answer-in-Answer.ensures.1 in
+    rw (p.1, p.2) (cut_at_answer g.course c.requires.1.1.1.1.showing (gives_of (tuples_of c.args.program.now) _ c.args.self.now.search c.next.new.self _ c.in_ok-given.ensures _ c.in-Some.is c.into_inner.result _ (rw c.in-Whole.is (sym c.into_inner.ensures)) c.in-Answer.is) c.show_answer.new.hook _ c.in_err-show_answer-in-Answer.ensures.cut)
 
 pub returns-then-self-limits-2-clause-passed : goal.returns-then-self-limits-2-clause-passed
 returns-then-self-limits-2-clause-passed g c =
     let last : c.args.self.now.answered + 1 ≡ c.args.limits.answers = omega arith in
-    rw (c.ended-then-self-limits-2.ensures, c.in_ok-show_answer-in-Whole-Answer.ensures.told) (on_last c.requires.1.1.1.1 (gives_whole (tuples_of c.args.program.now) _ c.args.self.now.search c.next.new.self _ c.in_ok-given.ensures _ c.in-Some.is _ (c.in-Whole-Answer.is ∙ ap Whole c.in-Whole-Answer.field-0-is)) c.show_answer.new.hook c.in_ok-show_answer-in-Whole-Answer.ensures.shown last)
+    rw (c.ended-then-self-limits-2.ensures, c.in_ok-show_answer-in-Answer.ensures.told) (on_last c.requires.1.1.1.1 (gives_of (tuples_of c.args.program.now) _ c.args.self.now.search c.next.new.self _ c.in_ok-given.ensures _ c.in-Some.is c.into_inner.result _ (rw c.in-Whole.is (sym c.into_inner.ensures)) c.in-Answer.is) c.show_answer.new.hook c.in_ok-show_answer-in-Answer.ensures.shown last)
 
 pub returns-else-self-limits-2-clause-passed : goal.returns-else-self-limits-2-clause-passed
 returns-else-self-limits-2-clause-passed g c =
     let more : c.args.self.now.answered + 1 < c.args.limits.answers = omega (arith, c.requires.1.1.1.1.showing.going.below) in
-    rw (c.in_ok-show_answer-in-Whole-Answer.ensures.none, c.in_ok-show_answer-in-Whole-Answer.ensures.told)
-    (on_answer c.requires.1.1.1.1 (gives_whole (tuples_of c.args.program.now) _ c.args.self.now.search c.next.new.self _ c.in_ok-given.ensures _ c.in-Some.is _ (c.in-Whole-Answer.is ∙ ap Whole c.in-Whole-Answer.field-0-is)) c.show_answer.new.hook c.in_ok-show_answer-in-Whole-Answer.ensures.shown more c.in_ok-show_answer-in-Whole-Answer.ensures.cause)
+    rw (c.in_ok-show_answer-in-Answer.ensures.none, c.in_ok-show_answer-in-Answer.ensures.told)
+    (on_answer c.requires.1.1.1.1 (gives_of (tuples_of c.args.program.now) _ c.args.self.now.search c.next.new.self _ c.in_ok-given.ensures _ c.in-Some.is c.into_inner.result _ (rw c.in-Whole.is (sym c.into_inner.ensures)) c.in-Answer.is) c.show_answer.new.hook c.in_ok-show_answer-in-Answer.ensures.shown more c.in_ok-show_answer-in-Answer.ensures.cause)

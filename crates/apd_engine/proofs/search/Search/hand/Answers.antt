@@ -5,16 +5,17 @@ use Rattle.apd_engine.specs.Given.{IsPointOf}
 use Rattle.apd_engine.specs.Search.{GivesOrEnds, in_mode}
 use Rattle.apd_engine.specs.declared.search.Mode.TheVariants.{Hand}
 use Rattle.apd_engine.proofs.Steps.{gives_handed, gives_handed_large}
-use Rattle.apd_engine.proofs.Telling.{large_without, made_some, tells_weaker}
+use Rattle.apd_engine.proofs.Telling.{large_without, made_some, tells_weaker, tells_whole}
 use Rattle.apd_engine.proofs.search.Search.hand.Goals as goal
 
 pub returns-in_default : goal.returns-in_default
 returns-in_default c =
     let s = c.args.self.now in
     let before = Some (step_from c.in-Some.newest c.args.exit) in
-    gives_handed_large (tuples_of c.args.program.now) s.frames c.take_over.new.self c.made.new.frames s.stack s.boxes s.points c.args.exit c.in-Some.box_no c.in-Some.newest c.in-Some.ensures c.requires.goes c.requires.waits
+    tells_whole c.args.unread c.in_ok-whole-in-Some.field-0 _ (λ i. GivesOrEnds (tuples_of c.args.program.now) (in_mode (Hand c.args.exit) s) _ (Some i)) c.in_ok-whole-in-Some.ensures
+    (gives_handed_large (tuples_of c.args.program.now) s.frames c.take_over.new.self c.made.new.frames s.stack s.boxes s.points c.args.exit c.in-Some.box_no c.in-Some.newest c.in-Some.ensures c.requires.goes c.requires.waits
     c.in_ok-take_over-in-Some.ensures c.in_ok-given-in-Some.ensures.kept
-    (large_without c.args.unread c.in_ok-given-in-Some.field-0 c.take_over.new.self.current before c.in_ok-given-in-Some.ensures.made c.in_default.not-Some)
+    (large_without c.args.unread c.in_ok-given-in-Some.field-0 c.take_over.new.self.current before c.in_ok-given-in-Some.ensures.made c.in_default.not-Some))
 
 pub returns-in-Some-2 : goal.returns-in-Some-2
 returns-in-Some-2 c =

@@ -3,7 +3,7 @@ use Rattle.apd_unify.specs.Stored.{Stored}
 use Rattle.apd_unify.specs.Store.{MayBind}
 use Rattle.apd_unify.proofs.Touching.{heap_bound, marked_bound_by}
 use Rattle.apd_term.specs.declared.term.Sym.TheVariants.{Var}
-use Rattle.apd_unify.specs.Flat.{compound_count, compound_in}
+use Rattle.apd_unify.specs.Flat.{compound_count, compound_in, AreShort}
 use Rattle.apd_unify.proofs.Flat.{compound_bound, compounds_within}
 use Rattle.apd_unify.proofs.heap.Heap.bind.Goals as goal
 
@@ -18,6 +18,7 @@ invariant_of-self-2 c =
           (elim c.above_term-above.ensures [ inl p ↦ inl p | inr q ↦ inr (q ∙ count) ]),
       compound_bound c.self.inside.cells.items c.self.inside.trail c.push.new.self c.args.v c.args.to c.self.inside.compounds c.compound_at-compound.result
           may.inside c.self.invariant.2 c.in_ok-push.ensures.ok (c.compound_at-compound.ensures ∙ ap (λ xs. compound_in (get_or xs c.args.to (Var 0))) c.as_slice.ensures.value),
+      subst (λ z. AreShort c.self.inside.cells.items z c.self.inside.longest) (sym c.in_ok-push.ensures.ok) c.self.invariant.3,
     )
 
 pub overflow_add-self : goal.overflow_add-self

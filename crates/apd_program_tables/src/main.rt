@@ -1,5 +1,5 @@
-//! Tries the rows of tables about programs: clauses, queries and loads. Prints of each table how many rows there are and
-//! which differ.
+//! Tries the rows of tables about terms and programs: names, terms and lists of them, substitutions, unifiers, values and
+//! truths; clauses, queries and loads. Prints of each table how many rows there are and which differ.
 //!
 //! The words name the tables. Each row of the file `NAME.table` has fields with a tab between them, of which the last is
 //! what is wanted of the call that the table is about. Nothing is tried twice: a new case is a new line.
@@ -9,11 +9,32 @@ mod alike_rows;
 mod clause_rows;
 mod load_rows;
 mod query_rows;
+mod term_rows;
+mod value_rows;
 
 use apd_io::DiskFiles;
 use apd_rows::{Tables, Trial, try_tables};
 use std::io;
 use std::process::ExitCode;
+
+/// Adds what a call gives whose table is about terms.
+fn give_of_terms(name: &str, trial: &mut Trial) -> Option<()> {
+    match name {
+        "names" => term_rows::put_name(trial),
+        "terms" => term_rows::put_parts(trial),
+        "canonical" => term_rows::put_canonical(trial),
+        "shifted" => term_rows::put_shifted(trial),
+        "matching" => term_rows::put_matched(trial),
+        "substitutions" => term_rows::put_substituted(trial),
+        "tuples" => term_rows::put_tuple(trial),
+        "lists" => term_rows::put_lists(trial),
+        "unifiers" => term_rows::put_unified(trial),
+        "values" => value_rows::put_value(trial),
+        "deep_values" => value_rows::put_deep_value(trial),
+        "truths" => value_rows::put_truth(trial),
+        _ => None,
+    }
+}
 
 /// Adds what a call gives whose table is about loads.
 fn give_loaded(name: &str, trial: &mut Trial) -> Option<()> {
@@ -22,11 +43,11 @@ fn give_loaded(name: &str, trial: &mut Trial) -> Option<()> {
         "long_loads" => load_rows::put_long_load(trial),
         "query_warnings" => load_rows::put_warned(trial),
         "programs" => load_rows::put_program(trial),
-        _ => None,
+        _ => give_of_terms(name, trial),
     }
 }
 
-/// The tables of programs.
+/// The tables of terms and programs.
 #[derive(Clone, Copy)]
 struct ProgramTables;
 

@@ -2,8 +2,9 @@
 
 ghost use Rattle.std.specs.Prelude.{◌<◌};
 
-use crate::spelled::{Symbol, arity_of, symbol_of};
-use apd_rows::Builder;
+use crate::spelled::{arity_of, symbol_of};
+use apd_rows::{Builder, Scene};
+use apd_term::Sym;
 use std::alloc::{AllocError, Global};
 
 /// Tokens of which texts are drawn, with the layout before them.
@@ -100,7 +101,7 @@ const INTEGERS: [i64; 6] = [0, 1, -1, 10, i64::MAX, i64::MIN];
 /// The front of a term that is drawn.
 #[derive(Drop)]
 struct Drawn {
-    symbols: Vec<Symbol<'static>>,
+    symbols: Vec<Sym>,
     /// How many terms are wanted behind it.
     pending: usize,
     /// The greatest variable so far.
@@ -108,7 +109,7 @@ struct Drawn {
 }
 
 impl Drawn {
-    fn push(&mut self, symbol: Symbol<'static>) -> Result<(), AllocError> {
+    fn push(&mut self, symbol: Sym) -> Result<(), AllocError> {
         let arguments = arity_of(symbol) as usize;
         self.pending = self.pending.saturating_sub(1).saturating_add(arguments);
         self.symbols.push(symbol)?;
@@ -182,47 +183,48 @@ impl Draw {
     }
 
     /// A variable; a new one has the number behind the greatest so far.
-    fn variable(&mut self, variables: &mut u64) -> Symbol<'static> {
+    fn variable(&mut self, variables: &mut u64) -> Sym {
         let v = self.below(4) as u64 + 1;
         if v > *variables {
             *variables = variables.saturating_add(1);
-            return Symbol::Variable(*variables);
+            return Sym::Var(*variables);
         }
-        Symbol::Variable(v)
+        Sym::Var(v)
     }
 
     /// A symbol without arguments.
-    fn leaf(&mut self, variables: &mut u64) -> Symbol<'static> {
+    fn leaf(&mut self, scene: &mut Scene, variables: &mut u64) -> Option<Sym> {
         match self.below(4) {
-            0 => self.variable(variables),
-            1 => Symbol::Integer(self.pick(&INTEGERS).unwrap_or(0)),
-            _ => symbol_of(self.pick(&ATOMS).unwrap_or("a")),
+            0 => Some(self.variable(variables)),
+            1 => Some(Sym::Int(self.pick(&INTEGERS).unwrap_or(0))),
+            _ => symbol_of(scene, self.pick(&ATOMS).unwrap_or("a")),
         }
     }
 
     /// A symbol, more often than not with arguments.
-    fn symbol(&mut self, variables: &mut u64) -> Symbol<'static> {
+    fn symbol(&mut self, scene: &mut Scene, variables: &mut u64) -> Option<Sym> {
         if self.below(3) > 0 {
-            return symbol_of(self.pick(&FUNCTIONS).unwrap_or("f/1"));
+            return symbol_of(scene, self.pick(&FUNCTIONS).unwrap_or("f/1"));
         }
-        self.leaf(variables)
+        self.leaf(scene, variables)
     }
 
     /// The symbols of a term whose front was drawn.
-    fn end(&mut self, drawn: Drawn) -> Result<Vec<Symbol<'static>>, AllocError> {
+    fn end(&mut self, scene: &mut Scene, drawn: Drawn) -> Option<Vec<Sym>> {
         let Drawn {
             mut symbols,
             pending,
             mut variables,
         } = drawn;
         for _ in 0..pending {
-            symbols.push(self.leaf(&mut variables))?;
+            let leaf = self.leaf(scene, &mut variables)?;
+            symbols.push(leaf).ok()?;
         }
-        Ok(symbols)
+        Some(symbols)
     }
 
     /// The symbols of a term, of which at most `most` take arguments.
-    pub fn term(&mut self, alloc: Global, most: usize) -> Result<Vec<Symbol<'static>>, AllocError> {
+    pub fn term(&mut self, alloc: Global, scene: &mut Scene, most: usize) -> Option<Vec<Sym>> {
         let mut drawn = Drawn {
             symbols: Vec::new(alloc),
             pending: 1,
@@ -232,9 +234,9 @@ impl Draw {
             if drawn.pending == 0 {
                 break;
             }
-            let symbol = self.symbol(&mut drawn.variables);
-            drawn.push(symbol)?;
+            let symbol = self.symbol(scene, &mut drawn.variables)?;
+            drawn.push(symbol).ok()?;
         }
-        self.end(drawn)
+        self.end(scene, drawn)
     }
 }

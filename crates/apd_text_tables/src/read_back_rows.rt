@@ -1,9 +1,9 @@
 //! Terms that are written and read back.
 
 use crate::drawn::{Draw, FUNCTIONS};
-use crate::spelled::{Symbol, arity_of, spelled, symbol_of, symbols_of};
+use crate::spelled::{arity_of, function, spelled, symbol_of, symbols_of};
 use apd_rows::{Builder, Row, Scene, Trial};
-use apd_term::Flat;
+use apd_term::{Flat, Sym};
 use std::alloc::{AllocError, Global};
 use std::str;
 
@@ -18,6 +18,8 @@ const DRAWN_SYMBOLS: usize = 14;
 struct Trials {
     alloc: Global,
     scene: Scene,
+    /// What stands in the other places of a function.
+    atom: Sym,
     /// How many of them read back.
     same: u32,
     /// The texts of those that don't.
@@ -29,9 +31,11 @@ impl Trials {
     fn of_row(alloc: Global, row: &Row) -> Option<Trials> {
         let mut scene = Scene::new(alloc).ok()?;
         scene.change(row.text(0))?;
+        let atom = function(&mut scene, "a", 0)?;
         Some(Trials {
             alloc,
             scene,
+            atom,
             same: 0,
             others: Builder::new(alloc),
         })
@@ -60,35 +64,37 @@ impl Trials {
     }
 
     /// The term that the symbols spell.
-    fn try_symbols(&mut self, symbols: &[Symbol<'_>]) -> Option<()> {
-        let term = spelled(self.alloc, &mut self.scene, symbols)?;
+    fn try_symbols(&mut self, symbols: &[Sym]) -> Option<()> {
+        let term = spelled(self.alloc, symbols)?;
         self.try_term(&term);
         Some(())
     }
 
     /// The symbols in each place of the function, with atoms at the others.
-    fn try_places<'a>(&mut self, function: Symbol<'a>, inner: &[Symbol<'a>]) -> Option<()> {
+    fn try_places(&mut self, function: Sym, inner: &[Sym]) -> Option<()> {
         for place in 0..arity_of(function) {
-            let symbols = around(self.alloc, function, place, inner).ok()?;
+            let symbols = around(self.alloc, self.atom, function, place, inner).ok()?;
             self.try_symbols(symbols.as_slice())?;
         }
         Some(())
     }
 
     /// The symbols alone, and in each place of each function.
-    fn try_everywhere(&mut self, symbols: &[Symbol<'_>]) -> Option<()> {
+    fn try_everywhere(&mut self, symbols: &[Sym]) -> Option<()> {
         self.try_symbols(symbols)?;
-        for function in FUNCTIONS {
-            self.try_places(symbol_of(function), symbols)?;
+        for word in FUNCTIONS {
+            let function = symbol_of(&mut self.scene, word)?;
+            self.try_places(function, symbols)?;
         }
         Some(())
     }
 
     /// The name alone, and before itself as its argument.
     fn try_name(&mut self, name: &str) -> Option<()> {
-        let atom = Symbol::Function(name, 0);
+        let atom = function(&mut self.scene, name, 0)?;
+        let compound = function(&mut self.scene, name, 1)?;
         self.try_symbols(&[atom])?;
-        self.try_symbols(&[Symbol::Function(name, 1), atom])
+        self.try_symbols(&[compound, atom])
     }
 
     /// Adds how many terms read back where all did, else the texts of those that didn't.
@@ -101,31 +107,28 @@ impl Trials {
     }
 }
 
-/// The function's term, with these symbols at one place and atoms at the others.
-fn around<'a>(
+/// The function's term, with these symbols at one place and the atom at the others.
+fn around(
     alloc: Global,
-    function: Symbol<'a>,
+    atom: Sym,
+    function: Sym,
     place: u8,
-    inner: &[Symbol<'a>],
-) -> Result<Vec<Symbol<'a>>, AllocError> {
+    inner: &[Sym],
+) -> Result<Vec<Sym>, AllocError> {
     let mut symbols = Vec::new(alloc);
     symbols.push(function)?;
     for other in 0..arity_of(function) {
         if other == place {
             symbols.extend_from_slice(inner)?;
         } else {
-            symbols.push(Symbol::Function("a", 0))?;
+            symbols.push(atom)?;
         }
     }
     Ok(symbols)
 }
 
 /// The symbols, so many times.
-fn repeated<'a>(
-    alloc: Global,
-    symbols: &[Symbol<'a>],
-    count: u32,
-) -> Result<Vec<Symbol<'a>>, AllocError> {
+fn repeated(alloc: Global, symbols: &[Sym], count: u32) -> Result<Vec<Sym>, AllocError> {
     let mut out = Vec::new(alloc);
     for _ in 0..count {
         out.extend_from_slice(symbols)?;
@@ -135,12 +138,12 @@ fn repeated<'a>(
 
 /// The symbols of which the first ones stand so many times, the next one once, and the others so many times; none where there is
 /// no next one.
-fn unfolded<'a>(
+fn unfolded(
     alloc: Global,
-    symbols: &[Symbol<'a>],
+    symbols: &[Sym],
     fronts: u32,
     count: u32,
-) -> Result<Vec<Symbol<'a>>, AllocError> {
+) -> Result<Vec<Sym>, AllocError> {
     let Some((front, [middle, back @ ..])) = symbols.split_at_checked(fronts as usize) else {
         return Ok(Vec::new(alloc));
     };
@@ -152,9 +155,9 @@ fn unfolded<'a>(
 
 /// The row's term, with a count, and how many of its symbols stand so many times before the next one.
 fn unfolded_term(alloc: Global, row: &Row) -> Option<Trials> {
-    let symbols = symbols_of(alloc, row.given(3)).ok()?;
-    let whole = unfolded(alloc, symbols.as_slice(), row.number(2), row.number(1)).ok()?;
     let mut trials = Trials::of_row(alloc, row)?;
+    let symbols = symbols_of(alloc, &mut trials.scene, row.given(3))?;
+    let whole = unfolded(alloc, symbols.as_slice(), row.number(2), row.number(1)).ok()?;
     trials.try_symbols(whole.as_slice())?;
     Some(trials)
 }
@@ -168,8 +171,8 @@ pub fn put_term(trial: &mut Trial) -> Option<()> {
 
 /// The row's term alone, and in each place of each function.
 fn everywhere(alloc: Global, row: &Row) -> Option<Trials> {
-    let symbols = symbols_of(alloc, row.given(1)).ok()?;
     let mut trials = Trials::of_row(alloc, row)?;
+    let symbols = symbols_of(alloc, &mut trials.scene, row.given(1))?;
     trials.try_everywhere(symbols.as_slice())?;
     Some(trials)
 }
@@ -203,7 +206,7 @@ pub fn put_names(trial: &mut Trial) -> Option<()> {
 
 fn try_drawn(trials: &mut Trials, seed: u32) -> Option<()> {
     let mut draw = Draw::new(u64::from(seed));
-    let symbols = draw.term(trials.alloc, DRAWN_SYMBOLS).ok()?;
+    let symbols = draw.term(trials.alloc, &mut trials.scene, DRAWN_SYMBOLS)?;
     trials.try_symbols(symbols.as_slice())
 }
 

@@ -35,8 +35,8 @@ fn put_written(trial: &mut Trial, term: &Flat, max: u16) -> Option<()> {
 
 /// The term that the fields of a row spell, from a place on.
 fn spelled_at(trial: &mut Trial, from: usize) -> Option<Flat> {
-    let symbols = symbols_of(trial.alloc, trial.row.given(from)).ok()?;
-    spelled(trial.alloc, &mut trial.scene, symbols.as_slice())
+    let symbols = symbols_of(trial.alloc, &mut trial.scene, trial.row.given(from))?;
+    spelled(trial.alloc, symbols.as_slice())
 }
 
 /// Gives the text of the row's term for a place of the row's priority.

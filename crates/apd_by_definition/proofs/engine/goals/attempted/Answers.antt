@@ -1,8 +1,20 @@
 use Rattle.std.proofs.Common.{ap, ◌∙◌, ◌∷◌}
 use Rattle.apd_trace.specs.BuiltIn.{built}
 use Rattle.apd_by_definition.proofs.Answering.{is_answer}
-use Rattle.apd_by_definition.proofs.Solving.{attempt_succeeds, succeeds_below, attempt_none, attempt_some, attempt_below, applied_front}
+use Rattle.apd_by_definition.proofs.Solving.{attempt_user, attempt_fault, attempt_fails, attempt_succeeds, succeeds_below, attempt_none, attempt_some, attempt_below, applied_front}
 use Rattle.apd_by_definition.proofs.engine.goals.attempted.Goals as goal
+
+pub returns-in-User-clause-alike : goal.returns-in-User-clause-alike
+returns-in-User-clause-alike c =
+    attempt_user c.args.frames.now c.args.called.now c.args.point c.in-Some.goal.now c.in_ok-outcome.field-0 c.in-Some.ensures c.in_ok-outcome.ensures c.in-User.is
+
+pub returns-in-Faults-clause-alike : goal.returns-in-Faults-clause-alike
+returns-in-Faults-clause-alike c =
+    attempt_fault c.args.frames.now c.args.called.now c.args.point c.in-Some.goal.now c.in_ok-outcome.field-0 c.in-Some.ensures c.in_ok-outcome.ensures c.in-Faults.cause c.in-Faults.is
+
+pub returns-in-Fails-clause-alike : goal.returns-in-Fails-clause-alike
+returns-in-Fails-clause-alike c =
+    attempt_fails c.args.frames.now c.args.called.now c.args.point c.in-Some.goal.now c.in_ok-outcome.field-0 c.in-Some.ensures c.in_ok-outcome.ensures c.in-Fails.is
 
 pub returns-in-Succeeds-clause-alike : goal.returns-in-Succeeds-clause-alike
 returns-in-Succeeds-clause-alike c =

@@ -101,11 +101,6 @@ fn told(line: u32, stop: Stop) -> LoadText {
     }
 }
 
-/// Whether the term is this name before so many arguments.
-fn is_compound(term: &Flat, name: NameId, arity: u8) -> bool {
-    term.pred() == Some(Pred { name, arity })
-}
-
 /// The goals of a conjunction from the left, in at most this many steps.
 fn goals(alloc: Global, steps: usize, body: &Flat) -> Result<Vec<Flat>, AllocError> {
     let mut waiting = Vec::new(alloc);
@@ -115,12 +110,18 @@ fn goals(alloc: Global, steps: usize, body: &Flat) -> Result<Vec<Flat>, AllocErr
         let Some(goal) = waiting.pop() else {
             break;
         };
-        if !is_compound(&goal, COMMA, 2) {
-            goals.push(goal)?;
-            continue;
+        match goal.pred() {
+            Some(
+                Pred {
+                    name: COMMA,
+                    arity: 2,
+                },
+            ) => {
+                waiting.push(goal.arg(alloc, 1)?)?;
+                waiting.push(goal.arg(alloc, 0)?)?;
+            }
+            _ => goals.push(goal)?,
         }
-        waiting.push(goal.arg(alloc, 1)?)?;
-        waiting.push(goal.arg(alloc, 0)?)?;
     }
     Ok(goals)
 }
@@ -137,18 +138,28 @@ fn listed(alloc: Global, cells: usize, list: &Flat) -> Result<Option<ListOf<Name
     let mut names = ListOf::new(alloc);
     let mut rest = list.copy(alloc)?;
     for _ in 0..cells {
-        if !is_compound(&rest, CELL, 2) {
-            break;
+        match rest.pred() {
+            Some(
+                Pred {
+                    name: CELL,
+                    arity: 2,
+                },
+            ) => {
+                let first = rest.arg(alloc, 0)?;
+                let Some(name) = name_alone(&first) else {
+                    return Ok(None);
+                };
+                names.push(name)?;
+                rest = rest.arg(alloc, 1)?;
+            }
+            Some(
+                Pred {
+                    name: NIL,
+                    arity: 0,
+                },
+            ) => return Ok(Some(names)),
+            _ => return Ok(None),
         }
-        let first = rest.arg(alloc, 0)?;
-        let Some(name) = name_alone(&first) else {
-            return Ok(None);
-        };
-        names.push(name)?;
-        rest = rest.arg(alloc, 1)?;
-    }
-    if is_compound(&rest, NIL, 0) {
-        return Ok(Some(names));
     }
     Ok(None)
 }

@@ -21,19 +21,19 @@ impl From<AllocError> for Stop {
 
 impl From<TokenFault> for Stop {
     fn from(fault: TokenFault) -> Self {
-        if fault == TokenFault::Memory {
-            return Stop::Memory;
+        match fault {
+            TokenFault::Memory => Stop::Memory,
+            _ => Stop::Cause(LoadCause::Token(fault)),
         }
-        Stop::Cause(LoadCause::Token(fault))
     }
 }
 
 impl From<ReadFault> for Stop {
     fn from(fault: ReadFault) -> Self {
-        if fault == ReadFault::Memory {
-            return Stop::Memory;
+        match fault {
+            ReadFault::Memory => Stop::Memory,
+            _ => Stop::Cause(LoadCause::Read(fault)),
         }
-        Stop::Cause(LoadCause::Read(fault))
     }
 }
 
@@ -56,9 +56,9 @@ impl From<OpFault> for Stop {
 
 impl From<BodyFault> for Stop {
     fn from(fault: BodyFault) -> Self {
-        if fault == BodyFault::Memory {
-            return Stop::Memory;
+        match fault {
+            BodyFault::Memory => Stop::Memory,
+            _ => Stop::Cause(LoadCause::Body(fault)),
         }
-        Stop::Cause(LoadCause::Body(fault))
     }
 }

@@ -4,14 +4,14 @@
 # row reads about 8 MB. It ends with 1 where a text isn't read as it is to be, or where a byte of 1 MB takes more than
 # twice the time of a byte of 10 KB.
 top=$(cd "$(dirname "$0")/.." && pwd) || exit 1
-folder=$top/crates/apd_text_tables
-program=$folder/out/apd_text_tables
+folder=$top/crates/apd_tables
+program=$folder/out/apd_tables
 work=$(mktemp -d) || exit 1
 trap 'rm -rf "$work"' EXIT
 
 mkdir -p "$folder/out"
 if ! (cd "$folder" && rt run -- read data/counts.table 1 >out/build.log 2>&1); then
-    echo "reading: the build failed; crates/apd_text_tables/out/build.log says why" >&2
+    echo "reading: the build failed; crates/apd_tables/out/build.log says why" >&2
     exit 1
 fi
 

@@ -10,7 +10,7 @@ use apd_term::Flat;
 use std::alloc::Global;
 
 /// How two values are compared.
-#[derive(Clone, Copy, PartialEq, Eq, Debug)]
+#[derive(Clone, Copy, PartialEq, Eq)]
 pub enum Comparison {
     /// `=:=`.
     Equal,

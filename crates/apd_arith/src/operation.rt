@@ -9,7 +9,7 @@ use apd_term::NameId;
 use apd_term::standard::{ABS, MAX, MIN, MINUS, MOD, PLUS, QUOTIENT, REM, TIMES};
 
 /// An operation on one value.
-#[derive(Clone, Copy, PartialEq, Eq, Debug)]
+#[derive(Clone, Copy)]
 pub enum UnaryOperation {
     /// `-`, the value with the other sign.
     Negate,
@@ -18,7 +18,7 @@ pub enum UnaryOperation {
 }
 
 /// An operation on two values.
-#[derive(Clone, Copy, PartialEq, Eq, Debug)]
+#[derive(Clone, Copy)]
 pub enum BinaryOperation {
     /// `+`.
     Add,

@@ -10,3 +10,4 @@ pub mod PlainRuns
 pub mod Arguments
 pub mod Recursion
 pub mod Binding
+pub mod Rounds

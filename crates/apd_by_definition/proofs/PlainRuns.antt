@@ -1,5 +1,5 @@
 -- The plain program's run is the run of its trace.
-use Rattle.std.proofs.Common.{◌≡◌, ℕ, zero, suc, ◌+◌, ◌-◌, ◌<◌, ◌≤◌, List, [], ◌∷◌, ◌++◌, length, refl, ap, sym, ◌∙◌, subst, arith, append_assoc, append-nil, Some, None, true, false}
+use Rattle.std.proofs.Common.{◌≡◌, ℕ, zero, suc, ◌+◌, ◌-◌, ◌<◌, ◌≤◌, List, [], ◌∷◌, ◌++◌, length, refl, ap, sym, ◌∙◌, subst, arith, append_assoc, append-nil, None, true, false}
 use Rattle.std.proofs.lemmas.List.{length-map}
 use Rattle.apd_term.specs.Term.{Term}
 use Rattle.apd_term.specs.Canonical.{by_appearance, canonical_in}
@@ -12,7 +12,7 @@ use Rattle.apd_causes.specs.declared.run.RunError.{RunError}
 use Rattle.apd_ports.specs.declared.event.Event.{Event}
 use Rattle.apd_ports.specs.declared.hook.Shown.{Shown}
 use Rattle.apd_ports.specs.declared.hook.Shown.TheVariants.{Port as ShownPort, Answer as ShownAnswer}
-use Rattle.apd_trace.specs.Frames.{query_frame, point_at}
+use Rattle.apd_trace.specs.Frames.{query_frame}
 use Rattle.apd_trace.specs.Renaming.{IsBelow}
 use Rattle.apd_trace.specs.Run.{Run, run_of, stop, pass, hold, shown_of, ports_of, answers_of, ran_of}
 use Rattle.apd_trace.specs.Trace.{Out, search_from, up_to_error, point_of, trace}
@@ -23,8 +23,7 @@ use Rattle.apd_ports.specs.declared.point.Point.{Point}
 use Rattle.apd_trace.proofs.Clauses.{canonical_query}
 use Rattle.apd_trace.proofs.Renamed.{same_point}
 use Rattle.apd_trace.proofs.Searched.{search_same}
-use Rattle.apd_frames.specs.Kept.{point_in}
-use Rattle.apd_by_definition.specs.Searched.{is_error}
+use Rattle.apd_by_definition.specs.Searched.{is_error, traced}
 use Rattle.apd_engine.specs.Search.{IsOpen}
 use Rattle.apd_by_definition.proofs.Below.{query_fresh}
 use Rattle.apd_engine.proofs.RunFacts.{shown_of-hold, ports_of-hold, answers_of-hold}
@@ -65,17 +64,15 @@ module _ (P : List Tuple) (q : Tuple) (F : List Frame) (is : F ≡ query_frame (
       ap (λ G. search_from P d G 0 1) is
       ∙ sym (search_same P d (query_frame q ∷ []) (query_frame (canonical_tuple q) ∷ []) 0 1 (canonical_query q))
 
-  pub query_point : (p : Point) → Some p ≡ point_in F None → Made p ≡ point_of (query_frame q) None
-  query_point p made =
-      let found : Some p ≡ Some (point_at (query_frame (canonical_tuple q)) None) = made ∙ ap (λ G. point_in G None) is in
-      let point : p ≡ point_at (query_frame (canonical_tuple q)) None = cc in
-      ap Made point ∙ sym (same_point (query_frame q) (query_frame (canonical_tuple q)) [] [] (canonical_query q) None)
+  query_point : point_of (query_frame (canonical_tuple q)) None ≡ point_of (query_frame q) None
+  query_point = sym (same_point (query_frame q) (query_frame (canonical_tuple q)) [] [] (canonical_query q) None)
 
-  pub trace_made : (d : ℕ) (p : Point) (ys zs : List Item) (o : Out) → Some p ≡ point_in F None → o ≡ search_from P d F 0 1 → ys ≡ up_to_error o.items → zs ≡ Made p ∷ ys → zs ≡ trace P q d
-  trace_made d p ys zs o made searched kept pushed =
-      pushed
-      ∙ ap (λ (i : Item). i ∷ ys) (query_point p made)
-      ∙ ap (λ (xs : List Item). point_of (query_frame q) None ∷ xs) (kept ∙ ap (λ (x : Out). up_to_error x.items) (searched ∙ query_searched d))
+  pub trace_made : (d : ℕ) (zs : List Item) (o : Out) → o ≡ search_from P d F 0 1 → zs ≡ traced F o.items → zs ≡ trace P q d
+  trace_made d zs o searched made =
+      made
+      ∙ ap (λ G. traced G o.items) is
+      ∙ ap (λ (i : Item). i ∷ up_to_error o.items) query_point
+      ∙ ap (λ (x : Out). point_of (query_frame q) None ∷ up_to_error x.items) (searched ∙ query_searched d)
 
 -- so much of the run was shown, and this is left of it
 pub record Shows (whole left : Run) (shown : List Shown) (ports answered : ℕ) : Type 0 where

@@ -10,17 +10,18 @@ use Rattle.apd_ports.specs.declared.event.Port.TheVariants.{Exit, Redo, Fail}
 use Rattle.apd_trace.specs.Frames.{entering, apart, entered, handed_all, outer, look_of, next_goal, variables_of_frames, point_at, step_from, left}
 use Rattle.apd_trace.specs.BuiltIn.{Solution, solution}
 use Rattle.apd_trace.specs.Renaming.{AreAlike, AreRenamed, IsBelow}
-use Rattle.apd_trace.specs.Trace.{Out, Next, nothing, emit, and_then, at_port, over, begun, tried, tries, hand, succeeded, settled, turn, search_from}
+use Rattle.apd_trace.specs.Trace.{Out, Next, nothing, emit, and_then, at_port, again, closing, over, point_of, begun, tried, tries, hand, succeeded, settled, turn, search_from, up_to_error}
 use Rattle.apd_trace.specs.declared.frame.Frame.{Frame}
 use Rattle.apd_trace.specs.declared.frame.Called.{Called}
 use Rattle.apd_trace.specs.declared.frame.Look.{Look}
 use Rattle.apd_trace.specs.declared.item.Item.{Item}
 use Rattle.apd_trace.specs.declared.item.Item.TheVariants.{Made, Error}
 use Rattle.apd_ports.specs.declared.point.Point.{Point}
+use Rattle.apd_ports.specs.declared.point.Step.{Step}
 use Rattle.apd_trace.proofs.Renamed.{renamed_self}
 use Rattle.apd_trace.proofs.Searched.{search_same, tried_same, settled_same}
 use Rattle.apd_frames.specs.Kept.{exit_in, is_large_of, newest_of, point_in}
-use Rattle.apd_by_definition.specs.Searched.{Advances, IsFull, Makes, out_of}
+use Rattle.apd_by_definition.specs.Searched.{Advances, IsFull, Makes, around, out_of, pointed, traced}
 use Rattle.apd_engine.specs.Search.{AllWait, IsOpen}
 use Rattle.apd_by_definition.specs.declared.engine.search.Advance.{Advance}
 use Rattle.apd_by_definition.specs.declared.engine.search.Advance.TheVariants.{Full, Ends, Goes}
@@ -54,6 +55,9 @@ makes_turn P d F n m look l o some looks is h =
     makes_as o (search_from P d F n m) (turn (search_from P (d - 1)) P l F n m)
     (ap (λ k. search_from P k F n m) deep ∙ ap (λ x. turn (search_from P (d - 1)) P x F n m) (sym looks ∙ is)) h
 
+pub turn_as : (P : List Tuple) (k : ℕ) (F : List Frame) (n m : ℕ) (look l : Look) → look ≡ l → turn (search_from P k) P look F n m ≡ turn (search_from P k) P l F n m
+turn_as P k F n m look l is = ap (λ x. turn (search_from P k) P x F n m) is
+
 -- the frames around the innermost one
 pub outer_below : (q : ℕ) (F G : List Frame) → G ≡ outer F → IsBelow q F → IsBelow q G
 outer_below q [] G is below = rw is below
@@ -79,25 +83,22 @@ hand_large next (f ∷ F) e n m b p is large =
     let same : f.box_no ≡ b = ap (λ (x : ℕ × ℕ). x.0) both in
     rw (large, same) refl
 
-pub hand_made : (next : Next) (F : List Frame) (e n m b p : ℕ) (q : Point) → newest_of F ≡ Some (b, p) → is_large_of F ≡ false → Some q ≡ point_in (handed_all F m) (Some (step_from p e))
-    → hand next F e n m ≡ emit (Made q) (next (handed_all F m) n (m + 1))
-hand_made next [] e n m b p q is large made = cc
-hand_made next (f ∷ F) e n m b p q is large made =
+pub hand_pointed : (next : Next) (F : List Frame) (e n m b p : ℕ) → newest_of F ≡ Some (b, p) → is_large_of F ≡ false
+    → hand next F e n m ≡ pointed (handed_all F m) (Some (step_from p e)) (next (handed_all F m) n (m + 1))
+hand_pointed next [] e n m b p is large = cc
+hand_pointed next (f ∷ F) e n m b p is large =
     let both : (f.box_no, f.point) ≡ (b, p) = cc in
     let same : f.point ≡ p = ap (λ (x : ℕ × ℕ). x.1) both in
-    let point : q ≡ point_at (record { box_no = f.box_no; depth = f.depth; clause = f.clause; tuple = f.tuple; done = f.done + 1; point = m }) (Some (step_from p e)) = cc in
-    rw (large, point, same) refl
+    rw (large, same) refl
 
 -- a built-in goal that succeeds
-pub succeeded_made : (next : Next) (g l : Called) (e : ℕ) (F : List Frame) (n m : ℕ) (p : Point) → is_large_of F ≡ false → Some p ≡ point_in F None → Some (l, e) ≡ exit_in F
-    → succeeded next g F n m ≡ emit (Made p) (emit (at_port Exit l) (and_then (hand next (outer F) e n (m + 1)) (over l g)))
-succeeded_made next g l e [] n m p large is exits = cc
-succeeded_made next g l e (f ∷ F) n m p large is exits =
-    let point : p ≡ point_at f None = cc in
-    let both : (l, e) ≡ (left f F, f.point) = cc in
-    let same_left : l ≡ left f F = ap (λ (x : Called × ℕ). x.0) both in
-    let same_point : e ≡ f.point = ap (λ (x : Called × ℕ). x.1) both in
-    rw (large, point, same_left, same_point) refl
+pub succeeded_around : (next : Next) (g : Called) (F : List Frame) (n m b e : ℕ) → newest_of F ≡ Some (b, e) → is_large_of F ≡ false
+    → succeeded next g F n m ≡ around F g (hand next (outer F) e n (m + 1))
+succeeded_around next g [] n m b e is large = cc
+succeeded_around next g (f ∷ F) n m b e is large =
+    let both : (f.box_no, f.point) ≡ (b, e) = cc in
+    let same : f.point ≡ e = ap (λ (x : ℕ × ℕ). x.1) both in
+    rw (large, same) refl
 
 -- an item and another one after a search
 pub over_twice : (o : Out) (l g : Called) → and_then (and_then o (λ n m. emit (at_port Redo l) (nothing n m))) (λ n m. emit (at_port Fail g) (nothing n m)) ≡ and_then o (over l g)
@@ -105,6 +106,22 @@ over_twice o l g = ap build (append_assoc o.items (at_port Redo l ∷ []) (at_po
   where
     build : List Item → Out
     build xs = record { items = xs; boxes = o.boxes; points = o.points }
+
+-- the innermost frame's point, and what is around a built-in goal
+pub pointed_made : (F : List Frame) (b : Option Step) (p : Point) (o : Option Searched) (w : Out) → Some p ≡ point_in F b → Makes o (emit (Made p) w) → Makes o (pointed F b w)
+pointed_made [] b p o w is h = cc
+pointed_made (f ∷ F) b p o w is h =
+    let same : p ≡ point_at f b = cc in
+    subst (λ q. Makes o (emit (Made q) w)) same h
+
+pub around_made : (F : List Frame) (g l : Called) (e : ℕ) (o : Option Searched) (w : Out) → Some (l, e) ≡ exit_in F
+    → Makes o (pointed F None (and_then (emit (at_port Exit l) (and_then w (again l))) (closing g))) → Makes o (around F g w)
+around_made [] g l e o w is h = cc
+around_made (f ∷ F) g l e o w is h =
+    let both : (l, e) ≡ (left f F, f.point) = cc in
+    let same : l ≡ left f F = ap (λ (x : Called × ℕ). x.0) both in
+    makes_as o (around (f ∷ F) g w) (emit (point_of f None) (emit (at_port Exit l) (and_then (and_then w (again l)) (closing g))))
+    (sym (ap (λ z. emit (point_of f None) (emit (at_port Exit l) z)) (over_twice w l g) ∙ ap (λ k. emit (point_of f None) (emit (at_port Exit k) (and_then w (over k g)))) same)) h
 
 -- what comes of a goal, where that is known up to a renaming
 pub settled_as : (P : List Tuple) (k : ℕ) (F : List Frame) (g : Called) (n m : ℕ) (x y : Solution) → AreAlike (solution F g m) x → x ≡ y
@@ -162,24 +179,30 @@ module _ (P : List Tuple) (k : ℕ) (F : List Frame) (g : Called) (at number : �
     entered_open n short deep waits = opened n (next_goal F) (entered g (apart F rule) number m) F G renamed (few_apart F rule short, deep, waits)
 
 -- the search of a clause that was entered, behind what was made before
-pub begun_goes : (old new o : Out) (next : Next) (g : Called) (others : ℕ → ℕ → Out) (F : List Frame) (p : Point)
-    → begun next g others F old.boxes old.points ≡ emit (Made p) (and_then o others)
-    → new ≡ record { items = (old.items ++ Made p ∷ []) ++ o.items; boxes = o.boxes; points = o.points }
-    → and_then old (begun next g others F) ≡ and_then new others
-begun_goes old new o next g others F p is made =
-    and_then_at old (begun next g others F) (λ n m. emit (Made p) (and_then o others)) is
-    ∙ ap build (sym (append_assoc (old.items ++ Made p ∷ []) o.items (others o.boxes o.points).items ∙ append_assoc old.items (Made p ∷ []) (o.items ++ (others o.boxes o.points).items)))
+pub begun_behind : (old new o : Out) (next : Next) (g : Called) (others : ℕ → ℕ → Out) (F : List Frame) (k : ℕ) → IsOpen k F → is_large_of F ≡ false
+    → o ≡ next F old.boxes (old.points + 1) → new ≡ and_then old (λ n m. pointed F None o) → and_then old (begun next g others F) ≡ and_then new others
+begun_behind old new o next g others [] k there large is made = absurd there
+begun_behind old new o next g others (f ∷ F) k there large is made =
+    let q : Out = pointed (f ∷ F) None o in
+    and_then_at old (begun next g others (f ∷ F)) (λ n m. and_then q others) (rw (large, is) refl)
+    ∙ ap (λ (xs : List Item). record { items = xs; boxes = (others q.boxes q.points).boxes; points = (others q.boxes q.points).points }) (sym (append_assoc old.items q.items (others q.boxes q.points).items))
     ∙ ap (λ (x : Out). and_then x others) (sym made)
-  where
-    build : List Item → Out
-    build xs = record { items = xs; boxes = (others o.boxes o.points).boxes; points = (others o.boxes o.points).points }
 
--- an item and a search behind what was made before
-abbrev pub made_out : List Item → ℕ → ℕ → Out
-made_out xs n m = record { items = xs; boxes = n; points = m }
+pub boxes_behind : (old new o : Out) (F : List Frame) → new ≡ and_then old (λ n m. pointed F None o) → new.boxes ≡ o.boxes
+boxes_behind old new o [] made = ap (λ (x : Out). x.boxes) made
+boxes_behind old new o (f ∷ F) made = ap (λ (x : Out). x.boxes) made
 
-pub appended : (old rest o : Out) (i : Item) (ys xs : List Item) → xs ≡ ys ++ rest.items → ys ≡ old.items ++ i ∷ [] → rest ≡ o
-    → made_out xs rest.boxes rest.points ≡ made_out ((old.items ++ i ∷ []) ++ o.items) o.boxes o.points
-appended old rest o i ys xs whole first same =
-    ap (λ (zs : List Item). made_out zs rest.boxes rest.points) (whole ∙ ap (λ (zs : List Item). zs ++ rest.items) first)
-    ∙ ap (λ (x : Out). made_out ((old.items ++ i ∷ []) ++ x.items) x.boxes x.points) same
+-- the innermost frame's point in front of a search, behind what was made before
+pub behind_made : (old : Out) (F : List Frame) (p : Point) (xs ys zs : List Item) (n m : ℕ) → Some p ≡ point_in F None → ys ≡ Made p ∷ xs → zs ≡ old.items ++ ys
+    → record { items = zs; boxes = n; points = m } ≡ and_then old (λ n' m'. pointed F None (record { items = xs; boxes = n; points = m }))
+behind_made old [] p xs ys zs n m is front behind = cc
+behind_made old (f ∷ F) p xs ys zs n m is front behind =
+    let same : p ≡ point_at f None = cc in
+    rw (behind, front, same) refl
+
+-- the innermost frame's point, and the items up to the first error
+pub traced_made : (F : List Frame) (p : Point) (xs ys zs : List Item) → Some p ≡ point_in F None → ys ≡ up_to_error xs → zs ≡ Made p ∷ ys → zs ≡ traced F xs
+traced_made [] p xs ys zs is kept pushed = cc
+traced_made (f ∷ F) p xs ys zs is kept pushed =
+    let same : p ≡ point_at f None = cc in
+    rw (pushed, kept, same) refl

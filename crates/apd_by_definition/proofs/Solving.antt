@@ -1,5 +1,5 @@
 -- What comes of a goal, by the program's unifier.
-use Rattle.std.proofs.Common.{◌≡◌, inl, inr, ℕ, List, [], ◌∷◌, ◌++◌, refl, sym, ◌∙◌, ap, subst, Bool, true, false, Option, Some, None, Result, Ok, Err}
+use Rattle.std.proofs.Common.{◌≡◌, inl, inr, ℕ, List, [], ◌∷◌, ◌++◌, refl, sym, subst, Bool, true, false, Option, Some, None, Result, Ok, Err}
 use Rattle.apd_term.specs.Term.{Term, Terms, variable, integer, compound, none, more, list_of, variables, variables_all, IsAmong}
 use Rattle.apd_term.specs.Substitution.{term_for}
 use Rattle.apd_term.proofs.Among.{IsAmong-append, IsAmong-left, IsAmong-right}
@@ -10,21 +10,22 @@ use Rattle.apd_arith.specs.declared.comparison.Comparison.TheVariants as compari
 use Rattle.apd_arith.specs.Builtins.{builtin_of_atom}
 use Rattle.apd_arith.specs.Truth.{compared}
 use Rattle.apd_arith.specs.Value.{Value, value}
-use Rattle.apd_unify.specs.Unifier.{IsAnswer, IsUnifier, OccursIn}
+use Rattle.apd_unify.specs.Unifier.{IsAnswer, OccursIn}
 use Rattle.apd_unify.specs.Textbook.{unifier_of}
 use Rattle.apd_unify.proofs.Textbook.{unifier_of-right}
 use Rattle.apd_term.proofs.Applying.{apply-variable}
-use Rattle.apd_trace.specs.Frames.{apply_frames, next_goal, under, variables_of_frames}
-use Rattle.apd_trace.specs.BuiltIn.{outcome_of_is, outcome_of_comparison, outcome_of_none, outcome_of_two, outcome_of, outcome_by, outcome, built, Solution, of_program, faulted, failed, solved, solved_or, solution_by, solution}
+use Rattle.apd_trace.specs.Frames.{next_goal, under, variables_of_frames}
+use Rattle.apd_trace.specs.BuiltIn.{outcome_of_is, outcome_of_comparison, outcome_of_none, outcome_of_two, outcome_of, outcome_by, outcome, built, solved_or, solution_by, solution}
 use Rattle.apd_trace.specs.declared.frame.Frame.{Frame}
 use Rattle.apd_trace.specs.declared.frame.Called.{Called}
-use Rattle.apd_causes.specs.declared.run.RunError.{RunError}
 use Rattle.apd_trace.specs.declared.frame.Outcome.{Outcome}
 use Rattle.apd_trace.specs.declared.frame.Outcome.TheVariants.{User, Faults, Fails, Succeeds, Equates}
 use Rattle.apd_trace.proofs.Applied.{apply_frames-variable}
 use Rattle.apd_trace.proofs.BuiltIn.{alike_or}
 use Rattle.apd_trace.proofs.Entered.{renamed_under}
 use Rattle.apd_trace.proofs.Renamed.{renamed_self}
+use Rattle.apd_by_definition.specs.Attempts.{attempt_of, solution_in, IsAttempt, IsAttemptBelow}
+use Rattle.apd_by_definition.specs.declared.engine.goals.Attempt.{Attempt}
 use Rattle.apd_by_definition.proofs.Below.{IsBelow-apply, term_for-below, goal_below}
 use Rattle.apd_trace.specs.Renaming.{AreAlike, IsBelow}
 
@@ -84,49 +85,44 @@ outcome_within (compound f ts) = by_within (builtin_of_atom (compound f ts)) ts
 
 -- what an attempt at the goal a of the frames F came to
 module _ (F : List Frame) (g : Called) (m : ℕ) (a : Term) (o : Outcome) (goal : next_goal F ≡ Some a) (is : o ≡ outcome a) where
-  at : (x : Solution) → AreAlike (solution_by o a F g m) x → AreAlike (solution F g m) x
-  at x h = rw goal (subst (λ z. AreAlike (solution_by z a F g m) x) is h)
-
-  pub attempt_user : o ≡ User → AreAlike (solution F g m) of_program
-  attempt_user e = at of_program (rw e tt)
-
-  pub attempt_fault : (e : RunError) → o ≡ Faults e → AreAlike (solution F g m) (faulted e)
-  attempt_fault e k = at (faulted e) (rw k refl)
-
-  pub attempt_succeeds : (all : List Frame) → o ≡ Succeeds → all ≡ built g a m ∷ F → AreAlike (solution F g m) (solved all)
-  attempt_succeeds all e made = at (solved all) (rw (e, made) (renamed_self (built g a m ∷ F)))
-
-  pub attempt_fails : o ≡ Fails → AreAlike (solution F g m) failed
-  attempt_fails e = at failed (rw e tt)
-
   front_below : (n : ℕ) → IsBelow n F → IsBelow n (built g a m ∷ F)
   front_below n below v occurs = elim (IsAmong-append (variables a ++ []) (variables_of_frames F) v occurs) [ inl y ↦ goal_below n F a goal below v (nothing_more v y) | inr y ↦ below v y ]
     where
       nothing_more : (v : ℕ) → IsAmong (variables a ++ []) v → IsAmong (variables a) v
       nothing_more v occurs = elim (IsAmong-append (variables a) [] v occurs) [ inl y ↦ y | inr y ↦ absurd y ]
 
-  pub succeeds_below : (all : List Frame) → all ≡ built g a m ∷ F → (n : ℕ) → IsBelow n F → IsBelow n all
-  succeeds_below all made n below = rw made (front_below n below)
+  equated_alike : (l r : Term) (x : Option (List (ℕ × Term))) → IsAnswer l r x → AreAlike (solution_by (Equates l r) a F g m) (solution_in (attempt_of (under x (built g a m ∷ F))))
+  equated_alike l r x answer = at x (alike_or (under (unifier_of l r) H) (under x H)
+      (renamed_under variable variable l r l r H H (apply-variable l) (apply-variable r) (apply_frames-variable H) (apply-variable l) (apply-variable r) (apply_frames-variable H) (unifier_of l r) x (unifier_of-right l r) answer))
+    where
+      H : List Frame
+      H = built g a m ∷ F
 
-  module _ (l r : Term) (x : Option (List (ℕ × Term))) (equates : o ≡ Equates l r) (answer : IsAnswer l r x) where
-    by_answer : AreAlike (solution F g m) (solved_or (under x (built g a m ∷ F)))
-    by_answer =
-        let H : List Frame = built g a m ∷ F in
-        at (solved_or (under x H)) (rw equates (alike_or (under (unifier_of l r) H) (under x H)
-        (renamed_under variable variable l r l r H H (apply-variable l) (apply-variable r) (apply_frames-variable H) (apply-variable l) (apply-variable r) (apply_frames-variable H) (unifier_of l r) x (unifier_of-right l r) answer)))
+      at : (y : Option (List (ℕ × Term))) → AreAlike (solution_by (Equates l r) a F g m) (solved_or (under y H)) → AreAlike (solution_by (Equates l r) a F g m) (solution_in (attempt_of (under y H)))
+      at None h = h
+      at (Some s) h = h
 
-    pub attempt_none : x ≡ None → AreAlike (solution F g m) failed
-    attempt_none e = subst (λ y. AreAlike (solution F g m) (solved_or (under y (built g a m ∷ F)))) e by_answer
+  equated_below : (l r : Term) (x : Option (List (ℕ × Term))) → IsAnswer l r x → IsWithin (variables a) (Equates l r) → (n : ℕ) → IsBelow n F → IsAttemptBelow n (attempt_of (under x (built g a m ∷ F)))
+  equated_below l r None answer inside n below = tt
+  equated_below l r (Some s) answer inside n below =
+      IsBelow-apply n (term_for s) (built g a m ∷ F) (front_below n below) (term_for-below n s l r answer.brings (λ v occurs. goal_below n F a goal below v (inside v occurs)))
 
-    pub attempt_some : (s : List (ℕ × Term)) (all : List Frame) → x ≡ Some s → all ≡ apply_frames (term_for s) (built g a m ∷ F) → AreAlike (solution F g m) (solved all)
-    attempt_some s all e made = rw made (subst (λ y. AreAlike (solution F g m) (solved_or (under y (built g a m ∷ F)))) e by_answer)
+  alike_by : (p : Outcome) (t : Attempt) → IsAttempt p a F g m t → AreAlike (solution_by p a F g m) (solution_in t)
+  alike_by User t h = rw h tt
+  alike_by (Faults e) t h = rw h refl
+  alike_by Fails t h = rw h tt
+  alike_by Succeeds t h = rw h (renamed_self (built g a m ∷ F))
+  alike_by (Equates l r) t h = rw (h.2, h.1.2) (equated_alike l r h.1.0 h.1.1)
 
-    pub attempt_below : (s : List (ℕ × Term)) (all : List Frame) → x ≡ Some s → all ≡ apply_frames (term_for s) (built g a m ∷ F) → (n : ℕ) → IsBelow n F → IsBelow n all
-    attempt_below s all e made n below =
-        let unifier : IsUnifier l r s = subst (IsAnswer l r) e answer in
-        let inside : IsWithin (variables a) (Equates l r) = subst (IsWithin (variables a)) (sym is ∙ equates) (outcome_within a) in
-        rw made (IsBelow-apply n (term_for s) (built g a m ∷ F) (front_below n below) (term_for-below n s l r unifier.brings (λ v occurs. goal_below n F a goal below v (inside v occurs))))
+  below_by : (p : Outcome) (t : Attempt) → IsAttempt p a F g m t → IsWithin (variables a) p → (n : ℕ) → IsBelow n F → IsAttemptBelow n t
+  below_by User t h inside n below = rw h tt
+  below_by (Faults e) t h inside n below = rw h tt
+  below_by Fails t h inside n below = rw h tt
+  below_by Succeeds t h inside n below = rw h (front_below n below)
+  below_by (Equates l r) t h inside n below = rw (h.2, h.1.2) (equated_below l r h.1.0 h.1.1 inside n below)
 
--- the frames under a substitution, behind a frame that is another one
-pub applied_front : (F : List Frame) (s : List (ℕ × Term)) (f b : Frame) (all : List Frame) → f ≡ b → all ≡ apply_frames (term_for s) (f ∷ F) → all ≡ apply_frames (term_for s) (b ∷ F)
-applied_front F s f b all is made = made ∙ ap (λ x. apply_frames (term_for s) (x ∷ F)) is
+  pub attempt_alike : (t : Attempt) → IsAttempt o a F g m t → AreAlike (solution F g m) (solution_in t)
+  attempt_alike t h = rw goal (subst (λ z. AreAlike (solution_by z a F g m) (solution_in t)) is (alike_by o t h))
+
+  pub attempt_below : (t : Attempt) → IsAttempt o a F g m t → (n : ℕ) → IsBelow n F → IsAttemptBelow n t
+  attempt_below t h n below = below_by o t h (subst (IsWithin (variables a)) (sym is) (outcome_within a)) n below

@@ -1,3 +1,4 @@
 pub mod Shared
 pub mod Attempts
 pub mod Searched
+pub mod Rules

@@ -1,6 +1,11 @@
 -- What the plain search makes.
-use Rattle.std.specs.Prelude.{◌≡◌, ◌⊎◌, ℕ, ◌≤◌, Option, Some, None, Bool, true, false}
-use Rattle.apd_trace.specs.Trace.{Out, and_then}
+use Rattle.std.specs.Prelude.{◌≡◌, ◌⊎◌, ℕ, ◌≤◌, List, [], ◌∷◌, Option, Some, None, Bool, true, false}
+use Rattle.apd_ports.specs.declared.event.Port.TheVariants.{Exit}
+use Rattle.apd_ports.specs.declared.point.Step.{Step}
+use Rattle.apd_trace.specs.Frames.{left}
+use Rattle.apd_trace.specs.Trace.{Out, emit, and_then, at_port, over, point_of, up_to_error}
+use Rattle.apd_trace.specs.declared.frame.Called.{Called}
+use Rattle.apd_trace.specs.declared.frame.Frame.{Frame}
 use Rattle.apd_trace.specs.declared.item.Item.{Item}
 use Rattle.apd_trace.specs.declared.item.Item.TheVariants.{Passed, Answer, Made, Error}
 use Rattle.apd_by_definition.specs.declared.engine.searched.Searched.{Searched}
@@ -39,3 +44,18 @@ is_error (Passed e) = false
 is_error (Answer a) = false
 is_error (Made p) = false
 is_error (Error e b) = true
+
+-- the innermost frame's point, and then a search
+abbrev pub pointed : List Frame → Option Step → Out → Out
+pointed [] before o = o
+pointed (f ∷ F) before o = emit (point_of f before) o
+
+-- a built-in goal's point and exit, the search that follows them, and Redo and Fail
+abbrev pub around : List Frame → Called → Out → Out
+around [] g o = o
+around (f ∷ F) g o = emit (point_of f None) (emit (at_port Exit (left f F)) (and_then o (over (left f F) g)))
+
+-- the innermost frame's point, and the items up to the first error
+abbrev pub traced : List Frame → List Item → List Item
+traced [] items = up_to_error items
+traced (f ∷ F) items = point_of f None ∷ up_to_error items

@@ -4,6 +4,7 @@ ghost use Rattle.std.specs.Prelude.{◌≡◌, ◌≢◌, ◌≤◌};
 ghost use Rattle.apd_term.specs.Term.{size};
 ghost use Rattle.apd_arith.specs.Value.{value, of_one_by, of_two_by};
 
+use crate::term::both;
 use apd_arith::{ArithFault, BinaryOperation, UnaryOperation};
 use apd_term::{Flat, Sym};
 use std::alloc::Global;
@@ -51,10 +52,9 @@ pub fn eval(alloc: Global, expr: &Flat) -> Value
             of_one(UnaryOperation::named(name), eval(alloc, &only))
         }
         Sym::Fun(name, 2) => {
-            let first = expr.arg(alloc, 0)?;
-            let second = expr.arg(alloc, 1)?;
-            let x = eval(alloc, &first);
-            of_two(BinaryOperation::named(name), x, eval(alloc, &second))
+            let sides = both(alloc, expr)?;
+            let x = eval(alloc, &sides.left);
+            of_two(BinaryOperation::named(name), x, eval(alloc, &sides.right))
         }
         Sym::Fun(..) => Err(ArithFault::NotEvaluable),
     }

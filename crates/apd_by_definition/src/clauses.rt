@@ -1,9 +1,10 @@
 //! The clause that a term is, by recursion.
 
-ghost use Rattle.std.specs.Prelude.{◌≡◌, ◌≢◌, ◌≤◌, ◌++◌, IfOk, IfErr, OnOk, Ok, Err};
+ghost use Rattle.std.specs.Prelude.{◌≡◌, ◌≢◌, ◌≤◌, ◌∷◌, [], ◌++◌, IfOk, IfErr, OnOk, Ok, Err};
 ghost use Rattle.apd_term.specs.Term.{size};
-ghost use Rattle.apd_clauses.specs.Bodies.{conjuncts, first_fault, body_fault, parts_of, clause_from};
+ghost use Rattle.apd_clauses.specs.Bodies.{conjuncts, first_fault, body_fault, fact, parts_of, clause_from};
 
+use crate::term::both;
 use apd_base::MOST_GOALS;
 use apd_causes::BodyFault;
 use apd_clauses::body::{begins_with, goal_fault, head_fault};
@@ -24,22 +25,36 @@ fn append(alloc: Global, terms: &mut Atoms, more: &[Flat]) -> Result<(), AllocEr
     Ok(())
 }
 
+/// The terms, and then copies of others.
+pub(crate) fn joined(alloc: Global, mut terms: Atoms, more: &[Flat]) -> Result<Atoms, AllocError>
+    ensures { IfOk result (λ all. all ≡ terms ++ more.now) }
+{
+    append(alloc, &mut terms, more)?;
+    Ok(terms)
+}
+
+/// A copy of the term alone.
+pub(crate) fn alone(alloc: Global, term: &Flat) -> Result<Atoms, AllocError>
+    ensures { IfOk result (λ terms. terms ≡ term.now ∷ []) }
+{
+    let copied = term.copy(alloc)?;
+    let mut terms = Atoms::new(alloc);
+    terms.push(copied)?;
+    Ok(terms)
+}
+
 /// The goals of a term of at most 1,000 symbols, by recursion.
 pub fn goals_of(alloc: Global, term: &Flat) -> Result<Atoms, AllocError>
     requires { size term.now ≤ MOST_SYMBOLS }
     ensures { IfOk result (λ goals. goals ≡ conjuncts term.now) }
 {
     if begins_with(term, COMMA, 2) {
-        let left = term.arg(alloc, 0)?;
-        let right = term.arg(alloc, 1)?;
-        let mut goals = goals_of(alloc, &left)?;
-        let others = goals_of(alloc, &right)?;
-        append(alloc, &mut goals, others.as_slice())?;
-        return Ok(goals);
+        let sides = both(alloc, term)?;
+        let goals = goals_of(alloc, &sides.left)?;
+        let others = goals_of(alloc, &sides.right)?;
+        return joined(alloc, goals, others.as_slice());
     }
-    let mut goals = Atoms::new(alloc);
-    goals.push(term.copy(alloc)?)?;
-    Ok(goals)
+    alone(alloc, term)
 }
 
 /// The first fault of goals from the left.
@@ -64,20 +79,27 @@ fn body_fault(goals: &[Flat]) -> Option<BodyFault>
     first_fault(&goals[..MOST_GOALS]).or(Some(BodyFault::BodyOver))
 }
 
+/// The term as a head without goals.
+fn fact(alloc: Global, term: &Flat) -> Result<Tuple, AllocError>
+    ensures { IfOk result (λ c. c ≡ fact term.now) }
+{
+    let head = term.copy(alloc)?;
+    let body = Atoms::new(alloc);
+    Ok(Tuple { head, body })
+}
+
 /// The head H and the goals of B in `H :- B`; any other term is a head without goals.
 fn parts_of(alloc: Global, term: &Flat) -> Result<Tuple, AllocError>
     requires { size term.now ≤ MOST_SYMBOLS }
     ensures { IfOk result (λ c. c ≡ parts_of term.now) }
 {
     if begins_with(term, NECK, 2) {
-        let head = term.arg(alloc, 0)?;
-        let body = term.arg(alloc, 1)?;
-        let goals = goals_of(alloc, &body)?;
-        return Ok(Tuple { head, body: goals });
+        let sides = both(alloc, term)?;
+        let body = goals_of(alloc, &sides.right)?;
+        let head = sides.left;
+        return Ok(Tuple { head, body });
     }
-    let head = term.copy(alloc)?;
-    let none = Atoms::new(alloc);
-    Ok(Tuple { head, body: none })
+    fact(alloc, term)
 }
 
 /// The clause that a term of at most 1,000 symbols is, or its first fault; `Memory` may come at any call.

@@ -1,14 +1,32 @@
 //! The number of a name, and canonical terms, by lists that are gone over again and again.
 
-ghost use Rattle.std.specs.Prelude.{◌≡◌, ◌+◌, ◌≤◌, length, IfOk, OnOk, ◌==◌};
+ghost use Rattle.std.specs.Prelude.{◌≡◌, ◌+◌, ◌<◌, ◌≤◌, length, slice_get, Some, IfOk, OnOk, ◌==◌};
 ghost use Rattle.std.specs.List.{fold, list_any};
-ghost use Rattle.apd_term.specs.Term.{variables};
+ghost use Rattle.apd_term.specs.Term.{arguments, variables};
 ghost use Rattle.apd_term.specs.Canonical.{canonical, canonical_in, with_new, place_of};
 ghost use Rattle.apd_term.specs.Names.{number_of};
 
 use apd_base::VarNames;
 use apd_term::{Flat, Sym, Syms};
 use std::alloc::{AllocError, Global};
+
+/// The two sides of a term.
+#[derive(Drop)]
+pub(crate) struct Sides {
+    pub left: Flat,
+    pub right: Flat,
+}
+
+/// The first two arguments of a term, on its left and right.
+pub(crate) fn both(alloc: Global, t: &Flat) -> Result<Sides, AllocError>
+    requires { 1 < length (arguments t.now) }
+    ensures left { IfOk result (λ b. slice_get (arguments t.now) 0 ≡ Some b.left) }
+    ensures right { IfOk result (λ b. slice_get (arguments t.now) 1 ≡ Some b.right) }
+{
+    let left = t.arg(alloc, 0)?;
+    let right = t.arg(alloc, 1)?;
+    Ok(Sides { left, right })
+}
 
 /// The place of the text among the names, from 0; their count where it isn't there.
 pub fn number_of(names: &VarNames, text: &[u8]) -> usize

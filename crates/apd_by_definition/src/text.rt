@@ -4,6 +4,8 @@ ghost use Rattle.std.specs.Prelude.{◌≡◌, IfOk, ◌↔◌, IsTrue};
 ghost use Rattle.apd_text.specs.Elements.{IsCell};
 ghost use Rattle.apd_text.specs.Lines.{binding, bindings, elements};
 
+use crate::clauses::{alone, joined};
+use crate::term::both;
 use apd_base::{ListOf, Text};
 use apd_ops::Ops;
 use apd_term::names::Names;
@@ -26,15 +28,13 @@ fn is_cell(term: &Flat) -> bool
 pub fn elements(alloc: Global, list: &Flat) -> Result<Atoms, AllocError>
     ensures { IfOk result (λ terms. terms ≡ elements list.now) }
 {
-    let mut terms = Atoms::new(alloc);
     if is_cell(list) {
-        terms.push(list.arg(alloc, 0)?)?;
-        let rest = elements(alloc, &list.arg(alloc, 1)?)?;
-        'rest: for term in rest.as_slice() {
-            terms.push(term.copy(alloc)?)?;
-        }
+        let sides = both(alloc, list)?;
+        let first = alone(alloc, &sides.left)?;
+        let rest = elements(alloc, &sides.right)?;
+        return joined(alloc, first, rest.as_slice());
     }
-    Ok(terms)
+    Ok(Atoms::new(alloc))
 }
 
 /// A variable's name and its value.

@@ -1,11 +1,13 @@
 //! Unification by the textbook's rules on a list of equations (Robinson 1965; Martelli and Montanari 1982).
 
-ghost use Rattle.std.specs.Prelude.{◌≡◌, ℕ, ◌++◌, length, IfOk, OnOk, IsTrue, ◌↔◌};
+ghost use Rattle.std.specs.Prelude.{◌≡◌, ℕ, ◌∷◌, [], ◌++◌, length, IfOk, OnOk, IsTrue, ◌↔◌};
 ghost use Rattle.std.specs.List.{zip};
-ghost use Rattle.apd_term.specs.Term.{arguments, variable};
-ghost use Rattle.apd_term.specs.Substitution.{term_for};
+ghost use Rattle.apd_term.specs.Term.{Term, arguments, variable};
+ghost use Rattle.apd_term.specs.Substitution.{IsFree, extended, single, term_for};
+ghost use Rattle.apd_unify.specs.declared.rule.Rule.TheVariants.{Eliminate};
 ghost use Rattle.apd_unify.specs.Step.{first_symbol};
 ghost use Rattle.apd_unify.specs.Textbook.{apply_equations, rule_for, rule_for_variable, unifier_of};
+ghost use Rattle.apd_by_definition.specs.Rules.{IsAfter};
 
 use apd_term::{Flat, Subst, Sym, apply};
 use apd_unify::rule::Rule;
@@ -95,26 +97,71 @@ fn substituted(
     Ok(rest)
 }
 
+/// The equations that are left, and the unifier of those that were solved.
+#[derive(Drop)]
+struct Work {
+    equations: VecDeque<Equation>,
+    found: Subst,
+}
+
+/// The one equation between two terms, and no pair found.
+fn begun(alloc: Global, a: &Flat, b: &Flat) -> Result<Work, AllocError>
+    ensures equations { IfOk result (λ w. w.equations.items ≡ (a.now, b.now) ∷ []) }
+    ensures found { IfOk result (λ w. w.found ≡ []) }
+{
+    let left = a.copy(alloc)?;
+    let right = b.copy(alloc)?;
+    let mut equations = VecDeque::new(alloc);
+    equations.push_back((left, right))?;
+    Ok(Work {
+        equations,
+        found: Subst::new(alloc),
+    })
+}
+
+/// The work with a term in place of a variable, and the pair of them found.
+fn eliminated(alloc: Global, work: &Work, v: u64, t: &Flat) -> Result<Work, AllocError>
+    requires { IsFree v work.now.found }
+    ensures equations { IfOk result (λ w. w.equations.items ≡ apply_equations (term_for (single v t.now)) work.now.equations.items) }
+    ensures found { IfOk result (λ w. w.found ≡ extended work.now.found v t.now) }
+{
+    let one = Subst::single(alloc, v, t)?;
+    let equations = substituted(alloc, &work.equations, &one)?;
+    let found = work.found.extended(alloc, v, t)?;
+    Ok(Work { equations, found })
+}
+
+/// Solves an equation by its rule before the others; false where the rule refuses it.
+fn solves(alloc: Global, work: &mut Work, left: &Flat, right: &Flat) -> Result<bool, AllocError>
+    requires { (v : ℕ) → (t : Term) → rule_for left.now right.now ≡ Eliminate v t → IsFree v work.old.found }
+    ensures { IfOk result (λ goes. IsAfter (rule_for left.now right.now) left.now right.now work.old.equations.items work.old.found goes work.new.equations.items work.new.found) }
+{
+    let rule = rule_for(alloc, left, right)?;
+    match &rule {
+        Rule::Delete => Ok(true),
+        Rule::Decompose => {
+            push_arguments(alloc, &mut work.equations, left, right)?;
+            Ok(true)
+        }
+        Rule::Clash | Rule::Cycle => Ok(false),
+        Rule::Eliminate(v, t) => {
+            *work = eliminated(alloc, work, *v, t)?;
+            Ok(true)
+        }
+    }
+}
+
 /// A most general unifier of two terms by the textbook's rules on a list of equations
 /// (Robinson 1965; Martelli and Montanari 1982); `None` where they have none. The plain and slow
 /// program beside `mgu` of `apd_unify`.
 pub fn textbook_unifier(alloc: Global, a: &Flat, b: &Flat) -> Result<Option<Subst>, AllocError>
     ensures { IfOk result (λ r. r ≡ unifier_of a.now b.now) }
 {
-    let mut equations = VecDeque::new(alloc);
-    equations.push_back((a.copy(alloc)?, b.copy(alloc)?))?;
-    let mut found = Subst::new(alloc);
-    'rules: while let Some((left, right)) = equations.pop_front() {
-        match rule_for(alloc, &left, &right)? {
-            Rule::Delete => {}
-            Rule::Decompose => push_arguments(alloc, &mut equations, &left, &right)?,
-            Rule::Clash | Rule::Cycle => return Ok(None),
-            Rule::Eliminate(v, t) => {
-                let one = Subst::single(alloc, v, &t)?;
-                equations = substituted(alloc, &equations, &one)?;
-                found = found.extended(alloc, v, &t)?;
-            }
+    let mut work = begun(alloc, a, b)?;
+    'rules: while let Some((left, right)) = work.equations.pop_front() {
+        if !solves(alloc, &mut work, &left, &right)? {
+            return Ok(None);
         }
     }
-    Ok(Some(found))
+    Ok(Some(work.found))
 }

@@ -19,7 +19,7 @@ pub enum LoadCause {
 }
 
 /// Why an oracle file is refused. Of one clause's causes the first of this list is told.
-#[derive(Clone, Copy, Debug, PartialEq, Eq)]
+#[derive(Clone, Copy)]
 pub enum OracleCause {
     /// The text has no division into tokens.
     Token(TokenFault),

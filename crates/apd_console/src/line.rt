@@ -11,7 +11,7 @@ pub enum Line {
 }
 
 /// Why there is no line.
-#[derive(Clone, Copy, Debug, PartialEq, Eq)]
+#[derive(Clone, Copy, Debug)]
 pub enum LineEnd {
     /// The input's end was met, and no byte of a line is left.
     Ended,

@@ -3,7 +3,7 @@
 use crate::spelled::Spelled;
 
 /// What is known of a node's label.
-#[derive(Clone, Copy, Debug, PartialEq, Eq)]
+#[derive(Clone, Copy)]
 pub enum Standing {
     /// Nothing yet.
     Open,
@@ -12,7 +12,7 @@ pub enum Standing {
 }
 
 /// Which node is asked about.
-#[derive(Clone, Copy, Debug, PartialEq, Eq)]
+#[derive(Clone, Copy, Debug)]
 pub enum Strategy {
     /// One whose subtree has about half of the suspects.
     Divide,
@@ -23,7 +23,7 @@ pub enum Strategy {
 }
 
 /// The name of a node: its place in the built tree, where each node comes before those below it.
-#[derive(Clone, Copy, Debug, PartialEq, Eq)]
+#[derive(Clone, Copy)]
 pub struct NodeId(pub u32);
 
 /// A node as it is kept, in the order of a walk that comes to a node before those below it: the nodes below it stand

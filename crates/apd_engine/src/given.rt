@@ -14,7 +14,7 @@ use std::alloc::{AllocError, Global};
 use std::boxed::Box;
 
 /// What nobody reads, so that it may be given bare.
-#[derive(Clone, Copy, Debug)]
+#[derive(Clone, Copy)]
 pub struct Unread {
     /// Ports. A Call is read with the points, where a record is made of them.
     pub ports: bool,

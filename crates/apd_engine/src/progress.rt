@@ -24,7 +24,7 @@ use std::alloc::{AllocError, Global};
 use std::boxed::Box;
 
 /// How many ports and answers a run passes at most.
-#[derive(Clone, Copy, Debug)]
+#[derive(Clone, Copy)]
 pub struct Limits {
     pub budget: u32,
     pub answers: u32,
@@ -56,18 +56,17 @@ fn query_point(alloc: Global, query: &Tuple) -> Result<Point, AllocError>
 
 impl Progress {
     /// A run before its first item.
-    pub fn open(alloc: Global, query: &Tuple) -> Result<Progress, AllocError>
+    pub fn open(alloc: Global, query: &Tuple) -> Result<Box<Progress>, AllocError>
         requires { IsRunnable query.now }
-        ensures { IfOk result (λ p. p ≡ at_first query.now) }
+        ensures { IfOk result (λ p. p.value ≡ at_first query.now) }
     {
-        let first = query_point(alloc, query)?;
-        let search = Search::open(alloc, query)?;
-        Ok(Progress {
-            search,
-            held: Some(first),
+        let first = Progress {
+            held: Some(query_point(alloc, query)?),
+            search: Search::open(alloc, query)?,
             ports: 0,
             answered: 0,
-        })
+        };
+        Ok(Box::new(alloc, first)?)
     }
 
     /// The run ends so here.

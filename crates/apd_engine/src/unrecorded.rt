@@ -31,16 +31,16 @@ pub struct Unrecorded {
 
 impl Unrecorded {
     /// A run before its first item.
-    pub fn open(alloc: Global, query: &Tuple) -> Result<Unrecorded, AllocError>
+    pub fn open(alloc: Global, query: &Tuple) -> Result<Box<Unrecorded>, AllocError>
         requires { IsRunnable query.now }
-        ensures { IfOk result (λ p. p ≡ first_shown query.now) }
+        ensures { IfOk result (λ p. p.value ≡ first_shown query.now) }
     {
-        let search = Search::open(alloc, query)?;
-        Ok(Unrecorded {
-            search,
+        let first = Unrecorded {
+            search: Search::open(alloc, query)?,
             ports: 0,
             answered: 0,
-        })
+        };
+        Ok(Box::new(alloc, first)?)
     }
 
     /// The run ends so here.
@@ -86,19 +86,19 @@ impl Unrecorded {
             return Ok(Some(self.ended(RunEnd::Exhausted)));
         };
         match given {
-            Given::Whole(item) => match Box::into_inner(item) {
+            Given::Whole(item) => match &*item {
                 Item::Made(_) => Ok(None),
-                Item::Error(error, at) => Ok(Some(self.ended(RunEnd::Error(error, at)))),
+                Item::Error(error, at) => Ok(Some(self.ended(RunEnd::Error(*error, *at)))),
                 Item::Passed(event) => {
                     if self.ports == limits.budget {
                         return Ok(Some(self.ended(RunEnd::Budget)));
                     }
-                    hook.event(&event)?;
+                    hook.event(event)?;
                     self.ports += 1;
                     Ok(None)
                 }
                 Item::Answer(values) => {
-                    hook.answer(&values)?;
+                    hook.answer(values)?;
                     self.answered += 1;
                     if self.answered == limits.answers {
                         return Ok(Some(self.ended(RunEnd::AnswerLimit)));

@@ -1,7 +1,7 @@
 //! What frames do next, without its terms.
 
 /// What frames do next.
-#[derive(Clone, Copy, Debug, PartialEq, Eq)]
+#[derive(Clone, Copy)]
 pub enum Ahead {
     /// There is no frame.
     Nothing,

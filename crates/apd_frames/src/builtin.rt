@@ -8,7 +8,7 @@ use apd_causes::RunError;
 use std::alloc::AllocError;
 
 /// What came of a goal.
-#[derive(Clone, Copy, Debug, PartialEq, Eq)]
+#[derive(Clone, Copy, PartialEq, Eq)]
 pub enum Solved {
     /// It is one of the program's.
     Program,

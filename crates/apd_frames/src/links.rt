@@ -41,7 +41,7 @@ pub struct Row {
 }
 
 /// Where a search may come back to: the store's mark, and how many links there were, and which was the innermost.
-#[derive(Clone, Copy, PartialEq, Eq, Debug)]
+#[derive(Clone, Copy)]
 pub struct Branch {
     pub mark: Mark,
     pub links: usize,

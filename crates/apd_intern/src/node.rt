@@ -10,7 +10,7 @@ use indexmap::IndexSet;
 use std::alloc::AllocError;
 
 /// A term by its symbol and the places of its arguments.
-#[derive(Clone, Copy, PartialEq, Eq, Hash, Debug)]
+#[derive(Clone, Copy, PartialEq, Eq, Hash)]
 pub enum Node {
     /// A variable with its number.
     Variable(u64),
@@ -22,7 +22,7 @@ pub enum Node {
 }
 
 /// Two arguments or more: the place of the first, and where the others are.
-#[derive(Clone, Copy, PartialEq, Eq, Hash, Debug)]
+#[derive(Clone, Copy, PartialEq, Eq, Hash)]
 pub struct Link {
     pub first: u32,
     pub rest: u32,

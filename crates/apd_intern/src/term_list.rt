@@ -18,7 +18,7 @@ const MOST_WRITTEN: usize = 40;
 const MOST: usize = 4_294_967_295;
 
 /// Where a term is kept.
-#[derive(Clone, Copy, PartialEq, Eq, Debug)]
+#[derive(Clone, Copy, PartialEq, Eq)]
 pub enum Spot {
     /// Its symbols begin here among all that are written out, and are so many.
     Written(u32, u8),

@@ -31,7 +31,7 @@ pub struct Stated {
 }
 
 /// Why an oracle file states nothing.
-#[derive(Clone, Copy, Debug, PartialEq, Eq)]
+#[derive(Clone, Copy)]
 pub enum OracleText {
     /// The text is refused, for this cause in this line, counted from 1.
     Refused { line: u32, cause: OracleCause },

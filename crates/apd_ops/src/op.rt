@@ -16,7 +16,7 @@ pub enum OpKind {
 }
 
 /// One meaning of a name as an operator.
-#[derive(Clone, Copy, PartialEq, Eq, Debug)]
+#[derive(Clone, Copy)]
 pub struct Op {
     pub name: NameId,
     /// From 1 to 1200.

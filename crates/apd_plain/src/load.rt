@@ -1,21 +1,26 @@
 //! Loading in the plainest way. At each definition of an operator all operators are made anew, by all definitions so far, and
 //! the line of each byte is kept in a list.
 
+mod conjunction;
+mod op_terms;
 mod stop;
 
-ghost use Rattle.std.specs.Prelude.{◌≤◌, length};
+ghost use Rattle.std.specs.Prelude.{◌≡◌, ◌≤◌, IfOk, length};
+ghost use Rattle.apd_term.specs.Term.{arguments};
 ghost use Rattle.apd_token.specs.Grammar.{HasTokens};
 ghost use Rattle.apd_base.specs.declared.limits.TheConstants.{MAX_FILE};
 
+use crate::load::conjunction::goals;
+use crate::load::op_terms::{kind_of, names_of, priority_of};
 use crate::load::stop::Stop;
 use apd_base::ListOf;
-use apd_causes::{BodyFault, LoadCause, OpCause, ReadFault, TokenFault};
+use apd_causes::{BodyFault, LoadCause, ReadFault, TokenFault};
 use apd_clauses::{Clause, clause_of};
 use apd_load::{LoadText, Note, Notes};
 use apd_ops::{OpFault, OpKind, Ops};
 use apd_read::read_clause;
-use apd_term::standard::{CELL, COMMA, NECK, NIL, OP, QUERY};
-use apd_term::{Flat, NameId, Names, Pred, Sym};
+use apd_term::standard::{NECK, OP, QUERY};
+use apd_term::{Flat, NameId, Names, Pred};
 use apd_token::{Tokens, tokens};
 use std::alloc::{AllocError, Global};
 
@@ -101,114 +106,15 @@ fn told(line: u32, stop: Stop) -> LoadText {
     }
 }
 
-/// The goals of a conjunction from the left, in at most this many steps.
-fn goals(alloc: Global, steps: usize, body: &Flat) -> Result<Vec<Flat>, AllocError> {
-    let mut waiting = Vec::new(alloc);
-    waiting.push(body.copy(alloc)?)?;
-    let mut goals = Vec::new(alloc);
-    for _ in 0..steps {
-        let Some(goal) = waiting.pop() else {
-            break;
-        };
-        match goal.pred() {
-            Some(
-                Pred {
-                    name: COMMA,
-                    arity: 2,
-                },
-            ) => {
-                waiting.push(goal.arg(alloc, 1)?)?;
-                waiting.push(goal.arg(alloc, 0)?)?;
-            }
-            _ => goals.push(goal)?,
-        }
-    }
-    Ok(goals)
+/// Puts a definition behind all others, and makes the operators anew.
+fn define(alloc: Global, made: &mut Plain, definition: Definition) -> Result<(), Stop> {
+    made.definitions.push(definition)?;
+    made.ops = operators(alloc, made.definitions.as_slice())?;
+    Ok(())
 }
 
-fn name_alone(term: &Flat) -> Option<NameId> {
-    match term.pred() {
-        Some(Pred { name, arity: 0 }) => Some(name),
-        _ => None,
-    }
-}
-
-/// The names that a list of names has, of at most this many cells.
-fn listed(alloc: Global, cells: usize, list: &Flat) -> Result<Option<ListOf<NameId>>, AllocError> {
-    let mut names = ListOf::new(alloc);
-    let mut rest = list.copy(alloc)?;
-    for _ in 0..cells {
-        match rest.pred() {
-            Some(
-                Pred {
-                    name: CELL,
-                    arity: 2,
-                },
-            ) => {
-                let first = rest.arg(alloc, 0)?;
-                let Some(name) = name_alone(&first) else {
-                    return Ok(None);
-                };
-                names.push(name)?;
-                rest = rest.arg(alloc, 1)?;
-            }
-            Some(
-                Pred {
-                    name: NIL,
-                    arity: 0,
-                },
-            ) => return Ok(Some(names)),
-            _ => return Ok(None),
-        }
-    }
-    Ok(None)
-}
-
-/// Kinds of operators by their texts.
-const KINDS: [(&str, Result<OpKind, OpCause>); 7] = [
-    ("fx", Ok(OpKind::Fx)),
-    ("fy", Ok(OpKind::Fy)),
-    ("xfx", Ok(OpKind::Xfx)),
-    ("xfy", Ok(OpKind::Xfy)),
-    ("yfx", Ok(OpKind::Yfx)),
-    ("xf", Err(OpCause::Postfix)),
-    ("yf", Err(OpCause::Postfix)),
-];
-
-fn kind_of(names: &Names, term: &Flat) -> Result<OpKind, OpCause> {
-    let Some(name) = name_alone(term) else {
-        return Err(OpCause::BadKind);
-    };
-    for (text, kind) in KINDS {
-        if names.text(name) == text.as_bytes() {
-            return kind;
-        }
-    }
-    Err(OpCause::BadKind)
-}
-
-fn priority_of(term: &Flat) -> Result<u16, OpCause> {
-    match term.symbols() {
-        [Sym::Int(priority)] if *priority >= 0 && *priority <= 1200 => Ok(*priority as u16),
-        _ => Err(OpCause::BadPriority),
-    }
-}
-
-/// One name, or those of a list of at most this many cells.
-fn names_of(alloc: Global, cells: usize, term: &Flat) -> Result<ListOf<NameId>, Stop> {
-    if let Some(name) = name_alone(term) {
-        let mut names = ListOf::new(alloc);
-        names.push(name)?;
-        return Ok(names);
-    }
-    match listed(alloc, cells, term)? {
-        Some(names) => Ok(names),
-        None => Err(Stop::from(OpCause::BadName)),
-    }
-}
-
-/// Makes the definitions of these names in turn, each behind all others.
-fn define(
+/// Makes the definitions of these names in turn.
+fn define_all(
     alloc: Global,
     made: &mut Plain,
     priority: u16,
@@ -216,70 +122,80 @@ fn define(
     names: &[NameId],
 ) -> Result<(), Stop> {
     for name in names {
-        made.definitions.push(Definition {
+        let definition = Definition {
             priority,
             kind,
             name: *name,
-        })?;
-        made.ops = operators(alloc, made.definitions.as_slice())?;
+        };
+        define(alloc, made, definition)?;
     }
     Ok(())
 }
 
-/// Obeys a goal of a directive; its lists have at most this many cells.
-fn obey(
-    alloc: Global,
-    names: &Names,
-    made: &mut Plain,
-    line: u32,
-    cells: usize,
-    goal: &Flat,
-) -> Result<(), Stop> {
-    let Some(pred) = goal.pred() else {
-        return Err(Stop::from(BodyFault::NotCallable));
-    };
-    if let Pred { name: OP, arity: 3 } = pred {
-        let priority = goal.arg(alloc, 0)?;
-        let kind = goal.arg(alloc, 1)?;
-        let which = goal.arg(alloc, 2)?;
-        let priority = priority_of(&priority)?;
-        let kind = kind_of(names, &kind)?;
-        let which = names_of(alloc, cells, &which)?;
-        return define(alloc, made, priority, kind, which.as_slice());
-    }
-    made.passed.push(Note { line, pred })?;
-    Ok(())
-}
-
-/// Adds what a term makes, in at most this many steps.
-fn add(
-    alloc: Global,
-    names: &Names,
-    made: &mut Plain,
+/// Where a term of a text is added: the names, the term's line, and a number of steps that is enough for it.
+#[derive(Clone, Copy)]
+struct At<'a> {
+    names: &'a Names,
     line: u32,
     steps: usize,
-    term: &Flat,
-) -> Result<(), Stop> {
-    if let Some(
-        Pred {
-            name: NECK | QUERY,
-            arity: 1,
-        },
-    ) = term.pred()
-    {
-        let body = term.arg(alloc, 0)?;
-        let goals = goals(alloc, steps, &body)?;
-        for goal in goals.iter() {
-            obey(alloc, names, made, line, steps, goal)?;
+}
+
+/// Obeys a goal of `op/3`.
+fn obey_op(alloc: Global, at: At<'_>, made: &mut Plain, goal: &Flat) -> Result<(), Stop>
+    requires { length (arguments goal.now) ≡ 3 }
+{
+    let priority = priority_of(alloc, goal)?;
+    let kind = kind_of(alloc, at.names, goal)?;
+    let names = names_of(alloc, at.steps, goal)?;
+    define_all(alloc, made, priority, kind, names.as_slice())
+}
+
+/// Obeys a goal of a directive.
+fn obey(alloc: Global, at: At<'_>, made: &mut Plain, goal: &Flat) -> Result<(), Stop> {
+    match goal.pred() {
+        None => Err(Stop::from(BodyFault::NotCallable)),
+        Some(Pred { name: OP, arity: 3 }) => obey_op(alloc, at, made, goal),
+        Some(pred) => {
+            let line = at.line;
+            made.passed.push(Note { line, pred })?;
+            Ok(())
         }
-        return Ok(());
     }
+}
+
+/// Obeys the goals of a directive in turn.
+fn obey_all(alloc: Global, at: At<'_>, made: &mut Plain, body: &Flat) -> Result<(), Stop> {
+    let goals = goals(alloc, at.steps, body)?;
+    for goal in goals.iter() {
+        obey(alloc, at, made, goal)?;
+    }
+    Ok(())
+}
+
+/// Adds a clause.
+fn add_clause(alloc: Global, line: u32, made: &mut Plain, term: &Flat) -> Result<(), Stop> {
     let tuple = clause_of(alloc, term)?;
     if made.clauses.len() >= 20_000 {
         return Err(Stop::Cause(LoadCause::ClausesOver));
     }
     made.clauses.push(Clause { tuple, line })?;
     Ok(())
+}
+
+/// Adds what a term makes.
+fn add(alloc: Global, at: At<'_>, made: &mut Plain, term: &Flat) -> Result<(), Stop> {
+    match term.pred() {
+        Some(
+            Pred {
+                name: NECK | QUERY,
+                arity: 1,
+            },
+        ) => {
+            let body = term.arg(alloc, 0)?;
+            obey_all(alloc, at, made, &body)
+        }
+        _ => add_clause(alloc, at.line, made, term),
+    }
 }
 
 /// Nothing yet but the standard operators.
@@ -316,32 +232,75 @@ fn step(
         }
     };
     let line = line_at(lines, read.start);
-    match add(alloc, names, made, line, text.len(), &read.term) {
+    let place = At {
+        names,
+        line,
+        steps: text.len(),
+    };
+    match add(alloc, place, made, &read.term) {
         Ok(()) => Ok(read.next),
         Err(stop) => Err(told(line, stop)),
     }
 }
 
-/// What a text of at most 1,000,000 bytes makes.
-pub fn plain_load(alloc: Global, names: &mut Names, text: &[u8]) -> Result<Plain, LoadText> {
-    let mut made = at_first(alloc)?;
-    let lines = lines_of(alloc, text)?;
-    if text.len() > 1_000_000 {
-        return Err(LoadText::Memory);
-    }
-    let tokens = match tokens(alloc, text) {
-        Ok(tokens) => tokens,
+/// The tokens of a text.
+fn tokens_of(alloc: Global, text: &[u8], lines: &[u32]) -> Result<Tokens, LoadText>
+    requires size { length text.now ≤ MAX_FILE }
+    ensures { IfOk result (λ tokens. HasTokens text.now tokens) }
+{
+    match tokens(alloc, text) {
+        Ok(tokens) => Ok(tokens),
         Err(fault) => {
-            let line = line_at(&lines, place_of_token(fault));
-            return Err(told(line, Stop::from(fault)));
+            let line = line_at(lines, place_of_token(fault));
+            Err(told(line, Stop::from(fault)))
         }
-    };
+    }
+}
+
+/// Adds what the clauses and directives at the tokens make.
+fn add_all(
+    alloc: Global,
+    names: &mut Names,
+    made: &mut Plain,
+    text: &[u8],
+    tokens: &Tokens,
+    lines: &[u32],
+) -> Result<(), LoadText>
+    requires size { length text.now ≤ MAX_FILE }
+    requires tokens { HasTokens text.now tokens.now }
+{
     let mut at = 0;
     for _ in 0..tokens.len() {
         if at >= tokens.len() {
             break;
         }
-        at = step(alloc, names, &mut made, text, &tokens, &lines, at)?;
+        at = step(alloc, names, made, text, tokens, lines, at)?;
     }
+    Ok(())
+}
+
+/// What the clauses and directives at the tokens of a text make.
+fn made_of(
+    alloc: Global,
+    names: &mut Names,
+    text: &[u8],
+    tokens: &Tokens,
+    lines: &[u32],
+) -> Result<Plain, LoadText>
+    requires size { length text.now ≤ MAX_FILE }
+    requires tokens { HasTokens text.now tokens.now }
+{
+    let mut made = at_first(alloc)?;
+    add_all(alloc, names, &mut made, text, tokens, lines)?;
     Ok(made)
+}
+
+/// What a text of at most 1,000,000 bytes makes.
+pub fn plain_load(alloc: Global, names: &mut Names, text: &[u8]) -> Result<Plain, LoadText> {
+    if text.len() > 1_000_000 {
+        return Err(LoadText::Memory);
+    }
+    let lines = lines_of(alloc, text)?;
+    let tokens = tokens_of(alloc, text, &lines)?;
+    made_of(alloc, names, text, &tokens, &lines)
 }

@@ -15,6 +15,7 @@ use apd_ports::{Event, Hook, HookFault};
 use apd_record::Record;
 use apd_term::Flat;
 use std::alloc::{AllocError, Global};
+use std::boxed::Box;
 use std::marker::Model;
 
 /// A hook that ignores all that it is shown.
@@ -46,10 +47,12 @@ pub struct History {
     query: Query,
     budget: u32,
     answers: u32,
-    made: Option<Record>,
+    /// Behind a pointer: a history is handed on as a small value.
+    made: Option<Box<Record>>,
 }
 
 impl Model for History {
+    ghost use Rattle.std.specs.Prelude.{option_map};
     ghost use Rattle.apd_record.specs.Codes.{recorded_code};
     ghost use Rattle.apd_record.specs.Recorded.{Recorded};
     ghost use Rattle.apd_query.specs.Histories.{record_by, IsHistory};
@@ -60,7 +63,8 @@ impl Model for History {
 
     ghost view = { λ h. record_by h.program h.query h.budget h.answers };
 
-    ghost invariant = { λ h. IsHistory h.program h.query h.budget h.answers h.made };
+    ghost invariant = { λ h. IsHistory h.program h.query h.budget h.answers
+        (option_map (λ kept. kept.value) h.made) };
 }
 
 /// Runs a query for its record alone.
@@ -70,12 +74,12 @@ fn recorded(
     query: &Query,
     budget: u32,
     answers: u32,
-) -> Result<Record, AllocError>
+) -> Result<Box<Record>, AllocError>
     requires runnable { MayRun query.now.tuple }
     requires limits { AreLimits budget answers }
-    ensures { IfOk result (λ r. r ≡ record_by program.now query.now budget answers) }
+    ensures { IfOk result (λ r. r.value ≡ record_by program.now query.now budget answers) }
 {
-    let mut record = Record::new(alloc);
+    let mut record = Box::new(alloc, Record::new(alloc))?;
     match run(
         alloc,
         program,

@@ -151,13 +151,12 @@ pub fn run_query<K: Sink>(
     let _count = state.program.get().count();
     let program = state.program.share()?;
     let asked = query.copy(alloc)?;
-    let history = History::new(program, asked, state.budget, state.answers);
     begin_run(alloc, state, &query, out, log)?;
     let ran = search(alloc, state, &query, log, out)?;
     end_run(alloc, ran, out, log)?;
     Ok(LastRun {
         query,
-        history,
+        history: History::new(program, asked, state.budget, state.answers),
         end: ran.end,
     })
 }

@@ -11,7 +11,7 @@ use apd_term::{Atoms, Flat, NameId};
 use std::alloc::{AllocError, Global};
 
 /// What an item stands in.
-#[derive(Clone, Copy, PartialEq, Eq, Debug)]
+#[derive(Clone, Copy)]
 pub enum Inside {
     Clause,
     Paren,

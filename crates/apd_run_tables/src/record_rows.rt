@@ -2,7 +2,7 @@
 
 ghost use Rattle.std.specs.Prelude.{◌<◌, ◌≤◌, length};
 
-use crate::run_rows::{Keeper, case_of, put_ran, ran};
+use crate::run_rows::{Left, case_of, put_ran, ran};
 use apd_record::{PointId, Record};
 use apd_rows::Trial;
 use std::alloc::AllocError;
@@ -98,9 +98,8 @@ fn put_boxes(trial: &mut Trial, history: &Record) -> Result<(), AllocError> {
 /// Gives the end of a run, and what stands in its record then.
 pub fn put_record(trial: &mut Trial) -> Option<()> {
     let case = case_of(trial)?;
-    let mut keeper = Keeper::new(trial.alloc, false);
-    let mut history = Record::new(trial.alloc);
-    let ran = ran(trial.alloc, &case, &mut keeper, &mut history)?;
+    let mut left = Left::new(trial.alloc, false)?;
+    let ran = ran(trial.alloc, &case, &mut left)?;
     put_ran(&mut trial.given, ran);
-    put_boxes(trial, &history).ok()
+    put_boxes(trial, &left.history).ok()
 }

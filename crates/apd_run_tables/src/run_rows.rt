@@ -10,6 +10,7 @@ use apd_record::Record;
 use apd_rows::{Builder, Scene, Trial};
 use apd_term::Flat;
 use std::alloc::{AllocError, Global};
+use std::boxed::Box;
 
 /// A hook that keeps what it is shown, where that is wanted.
 #[derive(Drop)]
@@ -95,16 +96,33 @@ fn query_of_row(trial: &mut Trial) -> Option<Query> {
     query_of(trial.alloc, &read).ok()
 }
 
-/// The program, the query and the limits of a row; where the program is refused, why.
-pub fn case_of(trial: &mut Trial) -> Option<Case> {
-    let program = program_of(trial)?;
-    let query = query_of_row(trial)?;
-    Some(Case {
-        program,
-        query,
+/// The program, the query and the limits of a row.
+pub fn case_of(trial: &mut Trial) -> Option<Box<Case>> {
+    let case = Case {
+        program: program_of(trial)?,
+        query: query_of_row(trial)?,
         budget: trial.row.number(2),
         answers: trial.row.number(3),
-    })
+    };
+    Box::new(trial.alloc, case).ok()
+}
+
+/// What is left of a run: what it showed, where that is kept, and its record.
+#[derive(Drop)]
+pub struct Left {
+    pub keeper: Keeper,
+    pub history: Record,
+}
+
+impl Left {
+    /// What is left before a run.
+    pub fn new(alloc: Global, keeps: bool) -> Option<Box<Left>> {
+        let left = Left {
+            keeper: Keeper::new(alloc, keeps),
+            history: Record::new(alloc),
+        };
+        Box::new(alloc, left).ok()
+    }
 }
 
 /// Adds how a run ended, and how much it showed.
@@ -118,8 +136,8 @@ pub fn put_ran(given: &mut Builder, ran: Ran) {
     given.put_made(format!(in alloc; "{end:?}, {ports} ports, {answers} answers"));
 }
 
-/// Runs a query.
-pub fn ran(alloc: Global, case: &Case, keeper: &mut Keeper, history: &mut Record) -> Option<Ran> {
+/// Runs the query of a case.
+pub fn ran(alloc: Global, case: &Case, left: &mut Left) -> Option<Ran> {
     let (budget, answers) = (case.budget, case.answers);
     if budget == 0 || budget > MOST_SHOWN || answers == 0 || answers > MOST_SHOWN {
         return None;
@@ -133,8 +151,8 @@ pub fn ran(alloc: Global, case: &Case, keeper: &mut Keeper, history: &mut Record
         &case.query,
         budget,
         answers,
-        keeper,
-        history,
+        &mut left.keeper,
+        &mut left.history,
     )
     .ok()
 }
@@ -163,10 +181,9 @@ pub fn put_item(given: &mut Builder, scene: &Scene, item: &Shown) {
 /// Gives what a run shows, where that is kept, and its end.
 fn put_shown(trial: &mut Trial, keeps: bool) -> Option<()> {
     let case = case_of(trial)?;
-    let mut keeper = Keeper::new(trial.alloc, keeps);
-    let mut history = Record::new(trial.alloc);
-    let ran = ran(trial.alloc, &case, &mut keeper, &mut history)?;
-    for item in keeper.shown.as_slice() {
+    let mut left = Left::new(trial.alloc, keeps)?;
+    let ran = ran(trial.alloc, &case, &mut left)?;
+    for item in left.keeper.shown.as_slice() {
         put_item(&mut trial.given, &trial.scene, item);
     }
     put_ran(&mut trial.given, ran);

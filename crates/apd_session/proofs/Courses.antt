@@ -1,13 +1,12 @@
 -- The turns of the diagnoses of a missing answer and of a run that doesn't end are right, and what these begin with is known.
-use Rattle.std.proofs.Common.{◌≡◌, ℕ, List, Option, Some, None, refl, sym, ap, subst}
-use Rattle.std.specs.Prelude.{IfSome, ⊤}
+use Rattle.std.proofs.Common.{◌≡◌, ℕ, List, Option, Some, None, refl}
+use Rattle.std.specs.Prelude.{IfSome}
 use Rattle.apd_account.specs.Account.{with_told}
 use Rattle.apd_account.specs.Right.{Leaves}
 use Rattle.apd_account.proofs.Diagnosing.{AsksRightly, RightTurn}
 use Rattle.apd_answers.specs.Dialogue.{Turn, asks, goes, ends, next_turn}
 use Rattle.apd_answers.specs.Findings.{AllDescendByReplies, IsByReplies}
 use Rattle.apd_answers.specs.Fitting.{AllFit}
-use Rattle.apd_answers.specs.Questions.{FitsAsked}
 use Rattle.apd_answers.specs.Store.{with_pair}
 use Rattle.apd_answers.specs.declared.finding.Finding.{Finding}
 use Rattle.apd_answers.specs.declared.question.Asked.{Asked}

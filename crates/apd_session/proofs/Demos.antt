@@ -1,5 +1,5 @@
 -- A demonstration: what it says in parts, and as a session.
-use Rattle.std.proofs.Common.{◌≡◌, ℕ, List, [], ◌∷◌, ◌++◌, length, refl, sym, ap, ◌∙◌, subst, inl, inr, Option, Some, None}
+use Rattle.std.proofs.Common.{◌≡◌, ℕ, List, [], ◌++◌, refl, sym, ap, ◌∙◌, subst, inl, inr, Option, Some, None}
 use Rattle.std.specs.Prelude.{Result, Ok, Err, pos}
 use Rattle.apd_account.specs.Account.{with_told}
 use Rattle.apd_answers.specs.Dialogue.{Dialogue}
@@ -36,10 +36,9 @@ use Rattle.apd_load.specs.Warnings.{warnings_of}
 use Rattle.apd_load.specs.declared.Note.{Note}
 use Rattle.apd_read.specs.Reader.{Reader}
 use Rattle.apd_session.specs.Demo.{asked_said, blamed, blamed_at, found_said, query_line, shown_said}
-use Rattle.apd_session.specs.Outcome.{IsFront, IsSaid, IsWhole, status_of, status_shown}
+use Rattle.apd_session.specs.Outcome.{IsFront, IsSaid, status_of, status_shown}
 use Rattle.apd_causes.specs.declared.faults.LoadCause.{LoadCause}
 use Rattle.apd_clauses.specs.declared.clause.Clause.{Clause}
-use Rattle.apd_gen.specs.Programs.{tree_text}
 use Rattle.apd_load.specs.Program.{Loads, loads, program_of, refused}
 use Rattle.apd_ops.specs.Standard.{standard_table}
 use Rattle.apd_session.specs.Session.{Transcript, after_tree, demonstrates, first_state, says_one}
@@ -103,18 +102,18 @@ transcript_is {names} reader ops nodes s passed called c warned is =
 
 -- what the text of the tree made
 pub tree_made : {names : List (List ℕ)} (reader : Reader names) (options : Options) (nodes : ℕ) (text bytes : List ℕ) (program now : List Clause) (ops ops_now : Table) (passed passed_now : List Note) (st : Status) (log : Log) (x y : Option (List ℕ))
-    → IsSaid st (demonstrates reader nodes (first_state now options []) ops_now passed_now) log x y → bytes ≡ text → text ≡ tree_text nodes → program_of reader bytes ≡ loads (record { program = program; ops = ops; passed = passed })
-    → program ≡ now → ops ≡ ops_now → passed ≡ passed_now → IsSaid st (after_tree reader options nodes (program_of reader (tree_text nodes))) log x y
-tree_made reader options nodes text bytes program now ops ops_now passed passed_now st log x y said b t made p o q =
-    let is : program_of reader (tree_text nodes) ≡ loads (record { program = now; ops = ops_now; passed = passed_now }) =
-    ap (program_of reader) (sym (b ∙ t)) ∙ made ∙ (λ i. loads (record { program = p i; ops = o i; passed = q i })) in
+    → IsSaid st (demonstrates reader nodes (first_state now options []) ops_now passed_now) log x y → bytes ≡ text → program_of reader bytes ≡ loads (record { program = program; ops = ops; passed = passed })
+    → program ≡ now → ops ≡ ops_now → passed ≡ passed_now → IsSaid st (after_tree reader options nodes (program_of reader text)) log x y
+tree_made reader options nodes text bytes program now ops ops_now passed passed_now st log x y said b made p o q =
+    let is : program_of reader text ≡ loads (record { program = now; ops = ops_now; passed = passed_now }) =
+    ap (program_of reader) (sym b) ∙ made ∙ (λ i. loads (record { program = p i; ops = o i; passed = q i })) in
     subst (λ (l : Loads). IsSaid st (after_tree reader options nodes l) log x y) (sym is) said
 
 pub tree_refused : {names : List (List ℕ)} (reader : Reader names) (options : Options) (nodes : ℕ) (text bytes : List ℕ) (line : ℕ) (cause : LoadCause) (st : Status) (log : Log) (x y : Option (List ℕ))
-    → IsSaid st (says_one names (ProgramRefused line cause) status.Program) log x y → bytes ≡ text → text ≡ tree_text nodes → program_of reader bytes ≡ refused line cause
-    → IsSaid st (after_tree reader options nodes (program_of reader (tree_text nodes))) log x y
-tree_refused reader options nodes text bytes line cause st log x y said b t made =
-    subst (λ (l : Loads). IsSaid st (after_tree reader options nodes l) log x y) (sym (ap (program_of reader) (sym (b ∙ t)) ∙ made)) said
+    → IsSaid st (says_one names (ProgramRefused line cause) status.Program) log x y → bytes ≡ text → program_of reader bytes ≡ refused line cause
+    → IsSaid st (after_tree reader options nodes (program_of reader text)) log x y
+tree_refused reader options nodes text bytes line cause st log x y said b made =
+    subst (λ (l : Loads). IsSaid st (after_tree reader options nodes l) log x y) (sym (ap (program_of reader) (sym b) ∙ made)) said
 
 -- memory ran out before a program was loaded
 pub tree_unsaid : {names : List (List ℕ)} (reader : Reader names) (options : Options) (nodes : ℕ) (o : Loads) (log : Log) (x : Option (List ℕ)) → log.entries.list ≡ [] → log.ops ≡ standard_table → IsSaid status.Memory (after_tree reader options nodes o) log x x

@@ -316,3 +316,10 @@ label_named n s run e p t last is there same = rw same (point_named n run.histor
 
 pub labelled : (R : Recorded) (e : ℕ) (t : Tuple) (user : IsUserExit R e) → t ≡ user.point.tuple → IsLabelled R e t.head
 labelled R e t user is = record { exit = user; instance = (variable, apply-variable user.point.tuple.head ∙ ap (λ (u : Tuple). u.head) (sym is)) }
+
+-- the head of the point of an exit, which is its label
+pub head_named : (n : ℕ) (s : State) (run : LastRun) (e : ℕ) → s.last ≡ Some run → IsReady n s → IsUserExit run.history e → IsNamed n (point_of run.history e).tuple.head
+head_named n s run e last is user = rw user.there (point_named n run.history.points e user.point user.there (run_named n s run last is).points).0
+
+pub head_labelled : (R : Recorded) (e : ℕ) → IsUserExit R e → IsLabelled R e (point_of R e).tuple.head
+head_labelled R e user = rw user.there (labelled R e user.point.tuple user refl)

@@ -2,7 +2,8 @@
 ghost use Rattle.std.specs.Prelude.{◌≡◌, ◌<◌, ◌≤◌, ◌≢◌, [], length, IfOk};
 ghost use Rattle.apd_answers.specs.Dialogue.{ends};
 ghost use Rattle.apd_commands.specs.Obeying.{CanObey};
-ghost use Rattle.apd_base.specs.declared.limits.TheConstants.{MAX_LINE};
+ghost use Rattle.apd_base.specs.declared.limits.TheConstants.{MAX_FILE, MAX_LINE};
+ghost use Rattle.apd_clauses.specs.Clauses.{tuples_of};
 ghost use Rattle.apd_gen.specs.Nodes.{IsNodeCount};
 ghost use Rattle.apd_gen.specs.Programs.{tree_text};
 ghost use Rattle.apd_io.specs.Outside.{Rose};
@@ -12,19 +13,21 @@ ghost use Rattle.apd_ops.specs.Standard.{standard_table};
 ghost use Rattle.apd_read.specs.Reader.{Reader};
 ghost use Rattle.apd_session.specs.Demo.{asked_said, blamed, clause_found, found_said, query_line, shown_said, within_32_bits};
 ghost use Rattle.apd_session.specs.Outcome.{IsSaid, status_shown};
-ghost use Rattle.apd_session.specs.Session.{after_tree, demonstrates, most_names};
+ghost use Rattle.apd_session.specs.Session.{after_tree, demonstrates, first_state, most_names};
 ghost use Rattle.apd_session.specs.Turns.{IsPrepared};
 ghost use Rattle.apd_talk.specs.Speech.{HasWriteCause, Lasting, Says, spoken};
 ghost use Rattle.apd_term.specs.Growth.{GrowsBy};
+ghost use Rattle.apd_term.specs.Named.{AllTuplesNamed};
 ghost use Rattle.apd_term.specs.StandardNames.{standard_names};
 ghost use Rattle.apd_text.specs.Named.{FindingIsNamed};
 ghost use Rattle.apd_words.specs.Words.{AreLimits, asked_options};
 
-use crate::diagnosing::keep_symptom;
+use crate::diagnosing::keep_wrong;
 use crate::notes::say_opening;
+use crate::opening::first_state;
 use crate::remembering::remember;
 use crate::status::{Status, status_of};
-use crate::top::{end_with, first_state};
+use crate::top::end_with;
 use crate::turns::answer;
 use apd_answers::{Answers, Finding};
 use apd_base::Text;
@@ -38,10 +41,10 @@ use apd_load::{LoadText, Loaded, Note, load};
 use apd_query::State;
 use apd_symptoms::{exit_of, line_found};
 use apd_talk::{Trouble, say, say_last};
-use apd_term::Tuple;
-use apd_text::{Entry, Log, Told};
+use apd_text::{Entry, Log};
 use apd_words::Asked;
 use std::alloc::{AllocError, Global};
+use std::mem::replace;
 
 /// The query of a demonstration.
 const QUERY: &[u8] = b"?- n1.";
@@ -115,9 +118,7 @@ fn blame<K: Sink>(
         Ok(exit) => exit,
         Err(refusal) => return say(alloc, out, log, Entry::Refused { refusal }),
     };
-    let Tuple { head: label, .. } = history.tuple(exit)?;
-    let what = Told::Wrong(label.copy(alloc)?);
-    keep_symptom(alloc, what, &mut state.replies, out, log)?;
+    let label = keep_wrong(alloc, history, exit, &mut state.replies, out, log)?;
     let tree = Tree {
         nodes,
         program: state.program.get(),
@@ -240,6 +241,89 @@ fn status_shown(shown: Result<(), Trouble>) -> Status
     }
 }
 
+/// Makes the first state with a program that was loaded, and demonstrates a diagnosis with it.
+fn show_first<K: Sink>(
+    alloc: Global,
+    asked: Asked<'_>,
+    nodes: u32,
+    program: Program,
+    passed: &[Note],
+    called: &[Note],
+    out: &mut K,
+    log: &mut Log,
+) -> Status
+    requires few { IsNodeCount nodes }
+    requires empty { log.old.entries.list ≡ [] }
+    requires standard { length standard_names ≤ length log.old.names }
+    requires limits { AreLimits asked.budget asked.answers }
+    requires program { AllTuplesNamed (length log.old.names) (tuples_of program) }
+    requires warnings { called.now ≡ warnings_of program }
+    requires passed { NotesAreNamed (length log.old.names) passed.now }
+    requires called { NotesAreNamed (length log.old.names) called.now }
+    requires room { length log.old.names ≤ 100000000 }
+    ensures said { Lasting log.new.names (λ names. (reader : Reader names) →
+        IsSaid result (demonstrates reader nodes
+        (first_state program (asked_options asked.entry) []) log.old.ops passed.now)
+        log.new (K.held out.old) (K.held out.new)) }
+    ensures names { GrowsBy MAX_LINE log.old.names log.new.names }
+    ensures limit { result ≢ Status.InputLimit }
+    ensures read { result ≢ Status.ReadFault }
+    ensures write { result ≡ Status.WriteFault → Rose (K.faults out.old) (K.faults out.new) }
+{
+    let Ok(mut state) = first_state(alloc, asked, program, Answers::new(alloc)) else {
+        return Status::Memory;
+    };
+    let shown = show(alloc, nodes, &mut state, passed, called, out, log);
+    drop(state);
+    status_shown(shown)
+}
+
+/// Loads the text of a tree's program, and demonstrates a diagnosis of it.
+fn load_tree<K: Sink>(
+    alloc: Global,
+    asked: Asked<'_>,
+    nodes: u32,
+    text: &Text,
+    out: &mut K,
+    log: &mut Log,
+) -> Status
+    requires few { IsNodeCount nodes }
+    requires empty { log.old.entries.list ≡ [] }
+    requires names { log.old.names ≡ standard_names }
+    requires ops { log.old.ops ≡ standard_table }
+    requires size { length text.now ≤ MAX_FILE }
+    requires limits { AreLimits asked.budget asked.answers }
+    ensures said { Lasting log.new.names (λ names. (reader : Reader names) →
+        IsSaid result (after_tree reader (asked_options asked.entry) nodes
+        (program_of reader text.now)) log.new (K.held out.old) (K.held out.new)) }
+    ensures names { GrowsBy most_names log.old.names log.new.names }
+    ensures limit { result ≢ Status.InputLimit }
+    ensures read { result ≢ Status.ReadFault }
+    ensures write { result ≡ Status.WriteFault → Rose (K.faults out.old) (K.faults out.new) }
+{
+    match load(alloc, text.bytes(), &mut log.names) {
+        Ok(
+            Loaded {
+                program,
+                ops,
+                passed,
+                warnings,
+            },
+        ) => {
+            // Dropped by a call: an assignment drops the old table field by field, each a step to check.
+            drop(replace(&mut log.ops, ops));
+            let passed = passed.as_slice();
+            let called = warnings.as_slice();
+            show_first(alloc, asked, nodes, program, passed, called, out, log)
+        }
+        Err(LoadText::Refused { line, cause }) => {
+            let entry = Entry::ProgramRefused { line, cause };
+            end_with(alloc, out, log, entry, Status::Program)
+        }
+        Err(LoadText::Memory) => Status::Memory,
+    }
+}
+
 /// Loads the program of a tree of so many nodes, and demonstrates a diagnosis of it. Nothing is read.
 pub(crate) fn serve_tree<K: Sink>(
     alloc: Global,
@@ -264,27 +348,5 @@ pub(crate) fn serve_tree<K: Sink>(
     let Ok(text) = tree_program(alloc, nodes) else {
         return Status::Memory;
     };
-    match load(alloc, text.bytes(), &mut log.names) {
-        Ok(
-            Loaded {
-                program,
-                ops,
-                passed,
-                warnings,
-            },
-        ) => {
-            let Ok(mut state) = first_state(alloc, asked, program, Answers::new(alloc)) else {
-                return Status::Memory;
-            };
-            log.ops = ops;
-            let passed = passed.as_slice();
-            let called = warnings.as_slice();
-            status_shown(show(alloc, nodes, &mut state, passed, called, out, log))
-        }
-        Err(LoadText::Refused { line, cause }) => {
-            let entry = Entry::ProgramRefused { line, cause };
-            end_with(alloc, out, log, entry, Status::Program)
-        }
-        Err(LoadText::Memory) => Status::Memory,
-    }
+    load_tree(alloc, asked, nodes, &text, out, log)
 }

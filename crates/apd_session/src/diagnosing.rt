@@ -3,17 +3,23 @@ ghost use Rattle.std.specs.Prelude.{◌≡◌, ◌<◌, ℕ, length, OnOk, IfOk}
 ghost use Rattle.apd_account.specs.Account.{with_told};
 ghost use Rattle.apd_debug.specs.Diagnosed.{SaysEnd, SaysLast, is_said, last_entry, next_after, trouble_of};
 ghost use Rattle.apd_debug.specs.NamedStates.{loop_entry};
+ghost use Rattle.apd_divide.specs.Exits.{IsUserExit};
+ghost use Rattle.apd_record.specs.Reading.{point_of};
 ghost use Rattle.apd_session.specs.Steps.{found_in};
 ghost use Rattle.apd_symptoms.specs.Symptoms.{line_found};
 ghost use Rattle.apd_talk.specs.Speech.{Says, one, spoken};
+ghost use Rattle.apd_term.specs.Named.{IsNamed};
 ghost use Rattle.apd_text.specs.Named.{EntryIsNamed, RefusalIsNamed, ToldIsNamed};
 
 use apd_answers::{Answers, AskEnd, Finding, Question, Reply};
 use apd_clauses::Program;
 use apd_io::Sink;
 use apd_loop::LoopEnd;
+use apd_ports::PointId;
+use apd_record::Record;
 use apd_symptoms::line_found;
 use apd_talk::{Ending, Next, Trouble, say, say_kept, say_last};
+use apd_term::{Flat, Tuple};
 use apd_text::{Entry, Log, Refusal, Told};
 use std::alloc::{AllocError, Global};
 
@@ -67,6 +73,49 @@ pub(crate) fn keep_symptom<K: Sink>(
     log.entries.reserve(1)?;
     keep_told(alloc, &what, replies)?;
     say_kept(alloc, out, log, Entry::Symptom { what })
+}
+
+/// The same for the head of an exit, which isn't true; gives the head.
+pub(crate) fn keep_wrong<K: Sink>(
+    alloc: Global,
+    history: &Record,
+    exit: PointId,
+    replies: &mut Answers,
+    out: &mut K,
+    log: &mut Log,
+) -> Result<Flat, Trouble>
+    requires user { IsUserExit history.now exit.0 }
+    requires named { IsNamed (length log.old.names) (point_of history.now exit.0).tuple.head }
+    ensures head { IfOk result (λ h. h ≡ (point_of history.now exit.0).tuple.head) }
+    ensures place { OnOk result (0 < log.new.entries.spare) }
+    ensures replies { OnOk result (replies.new ≡
+        with_told replies.old (Told.Wrong (point_of history.now exit.0).tuple.head)) }
+    ensures says { Says (one (Entry.Symptom (Told.Wrong (point_of history.now exit.0).tuple.head)))
+        (spoken K.Sink log.old out.old) (spoken K.Sink log.new out.new) result }
+{
+    let Tuple { head, .. } = history.tuple(exit)?;
+    let what = Told::Wrong(head.copy(alloc)?);
+    keep_symptom(alloc, what, replies, out, log)?;
+    Ok(head)
+}
+
+/// The same for an atom that is true and that the run didn't give.
+pub(crate) fn keep_missing<K: Sink>(
+    alloc: Global,
+    atom: &Flat,
+    replies: &mut Answers,
+    out: &mut K,
+    log: &mut Log,
+) -> Result<(), Trouble>
+    requires { IsNamed (length log.old.names) atom.now }
+    ensures place { OnOk result (0 < log.new.entries.spare) }
+    ensures replies { OnOk result (replies.new ≡
+        with_told replies.old (Told.Missing atom.now)) }
+    ensures says { Says (one (Entry.Symptom (Told.Missing atom.now)))
+        (spoken K.Sink log.old out.old) (spoken K.Sink log.new out.new) result }
+{
+    let what = Told::Missing(atom.copy(alloc)?);
+    keep_symptom(alloc, what, replies, out, log)
 }
 
 /// Whether something is said after a diagnosis that ends so.

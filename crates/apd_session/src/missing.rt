@@ -15,7 +15,7 @@ ghost use Rattle.apd_session.specs.Turns.{CanConverse, Leads, obeying};
 ghost use Rattle.apd_talk.specs.Moment.{moment};
 ghost use Rattle.apd_term.specs.Named.{AllTuplesNamed, IsNamed};
 
-use crate::diagnosing::{conclude, keep_symptom, refuse};
+use crate::diagnosing::{conclude, keep_missing, refuse};
 use apd_answers::{Answers, AskEnd, Finding};
 use apd_clauses::Program;
 use apd_console::Console;
@@ -27,7 +27,7 @@ use apd_record::Record;
 use apd_symptoms::unanswered_box;
 use apd_talk::{Next, Trouble};
 use apd_term::Flat;
-use apd_text::{Log, Refusal, Told};
+use apd_text::{Log, Refusal};
 use std::alloc::Global;
 
 /// Diagnoses an atom that is true and that a box didn't give, over a dialogue.
@@ -106,6 +106,49 @@ fn diagnose<S: Source, K: Sink>(
     answer
 }
 
+/// Seeks why the run didn't give an atom.
+fn seek<S: Source, K: Sink>(
+    alloc: Global,
+    state: &mut State,
+    box_no: i64,
+    atom: &Flat,
+    console: &mut Console,
+    input: &mut S,
+    out: &mut K,
+    log: &mut Log,
+) -> Result<Next, Trouble>
+    requires ready { CanConverse state.old
+        (moment S.Source K.Sink console.old input.old log.old out.old) }
+    requires named { IsNamed (length log.old.names) atom.now }
+    ensures { Leads (obeying state.old (command.Missing box_no atom.now)) state.new
+        (moment S.Source K.Sink console.old input.old log.old out.old)
+        (moment S.Source K.Sink console.new input.new log.new out.new) result }
+{
+    let Some(run) = &state.last else {
+        return refuse(alloc, Refusal::NoRun, out, log);
+    };
+    let history = run.history.made()?;
+    let found = match unanswered_box(alloc, history, box_no, atom)? {
+        Ok(found) => found,
+        Err(refusal) => return refuse(alloc, refusal, out, log),
+    };
+    keep_missing(alloc, atom, &mut state.replies, out, log)?;
+    let answer = diagnose(
+        alloc,
+        state.program.get(),
+        history,
+        found,
+        atom,
+        &mut state.replies,
+        &mut state.asked,
+        console,
+        input,
+        out,
+        log,
+    );
+    conclude(alloc, state.program.get(), answer, out, log)
+}
+
 /// Does what `missing(B, A)` says.
 ///
 /// # Errors
@@ -128,28 +171,5 @@ pub(crate) fn missing<S: Source, K: Sink>(
         (moment S.Source K.Sink console.old input.old log.old out.old)
         (moment S.Source K.Sink console.new input.new log.new out.new) result }
 {
-    let Some(run) = &state.last else {
-        return refuse(alloc, Refusal::NoRun, out, log);
-    };
-    let history = run.history.made()?;
-    let found = match unanswered_box(alloc, history, box_no, &atom)? {
-        Ok(found) => found,
-        Err(refusal) => return refuse(alloc, refusal, out, log),
-    };
-    let what = Told::Missing(atom.copy(alloc)?);
-    keep_symptom(alloc, what, &mut state.replies, out, log)?;
-    let answer = diagnose(
-        alloc,
-        state.program.get(),
-        history,
-        found,
-        &atom,
-        &mut state.replies,
-        &mut state.asked,
-        console,
-        input,
-        out,
-        log,
-    );
-    conclude(alloc, state.program.get(), answer, out, log)
+    seek(alloc, state, box_no, &atom, console, input, out, log)
 }

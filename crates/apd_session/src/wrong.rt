@@ -14,7 +14,7 @@ ghost use Rattle.apd_session.specs.Turns.{CanConverse, Leads, obeying};
 ghost use Rattle.apd_talk.specs.Moment.{moment};
 ghost use Rattle.apd_wrong.specs.Wrong.{wrong};
 
-use crate::diagnosing::{conclude, keep_symptom, refuse};
+use crate::diagnosing::{conclude, keep_wrong, refuse};
 use apd_answers::{Answers, AskEnd, Finding};
 use apd_console::Console;
 use apd_divide::Strategy;
@@ -25,8 +25,8 @@ use apd_query::State;
 use apd_record::Record;
 use apd_symptoms::exit_of;
 use apd_talk::{Next, Trouble};
-use apd_term::{Flat, Tuple};
-use apd_text::{Log, Refusal, Told};
+use apd_term::Flat;
+use apd_text::{Log, Refusal};
 use apd_wrong::diagnose_wrong;
 use std::alloc::Global;
 
@@ -129,9 +129,7 @@ pub(crate) fn wrong<S: Source, K: Sink>(
         Ok(exit) => exit,
         Err(refusal) => return refuse(alloc, refusal, out, log),
     };
-    let Tuple { head: label, .. } = history.tuple(exit)?;
-    let what = Told::Wrong(label.copy(alloc)?);
-    keep_symptom(alloc, what, &mut state.replies, out, log)?;
+    let label = keep_wrong(alloc, history, exit, &mut state.replies, out, log)?;
     let answer = diagnose(
         alloc,
         history,

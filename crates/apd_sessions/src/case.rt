@@ -19,7 +19,7 @@ pub struct Failing {
 }
 
 /// How the input is read.
-#[derive(Clone, Copy, PartialEq, Eq)]
+#[derive(Clone, Copy)]
 pub enum Reading {
     /// As many bytes at a time as are asked for.
     Whole,

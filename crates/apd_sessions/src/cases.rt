@@ -25,7 +25,7 @@ use apd_base::Text;
 use std::alloc::Global;
 
 /// Where the lines of a block go.
-#[derive(Clone, Copy, PartialEq, Eq)]
+#[derive(Clone, Copy)]
 enum Block {
     None,
     File,

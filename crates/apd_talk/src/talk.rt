@@ -4,7 +4,7 @@ use apd_io::Failed;
 use std::alloc::AllocError;
 
 /// How a conversation ends.
-#[derive(Clone, Copy, Debug, PartialEq, Eq)]
+#[derive(Clone, Copy)]
 pub enum Ending {
     /// The input was heard to its end, or to a line that ends the conversation.
     Done,
@@ -15,7 +15,7 @@ pub enum Ending {
 }
 
 /// Why a conversation breaks off: nothing further is printed.
-#[derive(Clone, Copy, Debug, PartialEq, Eq)]
+#[derive(Clone, Copy)]
 pub enum Trouble {
     /// A write failed.
     WriteFault,
@@ -47,7 +47,7 @@ impl From<Failed> for Trouble {
 }
 
 /// What comes after a part of a conversation.
-#[derive(Clone, Copy, Debug, PartialEq, Eq)]
+#[derive(Clone, Copy)]
 pub enum Next {
     /// It goes on.
     Goes,

@@ -5,7 +5,7 @@ ghost use Rattle.apd_token.specs.Bytes.{class_of, bracket_of, in_set, is_layout,
 use crate::items::Kind;
 
 /// What a byte begins outside quotes and comments.
-#[derive(Clone, Copy, Debug, PartialEq, Eq)]
+#[derive(Clone, Copy)]
 pub enum Class {
     Layout,
     Small,
@@ -20,7 +20,7 @@ pub enum Class {
 }
 
 /// The bytes that a run goes over.
-#[derive(Clone, Copy, Debug, PartialEq, Eq)]
+#[derive(Clone, Copy)]
 pub enum Set {
     Word,
     Symbols,
@@ -32,7 +32,7 @@ pub enum Set {
 }
 
 /// What a byte behind a 0 begins.
-#[derive(Clone, Copy, Debug, PartialEq, Eq)]
+#[derive(Clone, Copy)]
 pub enum Mark {
     Hex,
     Octal,
@@ -42,7 +42,7 @@ pub enum Mark {
 }
 
 /// What a byte begins behind a backslash.
-#[derive(Clone, Copy, Debug, PartialEq, Eq)]
+#[derive(Clone, Copy)]
 pub enum Escape {
     Newline,
     Octal,

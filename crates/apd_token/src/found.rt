@@ -11,7 +11,7 @@ use crate::runs::{close_at, run_end};
 use apd_causes::TokenFault;
 
 /// What stands at a place: layout or a comment, an item, or a fault.
-#[derive(Clone, Copy, Debug, PartialEq, Eq)]
+#[derive(Clone, Copy)]
 pub enum Found {
     Passed,
     Item(Kind),

@@ -1,7 +1,7 @@
 use apd_base::ListOf;
 
 /// What a token is.
-#[derive(Clone, Copy, Debug, PartialEq, Eq)]
+#[derive(Clone, Copy, PartialEq, Eq)]
 pub enum Kind {
     /// A small letter followed by letters, digits and `_`; graphic characters; `!` or `;`.
     Name,
@@ -34,7 +34,7 @@ pub enum Kind {
 }
 
 /// A token, with the places of its bytes in the text.
-#[derive(Clone, Copy, Debug, PartialEq, Eq)]
+#[derive(Clone, Copy, PartialEq, Eq)]
 pub struct Token {
     pub kind: Kind,
     /// The place of its first byte, from 0.

@@ -12,7 +12,7 @@ use crate::runs::{numeral_of, run_end};
 use apd_causes::TokenFault;
 
 /// What an element stands for: a byte, a character or nothing.
-#[derive(Clone, Copy, Debug, PartialEq, Eq)]
+#[derive(Clone, Copy)]
 pub(crate) enum Value {
     Nothing,
     Byte(u8),

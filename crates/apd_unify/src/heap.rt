@@ -17,7 +17,7 @@ use std::alloc::{AllocError, Global};
 use std::marker::Model;
 
 /// What a variable is bound to.
-#[derive(Clone, Copy, PartialEq, Eq, Debug)]
+#[derive(Clone, Copy)]
 pub enum Binding {
     Free,
     /// The term at a cell.
@@ -25,7 +25,7 @@ pub enum Binding {
 }
 
 /// A note of the trail.
-#[derive(Clone, Copy, PartialEq, Eq, Debug)]
+#[derive(Clone, Copy)]
 pub enum Note {
     /// A term was loaded where so many cells and so many variables were.
     Loaded(usize, usize),
@@ -50,7 +50,7 @@ pub struct Heap {
 }
 
 /// So many of the first cells, and a number above their variables.
-#[derive(Clone, Copy, PartialEq, Eq, Debug)]
+#[derive(Clone, Copy)]
 pub struct Front {
     pub cells: usize,
     pub variables: usize,

@@ -24,11 +24,11 @@ use std::alloc::{AllocError, Global};
 use std::marker::Model;
 
 /// The place of a term in a store.
-#[derive(Clone, Copy, PartialEq, Eq, Debug)]
+#[derive(Clone, Copy)]
 pub struct Cell(pub usize);
 
 /// A place in a store's trail: how many notes stand before it.
-#[derive(Clone, Copy, PartialEq, Eq, Debug)]
+#[derive(Clone, Copy)]
 pub struct Mark(pub usize);
 
 /// Terms in cells, with their bindings and a trail. Where a call answers an error, it is want of

@@ -15,7 +15,7 @@ use std::alloc::AllocError;
 
 /// Terms that are written one after another at two cells, which are to be made equal place by
 /// place.
-#[derive(Clone, Copy, PartialEq, Eq, Debug)]
+#[derive(Clone, Copy)]
 pub struct Pairs {
     pub a: usize,
     pub b: usize,
@@ -23,7 +23,7 @@ pub struct Pairs {
 }
 
 /// What was done with two terms that are to be made equal.
-#[derive(Clone, Copy, PartialEq, Eq, Debug)]
+#[derive(Clone, Copy, PartialEq, Eq)]
 pub enum Solved {
     /// They are equal.
     Equal,

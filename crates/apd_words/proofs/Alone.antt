@@ -1,5 +1,5 @@
 -- A tree has no oracle file.
-use Rattle.std.proofs.Common.{◌≡◌, ℕ, List, Bool, true, false, Option, None, Some, refl, sym, subst}
+use Rattle.std.proofs.Common.{◌≡◌, ℕ, List, Bool, true, false, Option, None, Some, refl, subst}
 use Rattle.std.specs.Prelude.{codes, if◌then◌else◌}
 use Rattle.clap.specs.Words.{Row, fault_of, first_of, matches_of}
 use Rattle.apd_divide.specs.declared.node.Strategy.{Strategy}

@@ -1,7 +1,7 @@
 //! The command that the words are for.
 
 ghost use Rattle.std.specs.Prelude.{◌≡◌, IfOk, false};
-ghost use Rattle.clap.specs.Words.{app_of, rule_of};
+ghost use Rattle.clap.specs.Words.{app_of, rule_of, with_rule};
 ghost use Rattle.apd_words.specs.Words.{command, option_rule};
 
 use clap::{Arg, ArgAction, Command};
@@ -15,27 +15,35 @@ fn option<'a>(alloc: Global, name: &'a str) -> Arg<'a>
     Arg::new(alloc, name).long(name).action(ArgAction::Set)
 }
 
+/// The command with one more option, which has one value.
+fn with_option<'a>(
+    alloc: Global,
+    before: Command<'a>,
+    name: &'a str,
+) -> Result<Command<'a>, AllocError>
+    ensures { IfOk result (λ c. app_of c ≡ with_rule (app_of before.entry) (option_rule name.entry.now)) }
+{
+    let argument = option(alloc, name);
+    let command = before.arg(argument)?;
+    Ok(command)
+}
+
 /// One simple command: two limits, a strategy, the name of an oracle file, how many nodes a demonstration has, a flag and the
 /// name of a file.
 pub(crate) fn command<'a>(alloc: Global) -> Result<Command<'a>, AllocError>
     ensures { IfOk result (λ c. app_of c ≡ command) }
 {
-    let budget = option(alloc, "budget");
-    let answers = option(alloc, "answers");
-    let strategy = option(alloc, "strategy");
-    let oracle = option(alloc, "oracle");
-    let demo = option(alloc, "demo");
-    let trace = Arg::new(alloc, "trace")
+    let start = Command::new(alloc, "apd");
+    let budget = with_option(alloc, start, "budget")?;
+    let answers = with_option(alloc, budget, "answers")?;
+    let strategy = with_option(alloc, answers, "strategy")?;
+    let oracle = with_option(alloc, strategy, "oracle")?;
+    let demo = with_option(alloc, oracle, "demo")?;
+    let flag = Arg::new(alloc, "trace")
         .long("trace")
         .action(ArgAction::SetTrue);
-    let program = Arg::new(alloc, "program").action(ArgAction::Set);
-    let command = Command::new(alloc, "apd")
-        .arg(budget)?
-        .arg(answers)?
-        .arg(strategy)?
-        .arg(oracle)?
-        .arg(demo)?
-        .arg(trace)?
-        .arg(program)?;
+    let trace = demo.arg(flag)?;
+    let file = Arg::new(alloc, "program").action(ArgAction::Set);
+    let command = trace.arg(file)?;
     Ok(command)
 }

@@ -3,7 +3,7 @@
 use apd_term::NameId;
 
 /// Where the next term stands, with the greatest priority that it may have there.
-#[derive(Clone, Copy, Debug, PartialEq, Eq)]
+#[derive(Clone, Copy)]
 pub(crate) enum Place {
     /// An argument, a list's element or tail, or all of a text or of a bracket.
     Whole(u16),
@@ -16,7 +16,7 @@ pub(crate) enum Place {
 }
 
 /// What stands behind the term that is written.
-#[derive(Clone, Copy, Debug, PartialEq, Eq)]
+#[derive(Clone, Copy)]
 pub(crate) enum Frame {
     /// So many further arguments, and the closing parenthesis.
     Arguments(u8),

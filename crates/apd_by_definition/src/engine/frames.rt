@@ -2,12 +2,12 @@
 //!
 //! An instance without variables is the same under every substitution, so it is shared.
 
-ghost use Rattle.std.specs.Prelude.{◌≡◌, ◌∷◌, [], ℕ, ◌<◌, length, map, None, Some, IfOk, MatchOption};
+ghost use Rattle.std.specs.Prelude.{◌≡◌, ◌∷◌, [], ℕ, ◌+◌, ◌<◌, ◌^◌, length, map, None, Some, IfOk, MatchOption};
 ghost use Rattle.std.specs.Bool.{OnTrue};
 ghost use Rattle.apd_term.specs.Term.{Term};
 ghost use Rattle.apd_term.specs.Substitution.{term_for};
 ghost use Rattle.apd_term.specs.Tuple.{apply_tuple, canonical_tuple};
-ghost use Rattle.apd_trace.specs.Frames.{apply_frame, apply_frames, look_of, goal_of, handed_all, outer, owner_of, next_goal, query_frame};
+ghost use Rattle.apd_trace.specs.Frames.{apply_frame, apply_frames, called, left, look_at, look_of, goal_of, handed_all, outer, owner_of, next_goal, query_frame};
 ghost use Rattle.apd_by_definition.specs.Shared.{frame_of};
 ghost use Rattle.apd_frames.specs.Kept.{is_large_of, exit_in, MayCall, Takes, newest_of, point_in};
 
@@ -124,6 +124,76 @@ fn goal_of(node: &Node) -> Option<&Flat>
     node.tuple.body.get(node.done as usize)
 }
 
+/// The frame as a node of its own.
+fn node_of(alloc: Global, frame: Frame) -> Result<Node, AllocError>
+    ensures { IfOk result (λ n. frame_of n ≡ frame) }
+{
+    let tuple = Rc::new(alloc, frame.tuple)?;
+    Ok(Node {
+        box_no: frame.box_no,
+        depth: frame.depth,
+        clause: frame.clause,
+        tuple,
+        done: frame.done,
+        point: frame.point,
+    })
+}
+
+/// The frame under a substitution, as a node.
+fn moved_node(alloc: Global, frame: &Frame, s: &Subst) -> Result<Node, AllocError>
+    ensures { IfOk result (λ n. frame_of n ≡ apply_frame (term_for s.now) frame.now) }
+{
+    let tuple = apply_tuple(alloc, &frame.tuple, s)?;
+    let moved = Frame {
+        box_no: frame.box_no,
+        depth: frame.depth,
+        clause: frame.clause,
+        tuple,
+        done: frame.done,
+        point: frame.point,
+    };
+    node_of(alloc, moved)
+}
+
+/// The goal of a frame, called in this box.
+fn called(alloc: Global, node: &Node, goal: &Flat, box_no: u32) -> Result<Called, AllocError>
+    requires { node.now.depth + 1 < 2 ^ 32 }
+    ensures { IfOk result (λ g. g ≡ called (frame_of node.now) goal.now box_no) }
+{
+    let atom = canonical(alloc, goal)?;
+    Ok(Called {
+        box_no,
+        caller: node.box_no,
+        depth: node.depth + 1,
+        atom,
+    })
+}
+
+/// The head of a frame in its box.
+fn left(alloc: Global, node: &Node, others: &[Node]) -> Result<Called, AllocError>
+    ensures { IfOk result (λ g. g ≡ left (frame_of node.now) (map frame_of others.now)) }
+{
+    let atom = canonical(alloc, &node.tuple.head)?;
+    Ok(Called {
+        box_no: node.box_no,
+        caller: owner(others),
+        depth: node.depth,
+        atom,
+    })
+}
+
+/// What a frame does that has no goal left.
+fn look_over(alloc: Global, node: &Node, others: &[Node]) -> Result<Look, AllocError>
+    ensures { IfOk result (λ l. l ≡ look_at None (frame_of node.now) (map frame_of others.now) 0) }
+{
+    if node.box_no == 0 {
+        let values = canonical(alloc, &node.tuple.head)?;
+        return Ok(Look::Answer(values));
+    }
+    let g = left(alloc, node, others)?;
+    Ok(Look::Exit(g, node.point))
+}
+
 impl FrameList {
     /// No frame.
     pub fn empty(alloc: Global) -> FrameList
@@ -139,15 +209,17 @@ impl FrameList {
         ensures { IfOk result (λ r. r ≡ query_frame (canonical_tuple query.now) ∷ []) }
     {
         let tuple = canonical_tuple(alloc, query)?;
-        let mut nodes = Vec::new(alloc);
-        nodes.push(Node {
+        let frame = Frame {
             box_no: 0,
             depth: 0,
             clause: 0,
-            tuple: Rc::new(alloc, tuple)?,
+            tuple,
             done: 0,
             point: 0,
-        })?;
+        };
+        let node = node_of(alloc, frame)?;
+        let mut nodes = Vec::new(alloc);
+        nodes.push(node)?;
         Ok(FrameList { nodes })
     }
 
@@ -155,16 +227,9 @@ impl FrameList {
     pub fn applied(&self, alloc: Global, first: &Frame, s: &Subst) -> Result<FrameList, AllocError>
         ensures { IfOk result (λ r. r ≡ apply_frames (term_for s.now) (first.now ∷ self.now)) }
     {
+        let front = moved_node(alloc, first, s)?;
         let mut nodes = Vec::new(alloc);
-        let tuple = apply_tuple(alloc, &first.tuple, s)?;
-        nodes.push(Node {
-            box_no: first.box_no,
-            depth: first.depth,
-            clause: first.clause,
-            tuple: Rc::new(alloc, tuple)?,
-            done: first.done,
-            point: first.point,
-        })?;
+        nodes.push(front)?;
         'nodes: for node in &self.nodes {
             let moved = applied_node(alloc, node, s)?;
             nodes.push(moved)?;
@@ -188,16 +253,9 @@ impl FrameList {
     pub fn with_front(&self, alloc: Global, first: Frame) -> Result<FrameList, AllocError>
         ensures { IfOk result (λ r. r ≡ first ∷ self.now) }
     {
+        let front = node_of(alloc, first)?;
         let mut all = self.copy(alloc)?;
-        let node = Node {
-            box_no: first.box_no,
-            depth: first.depth,
-            clause: first.clause,
-            tuple: Rc::new(alloc, first.tuple)?,
-            done: first.done,
-            point: first.point,
-        };
-        all.nodes.insert(0, node)?;
+        all.nodes.insert(0, front)?;
         Ok(all)
     }
 
@@ -218,31 +276,12 @@ impl FrameList {
     {
         match self.nodes.as_slice() {
             [] => Ok(Look::Nothing),
-            [first, others @ ..] => match first.tuple.body.get(first.done as usize) {
+            [first, others @ ..] => match goal_of(first) {
                 Some(goal) => {
-                    let atom = canonical(alloc, goal)?;
-                    Ok(Look::Goal(Called {
-                        box_no,
-                        caller: first.box_no,
-                        depth: first.depth + 1,
-                        atom,
-                    }))
+                    let g = called(alloc, first, goal, box_no)?;
+                    Ok(Look::Goal(g))
                 }
-                None => {
-                    let atom = canonical(alloc, &first.tuple.head)?;
-                    if first.box_no == 0 {
-                        return Ok(Look::Answer(atom));
-                    }
-                    Ok(Look::Exit(
-                        Called {
-                            box_no: first.box_no,
-                            caller: owner(others),
-                            depth: first.depth,
-                            atom,
-                        },
-                        first.point,
-                    ))
-                }
+                None => look_over(alloc, first, others),
             },
         }
     }
@@ -255,14 +294,8 @@ impl FrameList {
         match self.nodes.as_slice() {
             [] => unreachable!(),
             [first, others @ ..] => {
-                let atom = canonical(alloc, &first.tuple.head)?;
-                let called = Called {
-                    box_no: first.box_no,
-                    caller: owner(others),
-                    depth: first.depth,
-                    atom,
-                };
-                Ok((called, first.point))
+                let g = left(alloc, first, others)?;
+                Ok((g, first.point))
             }
         }
     }

@@ -1,12 +1,13 @@
 //! What becomes of frames where a goal is solved, and the ports that are passed.
 
-ghost use Rattle.std.specs.Prelude.{◌≡◌, ℕ, ◌+◌, ◌-◌, ◌≤◌, ◌^◌, IfOk, IfSome};
+ghost use Rattle.std.specs.Prelude.{◌≡◌, ◌∷◌, ℕ, ◌+◌, ◌-◌, ◌≤◌, ◌^◌, IfOk, IfSome};
 ghost use Rattle.apd_clauses.specs.Clauses.{IsRunnable};
-ghost use Rattle.apd_trace.specs.Frames.{entering};
+ghost use Rattle.apd_term.specs.Tuple.{canonical_tuple};
+ghost use Rattle.apd_trace.specs.Frames.{entering, shifted_tuple};
 ghost use Rattle.apd_trace.specs.Trace.{at_port};
 ghost use Rattle.apd_trace.specs.BuiltIn.{built, solution};
 ghost use Rattle.apd_trace.specs.Renaming.{AreAlike, AreRenamed, IsBelow};
-ghost use Rattle.apd_by_definition.specs.Attempts.{solution_in, IsAttemptBelow};
+ghost use Rattle.apd_by_definition.specs.Attempts.{attempt_of, solution_in, IsAttempt, IsAttemptBelow, IsUnder};
 ghost use Rattle.apd_engine.specs.Search.{numbers_for};
 
 use crate::engine::frames::FrameList;
@@ -25,6 +26,35 @@ pub(crate) const BLOCK: u64 = 4294967297;
 
 /// The clause of a built-in goal's frame.
 const BUILTIN: u32 = 4294967295;
+
+/// The clause with numbers of its own for its variables, above this one.
+fn renumbered(alloc: Global, rule: &Tuple, fresh: u64) -> Result<Tuple, AllocError>
+    requires short { IsRunnable rule.now }
+    requires room { fresh + 4294967297 ≤ 2 ^ 64 - 1 }
+    ensures { IfOk result (λ t. t ≡ shifted_tuple fresh (canonical_tuple rule.now)) }
+{
+    let canonical = canonical_tuple(alloc, rule)?;
+    shifted_tuple(alloc, &canonical, fresh)
+}
+
+/// The frames with another in front, under a most general unifier of two terms, if they have one.
+fn unified(
+    alloc: Global,
+    frames: &FrameList,
+    first: &Frame,
+    left: &Flat,
+    right: &Flat,
+) -> Result<Option<FrameList>, AllocError>
+    ensures { IfOk result (IsUnder left.now right.now (first.now ∷ frames.now)) }
+{
+    match mgu(alloc, left, right)? {
+        None => Ok(None),
+        Some(s) => {
+            let all = frames.applied(alloc, first, &s)?;
+            Ok(Some(all))
+        }
+    }
+}
 
 /// The frames where the clause is entered for the next goal, if its head unifies with it.
 pub(crate) fn resolved(
@@ -45,23 +75,16 @@ pub(crate) fn resolved(
     let Some(goal) = frames.goal() else {
         return Ok(None);
     };
-    let canonical = canonical_tuple(alloc, rule)?;
-    let tuple = shifted_tuple(alloc, &canonical, fresh)?;
-    match mgu(alloc, goal, &tuple.head)? {
-        None => Ok(None),
-        Some(s) => {
-            let first = Frame {
-                box_no: called.box_no,
-                depth: called.depth,
-                clause,
-                tuple,
-                done: 0,
-                point,
-            };
-            let all = frames.applied(alloc, &first, &s)?;
-            Ok(Some(all))
-        }
-    }
+    let tuple = renumbered(alloc, rule, fresh)?;
+    let first = Frame {
+        box_no: called.box_no,
+        depth: called.depth,
+        clause,
+        tuple,
+        done: 0,
+        point,
+    };
+    unified(alloc, frames, &first, goal, &first.tuple.head)
 }
 
 /// What an attempt at a goal came to.
@@ -91,6 +114,57 @@ fn built(alloc: Global, called: &Called, goal: &Flat, point: u32) -> Result<Fram
     })
 }
 
+/// The frames with that of a built-in goal that succeeds in front.
+fn with_built(
+    alloc: Global,
+    frames: &FrameList,
+    called: &Called,
+    goal: &Flat,
+    point: u32,
+) -> Result<FrameList, AllocError>
+    ensures { IfOk result (λ all. all ≡ built called.now goal.now point ∷ frames.now) }
+{
+    let first = built(alloc, called, goal, point)?;
+    frames.with_front(alloc, first)
+}
+
+/// The attempt at an equation: it is entered, or it fails.
+fn attempt_of(all: Option<FrameList>) -> Attempt
+    ensures { result ≡ attempt_of all }
+{
+    match all {
+        None => Attempt::Failed,
+        Some(frames) => Attempt::Entered(frames),
+    }
+}
+
+/// The attempt at a goal of which this comes.
+fn attempted_by(
+    alloc: Global,
+    frames: &FrameList,
+    called: &Called,
+    goal: &Flat,
+    point: u32,
+    outcome: &Outcome,
+) -> Result<Attempt, AllocError>
+    ensures { IfOk result (IsAttempt outcome.now goal.now frames.now called.now point) }
+{
+    match outcome {
+        Outcome::User => Ok(Attempt::Program),
+        Outcome::Faults(cause) => Ok(Attempt::Fault(*cause)),
+        Outcome::Fails => Ok(Attempt::Failed),
+        Outcome::Succeeds => {
+            let all = with_built(alloc, frames, called, goal, point)?;
+            Ok(Attempt::Entered(all))
+        }
+        Outcome::Equates(left, right) => {
+            let first = built(alloc, called, goal, point)?;
+            let all = unified(alloc, frames, &first, left, right)?;
+            Ok(attempt_of(all))
+        }
+    }
+}
+
 /// Solves the innermost frame's next goal, if it is built in.
 pub(crate) fn attempted(
     alloc: Global,
@@ -104,24 +178,8 @@ pub(crate) fn attempted(
     let Some(goal) = frames.goal() else {
         return Ok(Attempt::Program);
     };
-    match outcome(alloc, goal)? {
-        Outcome::User => Ok(Attempt::Program),
-        Outcome::Faults(cause) => Ok(Attempt::Fault(cause)),
-        Outcome::Fails => Ok(Attempt::Failed),
-        Outcome::Succeeds => {
-            let first = built(alloc, called, goal, point)?;
-            let all = frames.with_front(alloc, first)?;
-            Ok(Attempt::Entered(all))
-        }
-        Outcome::Equates(left, right) => match mgu(alloc, &left, &right)? {
-            None => Ok(Attempt::Failed),
-            Some(s) => {
-                let first = built(alloc, called, goal, point)?;
-                let all = frames.applied(alloc, &first, &s)?;
-                Ok(Attempt::Entered(all))
-            }
-        },
-    }
+    let outcome = outcome(alloc, goal)?;
+    attempted_by(alloc, frames, called, goal, point, &outcome)
 }
 
 /// The port of a box.

@@ -5,18 +5,20 @@
 ghost use Rattle.std.specs.Prelude.{◌≡◌, ◌∷◌, [], ℕ, ◌+◌, ◌*◌, ◌-◌, ◌≤◌, ◌<◌, ◌^◌, length, drop, IfOk, MatchOption};
 ghost use Rattle.apd_clauses.specs.Clauses.{IsProgram, IsRunnable, clauses_for, tuples_of};
 ghost use Rattle.apd_trace.specs.BuiltIn.{solution};
-ghost use Rattle.apd_trace.specs.Frames.{handed_all, outer, query_frame};
+ghost use Rattle.apd_trace.specs.Frames.{handed_all, look_of, outer, query_frame};
 ghost use Rattle.apd_trace.specs.Renaming.{IsBelow};
-ghost use Rattle.apd_trace.specs.Trace.{Out, begun, tries, hand, succeeded, settled, search_from, trace};
-ghost use Rattle.apd_by_definition.specs.Searched.{Advances, Grows, IsFull, Makes, out_of};
+ghost use Rattle.apd_trace.specs.Trace.{Out, begun, tries, hand, succeeded, settled, search_from, trace, turn};
+ghost use Rattle.apd_by_definition.specs.Searched.{Advances, Grows, IsFull, Makes, out_of, traced};
 ghost use Rattle.apd_frames.specs.Kept.{Takes};
 ghost use Rattle.apd_engine.specs.Search.{AllWait, IsOpen, numbers_for};
 
 use crate::engine::frames::FrameList;
-use crate::engine::goals::{Attempt, BLOCK, attempted, event, numbers, resolved};
-use crate::engine::searched::{
-    Counts, Searched, no_item, one_item, put_after, put_before, up_to_error,
+use crate::engine::goals::{Attempt, BLOCK, attempted, numbers, resolved};
+use crate::engine::ports::{
+    answer_alone, exit_around, point_before, port_after, port_alone, port_before, put_behind,
+    success_around,
 };
+use crate::engine::searched::{Counts, Searched, no_item, one_item, up_to_error};
 use apd_causes::RunError;
 use apd_clauses::Program;
 use apd_ports::Port;
@@ -26,7 +28,7 @@ use std::alloc::{AllocError, Global};
 use std::collections::VecDeque;
 
 /// How a search goes on after a clause that was tried.
-#[derive(Clone, Copy, Debug)]
+#[derive(Clone, Copy)]
 pub(crate) enum Advance {
     /// There are too many boxes or points.
     Full,
@@ -93,25 +95,44 @@ fn search_from(
     if counts.boxes == u32::MAX {
         return Ok(None);
     }
-    match place.frames.look(alloc, counts.boxes + 1)? {
+    let look = place.frames.look(alloc, counts.boxes + 1)?;
+    turn(alloc, program, depth - 1, place, &look, counts)
+}
+
+/// What the innermost frame does next, and what follows it.
+#[cycle(search)]
+fn turn(
+    alloc: Global,
+    program: &Program,
+    depth: u32,
+    place: &Place,
+    look: &Look,
+    counts: Counts,
+) -> Result<Option<Searched>, AllocError>
+    requires program { IsProgram program.now }
+    requires open { IsOpen counts.boxes place.now.frames }
+    requires below { IsBelow place.now.fresh place.now.frames }
+    requires room { place.now.fresh + 4294967297 * (depth + 1) ≤ 2 ^ 64 - 1 }
+    requires boxes { counts.boxes + 1 < 2 ^ 32 }
+    requires look { look.now ≡ look_of place.now.frames (counts.boxes + 1) }
+    ensures { IfOk result (λ o. Makes o (turn (search_from (tuples_of program.now) depth) (tuples_of program.now) look.now place.now.frames counts.boxes counts.points)) }
+{
+    match look {
         Look::Nothing => Ok(Some(no_item(alloc, counts))),
         Look::Goal(g) => {
-            let call = event(alloc, Port::Call, &g)?;
             let called = Counts {
                 boxes: counts.boxes + 1,
                 points: counts.points,
             };
-            let rest = settled(alloc, program, depth - 1, place, &g, called)?;
-            put_before(call, rest)
+            let rest = settled(alloc, program, depth, place, g, called)?;
+            port_before(alloc, Port::Call, g, rest)
         }
         Look::Exit(g, point) => {
-            let exit = event(alloc, Port::Exit, &g)?;
-            let redo = event(alloc, Port::Redo, &g)?;
             let around = place.outer(alloc)?;
-            let rest = hand(alloc, program, depth - 1, &around, point, counts)?;
-            put_before(exit, put_after(rest, redo)?)
+            let rest = hand(alloc, program, depth, &around, *point, counts)?;
+            exit_around(alloc, g, rest)
         }
-        Look::Answer(values) => one_item(alloc, Item::Answer(values), counts),
+        Look::Answer(values) => answer_alone(alloc, values, counts),
     }
 }
 
@@ -135,7 +156,7 @@ fn settled(
     match attempted(alloc, &place.frames, g, counts.points)? {
         Attempt::Program => tries(alloc, program, depth, place, g, counts),
         Attempt::Fault(cause) => one_item(alloc, Item::Error(cause, g.box_no), counts),
-        Attempt::Failed => one_item(alloc, event(alloc, Port::Fail, g)?, counts),
+        Attempt::Failed => port_alone(alloc, Port::Fail, g, counts),
         Attempt::Entered(frames) => {
             let entered = Place {
                 frames,
@@ -162,25 +183,22 @@ fn succeeded(
     requires room { entered.now.fresh + 4294967297 * depth ≤ 2 ^ 64 - 1 }
     ensures { IfOk result (λ o. Makes o (succeeded (search_from (tuples_of program.now) depth) g.now entered.now.frames counts.boxes counts.points)) }
 {
+    let Some((_box_no, newest)) = entered.frames.newest() else {
+        return Ok(Some(no_item(alloc, counts)));
+    };
     if entered.frames.is_large() {
         return one_item(alloc, Item::Error(RunError::Size, g.box_no), counts);
     }
     if counts.points == u32::MAX {
         return Ok(None);
     }
-    let point = entered.frames.point(alloc, None)?;
-    let (left, newest) = entered.frames.exited(alloc)?;
-    let exit = event(alloc, Port::Exit, &left)?;
-    let redo = event(alloc, Port::Redo, &left)?;
-    let fail = event(alloc, Port::Fail, g)?;
     let around = entered.outer(alloc)?;
     let made = Counts {
         boxes: counts.boxes,
         points: counts.points + 1,
     };
     let rest = hand(alloc, program, depth, &around, newest, made)?;
-    let whole = put_before(exit, put_after(put_after(rest, redo)?, fail)?)?;
-    put_before(Item::Made(point), whole)
+    success_around(alloc, &entered.frames, g, rest)
 }
 
 /// The exit at this point is handed to the innermost frame.
@@ -213,13 +231,12 @@ fn hand(
         exit: PointId(exit),
     };
     let next = place.handed(alloc, counts.points)?;
-    let point = next.frames.point(alloc, Some(step))?;
     let made = Counts {
         boxes: counts.boxes,
         points: counts.points + 1,
     };
     let rest = search_from(alloc, program, depth, &next, made)?;
-    put_before(Item::Made(point), rest)
+    point_before(alloc, &next.frames, Some(step), rest)
 }
 
 /// Each of the goal's clauses in turn, and at last Fail.
@@ -249,7 +266,7 @@ fn tries(
             Advance::Goes => at += 1,
         }
     }
-    put_after(Some(out), event(alloc, Port::Fail, g)?)
+    port_after(alloc, Some(out), Port::Fail, g)
 }
 
 /// The goal's clause at this index, before those after it.
@@ -319,18 +336,30 @@ fn begun(
     if out.counts.points == u32::MAX {
         return Ok(Advance::Full);
     }
-    let point = entered.frames.point(alloc, None)?;
-    out.items.push_back(Item::Made(point))?;
     let made = Counts {
         boxes: out.counts.boxes,
         points: out.counts.points + 1,
     };
-    let Some(mut rest) = search_from(alloc, program, depth, entered, made)? else {
+    let Some(rest) = search_from(alloc, program, depth, entered, made)? else {
         return Ok(Advance::Full);
     };
-    out.items.append(&mut rest.items)?;
-    out.counts = rest.counts;
+    put_behind(alloc, out, &entered.frames, rest)?;
     Ok(Advance::Goes)
+}
+
+/// The innermost frame's point, and the items up to the first error.
+fn traced(
+    alloc: Global,
+    frames: &FrameList,
+    items: VecDeque<Item>,
+) -> Result<VecDeque<Item>, AllocError>
+    requires { 0 < length frames.now }
+    ensures { IfOk result (λ r. r.items ≡ traced frames.now items.items) }
+{
+    let mut kept = up_to_error(alloc, items)?;
+    let point = frames.point(alloc, None)?;
+    kept.push_front(Item::Made(point))?;
+    Ok(kept)
 }
 
 /// The trace of a query by the program's clauses, at most `depth` ports deep; none only where a
@@ -350,7 +379,6 @@ pub fn trace(
         frames: FrameList::of_query(alloc, query)?,
         fresh: BLOCK,
     };
-    let point = place.frames.point(alloc, None)?;
     let counts = Counts {
         boxes: 0,
         points: 1,
@@ -358,7 +386,6 @@ pub fn trace(
     let Some(searched) = search_from(alloc, program, depth, &place, counts)? else {
         return Ok(None);
     };
-    let mut items = up_to_error(alloc, searched.items)?;
-    items.push_front(Item::Made(point))?;
+    let items = traced(alloc, &place.frames, searched.items)?;
     Ok(Some(items))
 }

@@ -18,12 +18,12 @@ eval-requires t c =
 
 pub eval-x-requires : goal.eval-x-requires
 eval-x-requires t c =
-    let less = smaller c.args.expr.now 0 c.in_ok-first-in-Fun-default-eq2.first c.in_ok-first-in-Fun-default-eq2.ensures in
+    let less = smaller c.args.expr.now 0 c.in_ok-sides-in-Fun-default-eq2.sides.left c.in_ok-sides-in-Fun-default-eq2.ensures.left in
     (omega (arith, less, c.decreases), omega (arith, less))
 
 pub eval-requires-in-Fun-default-eq2 : goal.eval-requires-in-Fun-default-eq2
 eval-requires-in-Fun-default-eq2 t c =
-    let less = smaller c.args.expr.now 1 c.in_ok-second-in-Fun-default-eq2.second c.in_ok-second-in-Fun-default-eq2.ensures in
+    let less = smaller c.args.expr.now 1 c.in_ok-sides-in-Fun-default-eq2.sides.right c.in_ok-sides-in-Fun-default-eq2.ensures.right in
     (omega (arith, less, c.decreases), omega (arith, less))
 
 pub returns-in-Var : goal.returns-in-Var
@@ -44,13 +44,13 @@ returns-in_ok-only-in-Fun-default-eq1 t c m =
     let o : c.of_one.result ≡ of_one_by (unary_operation c.in-Fun-default-eq1.name) c.eval.result = c.of_one.ensures ∙ ap (λ q. of_one_by q c.eval.result) c.named.ensures in
     o ∙ value-one c.args.expr.now (Var 0) c.in-Fun-default-eq1.name c.in_ok-only-in-Fun-default-eq1.only c.eval.result e c.in_ok-only-in-Fun-default-eq1.ensures c.eval.ensures (λ k. m (o ∙ k))
 
-pub returns-in_ok-second-in-Fun-default-eq2 : goal.returns-in_ok-second-in-Fun-default-eq2
-returns-in_ok-second-in-Fun-default-eq2 t c m =
+pub returns-in_ok-sides-in-Fun-default-eq2 : goal.returns-in_ok-sides-in-Fun-default-eq2
+returns-in_ok-sides-in-Fun-default-eq2 t c m =
     let e : get_or (spell c.args.expr.now) 0 (Var 0) ≡ Fun c.in-Fun-default-eq2.name 2 = ap (λ s. get_or s 0 (Var 0)) (sym c.symbols.ensures) ∙ c.in-Fun-default-eq2.is ∙ ap (λ (n : ℕ). Fun c.in-Fun-default-eq2.name n) (sym c.in-Fun-default-eq2.field-1-is ∙ c.in-Fun-default-eq2.field-1-test) in
     let x : Value = c.eval-x.result in
     let y : Value = c.eval-in-Fun-default-eq2.result in
     let o : c.of_two.result ≡ of_two_by (binary_operation c.in-Fun-default-eq2.name) x y = c.of_two.ensures ∙ ap (λ q. of_two_by q c.eval-x.result c.eval-in-Fun-default-eq2.result) c.named-in-Fun-default-eq2.ensures in
-    o ∙ value-two c.args.expr.now (Var 0) c.in-Fun-default-eq2.name c.in_ok-first-in-Fun-default-eq2.first c.in_ok-second-in-Fun-default-eq2.second x y e c.in_ok-first-in-Fun-default-eq2.ensures c.in_ok-second-in-Fun-default-eq2.ensures c.eval-x.ensures c.eval-in-Fun-default-eq2.ensures (λ k. m (o ∙ k))
+    o ∙ value-two c.args.expr.now (Var 0) c.in-Fun-default-eq2.name c.in_ok-sides-in-Fun-default-eq2.sides.left c.in_ok-sides-in-Fun-default-eq2.sides.right x y e c.in_ok-sides-in-Fun-default-eq2.ensures.left c.in_ok-sides-in-Fun-default-eq2.ensures.right c.eval-x.ensures c.eval-in-Fun-default-eq2.ensures (λ k. m (o ∙ k))
 
 pub returns-in-Fun : goal.returns-in-Fun
 returns-in-Fun t c m =

@@ -6,7 +6,7 @@ use Rattle.apd_unify.proofs.Worklist.{IsUnderWay}
 use Rattle.apd_by_definition.proofs.unify.textbook_unifier.Given as goal
 
 abbrev pub invariant-rules : goal.invariant-rules
-invariant-rules l = IsUnderWay l.a l.b l.equations.items l.found
+invariant-rules l = IsUnderWay l.a l.b l.work.equations.items l.work.found
 
 abbrev pub decreases-rules : goal.decreases-rules
-decreases-rules l = most_steps (length (variables l.a ++ variables l.b) - length l.found) (size_equations l.equations.items)
+decreases-rules l = most_steps (length (variables l.a ++ variables l.b) - length l.work.found) (size_equations l.work.equations.items)

@@ -76,12 +76,12 @@ returns-in_err-end_run-clause-says g c = let p = err_from_is_err_and c.from_resi
 }
 
 pub returns-clause-run : goal.returns-clause-run
-returns-clause-run g c = rw (history_is c.args.state.now c.args.query _ _ _ c.in_ok-program.ensures c.in_ok-asked.ensures c.new-history.ensures, c.in_ok-ran.ensures.ran) refl
+returns-clause-run g c = rw (history_is c.args.state.now c.args.query _ _ _ c.in_ok-program.ensures c.in_ok-asked.ensures c.new.ensures, c.in_ok-ran.ensures.ran) refl
 
 pub returns-clause-kept : goal.returns-clause-kept
 returns-clause-kept g c = record {
   runnable = c.requires.runnable;
   named = c.requires.named;
-  history = is_record c.args.state.now c.args.query _ (subst IsProgram c.get.ensures c.count-count.ensures.program) c.requires.runnable (history_is c.args.state.now c.args.query _ _ _ c.in_ok-program.ensures c.in_ok-asked.ensures c.new-history.ensures);
+  history = is_record c.args.state.now c.args.query _ (subst IsProgram c.get.ensures c.count-count.ensures.program) c.requires.runnable (history_is c.args.state.now c.args.query _ _ _ c.in_ok-program.ensures c.in_ok-asked.ensures c.new.ensures);
   end = ap (λ (r : Ran). r.end) c.in_ok-ran.ensures.ran;
 }

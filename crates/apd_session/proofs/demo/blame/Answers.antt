@@ -1,4 +1,4 @@
-use Rattle.std.proofs.Common.{refl, length, ℕ, [], ◌≡◌, sym, ap, ap₂, ◌∙◌}
+use Rattle.std.proofs.Common.{refl, length, ℕ, [], sym, ap₂}
 use Rattle.std.proofs.lemmas.Result.{err_from_is_err_and}
 use Rattle.std.specs.Prelude.{Err, Ok}
 use Rattle.apd_answers.specs.Dialogue.{Turn, ends}
@@ -6,13 +6,14 @@ use Rattle.apd_answers.specs.declared.finding.Finding.{Finding}
 use Rattle.apd_answers.proofs.Decided.{added-no}
 use Rattle.apd_divide.specs.Tree.{Tree}
 use Rattle.apd_debug.proofs.NamedTrees.{tree-named}
-use Rattle.apd_talk.specs.Speech.{Speech, one, spoken}
-use Rattle.apd_talk.proofs.Speaking.{Says-as, Says-err, Says-less, Says-more, Says-none, Says-nothing, both}
+use Rattle.apd_talk.specs.Speech.{one, spoken}
+use Rattle.apd_talk.proofs.Speaking.{Says-as, Says-less, Says-more, Says-none, Says-nothing, both}
+use Rattle.apd_record.specs.Reading.{point_of}
+use Rattle.apd_term.specs.Term.{Term}
 use Rattle.apd_text.specs.declared.entry.Entry.TheVariants.{Refused}
-use Rattle.apd_text.specs.declared.entry.Told.TheVariants.{Wrong}
 use Rattle.apd_session.specs.Demo.{blamed, found_said}
 use Rattle.apd_session.proofs.Demos.{blamed_none, blamed_parts, blamed_refused, found_of, questions_of, symptom_of}
-use Rattle.apd_session.proofs.Symptoms.{head_is, label_named, labelled, point_below, run_named, told-replies}
+use Rattle.apd_session.proofs.Symptoms.{head_labelled, head_named, run_named}
 use Rattle.apd_session.proofs.demo.blame.Goals as goal
 
 pub returns-in_default : goal.returns-in_default
@@ -30,91 +31,71 @@ returns-in-Err g c =
     Says-as (one (Refused c.in-Err.refusal)) (λ ops names. blamed ops names c.args.nodes c.args.state.now c.args.state.now.last) _ _ c.say.result
     (λ ops names. sym (blamed_refused ops names c.args.nodes c.args.state.now c.in-Some.run' c.in-Err.refusal c.in-Some.is (rw c.in_ok-history.ensures at c.in-Err.ensures.exit))) c.say.ensures
 
-pub tuple-requires : goal.tuple-requires
-tuple-requires g c = point_below _ _ c.in-Ok.ensures.user.point c.in-Ok.ensures.user.there
+pub keep_wrong-requires-clause-named : goal.keep_wrong-requires-clause-named
+keep_wrong-requires-clause-named g c =
+    let user = rw c.in_ok-history.ensures at c.in-Ok.ensures.user in
+    rw c.in_ok-history.ensures (head_named (length c.args.log.now.names) c.args.state.now c.in-Some.run' c.in-Ok.exit.0 c.in-Some.is c.requires.ready.ready user)
 
 pub returns-in_err-label : goal.returns-in_err-label
 returns-in_err-label g c =
-    let e = err_from_is_err_and c.from_residual-in_err-label.result c.from_residual-in_err-label.ensures.1 in
-    rw (e.1, e.2) (Says-none (λ ops names. blamed ops names c.args.nodes c.args.state.now c.args.state.now.last) _ _ refl refl refl refl refl)
-
-pub returns-in_err-copy : goal.returns-in_err-copy
-returns-in_err-copy g c =
-    let e = err_from_is_err_and c.from_residual-in_err-copy.result c.from_residual-in_err-copy.ensures.1 in
-    rw (e.1, e.2) (Says-none (λ ops names. blamed ops names c.args.nodes c.args.state.now c.args.state.now.last) _ _ refl refl refl refl refl)
-
-pub keep_symptom-requires : goal.keep_symptom-requires
-keep_symptom-requires g c =
-    let user = rw c.in_ok-history.ensures at c.in-Ok.ensures.user in
-    let label = label_named (length c.args.log.now.names) c.args.state.now c.in-Some.run' c.in-Ok.exit.0 user.point c.in_ok-label.field-0 c.in-Some.is c.requires.ready.ready user.there (rw user.there at (rw c.in_ok-history.ensures at c.in_ok-label.ensures)) in
-    rw c.in_ok-copy.ensures label
-
-pub returns-in_err-keep_symptom : goal.returns-in_err-keep_symptom
-returns-in_err-keep_symptom g c =
-    let user = rw c.in_ok-history.ensures at c.in-Ok.ensures.user in
-    let tuple = rw user.there at (rw c.in_ok-history.ensures at c.in_ok-label.ensures) in
-    let head = head_is c.in-Some.run'.history c.in-Ok.exit.0 user.point c.in_ok-label.field-0 user.there tuple in
-    let atom = c.in_ok-label.field-0.head in
-    let e = err_from_is_err_and c.from_residual-in_err-keep_symptom.result c.from_residual-in_err-keep_symptom.ensures.1 in
+    let atom : Term = (point_of c.in-Some.run'.history c.in-Ok.exit.0).tuple.head in
     let first = symptom_of atom in
     let questions = questions_of c.args.nodes c.args.state.now c.in-Some.run' c.in-Ok.exit.0 atom in
     let found = found_of c.args.nodes c.args.state.now c.in-Some.run' c.in-Ok.exit.0 atom in
+    let e = err_from_is_err_and c.from_residual-in_err-label.result c.from_residual-in_err-label.ensures.1 in
     rw (e.1, e.2)
-    (Says-as (both first (both questions found)) (λ ops names. blamed ops names c.args.nodes c.args.state.now c.args.state.now.last) _ _ (Err _) (blamed_parts c.args.nodes c.args.state.now c.in-Some.run' c.in-Ok.exit.0 atom c.in-Some.is (rw c.in_ok-history.ensures at c.in-Ok.ensures.exit) head)
-    (Says-less first (both questions found) _ _ _ (rw c.in_ok-copy.ensures at c.in_err-keep_symptom.ensures.says)))
+    (Says-as (both first (both questions found)) (λ ops names. blamed ops names c.args.nodes c.args.state.now c.args.state.now.last) _ _ (Err _) (blamed_parts c.args.nodes c.args.state.now c.in-Some.run' c.in-Ok.exit.0 atom c.in-Some.is (rw c.in_ok-history.ensures at c.in-Ok.ensures.exit) refl)
+    (Says-less first (both questions found) _ _ _ (rw c.in_ok-history.ensures at c.in_err-label.ensures.says)))
 
 pub diagnose_tree-requires-clause-labelled : goal.diagnose_tree-requires-clause-labelled
 diagnose_tree-requires-clause-labelled g c =
     let user = rw c.in_ok-history.ensures at c.in-Ok.ensures.user in
-    rw c.in_ok-history.ensures (labelled c.in-Some.run'.history c.in-Ok.exit.0 c.in_ok-label.field-0 user (rw user.there at (rw c.in_ok-history.ensures at c.in_ok-label.ensures)))
+    rw (c.in_ok-label.ensures.head, c.in_ok-history.ensures) (head_labelled c.in-Some.run'.history c.in-Ok.exit.0 user)
 
 pub diagnose_tree-requires-clause-symptom : goal.diagnose_tree-requires-clause-symptom
-diagnose_tree-requires-clause-symptom g c = rw (c.in_ok-keep_symptom.ensures.replies, c.in_ok-copy.ensures) (added-no c.args.state.now.replies c.in_ok-label.field-0.head)
+diagnose_tree-requires-clause-symptom g c =
+    let atom : Term = (point_of c.in-Some.run'.history c.in-Ok.exit.0).tuple.head in
+    rw (c.in_ok-label.ensures.head, c.in_ok-label.ensures.replies, c.in_ok-history.ensures) (added-no c.args.state.now.replies atom)
 
 pub diagnose_tree-requires-clause-known : goal.diagnose_tree-requires-clause-known
 diagnose_tree-requires-clause-known g c =
+    let atom : Term = (point_of c.in-Some.run'.history c.in-Ok.exit.0).tuple.head in
     let user = rw c.in_ok-history.ensures at c.in-Ok.ensures.user in
-    let label = label_named (length c.args.log.now.names) c.args.state.now c.in-Some.run' c.in-Ok.exit.0 user.point c.in_ok-label.field-0 c.in-Some.is c.requires.ready.ready user.there (rw user.there at (rw c.in_ok-history.ensures at c.in_ok-label.ensures)) in
     let n : ℕ = length c.args.log.now.names in
-    rw (c.in_ok-history.ensures, c.in_ok-keep_symptom.ensures.says.names) (c.requires.ready.ready.standard, tree-named n c.in-Some.run'.history c.in-Ok.exit.0 c.in_ok-label.field-0.head (run_named n c.args.state.now c.in-Some.run' c.in-Some.is c.requires.ready.ready) label)
+    let named = head_named n c.args.state.now c.in-Some.run' c.in-Ok.exit.0 c.in-Some.is c.requires.ready.ready user in
+    rw (c.in_ok-label.ensures.head, c.in_ok-history.ensures, c.in_ok-label.ensures.says.names) (c.requires.ready.ready.standard, tree-named n c.in-Some.run'.history c.in-Ok.exit.0 atom (run_named n c.args.state.now c.in-Some.run' c.in-Some.is c.requires.ready.ready) named)
 
 pub returns-in_err-finding : goal.returns-in_err-finding
 returns-in_err-finding g c =
-    let user = rw c.in_ok-history.ensures at c.in-Ok.ensures.user in
-    let tuple = rw user.there at (rw c.in_ok-history.ensures at c.in_ok-label.ensures) in
-    let head = head_is c.in-Some.run'.history c.in-Ok.exit.0 user.point c.in_ok-label.field-0 user.there tuple in
-    let atom = c.in_ok-label.field-0.head in
-    let e = err_from_is_err_and c.from_residual-in_err-finding.result c.from_residual-in_err-finding.ensures.1 in
+    let atom : Term = (point_of c.in-Some.run'.history c.in-Ok.exit.0).tuple.head in
     let first = symptom_of atom in
     let questions = questions_of c.args.nodes c.args.state.now c.in-Some.run' c.in-Ok.exit.0 atom in
     let found = found_of c.args.nodes c.args.state.now c.in-Some.run' c.in-Ok.exit.0 atom in
-    let said = rw (c.in_ok-keep_symptom.ensures.replies, c.in_ok-copy.ensures) at (rw (c.in_ok-history.ensures, c.get.ensures) at c.in_err-finding.ensures.says) in
+    let e = err_from_is_err_and c.from_residual-in_err-finding.result c.from_residual-in_err-finding.ensures.1 in
+    let said = rw (c.in_ok-label.ensures.head, c.in_ok-label.ensures.replies, c.in_ok-history.ensures, c.get.ensures) at c.in_err-finding.ensures.says in
     rw (e.1, e.2)
-    (Says-as (both first (both questions found)) (λ ops names. blamed ops names c.args.nodes c.args.state.now c.args.state.now.last) _ _ (Err _) (blamed_parts c.args.nodes c.args.state.now c.in-Some.run' c.in-Ok.exit.0 atom c.in-Some.is (rw c.in_ok-history.ensures at c.in-Ok.ensures.exit) head)
-    (Says-more first (both questions found) _ (spoken g.K.Sink c.keep_symptom.new.log c.keep_symptom.new.out) _ _ (Err _) (rw c.in_ok-copy.ensures at c.in_ok-keep_symptom.ensures.says)
+    (Says-as (both first (both questions found)) (λ ops names. blamed ops names c.args.nodes c.args.state.now c.args.state.now.last) _ _ (Err _) (blamed_parts c.args.nodes c.args.state.now c.in-Some.run' c.in-Ok.exit.0 atom c.in-Some.is (rw c.in_ok-history.ensures at c.in-Ok.ensures.exit) refl)
+    (Says-more first (both questions found) _ (spoken g.K.Sink c.keep_wrong.new.log c.keep_wrong.new.out) _ _ (Err _) (rw c.in_ok-history.ensures at c.in_ok-label.ensures.says)
     (Says-less questions found _ _ _ said)))
 
 pub say_found-requires-clause-place : goal.say_found-requires-clause-place
-say_found-requires-clause-place g c = c.in_ok-finding.ensures.keeps_place c.in_ok-keep_symptom.ensures.place
+say_found-requires-clause-place g c = c.in_ok-finding.ensures.keeps_place c.in_ok-label.ensures.place
 
 pub say_found-requires-clause-standard : goal.say_found-requires-clause-standard
-say_found-requires-clause-standard g c = rw (c.in_ok-finding.ensures.says.names, c.in_ok-keep_symptom.ensures.says.names) c.requires.ready.ready.standard
+say_found-requires-clause-standard g c = rw (c.in_ok-finding.ensures.says.names, c.in_ok-label.ensures.says.names) c.requires.ready.ready.standard
 
 pub say_found-requires-clause-named : goal.say_found-requires-clause-named
 say_found-requires-clause-named g c = rw c.in_ok-finding.ensures.says.names c.in_ok-finding.ensures.done.named
 
 pub returns : goal.returns
 returns g c =
-    let user = rw c.in_ok-history.ensures at c.in-Ok.ensures.user in
-    let tuple = rw user.there at (rw c.in_ok-history.ensures at c.in_ok-label.ensures) in
-    let head = head_is c.in-Some.run'.history c.in-Ok.exit.0 user.point c.in_ok-label.field-0 user.there tuple in
-    let atom = c.in_ok-label.field-0.head in
+    let atom : Term = (point_of c.in-Some.run'.history c.in-Ok.exit.0).tuple.head in
     let first = symptom_of atom in
     let questions = questions_of c.args.nodes c.args.state.now c.in-Some.run' c.in-Ok.exit.0 atom in
     let found = found_of c.args.nodes c.args.state.now c.in-Some.run' c.in-Ok.exit.0 atom in
-    let done = rw (c.in_ok-keep_symptom.ensures.replies, c.in_ok-copy.ensures) at (rw (c.in_ok-history.ensures, c.get.ensures) at c.in_ok-finding.ensures) in
-    Says-as (both first (both questions found)) (λ ops names. blamed ops names c.args.nodes c.args.state.now c.args.state.now.last) _ _ c.say_found.result (blamed_parts c.args.nodes c.args.state.now c.in-Some.run' c.in-Ok.exit.0 atom c.in-Some.is (rw c.in_ok-history.ensures at c.in-Ok.ensures.exit) head)
-    (Says-more first (both questions found) _ (spoken g.K.Sink c.keep_symptom.new.log c.keep_symptom.new.out) _ _ c.say_found.result (rw c.in_ok-copy.ensures at c.in_ok-keep_symptom.ensures.says)
+    let done = rw (c.in_ok-label.ensures.head, c.in_ok-label.ensures.replies, c.in_ok-history.ensures, c.get.ensures) at c.in_ok-finding.ensures in
+    Says-as (both first (both questions found)) (λ ops names. blamed ops names c.args.nodes c.args.state.now c.args.state.now.last) _ _ c.say_found.result (blamed_parts c.args.nodes c.args.state.now c.in-Some.run' c.in-Ok.exit.0 atom c.in-Some.is (rw c.in_ok-history.ensures at c.in-Ok.ensures.exit) refl)
+    (Says-more first (both questions found) _ (spoken g.K.Sink c.keep_wrong.new.log c.keep_wrong.new.out) _ _ c.say_found.result (rw c.in_ok-history.ensures at c.in_ok-label.ensures.says)
     (Says-more questions found _ (spoken g.K.Sink c.diagnose_tree.new.log c.diagnose_tree.new.sink) _ _ c.say_found.result done.says
     (Says-as (λ ops names. found_said ops names c.args.state.now.program c.args.nodes c.diagnose_tree.new.asked (ends c.in_ok-finding.finding)) found _ _ c.say_found.result
     (λ ops names. ap₂ (λ (k : ℕ) (t : Turn Tree Finding). found_said ops names c.args.state.now.program c.args.nodes k t) done.done.asked (sym done.done.ends_so)) (rw c.get-2.ensures at c.say_found.ensures))))

@@ -1,5 +1,5 @@
 use Rattle.std.proofs.lemmas.Result.{err_from_is_err_and}
-use Rattle.std.specs.Prelude.{Err, None}
+use Rattle.std.specs.Prelude.{None}
 use Rattle.apd_talk.specs.Speech.{Speech, spoken}
 use Rattle.apd_talk.proofs.Speaking.{Says-less, Says-more}
 use Rattle.apd_session.specs.Demo.{asked_said}

@@ -1,6 +1,4 @@
-use Rattle.std.proofs.Common.{refl}
 use Rattle.std.proofs.lemmas.Result.{err_from_is_err_and}
-use Rattle.std.specs.Prelude.{Err}
 use Rattle.apd_talk.specs.Speech.{Speech, one, spoken}
 use Rattle.apd_talk.proofs.Speaking.{Says-less, Says-more}
 use Rattle.apd_session.specs.Demo.{demo_entry}

@@ -1,15 +1,11 @@
-use Rattle.std.proofs.Common.{refl, ◌≡◌, ◌∙◌, ◌+◌, ◌<◌, ◌≤◌, ap, sym, arith, subst, length, List, ℕ}
+use Rattle.std.proofs.Common.{refl, ◌+◌, ◌<◌, ◌≤◌, arith, subst, length, List, ℕ}
 use Rattle.std.proofs.lemmas.Result.{err_from_is_err_and}
-use Rattle.std.specs.Prelude.{Err}
-use Rattle.apd_commands.specs.declared.commands.Command.{Command}
-use Rattle.apd_console.specs.declared.line.Line.{Line}
-use Rattle.apd_lines.proofs.Growing.{Grown-length, Grown-more, Grown-line}
-use Rattle.apd_lines.specs.Lines.{LineGrows}
+use Rattle.apd_lines.proofs.Growing.{Grown-length, Grown-line}
 use Rattle.apd_load.proofs.Calling.{notes_more}
 use Rattle.apd_talk.specs.Speech.{Speech, spoken}
 use Rattle.apd_term.specs.Growth.{Grown, GrowsBy}
 use Rattle.apd_text.specs.declared.log.Log.{Log}
-use Rattle.apd_session.specs.Demo.{query_line, shown_said}
+use Rattle.apd_session.specs.Demo.{shown_said}
 use Rattle.apd_session.specs.Session.{demonstrates}
 use Rattle.apd_session.proofs.Demos.{none_shown, shown_so, transcript_is}
 use Rattle.apd_session.proofs.Turning.{IsPrepared-more, grows_few, grows_none}

@@ -1,5 +1,4 @@
 use Rattle.std.proofs.lemmas.Result.{err_from_is_err_and}
-use Rattle.std.specs.Prelude.{Err}
 use Rattle.apd_talk.specs.Speech.{Speech, spoken}
 use Rattle.apd_session.specs.Steps.{known_said, load_said}
 use Rattle.apd_talk.proofs.Speaking.{Says-less, Says-more}

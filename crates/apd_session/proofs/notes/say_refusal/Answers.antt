@@ -1,16 +1,16 @@
-use Rattle.std.proofs.lemmas.Result.{err_from_is_err_and}
-use Rattle.std.specs.Prelude.{Err}
 use Rattle.apd_talk.specs.Speech.{Speech, one, spoken}
 use Rattle.apd_session.specs.Steps.{load_said}
 use Rattle.apd_talk.proofs.Speaking.{Says-less, Says-more}
 use Rattle.apd_session.proofs.notes.say_refusal.Goals as goal
 
-pub returns-in_err-say_loaded : goal.returns-in_err-say_loaded
-returns-in_err-say_loaded g c =
+pub returns-in-Ok : goal.returns-in-Ok
+returns-in-Ok g c =
     let loaded : Speech = λ ops names. load_said ops names c.args.program.now c.args.passed.now c.args.called.now in
-    let p = err_from_is_err_and c.from_residual.result c.from_residual.ensures.1 in rw (p.1, p.2) (Says-less loaded (one c.args.entry) _ _ _ c.in_err-say_loaded.ensures)
+    let said = rw c.in-Ok.is at c.say_loaded.ensures in
+    Says-more loaded (one c.args.entry) _ (spoken g.K.Sink c.say_loaded.new.log c.say_loaded.new.out) _ _ c.say.result said c.say.ensures
 
-pub returns : goal.returns
-returns g c =
+pub returns-in-Err : goal.returns-in-Err
+returns-in-Err g c =
     let loaded : Speech = λ ops names. load_said ops names c.args.program.now c.args.passed.now c.args.called.now in
-    Says-more loaded (one c.args.entry) _ (spoken g.K.Sink c.say_loaded.new.log c.say_loaded.new.out) _ _ c.say.result c.in_ok-say_loaded.ensures c.say.ensures
+    let said = rw c.in-Err.is at c.say_loaded.ensures in
+    Says-less loaded (one c.args.entry) _ _ c.in-Err.trouble said

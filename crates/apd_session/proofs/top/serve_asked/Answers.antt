@@ -1,7 +1,7 @@
 use Rattle.std.proofs.Common.{ap, refl}
 use Rattle.apd_session.proofs.Worlds.{met_tree}
 use Rattle.apd_session.specs.Known.{outside}
-use Rattle.apd_words.specs.Words.{OfTree, StandsAlone, Subject, asked_options, asked_subject}
+use Rattle.apd_words.specs.Words.{asked_options, asked_subject}
 use Rattle.apd_session.proofs.top.serve_asked.Goals as goal
 
 pub serve_file-requires-clause-subject : goal.serve_file-requires-clause-subject

@@ -5,17 +5,20 @@ use Rattle.apd_commands.specs.declared.commands.Command.TheVariants as command
 use Rattle.apd_session.specs.Diagnosing.{answered}
 use Rattle.apd_session.specs.Steps.{command_step}
 use Rattle.apd_session.proofs.Turning.{leads_broken}
-use Rattle.apd_talk.proofs.Speaking.{Says-none}
+use Rattle.apd_talk.proofs.Speaking.{Says-none, Says-ok}
 use Rattle.apd_talk.specs.Moment.{Moment, moment}
-use Rattle.apd_talk.specs.Speech.{spoken}
+use Rattle.apd_talk.specs.Speech.{one, spoken}
 use Rattle.apd_talk.specs.declared.talk.Next.{Next}
 use Rattle.apd_answers.proofs.Decided.{added-no}
 use Rattle.apd_debug.proofs.NamedTrees.{tree-named}
 use Rattle.apd_divide.specs.Recorded.{tree}
+use Rattle.apd_record.specs.Reading.{point_of}
+use Rattle.apd_term.specs.Term.{Term}
+use Rattle.apd_text.specs.declared.entry.Entry.TheVariants.{Symptom}
 use Rattle.apd_text.specs.declared.entry.Told.TheVariants.{Wrong}
 use Rattle.apd_wrong.specs.Wrong.{wrong}
 use Rattle.apd_session.specs.Steps.{by_wrong}
-use Rattle.apd_session.proofs.Symptoms.{head_is, label_named, labelled, point_below, refused_leads, run_named, symptom_breaks, symptom_leads, told-replies, wrong_begins, wrong_none, wrong_refused}
+use Rattle.apd_session.proofs.Symptoms.{head_labelled, head_named, refused_leads, run_named, symptom_breaks, symptom_leads, told-replies, wrong_begins, wrong_none, wrong_refused}
 use Rattle.apd_session.proofs.wrong.wrong.Goals as goal
 
 pub returns-in_default : goal.returns-in_default
@@ -40,72 +43,53 @@ returns-in-Err g c =
     (λ ops names. wrong_refused ops names c.args.state.now c.args.box_no c.args.exit c.in-Some.run' c.in-Err.refusal c.in-Some.is exit)
     c.requires.sound c.refuse-in-Err.result c.refuse-in-Err.ensures.says c.refuse-in-Err.ensures.goes c.requires.ready
 
-pub tuple-requires : goal.tuple-requires
-tuple-requires g c = point_below _ _ c.in-Ok.ensures.user.point c.in-Ok.ensures.user.there
+pub keep_wrong-requires-clause-named : goal.keep_wrong-requires-clause-named
+keep_wrong-requires-clause-named g c =
+    let user = rw c.in_ok-history.ensures at c.in-Ok.ensures.user in
+    rw c.in_ok-history.ensures (head_named (length c.args.log.now.names) c.args.state.now c.in-Some.run' c.in-Ok.exit.0 c.in-Some.is c.requires.ready.ready user)
 
 pub returns-in_err-label : goal.returns-in_err-label
 returns-in_err-label g c =
-    let p : Moment = moment g.S.Source g.K.Sink c.args.console.now c.args.input.now c.args.log.now c.args.out.now in
+    let atom : Term = (point_of c.in-Some.run'.history c.in-Ok.exit.0).tuple.head in
+    let exit = rw (to_z-of_z _ c.args.box_no c.ranges.box_no, to_z-of_z _ c.args.exit c.ranges.exit) at (rw c.in_ok-history.ensures at c.in-Ok.ensures.exit) in
     let e = err_from_is_err_and c.from_residual-in_err-label.result c.from_residual-in_err-label.ensures.1 in
     rw (e.1, e.2)
-    (leads_broken (λ ops names. command_step ops names c.args.state.now (command.Wrong c.args.box_no c.args.exit)) p p refl refl refl c.requires.sound {T = Next} c.args.state.now _
-    (Says-none {T = Next} (λ ops names. (command_step ops names c.args.state.now (command.Wrong c.args.box_no c.args.exit)).utterances) p.spoken p.spoken refl refl refl refl refl))
-
-pub returns-in_err-copy : goal.returns-in_err-copy
-returns-in_err-copy g c =
-    let p : Moment = moment g.S.Source g.K.Sink c.args.console.now c.args.input.now c.args.log.now c.args.out.now in
-    let e = err_from_is_err_and c.from_residual-in_err-copy.result c.from_residual-in_err-copy.ensures.1 in
-    rw (e.1, e.2)
-    (leads_broken (λ ops names. command_step ops names c.args.state.now (command.Wrong c.args.box_no c.args.exit)) p p refl refl refl c.requires.sound {T = Next} c.args.state.now _
-    (Says-none {T = Next} (λ ops names. (command_step ops names c.args.state.now (command.Wrong c.args.box_no c.args.exit)).utterances) p.spoken p.spoken refl refl refl refl refl))
-
-pub keep_symptom-requires : goal.keep_symptom-requires
-keep_symptom-requires g c =
-    let user = rw c.in_ok-history.ensures at c.in-Ok.ensures.user in
-    let label = label_named (length c.args.log.now.names) c.args.state.now c.in-Some.run' c.in-Ok.exit.0 user.point c.in_ok-label.field-0 c.in-Some.is c.requires.ready.ready user.there (rw user.there at (rw c.in_ok-history.ensures at c.in_ok-label.ensures)) in
-    rw c.in_ok-copy.ensures label
-
-pub returns-in_err-keep_symptom : goal.returns-in_err-keep_symptom
-returns-in_err-keep_symptom g c =
-    let user = rw c.in_ok-history.ensures at c.in-Ok.ensures.user in
-    let tuple = rw user.there at (rw c.in_ok-history.ensures at c.in_ok-label.ensures) in
-    let exit = rw (to_z-of_z _ c.args.box_no c.ranges.box_no, to_z-of_z _ c.args.exit c.ranges.exit) at (rw c.in_ok-history.ensures at c.in-Ok.ensures.exit) in
-    let head = head_is c.in-Some.run'.history c.in-Ok.exit.0 user.point c.in_ok-label.field-0 user.there tuple in
-    let e = err_from_is_err_and c.from_residual-in_err-keep_symptom.result c.from_residual-in_err-keep_symptom.ensures.1 in
-    rw (e.1, e.2)
-    (symptom_breaks by_wrong c.args.state.now (command.Wrong c.args.box_no c.args.exit) (Wrong c.in_ok-label.field-0.head) (tree c.in-Some.run'.history c.in-Ok.exit.0 c.in_ok-label.field-0.head) (λ ops names. wrong_begins ops names c.args.state.now c.args.box_no c.args.exit c.in-Some.run' c.in-Ok.exit.0 c.in_ok-label.field-0.head c.in-Some.is exit head)
-    (moment g.S.Source g.K.Sink c.args.console.now c.args.input.now c.args.log.now c.args.out.now) (spoken g.K.Sink c.keep_symptom.new.log c.keep_symptom.new.out) c.requires.sound _ _ (rw c.in_ok-copy.ensures at c.in_err-keep_symptom.ensures.says))
+    (symptom_breaks by_wrong c.args.state.now (command.Wrong c.args.box_no c.args.exit) (Wrong atom) (tree c.in-Some.run'.history c.in-Ok.exit.0 atom) (λ ops names. wrong_begins ops names c.args.state.now c.args.box_no c.args.exit c.in-Some.run' c.in-Ok.exit.0 atom c.in-Some.is exit refl)
+    (moment g.S.Source g.K.Sink c.args.console.now c.args.input.now c.args.log.now c.args.out.now) (spoken g.K.Sink c.keep_wrong.new.log c.keep_wrong.new.out) c.requires.sound _ _ (rw c.in_ok-history.ensures at c.in_err-label.ensures.says))
 
 pub diagnose-answer-requires-clause-labelled : goal.diagnose-answer-requires-clause-labelled
 diagnose-answer-requires-clause-labelled g c =
     let user = rw c.in_ok-history.ensures at c.in-Ok.ensures.user in
-    rw c.in_ok-history.ensures (labelled c.in-Some.run'.history c.in-Ok.exit.0 c.in_ok-label.field-0 user (rw user.there at (rw c.in_ok-history.ensures at c.in_ok-label.ensures)))
+    rw (c.in_ok-label.ensures.head, c.in_ok-history.ensures) (head_labelled c.in-Some.run'.history c.in-Ok.exit.0 user)
 
 pub diagnose-answer-requires-clause-symptom : goal.diagnose-answer-requires-clause-symptom
-diagnose-answer-requires-clause-symptom g c = rw (c.in_ok-keep_symptom.ensures.replies, c.in_ok-copy.ensures) (added-no c.args.state.now.replies c.in_ok-label.field-0.head)
+diagnose-answer-requires-clause-symptom g c =
+    let atom : Term = (point_of c.in-Some.run'.history c.in-Ok.exit.0).tuple.head in
+    rw (c.in_ok-label.ensures.head, c.in_ok-label.ensures.replies, c.in_ok-history.ensures) (added-no c.args.state.now.replies atom)
 
 pub diagnose-answer-requires-clause-replies : goal.diagnose-answer-requires-clause-replies
 diagnose-answer-requires-clause-replies g c =
-    rw (c.in_ok-keep_symptom.ensures.says.names, c.in_ok-keep_symptom.ensures.replies, c.in_ok-copy.ensures) (told-replies (length c.args.log.now.names) c.args.state.now.replies (Wrong c.in_ok-label.field-0.head) c.requires.ready.replies)
+    let atom : Term = (point_of c.in-Some.run'.history c.in-Ok.exit.0).tuple.head in
+    rw (c.in_ok-label.ensures.says.names, c.in_ok-label.ensures.replies, c.in_ok-history.ensures) (told-replies (length c.args.log.now.names) c.args.state.now.replies (Wrong atom) c.requires.ready.replies)
 
 pub diagnose-answer-requires-clause-named : goal.diagnose-answer-requires-clause-named
 diagnose-answer-requires-clause-named g c =
+    let atom : Term = (point_of c.in-Some.run'.history c.in-Ok.exit.0).tuple.head in
     let user = rw c.in_ok-history.ensures at c.in-Ok.ensures.user in
-    let label = label_named (length c.args.log.now.names) c.args.state.now c.in-Some.run' c.in-Ok.exit.0 user.point c.in_ok-label.field-0 c.in-Some.is c.requires.ready.ready user.there (rw user.there at (rw c.in_ok-history.ensures at c.in_ok-label.ensures)) in
     let n : ℕ = length c.args.log.now.names in
-    rw (c.in_ok-history.ensures, c.in_ok-keep_symptom.ensures.says.names) (tree-named n c.in-Some.run'.history c.in-Ok.exit.0 c.in_ok-label.field-0.head (run_named n c.args.state.now c.in-Some.run' c.in-Some.is c.requires.ready.ready) label)
+    let named = head_named n c.args.state.now c.in-Some.run' c.in-Ok.exit.0 c.in-Some.is c.requires.ready.ready user in
+    rw (c.in_ok-label.ensures.head, c.in_ok-history.ensures, c.in_ok-label.ensures.says.names) (tree-named n c.in-Some.run'.history c.in-Ok.exit.0 atom (run_named n c.args.state.now c.in-Some.run' c.in-Some.is c.requires.ready.ready) named)
 
 pub conclude-requires-clause-named : goal.conclude-requires-clause-named
 conclude-requires-clause-named g c = c.diagnose-answer.ensures.named c.args.state.now
 
 pub returns : goal.returns
 returns g c =
-    let user = rw c.in_ok-history.ensures at c.in-Ok.ensures.user in
-    let tuple = rw user.there at (rw c.in_ok-history.ensures at c.in_ok-label.ensures) in
+    let atom : Term = (point_of c.in-Some.run'.history c.in-Ok.exit.0).tuple.head in
     let exit = rw (to_z-of_z _ c.args.box_no c.ranges.box_no, to_z-of_z _ c.args.exit c.ranges.exit) at (rw c.in_ok-history.ensures at c.in-Ok.ensures.exit) in
-    let head = head_is c.in-Some.run'.history c.in-Ok.exit.0 user.point c.in_ok-label.field-0 user.there tuple in
-    symptom_leads by_wrong c.args.state.now (command.Wrong c.args.box_no c.args.exit) (Wrong c.in_ok-label.field-0.head) (tree c.in-Some.run'.history c.in-Ok.exit.0 c.in_ok-label.field-0.head) (λ ops names. wrong_begins ops names c.args.state.now c.args.box_no c.args.exit c.in-Some.run' c.in-Ok.exit.0 c.in_ok-label.field-0.head c.in-Some.is exit head)
-    (moment g.S.Source g.K.Sink c.args.console.now c.args.input.now c.args.log.now c.args.out.now) (spoken g.K.Sink c.keep_symptom.new.log c.keep_symptom.new.out) c.requires.sound (wrong c.args.state.now.strategy) refl
+    symptom_leads by_wrong c.args.state.now (command.Wrong c.args.box_no c.args.exit) (Wrong atom) (tree c.in-Some.run'.history c.in-Ok.exit.0 atom) (λ ops names. wrong_begins ops names c.args.state.now c.args.box_no c.args.exit c.in-Some.run' c.in-Ok.exit.0 atom c.in-Some.is exit refl)
+    (moment g.S.Source g.K.Sink c.args.console.now c.args.input.now c.args.log.now c.args.out.now) (spoken g.K.Sink c.keep_wrong.new.log c.keep_wrong.new.out) c.requires.sound (wrong c.args.state.now.strategy) refl
     _ (moment g.S.Source g.K.Sink c.diagnose-answer.new.console c.diagnose-answer.new.input c.diagnose-answer.new.log c.diagnose-answer.new.out) (spoken g.K.Sink c.conclude.new.log c.conclude.new.out)
-    (answered c.diagnose-answer.new.replies c.diagnose-answer.new.asked) c.diagnose-answer.result c.conclude.result (rw c.in_ok-copy.ensures at c.in_ok-keep_symptom.ensures.says)
-    (rw (c.in_ok-keep_symptom.ensures.replies, c.in_ok-copy.ensures) at (rw c.in_ok-history.ensures at c.diagnose-answer.ensures)) (rw c.get.ensures at c.conclude.ensures) c.requires.ready.ready
+    (answered c.diagnose-answer.new.replies c.diagnose-answer.new.asked) c.diagnose-answer.result c.conclude.result
+    (Says-ok (one (Symptom (Wrong atom))) _ _ c.in_ok-label.label (tt {0}) (rw c.in_ok-history.ensures at c.in_ok-label.ensures.says))
+    (rw (c.in_ok-label.ensures.head, c.in_ok-label.ensures.replies, c.in_ok-history.ensures) at c.diagnose-answer.ensures) (rw c.get.ensures at c.conclude.ensures) c.requires.ready.ready

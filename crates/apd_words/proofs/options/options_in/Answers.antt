@@ -1,5 +1,3 @@
-use Rattle.std.proofs.Common.{None, Some}
-use Rattle.std.specs.Prelude.{MatchOption}
 use Rattle.std.specs.Option.{option_map}
 use Rattle.clap.specs.Words.{found_of}
 use Rattle.apd_words.specs.Words.{asked_subject}

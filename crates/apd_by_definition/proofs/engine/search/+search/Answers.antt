@@ -1,22 +1,22 @@
-use Rattle.std.proofs.Common.{◌≡◌, ℕ, ◌+◌, ◌-◌, ◌<◌, ◌≤◌, List, length, drop, refl, sym, ap, ◌∙◌, subst, arith, get_or, Some}
+use Rattle.std.proofs.Common.{◌≡◌, ℕ, ◌+◌, ◌<◌, ◌≤◌, List, length, drop, refl, sym, ap, ◌∙◌, subst, arith, get_or, Some}
 use Rattle.std.proofs.lemmas.Result.{IfOk-weaker}
 use Rattle.std.specs.Prelude.{IfSome}
 use Rattle.apd_term.specs.declared.tuple.Tuple.{Tuple}
 use Rattle.apd_clauses.specs.Clauses.{clauses_for, tuples_of}
-use Rattle.apd_ports.specs.declared.event.Port.TheVariants.{Call, Exit, Redo, Fail}
+use Rattle.apd_ports.specs.declared.event.Port.TheVariants.{Call, Exit}
 use Rattle.apd_trace.specs.BuiltIn.{solution, solved}
 use Rattle.apd_trace.specs.Frames.{outer, entering, next_goal}
 use Rattle.apd_trace.specs.Renaming.{AreAlike, AreRenamed, IsBelow}
-use Rattle.apd_trace.specs.Trace.{Out, nothing, emit, and_then, at_port, again, closing, over, begun, tries, hand, succeeded, settled, search_from}
-use Rattle.apd_trace.specs.declared.frame.Look.TheVariants.{Goal, Exit as Exits, Answer as Answers}
-use Rattle.apd_trace.specs.declared.item.Item.TheVariants.{Made}
+use Rattle.apd_trace.specs.Trace.{Out, nothing, emit, and_then, at_port, again, closing, begun, tries, hand, succeeded, settled, turn, search_from}
+use Rattle.apd_trace.specs.declared.frame.Look.TheVariants.{Nothing, Goal, Exit as Exits, Answer as Answers}
+use Rattle.apd_trace.specs.declared.item.Item.TheVariants.{Answer}
 use Rattle.apd_by_definition.specs.Attempts.{solution_in, IsAttemptBelow}
-use Rattle.apd_by_definition.specs.Searched.{Makes, IsFull, out_of}
+use Rattle.apd_by_definition.specs.Searched.{Makes, IsFull, around, out_of}
 use Rattle.apd_engine.specs.Search.{AllWait, numbers_for}
 use Rattle.apd_by_definition.proofs.Growing.{search_grows, hand_grows, succeeded_grows, tries_grows, begun_grows, full_boxes, full_points}
 use Rattle.apd_engine.proofs.Numbered.{number_positive, number_within, number_among, number_runnable, numbers_count}
-use Rattle.apd_by_definition.proofs.PlainSearch.{makes_as, settled_as, makes_turn, emitted, followed, outer_below, succeeded_made, over_twice, and_then_at, advances_as, advances_full, advances_ends, advances_goes, passed_over, entered_as, entered_open, begun_goes, made_out, appended}
-use Rattle.apd_engine.proofs.Steps.{opened_at, goal_waits, outer_waits, drop_past, AllWait-more, begun_made}
+use Rattle.apd_by_definition.proofs.PlainSearch.{makes_as, settled_as, makes_turn, turn_as, outer_below, succeeded_around, and_then_at, advances_as, advances_full, advances_ends, advances_goes, passed_over, entered_as, entered_open, begun_behind, boxes_behind}
+use Rattle.apd_engine.proofs.Steps.{opened_at, goal_waits, outer_waits, drop_past, AllWait-more}
 use Rattle.apd_by_definition.proofs.engine.search.+search.Goals as goal
 
 pub search_from-returns-then-counts-eq4294967295 : goal.search_from-returns-then-counts-eq4294967295
@@ -37,13 +37,13 @@ succeeded-returns-then-counts-eq4294967295 t c =
     full_points c.args.counts.boxes c.args.counts.points (succeeded next c.args.g.now c.args.entered.now.frames c.args.counts.boxes c.args.counts.points) (omega arith)
     (succeeded_grows next (search_grows (tuples_of c.args.program.now) c.args.depth) c.args.g.now c.args.entered.now.frames c.args.counts.boxes c.args.counts.points)
 
-pub search_from-settled-requires : goal.search_from-settled-requires
-search_from-settled-requires t c =
-    let h = goal_waits c.args.place.now.frames c.args.counts.boxes c.in-Goal.g (sym c.in_ok-look.ensures ∙ c.in-Goal.is) c.requires.open in
+pub turn-settled-requires : goal.turn-settled-requires
+turn-settled-requires t c =
+    let h = goal_waits c.args.place.now.frames c.args.counts.boxes c.in-Goal.g (sym c.requires.look ∙ c.in-Goal.is) c.requires.open in
     (omega (arith, c.decreases), (c.requires.program, (h.0, (h.1, (c.requires.below, omega arith)))))
 
-pub search_from-hand-requires : goal.search_from-hand-requires
-search_from-hand-requires t c =
+pub turn-hand-requires : goal.turn-hand-requires
+turn-hand-requires t c =
     let around = c.in_ok-around-in-Exit in (
       omega (arith, c.decreases),
       (
@@ -58,36 +58,55 @@ search_from-hand-requires t c =
       ),
     )
 
-pub search_from-returns-in_ok-rest-in-Goal : goal.search_from-returns-in_ok-rest-in-Goal
-search_from-returns-in_ok-rest-in-Goal t c =
-    let P = tuples_of c.args.program.now in
-    let whole : Out = settled (search_from P (c.args.depth - 1)) (clauses_for c.in-Goal.g.atom P) c.args.place.now.frames c.in-Goal.g (solution c.args.place.now.frames c.in-Goal.g c.args.counts.points) (c.args.counts.boxes + 1) c.args.counts.points in
-    IfOk-weaker c.put_before.result _ _
-    (λ o h. makes_turn P c.args.depth c.args.place.now.frames c.args.counts.boxes c.args.counts.points c.in_ok-look.field-0 (Goal c.in-Goal.g) o (omega arith) c.in_ok-look.ensures c.in-Goal.is
-    (emitted o c.in_ok-call-in-Goal.call (at_port Call c.in-Goal.g) c.in_ok-rest-in-Goal.rest whole h c.in_ok-call-in-Goal.ensures c.in_ok-rest-in-Goal.ensures))
-    c.put_before.ensures
+pub search_from-returns : goal.search_from-returns
+search_from-returns t c =
+    IfOk-weaker c.turn.result _ _
+    (λ o h. makes_turn (tuples_of c.args.program.now) c.args.depth c.args.place.now.frames c.args.counts.boxes c.args.counts.points c.in_ok-look.look c.in_ok-look.look o (omega arith) c.in_ok-look.ensures refl h)
+    c.turn.ensures
 
-pub search_from-returns-in_ok-put_after-in-Exit : goal.search_from-returns-in_ok-put_after-in-Exit
-search_from-returns-in_ok-put_after-in-Exit t c =
+pub turn-returns-in-Nothing : goal.turn-returns-in-Nothing
+turn-returns-in-Nothing t c =
+    makes_as (Some c.no_item.result) (turn (search_from (tuples_of c.args.program.now) c.args.depth) (tuples_of c.args.program.now) c.args.look.now c.args.place.now.frames c.args.counts.boxes c.args.counts.points)
+    (nothing c.args.counts.boxes c.args.counts.points)
+    (turn_as (tuples_of c.args.program.now) c.args.depth c.args.place.now.frames c.args.counts.boxes c.args.counts.points c.args.look.now Nothing c.in-Nothing.is) c.no_item.ensures
+
+pub turn-returns-in_ok-rest-in-Goal : goal.turn-returns-in_ok-rest-in-Goal
+turn-returns-in_ok-rest-in-Goal t c =
     let P = tuples_of c.args.program.now in
-    let next = search_from P (c.args.depth - 1) in
     let F = c.args.place.now.frames in
     let n = c.args.counts.boxes in
     let m = c.args.counts.points in
-    let whole : Out = hand next (outer F) c.in-Exit.point n m in
-    let rest = c.in_ok-rest-in-Exit.rest in
-    let made : Makes rest whole = subst (λ G. Makes rest (hand next G c.in-Exit.point n m)) c.in_ok-around-in-Exit.ensures.frames c.in_ok-rest-in-Exit.ensures in
-    IfOk-weaker c.put_before-in-Exit.result _ _
-    (λ o h. makes_turn P c.args.depth F n m c.in_ok-look.field-0 (Exits c.in-Exit.g c.in-Exit.point) o (omega arith) c.in_ok-look.ensures c.in-Exit.is
-    (emitted o c.in_ok-exit-in-Exit.exit (at_port Exit c.in-Exit.g) c.in_ok-put_after-in-Exit.field-0 (and_then whole (again c.in-Exit.g)) h c.in_ok-exit-in-Exit.ensures
-    (followed c.in_ok-put_after-in-Exit.field-0 c.in_ok-redo-in-Exit.redo (at_port Redo c.in-Exit.g) rest whole c.in_ok-put_after-in-Exit.ensures c.in_ok-redo-in-Exit.ensures made)))
-    c.put_before-in-Exit.ensures
+    let g = c.in-Goal.g in
+    let next = search_from P c.args.depth in
+    let whole : Out = settled next (clauses_for g.atom P) F g (solution F g m) (n + 1) m in
+    IfOk-weaker c.port_before.result _ _
+    (λ o h. makes_as o (turn next P c.args.look.now F n m) (emit (at_port Call g) whole) (turn_as P c.args.depth F n m c.args.look.now (Goal g) c.in-Goal.is) (h whole c.in_ok-rest-in-Goal.ensures))
+    c.port_before.ensures
 
-pub search_from-returns-in-Answer : goal.search_from-returns-in-Answer
-search_from-returns-in-Answer t c =
-    IfOk-weaker c.one_item.result _ _
-    (λ o h. makes_turn (tuples_of c.args.program.now) c.args.depth c.args.place.now.frames c.args.counts.boxes c.args.counts.points c.in_ok-look.field-0 (Answers c.in-Answer.values) o (omega arith) c.in_ok-look.ensures c.in-Answer.is h)
-    c.one_item.ensures
+pub turn-returns-in_ok-rest-in-Exit : goal.turn-returns-in_ok-rest-in-Exit
+turn-returns-in_ok-rest-in-Exit t c =
+    let P = tuples_of c.args.program.now in
+    let F = c.args.place.now.frames in
+    let n = c.args.counts.boxes in
+    let m = c.args.counts.points in
+    let g = c.in-Exit.g in
+    let e = c.in-Exit.point in
+    let next = search_from P c.args.depth in
+    let rest = c.in_ok-rest-in-Exit.rest in
+    let made : Makes rest (hand next (outer F) e n m) = subst (λ G. Makes rest (hand next G e n m)) c.in_ok-around-in-Exit.ensures.frames c.in_ok-rest-in-Exit.ensures in
+    IfOk-weaker c.exit_around.result _ _
+    (λ o h. makes_as o (turn next P c.args.look.now F n m) (emit (at_port Exit g) (and_then (hand next (outer F) e n m) (again g))) (turn_as P c.args.depth F n m c.args.look.now (Exits g e) c.in-Exit.is) (h (hand next (outer F) e n m) made))
+    c.exit_around.ensures
+
+pub turn-returns-in-Answer : goal.turn-returns-in-Answer
+turn-returns-in-Answer t c =
+    let P = tuples_of c.args.program.now in
+    let F = c.args.place.now.frames in
+    let n = c.args.counts.boxes in
+    let m = c.args.counts.points in
+    IfOk-weaker c.answer_alone.result _ _
+    (λ o h. makes_as o (turn (search_from P c.args.depth) P c.args.look.now F n m) (emit (Answer c.in-Answer.values) (nothing n m)) (turn_as P c.args.depth F n m c.args.look.now (Answers c.in-Answer.values) c.in-Answer.is) h)
+    c.answer_alone.ensures
 
 pub settled-succeeded-requires : goal.settled-succeeded-requires
 settled-succeeded-requires t c =
@@ -133,23 +152,14 @@ succeeded-returns t c =
     let n = c.args.counts.boxes in
     let m = c.args.counts.points in
     let g = c.args.g.now in
-    let l = c.in_ok-left.left in
-    let e = c.in_ok-left.newest in
-    let whole : Out = hand next (outer F) e n (m + 1) in
-    let redone : Out = and_then whole (λ n' m'. emit (at_port Redo l) (nothing n' m')) in
-    let failed : Out = and_then redone (λ n' m'. emit (at_port Fail g) (nothing n' m')) in
+    let e = c.in-Some.newest in
     let rest = c.in_ok-rest.rest in
-    let made : Makes rest whole = subst (λ G. Makes rest (hand next G e n (m + 1))) c.in_ok-around.ensures.frames c.in_ok-rest.ensures in
-    let first : Makes c.in_ok-put_after.field-0 redone = followed c.in_ok-put_after.field-0 c.in_ok-redo.redo (at_port Redo l) rest whole c.in_ok-put_after.ensures c.in_ok-redo.ensures made in
-    let second : Makes c.in_ok-put_after-2.field-0 failed = followed c.in_ok-put_after-2.field-0 c.in_ok-fail.fail (at_port Fail g) c.in_ok-put_after.field-0 redone c.in_ok-put_after-2.ensures c.in_ok-fail.ensures first in
-    let third : Makes c.in_ok-whole.whole (emit (at_port Exit l) (and_then whole (over l g))) =
-    emitted c.in_ok-whole.whole c.in_ok-exit.exit (at_port Exit l) c.in_ok-put_after-2.field-0 (and_then whole (over l g)) c.in_ok-whole.ensures c.in_ok-exit.ensures
-    (makes_as c.in_ok-put_after-2.field-0 (and_then whole (over l g)) failed (sym (over_twice whole l g)) second) in
-    IfOk-weaker c.put_before-2.result _ _
-    (λ o h. makes_as o (succeeded next g F n m) (emit (Made c.in_ok-point.point) (emit (at_port Exit l) (and_then whole (over l g))))
-    (succeeded_made next g l e F n m c.in_ok-point.point (sym c.is_large.ensures ∙ c.if-is_large.false) c.in_ok-point.ensures c.in_ok-left.ensures)
-    (h (emit (at_port Exit l) (and_then whole (over l g))) third))
-    c.put_before-2.ensures
+    let made : Makes rest (hand next (outer F) e n (m + 1)) = subst (λ G. Makes rest (hand next G e n (m + 1))) c.in_ok-around.ensures.frames c.in_ok-rest.ensures in
+    IfOk-weaker c.success_around.result _ _
+    (λ o h. makes_as o (succeeded next g F n m) (around F g (hand next (outer F) e n (m + 1)))
+    (succeeded_around next g F n m c.in-Some._box_no e (sym c.newest.ensures ∙ c.in-Some.is) (sym c.is_large.ensures ∙ c.if-is_large.false))
+    (h (hand next (outer F) e n (m + 1)) made))
+    c.success_around.ensures
 
 pub tries-tried-requires : goal.tries-tried-requires
 tries-tried-requires t c =
@@ -179,11 +189,11 @@ tries-returns t c =
     let out = c.clauses.out in
     let count : length c.numbers-numbers.result.now ≡ length cs = ap length c.numbers-numbers.ensures ∙ sym (numbers_count g.atom c.args.program.now) in
     let past : length cs ≤ c.clauses.at = omega (arith, count, c.clauses-test.false) in
-    IfOk-weaker c.put_after.result _ _
+    IfOk-weaker c.port_after.result _ _
     (λ o h. makes_as o (tries next F g cs c.args.counts.boxes c.args.counts.points) (and_then (out_of out) (closing g))
     (c.clauses.invariant.made ∙ ap (λ (xs : List (ℕ × Tuple)). and_then (out_of out) (tries next F g xs)) (drop_past cs c.clauses.at past))
-    (followed o c.in_ok-event.field-0 (at_port Fail g) (Some out) (out_of out) h c.in_ok-event.ensures refl))
-    c.put_after.ensures
+    (h (out_of out) refl))
+    c.port_after.ensures
 
 pub tries-clauses-preserved : goal.tries-clauses-preserved
 tries-clauses-preserved t c =
@@ -300,18 +310,16 @@ begun-returns-then-out-clause-advances t c =
 pub begun-returns : goal.begun-returns
 begun-returns t c =
     let next = search_from (tuples_of c.args.program.now) c.args.depth in
-    let g = c.args.g.now in
     let F = c.args.entered.now.frames in
     let old = c.args.out.now in
     let rest = c.in-Some.rest in
-    let p = c.in_ok-point.point in
     let o : Out = next F old.counts.boxes (old.counts.points + 1) in
     let made : out_of rest ≡ o = subst (λ x. Makes x o) c.in-Some.is c.in_ok-rest.ensures in
     let boxes : rest.counts.boxes ≡ o.boxes = ap (λ (x : Out). x.boxes) made in
+    let after = c.in_ok-put_behind.ensures in
+    let behind : c.put_behind.new.out.counts.boxes ≡ rest.counts.boxes = boxes_behind (out_of old) (out_of c.put_behind.new.out) (out_of rest) F after in
     record {
       advances = λ others grows.
-          begun_goes (out_of old) (made_out c.append.new.self.items rest.counts.boxes rest.counts.points) o next g others F p
-          (begun_made next g others F old.counts.boxes old.counts.points p (sym c.is_large.ensures ∙ c.if-is_large.false) c.in_ok-point.ensures)
-          (appended (out_of old) (out_of rest) o (Made p) c.push_back-2.new.self.items c.append.new.self.items c.in_ok-append.ensures.items c.in_ok-push_back-2.ensures.items made);
-      boxes = λ goes. omega (arith, boxes, (search_grows (tuples_of c.args.program.now) c.args.depth F old.counts.boxes (old.counts.points + 1)).0);
+          begun_behind (out_of old) (out_of c.put_behind.new.out) (out_of rest) next c.args.g.now others F old.counts.boxes c.requires.open (sym c.is_large.ensures ∙ c.if-is_large.false) made after;
+      boxes = λ goes. omega (arith, boxes, behind, (search_grows (tuples_of c.args.program.now) c.args.depth F old.counts.boxes (old.counts.points + 1)).0);
     }

@@ -5,25 +5,28 @@ use Rattle.apd_by_definition.specs.Searched.{out_of}
 use Rattle.apd_by_definition.proofs.engine.search.+search.Given as goal
 
 abbrev pub decreases-search_from : goal.decreases-search_from
-decreases-search_from l = 5 * l.depth
+decreases-search_from l = 6 * l.depth
 
 abbrev pub decreases-begun : goal.decreases-begun
-decreases-begun l = 5 * l.depth + 1
+decreases-begun l = 6 * l.depth + 1
 
 abbrev pub decreases-hand : goal.decreases-hand
-decreases-hand l = 5 * l.depth + 1
+decreases-hand l = 6 * l.depth + 1
 
 abbrev pub decreases-tried : goal.decreases-tried
-decreases-tried l = 5 * l.depth + 2
+decreases-tried l = 6 * l.depth + 2
 
 abbrev pub decreases-succeeded : goal.decreases-succeeded
-decreases-succeeded l = 5 * l.depth + 2
+decreases-succeeded l = 6 * l.depth + 2
 
 abbrev pub decreases-tries : goal.decreases-tries
-decreases-tries l = 5 * l.depth + 3
+decreases-tries l = 6 * l.depth + 3
 
 abbrev pub decreases-settled : goal.decreases-settled
-decreases-settled l = 5 * l.depth + 4
+decreases-settled l = 6 * l.depth + 4
+
+abbrev pub decreases-turn : goal.decreases-turn
+decreases-turn l = 6 * l.depth + 5
 
 abbrev pub invariant-tries-clauses : goal.invariant-tries-clauses
 invariant-tries-clauses l = record {

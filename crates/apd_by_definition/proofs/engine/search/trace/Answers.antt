@@ -26,6 +26,6 @@ returns c =
     let P = tuples_of c.args.program.now in
     let F = c.in_ok-of_query.field-0 in
     let searched = c.in-Some.searched in
-    trace_made P c.args.query.now F c.in_ok-of_query.ensures c.args.depth c.in_ok-point.point c.in_ok-items.items.items c.push_front.new.self.items (out_of searched) c.in_ok-point.ensures
+    trace_made P c.args.query.now F c.in_ok-of_query.ensures c.args.depth c.in_ok-items.items.items (out_of searched)
     (subst (λ o. Makes o (search_from P c.args.depth F 0 1)) c.in-Some.is c.in_ok-searched.ensures)
-    c.in_ok-items.ensures c.in_ok-push_front.ensures.items
+    c.in_ok-items.ensures

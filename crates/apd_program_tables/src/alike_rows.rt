@@ -118,6 +118,20 @@ fn has_all(
     )
 }
 
+/// Whether two loads of a text are one.
+fn is_one(
+    alloc: Global,
+    scene: &Scene,
+    given: &Result<Loaded, LoadText>,
+    plain: &Result<Plain, LoadText>,
+) -> Result<bool, AllocError> {
+    match (given, plain) {
+        (Err(fault), Err(other)) => Ok(fault == other),
+        (Ok(loaded), Ok(plain)) => has_all(alloc, scene, loaded, plain),
+        _ => Ok(false),
+    }
+}
+
 /// Whether the plain program makes the same of a text.
 pub fn is_alike(
     alloc: Global,
@@ -126,9 +140,9 @@ pub fn is_alike(
     given: &Result<Loaded, LoadText>,
 ) -> Result<bool, AllocError> {
     let mut names = Names::standard(alloc)?;
-    match (given, plain_load(alloc, &mut names, text)) {
-        (Err(fault), Err(other)) => Ok(*fault == other),
-        (Ok(loaded), Ok(plain)) => has_all(alloc, scene, loaded, &plain),
-        _ => Ok(false),
-    }
+    let plain = plain_load(alloc, &mut names, text);
+    drop(names);
+    let alike = is_one(alloc, scene, given, &plain);
+    drop(plain);
+    alike
 }

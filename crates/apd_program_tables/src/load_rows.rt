@@ -8,6 +8,7 @@ use apd_load::{LoadCause, LoadText, Loaded, Note, load, query_warnings};
 use apd_rows::{Builder, MOST_ROW_NAMES, Scene, Trial};
 use apd_term::Flat;
 use std::alloc::Global;
+use std::boxed::Box;
 
 /// What a text makes, from the names of the scene.
 pub fn loaded(alloc: Global, scene: &mut Scene, text: &[u8]) -> Result<Loaded, LoadText> {
@@ -57,14 +58,16 @@ fn put_loaded(given: &mut Builder, scene: &Scene, loaded: &Loaded) {
 /// Adds how many clauses a text has, and its notes; or why it is refused. The plain program makes the same of it.
 fn put_load_of(given: &mut Builder, scene: &mut Scene, text: &[u8]) -> Option<()> {
     let found = loaded(given.alloc, scene, text);
-    if !is_alike(given.alloc, scene, text, &found).ok()? {
+    let alike = is_alike(given.alloc, scene, text, &found).ok();
+    if alike == Some(false) {
         given.put("another load than the plain program's: ");
     }
     match &found {
         Ok(loaded) => put_loaded(given, scene, loaded),
         Err(fault) => put_refusal(given, scene, *fault),
     }
-    Some(())
+    drop(found);
+    alike.map(|_| ())
 }
 
 /// Gives what the row's text is loaded as.
@@ -92,9 +95,9 @@ pub fn put_long_load(trial: &mut Trial) -> Option<()> {
 }
 
 /// The program that the row's first field is.
-pub fn program_of(trial: &mut Trial) -> Option<Program> {
+pub fn program_of(trial: &mut Trial) -> Option<Box<Program>> {
     match loaded(trial.alloc, &mut trial.scene, trial.row.bytes(0)) {
-        Ok(loaded) => Some(loaded.program),
+        Ok(loaded) => Box::new(trial.alloc, loaded.program).ok(),
         Err(_) => None,
     }
 }

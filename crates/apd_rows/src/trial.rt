@@ -9,6 +9,7 @@ use crate::scene::Scene;
 use apd_causes::Read;
 use apd_term::{Flat, Pred, Tuple};
 use std::alloc::{AllocError, Global};
+use std::boxed::Box;
 
 /// A row that is tried, with its names and operators and what it has given so far.
 #[derive(Drop)]
@@ -36,14 +37,14 @@ fn sides_of(alloc: Global, term: &Flat) -> Result<Sides, AllocError>
 
 impl Trial {
     /// The row with the standard names and operators, before it gives anything.
-    pub fn new(alloc: Global, row: Row) -> Result<Trial, AllocError> {
-        let scene = Scene::new(alloc)?;
-        Ok(Trial {
+    pub fn new(alloc: Global, row: Row) -> Result<Box<Trial>, AllocError> {
+        let trial = Trial {
             alloc,
-            scene,
+            scene: Scene::new(alloc)?,
             row,
             given: Builder::new(alloc),
-        })
+        };
+        Ok(Box::new(alloc, trial)?)
     }
 
     /// Has the operators hold that the first field names.

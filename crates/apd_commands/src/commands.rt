@@ -1,4 +1,5 @@
-// What a line asks for in a command's place.
+//! What a line asks for in a command's place.
+
 ghost use Rattle.std.specs.Prelude.{◌≡◌, ◌≢◌, ◌<◌, ◌≤◌, ℕ, length, slice_get, IfOk, OnOk};
 ghost use Rattle.apd_term.specs.Named.{IsNamed};
 ghost use Rattle.apd_clauses.specs.Queries.{IsQueryTerm, query_from};

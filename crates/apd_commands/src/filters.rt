@@ -1,4 +1,5 @@
-// The filter that a command tells.
+//! The filter that a command tells.
+
 ghost use Rattle.std.specs.Prelude.{ℕ, ◌≡◌, ◌<◌, length, IfOk};
 ghost use Rattle.apd_term.specs.Named.{IsNamed};
 ghost use Rattle.apd_term.specs.Term.{arguments};

@@ -1,4 +1,5 @@
-// Lines from a source, and bytes to a sink.
+//! Lines from a source, and bytes to a sink.
+
 ghost use Rattle.std.specs.Prelude.{◌≡◌, ◌≢◌, ◌==◌, ◌≤◌, ◌<◌, ◌++◌, List, ℕ, [], ◌∷◌, drop, take, length, true, false, nat_eq, IfOk, IfErr, OnOk, OnErr, IsErrOf, MatchResult, MatchOption};
 ghost use Rattle.apd_io.specs.Outside.{Counts, Takes, Adds, IsOver};
 ghost use Rattle.apd_console.specs.Lines.{HasNewline, NoNewline};

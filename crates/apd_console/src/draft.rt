@@ -1,4 +1,5 @@
-// A line while its bytes come in.
+//! A line while its bytes come in.
+
 ghost use Rattle.std.specs.Prelude.{◌≡◌, ◌≤◌, ◌<◌, ◌++◌, List, ℕ, [], length, IfOk, OnOk, true, false};
 ghost use Rattle.apd_base.specs.declared.limits.TheConstants.{MAX_LINE};
 

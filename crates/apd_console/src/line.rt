@@ -1,4 +1,5 @@
-// A line of the input, and why there is none.
+//! A line of the input, and why there is none.
+
 use apd_base::Text;
 
 /// A line of the input.

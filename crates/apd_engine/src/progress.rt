@@ -1,11 +1,13 @@
 //! A run on the way: it passes its items one by one, up to its limits.
 
-ghost use Rattle.std.specs.Prelude.{◌≡◌, ◌<◌, ◌≤◌, MatchOption, IfNone, IfOk, IfErr};
+ghost use Rattle.std.specs.Prelude.{◌≡◌, ◌<◌, ◌≤◌, Some, MatchOption, IfNone, IfOk, IfErr};
 ghost use Rattle.apd_base.specs.Counts.{Counts};
 ghost use Rattle.apd_base.specs.declared.limits.TheConstants.{MOST_SHOWN};
 ghost use Rattle.apd_clauses.specs.Clauses.{IsProgram, IsRunnable, tuples_of};
 ghost use Rattle.apd_record.specs.Recorded.{query_point};
+ghost use Rattle.apd_ports.specs.declared.point.Point.{Point};
 ghost use Rattle.apd_trace.specs.Run.{shown_of};
+ghost use Rattle.apd_trace.specs.declared.item.Item.TheVariants.{Made};
 ghost use Rattle.apd_engine.specs.Cut.{IsCut, is_write_fault};
 ghost use Rattle.apd_engine.specs.Progress.{Course, HasEnded, IsOn, at_first, items_left};
 
@@ -81,6 +83,16 @@ impl Progress {
         }
     }
 
+    /// The point that an item makes is held back.
+    fn hold(&mut self, item: Box<Item>)
+        ensures { (point : Point) → item.value ≡ Made point
+            → self.new ≡ record self.old { held = Some point } }
+    {
+        if let Item::Made(point) = Box::into_inner(item) {
+            self.held = Some(point);
+        }
+    }
+
     /// Passes the next item; or tells how the run ended, where it passes no more after this.
     fn pass<H: Hook>(
         &mut self,
@@ -114,23 +126,23 @@ impl Progress {
             return Ok(Some(self.ended(RunEnd::Exhausted)));
         };
         match given {
-            Given::Whole(item) => match Box::into_inner(item) {
-                Item::Made(point) => {
-                    self.held = Some(point);
+            Given::Whole(item) => match &*item {
+                Item::Made(_) => {
+                    self.hold(item);
                     Ok(None)
                 }
-                Item::Error(error, at) => Ok(Some(self.ended(RunEnd::Error(error, at)))),
+                Item::Error(error, at) => Ok(Some(self.ended(RunEnd::Error(*error, *at)))),
                 Item::Passed(event) => {
                     if self.ports == limits.budget {
                         return Ok(Some(self.ended(RunEnd::Budget)));
                     }
                     let from = self.search.newest();
-                    show_port(hook, history, &mut self.held, &event, from)?;
+                    show_port(hook, history, &mut self.held, event, from)?;
                     self.ports += 1;
                     Ok(None)
                 }
                 Item::Answer(values) => {
-                    show_answer(hook, history, &mut self.held, &values)?;
+                    show_answer(hook, history, &mut self.held, values)?;
                     self.answered += 1;
                     if self.answered == limits.answers {
                         return Ok(Some(self.ended(RunEnd::AnswerLimit)));

@@ -1,4 +1,5 @@
-// The calls on something in memory: those of given numbers fail.
+//! The calls on something in memory: those of given numbers fail.
+
 ghost use Rattle.std.specs.Prelude.{◌≡◌, ◌≤◌};
 ghost use Rattle.apd_io.specs.Outside.{risen};
 

@@ -1,3 +1,5 @@
+//! The files of a runtime.
+
 ghost use Rattle.std.specs.Prelude.{◌≡◌, ◌<◌, ◌≤◌, ℕ, take, length, IfOk, IfErr, OnOk, IfSome, None, if◌then◌else◌};
 ghost use Rattle.std.specs.Io.KnownBytes.{Consumes, IsAtEnd};
 ghost use Rattle.apd_io.specs.Memory.{is_failed};

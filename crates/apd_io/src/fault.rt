@@ -1,4 +1,5 @@
-// The errors of the outside.
+//! The errors of the outside.
+
 use thiserror::Error;
 
 /// A read or a write that failed. The count of faults of its source or sink rose.

@@ -1,3 +1,5 @@
+//! Files in memory.
+
 ghost use Rattle.std.specs.Prelude.{◌≡◌, ◌↔◌, ◌⊎◌, [], ◌<◌, ◌≤◌, ◌||◌, length, IfOk, IfErr, IsErrOf, OnErr, OnOk, IsTrue, MatchOption, None, Some, is_none, ◌≢◌, List, ℕ};
 ghost use Rattle.apd_io.specs.Memory.{Shelf, is_due, called, uncalled, content_of, is_failed, IsPlaceOf};
 ghost use Rattle.apd_io.specs.Outside.{Counts, is_load_fault, Tells, TellsLong};

@@ -1,3 +1,5 @@
+//! A sink in memory.
+
 ghost use Rattle.std.specs.Prelude.{◌≡◌, ◌↔◌, ◌-◌, ◌<◌, ◌≤◌, ◌++◌, ◌||◌, [], take, length, min, nat_le, IfOk, OnErr, IsErr, IsTrue, true, Some, vec_capacity};
 ghost use Rattle.std.specs.Result.{is_err};
 ghost use Rattle.apd_io.specs.Outside.{Counts};

@@ -1,3 +1,5 @@
+//! A source in memory.
+
 ghost use Rattle.std.specs.Prelude.{◌≡◌, ◌↔◌, ◌<◌, ◌≤◌, ◌++◌, [], drop, take, length, min, IfOk, OnErr, IsErr, IsTrue, true, Some};
 ghost use Rattle.std.specs.Result.{is_err};
 ghost use Rattle.apd_io.specs.Outside.{Counts};

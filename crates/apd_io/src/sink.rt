@@ -1,3 +1,5 @@
+//! Where bytes are written to.
+
 ghost use Rattle.std.specs.Prelude.{◌≡◌, ◌<◌, ◌≤◌, List, ℕ, length, take, true, IfOk, OnErr, Option};
 ghost use Rattle.apd_io.specs.Outside.{Adds};
 

@@ -1,3 +1,5 @@
+//! A sink over a writer of the standard library.
+
 ghost use Rattle.std.specs.Prelude.{◌≡◌, ◌<◌, ◌≤◌, ℕ, take, length, true, IfOk, OnErr, IfSome, None, if◌then◌else◌};
 ghost use Rattle.std.specs.Option.{IfNone};
 ghost use Rattle.std.specs.Result.{is_err};

@@ -1,4 +1,5 @@
-// The elements of a list.
+//! The elements of a list.
+
 ghost use Rattle.std.specs.Prelude.{◌≡◌, ◌↔◌, IsTrue, IfOk};
 ghost use Rattle.apd_term.specs.declared.standard.TheConstants as names;
 ghost use Rattle.apd_term.specs.declared.term.Sym.TheVariants as symbols;

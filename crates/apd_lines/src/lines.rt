@@ -1,4 +1,5 @@
-// What is read of a line: no clause, or the one that it holds.
+//! What is read of a line: no clause, or the one that it holds.
+
 ghost use Rattle.std.specs.Prelude.{◌≡◌, ◌≢◌, ◌<◌, ◌≤◌, ◌+◌, List, ℕ, length, IfOk, OnOk, Ok};
 ghost use Rattle.apd_read.specs.Reader.{Reader};
 ghost use Rattle.apd_term.specs.Growth.{GrowsBy};

@@ -1,3 +1,5 @@
+//! Operators, and why one isn't defined.
+
 ghost use Rattle.std.specs.Prelude.{◌≡◌, IsTrue, ◌↔◌};
 ghost use Rattle.apd_ops.specs.Operators.{left_of, right_of, is_prefix_kind, groups_right, groups_left, IsPrefix};
 

@@ -1,3 +1,5 @@
+//! The operators of the standard.
+
 ghost use Rattle.std.specs.Prelude.{◌≡◌, IfOk};
 ghost use Rattle.apd_ops.specs.Standard.{standard_prefixes, standard_infixes};
 

@@ -1,3 +1,5 @@
+//! The table of operators.
+
 ghost use Rattle.std.specs.Prelude.{◌≡◌, ◌≢◌, Ok, Err, ◌≤◌, nat_eq, IfErr, OnOk, OnErr, IfOk, IsTrue, ◌↔◌};
 ghost use Rattle.std.specs.List.{list_any, IsDistinct};
 ghost use Rattle.std.specs.Map.{keys_of};

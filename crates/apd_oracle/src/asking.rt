@@ -1,4 +1,5 @@
-// A question that is asked, and the lines that are heard till one is a reply.
+//! A question that is asked, and the lines that are heard till one is a reply.
+
 ghost use Rattle.std.specs.Prelude.{◌≡◌, ◌<◌, ◌≤◌, length, IfOk, IfSome, OnOk};
 ghost use Rattle.apd_answers.specs.Oracle.{asking};
 ghost use Rattle.apd_answers.specs.Questions.{FitsAsked};

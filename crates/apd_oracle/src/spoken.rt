@@ -1,4 +1,5 @@
-// What a line says in the place of a reply.
+//! What a line says in the place of a reply.
+
 ghost use Rattle.std.specs.Prelude.{◌≡◌, IfOk};
 ghost use Rattle.apd_oracle.specs.Replies.{reply_spoken, spoken_of, term_spoken, told};
 

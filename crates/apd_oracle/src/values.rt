@@ -1,4 +1,5 @@
-// Whether values fit a question.
+//! Whether values fit a question.
+
 ghost use Rattle.std.specs.Prelude.{◌≡◌, IfOk};
 ghost use Rattle.apd_oracle.specs.Replies.{values_spoken};
 

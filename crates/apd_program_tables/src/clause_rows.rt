@@ -1,7 +1,9 @@
 //! What is made of clauses, and what their predicates are.
 
 use apd_causes::BodyFault;
-use apd_clauses::{Clause, Program, clause_of, goals_of, is_clause, is_runnable, kind_of};
+use apd_clauses::{
+    AddFault, Clause, Program, clause_of, goals_of, is_clause, is_runnable, kind_of,
+};
 use apd_rows::{Builder, Scene, Sides, Trial};
 use apd_term::standard::NECK;
 use apd_term::{Atoms, Flat, Pred, Tuple};
@@ -133,30 +135,34 @@ pub fn put_runnable(trial: &mut Trial) -> Option<()> {
     Some(())
 }
 
-/// Adds a clause of the head and the goal to a program, and what is said of that.
-fn add(alloc: Global, program: &mut Program, sides: &Sides) -> Option<Builder> {
-    let mut said = Builder::new(alloc);
+/// Adds a clause of the head and the goal to a program; none where they make no clause.
+fn add(alloc: Global, program: &mut Program, sides: &Sides) -> Option<Result<u32, AddFault>> {
     let tuple = tuple_of(alloc, sides, 1).ok()?;
     if !is_clause(&tuple) {
         return None;
     }
-    said.put_debug(&program.add(Clause { tuple, line: 1 }));
-    Some(said)
+    Some(program.add(Clause { tuple, line: 1 }))
+}
+
+/// Adds a clause to a program so many times, and gives what is said of the last one, and how many clauses there are then.
+fn put_filling(given: &mut Builder, sides: &Sides, count: u32) -> Option<()> {
+    let mut program = Program::new(given.alloc);
+    for added in 1..=count {
+        let said = add(given.alloc, &mut program, sides)?;
+        if added == count {
+            given.put_debug(&said);
+        }
+    }
+    given.put(", ");
+    given.put_shown(&program.count());
+    given.put(" clauses");
+    Some(())
 }
 
 /// Gives what adding a clause so many times gives at the end, and how many clauses there are then.
 pub fn put_filled(trial: &mut Trial) -> Option<()> {
     let sides = trial.sides(0)?;
-    let mut program = Program::new(trial.alloc);
-    let mut last = Builder::new(trial.alloc);
-    for _ in 0..trial.row.number(1) {
-        last = add(trial.alloc, &mut program, &sides)?;
-    }
-    trial.given.put_bytes(last.bytes());
-    trial.given.put(", ");
-    trial.given.put_shown(&program.count());
-    trial.given.put(" clauses");
-    Some(())
+    put_filling(&mut trial.given, &sides, trial.row.number(1))
 }
 
 /// Gives what the predicates of a name are, with no argument and with 1 to 9.

@@ -11,7 +11,7 @@ use std::alloc::Global;
 use std::boxed::Box;
 
 /// What a text makes, from the names of the scene.
-pub fn loaded(alloc: Global, scene: &mut Scene, text: &[u8]) -> Result<Loaded, LoadText> {
+fn loaded(alloc: Global, scene: &mut Scene, text: &[u8]) -> Result<Loaded, LoadText> {
     if text.len() > MAX_FILE || scene.names.count() > MOST_ROW_NAMES {
         return Err(LoadText::Memory);
     }
@@ -94,12 +94,10 @@ pub fn put_long_load(trial: &mut Trial) -> Option<()> {
     put_load_of(&mut trial.given, &mut trial.scene, text.bytes())
 }
 
-/// The program that the row's first field is.
-pub fn program_of(trial: &mut Trial) -> Option<Box<Program>> {
-    match loaded(trial.alloc, &mut trial.scene, trial.row.bytes(0)) {
-        Ok(loaded) => Box::new(trial.alloc, loaded.program).ok(),
-        Err(_) => None,
-    }
+/// What the row's first field is loaded as.
+fn loaded_of_row(trial: &mut Trial) -> Option<Box<Loaded>> {
+    let loaded = loaded(trial.alloc, &mut trial.scene, trial.row.bytes(0)).ok()?;
+    Box::new(trial.alloc, loaded).ok()
 }
 
 /// Gives what there is to warn of the goals of a term.
@@ -112,9 +110,9 @@ fn put_warnings(trial: &mut Trial, program: &Program, asked: &Flat) -> Option<()
 
 /// Gives what there is to warn of the goals of a query over a program.
 pub fn put_warned(trial: &mut Trial) -> Option<()> {
-    let program = program_of(trial)?;
+    let loaded = loaded_of_row(trial)?;
     let asked = trial.term(1)?;
-    put_warnings(trial, &program, &asked)
+    put_warnings(trial, &loaded.program, &asked)
 }
 
 /// Gives the line, the head and the goals of each clause by number.
@@ -131,9 +129,9 @@ fn put_clauses(trial: &mut Trial, program: &Program) {
 
 /// Gives the clauses of a program by number, and the numbers of those of an atom's predicate.
 pub fn put_program(trial: &mut Trial) -> Option<()> {
-    let program = program_of(trial)?;
+    let loaded = loaded_of_row(trial)?;
     let pred = trial.pred(1)?;
-    put_clauses(trial, &program);
-    trial.given.put_debug(&program.clauses_of(pred));
+    put_clauses(trial, &loaded.program);
+    trial.given.put_debug(&loaded.program.clauses_of(pred));
     Some(())
 }

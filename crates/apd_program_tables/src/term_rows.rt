@@ -140,17 +140,27 @@ fn with_eight(alloc: Global, tuple: &Tuple) -> Result<Tuple, AllocError> {
     apply_tuple(alloc, tuple, &eight)
 }
 
+/// Gives the clause's instance with 8 for the second variable.
+fn put_with_eight(trial: &mut Trial, tuple: &Tuple) -> Option<()> {
+    let instance = with_eight(trial.alloc, tuple).ok()?;
+    trial.put_tuple(&instance);
+    Some(())
+}
+
+/// Gives the clause with variables numbered anew, and the instance of that.
+fn put_numbered(trial: &mut Trial, tuple: &Tuple) -> Option<()> {
+    let numbered = canonical_tuple(trial.alloc, tuple).ok()?;
+    trial.put_tuple(&numbered);
+    trial.given.put(": ");
+    put_with_eight(trial, &numbered)
+}
+
 /// Gives the size of the clause on the right side, its form with variables numbered anew, and its instance with 8 for 2.
 pub fn put_tuple(trial: &mut Trial) -> Option<()> {
     let tuple = tuple_of_row(trial)?;
-    let numbered = canonical_tuple(trial.alloc, &tuple).ok()?;
-    let instance = with_eight(trial.alloc, &numbered).ok()?;
     trial.given.put_shown(&tuple.size());
     trial.given.put(": ");
-    trial.put_tuple(&numbered);
-    trial.given.put(": ");
-    trial.put_tuple(&instance);
-    Some(())
+    put_numbered(trial, &tuple)
 }
 
 /// The bytes as a list of numbers, pushed one by one, with 1 and 5 behind.

@@ -51,16 +51,20 @@ pub fn put_deep_value(trial: &mut Trial) -> Option<()> {
     Some(())
 }
 
-/// Gives whether a ground atom of a built-in goal is true.
-pub fn put_truth(trial: &mut Trial) -> Option<()> {
-    let atom = trial.term(0)?;
-    if !atom.is_ground() || Builtin::of_atom(&atom).is_none() {
+fn put_truth_of(given: &mut Builder, atom: &Flat) -> Option<()> {
+    if !atom.is_ground() || Builtin::of_atom(atom).is_none() {
         return None;
     }
-    trial.given.put(match truth(trial.alloc, &atom).ok()? {
+    given.put(match truth(given.alloc, atom).ok()? {
         Some(true) => "true",
         Some(false) => "false",
         None => "a fault",
     });
     Some(())
+}
+
+/// Gives whether a ground atom of a built-in goal is true.
+pub fn put_truth(trial: &mut Trial) -> Option<()> {
+    let atom = trial.term(0)?;
+    put_truth_of(&mut trial.given, &atom)
 }

@@ -1,7 +1,8 @@
-// The record of a run, which is made when it is first asked for.
-//
-// A run is what its program, its query and its limits make it. So its query is run again, and shown to nobody: as in other
-// declarative debuggers (MacLarty and Somogyi 2006), a run that isn't diagnosed costs no record.
+//! The record of a run, which is made when it is first asked for.
+//!
+//! A run is what its program, its query and its limits make it. So its query is run again, and shown to nobody: as in other
+//! declarative debuggers (MacLarty and Somogyi 2006), a run that isn't diagnosed costs no record.
+
 ghost use Rattle.std.specs.Prelude.{◌≡◌, IfOk};
 ghost use Rattle.apd_clauses.specs.Clauses.{MayRun};
 ghost use Rattle.apd_words.specs.Words.{AreLimits};

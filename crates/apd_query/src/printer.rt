@@ -1,4 +1,5 @@
-// What a run is shown to: a printer of its lines.
+//! What a run is shown to: a printer of its lines.
+
 ghost use Rattle.std.specs.Prelude.{◌≡◌};
 ghost use Rattle.apd_io.specs.Outside.{Counts};
 ghost use Rattle.apd_ports.specs.Hook.{is_write_fault};

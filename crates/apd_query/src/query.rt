@@ -1,4 +1,5 @@
-// The run of a query.
+//! The run of a query.
+
 ghost use Rattle.std.specs.Prelude.{◌≡◌, ◌<◌, ◌≤◌, [], ◌∷◌, length, OnOk, OnErr, IfOk};
 ghost use Rattle.apd_clauses.specs.Clauses.{MayRun};
 ghost use Rattle.apd_console.specs.Print.{AddsFront};

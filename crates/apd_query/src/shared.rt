@@ -1,4 +1,5 @@
-// A program that several keep.
+//! A program that several keep.
+
 ghost use Rattle.std.specs.Prelude.{◌≡◌, IfOk};
 
 use apd_clauses::Program;

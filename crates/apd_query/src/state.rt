@@ -1,3 +1,5 @@
+//! What a session keeps from line to line.
+
 use crate::history::History;
 use crate::shared::SharedProgram;
 use apd_answers::Answers;

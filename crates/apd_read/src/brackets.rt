@@ -1,3 +1,5 @@
+//! The brackets of a clause, and the items in them.
+
 ghost use Rattle.std.specs.Prelude.{◌≡◌, ◌<◌, ◌+◌, ◌^◌, length, IfOk, OnOk, MatchResult, Some, None, [], ◌∷◌, IsTrue, ◌↔◌};
 ghost use Rattle.apd_read.specs.Reading.{Reads};
 ghost use Rattle.apd_read.specs.Stack.{closed};

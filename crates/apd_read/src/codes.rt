@@ -1,3 +1,5 @@
+//! The codes of the characters of a text.
+
 ghost use Rattle.std.specs.Prelude.{◌≡◌, ◌+◌, ◌*◌, ◌-◌, ◌≤◌, IfOk};
 ghost use Rattle.std.specs.Str.{chars, chars_after, continuation_len, lead_bits};
 

@@ -1,3 +1,5 @@
+//! Operators that wait for their operand on the right.
+
 ghost use Rattle.std.specs.Prelude.{◌≡◌, IfOk};
 ghost use Rattle.apd_read.specs.Stack.{operator_of, done_of, top_of, place_of, closed, reduced, PutsPrefix, PutsInfix};
 

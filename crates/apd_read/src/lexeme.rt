@@ -1,3 +1,5 @@
+//! A token of a clause by what it stands for.
+
 use apd_base::Ids;
 use apd_term::NameId;
 

@@ -1,3 +1,5 @@
+//! The tokens of a clause by what they stand for.
+
 ghost use Rattle.std.specs.Prelude.{◌≡◌, ◌+◌, ◌-◌, ◌<◌, ◌≤◌, length, slice_range, IfOk, drop, ℕ, List};
 ghost use Rattle.apd_token.specs.Grammar.{IsTokenOf, HasTokens, HasText, ContentOf};
 ghost use Rattle.apd_term.specs.Growth.{GrowsBy};

@@ -1,3 +1,5 @@
+//! Terms that were read, with how deep they are.
+
 ghost use Rattle.std.specs.Prelude.{◌≡◌, ◌<◌, ◌≤◌, length, IfOk, max, map};
 ghost use Rattle.apd_term.specs.Term.{compound, terms_of, more, none};
 ghost use Rattle.apd_read.specs.Phrases.{atom, leaf, too_deep, raised, highest, terms_in, unary, binary, enclosed, braced, call, list_term, listing};

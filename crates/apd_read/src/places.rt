@@ -1,3 +1,5 @@
+//! What begins in operand place, and what goes on in operator place.
+
 ghost use Rattle.std.specs.Prelude.{◌≡◌, ◌+◌, ◌<◌, IfOk, slice_get, ◌-ℤ◌, pos, ◌≤◌, ◌^◌};
 ghost use Rattle.apd_term.specs.Term.{integer};
 ghost use Rattle.apd_read.specs.Phrases.{list_term, atom};

@@ -1,3 +1,5 @@
+//! The reading of a clause.
+
 ghost use Rattle.std.specs.Prelude.{◌≡◌, ◌+◌, ◌-◌, ◌*◌, ◌<◌, ◌≤◌, ℕ, length, List, ◌++◌, Some, IfOk, IfErr, slice_get, Result, ◌↔◌};
 ghost use Rattle.apd_term.specs.Term.{size, Occurs};
 ghost use Rattle.apd_term.specs.Growth.{GrowsBy};

@@ -1,3 +1,5 @@
+//! A stack.
+
 ghost use Rattle.std.specs.Prelude.{◌≡◌, [], ◌∷◌, length, reverse, MatchOption, OnOk};
 ghost use Rattle.apd_read.specs.Top.{IsTop, IsPopped};
 

@@ -1,3 +1,5 @@
+//! The variables of a clause.
+
 ghost use Rattle.std.specs.Prelude.{◌≡◌, ◌+◌, ◌<◌, [], length, IfOk, OnOk};
 ghost use Rattle.apd_read.specs.Lexemes.{is_anonymous, variable_place, with_variable};
 ghost use Rattle.apd_read.specs.Variables.{IsIndexed};

@@ -4,6 +4,7 @@ use apd_causes::Read;
 use apd_ops::Ops;
 use apd_term::{NameId, Names};
 use std::alloc::{AllocError, Global};
+use std::boxed::Box;
 
 /// More names than a row brings; fewer than that are there when a text is read.
 pub const MOST_ROW_NAMES: usize = 1_000_000;
@@ -20,10 +21,12 @@ pub struct Scene {
 
 impl Scene {
     /// The standard names and operators.
-    pub fn new(alloc: Global) -> Result<Scene, AllocError> {
-        let names = Names::standard(alloc)?;
-        let ops = Ops::standard(alloc)?;
-        Ok(Scene { names, ops })
+    pub fn new(alloc: Global) -> Result<Box<Scene>, AllocError> {
+        let scene = Scene {
+            names: Names::standard(alloc)?,
+            ops: Ops::standard(alloc)?,
+        };
+        Ok(Box::new(alloc, scene)?)
     }
 
     /// The clause that a text is, with its end or without.

@@ -15,7 +15,7 @@ use std::boxed::Box;
 #[derive(Drop)]
 pub struct Trial {
     pub alloc: Global,
-    pub scene: Scene,
+    pub scene: Box<Scene>,
     pub row: Row,
     pub given: Builder,
 }
@@ -27,12 +27,14 @@ pub struct Sides {
     pub right: Flat,
 }
 
-fn sides_of(alloc: Global, term: &Flat) -> Result<Sides, AllocError>
+fn sides_of(alloc: Global, term: &Flat) -> Result<Box<Sides>, AllocError>
     requires { length (arguments term.now) ≡ 2 }
 {
-    let left = term.arg(alloc, 0)?;
-    let right = term.arg(alloc, 1)?;
-    Ok(Sides { left, right })
+    let sides = Sides {
+        left: term.arg(alloc, 0)?,
+        right: term.arg(alloc, 1)?,
+    };
+    Ok(Box::new(alloc, sides)?)
 }
 
 impl Trial {
@@ -64,7 +66,7 @@ impl Trial {
     }
 
     /// The two arguments of the term that a field is.
-    pub fn sides(&mut self, at: usize) -> Option<Sides> {
+    pub fn sides(&mut self, at: usize) -> Option<Box<Sides>> {
         let term = self.term(at)?;
         let Some(Pred { arity: 2, .. }) = term.pred() else {
             return None;

@@ -2,7 +2,9 @@
 
 use crate::line_rows::asked;
 use apd_base::Text;
-use apd_causes::{BodyFault, LoadCause, OpCause, OracleCause, Ran, ReadFault, RunEnd, TokenFault};
+use apd_causes::{
+    BodyFault, LoadCause, OpCause, OracleCause, Query, Ran, ReadFault, RunEnd, TokenFault,
+};
 use apd_ports::Filter;
 use apd_rows::{Builder, Row, Scene, Trial};
 use apd_term::Pred;
@@ -162,9 +164,10 @@ fn entry_text(alloc: Global, scene: &Scene, entry: &Entry) -> Result<Text, Alloc
     Ok(text)
 }
 
-/// Gives the text of an entry.
-pub fn put_text_of(trial: &mut Trial, entry: &Entry) {
-    let text = entry_text(trial.alloc, &trial.scene, entry);
+/// Gives the text of an entry, which is then given up.
+pub fn put_text_of(trial: &mut Trial, entry: Entry) {
+    let text = entry_text(trial.alloc, &trial.scene, &entry);
+    drop(entry);
     trial.given.put_made_text(text);
 }
 
@@ -173,16 +176,20 @@ pub fn put_text_of(trial: &mut Trial, entry: &Entry) {
 pub fn put_entry(trial: &mut Trial) -> Option<()> {
     let pred = trial.pred(2)?;
     let entry = entry_of(&trial.row, pred)?;
-    put_text_of(trial, &entry);
+    put_text_of(trial, entry);
     Some(())
+}
+
+/// The query of the goal `a`.
+fn query_of(alloc: Global, scene: &mut Scene) -> Option<Query> {
+    let read = scene.read(alloc, "a")?;
+    asked(alloc, &read.term).ok()
 }
 
 /// A run of the goal `a`.
 fn run_of(alloc: Global, scene: &mut Scene) -> Option<Entry> {
-    let read = scene.read(alloc, "a")?;
-    let query = asked(alloc, &read.term).ok()?;
     Some(Entry::Run {
-        query,
+        query: query_of(alloc, scene)?,
         budget: 7,
         answers: 5,
         filter: Filter::All,

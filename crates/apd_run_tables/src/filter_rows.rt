@@ -4,16 +4,23 @@ use crate::entry_rows::put_text_of;
 use crate::line_rows::port_named;
 use apd_ports::{Admit, Event, Filter};
 use apd_rows::{BETWEEN, Scene, Trial};
-use apd_term::Preds;
+use apd_term::{Pred, Preds};
 use apd_text::Entry;
 use std::alloc::Global;
+use std::boxed::Box;
+
+/// The predicate of an atom.
+fn pred_of(alloc: Global, scene: &mut Scene, atom: &str) -> Option<Pred> {
+    let read = scene.read(alloc, atom)?;
+    read.term.pred()
+}
 
 /// The predicates of the atoms of a list.
 fn preds_of(alloc: Global, scene: &mut Scene, atoms: &str) -> Option<Preds> {
     let mut preds = Preds::new(alloc);
     for atom in atoms.split(BETWEEN) {
-        let read = scene.read(alloc, atom)?;
-        preds.push(read.term.pred()?).ok()?;
+        let pred = pred_of(alloc, scene, atom)?;
+        preds.push(pred).ok()?;
     }
     Some(preds)
 }
@@ -48,13 +55,24 @@ fn event_of(alloc: Global, scene: &mut Scene, item: &str) -> Option<Event> {
     })
 }
 
+/// The filter of a row at work.
+fn admit_of(trial: &mut Trial) -> Option<Box<Admit>> {
+    let filter = filter_of(trial)?;
+    let admit = Admit::new(trial.alloc, &filter).ok()?;
+    Box::new(trial.alloc, admit).ok()
+}
+
+/// Whether an event is admitted.
+fn admits(alloc: Global, scene: &mut Scene, admit: &mut Admit, item: &str) -> Option<bool> {
+    let event = event_of(alloc, scene, item)?;
+    admit.admits(&event).ok()
+}
+
 /// Gives a mark for each of the row's events: whether the filter admits it.
 pub fn put_admitted(trial: &mut Trial) -> Option<()> {
-    let filter = filter_of(trial)?;
-    let mut admit = Admit::new(trial.alloc, &filter).ok()?;
+    let mut admit = admit_of(trial)?;
     for item in trial.row.text(2).split(BETWEEN) {
-        let event = event_of(trial.alloc, &mut trial.scene, item)?;
-        let admits = admit.admits(&event).ok()?;
+        let admits = admits(trial.alloc, &mut trial.scene, &mut admit, item)?;
         trial.given.put(if admits { "+" } else { "-" });
     }
     Some(())
@@ -63,6 +81,6 @@ pub fn put_admitted(trial: &mut Trial) -> Option<()> {
 /// Gives the text of the entry that the row's filter was set.
 pub fn put_set(trial: &mut Trial) -> Option<()> {
     let filter = filter_of(trial)?;
-    put_text_of(trial, &Entry::TraceSet { filter });
+    put_text_of(trial, Entry::TraceSet { filter });
     Some(())
 }

@@ -29,7 +29,7 @@ pub fn asked(alloc: Global, goals: &Flat) -> Result<Query, AllocError> {
 pub fn put_head(trial: &mut Trial) -> Option<()> {
     let sides = trial.sides(0)?;
     let query = asked(trial.alloc, &sides.right).ok()?;
-    let Scene { names, ops } = &trial.scene;
+    let Scene { names, ops } = &*trial.scene;
     trial
         .given
         .put_made_text(head_line(trial.alloc, names, ops, &query));
@@ -57,7 +57,7 @@ pub fn put_port(trial: &mut Trial) -> Option<()> {
         depth,
         atom,
     };
-    let Scene { names, ops } = &trial.scene;
+    let Scene { names, ops } = &*trial.scene;
     trial
         .given
         .put_made_text(port_line(trial.alloc, names, ops, &event));
@@ -68,7 +68,7 @@ pub fn put_port(trial: &mut Trial) -> Option<()> {
 pub fn put_answer(trial: &mut Trial) -> Option<()> {
     let values = trial.term(1)?;
     let vars = texts_of(trial.alloc, trial.row.text(0)).ok()?;
-    let Scene { names, ops } = &trial.scene;
+    let Scene { names, ops } = &*trial.scene;
     let line = answer_line(trial.alloc, names, ops, &vars, ANSWER, &values);
     trial.given.put_made_text(line);
     Some(())

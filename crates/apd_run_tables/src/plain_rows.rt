@@ -36,7 +36,7 @@ fn put_lines(trial: &mut Trial) -> Option<()> {
 fn put_bindings(trial: &mut Trial) -> Option<()> {
     let values = trial.term(1)?;
     let vars = texts_of(trial.alloc, trial.row.text(2)).ok()?;
-    let Scene { names, ops } = &trial.scene;
+    let Scene { names, ops } = &*trial.scene;
     let bindings = text::bindings(trial.alloc, names, ops, vars.as_slice(), &values).ok()?;
     put_texts(&mut trial.given, bindings.as_slice());
     Some(())
@@ -114,7 +114,7 @@ fn plain_ran(alloc: Global, case: &Case) -> Option<PlainRun> {
     if !is_runnable(&case.query.tuple) || budget > MOST_SHOWN || answers == 0 {
         return None;
     }
-    plain_run(alloc, &case.program, &case.query, budget, answers).ok()?
+    plain_run(alloc, &case.loaded.program, &case.query, budget, answers).ok()?
 }
 
 /// Gives what the plain program shows of a run, port by port, and its end.

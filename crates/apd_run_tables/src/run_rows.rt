@@ -1,10 +1,11 @@
 //! What runs show, and how they end.
 
-use crate::programs::program_of;
+use crate::programs::loaded_of;
 use apd_base::MOST_SHOWN;
 use apd_causes::{Query, Ran};
-use apd_clauses::{Program, is_query, may_run, query_of};
+use apd_clauses::{is_query, may_run, query_of};
 use apd_engine::run;
+use apd_load::Loaded;
 use apd_ports::{Event, Hook, HookFault, Shown};
 use apd_record::Record;
 use apd_rows::{Builder, Scene, Trial};
@@ -81,7 +82,8 @@ impl Hook for Keeper {
 /// A program, a query, and the limits of a run.
 #[derive(Drop)]
 pub struct Case {
-    pub program: Program,
+    /// The program, and what else was in its text.
+    pub loaded: Box<Loaded>,
     pub query: Query,
     pub budget: u32,
     pub answers: u32,
@@ -99,7 +101,7 @@ fn query_of_row(trial: &mut Trial) -> Option<Query> {
 /// The program, the query and the limits of a row.
 pub fn case_of(trial: &mut Trial) -> Option<Box<Case>> {
     let case = Case {
-        program: program_of(trial)?,
+        loaded: loaded_of(trial)?,
         query: query_of_row(trial)?,
         budget: trial.row.number(2),
         answers: trial.row.number(3),
@@ -147,7 +149,7 @@ pub fn ran(alloc: Global, case: &Case, left: &mut Left) -> Option<Ran> {
     }
     run(
         alloc,
-        &case.program,
+        &case.loaded.program,
         &case.query,
         budget,
         answers,

@@ -1,4 +1,5 @@
-// A demonstration: the program of a tree is loaded, its query is run, and its answer is diagnosed with the program's own replies.
+//! A demonstration: the program of a tree is loaded, its query is run, and its answer is diagnosed with the program's own replies.
+
 ghost use Rattle.std.specs.Prelude.{◌≡◌, ◌<◌, ◌≤◌, ◌≢◌, [], length, IfOk};
 ghost use Rattle.apd_answers.specs.Dialogue.{ends};
 ghost use Rattle.apd_commands.specs.Obeying.{CanObey};

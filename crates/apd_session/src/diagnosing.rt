@@ -1,6 +1,9 @@
-// What all diagnoses of a session have in common: how a command is refused, what a symptom says, and how a diagnosis ends.
+//! What all diagnoses of a session have in common: how a command is refused, what a symptom says, and how a diagnosis ends.
+
 ghost use Rattle.std.specs.Prelude.{◌≡◌, ◌<◌, ℕ, length, OnOk, IfOk};
 ghost use Rattle.apd_account.specs.Account.{with_told};
+ghost use Rattle.apd_answers.specs.Questions.{Fits};
+ghost use Rattle.apd_answers.specs.Store.{with_pair};
 ghost use Rattle.apd_debug.specs.Diagnosed.{SaysEnd, SaysLast, is_said, last_entry, next_after, trouble_of};
 ghost use Rattle.apd_debug.specs.NamedStates.{loop_entry};
 ghost use Rattle.apd_divide.specs.Exits.{IsUserExit};
@@ -39,19 +42,28 @@ pub(crate) fn refuse<K: Sink>(
     Ok(Next::Goes)
 }
 
+/// Keeps a reply to whether an atom is true.
+fn keep_reply(
+    alloc: Global,
+    atom: &Flat,
+    reply: &Reply,
+    replies: &mut Answers,
+) -> Result<(), AllocError>
+    requires { Fits (Question.True atom.now) reply.now }
+    ensures { OnOk result
+        (replies.new ≡ with_pair replies.old (Question.True atom.now) reply.now) }
+{
+    let question = Question::True(atom.copy(alloc)?);
+    replies.add(&question, reply)
+}
+
 /// Keeps what a symptom says of an atom.
 fn keep_told(alloc: Global, what: &Told, replies: &mut Answers) -> Result<(), AllocError>
     ensures { OnOk result (replies.new ≡ with_told replies.old what.now) }
 {
     match what {
-        Told::Wrong(atom) => {
-            let question = Question::True(atom.copy(alloc)?);
-            replies.add(&question, &Reply::No)
-        }
-        Told::Missing(atom) => {
-            let question = Question::True(atom.copy(alloc)?);
-            replies.add(&question, &Reply::Yes)
-        }
+        Told::Wrong(atom) => keep_reply(alloc, atom, &Reply::No, replies),
+        Told::Missing(atom) => keep_reply(alloc, atom, &Reply::Yes, replies),
         Told::NoEnd(_) => Ok(()),
     }
 }
@@ -75,7 +87,7 @@ pub(crate) fn keep_symptom<K: Sink>(
     say_kept(alloc, out, log, Entry::Symptom { what })
 }
 
-/// The same for the head of an exit, which isn't true; gives the head.
+/// Keeps such a place, and that the head of an exit isn't true, and says that; gives the head.
 pub(crate) fn keep_wrong<K: Sink>(
     alloc: Global,
     history: &Record,
@@ -99,7 +111,7 @@ pub(crate) fn keep_wrong<K: Sink>(
     Ok(head)
 }
 
-/// The same for an atom that is true and that the run didn't give.
+/// Keeps such a place, and that an atom is true that the run didn't give, and says that.
 pub(crate) fn keep_missing<K: Sink>(
     alloc: Global,
     atom: &Flat,
@@ -208,7 +220,7 @@ pub(crate) fn conclude<K: Sink>(
     }
 }
 
-/// The same of the diagnosis of a run that doesn't end, of which there were so many calls.
+/// Says what the diagnosis of a run that doesn't end came to, with a chain of so many calls, in the place that was kept.
 pub(crate) fn conclude_loop<K: Sink>(
     alloc: Global,
     program: &Program,

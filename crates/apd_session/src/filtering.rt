@@ -1,4 +1,5 @@
-// The filter of later runs.
+//! The filter of later runs.
+
 ghost use Rattle.std.specs.Prelude.{◌≡◌, length, OnOk, OnErr};
 ghost use Rattle.apd_query.specs.Running.{IsReady};
 ghost use Rattle.apd_session.specs.Steps.{with_filter};

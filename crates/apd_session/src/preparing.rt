@@ -1,4 +1,5 @@
-// What is known before the first line: the replies of an oracle file.
+//! What is known before the first line: the replies of an oracle file.
+
 ghost use Rattle.std.specs.Prelude.{◌≡◌, ◌+◌, ◌<◌, ◌≤◌, length, option_map, IfOk};
 ghost use Rattle.apd_base.specs.declared.limits.TheConstants.{MAX_FILE, MOST_NAMES};
 ghost use Rattle.apd_io.specs.Outside.{Rose};

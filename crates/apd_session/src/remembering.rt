@@ -1,4 +1,5 @@
-// The record of the last run is made before a diagnosis of it begins.
+//! The record of the last run is made before a diagnosis of it begins.
+
 ghost use Rattle.std.specs.Prelude.{◌≡◌};
 
 use apd_commands::Command;

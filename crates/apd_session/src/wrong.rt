@@ -1,4 +1,5 @@
-// The diagnosis of a wrong answer, with questions to the user.
+//! The diagnosis of a wrong answer, with questions to the user.
+
 ghost use Rattle.std.specs.Prelude.{◌≡◌, length};
 ghost use Rattle.apd_commands.specs.declared.commands.Command.TheVariants as command;
 ghost use Rattle.apd_console.specs.Console.{IsKept};

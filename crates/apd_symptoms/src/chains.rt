@@ -1,4 +1,5 @@
-// The calls that a run was within.
+//! The calls that a run was within.
+
 ghost use Rattle.std.specs.Prelude.{◌≡◌, ℕ, IfOk, IfErr};
 ghost use Rattle.apd_symptoms.specs.Chains.{stopped_chain};
 ghost use Rattle.apd_text.specs.Named.{RefusalIsNamed};

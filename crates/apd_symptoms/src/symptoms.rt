@@ -1,4 +1,5 @@
-// The exit that a command names, and the line of a finding.
+//! The exit that a command names, and the line of a finding.
+
 ghost use Rattle.std.specs.Prelude.{◌≡◌, ◌<◌, ◌≤◌, ℕ, pos, length, IfErr, IfOk, MatchOption, MatchResult, Ok, Err};
 ghost use Rattle.apd_divide.specs.Exits.{IsUserExit};
 ghost use Rattle.apd_symptoms.specs.Symptoms.{IsNoBox, exit_of, line_found, line_of_clause, numbered};

@@ -1,4 +1,5 @@
-// The box that didn't give an atom.
+//! The box that didn't give an atom.
+
 ghost use Rattle.std.specs.Prelude.{◌≡◌, ◌+◌, ◌<◌, ◌≤◌, ℕ, length, IfOk, IfErr};
 ghost use Rattle.apd_arith.specs.Truths.{is_ground};
 ghost use Rattle.apd_record.specs.Recorded.{box_at, exits};

@@ -1,4 +1,5 @@
-// What is said: an entry of the log, and its text on the sink.
+//! What is said: an entry of the log, and its text on the sink.
+
 ghost use Rattle.std.specs.Prelude.{◌≡◌, ◌<◌, ◌≤◌, ◌+◌, ◌++◌, List, ℕ, [], ◌∷◌, length, IfOk};
 ghost use Rattle.apd_text.specs.Entries.{text_of};
 ghost use Rattle.apd_text.specs.Named.{EntryIsNamed};

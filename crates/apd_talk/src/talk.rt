@@ -1,4 +1,4 @@
-// How a conversation over a console goes on.
+//! How a conversation over a console goes on.
 
 use apd_io::Failed;
 use std::alloc::AllocError;

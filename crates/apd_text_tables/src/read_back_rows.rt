@@ -5,6 +5,7 @@ use crate::spelled::{arity_of, function, spelled, symbol_of, symbols_of};
 use apd_rows::{Builder, Row, Scene, Trial};
 use apd_term::{Flat, Sym};
 use std::alloc::{AllocError, Global};
+use std::boxed::Box;
 use std::str;
 
 /// How many bytes ASCII has.
@@ -17,7 +18,7 @@ const DRAWN_SYMBOLS: usize = 14;
 #[derive(Drop)]
 struct Trials {
     alloc: Global,
-    scene: Scene,
+    scene: Box<Scene>,
     /// What stands in the other places of a function.
     atom: Sym,
     /// How many of them read back.
@@ -82,8 +83,8 @@ impl Trials {
     /// The symbols alone, and in each place of each function.
     fn try_everywhere(&mut self, symbols: &[Sym]) -> Option<()> {
         self.try_symbols(symbols)?;
-        for word in FUNCTIONS {
-            let function = symbol_of(&mut self.scene, word)?;
+        for word in &FUNCTIONS {
+            let function = symbol_of(&mut self.scene, *word)?;
             self.try_places(function, symbols)?;
         }
         Some(())

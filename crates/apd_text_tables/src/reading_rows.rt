@@ -68,8 +68,8 @@ fn reads_alike_by(alloc: Global, operators: &str, text: &[u8]) -> Option<bool> {
 /// Gives the first clause of the row's text in functional notation, or its fault. The plain reader has to read the text alike,
 /// by the standard operators and by the others.
 pub fn put_reading(trial: &mut Trial) -> Option<()> {
-    for operators in COMPARED {
-        if !reads_alike_by(trial.alloc, operators, trial.row.bytes(1))? {
+    for operators in &COMPARED {
+        if !reads_alike_by(trial.alloc, *operators, trial.row.bytes(1))? {
             trial.given.put("other than the plain reader: ");
         }
     }

@@ -1,3 +1,5 @@
+//! What a byte begins.
+
 ghost use Rattle.std.specs.Prelude.{◌≡◌, ◌≤◌};
 ghost use Rattle.std.specs.Char.{digit_value};
 ghost use Rattle.apd_token.specs.Bytes.{class_of, bracket_of, in_set, is_layout, is_small, is_capital, is_digit, is_word, is_graphic, is_bracket, is_simple, simple_code, escape_of, mark_of};

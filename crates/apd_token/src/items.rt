@@ -1,3 +1,5 @@
+//! Tokens.
+
 use apd_base::ListOf;
 
 /// What a token is.

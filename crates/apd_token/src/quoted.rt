@@ -1,3 +1,5 @@
+//! Quoted items, and their escapes.
+
 ghost use Rattle.std.specs.Prelude.{◌≡◌, ◌<◌, ◌≤◌, length, drop, slice_index, false, IfSome, IfNone};
 ghost use Rattle.apd_token.specs.Bytes.{class_of, in_set};
 ghost use Rattle.apd_token.specs.Quotes.{NoElement};

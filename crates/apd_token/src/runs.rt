@@ -1,3 +1,5 @@
+//! Runs of bytes.
+
 ghost use Rattle.std.specs.Prelude.{◌≡◌, ◌^◌, ◌<◌, ◌≤◌, length, drop, slice_range, IfSome, IfNone};
 ghost use Rattle.apd_token.specs.Quotes.{AllIn, numeral};
 ghost use Rattle.apd_token.specs.Scan.{StopsRun, NoCloseBelow, IsFirstClose};

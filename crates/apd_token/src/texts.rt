@@ -1,3 +1,5 @@
+//! The characters that an item stands for.
+
 ghost use Rattle.std.specs.Prelude.{◌≡◌, ℕ, ◌<◌, ◌≤◌, List, ◌++◌, length, slice_range, IfOk, OnOk};
 ghost use Rattle.apd_token.specs.Grammar.{IsTokenOf, HasText, ContentOf};
 ghost use Rattle.apd_token.specs.Scan.{value_of, Unquotes};

@@ -1,4 +1,4 @@
-use Rattle.std.proofs.Common.{◌≡◌, ◌+◌, ◌<◌, true, false, refl, arith, sym}
+use Rattle.std.proofs.Common.{◌≡◌, ◌+◌, ◌<◌, true, false, refl, arith, sym, ◌∙◌}
 use Rattle.std.proofs.lemmas.Result.{err_from_is_err_and}
 use Rattle.apd_clauses.specs.Clauses.{tuples_of}
 use Rattle.apd_engine.proofs.Telling.{ends_told, gives_point, gives_port, gives_of}
@@ -16,42 +16,43 @@ returns-in_default-clause-passed g c =
 
 pub returns-in-Made-clause-passed : goal.returns-in-Made-clause-passed
 returns-in-Made-clause-passed g c =
-    on_point c.requires.1.1.1.1 (gives_of (tuples_of c.args.program.now) _ c.args.self.now.search c.next.new.self _ c.in_ok-given.ensures _ c.in-Some.is c.into_inner.result _ (rw c.in-Whole.is (sym c.into_inner.ensures)) c.in-Made.is)
+    rw (c.hold.ensures c.in-Made.field-0 (sym c.deref.ensures ∙ c.in-Made.is))
+    (on_point c.requires.1.1.1.1 (gives_of (tuples_of c.args.program.now) _ c.args.self.now.search c.next.new.self _ c.in_ok-given.ensures _ c.in-Some.is c.deref.result.now _ (rw c.in-Whole.is (sym c.deref.ensures)) c.in-Made.is))
 
 pub returns-in-Error-clause-passed : goal.returns-in-Error-clause-passed
 returns-in-Error-clause-passed g c =
-    rw c.ended-in-Error.ensures (on_error c.requires.1.1.1.1 (gives_of (tuples_of c.args.program.now) _ c.args.self.now.search c.next.new.self _ c.in_ok-given.ensures _ c.in-Some.is c.into_inner.result _ (rw c.in-Whole.is (sym c.into_inner.ensures)) c.in-Error.is))
+    rw c.ended-in-Error.ensures (on_error c.requires.1.1.1.1 (gives_of (tuples_of c.args.program.now) _ c.args.self.now.search c.next.new.self _ c.in_ok-given.ensures _ c.in-Some.is c.deref.result.now _ (rw c.in-Whole.is (sym c.deref.ensures)) c.in-Error.is))
 
 pub returns-then-self-limits-clause-passed : goal.returns-then-self-limits-clause-passed
 returns-then-self-limits-clause-passed g c =
-    rw c.ended-then-self-limits.ensures (on_budget c.requires.1.1.1.1 (gives_of (tuples_of c.args.program.now) _ c.args.self.now.search c.next.new.self _ c.in_ok-given.ensures _ c.in-Some.is c.into_inner.result _ (rw c.in-Whole.is (sym c.into_inner.ensures)) c.in-Passed.is) (omega (arith, c.requires.1.1.1.1.showing.going.within)))
+    rw c.ended-then-self-limits.ensures (on_budget c.requires.1.1.1.1 (gives_of (tuples_of c.args.program.now) _ c.args.self.now.search c.next.new.self _ c.in_ok-given.ensures _ c.in-Some.is c.deref.result.now _ (rw c.in-Whole.is (sym c.deref.ensures)) c.in-Passed.is) (omega (arith, c.requires.1.1.1.1.showing.going.within)))
 
 pub show_port-requires-clause-held : goal.show_port-requires-clause-held
 show_port-requires-clause-held g c =
     let within : c.args.self.now.ports < c.args.limits.budget = omega (arith, c.requires.1.1.1.1.showing.going.within) in
-    held_at_port c.requires.1.1.1.1 (gives_of (tuples_of c.args.program.now) _ c.args.self.now.search c.next.new.self _ c.in_ok-given.ensures _ c.in-Some.is c.into_inner.result _ (rw c.in-Whole.is (sym c.into_inner.ensures)) c.in-Passed.is) within
+    held_at_port c.requires.1.1.1.1 (gives_of (tuples_of c.args.program.now) _ c.args.self.now.search c.next.new.self _ c.in_ok-given.ensures _ c.in-Some.is c.deref.result.now _ (rw c.in-Whole.is (sym c.deref.ensures)) c.in-Passed.is) within
 
 pub show_port-requires-clause-may : goal.show_port-requires-clause-may
 show_port-requires-clause-may g c =
     let within : c.args.self.now.ports < c.args.limits.budget = omega (arith, c.requires.1.1.1.1.showing.going.within) in
-    may_at_port c.requires.1.1.1.1 (gives_of (tuples_of c.args.program.now) _ c.args.self.now.search c.next.new.self _ c.in_ok-given.ensures _ c.in-Some.is c.into_inner.result _ (rw c.in-Whole.is (sym c.into_inner.ensures)) c.in-Passed.is) within
+    may_at_port c.requires.1.1.1.1 (gives_of (tuples_of c.args.program.now) _ c.args.self.now.search c.next.new.self _ c.in_ok-given.ensures _ c.in-Some.is c.deref.result.now _ (rw c.in-Whole.is (sym c.deref.ensures)) c.in-Passed.is) within
 
 pub show_port-requires-clause-from : goal.show_port-requires-clause-from
 show_port-requires-clause-from g c =
     let within : c.args.self.now.ports < c.args.limits.budget = omega (arith, c.requires.1.1.1.1.showing.going.within) in
-    rw c.newest-from.ensures (from_at_port c.requires.1.1.1.1 (gives_of (tuples_of c.args.program.now) _ c.args.self.now.search c.next.new.self _ c.in_ok-given.ensures _ c.in-Some.is c.into_inner.result _ (rw c.in-Whole.is (sym c.into_inner.ensures)) c.in-Passed.is) within)
+    rw c.newest-from.ensures (from_at_port c.requires.1.1.1.1 (gives_of (tuples_of c.args.program.now) _ c.args.self.now.search c.next.new.self _ c.in_ok-given.ensures _ c.in-Some.is c.deref.result.now _ (rw c.in-Whole.is (sym c.deref.ensures)) c.in-Passed.is) within)
 
 pub returns-in_err-show_port-in-Passed-clause-cut : goal.returns-in_err-show_port-in-Passed-clause-cut
 returns-in_err-show_port-in-Passed-clause-cut g c =
     let within : c.args.self.now.ports < c.args.limits.budget = omega (arith, c.requires.1.1.1.1.showing.going.within) in
     let p = err_from_is_err_and c.from_residual-in_err-show_port-in-Passed.result c.from_residual-in_err-show_port-in-Passed.ensures.1 in
-    rw (p.1, p.2) (cut_at_port g.course c.requires.1.1.1.1.showing (gives_of (tuples_of c.args.program.now) _ c.args.self.now.search c.next.new.self _ c.in_ok-given.ensures _ c.in-Some.is c.into_inner.result _ (rw c.in-Whole.is (sym c.into_inner.ensures)) c.in-Passed.is) within c.show_port.new.hook _ c.in_err-show_port-in-Passed.ensures.cut)
+    rw (p.1, p.2) (cut_at_port g.course c.requires.1.1.1.1.showing (gives_of (tuples_of c.args.program.now) _ c.args.self.now.search c.next.new.self _ c.in_ok-given.ensures _ c.in-Some.is c.deref.result.now _ (rw c.in-Whole.is (sym c.deref.ensures)) c.in-Passed.is) within c.show_port.new.hook _ c.in_err-show_port-in-Passed.ensures.cut)
 
 pub returns-in_ok-show_port-in-Passed-clause-passed : goal.returns-in_ok-show_port-in-Passed-clause-passed
 returns-in_ok-show_port-in-Passed-clause-passed g c =
     let within : c.args.self.now.ports < c.args.limits.budget = omega (arith, c.requires.1.1.1.1.showing.going.within) in
     rw (c.in_ok-show_port-in-Passed.ensures.none, c.in_ok-show_port-in-Passed.ensures.told)
-    (on_port c.requires.1.1.1.1 (gives_of (tuples_of c.args.program.now) _ c.args.self.now.search c.next.new.self _ c.in_ok-given.ensures _ c.in-Some.is c.into_inner.result _ (rw c.in-Whole.is (sym c.into_inner.ensures)) c.in-Passed.is) within c.show_port.new.hook c.in_ok-show_port-in-Passed.ensures.shown c.in_ok-show_port-in-Passed.ensures.cause)
+    (on_port c.requires.1.1.1.1 (gives_of (tuples_of c.args.program.now) _ c.args.self.now.search c.next.new.self _ c.in_ok-given.ensures _ c.in-Some.is c.deref.result.now _ (rw c.in-Whole.is (sym c.deref.ensures)) c.in-Passed.is) within c.show_port.new.hook c.in_ok-show_port-in-Passed.ensures.shown c.in_ok-show_port-in-Passed.ensures.cause)
 
 pub unreachable-requires : goal.unreachable-requires
 unreachable-requires g c =
@@ -84,20 +85,20 @@ returns-in_ok-tell_bare-in-Port-clause-passed g c =
 
 pub show_answer-requires-clause-held : goal.show_answer-requires-clause-held
 show_answer-requires-clause-held g c =
-    held_at_answer c.requires.1.1.1.1 (gives_of (tuples_of c.args.program.now) _ c.args.self.now.search c.next.new.self _ c.in_ok-given.ensures _ c.in-Some.is c.into_inner.result _ (rw c.in-Whole.is (sym c.into_inner.ensures)) c.in-Answer.is)
+    held_at_answer c.requires.1.1.1.1 (gives_of (tuples_of c.args.program.now) _ c.args.self.now.search c.next.new.self _ c.in_ok-given.ensures _ c.in-Some.is c.deref.result.now _ (rw c.in-Whole.is (sym c.deref.ensures)) c.in-Answer.is)
 
 pub returns-in_err-show_answer-in-Answer-clause-cut : goal.returns-in_err-show_answer-in-Answer-clause-cut
 returns-in_err-show_answer-in-Answer-clause-cut g c =
     let p = err_from_is_err_and c.from_residual-in_err-show_answer-in-Answer.result c.from_residual-in_err-show_answer-in-Answer.ensures.1 in
-    rw (p.1, p.2) (cut_at_answer g.course c.requires.1.1.1.1.showing (gives_of (tuples_of c.args.program.now) _ c.args.self.now.search c.next.new.self _ c.in_ok-given.ensures _ c.in-Some.is c.into_inner.result _ (rw c.in-Whole.is (sym c.into_inner.ensures)) c.in-Answer.is) c.show_answer.new.hook _ c.in_err-show_answer-in-Answer.ensures.cut)
+    rw (p.1, p.2) (cut_at_answer g.course c.requires.1.1.1.1.showing (gives_of (tuples_of c.args.program.now) _ c.args.self.now.search c.next.new.self _ c.in_ok-given.ensures _ c.in-Some.is c.deref.result.now _ (rw c.in-Whole.is (sym c.deref.ensures)) c.in-Answer.is) c.show_answer.new.hook _ c.in_err-show_answer-in-Answer.ensures.cut)
 
 pub returns-then-self-limits-2-clause-passed : goal.returns-then-self-limits-2-clause-passed
 returns-then-self-limits-2-clause-passed g c =
     let last : c.args.self.now.answered + 1 ≡ c.args.limits.answers = omega arith in
-    rw (c.ended-then-self-limits-2.ensures, c.in_ok-show_answer-in-Answer.ensures.told) (on_last c.requires.1.1.1.1 (gives_of (tuples_of c.args.program.now) _ c.args.self.now.search c.next.new.self _ c.in_ok-given.ensures _ c.in-Some.is c.into_inner.result _ (rw c.in-Whole.is (sym c.into_inner.ensures)) c.in-Answer.is) c.show_answer.new.hook c.in_ok-show_answer-in-Answer.ensures.shown last)
+    rw (c.ended-then-self-limits-2.ensures, c.in_ok-show_answer-in-Answer.ensures.told) (on_last c.requires.1.1.1.1 (gives_of (tuples_of c.args.program.now) _ c.args.self.now.search c.next.new.self _ c.in_ok-given.ensures _ c.in-Some.is c.deref.result.now _ (rw c.in-Whole.is (sym c.deref.ensures)) c.in-Answer.is) c.show_answer.new.hook c.in_ok-show_answer-in-Answer.ensures.shown last)
 
 pub returns-else-self-limits-2-clause-passed : goal.returns-else-self-limits-2-clause-passed
 returns-else-self-limits-2-clause-passed g c =
     let more : c.args.self.now.answered + 1 < c.args.limits.answers = omega (arith, c.requires.1.1.1.1.showing.going.below) in
     rw (c.in_ok-show_answer-in-Answer.ensures.none, c.in_ok-show_answer-in-Answer.ensures.told)
-    (on_answer c.requires.1.1.1.1 (gives_of (tuples_of c.args.program.now) _ c.args.self.now.search c.next.new.self _ c.in_ok-given.ensures _ c.in-Some.is c.into_inner.result _ (rw c.in-Whole.is (sym c.into_inner.ensures)) c.in-Answer.is) c.show_answer.new.hook c.in_ok-show_answer-in-Answer.ensures.shown more c.in_ok-show_answer-in-Answer.ensures.cause)
+    (on_answer c.requires.1.1.1.1 (gives_of (tuples_of c.args.program.now) _ c.args.self.now.search c.next.new.self _ c.in_ok-given.ensures _ c.in-Some.is c.deref.result.now _ (rw c.in-Whole.is (sym c.deref.ensures)) c.in-Answer.is) c.show_answer.new.hook c.in_ok-show_answer-in-Answer.ensures.shown more c.in_ok-show_answer-in-Answer.ensures.cause)

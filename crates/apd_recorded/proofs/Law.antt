@@ -36,24 +36,24 @@ use Rattle.apd_recorded.proofs.Logic.{taken_up_to, passed_taken}
 use Rattle.apd_recorded.proofs.State.{IsReady}
 use Rattle.apd_recorded.proofs.Searching.{search_meets}
 
-heads_of : (P : List Tuple) → All IsClause P → (c : ℕ) (r : Tuple) → clause_of P c ≡ Some r → IsAtom r.head
+pub heads_of : (P : List Tuple) → All IsClause P → (c : ℕ) (r : Tuple) → clause_of P c ≡ Some r → IsAtom r.head
 heads_of P all zero r at = cc
 heads_of P all (suc i) r at = user_is_atom r.head (All-at IsClause P i r all at).head
 
-bodies_of : (P : List Tuple) → All IsClause P → (c : ℕ) (r : Tuple) → clause_of P c ≡ Some r → AreAtoms r.body
+pub bodies_of : (P : List Tuple) → All IsClause P → (c : ℕ) (r : Tuple) → clause_of P c ≡ Some r → AreAtoms r.body
 bodies_of P all zero r at = cc
 bodies_of P all (suc i) r at = AreAtoms-of r.body (goals_are_atoms r.body (All-at IsClause P i r all at).body.goals)
 
 -- the query's point
-no_box : (R : Recorded) (n : ℕ) (b : BoxRow) → R.boxes ≡ [] → box_at R n ≡ Some b → ⊥
+pub no_box : (R : Recorded) (n : ℕ) (b : BoxRow) → R.boxes ≡ [] → box_at R n ≡ Some b → ⊥
 no_box R zero b e h = cc
 no_box R (suc n) b e h = let bad : slice_get [] n ≡ Some b = ap (λ bs. slice_get bs n) (sym e) ∙ h in cc
 
-may_begin : (query : Tuple) → MayMake empty (query_point query)
+pub may_begin : (query : Tuple) → MayMake empty (query_point query)
 may_begin query = record { came = (refl, refl); is_new = λ i q at alike. (cc); is_open = tt }
 
 module _ (P : List Tuple) (all : All IsClause P) (query : Tuple) (atoms : All IsAtom query.body) where
-  ready : IsReady (with_point empty (query_point query)) (query_frame query ∷ []) (canonical_tuple query ∷ []) 0 1
+  pub ready : IsReady (with_point empty (query_point query)) (query_frame query ∷ []) (canonical_tuple query ∷ []) 0 1
   ready = (
     record {
       placed = (record { before = None; there = refl; instance = IsTupleInstance-canonical query }, tt);

@@ -18,7 +18,7 @@ ghost use Rattle.apd_frames.specs.Solves.{solution_as, Keeps};
 
 use crate::ahead::Ahead;
 use crate::builtin::Solved;
-use crate::instance::{canonical_within, instantiate, is_within, load_all};
+use crate::instance::{canonical_within, instantiate, is_within, keep_sizes, load_all};
 use crate::links::{Branch, LinkRef, Links};
 use crate::reading::{ahead, goal_depth, left, look, next_goal};
 use crate::settling::{predicate_at, settle};
@@ -220,6 +220,16 @@ impl Frames {
         predicate_at(&self.store, goal)
     }
 
+    /// Keeps the sizes of long terms in the innermost frame's instance, for [`Frames::fits`] to know.
+    fn keep_sizes(&mut self) -> Result<(), AllocError>
+        ensures { self.new ≡ self.old }
+    {
+        match self.links.get(self.innermost) {
+            None => Ok(()),
+            Some(link) => keep_sizes(&mut self.store, &link),
+        }
+    }
+
     /// Enters a clause for the innermost frame's next goal, called in this box, where it can.
     pub fn enter(
         &mut self,
@@ -248,6 +258,7 @@ impl Frames {
         let goals = self.goals.as_slice();
         let link = entered(box_no, depth, clause, head, goals, point, self.innermost);
         self.innermost = self.links.push(&link)?;
+        self.keep_sizes()?;
         Ok(true)
     }
 
@@ -267,6 +278,7 @@ impl Frames {
         let depth = goal_depth(&self.links, self.innermost);
         let link = entered(box_no, depth, BUILTIN, goal, &[], point, self.innermost);
         self.innermost = self.links.push(&link)?;
+        self.keep_sizes()?;
         Ok(solved)
     }
 
@@ -285,9 +297,11 @@ impl Frames {
         requires { Takes self.old.current }
         ensures { OnOk result (self.new ≡ record { current = handed_all self.old.current point; saved = self.old.saved }) }
     {
-        if let Some(number) = self.links.push_handed(self.innermost, point)? {
-            self.innermost = number;
-        }
+        let Some(number) = self.links.push_handed(self.innermost, point)? else {
+            return Ok(());
+        };
+        self.innermost = number;
+        self.keep_sizes()?;
         Ok(())
     }
 

@@ -97,7 +97,7 @@ pub short_unloaded : (cells : List Sym) (notes before : List Note) (c n k : ℕ)
 short_unloaded cells notes before c n k e h = (subst (λ z. AreShort cells z k) e h).1
 
 -- a written term stands among the cells
-written_inside : (cells : List Sym) (c : ℕ) → IsTerms cells → c < length cells → c + size (written cells c) ≤ length cells
+pub written_inside : (cells : List Sym) (c : ℕ) → IsTerms cells → c < length cells → c + size (written cells c) ≤ length cells
 written_inside cells c h l =
     let d = drop c cells in
     let t = first_of (read_all d) in

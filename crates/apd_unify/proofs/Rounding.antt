@@ -45,7 +45,7 @@ decomposes_at s x y n h l m k =
     ∙ sym (length-apply_all g us ∙ ap length (list_of-terms_of (run_of s.cells (y + 1) n)) ∙ v.number)))
 
 -- a binding is a single pair applied to all
-meaning-bound-applied : (s : Stored) (v to : ℕ) (t : Term) → apply (meaning s.cells (Bound v to ∷ s.trail)) t ≡ apply (term_for (single v (term_at s to))) (apply (meaning s.cells s.trail) t)
+pub meaning-bound-applied : (s : Stored) (v to : ℕ) (t : Term) → apply (meaning s.cells (Bound v to ∷ s.trail)) t ≡ apply (term_for (single v (term_at s to))) (apply (meaning s.cells s.trail) t)
 meaning-bound-applied s v to t = sym (apply-followed_by (meaning s.cells s.trail) (term_for (single v (term_at s to))) t)
 
 zip_applied : (f g one : Term → Term) → ((t : Term) → f t ≡ one (g t)) → (s : ℕ → Term) → ((t : Term) → one t ≡ apply s t) → (xs ys : List Term)

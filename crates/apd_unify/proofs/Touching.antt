@@ -146,3 +146,16 @@ heap_bound cells bindings notes trail v c h m e = record {
         ∙ sym (binding-other v c notes w n) ∙ ap (λ z. binding_of z w) (sym e)
   ];
 }
+
+-- the heap before a binding
+pub heap_unbound : (cells : List Sym) (bindings : List Binding) (trail notes : List Note) (v c : ℕ) → IsHeap cells bindings trail → trail ≡ Bound v c ∷ notes
+    → IsHeap cells (set bindings v Free) notes
+heap_unbound cells bindings trail notes v c h e =
+    let k : IsStore cells (length bindings) (Bound v c ∷ notes) = subst (IsStore cells (length bindings)) e h.kept in
+    record {
+      kept = subst (λ n. IsStore cells n notes) (sym (length-set bindings v Free)) k.1;
+      agrees = λ w. elim (cases_eq v w) [
+        | inl q ↦ ap (λ y. get_or (set bindings v Free) y Free) (sym q) ∙ get_or-set_same bindings v Free Free k.0.below ∙ sym k.0.free ∙ ap (binding_of notes) q
+        | inr n ↦ get_or-set_other bindings v w Free Free (λ q. n (sym q)) ∙ h.agrees w ∙ ap (λ z. binding_of z w) e ∙ binding-other v c notes w n
+      ];
+    }

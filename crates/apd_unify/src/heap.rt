@@ -1,16 +1,17 @@
 //! Cells, bindings and the trail.
 
-ghost use Rattle.std.specs.Prelude.{◌≡◌, ℕ, ◌+◌, ◌<◌, ◌≤◌, ◌^◌, ◌⊎◌, ◌++◌, [], length, get_or, min, max, IfOk, OnOk, OnErr, take};
+ghost use Rattle.std.specs.Prelude.{◌≡◌, ℕ, ◌+◌, ◌<◌, ◌≤◌, ◌^◌, ◌⊎◌, [], length, get_or, min, max, IfOk, IfSome, OnOk, OnErr};
 ghost use Rattle.std.specs.Bool.{OnTrue};
-ghost use Rattle.apd_term.specs.Term.{Occurs, spell, variables, size};
-ghost use Rattle.apd_term.specs.Canonical.{shifted};
+ghost use Rattle.apd_term.specs.Term.{Occurs, size};
 ghost use Rattle.apd_term.specs.declared.term.Sym.TheVariants.{Var};
-ghost use Rattle.apd_term.specs.Spelling.{variable_in};
 ghost use Rattle.apd_unify.specs.Flat.{compound_in};
-ghost use Rattle.apd_unify.specs.Heap.{HasMore, IsVariable, raised};
-ghost use Rattle.apd_unify.specs.Store.{term_at, written, symbol_at, MayBind, bound, loaded, above, before_note, at_mark, IsSound, IsEnd, IsTwin};
+ghost use Rattle.apd_unify.specs.Known.{HasExtent};
+ghost use Rattle.apd_unify.specs.Heap.{IsVariable};
+ghost use Rattle.apd_unify.specs.Store.{term_at, written, symbol_at, MayBind, bound, loaded, before_note, at_mark, IsSound, IsEnd, IsTwin};
 
+use crate::known::{Extent, Known, above_all, forget_above, forget_since, known_at, make_place};
 use crate::stack::Stack;
+use crate::symbols::append;
 use apd_term::term::term_end;
 use apd_term::{Flat, Sym};
 use std::alloc::{AllocError, Global};
@@ -47,6 +48,12 @@ pub struct Heap {
     compounds: usize,
     /// No term that was loaded has more symbols.
     longest: usize,
+    /// The sizes of terms without variables, as far as they are known.
+    ground_terms: Stack<Known>,
+    /// The same of terms with variables.
+    open_terms: Stack<Known>,
+    /// The place of each cell in one of the two. What is left of earlier places says nothing.
+    places: Vec<usize>,
 }
 
 /// So many of the first cells, and a number above their variables.
@@ -61,6 +68,7 @@ impl Model for Heap {
     ghost use Rattle.apd_unify.specs.Flat.{compound_count, AreShort};
     ghost use Rattle.apd_unify.specs.Stored.{Stored, stored_code};
     ghost use Rattle.apd_unify.specs.Heap.{IsHeap, IsMarked};
+    ghost use Rattle.apd_unify.specs.Known.{AreSized};
 
     ghost Value = { Stored };
 
@@ -68,66 +76,7 @@ impl Model for Heap {
 
     ghost view = { λ h. record { cells = h.cells.items; variables = length h.bindings.items; trail = h.trail } };
 
-    ghost invariant = { λ h. IsHeap h.cells.items h.bindings.items h.trail × IsMarked h.cells.items h.trail h.touched h.front × (h.compounds ≡ compound_count h.cells.items h.trail) × AreShort h.cells.items h.trail h.longest };
-}
-
-/// Free variables behind those that are there, so that this one is there too.
-fn make_room(bindings: &mut Vec<Binding>, v: u64) -> Result<(), AllocError>
-    ensures more { HasMore bindings.old.items bindings.new.items }
-    ensures ok { OnOk result
-        (length bindings.new.items ≡ max (length bindings.old.items) (v + 1)) }
-{
-    let v = v as usize;
-    'room: while bindings.len() <= v {
-        bindings.push(Binding::Free)?;
-    }
-    Ok(())
-}
-
-/// The same for the variable that a symbol is, if it is one.
-fn make_room_for(bindings: &mut Vec<Binding>, symbol: Sym) -> Result<(), AllocError>
-    ensures more { HasMore bindings.old.items bindings.new.items }
-    ensures ok { OnOk result
-        (length bindings.new.items ≡ above (length bindings.old.items) (variable_in symbol)) }
-{
-    match symbol {
-        Sym::Var(v) => make_room(bindings, v),
-        _ => Ok(()),
-    }
-}
-
-/// The symbol with its variable raised by `base`.
-fn raised(symbol: Sym, base: u64) -> Sym
-    requires { (v : ℕ) → symbol ≡ Var v → base + v < 2 ^ 64 }
-    ensures { result ≡ raised base symbol }
-{
-    match symbol {
-        Sym::Var(v) => Sym::Var(base + v),
-        other => other,
-    }
-}
-
-/// Puts the term behind the cells, its variables raised by `base`.
-fn append(
-    cells: &mut Vec<Sym>,
-    bindings: &mut Vec<Binding>,
-    t: &Flat,
-    base: u64,
-) -> Result<(), AllocError>
-    requires { (v : ℕ) → Occurs v t.now → base + v < 2 ^ 64 }
-    ensures cells { OnOk result
-        (cells.new.items ≡ cells.old.items ++ spell (shifted base t.now)) }
-    ensures variables { OnOk result
-        (length bindings.new.items ≡ above (length bindings.old.items) (variables (shifted base t.now))) }
-    ensures front { take (length cells.old.items) cells.new.items ≡ cells.old.items }
-    ensures more { HasMore bindings.old.items bindings.new.items }
-{
-    for symbol in t.symbols() {
-        let moved = raised(*symbol, base);
-        make_room_for(bindings, moved)?;
-        cells.push(moved)?;
-    }
-    Ok(())
+    ghost invariant = { λ h. IsHeap h.cells.items h.bindings.items h.trail × IsMarked h.cells.items h.trail h.touched h.front × (h.compounds ≡ compound_count h.cells.items h.trail) × AreShort h.cells.items h.trail h.longest × AreSized (record { cells = h.cells.items; variables = length h.bindings.items; trail = h.trail }) h.ground_terms h.open_terms };
 }
 
 /// 1 where the symbol at this place has arguments.
@@ -186,6 +135,9 @@ impl Heap {
             },
             compounds: 0,
             longest: 0,
+            ground_terms: Stack::new(alloc),
+            open_terms: Stack::new(alloc),
+            places: Vec::new(alloc),
         }
     }
 
@@ -297,6 +249,46 @@ impl Heap {
         true
     }
 
+    /// The extent of the term at a cell, where it is known; none says nothing.
+    pub fn known(&self, at: usize) -> Option<Extent>
+        ensures { IfSome result (HasExtent self.now at) }
+    {
+        let place = *self.places.get(at)?;
+        if let Some(extent) = known_at(&self.ground_terms, place, at) {
+            return Some(extent);
+        }
+        known_at(&self.open_terms, place, at)
+    }
+
+    /// Keeps the extent of the term at a cell.
+    pub fn keep(&mut self, at: usize, extent: Extent) -> Result<(), AllocError>
+        requires { HasExtent self.old at extent }
+        ensures { self.new ≡ self.old }
+    {
+        let since = self.trail.len();
+        make_place(&mut self.places, at)?;
+        if extent.above == 0 {
+            self.places[at] = self.ground_terms.len();
+            self.ground_terms.push(Known {
+                cell: at,
+                extent,
+                since,
+            })?;
+            return Ok(());
+        }
+        let above = above_all(&self.open_terms, extent.above);
+        self.places[at] = self.open_terms.len();
+        self.open_terms.push(Known {
+            cell: at,
+            extent: Extent {
+                size: extent.size,
+                above,
+            },
+            since,
+        })?;
+        Ok(())
+    }
+
     /// Binds a free variable to the term at a cell.
     pub fn bind(&mut self, v: u64, to: usize) -> Result<(), AllocError>
         requires { MayBind self.old.cells self.old.variables self.old.trail v to }
@@ -311,6 +303,7 @@ impl Heap {
         self.bindings[v as usize] = Binding::At(to);
         self.compounds += compound;
         self.touched = greater(self.touched, above);
+        forget_above(&mut self.open_terms, v);
         Ok(())
     }
 
@@ -348,6 +341,9 @@ impl Heap {
     fn undo_note(&mut self)
         ensures { self.new ≡ before_note self.old.cells self.old.variables self.old.trail }
     {
+        let notes = self.trail.len();
+        forget_since(&mut self.ground_terms, notes);
+        forget_since(&mut self.open_terms, notes);
         match self.trail.pop() {
             None => {}
             Some(Note::Loaded(cells, variables)) => {

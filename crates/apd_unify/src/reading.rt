@@ -4,9 +4,9 @@ ghost use Rattle.std.specs.Prelude.{◌≡◌, ◌<◌, ◌≤◌, ◌↔◌, le
 ghost use Rattle.apd_term.specs.Term.{Occurs};
 ghost use Rattle.apd_unify.specs.Store.{term_at, SizeWithin};
 
+use crate::counting::counted_within;
 use crate::heap::Heap;
-use crate::stack::Stack;
-use crate::walk::{Run, Walk, next_run, pass};
+use crate::walk::Walk;
 use apd_term::{Flat, Sym, Syms};
 use std::alloc::{AllocError, Global};
 
@@ -34,8 +34,8 @@ fn at_most(n: u64, limit: u64) -> Option<u64>
 }
 
 /// The size of the term at a cell; none exactly where it is over the limit. It passes at most one
-/// symbol more than that, but where no binding leads to a term that has arguments: there it passes what
-/// is written.
+/// symbol more than that, and none of a term whose size is known. Where no binding leads to a term that has arguments
+/// it passes what is written.
 pub fn size_within(
     heap: &Heap,
     alloc: Global,
@@ -48,18 +48,10 @@ pub fn size_within(
     if heap.is_flat() {
         return Ok(at_most((heap.end(at) - at) as u64, limit));
     }
-    let mut runs = Stack::new(alloc);
-    let mut here = Run { at, left: 1 };
-    let mut count: u64 = 0;
-    'symbols: while let Some(run) = next_run(&mut runs, here) {
-        let passed = pass(heap, &mut runs, run)?;
-        if count == limit {
-            return Ok(None);
-        }
-        count += 1;
-        here = passed.next;
-    }
-    Ok(Some(count))
+    let Some(count) = counted_within(heap, alloc, at, limit)? else {
+        return Ok(None);
+    };
+    Ok(Some(count.extent.size))
 }
 
 /// Whether the variable stands in the term at a cell.

@@ -1,6 +1,6 @@
 //! A stack.
 
-ghost use Rattle.std.specs.Prelude.{◌≡◌, ◌∷◌, [], length, drop, OnOk, OnErr, MatchOption};
+ghost use Rattle.std.specs.Prelude.{◌≡◌, ◌∷◌, [], length, drop, reverse, slice_get, Some, OnOk, OnErr, IfSome, MatchOption};
 
 use std::alloc::{AllocError, Global};
 use std::marker::Model;
@@ -53,6 +53,13 @@ impl<T> Stack<T> {
             (λ x. self.now ≡ x.now ∷ drop 1 self.now) }
     {
         self.oldest_first.last()
+    }
+
+    /// That at this place, counted from the oldest.
+    pub fn get(&self, place: usize) -> Option<&T>
+        ensures { IfSome result (λ x. slice_get (reverse self.now) place ≡ Some x.now) }
+    {
+        self.oldest_first.get(place)
     }
 
     pub fn len(&self) -> usize

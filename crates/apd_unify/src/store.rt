@@ -12,6 +12,7 @@ ghost use Rattle.apd_unify.specs.Step.{first_symbol};
 ghost use Rattle.apd_unify.specs.Store.{term_at, under_bindings, loaded, at_mark, Keeps, IsUnification, SizeWithin};
 
 use crate::arguments::{only_argument, two_arguments};
+use crate::counting::keep_sizes;
 use crate::first::{are_clashing, first_symbol, key_at, key_of};
 use crate::heap::Heap;
 use crate::reading::{resolved, size_within};
@@ -171,6 +172,15 @@ impl Store {
         ensures { IfOk result (SizeWithin (term_at self.now cell.0) limit) }
     {
         size_within(&self.heap, self.alloc, cell.0, limit)
+    }
+
+    /// Counts the terms that stand for the variables of what is written at a cell, and keeps the sizes of
+    /// long ones, if they aren't over the limit, so that later counts needn't pass them.
+    pub fn keep_sizes(&mut self, cell: Cell, limit: u64) -> Result<(), AllocError>
+        requires { cell.0 < length self.old.cells }
+        ensures { self.new ≡ self.old }
+    {
+        keep_sizes(&mut self.heap, self.alloc, cell.0, limit)
     }
 
     /// Whether no cell's term has more symbols than this; false says nothing.

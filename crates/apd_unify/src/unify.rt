@@ -35,13 +35,19 @@ pub enum Solved {
     Arguments(usize),
 }
 
-/// Whether the variable stands in the term at a cell. A new variable needs no look at the term.
+/// Whether the variable stands in the term at a cell. Where the variable is new, or known
+/// to be above those of the term, the term isn't looked at.
 fn stands_in(heap: &Heap, walk: &mut Walk, v: u64, at: usize) -> Result<bool, AllocError>
     requires { at < length heap.now.cells }
     ensures { IfOk result (λ b. IsTrue b ↔ Occurs v (term_at heap.now at)) }
 {
     if heap.is_apart(v, at) {
         return Ok(false);
+    }
+    if let Some(extent) = heap.known(at) {
+        if v >= extent.above {
+            return Ok(false);
+        }
     }
     mentions(walk, heap, at, v)
 }

@@ -4,7 +4,8 @@ use Rattle.apd_term.specs.Term.{variable}
 use Rattle.apd_unify.specs.First.{AreApart}
 use Rattle.apd_unify.specs.Store.{term_at}
 use Rattle.apd_trace.specs.declared.frame.Called.{Called}
-use Rattle.apd_frames.specs.Kept.{Kept, MayCall, Calls}
+use Rattle.apd_trace.specs.Frames.{entering}
+use Rattle.apd_frames.specs.Kept.{Kept, HasEntered, MayCall, Calls}
 use Rattle.apd_frames.specs.Links.{Instance, instance_of, link_of}
 use Rattle.apd_frames.specs.Instances.{IsInstantiated}
 use Rattle.apd_frames.specs.Linked.{IsFramed}
@@ -63,8 +64,9 @@ returns c = λ g calls.
     let inst : IsInstantiated i c.self.inside.store c.instantiate.new.store c.in-Some.goal.0 c.in_ok-head.ensures.answer.variant =
     instance_there c.instantiate.new.goals.items c.as_slice-goals.result.now c.in_ok-head.field-0 c.in-Some-2.head c.self.inside.store c.instantiate.new.store c.in-Some.goal.0 c.in_ok-head.ensures.answer.variant
     c.as_slice-goals.ensures.value c.in-Some-2.is c.in_ok-head.ensures.answer.is in
-    enters_so c.self.inside.store c.self.inside.links c.self.inside.innermost c.self.inside.branches c.args.self.now c.self.view_is c.self.invariant g c.args.rule.now c.args.clause c.args.point c.instantiate.new.store c.instantiate.ensures.kept c.instantiate.ensures.cells
+    subst (HasEntered (entering c.args.self.now.current g c.args.rule.now c.args.clause c.args.point) c.args.self.now) (sym c.keep_sizes.ensures)
+    (enters_so c.self.inside.store c.self.inside.links c.self.inside.innermost c.self.inside.branches c.args.self.now c.self.view_is c.self.invariant g c.args.rule.now c.args.clause c.args.point c.instantiate.new.store c.instantiate.ensures.kept c.instantiate.ensures.cells
     c.in-Some.goal i c.in_ok-head.ensures.answer.variant (link_of c.entered-link.result) c.push.new.self c.in_ok-self-inside.field-0
     c.in-Some.ensures c.instantiate.ensures.numbered c.in_ok-head.ensures.answer.renamed inst
     (c.entered-link.ensures g (c.goal_depth-depth.ensures c.self.inside.store c.args.box_no g (subst (λ (x : Kept). Calls x.current c.args.box_no g) (sym c.self.view_is) calls)))
-    c.in_ok-self-inside.ensures.ok c.in_ok-self-inside.ensures.number
+    c.in_ok-self-inside.ensures.ok c.in_ok-self-inside.ensures.number)

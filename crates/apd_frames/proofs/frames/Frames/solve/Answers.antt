@@ -46,15 +46,17 @@ pub returns-clause-alike : goal.returns-clause-alike
 returns-clause-alike c = λ g calls.
     let e : c.in_ok-solved.solved ≡ Entered = search rules in
     let i : Instance = instance_of c.in-Some.goal [] in
-    subst (λ r. AreAlike (solution c.args.self.now.current g c.args.point) (solution_as r (frames_at c.settle.new.store c.push.new.self c.in_ok-self-inside.field-0))) (sym e)
+    subst (λ (k : Kept). AreAlike (solution c.args.self.now.current g c.args.point) (solution_as c.in_ok-solved.solved k.current)) (sym c.keep_sizes.ensures)
+    (subst (λ r. AreAlike (solution c.args.self.now.current g c.args.point) (solution_as r (frames_at c.settle.new.store c.push.new.self c.in_ok-self-inside.field-0))) (sym e)
     (solves_with c.self.inside.store c.self.inside.links c.self.inside.innermost c.self.inside.branches c.args.self.now c.self.view_is c.self.invariant g c.args.point c.in-Some.goal c.in-Some.ensures c.settle.new.store i c.push.new.self c.in_ok-self-inside.field-0 refl
     (c.in_ok-self-inside.ensures.ok ∙ ap (λ l. l ∷ c.self.inside.links) (c.entered-link.ensures g (c.goal_depth-depth.ensures c.self.inside.store c.args.box_no g (subst (λ (x : Kept). Calls x.current c.args.box_no g) (sym c.self.view_is) calls)))) c.in_ok-self-inside.ensures.number
-    (subst (λ r. Settles r c.self.inside.store c.settle.new.store (term_at c.self.inside.store c.in-Some.goal.0)) e c.in_ok-solved.ensures.answer))
+    (subst (λ r. Settles r c.self.inside.store c.settle.new.store (term_at c.self.inside.store c.in-Some.goal.0)) e c.in_ok-solved.ensures.answer)))
 
 pub returns-clause-kept : goal.returns-clause-kept
 returns-clause-kept c =
     let g : Called = record { box_no = c.args.box_no; caller = 0; depth = c.goal_depth-depth.result; atom = variable 0 } in
     let e : c.in_ok-solved.solved ≡ Entered = search rules in
-    subst (λ r. Keeps r c.args.self.now (view_of c.settle.new.store c.push.new.self c.in_ok-self-inside.field-0 c.self.inside.branches)) (sym e)
+    subst (Keeps c.in_ok-solved.solved c.args.self.now) (sym c.keep_sizes.ensures)
+    (subst (λ r. Keeps r c.args.self.now (view_of c.settle.new.store c.push.new.self c.in_ok-self-inside.field-0 c.self.inside.branches)) (sym e)
     (ap (λ ls. saved_of c.settle.new.store ls c.self.inside.branches) c.in_ok-self-inside.ensures.ok
-    ∙ pushed_saved c.self.inside.store c.self.inside.links c.self.inside.innermost c.self.inside.branches c.args.self.now c.self.view_is c.self.invariant g c.args.point c.settle.new.store (link_of c.entered-link.result) c.settle.ensures.kept c.settle.ensures.cells)
+    ∙ pushed_saved c.self.inside.store c.self.inside.links c.self.inside.innermost c.self.inside.branches c.args.self.now c.self.view_is c.self.invariant g c.args.point c.settle.new.store (link_of c.entered-link.result) c.settle.ensures.kept c.settle.ensures.cells))

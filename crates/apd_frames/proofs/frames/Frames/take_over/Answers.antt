@@ -10,19 +10,19 @@ push_handed-requires c = λ l e.
     (innermost_some c.self.inside.store c.self.inside.links c.self.inside.innermost c.self.inside.branches c.args.self.now l c.self.view_is c.self.invariant e)
     c.requires
 
-pub invariant_of-self-in-Some : goal.invariant_of-self-in-Some
-invariant_of-self-in-Some c =
+pub invariant_of-self-2 : goal.invariant_of-self-2
+invariant_of-self-2 c =
     let h : HasHanded c.in-Some.number c.self.inside.links c.push_handed.new.self c.self.inside.innermost c.args.point =
     subst (λ o. Hands o c.self.inside.links c.push_handed.new.self c.self.inside.innermost c.args.point) c.in-Some.is c.in_ok-number.ensures.ok in
     takes_framed c.self.inside.store c.self.inside.links c.self.inside.innermost c.self.inside.branches c.args.self.now h.link (handed_link h.link c.args.point) c.args.point c.in-Some.number c.push_handed.new.self c.self.invariant
     (innermost_some c.self.inside.store c.self.inside.links c.self.inside.innermost c.self.inside.branches c.args.self.now h.link c.self.view_is c.self.invariant h.is)
     refl h.more h.number
 
-pub returns-in-Some : goal.returns-in-Some
-returns-in-Some c =
+pub returns : goal.returns
+returns c =
     let h : HasHanded c.in-Some.number c.self.inside.links c.push_handed.new.self c.self.inside.innermost c.args.point =
     subst (λ o. Hands o c.self.inside.links c.push_handed.new.self c.self.inside.innermost c.args.point) c.in-Some.is c.in_ok-number.ensures.ok in
-    takes_over c.self.inside.store c.self.inside.links c.self.inside.innermost c.self.inside.branches c.args.self.now h.link c.args.point c.in-Some.number c.push_handed.new.self c.self.view_is c.self.invariant
+    c.keep_sizes.ensures ∙ takes_over c.self.inside.store c.self.inside.links c.self.inside.innermost c.self.inside.branches c.args.self.now h.link c.args.point c.in-Some.number c.push_handed.new.self c.self.view_is c.self.invariant
     (innermost_some c.self.inside.store c.self.inside.links c.self.inside.innermost c.self.inside.branches c.args.self.now h.link c.self.view_is c.self.invariant h.is)
     h.more h.number
 

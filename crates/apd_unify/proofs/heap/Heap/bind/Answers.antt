@@ -1,7 +1,11 @@
-use Rattle.std.proofs.Common.{◌≡◌, ◌+◌, ap, get_or, length, subst, sym, arith, ◌∙◌, inl, inr}
+use Rattle.std.proofs.Common.{◌≡◌, ◌+◌, ap, get_or, length, subst, sym, refl, arith, ◌∙◌, inl, inr}
 use Rattle.apd_unify.specs.Stored.{Stored}
 use Rattle.apd_unify.specs.Store.{MayBind}
+use Rattle.apd_unify.proofs.Following.{viewed}
+use Rattle.apd_unify.proofs.Sizing.{sized_bound}
 use Rattle.apd_unify.proofs.Touching.{heap_bound, marked_bound_by}
+use Rattle.apd_unify.specs.declared.heap.Binding.TheVariants.{At}
+use Rattle.std.proofs.lemmas.List.{length-set}
 use Rattle.apd_term.specs.declared.term.Sym.TheVariants.{Var}
 use Rattle.apd_unify.specs.Flat.{compound_count, compound_in, AreShort}
 use Rattle.apd_unify.proofs.Flat.{compound_bound, compounds_within}
@@ -19,6 +23,10 @@ invariant_of-self-2 c =
       compound_bound c.self.inside.cells.items c.self.inside.trail c.push.new.self c.args.v c.args.to c.self.inside.compounds c.compound_at-compound.result
           may.inside c.self.invariant.2 c.in_ok-push.ensures.ok (c.compound_at-compound.ensures ∙ ap (λ xs. compound_in (get_or xs c.args.to (Var 0))) c.as_slice.ensures.value),
       subst (λ z. AreShort c.self.inside.cells.items z c.self.inside.longest) (sym c.in_ok-push.ensures.ok) c.self.invariant.3,
+      sized_bound (viewed c.self.inside.cells.items c.self.inside.bindings.items c.self.inside.trail) _ c.args.v c.args.to
+          c.self.inside.ground_terms c.self.inside.open_terms c.forget_above.new.known
+          (rw (c.in_ok-push.ensures.ok, length-set c.self.inside.bindings.items c.args.v (At c.args.to)) refl) c.self.invariant.4
+          (c.forget_above.ensures (viewed c.self.inside.cells.items c.self.inside.bindings.items c.self.inside.trail)),
     )
 
 pub overflow_add-self : goal.overflow_add-self

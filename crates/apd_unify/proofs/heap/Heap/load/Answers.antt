@@ -2,7 +2,9 @@ use Rattle.std.proofs.Common.{◌≡◌, ◌-◌, ◌∙◌, length, arith, refl
 use Rattle.std.specs.Prelude.{max}
 use Rattle.apd_term.specs.Term.{spell}
 use Rattle.apd_term.specs.Canonical.{shifted}
+use Rattle.apd_unify.proofs.Following.{viewed}
 use Rattle.apd_unify.proofs.Loading.{heap_loaded}
+use Rattle.apd_unify.proofs.Sizing.{sized_loaded}
 use Rattle.apd_unify.proofs.Touching.{marked_loaded}
 use Rattle.apd_unify.proofs.Flat.{compound_loaded, short_loaded}
 use Rattle.apd_unify.proofs.heap.Heap.load.Goals as goal
@@ -23,4 +25,7 @@ invariant_of-self-2 c =
       c.self.invariant.2 ∙ sym (compound_loaded c.self.inside.cells.items c.append.new.cells.items c.self.inside.trail c.push.new.self _ c.in_default.ensures.front g),
       short_loaded c.self.inside.cells.items c.append.new.cells.items c.self.inside.trail c.push.new.self (length c.self.inside.bindings.items) c.self.inside.longest _ c.in_default.ensures.front g
           c.self.invariant.3 longest,
+      sized_loaded (viewed c.self.inside.cells.items c.self.inside.bindings.items c.self.inside.trail) _ c.args.t.now c.args.base
+          c.self.inside.ground_terms c.self.inside.open_terms c.self.invariant.0.kept
+          (rw (c.in_default.ensures.cells, c.in_default.ensures.variables, g) refl) c.self.invariant.4,
     )

@@ -1,7 +1,7 @@
 use Rattle.std.proofs.Common.{◌≤◌, ◌+◌, ◌-◌, length}
 use Rattle.std.specs.Prelude.{max}
 use Rattle.apd_unify.specs.Heap.{HasMore}
-use Rattle.apd_unify.proofs.heap.make_room.Given as goal
+use Rattle.apd_unify.proofs.symbols.make_room.Given as goal
 
 abbrev pub invariant-room : goal.invariant-room
 invariant-room l = record {

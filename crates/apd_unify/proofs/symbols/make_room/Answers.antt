@@ -1,6 +1,6 @@
 use Rattle.std.proofs.Common.{arith}
 use Rattle.apd_unify.proofs.Room.{more_one}
-use Rattle.apd_unify.proofs.heap.make_room.Goals as goal
+use Rattle.apd_unify.proofs.symbols.make_room.Goals as goal
 
 pub room-preserved : goal.room-preserved
 room-preserved c = record {

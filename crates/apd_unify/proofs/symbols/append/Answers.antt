@@ -1,7 +1,7 @@
 use Rattle.std.proofs.Common.{refl}
 use Rattle.apd_unify.proofs.Room.{more_more}
 use Rattle.apd_unify.proofs.Appending.{HasAppended, appended_more, appended_all, occurs_at}
-use Rattle.apd_unify.proofs.heap.append.Goals as goal
+use Rattle.apd_unify.proofs.symbols.append.Goals as goal
 
 pub raised-moved-requires : goal.raised-moved-requires
 raised-moved-requires c =

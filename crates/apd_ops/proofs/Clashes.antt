@@ -7,7 +7,7 @@ use Rattle.std.specs.Map.{keys_of}
 use Rattle.apd_ops.specs.declared.op.OpKind.{OpKind}
 use Rattle.apd_ops.specs.declared.op.OpKind.TheVariants.{Xfx, Xfy, Yfx, Fx, Fy}
 use Rattle.apd_ops.specs.Operators.{is_prefix_kind, prefix_kind, right_kind, groups_right, groups_left}
-use Rattle.apd_ops.specs.Table.{Meaning, Table, prefix_in, infix_in, IsTable, WouldClash, defined, clashes, clashes_unless}
+use Rattle.apd_ops.specs.Table.{Meaning, Table, prefix_in, infix_in, IsGiven, IsTable, WouldClash, defined, clashes, clashes_unless}
 use Rattle.apd_ops.proofs.Looked.{Lists, table_of, meaning_at, given, prefix_at, infix_at}
 use Rattle.apd_ops.proofs.Entries.{any_found, any_of, lookup_among, among_lookup}
 
@@ -142,6 +142,61 @@ no_clash_at_none t k f table h =
         | inr inf ↦ elim (which_infix t 0 k f h.name h.meaning inf) [
           | inl n ↦ none h.meaning n.1
           | inr q ↦ table.apart (record { name = h.name; left = h.left; meaning = h.meaning; grouping = h.grouping; is_meaning = inr q.1; is_infix = o.1; clash = h.clash })
+        ]
+      ]
+    ]
+
+-- nor does a meaning that some name has already
+pub no_clash_at_given : (t : Table) (p : ℕ) (k : OpKind) (f : ℕ) → IsTable t → IsGiven t (p, k) → WouldClash t p k f → ⊥
+no_clash_at_given t p k f table has h =
+    let as_left : (k ≡ Yfx) → infix_in t has.0 ≡ Some (p, k) = λ left. elim has.1 [
+      | inl pre ↦ absurd (true≢false (sym (table.prefixes_are has.0 (p, k) pre).0 ∙ ap is_prefix_kind left))
+      | inr inf ↦ inf
+    ] in
+    let old_and_new : (prefix_in t h.name ≡ Some h.meaning) ⊎ (infix_in t h.name ≡ Some h.meaning) → (p, k) ≡ h.grouping → ⊥ = λ is same.
+    let left : k ≡ Yfx = ap (λ (m : Meaning). m.1) same ∙ h.clash.to_left in
+    table.apart (record {
+      name = h.name;
+      left = has.0;
+      meaning = h.meaning;
+      grouping = (p, k);
+      is_meaning = is;
+      is_infix = as_left left;
+      clash = record { same = h.clash.same ∙ ap (λ (m : Meaning). m.0) (sym same); to_right = h.clash.to_right; to_left = left };
+    }) in
+    let both_new : (p, k) ≡ h.meaning → (p, k) ≡ h.grouping → ⊥ = λ is same.
+    right_not_yfx k (subst (λ (m : Meaning). right_kind m.1) (sym is) h.clash.to_right) (ap (λ (m : Meaning). m.1) same ∙ h.clash.to_left) in
+    let new_and_old : (p, k) ≡ h.meaning → infix_in t h.left ≡ Some h.grouping → ⊥ = λ is there.
+    table.apart (record {
+      name = has.0;
+      left = h.left;
+      meaning = (p, k);
+      grouping = h.grouping;
+      is_meaning = has.1;
+      is_infix = there;
+      clash = record { same = ap (λ (m : Meaning). m.0) is ∙ h.clash.same; to_right = subst (λ (m : Meaning). right_kind m.1) (sym is) h.clash.to_right; to_left = h.clash.to_left };
+    }) in
+    let both_old : (prefix_in t h.name ≡ Some h.meaning) ⊎ (infix_in t h.name ≡ Some h.meaning) → infix_in t h.left ≡ Some h.grouping → ⊥ = λ is there.
+    table.apart (record { name = h.name; left = h.left; meaning = h.meaning; grouping = h.grouping; is_meaning = is; is_infix = there; clash = h.clash }) in
+    elim (which_infix t p k f h.left h.grouping h.is_infix) [
+      | inl n ↦ elim h.is_meaning [
+        | inl pre ↦ elim (which_prefix t p k f h.name h.meaning pre) [
+          | inl m ↦ both_new (given_is p k h.meaning m.1) (given_is p k h.grouping n.1)
+          | inr o ↦ old_and_new (inl o.1) (given_is p k h.grouping n.1)
+        ]
+        | inr inf ↦ elim (which_infix t p k f h.name h.meaning inf) [
+          | inl m ↦ both_new (given_is p k h.meaning m.1) (given_is p k h.grouping n.1)
+          | inr o ↦ old_and_new (inr o.1) (given_is p k h.grouping n.1)
+        ]
+      ]
+      | inr there ↦ elim h.is_meaning [
+        | inl pre ↦ elim (which_prefix t p k f h.name h.meaning pre) [
+          | inl m ↦ new_and_old (given_is p k h.meaning m.1) there.1
+          | inr o ↦ both_old (inl o.1) there.1
+        ]
+        | inr inf ↦ elim (which_infix t p k f h.name h.meaning inf) [
+          | inl m ↦ new_and_old (given_is p k h.meaning m.1) there.1
+          | inr o ↦ both_old (inr o.1) there.1
         ]
       ]
     ]

@@ -86,6 +86,10 @@ defined t p k f = record {
 abbrev pub WouldClash : Table → ℕ → OpKind → ℕ → Type 0
 WouldClash t p k f = HasClash (defined t p k f)
 
+-- some name has this meaning
+abbrev pub IsGiven : Table → Meaning → Type 0
+IsGiven t m = (f : ℕ) × ((prefix_in t f ≡ Some m) ⊎ (infix_in t f ≡ Some m))
+
 -- a priority of an operator, or 0
 abbrev pub IsPriority : ℤ → ℕ → Type 0
 IsPriority z p = (z ≡ pos p) × (p ≤ 1200)

@@ -1,11 +1,12 @@
 //! The table of operators.
 
 ghost use Rattle.std.specs.Prelude.{◌≡◌, ◌≢◌, Ok, Err, ◌≤◌, nat_eq, IfErr, OnOk, OnErr, IfOk, IsTrue, ◌↔◌};
+ghost use Rattle.std.specs.Bool.{OnTrue};
 ghost use Rattle.std.specs.List.{list_any, IsDistinct};
 ghost use Rattle.std.specs.Map.{keys_of};
 ghost use Rattle.apd_ops.specs.Definition.{definition};
 ghost use Rattle.apd_ops.specs.Standard.{standard_table};
-ghost use Rattle.apd_ops.specs.Table.{prefix_in, infix_in, IsTable, IsMade, IsRefused, IsFixed, WouldClash, defined, clashes, clashes_unless, Sets};
+ghost use Rattle.apd_ops.specs.Table.{prefix_in, infix_in, IsTable, IsMade, IsRefused, IsFixed, IsGiven, WouldClash, defined, clashes, clashes_unless, Sets};
 
 use crate::op::{OpFault, OpKind};
 use crate::standard::{infixes, prefixes};
@@ -20,6 +21,8 @@ use std::marker::Model;
 pub struct Ops {
     prefixes: IndexMap<u32, (u16, OpKind)>,
     infixes: IndexMap<u32, (u16, OpKind)>,
+    /// The name that a meaning was given to last.
+    newest: NameId,
 }
 
 impl Model for Ops {
@@ -47,6 +50,16 @@ fn clashes(m: (u16, OpKind), n: (u16, OpKind)) -> bool
 {
     m.0 == n.0
         && (m.1.groups_right() && n.1.groups_left() || m.1.groups_left() && n.1.groups_right())
+}
+
+/// Whether a name has this meaning.
+fn is_meaning(has: Option<(u16, OpKind)>, new: (u16, OpKind)) -> bool
+    ensures { OnTrue result (has ≡ Some new) }
+{
+    match has {
+        Some(old) => old.0 == new.0 && old.1 == new.1,
+        None => false,
+    }
 }
 
 /// Whether a meaning clashes with one of the map; that of the name itself counts only where it isn't to be skipped.
@@ -90,6 +103,7 @@ impl Ops {
         Ok(Ops {
             prefixes: prefixes(alloc)?,
             infixes: infixes(alloc)?,
+            newest: COMMA,
         })
     }
 
@@ -115,12 +129,23 @@ impl Ops {
         let _ = &self.prefixes;
     }
 
+    /// Whether the name that a meaning was given to last has this one; false says nothing. Then nothing clashes with it, and many
+    /// names of one directive are defined without a look at the whole table for each.
+    fn is_newest(&self, new: (u16, OpKind)) -> bool
+        ensures { OnTrue result (IsGiven self.now new) }
+    {
+        is_meaning(self.prefix(self.newest), new) || is_meaning(self.infix(self.newest), new)
+    }
+
     /// Whether after this definition two operators would clash.
     fn would_clash(&self, new: (u16, OpKind), name: NameId) -> bool
         ensures { IsTrue result ↔ WouldClash self.now new.0 new.1 name.0 }
     {
         self.has_no_clash();
         if new.0 == 0 {
+            return false;
+        }
+        if self.is_newest(new) {
             return false;
         }
         let is_prefix = new.1.is_prefix();
@@ -136,6 +161,7 @@ impl Ops {
         ensures done { OnOk result (self.new ≡ defined self.old new.0 new.1 name.0) }
         ensures unchanged { OnErr result (self.new ≡ self.old) }
     {
+        self.newest = name;
         if new.1.is_prefix() {
             set_meaning(&mut self.prefixes, new, name.0)?;
         } else {

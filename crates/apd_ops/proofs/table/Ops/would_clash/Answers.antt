@@ -2,7 +2,8 @@ use Rattle.std.proofs.Common.{◌≤◌, ℕ, subst, arith}
 use Rattle.std.specs.Prelude.{IsTrue}
 use Rattle.apd_ops.specs.Table.{Table, WouldClash}
 use Rattle.apd_ops.proofs.Looked.{Lists}
-use Rattle.apd_ops.proofs.Clashes.{no_clash_at_none, says_first, says_second}
+use Rattle.std.proofs.lemmas.Bool.{OnTrue_at}
+use Rattle.apd_ops.proofs.Clashes.{no_clash_at_given, no_clash_at_none, says_first, says_second}
 use Rattle.apd_ops.proofs.table.Ops.would_clash.Goals as goal
 
 pub returns-then-new-eq0 : goal.returns-then-new-eq0
@@ -11,6 +12,12 @@ returns-then-new-eq0 c =
     let k = c.args.new.1 in
     let f = c.args.name.0 in
     (λ h. absurd cc, λ h. absurd (no_clash_at_none t k f c.has_no_clash.ensures (subst (λ (p : ℕ). WouldClash t p k f) c.if-new-eq0.true h)))
+
+pub returns-then-is_newest : goal.returns-then-is_newest
+returns-then-is_newest c =
+    let t = c.args.self.now in
+    let given = OnTrue_at c.if-is_newest.true c.is_newest.ensures in
+    (λ h. absurd cc, λ h. absurd (no_clash_at_given t c.args.new.0 c.args.new.1 c.args.name.0 c.has_no_clash.ensures given h))
 
 pub returns-then-clashes_with : goal.returns-then-clashes_with
 returns-then-clashes_with c =

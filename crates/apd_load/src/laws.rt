@@ -3,9 +3,12 @@
 ghost use Rattle.std.specs.Prelude.{◌≡◌, ◌≤◌, ℕ, List, length};
 ghost use Rattle.apd_read.specs.Reader.{Reader};
 ghost use Rattle.apd_base.specs.declared.limits.TheConstants.{MAX_FILE};
-ghost use Rattle.apd_load.specs.Program.{Loads, program_of};
+ghost use Rattle.apd_clauses.specs.Clauses.{tuples_of};
+ghost use Rattle.apd_dcg.specs.Rules.{AreClausesOf};
+ghost use Rattle.apd_load.specs.Program.{Loads, loads, program_of};
 ghost use Rattle.apd_load.specs.Programs.{IsProgramIn};
-ghost use Rattle.apd_load.specs.Texts.{Makes};
+ghost use Rattle.apd_load.specs.Texts.{Makes, clause_terms};
+ghost use Rattle.apd_load.specs.declared.loading.Loading.{Loading};
 
 /// The law of one program: under the same names all readers of texts give the same program of a text, or the same first fault
 /// with its line.
@@ -25,4 +28,11 @@ pub fn every_text_makes_one_program()
 pub fn what_is_loaded_is_a_program()
     ensures { (names : List (List ℕ)) (reader : Reader names) (text : List ℕ) →
         length text ≤ MAX_FILE → IsProgramIn (program_of reader text) }
+{}
+
+/// The clauses of what a text makes are those that its terms are, in order: a grammar rule is its translation, and a
+/// directive is no clause.
+pub fn what_is_loaded_is_made_of_terms()
+    ensures { (names : List (List ℕ)) (text : List ℕ) (l : Loading) (made : Makes names text (loads l)) →
+        AreClausesOf (clause_terms made) (tuples_of l.program) }
 {}

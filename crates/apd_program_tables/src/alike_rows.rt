@@ -4,7 +4,7 @@ use apd_arith::Builtin;
 use apd_clauses::{Clause, Program};
 use apd_load::{LoadText, Loaded, Note};
 use apd_ops::Ops;
-use apd_plain::load::{Plain, plain_load};
+use apd_plain_load::load::{Plain, plain_load};
 use apd_rows::{MOST_ROW_NAMES, Scene};
 use apd_term::{Flat, NameId, Names, Pred, Tuple};
 use std::alloc::{AllocError, Global};

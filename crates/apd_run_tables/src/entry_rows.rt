@@ -70,6 +70,8 @@ fn body_fault(name: &str, pred: Pred) -> Option<BodyFault> {
         "Disjunction" => BodyFault::Disjunction,
         "IfThen" => BodyFault::IfThen,
         "Impure" => BodyFault::Impure(pred),
+        "DcgList" => BodyFault::DcgList,
+        "DcgArity" => BodyFault::DcgArity,
         "BodyOver" => BodyFault::BodyOver,
         "Memory" => BodyFault::Memory,
         _ => return None,

@@ -2,6 +2,7 @@
 //! the line of each byte is kept in a list.
 
 mod conjunction;
+mod grammar;
 mod op_terms;
 mod stop;
 
@@ -11,6 +12,7 @@ ghost use Rattle.apd_token.specs.Grammar.{HasTokens};
 ghost use Rattle.apd_base.specs.declared.limits.TheConstants.{MAX_FILE};
 
 use crate::load::conjunction::goals;
+use crate::load::grammar::clause_of_rule;
 use crate::load::op_terms::{kind_of, names_of, priority_of};
 use crate::load::stop::Stop;
 use apd_base::ListOf;
@@ -19,8 +21,8 @@ use apd_clauses::{Clause, clause_of};
 use apd_load::{LoadText, Note, Notes};
 use apd_ops::{OpFault, OpKind, Ops};
 use apd_read::read_clause;
-use apd_term::standard::{NECK, OP, QUERY};
-use apd_term::{Flat, NameId, Names, Pred};
+use apd_term::standard::{GRAMMAR_ARROW, NECK, OP, QUERY};
+use apd_term::{Flat, NameId, Names, Pred, Tuple};
 use apd_token::{Tokens, tokens};
 use std::alloc::{AllocError, Global};
 
@@ -172,9 +174,23 @@ fn obey_all(alloc: Global, at: At<'_>, made: &mut Plain, body: &Flat) -> Result<
     Ok(())
 }
 
+/// The clause that a term is.
+fn clause_made(alloc: Global, steps: usize, term: &Flat) -> Result<Tuple, BodyFault> {
+    match term.pred() {
+        Some(
+            Pred {
+                name: GRAMMAR_ARROW,
+                arity: 2,
+            },
+        ) => clause_of_rule(alloc, steps, term),
+        _ => clause_of(alloc, term),
+    }
+}
+
 /// Adds a clause.
-fn add_clause(alloc: Global, line: u32, made: &mut Plain, term: &Flat) -> Result<(), Stop> {
-    let tuple = clause_of(alloc, term)?;
+fn add_clause(alloc: Global, at: At<'_>, made: &mut Plain, term: &Flat) -> Result<(), Stop> {
+    let tuple = clause_made(alloc, at.steps, term)?;
+    let line = at.line;
     if made.clauses.len() >= 20_000 {
         return Err(Stop::Cause(LoadCause::ClausesOver));
     }
@@ -194,7 +210,7 @@ fn add(alloc: Global, at: At<'_>, made: &mut Plain, term: &Flat) -> Result<(), S
             let body = term.arg(alloc, 0)?;
             obey_all(alloc, at, made, &body)
         }
-        _ => add_clause(alloc, at.line, made, term),
+        _ => add_clause(alloc, at, made, term),
     }
 }
 

@@ -1,10 +1,9 @@
-//! The law of reading back: what `apd_write` writes of a term is read by `apd_token` and `apd_read`
-//! as that term.
+//! The laws of reading back: what `apd_write` writes of a term, and of the goals of a query, is read by `apd_token` and
+//! `apd_read` as that term.
 //!
-//! The law is the contract of [`reading_back`]; no code here runs.
+//! The laws are the contracts of [`reading_back`] and [`items_and_queries_read_back`]; no code here runs.
 #![tactic(auto)]
 
-ghost use Rattle.std.specs.Prelude.{ℕ, List, ◌++◌, Result};
 ghost use Rattle.apd_term.specs.Term.{Term};
 ghost use Rattle.apd_causes.specs.declared.faults.ReadFault.{ReadFault};
 ghost use Rattle.apd_causes.specs.declared.reading.Read.{Read};
@@ -12,7 +11,12 @@ ghost use Rattle.apd_ops.specs.Table.{Table, IsTable};
 ghost use Rattle.apd_token.specs.declared.items.Token.{Token};
 ghost use Rattle.apd_token.specs.Grammar.{HasTokens};
 ghost use Rattle.apd_read.specs.Reader.{IsRead};
-ghost use Rattle.apd_reading_back.specs.Law.{AreNames, IsReadable, clause_text, ReadsBack, IsTermRead};
+ghost use Rattle.std.specs.Prelude.{◌≡◌, ℕ, ◌+◌, ◌≤◌, ◌<◌, List, ◌++◌, codes, length, IsUtf8, Result, Ok};
+ghost use Rattle.apd_term.specs.Names.{text_of_name};
+ghost use Rattle.apd_term.specs.declared.term.NameId.{NameId};
+ghost use Rattle.apd_reading_back.specs.Law.{AreNames, IsReadable, IsWritable, item_text, clause_text, ReadsAs, ReadsBack, IsTermRead};
+ghost use Rattle.apd_reading_back.specs.Levels.{levels};
+ghost use Rattle.apd_reading_back.specs.Queries.{AreReadable, IsAskable, call_term, call_text, conjoined, goals_text, query_term, query_text};
 
 /// The law of reading back. The text of a term as a clause, by a table of operators, has tokens,
 /// which read by the same table as the term, and as nothing else.
@@ -20,6 +24,34 @@ ghost use Rattle.apd_reading_back.specs.Law.{AreNames, IsReadable, clause_text, 
 /// The term is canonical, its names are kept and are UTF-8, its numbers are those of symbols, and its
 /// text has no term at level 1,000. Names may come later.
 pub fn reading_back()
-    ensures reads { (ops : Table) (names : List (List ℕ)) (t : Term) → IsTable ops → AreNames names → IsReadable ops names t → ReadsBack ops names t }
-    ensures only { (ops : Table) (names : List (List ℕ)) (t : Term) → IsTable ops → AreNames names → IsReadable ops names t → (later : List (List ℕ)) (tokens : List Token) (answer : Result Read ReadFault) → HasTokens (clause_text ops names t) tokens → IsRead ops (names ++ later) (clause_text ops names t) tokens 0 answer → IsTermRead t answer }
+    ensures reads { (ops : Table) (names : List (List ℕ)) (t : Term) →
+        IsTable ops → AreNames names → IsReadable ops names t → ReadsBack ops names t }
+    ensures only { (ops : Table) (names : List (List ℕ)) (t : Term) →
+        IsTable ops → AreNames names → IsReadable ops names t →
+        (later : List (List ℕ)) (tokens : List Token) (answer : Result Read ReadFault) →
+        HasTokens (clause_text ops names t) tokens →
+        IsRead ops (names ++ later) (clause_text ops names t) tokens 0 answer → IsTermRead t answer }
+{}
+
+/// A term written for a place of any priority reads back too, and so do the goals of a query as they are printed: each as an
+/// argument is written, behind `?-`. What reads as a term reads as nothing else.
+pub fn items_and_queries_read_back()
+    ensures items { (ops : Table) (names : List (List ℕ)) (t : Term) (place : ℕ) →
+        IsTable ops → AreNames names → IsWritable names t → place ≤ 1200 → levels ops t place < 1000 →
+        ReadsAs ops names (item_text ops names t place) t }
+    ensures queries { (ops : Table) (names : List (List ℕ)) (goal : Term) (goals : List Term) →
+        IsTable ops → AreNames names → IsAskable ops names goal goals →
+        ReadsAs ops names (query_text ops names goal goals) (query_term goal goals) }
+    ensures goals { (ops : Table) (names : List (List ℕ)) (goal : Term) (goals : List Term) →
+        IsTable ops → AreNames names → AreReadable ops names goal goals →
+        ReadsAs ops names (goals_text ops names goal goals ++ codes " .") (conjoined goal goals) }
+    ensures calls { (ops : Table) (names : List (List ℕ)) (f : NameId) (t : Term) →
+        IsTable ops → AreNames names → f.0 < length names → IsUtf8 (text_of_name names f) →
+        IsWritable names t → levels ops t 999 + 1 < 1000 →
+        ReadsAs ops names (call_text ops names f t ++ codes " .") (call_term f t) }
+    ensures only { (ops : Table) (names : List (List ℕ)) (text : List ℕ) (t : Term) →
+        IsTable ops → (back : ReadsAs ops names text t) →
+        (later : List (List ℕ)) (tokens : List Token) (answer : Result Read ReadFault) →
+        HasTokens text tokens → IsRead ops (names ++ later) text tokens 0 answer →
+        answer ≡ Ok back.read }
 {}

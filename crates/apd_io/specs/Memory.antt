@@ -1,5 +1,5 @@
 -- What contracts see of a source, a sink and files that are kept in memory.
-use Rattle.std.specs.Prelude.{ℕ, List, [], ◌∷◌, Option, None, Some, Bool, true, false, if◌then◌else◌, nat_eq, Result, Ok, Err, ◌≡◌, ◌<◌, length, take, slice_get, IfSome}
+use Rattle.std.specs.Prelude.{ℕ, List, [], ◌∷◌, Option, None, Some, is_none, Bool, false, ◌||◌, if◌then◌else◌, nat_eq, Result, Ok, Err, ◌≡◌, ◌<◌, length, take, slice_get, IfSome}
 use Rattle.std.specs.List.{list_any}
 use Rattle.std.specs.Str.{bytes_eq}
 use Rattle.apd_io.specs.Outside.{risen, is_load_fault}
@@ -19,15 +19,17 @@ called calls failed = record { failing = calls.failing; made = risen calls.made;
 abbrev pub uncalled : List ℕ → Calls
 uncalled failing = record { failing = failing; made = 0; faults = 0 }
 
--- a source: the bytes that are left, and its calls
+-- a source: the bytes that are left, how many one read gives at most, and its calls
 pub record Feed : Type 0 where
   pub left : List ℕ
+  pub most : ℕ
   pub calls : Calls
 
--- a sink: the bytes that it holds, how many it can hold, and its calls
+-- a sink: the bytes that it holds, how many it can hold, how many one write takes at most, and its calls
 pub record Store : Type 0 where
   pub held : List ℕ
   pub room : ℕ
+  pub most : ℕ
   pub calls : Calls
 
 -- files, and the loads of them
@@ -39,6 +41,10 @@ pub record Shelf : Type 0 where
 abbrev pub content_of : List MemFile → List ℕ → Option (List ℕ)
 content_of [] name = None
 content_of (file ∷ files) name = if bytes_eq file.name name then Some file.content else content_of files name
+
+-- the files after a load of the file of this name: one load more, which failed where it was due to or the file isn't there
+abbrev pub loaded_from : Shelf → List ℕ → Shelf
+loaded_from shelf name = record { files = shelf.files; calls = called shelf.calls (is_due shelf.calls || is_none (content_of shelf.files name)) }
 
 -- the first file of this name stands at this place
 pub record IsPlaceOf (files : List MemFile) (name : List ℕ) (i : ℕ) : Type 0 where

@@ -1,5 +1,5 @@
 -- What is said of a call on something outside: the fault that it counts, and the bytes where they are told.
-use Rattle.std.specs.Prelude.{ℕ, ◌≡◌, ◌<◌, List, Option, None, Some, Bool, true, false, ⊤, length, [], ◌++◌}
+use Rattle.std.specs.Prelude.{ℕ, ◌≡◌, ◌<◌, List, Option, None, Some, Bool, true, false, ⊤, length, [], ◌∷◌, ◌++◌}
 pub use Rattle.apd_base.specs.Counts.{risen, Rose, Counted, Counts}
 use Rattle.apd_io.specs.declared.fault.LoadFault.{LoadFault}
 use Rattle.apd_io.specs.declared.fault.LoadFault.TheVariants.{Failed}
@@ -38,3 +38,8 @@ Adds (Some held) (Some now) bytes = now ≡ held ++ bytes
 abbrev pub IsOver : Option (List ℕ) → Type 0
 IsOver None = ⊤
 IsOver (Some left) = left ≡ []
+
+-- from some files to those after loads of these names, in this order and of no others; `step` is one load
+abbrev pub LoadsInTurn : {T : Type 0} → (T → List ℕ → T → Type 0) → T → List (List ℕ) → T → Type 0
+LoadsInTurn step before [] after = after ≡ before
+LoadsInTurn {T} step before (name ∷ names) after = (between : T) × step before name between × LoadsInTurn step between names after

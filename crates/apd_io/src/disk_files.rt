@@ -4,7 +4,7 @@ ghost use Rattle.std.specs.Prelude.{◌≡◌, ◌<◌, ◌≤◌, ℕ, take, le
 ghost use Rattle.std.specs.Io.KnownBytes.{Consumes, IsAtEnd};
 ghost use Rattle.apd_io.specs.Memory.{is_failed};
 ghost use Rattle.apd_io.specs.Outside.{Counts, is_load_fault, Tells, TellsLong, risen};
-ghost use Rattle.apd_io.specs.Wrapped.{ConsumesCount};
+ghost use Rattle.apd_io.specs.Wrapped.{ConsumesCount, CountsLoad};
 ghost use Rattle.apd_io.specs.declared.fault.LoadFault.TheVariants.{TooLong};
 ghost use Rattle.apd_base.specs.declared.limits.TheConstants.{MAX_FILE, OVER_MAX_FILE};
 
@@ -46,11 +46,14 @@ impl<R: std::rt::Files> Files for DiskFiles<'_, R> {
 
     ghost faults = { λ d. d.faults };
 
+    ghost step = { λ before _ after. CountsLoad before after };
+
     fn load(&mut self, alloc: Global, name: &str) -> Result<Text, LoadFault>
         ensures whole { IfOk result (λ text. Tells None text) }
         ensures bound { IfOk result (λ text. length text ≤ MAX_FILE) }
         ensures number { IfErr result (λ e. (n : ℕ) → e ≡ TooLong n → n ≡ OVER_MAX_FILE) }
         ensures long { IfErr result (λ e. (n : ℕ) → e ≡ TooLong n → TellsLong None) }
+        ensures step { CountsLoad self.old self.new }
         ensures cause { Counts is_load_fault self.old.faults self.new.faults result }
         ensures counted { self.new.faults ≡ (if is_failed result then risen self.old.faults else self.old.faults) }
     {

@@ -18,6 +18,10 @@ pub trait Files {
     /// How many loads have failed.
     ghost faults: { Self → ℕ };
 
+    /// From the files, by a load of the file of this name, to the files after it. A function over any
+    /// files says by it which it loaded, in order: `LoadsInTurn` in specs/Outside.
+    ghost step: { Self → List ℕ → Self → Type 0 };
+
     /// The whole content of the file of this name.
     ///
     /// # Errors
@@ -31,5 +35,6 @@ pub trait Files {
         ensures number { IfErr result (λ e. (n : ℕ) → e ≡ TooLong n → n ≡ OVER_MAX_FILE) }
         ensures long { IfErr result (λ e. (n : ℕ) → e ≡ TooLong n → TellsLong (content self.old name.now)) }
         ensures same { content self.new ≡ content self.old }
+        ensures step { step self.old name.now self.new }
         ensures cause { Counts is_load_fault (faults self.old) (faults self.new) result };
 }

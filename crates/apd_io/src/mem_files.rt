@@ -1,7 +1,7 @@
 //! Files in memory.
 
 ghost use Rattle.std.specs.Prelude.{◌≡◌, ◌↔◌, ◌⊎◌, [], ◌<◌, ◌≤◌, ◌||◌, length, IfOk, IfErr, IsErrOf, OnErr, OnOk, IsTrue, MatchOption, None, Some, is_none, ◌≢◌, List, ℕ};
-ghost use Rattle.apd_io.specs.Memory.{Shelf, is_due, called, uncalled, content_of, is_failed, IsPlaceOf};
+ghost use Rattle.apd_io.specs.Memory.{Shelf, is_due, called, uncalled, content_of, is_failed, loaded_from, IsPlaceOf};
 ghost use Rattle.apd_io.specs.Outside.{Counts, is_load_fault, Tells, TellsLong};
 ghost use Rattle.apd_io.specs.declared.fault.LoadFault.TheVariants.{Failed, TooLong, Memory};
 ghost use Rattle.apd_base.specs.declared.limits.TheConstants.{MAX_FILE, OVER_MAX_FILE};
@@ -74,12 +74,15 @@ impl Files for MemFiles {
 
     ghost faults = { λ m. m.calls.faults };
 
+    ghost step = { λ before name after. after ≡ loaded_from before name };
+
     fn load(&mut self, alloc: Global, name: &str) -> Result<Text, LoadFault>
         ensures whole { IfOk result (λ text. Tells (content_of self.old.files name.now) text) }
         ensures bound { IfOk result (λ text. length text ≤ MAX_FILE) }
         ensures number { IfErr result (λ e. (n : _) → e ≡ TooLong n → n ≡ OVER_MAX_FILE) }
         ensures long { IfErr result (λ e. (n : _) → e ≡ TooLong n → TellsLong (content_of self.old.files name.now)) }
         ensures same { content_of self.new.files ≡ content_of self.old.files }
+        ensures step { self.new ≡ loaded_from self.old name.now }
         ensures cause { Counts is_load_fault self.old.calls.faults self.new.calls.faults result }
         ensures fails { IsErrOf result Failed ↔ IsTrue (is_due self.old.calls || is_none (content_of self.old.files name.now)) }
         ensures counted { self.new.calls ≡ called self.old.calls (is_failed result) }

@@ -14,20 +14,23 @@ use std::marker::Model;
 /// A sink that keeps its bytes in memory, with room for so many, whose writes of given numbers
 /// fail.
 ///
-/// In contracts it is the bytes that it holds, with its room and its calls.
+/// In contracts it is the bytes that it holds, its room, how many bytes one write takes at most, and
+/// its calls.
 #[derive(Drop)]
 pub struct MemSink {
     bytes: Vec<u8>,
     room: u32,
+    most: usize,
     calls: Calls,
 }
 
 impl Model for MemSink {
     ghost Value = { Store };
 
-    ghost view = { λ s. record { held = s.bytes.items; room = s.room; calls = s.calls } };
+    ghost view = { λ s. record { held = s.bytes.items; room = s.room; most = s.most; calls = s.calls } };
 
-    ghost invariant = { λ s. (length s.bytes.items ≤ s.room) × (s.room ≤ vec_capacity s.bytes) };
+    ghost invariant = { λ s.
+        (length s.bytes.items ≤ s.room) × (s.room ≤ vec_capacity s.bytes) × (0 < s.most) };
 }
 
 impl MemSink {
@@ -38,11 +41,36 @@ impl MemSink {
     ///
     /// Where there is no memory for `room` bytes. It is taken here, so that a write takes none.
     pub fn new(alloc: Global, room: u32, failing: Ids) -> Result<MemSink, AllocError>
-        ensures { IfOk result (λ s. s ≡ record { held = []; room = room; calls = uncalled failing }) }
+        ensures { IfOk result (λ s.
+            s ≡ record { held = []; room = room; most = usize.MAX; calls = uncalled failing }) }
     {
         Ok(MemSink {
             bytes: Vec::with_capacity(alloc, room as usize)?,
             room,
+            most: usize::MAX,
+            calls: Calls::new(failing),
+        })
+    }
+
+    /// As [`MemSink::new`], but one write takes at most `most` bytes, which is 1 or more.
+    ///
+    /// # Errors
+    ///
+    /// Where there is no memory for `room` bytes.
+    pub fn in_pieces(
+        alloc: Global,
+        room: u32,
+        failing: Ids,
+        most: u32,
+    ) -> Result<MemSink, AllocError>
+        requires { 0 < most }
+        ensures { IfOk result (λ s.
+            s ≡ record { held = []; room = room; most = most; calls = uncalled failing }) }
+    {
+        Ok(MemSink {
+            bytes: Vec::with_capacity(alloc, room as usize)?,
+            room,
+            most: most as usize,
             calls: Calls::new(failing),
         })
     }
@@ -63,10 +91,12 @@ impl Sink for MemSink {
     fn write(&mut self, bytes: &[u8]) -> Result<usize, Failed>
         requires { 0 < length bytes.now }
         ensures some { IfOk result (λ n. 0 < n) }
-        ensures bound { IfOk result (λ n. n ≡ min (length bytes.now) (self.old.room - length self.old.held)) }
+        ensures bound { IfOk result (λ n. let space = self.old.room - length self.old.held in
+            n ≡ min (min (length bytes.now) space) self.old.most) }
         ensures bytes { IfOk result (λ n. self.new.held ≡ self.old.held ++ take n bytes.now) }
         ensures kept { OnErr result (self.new.held ≡ self.old.held) }
         ensures room { self.new.room ≡ self.old.room }
+        ensures most { self.new.most ≡ self.old.most }
         ensures cause { Counts (λ _. true) self.old.calls.faults self.new.calls.faults result }
         ensures fails { IsErr result ↔ IsTrue (is_due self.old.calls || nat_le self.old.room (length self.old.held)) }
         ensures counted { self.new.calls ≡ called self.old.calls (is_err result) }
@@ -75,7 +105,8 @@ impl Sink for MemSink {
             self.calls.fail();
             return Err(Failed);
         }
-        let count = (self.room as usize - self.bytes.len()).min(bytes.len());
+        let space = self.room as usize - self.bytes.len();
+        let count = bytes.len().min(space).min(self.most);
         self.bytes.extend_from_slice(&bytes[..count]).unwrap();
         Ok(count)
     }

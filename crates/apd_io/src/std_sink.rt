@@ -45,7 +45,8 @@ impl<W: Write + Drop> Sink for StdSink<W> {
     ghost faults = { λ s. s.faults };
 
     // A flush that fails is a fault, and so is a write that takes nothing. The writer may have taken
-    // bytes before a flush that fails.
+    // bytes before a flush that fails. That there is a flush is no clause: of one the library says
+    // only that the writer still holds what it held.
     fn write(&mut self, bytes: &[u8]) -> Result<usize, Failed>
         requires { 0 < length bytes.now }
         ensures some { IfOk result (λ n. 0 < n) }

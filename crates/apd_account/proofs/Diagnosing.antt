@@ -1,6 +1,6 @@
 -- The entries of a diagnosis are right: of each of the three.
-use Rattle.std.proofs.Common.{◌≡◌, ℕ, List, [], ◌∷◌, Option, Some, None, refl, ap, subst, arith, map}
-use Rattle.std.specs.Prelude.{length, ◌≤◌}
+use Rattle.std.proofs.Common.{◌≡◌, ℕ, List, [], ◌∷◌, Option, Some, None, refl, ap, subst, map}
+use Rattle.std.specs.Prelude.{length}
 use Rattle.apd_term.specs.Term.{Term}
 use Rattle.apd_term.specs.Canonical.{canonical}
 use Rattle.apd_term.specs.Substitution.{IsInstance}
@@ -14,10 +14,9 @@ use Rattle.apd_clauses.specs.Clauses.{tuples_of}
 use Rattle.apd_answers.specs.declared.finding.Finding.{Finding}
 use Rattle.apd_answers.specs.declared.question.Reply.{Reply}
 use Rattle.apd_answers.specs.declared.question.Asked.{Asked}
-use Rattle.apd_answers.specs.declared.store.Pair.{Pair}
 use Rattle.apd_answers.specs.Interpretation.{Interpretation}
 use Rattle.apd_answers.specs.Questions.{FitsAsked}
-use Rattle.apd_answers.specs.Store.{decided, with_pair}
+use Rattle.apd_answers.specs.Store.{Store, with_pair}
 use Rattle.apd_answers.specs.Dialogue.{Turn, asks, goes, ends, next_turn}
 use Rattle.apd_answers.specs.Findings.{AllDescendByReplies, Descends, IsByReplies}
 use Rattle.apd_answers.proofs.Decided.{added-no}
@@ -25,60 +24,63 @@ use Rattle.apd_answers.proofs.Sound.{finding-sound, descent-sound}
 use Rattle.apd_divide.specs.declared.node.Strategy.{Strategy}
 use Rattle.apd_divide.specs.Exits.{IsUserExit}
 use Rattle.apd_divide.specs.Recorded.{tree}
-use Rattle.apd_divide.specs.Tree.{Tree, suspects, branching}
+use Rattle.apd_divide.specs.Tree.{Tree, suspects}
 use Rattle.apd_loop.specs.Loop.{calls_in}
 use Rattle.apd_text.specs.declared.entry.Told.{Told}
 use Rattle.apd_text.specs.declared.entry.Told.TheVariants.{Wrong}
 use Rattle.apd_wrong.specs.Wrong.{wrong}
 use Rattle.apd_wrong.specs.Next.{AsksInTree, ComesNext}
+use Rattle.apd_wrong.specs.Part.{IsPartOf}
 use Rattle.apd_wrong.specs.Support.{IsWrongTree}
 use Rattle.apd_wrong.proofs.Next.{comes-next}
+use Rattle.apd_wrong.proofs.Part.{part-whole}
 use Rattle.apd_wrong.proofs.Recorded.{tree-wrong}
 use Rattle.apd_account.specs.Account.{Account, with_asked, with_reply, with_told}
-use Rattle.apd_account.specs.Right.{IsAnswer, IsDescent, IsFound, IsTreeOfSymptom, Leaves}
+use Rattle.apd_account.specs.Right.{IsAnswer, IsDescent, IsFound, IsTreeOfSymptom, IsUnanswered, Leaves}
 
 -- what was found by the replies
-pub found-right : (m : Interpretation) (program : List Clause) (a : Account) (f : Finding) → IsByReplies (tuples_of program) a.history a.pairs f → IsFound m program a f
-found-right m program a f by = record { by_replies = by; bug = λ true. finding-sound (tuples_of program) a.history m a.pairs f true by }
+pub found-right : (m : Interpretation) (program : List Clause) (a : Account) (f : Finding) → IsSound (tuples_of program) a.history → IsByReplies (tuples_of program) a.history a.store f
+    → IsFound m program a f
+found-right m program a f sound by = record { by_replies = by; bug = λ true. finding-sound (tuples_of program) a.history m a.store f true sound by }
 
 -- calls of which each is below the one before
 canonical-again : (R : Recorded) (bs : List ℕ) → map canonical (calls_in R bs) ≡ calls_in R bs
 canonical-again R [] = refl
 canonical-again R (b ∷ bs) = rw (canonical-canonical (call_atom R b), canonical-again R bs) refl
 
-pub descent-right : (m : Interpretation) (a : Account) → AllDescendByReplies a.pairs (calls_in a.history (chain a.history)) → IsDescent m a (length (chain a.history))
+pub descent-right : (m : Interpretation) (a : Account) → AllDescendByReplies a.store (calls_in a.history (chain a.history)) → IsDescent m a (length (chain a.history))
 descent-right m a by = record {
   count = refl;
   by_replies = by;
-  descends = λ true. subst (Descends m) (canonical-again a.history (chain a.history)) (descent-sound m a.pairs true (calls_in a.history (chain a.history)) by);
+  descends = λ true. subst (Descends m) (canonical-again a.history (chain a.history)) (descent-sound m a.store true (calls_in a.history (chain a.history)) by);
 }
 
 -- A diagnosis whose states are known by the record, the replies and the symptom.
-module _ {D : Type 0} (strategy : Strategy) (Known : Recorded → List Pair → Option Told → D → Type 0) (left : D → Option ℕ) where
-  -- the question isn't decided, and each reply that fits leads to a known state, with fewer suspects where they were counted
-  pub record AsksRightly (R : Recorded) (pairs : List Pair) (symptom : Option Told) (asked : Asked) (next : Reply → D) : Type 0 where
-    pub undecided : decided pairs asked.question ≡ None
-    pub known : (r : Reply) → FitsAsked asked r → Known R (with_pair pairs asked.question r) symptom (next r)
-    pub leaves : (r : Reply) → FitsAsked asked r → Leaves strategy R pairs symptom asked r (left (next r))
+module _ {D : Type 0} (strategy : Strategy) (Known : Recorded → Store → Option Told → D → Type 0) (left : D → Option ℕ) where
+  -- the question has no reply yet, and each reply that fits leads to a known state, with fewer suspects where they were counted
+  pub record AsksRightly (R : Recorded) (store : Store) (symptom : Option Told) (asked : Asked) (next : Reply → D) : Type 0 where
+    pub unanswered : IsUnanswered store asked
+    pub known : (r : Reply) → FitsAsked asked r → Known R (with_pair store asked.question r) symptom (next r)
+    pub leaves : (r : Reply) → FitsAsked asked r → Leaves strategy R store symptom asked r (left (next r))
 
   -- a question waits that was asked last
   pub record Waits (a : Account) (asked : Asked) (next : Reply → D) : Type 0 where
     pub last : a.asked ≡ Some asked
-    pub asks : AsksRightly a.history a.pairs a.symptom asked next
+    pub asks : AsksRightly a.history a.store a.symptom asked next
 
-  pub waits : (a : Account) (asked : Asked) (next : Reply → D) → AsksRightly a.history a.pairs a.symptom asked next → Waits (with_asked a asked) asked next
-  waits a asked next k = record { last = refl; asks = record { undecided = k.undecided; known = k.known; leaves = k.leaves } }
+  pub waits : (a : Account) (asked : Asked) (next : Reply → D) → AsksRightly a.history a.store a.symptom asked next → Waits (with_asked a asked) asked next
+  waits a asked next k = record { last = refl; asks = record { unanswered = k.unanswered; known = k.known; leaves = k.leaves } }
 
   -- a reply that fits is right
   pub reply-right : (a : Account) (asked : Asked) (next : Reply → D) (r : Reply) → Waits a asked next → FitsAsked asked r → IsAnswer strategy a r (left (next r))
   reply-right a asked next r w fits = record { asked = asked; last = w.last; fits = fits; leaves = w.asks.leaves r fits }
 
 -- the next turn of a known state: a question that is asked rightly, or an end
-module _ {D E : Type 0} (strategy : Strategy) (Known : Recorded → List Pair → Option Told → D → Type 0) (left : D → Option ℕ) (IsEnd : Recorded → List Pair → E → Type 0) where
-  abbrev pub RightTurn : Recorded → List Pair → Option Told → Turn D E → Type 0
-  RightTurn R pairs symptom (asks asked next) = AsksRightly strategy Known left R pairs symptom asked next
-  RightTurn R pairs symptom (goes x) = ⊥
-  RightTurn R pairs symptom (ends e) = IsEnd R pairs e
+module _ {D E : Type 0} (strategy : Strategy) (Known : Recorded → Store → Option Told → D → Type 0) (left : D → Option ℕ) (IsEnd : Recorded → Store → E → Type 0) where
+  abbrev pub RightTurn : Recorded → Store → Option Told → Turn D E → Type 0
+  RightTurn R store symptom (asks asked next) = AsksRightly strategy Known left R store symptom asked next
+  RightTurn R store symptom (goes x) = ⊥
+  RightTurn R store symptom (ends e) = IsEnd R store e
 
 -- what is told after a reply to what waits
 pub replied-is : (a : Account) (asked : Asked) (r : Reply) → a.asked ≡ Some asked → with_reply a a.asked r ≡ with_reply a (Some asked) r
@@ -86,30 +88,30 @@ replied-is a asked r e = ap (λ o. with_reply a o r) e
 
 -- The diagnosis of a wrong answer.
 
--- a tree of a wrong answer, with no more children at any node than the symptom's has
-pub record IsKnownTree (P : List Tuple) (R : Recorded) (pairs : List Pair) (symptom : Option Told) (x : Tree) : Type 0 where
+-- a tree of a wrong answer that is a part of the symptom's
+pub record IsKnownTree (P : List Tuple) (R : Recorded) (store : Store) (symptom : Option Told) (x : Tree) : Type 0 where
   pub atom : Term
   pub symptom_is : symptom ≡ Some (Wrong atom)
   pub whole : Tree
   pub of_symptom : IsTreeOfSymptom R atom whole
-  pub wrong : IsWrongTree P pairs x
-  pub branches : branching x ≤ branching whole
+  pub wrong : IsWrongTree P R store x
+  pub part : IsPartOf whole x
 
 abbrev pub wrong_left : Tree → Option ℕ
 wrong_left x = Some (suspects x)
 
 module _ (P : List Tuple) (strategy : Strategy) where
-  wrong_asks : (R : Recorded) (pairs : List Pair) (symptom : Option Told) (x : Tree) (asked : Asked) (next : Reply → Tree) → (k : IsKnownTree P R pairs symptom x) → AsksInTree P strategy pairs (branching k.whole) asked next
-      → AsksRightly strategy (IsKnownTree P) wrong_left R pairs symptom asked next
-  wrong_asks R pairs symptom x asked next k a = record {
-    undecided = a.undecided;
+  wrong_asks : (R : Recorded) (store : Store) (symptom : Option Told) (x : Tree) (asked : Asked) (next : Reply → Tree) → (k : IsKnownTree P R store symptom x) → AsksInTree P R strategy store k.whole asked next
+      → AsksRightly strategy (IsKnownTree P) wrong_left R store symptom asked next
+  wrong_asks R store symptom x asked next k a = record {
+    unanswered = record { undecided = a.undecided; unreplied = λ counted. a.unreplied };
     known = λ r fits. record {
       atom = k.atom;
       symptom_is = k.symptom_is;
       whole = k.whole;
       of_symptom = k.of_symptom;
       wrong = (a.left r fits).wrong;
-      branches = (a.left r fits).branches;
+      part = (a.left r fits).part;
     };
     leaves = λ r fits. rw a.counted (record {
       after = suspects (next r);
@@ -122,26 +124,26 @@ module _ (P : List Tuple) (strategy : Strategy) where
   }
 
   -- its next turn
-  abbrev pub WrongTurn : Recorded → List Pair → Option Told → Turn Tree Finding → Type 0
+  abbrev pub WrongTurn : Recorded → Store → Option Told → Turn Tree Finding → Type 0
   WrongTurn = RightTurn strategy (IsKnownTree P) wrong_left (IsByReplies P)
 
-  wrong_turn-by : (R : Recorded) (pairs : List Pair) (symptom : Option Told) (x : Tree) (k : IsKnownTree P R pairs symptom x) (turn : Turn Tree Finding) → ComesNext P strategy pairs (branching k.whole) turn → WrongTurn R pairs symptom turn
-  wrong_turn-by R pairs symptom x k (asks asked next) c = wrong_asks R pairs symptom x asked next k c
-  wrong_turn-by R pairs symptom x k (goes y) c = absurd c
-  wrong_turn-by R pairs symptom x k (ends f) c = c R
+  wrong_turn-by : (R : Recorded) (store : Store) (symptom : Option Told) (x : Tree) (k : IsKnownTree P R store symptom x) (turn : Turn Tree Finding) → ComesNext P R strategy store k.whole turn → WrongTurn R store symptom turn
+  wrong_turn-by R store symptom x k (asks asked next) c = wrong_asks R store symptom x asked next k c
+  wrong_turn-by R store symptom x k (goes y) c = absurd c
+  wrong_turn-by R store symptom x k (ends f) c = c
 
-  pub wrong_turn : (R : Recorded) (pairs : List Pair) (symptom : Option Told) (x : Tree) → IsKnownTree P R pairs symptom x → WrongTurn R pairs symptom (next_turn (wrong strategy) pairs x)
-  wrong_turn R pairs symptom x k =
-      wrong_turn-by R pairs symptom x k (next_turn (wrong strategy) pairs x) (comes-next P strategy pairs (branching k.whole) x k.wrong k.branches)
+  pub wrong_turn : (R : Recorded) (store : Store) (symptom : Option Told) (x : Tree) → IsKnownTree P R store symptom x → WrongTurn R store symptom (next_turn (wrong strategy) store x)
+  wrong_turn R store symptom x k =
+      wrong_turn-by R store symptom x k (next_turn (wrong strategy) store x) (comes-next P R strategy store k.whole x k.wrong k.part)
 
 -- a symptom begins with the tree of an exit that has it as its head
-pub wrong_begins : (P : List Tuple) (R : Recorded) (pairs : List Pair) (e : ℕ) (atom : Term) → IsSound P R → (x : IsUserExit R e) → x.point.tuple.head ≡ atom
-    → IsKnownTree P R (with_told pairs (Wrong atom)) (Some (Wrong atom)) (tree R e atom)
-wrong_begins P R pairs e atom sound x h = record {
+pub wrong_begins : (P : List Tuple) (R : Recorded) (store : Store) (e : ℕ) (atom : Term) → IsSound P R → (x : IsUserExit R e) → x.point.tuple.head ≡ atom
+    → IsKnownTree P R (with_told store (Wrong atom)) (Some (Wrong atom)) (tree R e atom)
+wrong_begins P R store e atom sound x h = record {
   atom = atom;
   symptom_is = refl;
   whole = tree R e atom;
   of_symptom = record { number = e; exit = x; head = h; tree_is = refl };
-  wrong = tree-wrong P R (with_told pairs (Wrong atom)) sound e atom x (subst (λ t. IsInstance t x.point.tuple.head) h (IsInstance_from_variants x.point.tuple.head x.point.tuple.head refl)) (added-no pairs atom);
-  branches = omega arith;
+  wrong = tree-wrong P R (with_told store (Wrong atom)) sound e atom x (subst (λ t. IsInstance t x.point.tuple.head) h (IsInstance_from_variants x.point.tuple.head x.point.tuple.head refl)) (added-no store atom);
+  part = part-whole (tree R e atom);
 }

@@ -11,8 +11,7 @@ use Rattle.apd_answers.specs.declared.question.Question.TheVariants.{True}
 use Rattle.apd_answers.specs.declared.question.Reply.{Reply}
 use Rattle.apd_answers.specs.declared.question.Reply.TheVariants.{Yes, No}
 use Rattle.apd_answers.specs.declared.question.Asked.{Asked}
-use Rattle.apd_answers.specs.declared.store.Pair.{Pair}
-use Rattle.apd_answers.specs.Store.{with_pair}
+use Rattle.apd_answers.specs.Store.{Store, with_pair}
 use Rattle.apd_text.specs.declared.entry.Told.{Told}
 use Rattle.apd_text.specs.declared.entry.Told.TheVariants.{Wrong, Missing, NoEnd}
 use Rattle.apd_text.specs.declared.entry.Entry.{Entry}
@@ -22,33 +21,33 @@ use Rattle.apd_text.specs.declared.entry.Entry.TheVariants.{Run, Symptom, Questi
 pub record Account : Type 0 where
   -- the record of the last run that came to its end
   pub history : Recorded
-  -- the symptoms and the replies, each with its question
-  pub pairs : List Pair
+  -- the symptoms and the replies, each with its question, and the predicates that are trusted
+  pub store : Store
   -- the last symptom
   pub symptom : Option Told
   -- what was asked last
   pub asked : Option Asked
 
--- nothing was run, told or asked yet
-abbrev pub first_account : Account
-first_account = record { history = empty; pairs = []; symptom = None; asked = None }
+-- nothing was run, told or asked yet, and this is known
+abbrev pub account_with : Store → Account
+account_with store = record { history = empty; store = store; symptom = None; asked = None }
 
--- the replies with what a symptom says: that an atom isn't true, or that it is; that a run doesn't end is no reply
-abbrev pub with_told : List Pair → Told → List Pair
-with_told pairs (Wrong atom) = with_pair pairs (True atom) No
-with_told pairs (Missing atom) = with_pair pairs (True atom) Yes
-with_told pairs (NoEnd calls) = pairs
+-- the store with what a symptom says: that an atom isn't true, or that it is; that a run doesn't end is no reply
+abbrev pub with_told : Store → Told → Store
+with_told store (Wrong atom) = with_pair store (True atom) No
+with_told store (Missing atom) = with_pair store (True atom) Yes
+with_told store (NoEnd calls) = store
 
 abbrev pub after_told : Account → Told → Account
-after_told a what = record { history = a.history; pairs = with_told a.pairs what; symptom = Some what; asked = a.asked }
+after_told a what = record { history = a.history; store = with_told a.store what; symptom = Some what; asked = a.asked }
 
 abbrev pub with_asked : Account → Asked → Account
-with_asked a asked = record { history = a.history; pairs = a.pairs; symptom = a.symptom; asked = Some asked }
+with_asked a asked = record { history = a.history; store = a.store; symptom = a.symptom; asked = Some asked }
 
 -- a reply is one to what was asked last
 abbrev pub with_reply : Account → Option Asked → Reply → Account
 with_reply a None reply = a
-with_reply a (Some asked) reply = record { history = a.history; pairs = with_pair a.pairs asked.question reply; symptom = a.symptom; asked = Some asked }
+with_reply a (Some asked) reply = record { history = a.history; store = with_pair a.store asked.question reply; symptom = a.symptom; asked = Some asked }
 
 module _ (program : List Clause) where
   -- the record of the run of a query within these limits
@@ -57,7 +56,7 @@ module _ (program : List Clause) where
 
   abbrev pub after_run : Account → Query → ℕ → ℕ → Option Ran → Account
   after_run a q budget answers None = a
-  after_run a q budget answers (Some ran) = record { history = record_within q budget answers; pairs = a.pairs; symptom = a.symptom; asked = a.asked }
+  after_run a q budget answers (Some ran) = record { history = record_within q budget answers; store = a.store; symptom = a.symptom; asked = a.asked }
 
   -- what an entry adds
   abbrev pub after_entry : Account → Entry → Account

@@ -1,9 +1,10 @@
--- What pairs of questions and replies decide, and what they say.
+-- A store: replies, each with its question, and the predicates that are trusted. What its replies decide, and what they say.
 use Rattle.std.specs.Prelude.{◌≡◌, ◌⊎◌, ◌&&◌, ◌++◌, Bool, true, false, if◌then◌else◌, List, [], ◌∷◌, Option, None}
 use Rattle.std.specs.Bool.{then_some}
 use Rattle.std.specs.Option.{option_or}
 use Rattle.std.specs.List.{list_any}
 use Rattle.apd_term.specs.Term.{Term}
+use Rattle.apd_term.specs.declared.term.Pred.{Pred}
 use Rattle.apd_term.specs.Canonical.{canonical}
 use Rattle.apd_term.specs.Tuple.{canonical_tuple}
 use Rattle.apd_term.specs.Substitution.{IsInstance}
@@ -12,10 +13,18 @@ use Rattle.apd_term.specs.Matching.{same_term, is_instance}
 use Rattle.apd_answers.specs.declared.question.Question.{Question}
 use Rattle.apd_answers.specs.declared.question.Question.TheVariants as asks
 use Rattle.apd_answers.specs.declared.question.Reply.{Reply}
-use Rattle.apd_answers.specs.declared.question.Reply.TheVariants.{Yes, No, Values}
+use Rattle.apd_answers.specs.declared.question.Reply.TheVariants.{Yes, No, Values, Unknown}
 use Rattle.apd_answers.specs.declared.store.Pair.{Pair}
 use Rattle.apd_answers.specs.Interpretation.{Interpretation}
 use Rattle.apd_answers.specs.Questions.{canonical_question, with_values, IsTrueReply}
+
+pub record Store : Type 0 where
+  pub pairs : List Pair
+  pub trusted : List Pred
+
+-- nothing was replied, and nothing is trusted
+abbrev pub empty_store : Store
+empty_store = record { pairs = []; trusted = [] }
 
 abbrev pub same_list : List Term → List Term → Bool
 same_list [] [] = true
@@ -36,9 +45,11 @@ abbrev pub same_reply : Reply → Reply → Bool
 same_reply Yes Yes = true
 same_reply No No = true
 same_reply (Values ts) (Values us) = same_list ts us
+same_reply Unknown Unknown = true
 same_reply _ _ = false
 
--- what a reply tells of whether an atom is true: Yes of each instance of what is true, No of what has an untrue instance
+-- what a reply tells of whether an atom is true: Yes of each instance of what is true, No of what has an untrue instance, and
+-- Unknown nothing
 abbrev pub told_of_truth : Question → Reply → Term → Option Reply
 told_of_truth (asks.True b) Yes a = then_some (is_instance a b) Yes
 told_of_truth (asks.True b) No a = then_some (is_instance b a) No
@@ -51,9 +62,12 @@ told pair (asks.True a) = told_of_truth pair.question pair.reply a
 told pair question = then_some (same_question (canonical_question pair.question) (canonical_question question)) pair.reply
 
 -- the reply of the first pair that decides the question
-abbrev pub decided : List Pair → Question → Option Reply
-decided [] question = None
-decided (pair ∷ pairs) question = option_or (told pair question) (decided pairs question)
+abbrev pub decided_in : List Pair → Question → Option Reply
+decided_in [] question = None
+decided_in (pair ∷ pairs) question = option_or (told pair question) (decided_in pairs question)
+
+abbrev pub decided : Store → Question → Option Reply
+decided store question = decided_in store.pairs question
 
 -- the reply of the first pair whose question has this canonical form
 abbrev pub reply_to : List Pair → Question → Option Reply
@@ -64,17 +78,31 @@ reply_to (pair ∷ pairs) form = option_or (then_some (same_question (canonical_
 abbrev pub is_kept_as : List Pair → Question → Reply → Bool
 is_kept_as pairs form reply = list_any (λ (p : Pair). same_question (canonical_question p.question) form && same_reply p.reply reply) pairs
 
-abbrev pub is_kept : List Pair → Question → Reply → Bool
-is_kept pairs question reply = is_kept_as pairs (canonical_question question) reply
+abbrev pub is_kept_in : List Pair → Question → Reply → Bool
+is_kept_in pairs question reply = is_kept_as pairs (canonical_question question) reply
+
+abbrev pub is_kept : Store → Question → Reply → Bool
+is_kept store question reply = is_kept_in store.pairs question reply
+
+-- the reply is kept that it isn't known whether the atom is true
+abbrev pub is_doubted : Store → Term → Bool
+is_doubted store a = is_kept store (asks.True a) Unknown
 
 -- the pairs with this one at the end, unless it is kept
-abbrev pub with_pair : List Pair → Question → Reply → List Pair
-with_pair pairs question reply = if is_kept pairs question reply then pairs else pairs ++ record { question = question; reply = reply } ∷ []
+abbrev pub with_pair_in : List Pair → Question → Reply → List Pair
+with_pair_in pairs question reply = if is_kept_in pairs question reply then pairs else pairs ++ record { question = question; reply = reply } ∷ []
+
+-- the store with this pair too
+abbrev pub with_pair : Store → Question → Reply → Store
+with_pair store question reply = record { pairs = with_pair_in store.pairs question reply; trusted = store.trusted }
 
 -- some pair, first or not
-abbrev pub SomePair : (Question → Reply → Type 0) → List Pair → Type 0
-SomePair P [] = ⊥
-SomePair P (pair ∷ pairs) = P pair.question pair.reply ⊎ SomePair P pairs
+abbrev pub SomePairIn : (Question → Reply → Type 0) → List Pair → Type 0
+SomePairIn P [] = ⊥
+SomePairIn P (pair ∷ pairs) = P pair.question pair.reply ⊎ SomePairIn P pairs
+
+abbrev pub SomePair : (Question → Reply → Type 0) → Store → Type 0
+SomePair P store = SomePairIn P store.pairs
 
 abbrev pub SomeTerm : (Term → Type 0) → List Term → Type 0
 SomeTerm P [] = ⊥
@@ -101,23 +129,23 @@ TellsBelow said q p (asks.Below x y) reply = (reply ≡ said) × (canonical x �
 TellsBelow said q p _ reply = ⊥
 
 -- the store says that the atom is true, or that it isn't
-abbrev pub SaysYes : List Pair → Term → Type 0
-SaysYes pairs a = SomePair (TellsYes a) pairs
+abbrev pub SaysYes : Store → Term → Type 0
+SaysYes store a = SomePair (TellsYes a) store
 
-abbrev pub SaysNo : List Pair → Term → Type 0
-SaysNo pairs a = SomePair (TellsNo a) pairs
+abbrev pub SaysNo : Store → Term → Type 0
+SaysNo store a = SomePair (TellsNo a) store
 
-abbrev pub SaysUncovered : List Pair → Tuple → Type 0
-SaysUncovered pairs t = SomePair (TellsUncovered t) pairs
+abbrev pub SaysUncovered : Store → Tuple → Type 0
+SaysUncovered store t = SomePair (TellsUncovered t) store
 
 -- the store says that the one call is below the other, or that it isn't
-abbrev pub SaysBelow : List Pair → Term → Term → Type 0
-SaysBelow pairs q p = SomePair (TellsBelow Yes q p) pairs
+abbrev pub SaysBelow : Store → Term → Term → Type 0
+SaysBelow store q p = SomePair (TellsBelow Yes q p) store
 
-abbrev pub SaysNotBelow : List Pair → Term → Term → Type 0
-SaysNotBelow pairs q p = SomePair (TellsBelow No q p) pairs
+abbrev pub SaysNotBelow : Store → Term → Term → Type 0
+SaysNotBelow store q p = SomePair (TellsBelow No q p) store
 
 -- all pairs are true of the interpretation
-abbrev pub AreTrue : Interpretation → List Pair → Type 0
-AreTrue m [] = Unit {0}
-AreTrue m (pair ∷ pairs) = IsTrueReply m pair.question pair.reply × AreTrue m pairs
+abbrev pub AreTruePairs : Interpretation → List Pair → Type 0
+AreTruePairs m [] = Unit {0}
+AreTruePairs m (pair ∷ pairs) = IsTrueReply m pair.question pair.reply × AreTruePairs m pairs

@@ -5,15 +5,21 @@ ghost use Rattle.apd_answers.specs.declared.store.Pair.{Pair};
 ghost use Rattle.std.specs.List.{enumerate_from, list_any};
 ghost use Rattle.apd_term.specs.Matching.{is_instance};
 ghost use Rattle.apd_answers.specs.Questions.{with_values, canonical_question, Fits};
+ghost use Rattle.apd_answers.specs.declared.question.Question.TheVariants.{True};
+ghost use Rattle.apd_answers.specs.declared.question.Reply.TheVariants.{Unknown};
 ghost use Rattle.apd_answers.specs.Fitting.{AllFit};
+ghost use Rattle.apd_answers.specs.Once.{AreOnce};
 ghost use Rattle.apd_answers.specs.Marks.{HaveSamePlaces, Notes, mark_of_form, places_from};
-ghost use Rattle.apd_answers.specs.Store.{told_of_truth, decided, is_kept_as, reply_to, with_pair, same_question, same_reply};
+ghost use Rattle.apd_answers.specs.Store.{told_of_truth, decided_in, decided, is_kept_as, is_doubted, empty_store, reply_to, with_pair, same_question, same_reply};
+ghost use Rattle.apd_ports.specs.Filter.{is_predicate};
+ghost use Rattle.apd_answers.specs.Trust.{with_trust};
 
 use crate::marks::mark_of_form;
 use crate::question::{Question, Reply};
 use crate::tests_of::{same_question, same_reply};
 use apd_base::ListOf;
-use apd_term::{Atoms, Flat, Subst, Tuple, apply_tuple, canonical_tuple};
+use apd_term::canonical::canonical;
+use apd_term::{Atoms, Flat, Pred, Preds, Subst, Tuple, apply_tuple, canonical_tuple};
 use indexmap::IndexMap;
 use std::alloc::{AllocError, Global};
 use std::marker::Model;
@@ -98,7 +104,7 @@ pub fn is_same_form(alloc: Global, a: &Question, b: &Question) -> Result<bool, A
 
 /// The reply of the first of the pairs that tells whether the atom is true.
 fn truth_decided(alloc: Global, pairs: &[Pair], atom: &Flat) -> Result<Option<Reply>, AllocError>
-    ensures { IfOk result (λ r. r ≡ decided pairs.now (Question.True atom.now)) }
+    ensures { IfOk result (λ r. r ≡ decided_in pairs.now (Question.True atom.now)) }
 {
     'pairs: for pair in pairs {
         if let Some(reply) = told_of_truth(alloc, pair, atom)? {
@@ -183,47 +189,66 @@ fn note(
     Ok(())
 }
 
-/// The replies that were given, each with its question, in the order in which they came. Contracts see the list of pairs.
+/// Whether two predicates are one.
+fn is_predicate(pred: Pred, other: Pred) -> bool
+    ensures { result ≡ is_predicate (Some pred) other }
+{
+    pred.name.0 == other.name.0 && pred.arity == other.arity
+}
+
+/// Whether the predicate is one of these.
+fn is_listed(preds: &Preds, pred: Pred) -> bool
+    ensures { result ≡ list_any (is_predicate (Some pred)) preds.now }
+{
+    preds
+        .as_slice()
+        .iter()
+        .any(|other| is_predicate(pred, *other))
+}
+
+/// The replies that were given, each with its question, in the order in which they came, and the predicates that are trusted.
+/// Contracts see the store.
 #[derive(Drop)]
 pub struct Answers {
     alloc: Global,
     pairs: Vec<Pair>,
     /// The places of the pairs by their marks, which those with one question share.
     places: IndexMap<u64, ListOf<usize>>,
+    trusted: Preds,
 }
 
 impl Model for Answers {
-    ghost use Rattle.std.specs.Prelude.{List};
-    ghost use Rattle.apd_answers.specs.declared.store.Pair.{Pair};
-    ghost use Rattle.std.specs.Coded.{coded_list};
-    ghost use Rattle.apd_answers.specs.Codes.{pair_code};
-    ghost use Rattle.apd_answers.specs.Fitting.{AllFit};
+    ghost use Rattle.apd_answers.specs.Codes.{store_code};
+    ghost use Rattle.apd_answers.specs.Fitting.{AllFitIn};
     ghost use Rattle.apd_answers.specs.Marks.{IsIndexOf};
+    ghost use Rattle.apd_answers.specs.Once.{AreOnce};
+    ghost use Rattle.apd_answers.specs.Store.{Store};
 
-    ghost Value = { List Pair };
+    ghost Value = { Store };
 
-    ghost coded = { coded_list pair_code };
+    ghost coded = { store_code };
 
-    ghost view = { λ a. a.pairs.items };
+    ghost view = { λ a. record { pairs = a.pairs.items; trusted = a.trusted } };
 
-    ghost invariant = { λ a. AllFit a.pairs.items × IsIndexOf a.pairs.items a.places };
+    ghost invariant = { λ a. AllFitIn a.pairs.items × IsIndexOf a.pairs.items a.places × AreOnce a.pairs.items };
 }
 
 impl Answers {
-    /// The store without pairs.
+    /// The store without pairs and without trust.
     pub fn new(alloc: Global) -> Answers
-        ensures { result ≡ [] }
+        ensures { result ≡ empty_store }
     {
         Answers {
             alloc,
             pairs: Vec::new(alloc),
             places: IndexMap::new(alloc),
+            trusted: Preds::new(alloc),
         }
     }
 
     /// The places of the pairs with this mark, in order.
     fn places_of(&self, mark: u64) -> &[usize]
-        ensures { result.now ≡ places_from 0 mark self.now }
+        ensures { result.now ≡ places_from 0 mark self.now.pairs }
     {
         match self.places.get(&mark) {
             Some(places) => places.as_slice(),
@@ -238,25 +263,32 @@ impl Answers {
         let _pairs = &self.pairs;
     }
 
+    /// Each pair is kept once.
+    pub fn are_once(&self)
+        ensures { AreOnce self.now.pairs }
+    {
+        let _pairs = &self.pairs;
+    }
+
     /// How many pairs there are.
     pub fn len(&self) -> usize
-        ensures { result ≡ length self.now }
+        ensures { result ≡ length self.now.pairs }
     {
         self.pairs.len()
     }
 
     /// The question of the pair at a place, counted from 0.
     pub fn question(&self, i: usize) -> &Question
-        requires { i < length self.now }
-        ensures { IfSome (slice_get self.now i) (λ (p : Pair). result.now ≡ p.question) }
+        requires { i < length self.now.pairs }
+        ensures { IfSome (slice_get self.now.pairs i) (λ (p : Pair). result.now ≡ p.question) }
     {
         &self.pairs[i].question
     }
 
     /// The reply of the pair at a place, counted from 0.
     pub fn reply(&self, i: usize) -> &Reply
-        requires { i < length self.now }
-        ensures { IfSome (slice_get self.now i) (λ (p : Pair). result.now ≡ p.reply) }
+        requires { i < length self.now.pairs }
+        ensures { IfSome (slice_get self.now.pairs i) (λ (p : Pair). result.now ≡ p.reply) }
     {
         &self.pairs[i].reply
     }
@@ -301,5 +333,38 @@ impl Answers {
             return Err(AllocError);
         }
         Ok(())
+    }
+
+    /// Whether the reply Unknown is kept to whether an atom with the same canonical form is true.
+    pub fn unknown(&self, atom: &Flat) -> Result<bool, AllocError>
+        ensures { IfOk result (λ b. b ≡ is_doubted self.now atom.now) }
+    {
+        let form = Question::True(canonical(self.alloc, atom)?);
+        let places = self.places_of(mark_of_form(&form));
+        is_kept(
+            self.alloc,
+            self.pairs.as_slice(),
+            places,
+            &form,
+            &Reply::Unknown,
+        )
+    }
+
+    /// The predicates that are trusted, in the order in which they came.
+    pub fn trusted(&self) -> &Preds
+        ensures { result.now ≡ self.now.trusted }
+    {
+        &self.trusted
+    }
+
+    /// Puts a predicate at the end of those that are trusted, unless it is kept; after want of memory the store is as before.
+    pub fn trust(&mut self, pred: Pred) -> Result<(), AllocError>
+        ensures ok { OnOk result (self.new ≡ with_trust self.old pred) }
+        ensures err { OnErr result (self.new ≡ self.old) }
+    {
+        if is_listed(&self.trusted, pred) {
+            return Ok(());
+        }
+        self.trusted.push(pred)
     }
 }

@@ -53,7 +53,8 @@ pub fn same_reply(a: &Reply, b: &Reply) -> bool
     ensures { result ≡ same_reply a.now b.now }
 {
     match (a, b) {
-        (Reply::Yes, Reply::Yes) | (Reply::No, Reply::No) => true,
+        (Reply::Yes, Reply::Yes) | (Reply::No, Reply::No) | (Reply::Unknown, Reply::Unknown) =>
+            true,
         (Reply::Values(x), Reply::Values(y)) => same_list(x.as_slice(), y.as_slice()),
         _ => false,
     }

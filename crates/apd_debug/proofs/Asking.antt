@@ -5,7 +5,7 @@ use Rattle.apd_answers.specs.Dialogue.{Diagnosis}
 use Rattle.apd_answers.specs.Going.{Moment as Stage, Reaches, Breaks}
 use Rattle.apd_answers.specs.Oracle.{Call, calls_of}
 use Rattle.apd_answers.specs.declared.oracle.AskEnd.{AskEnd}
-use Rattle.apd_answers.specs.declared.store.Pair.{Pair}
+use Rattle.apd_answers.specs.Store.{Store}
 use Rattle.apd_console.specs.Console.{IsKept}
 use Rattle.apd_debug.specs.Asking.{KeepsDialogue, dialogue_step, moment_of}
 use Rattle.apd_debug.specs.Conversing.{Conversing}
@@ -34,9 +34,9 @@ Keeps-more p q r one two = record {
 
 -- what every call keeps is kept by a whole diagnosis
 pub kept_so : {D E O : Type 0} (d : Diagnosis D E) (step : O → Call → O → Type 0) (R : O → O → Type 0) → ((p : O) → R p p) → ((p q r : O) → R p q → R q r → R p r) → ((p : O) (call : Call) (q : O) → step p call q → R p q) →
-    (p : Stage D O) (pairs : List Pair) (to : O) (result : Result E AskEnd) → MatchResult result (λ e. Reaches d step p pairs to e) (λ e. Breaks d step p pairs to e) → R p.oracle to
-kept_so d step R same more each p pairs to (Ok e) reached = kept_through step R same more each (calls_of reached.exchanges) p.oracle to reached.calls
-kept_so d step R same more each p pairs to (Err end) broke =
+    (p : Stage D O) (store : Store) (to : O) (result : Result E AskEnd) → MatchResult result (λ e. Reaches d step p store to e) (λ e. Breaks d step p store to e) → R p.oracle to
+kept_so d step R same more each p store to (Ok e) reached = kept_through step R same more each (calls_of reached.exchanges) p.oracle to reached.calls
+kept_so d step R same more each p store to (Err end) broke =
     more p.oracle broke.last.oracle to (kept_through step R same more each (calls_of broke.goes.exchanges) p.oracle broke.last.oracle broke.goes.calls)
     (kept_through step R same more each broke.calls broke.last.oracle to broke.through)
 
@@ -75,6 +75,6 @@ module _ {S K : Type 0} (s : Source.Ghosts S) (k : Sink.Ghosts K) where
     keeps_place = is.5.keeps_place;
   }
 
-  pub keeps_dialogue : {D E : Type 0} (d : Diagnosis D E) (p : Stage D (Dialogue S K s k)) (pairs : List Pair) (to : Dialogue S K s k) (result : Result E AskEnd) →
-      MatchResult result (λ e. Reaches d (dialogue_step s k) p pairs to e) (λ e. Breaks d (dialogue_step s k) p pairs to e) → KeepsDialogue s k p.oracle to
-  keeps_dialogue d p pairs to result went = kept_so d (dialogue_step s k) (KeepsDialogue s k) keeps-self keeps-more keeps-each p pairs to result went
+  pub keeps_dialogue : {D E : Type 0} (d : Diagnosis D E) (p : Stage D (Dialogue S K s k)) (store : Store) (to : Dialogue S K s k) (result : Result E AskEnd) →
+      MatchResult result (λ e. Reaches d (dialogue_step s k) p store to e) (λ e. Breaks d (dialogue_step s k) p store to e) → KeepsDialogue s k p.oracle to
+  keeps_dialogue d p store to result went = kept_so d (dialogue_step s k) (KeepsDialogue s k) keeps-self keeps-more keeps-each p store to result went

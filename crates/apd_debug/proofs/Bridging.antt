@@ -2,12 +2,11 @@
 use Rattle.std.proofs.Common.{◌≡◌, ℕ, List, [], ◌∷◌, refl, ap, sym, ◌∙◌, subst, arith, append_assoc, Bool, true, false}
 use Rattle.std.specs.Prelude.{Err}
 use Rattle.apd_answers.specs.Dialogue.{Diagnosis, Turn, asks, goes, ends, next_turn}
-use Rattle.apd_answers.specs.Store.{with_pair}
+use Rattle.apd_answers.specs.Store.{Store, with_pair}
 use Rattle.apd_answers.specs.declared.question.Asked.{Asked}
 use Rattle.apd_answers.specs.declared.question.Reply.{Reply}
 use Rattle.apd_answers.specs.declared.oracle.AskEnd.{AskEnd}
 use Rattle.apd_answers.specs.declared.oracle.AskEnd.TheVariants as ask_ends
-use Rattle.apd_answers.specs.declared.store.Pair.{Pair}
 use Rattle.apd_console.specs.Lines.{InputEnd}
 use Rattle.apd_console.specs.declared.line.Line.{Line}
 use Rattle.apd_console.specs.Console.{room_of}
@@ -53,70 +52,70 @@ before talker us st room input over = before_by talker us st room input over st.
 
 module _ {S D E : Type 0} (d : Diagnosis D E) (found : E → Entry) (state : Stand D → S) {names : List (List ℕ)} (reader : Reader names) (ops : Table) (talker : Talker Entry S) (hears : HearsReplies d found state reader ops talker) where
   -- a line in a reply's place is a turn
-  is_turn : (pairs : List Pair) (count : ℕ) (asked : Asked) (next : Reply → D) (said : Spoken) →
-      IsTurn talker (state (asking pairs count asked next)) (reply_step d found state ops names pairs count asked next said) (turn_of ops names (afterwards d found state reader ops talker pairs count asked next) said)
-  is_turn pairs count asked next spoken.Nothing = refl
-  is_turn pairs count asked next (spoken.Reply r) = λ lines close. refl
-  is_turn pairs count asked next spoken.Stop = λ lines close. refl
-  is_turn pairs count asked next spoken.Quit = λ lines close. refl
-  is_turn pairs count asked next (spoken.Bad reason) = refl
+  is_turn : (store : Store) (count : ℕ) (asked : Asked) (next : Reply → D) (said : Spoken) →
+      IsTurn talker (state (asking store count asked next)) (reply_step d found state ops names store count asked next said) (turn_of ops names (afterwards d found state reader ops talker store count asked next) said)
+  is_turn store count asked next spoken.Nothing = refl
+  is_turn store count asked next (spoken.Reply r) = λ lines close. refl
+  is_turn store count asked next spoken.Stop = λ lines close. refl
+  is_turn store count asked next spoken.Quit = λ lines close. refl
+  is_turn store count asked next (spoken.Bad reason) = refl
 
-  pub waits : (pairs : List Pair) (count : ℕ) (asked : Asked) (next : Reply → D) →
-      Awaits talker (state (asking pairs count asked next)) (turn_at asked.question ops names reader (afterwards d found state reader ops talker pairs count asked next)) (afterwards d found state reader ops talker pairs count asked next).closed
-  waits pairs count asked next = record {
+  pub waits : (store : Store) (count : ℕ) (asked : Asked) (next : Reply → D) →
+      Awaits talker (state (asking store count asked next)) (turn_at asked ops names reader (afterwards d found state reader ops talker store count asked next)) (afterwards d found state reader ops talker store count asked next).closed
+  waits store count asked next = record {
     turns = λ line.
-        subst (λ (st : Step Entry S). IsTurn talker (state (asking pairs count asked next)) st (turn_at asked.question ops names reader (afterwards d found state reader ops talker pairs count asked next) line))
-        (sym (hears.steps pairs count asked next line)) (is_turn pairs count asked next (spoken_of asked.question (line_in reader ops line)));
-    closes = λ close. rw (hears.closes pairs count asked next close) refl;
+        subst (λ (st : Step Entry S). IsTurn talker (state (asking store count asked next)) st (turn_at asked ops names reader (afterwards d found state reader ops talker store count asked next) line))
+        (sym (hears.steps store count asked next line)) (is_turn store count asked next (spoken_of asked (line_in reader ops line)));
+    closes = λ close. rw (hears.closes store count asked next close) refl;
   }
 
   -- a conversation that says a question is where the question is asked
-  pub asks_so : (pairs : List Pair) (count : ℕ) (asked : Asked) (next : Reply → D) →
-      Agree (after_step talker (after_turn d found state ops names pairs count (asks asked next)))
-      (means (asked_first (risen count) asked ops names reader (afterwards d found state reader ops talker pairs (risen count) asked next)))
-  asks_so pairs count asked next room input over =
+  pub asks_so : (store : Store) (count : ℕ) (asked : Asked) (next : Reply → D) →
+      Agree (after_step talker (after_turn d found state ops names store count (asks asked next)))
+      (means (asked_first (risen count) asked ops names reader (afterwards d found state reader ops talker store (risen count) asked next)))
+  asks_so store count asked next room input over =
       let us : List (Utterance Entry) = plain ops names (entry.Question (risen count) asked) ∷ [] in
-      let s : S = state (asking pairs (risen count) asked next) in
-      let h : Hearing Entry = waiting asked.question ops names reader (afterwards d found state reader ops talker pairs (risen count) asked next) in
+      let s : S = state (asking store (risen count) asked next) in
+      let h : Hearing Entry = waiting asked ops names reader (afterwards d found state reader ops talker store (risen count) asked next) in
       ap (onto us)
-      (replies_means talker s room input over ∙ means_same (run talker s) h (awaits talker s _ _ (waits pairs (risen count) asked next)) room input over)
+      (replies_means talker s room input over ∙ means_same (run talker s) h (awaits talker s _ _ (waits store (risen count) asked next)) room input over)
       ∙ sym (first_said us h room input over)
 
   -- in a reply's place a step quits exactly where the line is `quit.`
-  turn_goes_on : (pairs : List Pair) (count : ℕ) (turn : Turn D E) → (after_turn d found state ops names pairs count turn).quits ≡ false
-  turn_goes_on pairs count (asks asked next) = refl
-  turn_goes_on pairs count (goes t) = refl
-  turn_goes_on pairs count (ends e) = refl
+  turn_goes_on : (store : Store) (count : ℕ) (turn : Turn D E) → (after_turn d found state ops names store count turn).quits ≡ false
+  turn_goes_on store count (asks asked next) = refl
+  turn_goes_on store count (goes t) = refl
+  turn_goes_on store count (ends e) = refl
 
-  quits_by : (pairs : List Pair) (count : ℕ) (asked : Asked) (next : Reply → D) (said : Spoken) → (reply_step d found state ops names pairs count asked next said).quits ≡ is_quit said
-  quits_by pairs count asked next spoken.Nothing = refl
-  quits_by pairs count asked next (spoken.Reply r) = turn_goes_on (with_pair pairs asked.question r) count (next_turn d (with_pair pairs asked.question r) (next r))
-  quits_by pairs count asked next spoken.Stop = refl
-  quits_by pairs count asked next spoken.Quit = refl
-  quits_by pairs count asked next (spoken.Bad reason) = refl
+  quits_by : (store : Store) (count : ℕ) (asked : Asked) (next : Reply → D) (said : Spoken) → (reply_step d found state ops names store count asked next said).quits ≡ is_quit said
+  quits_by store count asked next spoken.Nothing = refl
+  quits_by store count asked next (spoken.Reply r) = turn_goes_on (with_pair store asked.question r) count (next_turn d (with_pair store asked.question r) (next r))
+  quits_by store count asked next spoken.Stop = refl
+  quits_by store count asked next spoken.Quit = refl
+  quits_by store count asked next (spoken.Bad reason) = refl
 
-  pub only_quit : (pairs : List Pair) (count : ℕ) (asked : Asked) (next : Reply → D) (line : Line) →
-      (talker.step (state (asking pairs count asked next)) line).quits ≡ is_quit (spoken_of asked.question (line_in reader ops line))
-  only_quit pairs count asked next line = rw (hears.steps pairs count asked next line) (quits_by pairs count asked next (spoken_of asked.question (line_in reader ops line)))
+  pub only_quit : (store : Store) (count : ℕ) (asked : Asked) (next : Reply → D) (line : Line) →
+      (talker.step (state (asking store count asked next)) line).quits ≡ is_quit (spoken_of asked (line_in reader ops line))
+  only_quit store count asked next line = rw (hears.steps store count asked next line) (quits_by store count asked next (spoken_of asked (line_in reader ops line)))
 
 module _ {S D E : Type 0} (d : Diagnosis D E) (found : E → Entry) (state : Stand D → S) (ops : Table) (names : List (List ℕ)) (talker : Talker Entry S) where
-  pub Diagnosed-as : (f g : Meaning Entry) (p q : Place Entry) (pairs : List Pair) (count : ℕ) (end : AskEnd) → Agree f g → Diagnosed d found state ops names talker g p q pairs count (Err end) → Diagnosed d found state ops names talker f p q pairs count (Err end)
-  Diagnosed-as f g p q pairs count ask_ends.Stopped same so = Talks-as f g _ p q same so
-  Diagnosed-as f g p q pairs count ask_ends.Quit same so = Talks-as f g _ p q same so
-  Diagnosed-as f g p q pairs count ask_ends.Ended same so = Closes-as f g p q _ _ same so
-  Diagnosed-as f g p q pairs count ask_ends.ReadFault same so = Closes-as f g p q _ _ same so
-  Diagnosed-as f g p q pairs count ask_ends.InputLimit same so = Closes-as f g p q _ _ same so
-  Diagnosed-as f g p q pairs count ask_ends.WriteFault same so = Breaks-as begun f g p q _ same so
-  Diagnosed-as f g p q pairs count ask_ends.Memory same so = Breaks-as begun f g p q _ same so
+  pub Diagnosed-as : (f g : Meaning Entry) (p q : Place Entry) (store : Store) (count : ℕ) (end : AskEnd) → Agree f g → Diagnosed d found state ops names talker g p q store count (Err end) → Diagnosed d found state ops names talker f p q store count (Err end)
+  Diagnosed-as f g p q store count ask_ends.Stopped same so = Talks-as f g _ p q same so
+  Diagnosed-as f g p q store count ask_ends.Quit same so = Talks-as f g _ p q same so
+  Diagnosed-as f g p q store count ask_ends.Ended same so = Closes-as f g p q _ _ same so
+  Diagnosed-as f g p q store count ask_ends.ReadFault same so = Closes-as f g p q _ _ same so
+  Diagnosed-as f g p q store count ask_ends.InputLimit same so = Closes-as f g p q _ _ same so
+  Diagnosed-as f g p q store count ask_ends.WriteFault same so = Breaks-as begun f g p q _ same so
+  Diagnosed-as f g p q store count ask_ends.Memory same so = Breaks-as begun f g p q _ same so
 
-  pub Diagnosed-more : (f g : Meaning Entry) (p q r : Place Entry) (pairs : List Pair) (count : ℕ) (end : AskEnd) → Talks f p q g → Diagnosed d found state ops names talker g q r pairs count (Err end) → Diagnosed d found state ops names talker f p r pairs count (Err end)
-  Diagnosed-more f g p q r pairs count ask_ends.Stopped first second = Talks-more f g _ p q r first second
-  Diagnosed-more f g p q r pairs count ask_ends.Quit first second = Talks-more f g _ p q r first second
-  Diagnosed-more f g p q r pairs count ask_ends.Ended first second = Closes-more f g p q r _ _ first second
-  Diagnosed-more f g p q r pairs count ask_ends.ReadFault first second = Closes-more f g p q r _ _ first second
-  Diagnosed-more f g p q r pairs count ask_ends.InputLimit first second = Closes-more f g p q r _ _ first second
-  Diagnosed-more f g p q r pairs count ask_ends.WriteFault first second = Breaks-more begun f g p q r _ first second
-  Diagnosed-more f g p q r pairs count ask_ends.Memory first second = Breaks-more begun f g p q r _ first second
+  pub Diagnosed-more : (f g : Meaning Entry) (p q r : Place Entry) (store : Store) (count : ℕ) (end : AskEnd) → Talks f p q g → Diagnosed d found state ops names talker g q r store count (Err end) → Diagnosed d found state ops names talker f p r store count (Err end)
+  Diagnosed-more f g p q r store count ask_ends.Stopped first second = Talks-more f g _ p q r first second
+  Diagnosed-more f g p q r store count ask_ends.Quit first second = Talks-more f g _ p q r first second
+  Diagnosed-more f g p q r store count ask_ends.Ended first second = Closes-more f g p q r _ _ first second
+  Diagnosed-more f g p q r store count ask_ends.ReadFault first second = Closes-more f g p q r _ _ first second
+  Diagnosed-more f g p q r store count ask_ends.InputLimit first second = Closes-more f g p q r _ _ first second
+  Diagnosed-more f g p q r store count ask_ends.WriteFault first second = Breaks-more begun f g p q r _ first second
+  Diagnosed-more f g p q r store count ask_ends.Memory first second = Breaks-more begun f g p q r _ first second
 
 module _ {S D E : Type 0} (d : Diagnosis D E) (found : E → Entry) (state : Stand D → S) {names : List (List ℕ)} (reader : Reader names) (ops : Table) (talker : Talker Entry S) where
   -- the step after a word, and what the lines behind it mean
@@ -124,15 +123,15 @@ module _ {S D E : Type 0} (d : Diagnosis D E) (found : E → Entry) (state : Sta
   meant start p q st talks = Talks-to start _ _ p q (λ room input over. sym (after_means talker st room input over)) talks
 
   -- a call that answers no reply ends the diagnosis
-  pub ended_so : (start : Meaning Entry) (p q : Place Entry) (pairs : List Pair) (count : ℕ) (asked : Asked) (next : Reply → D) (end : AskEnd) →
-      Hears start p q (afterwards d found state reader ops talker pairs count asked next) (Err end) → Diagnosed d found state ops names talker start p q pairs count (Err end)
-  ended_so start p q pairs count asked next ask_ends.Stopped hears = meant start p q (unanswered d found state ops names pairs count false) hears
-  ended_so start p q pairs count asked next ask_ends.Quit hears = meant start p q (unanswered d found state ops names pairs count true) hears
-  ended_so start p q pairs count asked next ask_ends.Ended hears = hears
-  ended_so start p q pairs count asked next ask_ends.ReadFault hears = hears
-  ended_so start p q pairs count asked next ask_ends.InputLimit hears = hears
-  ended_so start p q pairs count asked next ask_ends.WriteFault hears = hears
-  ended_so start p q pairs count asked next ask_ends.Memory hears = hears
+  pub ended_so : (start : Meaning Entry) (p q : Place Entry) (store : Store) (count : ℕ) (asked : Asked) (next : Reply → D) (end : AskEnd) →
+      Hears start p q (afterwards d found state reader ops talker store count asked next) (Err end) → Diagnosed d found state ops names talker start p q store count (Err end)
+  ended_so start p q store count asked next ask_ends.Stopped hears = meant start p q (unanswered d found state ops names store count false) hears
+  ended_so start p q store count asked next ask_ends.Quit hears = meant start p q (unanswered d found state ops names store count true) hears
+  ended_so start p q store count asked next ask_ends.Ended hears = hears
+  ended_so start p q store count asked next ask_ends.ReadFault hears = hears
+  ended_so start p q store count asked next ask_ends.InputLimit hears = hears
+  ended_so start p q store count asked next ask_ends.WriteFault hears = hears
+  ended_so start p q store count asked next ask_ends.Memory hears = hears
 
 -- nothing more was said
 pub broke_here : (f : Meaning Entry) (p : Place Entry) → Breaks begun f p p troubles.Memory

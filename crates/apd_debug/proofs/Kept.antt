@@ -6,7 +6,7 @@ use Rattle.apd_answers.specs.Dialogue.{Diagnosis, Dialogue, Exchange, Turn, dial
 use Rattle.apd_answers.specs.Going.{Moment, Reaches, Broken, unasked, unanswered, unkept, untold, Breaks}
 use Rattle.apd_answers.specs.Oracle.{Call, asking as asks_of, telling as tells, GoesThrough}
 use Rattle.apd_answers.specs.declared.oracle.AskEnd.{AskEnd}
-use Rattle.apd_answers.specs.declared.store.Pair.{Pair}
+use Rattle.apd_answers.specs.Store.{Store}
 use Rattle.apd_lines.proofs.Growing.{Grown-length}
 use Rattle.apd_text.specs.Named.{ReplyIsNamed}
 use Rattle.apd_text.specs.declared.entry.Entry.{Entry}
@@ -16,47 +16,47 @@ use Rattle.apd_debug.specs.NamedStates.{AreReplies}
 use Rattle.apd_debug.proofs.Going.{grown_through, known_through}
 use Rattle.apd_debug.proofs.NamedReplies.{AreReplies-more, with_pair-replies}
 
-module _ {D E O : Type 0} (d : Diagnosis D E) (found : E → Entry) (IsKnown : ℕ → List Pair → D → Type 0) (keeps : KeepsNamed d found IsKnown) (step : O → Call → O → Type 0) (c : Conversing step) where
+module _ {D E O : Type 0} (d : Diagnosis D E) (found : E → Entry) (IsKnown : ℕ → Store → D → Type 0) (keeps : KeepsNamed d found IsKnown) (step : O → Call → O → Type 0) (c : Conversing step) where
   abbrev count_at : O → ℕ
   count_at o = length (c.moment o).spoken.log.names
 
   -- a state is known, and so are the replies
-  abbrev IsKnownToo : ℕ → List Pair → D → Type 0
-  IsKnownToo n pairs s = IsKnown n pairs s × AreReplies n pairs
+  abbrev IsKnownToo : ℕ → Store → D → Type 0
+  IsKnownToo n store s = IsKnown n store s × AreReplies n store
 
   keeps_too : KeepsNamed d found IsKnownToo
   keeps_too = record {
-    more = λ n m pairs s less known. (keeps.more n m pairs s less known.0, AreReplies-more n m pairs less known.1);
-    question = λ n pairs s asked next is known. keeps.question n pairs s asked next is known.0;
-    kept = λ n pairs s asked next r is o known. (keeps.kept n pairs s asked next r is o known.0, known.1);
-    replied = λ n pairs s asked next r is fits named known. (keeps.replied n pairs s asked next r is fits named known.0, with_pair-replies n pairs asked.question r known.1 (fits, named));
-    going = λ n pairs s t is known. (keeps.going n pairs s t is known.0, known.1);
-    finding = λ n pairs s e is known. keeps.finding n pairs s e is known.0;
+    more = λ n m store s less known. (keeps.more n m store s less known.0, AreReplies-more n m store less known.1);
+    question = λ n store s asked next is known. keeps.question n store s asked next is known.0;
+    kept = λ n store s asked next r is o known. (keeps.kept n store s asked next r is o known.0, known.1);
+    replied = λ n store s asked next r is fits named known. (keeps.replied n store s asked next r is fits named known.0, with_pair-replies n store asked.question r known.1 (fits.0, named));
+    going = λ n store s t is known. (keeps.going n store s t is known.0, known.1);
+    finding = λ n store s e is known. keeps.finding n store s e is known.0;
   }
 
-  later : (calls : List Call) (from to : O) (pairs : List Pair) → GoesThrough step from calls to → AreReplies (count_at from) pairs → AreReplies (count_at to) pairs
-  later calls from to pairs went named =
-      AreReplies-more (count_at from) (count_at to) pairs
+  later : (calls : List Call) (from to : O) (store : Store) → GoesThrough step from calls to → AreReplies (count_at from) store → AreReplies (count_at to) store
+  later calls from to store went named =
+      AreReplies-more (count_at from) (count_at to) store
       (Grown-length (c.moment from).spoken.log.names (c.moment to).spoken.log.names (grown_through d found IsKnown keeps step c calls from to went)) named
 
   -- the last calls of a diagnosis that broke off
-  broken : (from to : O) (pairs kept : List Pair) (turn : Turn D E) (end : AskEnd) (calls : List Call) → Broken d.left turn pairs end calls kept → GoesThrough step from calls to → AreReplies (count_at from) pairs →
+  broken : (from to : O) (store kept : Store) (turn : Turn D E) (end : AskEnd) (calls : List Call) → Broken d.left turn store end calls kept → GoesThrough step from calls to → AreReplies (count_at from) store →
       AreReplies (count_at to) kept
-  broken from to pairs kept turn end calls (unasked is) went named = later [] from to pairs went named
-  broken from to pairs kept turn end calls (unanswered asked next is) went named = later (asks_of asked (Err end) ∷ []) from to pairs went named
-  broken from to pairs kept turn end calls (unkept asked next r is fits memory) went named = later (asks_of asked (Ok r) ∷ []) from to pairs went named
-  broken from to pairs kept turn end calls (untold asked next r is fits) (mid, asks_it, rest) named =
-      let here : AreReplies (count_at mid) pairs = later (asks_of asked (Ok r) ∷ []) from mid pairs (mid, asks_it, refl) named in
+  broken from to store kept turn end calls (unasked is) went named = later [] from to store went named
+  broken from to store kept turn end calls (unanswered asked next is) went named = later (asks_of asked (Err end) ∷ []) from to store went named
+  broken from to store kept turn end calls (unkept asked next r is fits memory) went named = later (asks_of asked (Ok r) ∷ []) from to store went named
+  broken from to store kept turn end calls (untold asked next r is fits) (mid, asks_it, rest) named =
+      let here : AreReplies (count_at mid) store = later (asks_of asked (Ok r) ∷ []) from mid store (mid, asks_it, refl) named in
       let reply : ReplyIsNamed (count_at mid) r = (c.calls from (asks_of asked (Ok r)) mid asks_it).acts.1.1 in
-      later (tells r (d.left (next r)) (Err end) ∷ []) mid to kept rest (with_pair-replies (count_at mid) pairs asked.question r here (fits, reply))
+      later (tells r (d.left (next r)) (Err end) ∷ []) mid to kept rest (with_pair-replies (count_at mid) store asked.question r here (fits.0, reply))
 
-  pub replies_kept : (p : Moment D O) (pairs : List Pair) (to : O) (result : Result E AskEnd) → MatchResult result (λ e. Reaches d step p pairs to e) (λ e. Breaks d step p pairs to e) → IsKnown (count_at p.oracle) p.pairs p.state →
-      AreReplies (count_at p.oracle) p.pairs → AreReplies (count_at to) pairs
-  replies_kept p pairs to (Ok e) r known named = (known_through d found IsKnownToo keeps_too step c r.replies p.pairs p.state p.oracle to _ r.whole r.fit r.calls (known, named)).known.1
-  replies_kept p pairs to (Err end) b known named =
+  pub replies_kept : (p : Moment D O) (store : Store) (to : O) (result : Result E AskEnd) → MatchResult result (λ e. Reaches d step p store to e) (λ e. Breaks d step p store to e) → IsKnown (count_at p.oracle) p.store p.state →
+      AreReplies (count_at p.oracle) p.store → AreReplies (count_at to) store
+  replies_kept p store to (Ok e) r known named = (known_through d found IsKnownToo keeps_too step c r.replies p.store p.state p.oracle to _ r.whole r.fit r.calls (known, named)).known.1
+  replies_kept p store to (Err end) b known named =
       let last = b.last in
-      let x : Dialogue D E = record { exchanges = b.goes.exchanges; pairs = last.pairs; turn = next_turn d last.pairs last.state } in
-      let whole : dialogue d (b.goes.replies ++ []) p.pairs p.state ≡ x =
-      b.goes.rest [] ∙ ap (λ (es : List Exchange). record { exchanges = es; pairs = last.pairs; turn = next_turn d last.pairs last.state }) (append-nil b.goes.exchanges) in
-      let at = known_through d found IsKnownToo keeps_too step c (b.goes.replies ++ []) p.pairs p.state p.oracle last.oracle x whole b.goes.fit b.goes.calls (known, named) in
-      broken last.oracle to last.pairs pairs (next_turn d last.pairs last.state) end b.calls b.broken b.through at.known.1
+      let x : Dialogue D E = record { exchanges = b.goes.exchanges; store = last.store; turn = next_turn d last.store last.state } in
+      let whole : dialogue d (b.goes.replies ++ []) p.store p.state ≡ x =
+      b.goes.rest [] ∙ ap (λ (es : List Exchange). record { exchanges = es; store = last.store; turn = next_turn d last.store last.state }) (append-nil b.goes.exchanges) in
+      let at = known_through d found IsKnownToo keeps_too step c (b.goes.replies ++ []) p.store p.state p.oracle last.oracle x whole b.goes.fit b.goes.calls (known, named) in
+      broken last.oracle to last.store store (next_turn d last.store last.state) end b.calls b.broken b.through at.known.1

@@ -6,12 +6,11 @@ use Rattle.apd_arith.specs.Truths.{is_ground}
 use Rattle.apd_answers.specs.Dialogue.{Turn, asks, goes, ends}
 use Rattle.apd_answers.specs.Findings.{instance_for}
 use Rattle.apd_answers.specs.Questions.{with_values}
-use Rattle.apd_answers.specs.Store.{decided}
+use Rattle.apd_answers.specs.Store.{Store, decided}
 use Rattle.apd_answers.specs.declared.finding.Finding.{Finding}
 use Rattle.apd_answers.specs.declared.question.Question.TheVariants as asking
 use Rattle.apd_answers.specs.declared.question.Reply.{Reply}
-use Rattle.apd_answers.specs.declared.question.Reply.TheVariants.{Yes, No, Values}
-use Rattle.apd_answers.specs.declared.store.Pair.{Pair}
+use Rattle.apd_answers.specs.declared.question.Reply.TheVariants.{Yes, No, Values, Unknown}
 use Rattle.apd_missing.specs.Missing.{Looked, after_exit, after_values, at_child, covers, first_exit, first_open, first_undecided, followed, from_child, is_open, is_undecided, missing, state_after, turn_of, turn_of_ground, walk}
 use Rattle.apd_missing.specs.declared.state.Unanswered.{Unanswered}
 use Rattle.apd_record.specs.Recorded.{Recorded, child, exits, first_point, follow, is_user_atom}
@@ -34,11 +33,11 @@ abbrev LookedIsNamed : ℕ → Option Looked → Type 0
 LookedIsNamed n None = Unit {0}
 LookedIsNamed n (Some l) = TupleIsNamed n l.instance
 
-first_open-named : (n : ℕ) (pairs : List Pair) (goal : Term) (k : ℕ) (P : List Tuple) → AllTuplesNamed n P → IsNamed n goal → LookedIsNamed n (first_open pairs goal k P)
-first_open-named n pairs goal k [] named of_goal = tt
-first_open-named n pairs goal k (c ∷ cs) named of_goal = by (is_open pairs goal c) (first_open-named n pairs goal (k + 1) cs named.1 of_goal)
+first_open-named : (n : ℕ) (store : Store) (goal : Term) (k : ℕ) (P : List Tuple) → AllTuplesNamed n P → IsNamed n goal → LookedIsNamed n (first_open store goal k P)
+first_open-named n store goal k [] named of_goal = tt
+first_open-named n store goal k (c ∷ cs) named of_goal = by (is_open store goal c) (first_open-named n store goal (k + 1) cs named.1 of_goal)
   where
-    by : (b : Bool) → LookedIsNamed n (first_open pairs goal (k + 1) cs) → LookedIsNamed n (if b then Some (record { clause = k; instance = instance_for c goal }) else first_open pairs goal (k + 1) cs)
+    by : (b : Bool) → LookedIsNamed n (first_open store goal (k + 1) cs) → LookedIsNamed n (if b then Some (record { clause = k; instance = instance_for c goal }) else first_open store goal (k + 1) cs)
     by true rest = (of_goal, AllNamed-map n (matching c.head goal) c.body (matching-named n c.head goal of_goal) named.0.1)
     by false rest = rest
 
@@ -47,11 +46,11 @@ abbrev MayBeNamed : ℕ → Option Term → Type 0
 MayBeNamed n None = Unit {0}
 MayBeNamed n (Some t) = IsNamed n t
 
-first_undecided-named : (n : ℕ) (pairs : List Pair) (atoms : List Term) → AllNamed n atoms → MayBeNamed n (first_undecided pairs atoms)
-first_undecided-named n pairs [] named = tt
-first_undecided-named n pairs (a ∷ atoms) named = by (is_user_atom a && is_undecided (decided pairs (asking.True a))) (first_undecided-named n pairs atoms named.1)
+first_undecided-named : (n : ℕ) (store : Store) (atoms : List Term) → AllNamed n atoms → MayBeNamed n (first_undecided store atoms)
+first_undecided-named n store [] named = tt
+first_undecided-named n store (a ∷ atoms) named = by (is_user_atom a && is_undecided (decided store (asking.True a))) (first_undecided-named n store atoms named.1)
   where
-    by : (b : Bool) → MayBeNamed n (first_undecided pairs atoms) → MayBeNamed n (if b then Some a else first_undecided pairs atoms)
+    by : (b : Bool) → MayBeNamed n (first_undecided store atoms) → MayBeNamed n (if b then Some a else first_undecided store atoms)
     by true rest = named.0
     by false rest = rest
 
@@ -106,6 +105,7 @@ after_values-named n R s l No named goal reply = goal
 after_values-named n R s l (Values values) named goal reply =
     state_after-named n s (followed R s l.clause (with_values l.instance values)) goal
     (followed-named n R s l.clause (with_values l.instance values) (with_values-named n l.instance values named reply))
+after_values-named n R s l Unknown named goal reply = goal
 
 -- what a turn asks about, leads to and finds is named
 abbrev TurnIsNamed : ℕ → Turn Unanswered Finding → Type 0
@@ -117,41 +117,41 @@ ground-named : (n : ℕ) (R : Recorded) (s : Unanswered) (l : Looked) (o : Optio
 ground-named n R s l (Some a) named goal atom = (atom, λ r reply. goal)
 ground-named n R s l None named goal atom = state_after-named n s (followed R s l.clause l.instance.body) goal (followed-named n R s l.clause l.instance.body named.1)
 
-turn_of-named : (n : ℕ) (R : Recorded) (pairs : List Pair) (s : Unanswered) (o : Option Looked) → LookedIsNamed n o → IsNamed n s.goal → TurnIsNamed n (turn_of R pairs s o)
-turn_of-named n R pairs s None named goal = goal
-turn_of-named n R pairs s (Some l) named goal = by (list_all is_ground l.instance.body)
+turn_of-named : (n : ℕ) (R : Recorded) (store : Store) (s : Unanswered) (o : Option Looked) → LookedIsNamed n o → IsNamed n s.goal → TurnIsNamed n (turn_of R store s o)
+turn_of-named n R store s None named goal = goal
+turn_of-named n R store s (Some l) named goal = by (list_all is_ground l.instance.body)
   where
-    by : (b : Bool) → TurnIsNamed n (if b then turn_of_ground R s l (first_undecided pairs l.instance.body) else asks (covers l.instance) (after_values R s l))
-    by true = ground-named n R s l (first_undecided pairs l.instance.body) named goal (first_undecided-named n pairs l.instance.body named.1)
+    by : (b : Bool) → TurnIsNamed n (if b then turn_of_ground R s l (first_undecided store l.instance.body) else asks (covers l.instance) (after_values R s l))
+    by true = ground-named n R s l (first_undecided store l.instance.body) named goal (first_undecided-named n store l.instance.body named.1)
     by false = (TupleIsNamed-canonical n l.instance named, λ r reply. after_values-named n R s l r named goal reply)
 
-turn-named : (P : List Tuple) (R : Recorded) (n : ℕ) (pairs : List Pair) (s : Unanswered) → IsKnownGoal P n pairs s → TurnIsNamed n ((missing P R).turn pairs s)
-turn-named P R n pairs s known = turn_of-named n R pairs s (first_open pairs s.goal 1 P) (first_open-named n pairs s.goal 1 P known.program known.goal) known.goal
+turn-named : (P : List Tuple) (R : Recorded) (n : ℕ) (store : Store) (s : Unanswered) → IsKnownGoal P n store s → TurnIsNamed n ((missing P R).turn store s)
+turn-named P R n store s known = turn_of-named n R store s (first_open store s.goal 1 P) (first_open-named n store s.goal 1 P known.program known.goal) known.goal
 
 tuples-more : (n m : ℕ) (P : List Tuple) → n ≤ m → AllTuplesNamed n P → AllTuplesNamed m P
 tuples-more n m [] less named = tt
 tuples-more n m (t ∷ P) less named = (TupleIsNamed-more n m t less named.0, tuples-more n m P less named.1)
 
-same_store : (P : List Tuple) (n : ℕ) (pairs : List Pair) (s t : Unanswered) → IsKnownGoal P n pairs s → IsNamed n t.goal → IsKnownGoal P n pairs t
-same_store P n pairs s t known goal = record { standard = known.standard; program = known.program; replies = known.replies; goal = goal }
+same_store : (P : List Tuple) (n : ℕ) (store : Store) (s t : Unanswered) → IsKnownGoal P n store s → IsNamed n t.goal → IsKnownGoal P n store t
+same_store P n store s t known goal = record { standard = known.standard; program = known.program; replies = known.replies; goal = goal }
 
 pub missing-keeps : (P : List Tuple) (R : Recorded) (line_of : Finding → ℕ) → KeepsNamed (missing P R) (λ f. Found f (line_of f)) (IsKnownGoal P)
 missing-keeps P R line_of = record {
-  more = λ n m pairs s less known. record {
+  more = λ n m store s less known. record {
     standard = let standard = known.standard in omega (arith, less, standard);
     program = tuples-more n m P less known.program;
-    replies = AreReplies-more n m pairs less known.replies;
+    replies = AreReplies-more n m store less known.replies;
     goal = IsNamed-more n m s.goal less known.goal;
   };
-  question = λ n pairs s asked next is known. (subst (TurnIsNamed n) is (turn-named P R n pairs s known)).0;
-  kept = λ n pairs s asked next r is o known.
-      same_store P n pairs s (next r) known ((subst (TurnIsNamed n) is (turn-named P R n pairs s known)).1 r (decided-named n pairs asked.question r o known.replies));
-  replied = λ n pairs s asked next r is fits named known. record {
+  question = λ n store s asked next is known. (subst (TurnIsNamed n) is (turn-named P R n store s known)).0;
+  kept = λ n store s asked next r is o known.
+      same_store P n store s (next r) known ((subst (TurnIsNamed n) is (turn-named P R n store s known)).1 r (decided-named n store asked.question r o known.replies));
+  replied = λ n store s asked next r is fits named known. record {
     standard = known.standard;
     program = known.program;
-    replies = with_pair-replies n pairs asked.question r known.replies (fits, named);
-    goal = (subst (TurnIsNamed n) is (turn-named P R n pairs s known)).1 r named;
+    replies = with_pair-replies n store asked.question r known.replies (fits.0, named);
+    goal = (subst (TurnIsNamed n) is (turn-named P R n store s known)).1 r named;
   };
-  going = λ n pairs s t is known. same_store P n pairs s t known (subst (TurnIsNamed n) is (turn-named P R n pairs s known));
-  finding = λ n pairs s f is known. (known.standard, subst (TurnIsNamed n) is (turn-named P R n pairs s known));
+  going = λ n store s t is known. same_store P n store s t known (subst (TurnIsNamed n) is (turn-named P R n store s known));
+  finding = λ n store s f is known. (known.standard, subst (TurnIsNamed n) is (turn-named P R n store s known));
 }

@@ -6,12 +6,11 @@ use Rattle.apd_answers.specs.Bugs.{earlier_atoms}
 use Rattle.apd_answers.specs.Dialogue.{Turn, asks, goes, ends}
 use Rattle.apd_answers.specs.declared.finding.Finding.{Finding}
 use Rattle.apd_answers.specs.declared.question.Reply.{Reply}
-use Rattle.apd_answers.specs.declared.store.Pair.{Pair}
-use Rattle.apd_divide.specs.Choice.{choice}
+use Rattle.apd_answers.specs.Store.{Store}
 use Rattle.apd_divide.specs.Recorded.{tree}
 use Rattle.apd_divide.specs.Tree.{Tree}
 use Rattle.apd_divide.specs.declared.node.Strategy.{Strategy}
-use Rattle.apd_loop.specs.Loop.{Earlier, Looping, whole, between, descending, rising, denied, within, below, by_yes, call_of, earlier_from, earlier_goals, equal_from, inside, loop, loop_start, numbered, repeated_or, start_from, turn_in}
+use Rattle.apd_loop.specs.Loop.{Earlier, Looping, whole, between, descending, rising, denied, within, below, by_yes, call_of, earlier_from, earlier_goals, equal_from, inside, is_yes, loop, loop_start, numbered, repeated_or, start_from, turn_in}
 use Rattle.apd_loop.specs.declared.LoopEnd.{LoopEnd}
 use Rattle.apd_loop.specs.declared.LoopEnd.TheVariants as loop_ends
 use Rattle.apd_ports.specs.declared.point.Point.{Point}
@@ -23,7 +22,7 @@ use Rattle.apd_term.specs.Named.{AllNamed, IsNamed}
 use Rattle.apd_term.specs.Term.{Term}
 use Rattle.apd_term.proofs.Named.{IsNamed-canonical, IsNamed-more, TupleIsNamed-more}
 use Rattle.apd_text.specs.Named.{EntryIsNamed, FindingIsNamed, HasStandardNames, QuestionIsNamed}
-use Rattle.apd_wrong.specs.Wrong.{is_yes, turn_by}
+use Rattle.apd_wrong.specs.Wrong.{wrong}
 use Rattle.apd_debug.specs.Known.{KeepsNamed}
 use Rattle.apd_debug.specs.NamedStates.{AllEarlierNamed, IsKnownLoop, LoopingIsNamed, loop_entry}
 use Rattle.apd_debug.specs.NamedTrees.{AllBoxesNamed, AllPointsNamed, RecordIsNamed}
@@ -93,20 +92,20 @@ between-named n R chain low high false named =
     let middle = low + (high - low) / 2 in
     ((call_of-named n R chain middle named, call_of-named n R chain low named), λ r. by_yes-named n (between middle high) (between low middle) r tt tt)
 
-turn_in-named : (n : ℕ) (R : Recorded) (chain : List ℕ) (strategy : Strategy) (s : Looping) → RecordIsNamed n R → LoopingIsNamed n s → TurnIsNamed n (turn_in R chain strategy s)
-turn_in-named n R chain strategy whole named state =
+turn_in-named : (n : ℕ) (R : Recorded) (chain : List ℕ) (strategy : Strategy) (store : Store) (s : Looping) → RecordIsNamed n R → LoopingIsNamed n s → TurnIsNamed n (turn_in R chain strategy store s)
+turn_in-named n R chain strategy store whole named state =
     ((call_of-named n R chain (length chain) named, call_of-named n R chain 1 named), λ r. by_yes-named n (descending (length chain - 1)) (between 1 (length chain)) r tt tt)
-turn_in-named n R chain strategy (between low high) named state = between-named n R chain low high (nat_le (high - low) 1) named
-turn_in-named n R chain strategy (descending zero) named state = tt
-turn_in-named n R chain strategy (descending (suc i)) named state = (
+turn_in-named n R chain strategy store (between low high) named state = between-named n R chain low high (nat_le (high - low) 1) named
+turn_in-named n R chain strategy store (descending zero) named state = tt
+turn_in-named n R chain strategy store (descending (suc i)) named state = (
   (call_of-named n R chain (suc i + 1) named, call_of-named n R chain (suc i) named),
   λ r. by_yes-named n (descending i) (rising (suc i) (earlier_goals R chain (suc i))) r tt (earlier_goals-named n R chain (suc i) named),
 )
-turn_in-named n R chain strategy (rising i []) named state = (call_of-named n R chain i named, call_of-named n R chain (i + 1) named)
-turn_in-named n R chain strategy (rising i (e ∷ es)) named state =
+turn_in-named n R chain strategy store (rising i []) named state = (call_of-named n R chain i named, call_of-named n R chain (i + 1) named)
+turn_in-named n R chain strategy store (rising i (e ∷ es)) named state =
     (state.0, λ r. by_yes-named n (rising i es) (denied e) r state.1 state.0)
-turn_in-named n R chain strategy (denied e) named state = tree-named n R e.exit e.atom named state
-turn_in-named n R chain strategy (within x) named state = inside-named n (turn_by x (choice strategy x)) (tree_turn-named n strategy x state)
+turn_in-named n R chain strategy store (denied e) named state = tree-named n R e.exit e.atom named state
+turn_in-named n R chain strategy store (within x) named state = inside-named n ((wrong strategy).turn store x) (tree_turn-named n strategy store x state)
 
 -- the state in which the diagnosis starts
 repeated-named : (n j : ℕ) (o : Option ℕ) (rest : Looping) → LoopingIsNamed n rest → LoopingIsNamed n (repeated_or j o rest)
@@ -144,22 +143,22 @@ entry-named : (n : ℕ) (line_of : Finding → ℕ) (calls : ℕ) (e : LoopEnd) 
 entry-named n line_of calls (loop_ends.Found f) standard named = (standard, named)
 entry-named n line_of calls loop_ends.AllDescend standard named = tt
 
-turn-named : (R : Recorded) (chain : List ℕ) (strategy : Strategy) (n : ℕ) (pairs : List Pair) (s : Looping) → IsKnownLoop R n pairs s → TurnIsNamed n ((loop R chain strategy).turn pairs s)
-turn-named R chain strategy n pairs s known = turn_in-named n R chain strategy s known.history known.state
+turn-named : (R : Recorded) (chain : List ℕ) (strategy : Strategy) (n : ℕ) (store : Store) (s : Looping) → IsKnownLoop R n store s → TurnIsNamed n ((loop R chain strategy).turn store s)
+turn-named R chain strategy n store s known = turn_in-named n R chain strategy store s known.history known.state
 
-same_record : (R : Recorded) (n : ℕ) (pairs others : List Pair) (s t : Looping) → IsKnownLoop R n pairs s → LoopingIsNamed n t → IsKnownLoop R n others t
-same_record R n pairs others s t known named = record { standard = known.standard; history = known.history; state = named }
+same_record : (R : Recorded) (n : ℕ) (store others : Store) (s t : Looping) → IsKnownLoop R n store s → LoopingIsNamed n t → IsKnownLoop R n others t
+same_record R n store others s t known named = record { standard = known.standard; history = known.history; state = named }
 
 pub loop-keeps : (R : Recorded) (chain : List ℕ) (strategy : Strategy) (line_of : Finding → ℕ) (calls : ℕ) → KeepsNamed (loop R chain strategy) (loop_entry line_of calls) (IsKnownLoop R)
 loop-keeps R chain strategy line_of calls = record {
-  more = λ n m pairs s less known. record {
+  more = λ n m store s less known. record {
     standard = let standard = known.standard in omega (arith, less, standard);
     history = record { boxes = boxes-more n m R.boxes less known.history.boxes; points = points-more n m R.points less known.history.points };
     state = looping-more n m s less known.state;
   };
-  question = λ n pairs s asked next is known. (subst (TurnIsNamed n) is (turn-named R chain strategy n pairs s known)).0;
-  kept = λ n pairs s asked next r is o known. same_record R n pairs pairs s (next r) known ((subst (TurnIsNamed n) is (turn-named R chain strategy n pairs s known)).1 r);
-  replied = λ n pairs s asked next r is fits named known. same_record R n pairs _ s (next r) known ((subst (TurnIsNamed n) is (turn-named R chain strategy n pairs s known)).1 r);
-  going = λ n pairs s t is known. same_record R n pairs pairs s t known (subst (TurnIsNamed n) is (turn-named R chain strategy n pairs s known));
-  finding = λ n pairs s e is known. entry-named n line_of calls e known.standard (subst (TurnIsNamed n) is (turn-named R chain strategy n pairs s known));
+  question = λ n store s asked next is known. (subst (TurnIsNamed n) is (turn-named R chain strategy n store s known)).0;
+  kept = λ n store s asked next r is o known. same_record R n store store s (next r) known ((subst (TurnIsNamed n) is (turn-named R chain strategy n store s known)).1 r);
+  replied = λ n store s asked next r is fits named known. same_record R n store _ s (next r) known ((subst (TurnIsNamed n) is (turn-named R chain strategy n store s known)).1 r);
+  going = λ n store s t is known. same_record R n store store s t known (subst (TurnIsNamed n) is (turn-named R chain strategy n store s known));
+  finding = λ n store s e is known. entry-named n line_of calls e known.standard (subst (TurnIsNamed n) is (turn-named R chain strategy n store s known));
 }

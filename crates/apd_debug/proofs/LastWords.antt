@@ -4,7 +4,7 @@ use Rattle.std.specs.Prelude.{Result, Ok, Err}
 use Rattle.apd_answers.specs.Dialogue.{Diagnosis}
 use Rattle.apd_answers.specs.declared.oracle.AskEnd.{AskEnd}
 use Rattle.apd_answers.specs.declared.oracle.AskEnd.TheVariants as ask_ends
-use Rattle.apd_answers.specs.declared.store.Pair.{Pair}
+use Rattle.apd_answers.specs.Store.{Store}
 use Rattle.apd_console.specs.Lines.{Close, AtEnd, AtFault, AtLimit}
 use Rattle.apd_io.specs.Outside.{Rose}
 use Rattle.apd_debug.specs.Diagnosed.{Diagnosed, GoesOnSo, SaysEndIf, SaysLast, is_said, last_entry, next_after}
@@ -62,9 +62,9 @@ module _ {S : Type 0} (talker : Talker Entry S) (start : Meaning Entry) (p : Pla
       (Breaks-step begun talker (record { utterances = us; next = next; quits = quits }) q.console q.left q.spoken.held said.held q.read_faults q.spoken.write_faults said.write_faults q.spoken.log.entries.list said.log.entries.list t says writes rose)
 
 module _ {S D E : Type 0} (d : Diagnosis D E) (found : E → Entry) (state : Stand D → S) (ops : Table) (names : List (List ℕ)) (talker : Talker Entry S)
-    (start : Meaning Entry) (p : Place Entry) (q : Moment) (said : Spoken) (pairs : List Pair) (count : ℕ) (same : q.spoken.log.ops ≡ ops) (grew : Grown q.spoken.log.names names) where
+    (start : Meaning Entry) (p : Place Entry) (q : Moment) (said : Spoken) (store : Store) (count : ℕ) (same : q.spoken.log.ops ≡ ops) (grew : Grown q.spoken.log.names names) where
   abbrev Continued : Result Next Trouble → Type 0
-  Continued result = GoesOnSo talker (state (ready pairs count)) start p (place (said_at q said)) result
+  Continued result = GoesOnSo talker (state (ready store count)) start p (place (said_at q said)) result
 
   goes_as : (n m : Next) → n ≡ m → Continued (Ok m) → Continued (Ok n)
   goes_as n m is so = subst (λ (k : Next). Continued (Ok k)) (sym is) so
@@ -75,10 +75,10 @@ module _ {S D E : Type 0} (d : Diagnosis D E) (found : E → Entry) (state : Sta
   front_of : (e : Entry) (t : Trouble) → Says {T = Next} (one e) q.spoken said (Err t) → UttersFront begun q.spoken.log.entries.list said.log.entries.list q.spoken.held said.held (plain ops names e ∷ [])
   front_of e t says = said_front (one e) q.spoken said t ops names same grew says
 
-  found_on : (e : E) (result : Result Next Trouble) → Diagnosed d found state ops names talker start p (place q) pairs count (Ok e) → SaysLast found (Ok e) q.spoken said result → Continued result
-  found_on e (Ok n) so (says, is) = goes_as n nexts.Goes is (step_said talker start p q said _ (state (ready pairs count)) (says_later (one (found e)) q.spoken said (Ok n) says) so (all_of (found e) n says))
+  found_on : (e : E) (result : Result Next Trouble) → Diagnosed d found state ops names talker start p (place q) store count (Ok e) → SaysLast found (Ok e) q.spoken said result → Continued result
+  found_on e (Ok n) so (says, is) = goes_as n nexts.Goes is (step_said talker start p q said _ (state (ready store count)) (says_later (one (found e)) q.spoken said (Ok n) says) so (all_of (found e) n says))
   found_on e (Err t) so (says, is) =
-      step_front talker start p q said _ (state (ready pairs count)) false t so (says_later (one (found e)) q.spoken said (Err t) says) (λ w. says_rose (one (found e)) q.spoken said t says w) (front_of (found e) t says)
+      step_front talker start p q said _ (state (ready store count)) false t so (says_later (one (found e)) q.spoken said (Err t) says) (λ w. says_rose (one (found e)) q.spoken said t says w) (front_of (found e) t says)
 
   -- no line is left
   closed_on : (end : AskEnd) (close : Close) (us : List (Utterance Entry)) (result : Result Next Trouble) → us ≡ plain ops names (last_entry end) ∷ [] → next_after end ≡ nexts.Ends (ending_of close) →
@@ -96,16 +96,16 @@ module _ {S D E : Type 0} (d : Diagnosis D E) (found : E → Entry) (state : Sta
   unsaid_on t result broke here is =
       subst (λ (r : Result Next Trouble). Continued r) (sym is) (subst (λ (s : Spoken). Breaks begun start p (place (said_at q s)) t) (sym here) broke)
 
-  end_on : (end : AskEnd) (result : Result Next Trouble) → Diagnosed d found state ops names talker start p (place q) pairs count (Err end) → SaysEndIf (is_said end) end q.spoken said result → Continued result
+  end_on : (end : AskEnd) (result : Result Next Trouble) → Diagnosed d found state ops names talker start p (place q) store count (Err end) → SaysEndIf (is_said end) end q.spoken said result → Continued result
   end_on ask_ends.Stopped (Ok n) so (says, is) =
-      goes_as n nexts.Goes is (step_said talker start p q said _ (state (ready pairs count)) (says_later (one (last_entry ask_ends.Stopped)) q.spoken said (Ok n) says) so (all_of (last_entry ask_ends.Stopped) n says))
+      goes_as n nexts.Goes is (step_said talker start p q said _ (state (ready store count)) (says_later (one (last_entry ask_ends.Stopped)) q.spoken said (Ok n) says) so (all_of (last_entry ask_ends.Stopped) n says))
   end_on ask_ends.Stopped (Err t) so (says, is) =
-      step_front talker start p q said _ (state (ready pairs count)) false t so (says_later (one (last_entry ask_ends.Stopped)) q.spoken said (Err t) says) (λ w. says_rose (one (last_entry ask_ends.Stopped)) q.spoken said t says w)
+      step_front talker start p q said _ (state (ready store count)) false t so (says_later (one (last_entry ask_ends.Stopped)) q.spoken said (Err t) says) (λ w. says_rose (one (last_entry ask_ends.Stopped)) q.spoken said t says w)
       (front_of (last_entry ask_ends.Stopped) t says)
   end_on ask_ends.Quit (Ok n) so (says, is) =
-      goes_as n (nexts.Ends Done) is (step_quits talker start p q said _ (state (ready pairs count)) (says_later (one (last_entry ask_ends.Quit)) q.spoken said (Ok n) says) so (all_of (last_entry ask_ends.Quit) n says))
+      goes_as n (nexts.Ends Done) is (step_quits talker start p q said _ (state (ready store count)) (says_later (one (last_entry ask_ends.Quit)) q.spoken said (Ok n) says) so (all_of (last_entry ask_ends.Quit) n says))
   end_on ask_ends.Quit (Err t) so (says, is) =
-      step_front talker start p q said _ (state (ready pairs count)) true t so (says_later (one (last_entry ask_ends.Quit)) q.spoken said (Err t) says) (λ w. says_rose (one (last_entry ask_ends.Quit)) q.spoken said t says w)
+      step_front talker start p q said _ (state (ready store count)) true t so (says_later (one (last_entry ask_ends.Quit)) q.spoken said (Err t) says) (λ w. says_rose (one (last_entry ask_ends.Quit)) q.spoken said t says w)
       (front_of (last_entry ask_ends.Quit) t says)
   end_on ask_ends.Ended result so says = closed_on ask_ends.Ended AtEnd _ result refl refl so says
   end_on ask_ends.ReadFault result so says = closed_on ask_ends.ReadFault AtFault _ result refl refl so says
@@ -114,8 +114,8 @@ module _ {S D E : Type 0} (d : Diagnosis D E) (found : E → Entry) (state : Sta
   end_on ask_ends.Memory result so (here, is) = unsaid_on troubles.Memory result so here is
 
   -- whatever a diagnosis ended in
-  pub last_on : (answer : Result E AskEnd) (result : Result Next Trouble) → Diagnosed d found state ops names talker start p (place q) pairs count answer → SaysLast found answer q.spoken said result →
-      GoesOnSo talker (state (ready pairs count)) start p (place (said_at q said)) result
+  pub last_on : (answer : Result E AskEnd) (result : Result Next Trouble) → Diagnosed d found state ops names talker start p (place q) store count answer → SaysLast found answer q.spoken said result →
+      GoesOnSo talker (state (ready store count)) start p (place (said_at q said)) result
   last_on (Ok e) result so says = found_on e result so says
   last_on (Err end) result so says = end_on end result so says
 

@@ -5,38 +5,41 @@ use Rattle.std.specs.List.{list_any}
 use Rattle.std.specs.Option.{option_or}
 use Rattle.std.specs.Prelude.{if◌then◌else◌}
 use Rattle.apd_answers.specs.Questions.{canonical_question, with_values}
-use Rattle.apd_answers.specs.Store.{decided, is_kept, same_question, told, told_of_truth, with_pair}
+use Rattle.apd_answers.specs.Store.{Store, decided, decided_in, is_kept, same_question, told, told_of_truth, with_pair}
 use Rattle.apd_answers.specs.declared.question.Question.{Question}
 use Rattle.apd_answers.specs.declared.question.Question.TheVariants.{True, Covers, Below}
 use Rattle.apd_answers.specs.declared.question.Reply.{Reply}
-use Rattle.apd_answers.specs.declared.question.Reply.TheVariants.{Yes, No, Values}
+use Rattle.apd_answers.specs.declared.question.Reply.TheVariants.{Yes, No, Values, Unknown}
 use Rattle.apd_answers.specs.declared.store.Pair.{Pair}
-use Rattle.apd_oracle.specs.Dialogue.{IsReply}
 use Rattle.apd_term.specs.Matching.{is_instance}
 use Rattle.apd_term.specs.Term.{Term}
 use Rattle.apd_term.proofs.Named.{AllNamed-more}
 use Rattle.apd_text.specs.Named.{ReplyIsNamed}
-use Rattle.apd_debug.specs.NamedStates.{AreReplies}
+use Rattle.apd_debug.specs.NamedStates.{AreReplies, AreRepliesIn, IsNamedReply}
 
 pub ReplyIsNamed-more : (n m : ℕ) (r : Reply) → n ≤ m → ReplyIsNamed n r → ReplyIsNamed m r
 ReplyIsNamed-more n m Yes less named = tt
 ReplyIsNamed-more n m No less named = tt
 ReplyIsNamed-more n m (Values values) less named = AllNamed-more n m values less named
+ReplyIsNamed-more n m Unknown less named = tt
 
-pub AreReplies-more : (n m : ℕ) (pairs : List Pair) → n ≤ m → AreReplies n pairs → AreReplies m pairs
-AreReplies-more n m [] less named = tt
-AreReplies-more n m (pair ∷ pairs) less named = ((named.0.0, ReplyIsNamed-more n m pair.reply less named.0.1), AreReplies-more n m pairs less named.1)
+pub AreReplies-more_in : (n m : ℕ) (pairs : List Pair) → n ≤ m → AreRepliesIn n pairs → AreRepliesIn m pairs
+AreReplies-more_in n m [] less named = tt
+AreReplies-more_in n m (pair ∷ pairs) less named = ((named.0.0, ReplyIsNamed-more n m pair.reply less named.0.1), AreReplies-more_in n m pairs less named.1)
 
-replies-append : (n : ℕ) (pairs : List Pair) (q : Question) (r : Reply) → AreReplies n pairs → IsReply n q r → AreReplies n (pairs ++ record { question = q; reply = r } ∷ [])
+pub AreReplies-more : (n m : ℕ) (store : Store) → n ≤ m → AreReplies n store → AreReplies m store
+AreReplies-more n m store less named = AreReplies-more_in n m store.pairs less named
+
+replies-append : (n : ℕ) (pairs : List Pair) (q : Question) (r : Reply) → AreRepliesIn n pairs → IsNamedReply n q r → AreRepliesIn n (pairs ++ record { question = q; reply = r } ∷ [])
 replies-append n [] q r named last = (last, tt)
 replies-append n (pair ∷ pairs) q r named last = (named.0, replies-append n pairs q r named.1 last)
 
-pub with_pair-replies : (n : ℕ) (pairs : List Pair) (q : Question) (r : Reply) → AreReplies n pairs → IsReply n q r → AreReplies n (with_pair pairs q r)
-with_pair-replies n pairs q r named last = by (is_kept pairs q r)
+pub with_pair-replies : (n : ℕ) (store : Store) (q : Question) (r : Reply) → AreReplies n store → IsNamedReply n q r → AreReplies n (with_pair store q r)
+with_pair-replies n store q r named last = by (is_kept store q r)
   where
-    by : (b : Bool) → AreReplies n (if b then pairs else pairs ++ record { question = q; reply = r } ∷ [])
+    by : (b : Bool) → AreRepliesIn n (if b then store.pairs else store.pairs ++ record { question = q; reply = r } ∷ [])
     by true = named
-    by false = replies-append n pairs q r named last
+    by false = replies-append n store.pairs q r named last
 
 abbrev MayReply : ℕ → Option Reply → Type 0
 MayReply n None = Unit {0}
@@ -54,21 +57,24 @@ truth-named : (n : ℕ) (q : Question) (r : Reply) (a : Term) → MayReply n (to
 truth-named n (True b) Yes a = then_some-named n (is_instance a b) Yes tt
 truth-named n (True b) No a = then_some-named n (is_instance b a) No tt
 truth-named n (True b) (Values values) a = tt
+truth-named n (True b) Unknown a = tt
 truth-named n (Covers t) Yes a = tt
 truth-named n (Covers t) No a = tt
 truth-named n (Covers t) (Values values) a = then_some-named n (list_any (is_instance a) (with_values t values)) Yes tt
+truth-named n (Covers t) Unknown a = tt
 truth-named n (Below q p) Yes a = tt
 truth-named n (Below q p) No a = tt
 truth-named n (Below q p) (Values values) a = tt
+truth-named n (Below q p) Unknown a = tt
 
 told-named : (n : ℕ) (pair : Pair) (q : Question) → ReplyIsNamed n pair.reply → MayReply n (told pair q)
 told-named n pair (True a) named = truth-named n pair.question pair.reply a
 told-named n pair (Covers t) named = then_some-named n (same_question (canonical_question pair.question) (canonical_question (Covers t))) pair.reply named
 told-named n pair (Below q p) named = then_some-named n (same_question (canonical_question pair.question) (canonical_question (Below q p))) pair.reply named
 
-may_decide : (n : ℕ) (pairs : List Pair) (q : Question) → AreReplies n pairs → MayReply n (decided pairs q)
+may_decide : (n : ℕ) (pairs : List Pair) (q : Question) → AreRepliesIn n pairs → MayReply n (decided_in pairs q)
 may_decide n [] q named = tt
-may_decide n (pair ∷ pairs) q named = or-named n (told pair q) (decided pairs q) (told-named n pair q named.0.1) (may_decide n pairs q named.1)
+may_decide n (pair ∷ pairs) q named = or-named n (told pair q) (decided_in pairs q) (told-named n pair q named.0.1) (may_decide n pairs q named.1)
 
-pub decided-named : (n : ℕ) (pairs : List Pair) (q : Question) (r : Reply) → decided pairs q ≡ Some r → AreReplies n pairs → ReplyIsNamed n r
-decided-named n pairs q r is named = subst (MayReply n) is (may_decide n pairs q named)
+pub decided-named : (n : ℕ) (store : Store) (q : Question) (r : Reply) → decided store q ≡ Some r → AreReplies n store → ReplyIsNamed n r
+decided-named n store q r is named = subst (MayReply n) is (may_decide n store.pairs q named)

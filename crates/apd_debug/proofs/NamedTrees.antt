@@ -7,6 +7,7 @@ use Rattle.apd_term.specs.Canonical.{canonical}
 use Rattle.apd_term.specs.Matching.{opposite, opposite_among, matching}
 use Rattle.apd_term.specs.Named.{IsNamed, AreNamed, AllNamed, TupleIsNamed, AllTuplesNamed}
 use Rattle.apd_term.specs.Tuple.{canonical_tuple}
+use Rattle.apd_term.specs.declared.instance.Instance.{Instance}
 use Rattle.apd_term.specs.declared.tuple.Tuple.{Tuple}
 use Rattle.apd_term.proofs.Named.{TupleIsNamed-more, TupleIsNamed-apply, IsNamed-canonical, TupleIsNamed-canonical}
 use Rattle.apd_ports.specs.declared.event.Event.{Event}
@@ -23,11 +24,15 @@ use Rattle.apd_trace.specs.Run.{query_run}
 use Rattle.apd_trace.specs.Trace.{trace}
 use Rattle.apd_trace.proofs.Named.{trace_named, passed-named}
 use Rattle.apd_recorded.specs.Told.{told, told_port, record_from, record_of}
-use Rattle.apd_divide.specs.Tree.{Tree, Forest, node, bare, beside, cleared}
+use Rattle.apd_divide.specs.declared.node.Standing.{Standing}
+use Rattle.apd_divide.specs.declared.node.Standing.TheVariants.{Open, Cleared, Doubted}
+use Rattle.apd_divide.specs.declared.node.Verdict.{Verdict}
+use Rattle.apd_divide.specs.declared.node.Verdict.TheVariants as verdicts
+use Rattle.apd_divide.specs.Tree.{Tree, Forest, node, bare, beside, marked, doubts, doubts_of}
 use Rattle.apd_divide.specs.Choice.{Cut, Among, Way, at_node, cut, cut_among, judged}
 use Rattle.apd_divide.specs.Recorded.{renamed_apart, instance_with, nodes_for, tree_in, tree}
 use Rattle.apd_divide.proofs.Weights.{stopped, down, along, found, map_some}
-use Rattle.apd_debug.specs.NamedTrees.{TreeIsNamed, ForestIsNamed, AllPointsNamed, AllBoxesNamed, RecordIsNamed}
+use Rattle.apd_debug.specs.NamedTrees.{TreeIsNamed, ForestIsNamed, InstancesAreNamed, AllPointsNamed, AllBoxesNamed, RecordIsNamed}
 
 -- among more names
 
@@ -41,33 +46,49 @@ mutual
 
 -- what a cut leaves
 
-cleared-named : (n : ℕ) (x : Tree) → TreeIsNamed n x → TreeIsNamed n (cleared x)
-cleared-named n (node s c t ts) named = named
+marked-named : (n : ℕ) (v : Standing) (x : Tree) → TreeIsNamed n x → TreeIsNamed n (marked v x)
+marked-named n v (node s c t ts) named = named
 
-abbrev CutIsNamed : ℕ → Cut → Type 0
-CutIsNamed n c = TreeIsNamed n c.chosen × TreeIsNamed n c.rest
+abbrev pub CutIsNamed : ℕ → Cut → Type 0
+CutIsNamed n c = TreeIsNamed n c.chosen × ((v : Standing) → TreeIsNamed n (c.rest v))
 
 abbrev AmongIsNamed : ℕ → Among → Type 0
-AmongIsNamed n a = TreeIsNamed n a.chosen × ForestIsNamed n a.rest
+AmongIsNamed n a = TreeIsNamed n a.chosen × ((v : Standing) → ForestIsNamed n (a.rest v))
 
 mutual
   pub cut-named : (n : ℕ) (way : Way) (x : Tree) (c : Cut) → cut way x ≡ Some c → TreeIsNamed n x → CutIsNamed n c
   cut-named n way (node s k t ts) c e named =
       let m = map_some (at_node (node s k t)) (cut_among way ts) c e in
       let a = cut_among-named n way ts m.0 m.1 named.1 in
-      subst (CutIsNamed n) m.2 (a.0, (named.0, a.1))
+      subst (CutIsNamed n) m.2 (a.0, λ v. (named.0, a.1 v))
 
   cut_among-named : (n : ℕ) (way : Way) (ts : Forest) (a : Among) → cut_among way ts ≡ Some a → ForestIsNamed n ts → AmongIsNamed n a
   cut_among-named n way bare a e named = absurd (cc)
   cut_among-named n way (beside x xs) a e named = elim (found way x xs a e) [
-    | stopped t s f ↦ subst (AmongIsNamed n) f (named.0, (cleared-named n x named.0, named.1))
-    | down t s c g f ↦ let k = cut-named n way x c g named.0 in subst (AmongIsNamed n) f (k.0, (k.1, named.1))
-    | along t b g f ↦ let k = cut_among-named n way xs b g named.1 in subst (AmongIsNamed n) f (k.0, (named.0, k.1))
+    | stopped t s f ↦ subst (AmongIsNamed n) f (named.0, λ v. (marked-named n v x named.0, named.1))
+    | down t s c g f ↦ let k = cut-named n way x c g named.0 in subst (AmongIsNamed n) f (k.0, λ v. (k.1 v, named.1))
+    | along t b g f ↦ let k = cut_among-named n way xs b g named.1 in subst (AmongIsNamed n) f (k.0, λ v. (named.0, k.1 v))
   ]
 
-pub judged-named : (n : ℕ) (c : Cut) (reply : Bool) → CutIsNamed n c → TreeIsNamed n (judged c reply)
-judged-named n c true named = named.1
-judged-named n c false named = named.0
+pub judged-named : (n : ℕ) (c : Cut) (value : Verdict) → CutIsNamed n c → TreeIsNamed n (judged c value)
+judged-named n c verdicts.True named = named.1 Cleared
+judged-named n c verdicts.False named = named.0
+judged-named n c verdicts.Unknown named = named.1 Doubted
+
+-- the instances of the nodes that are judged unknown
+append-named : (n : ℕ) (is js : List Instance) → InstancesAreNamed n is → InstancesAreNamed n js → InstancesAreNamed n (is ++ js)
+append-named n [] js first second = second
+append-named n (i ∷ is) js first second = (first.0, append-named n is js first.1 second)
+
+mutual
+  doubts-named : (n : ℕ) (x : Tree) → TreeIsNamed n x → InstancesAreNamed n (doubts x)
+  doubts-named n (node Open c t ts) named = doubts_of-named n ts named.1
+  doubts-named n (node Cleared c t ts) named = tt
+  doubts-named n (node Doubted c t ts) named = (named.0, doubts_of-named n ts named.1)
+
+  pub doubts_of-named : (n : ℕ) (ts : Forest) → ForestIsNamed n ts → InstancesAreNamed n (doubts_of ts)
+  doubts_of-named n bare named = tt
+  doubts_of-named n (beside x xs) named = append-named n (doubts x) (doubts_of xs) (doubts-named n x named.0) (doubts_of-named n xs named.1)
 
 -- an instance with a given head
 

@@ -3,7 +3,7 @@ use Rattle.std.specs.Prelude.{◌≡◌, ℕ, List, Bool, true, false, Result, O
 use Rattle.apd_answers.specs.Dialogue.{Diagnosis, ends}
 use Rattle.apd_answers.specs.declared.oracle.AskEnd.{AskEnd}
 use Rattle.apd_answers.specs.declared.oracle.AskEnd.TheVariants as ask_ends
-use Rattle.apd_answers.specs.declared.store.Pair.{Pair}
+use Rattle.apd_answers.specs.Store.{Store}
 use Rattle.apd_console.specs.Lines.{Close, AtEnd, AtFault, AtLimit}
 use Rattle.apd_debug.specs.Stand.{Stand}
 use Rattle.apd_debug.specs.Steps.{after_turn, closing_asked, unanswered}
@@ -26,15 +26,15 @@ closed_asked ops names close = record { utterances = closing_asked ops names clo
 module _ {S D E : Type 0} (d : Diagnosis D E) (found : E → Entry) (state : Stand D → S) (ops : Table) (names : List (List ℕ)) (talker : Talker Entry S) where
   -- from `start` at p a diagnosis ended so at q, with these pairs kept and so many questions asked; its last entry is still to
   -- be said
-  abbrev pub Diagnosed : Meaning Entry → Place Entry → Place Entry → List Pair → ℕ → Result E AskEnd → Type 0
-  Diagnosed start p q pairs count (Ok e) = Talks start p q (after_step talker (after_turn d found state ops names pairs count (ends e)))
-  Diagnosed start p q pairs count (Err ask_ends.Stopped) = Talks start p q (after_step talker (unanswered d found state ops names pairs count false))
-  Diagnosed start p q pairs count (Err ask_ends.Quit) = Talks start p q (after_step talker (unanswered d found state ops names pairs count true))
-  Diagnosed start p q pairs count (Err ask_ends.Ended) = Closes start p q AtEnd (closed_asked ops names AtEnd)
-  Diagnosed start p q pairs count (Err ask_ends.ReadFault) = Closes start p q AtFault (closed_asked ops names AtFault)
-  Diagnosed start p q pairs count (Err ask_ends.InputLimit) = Closes start p q AtLimit (closed_asked ops names AtLimit)
-  Diagnosed start p q pairs count (Err ask_ends.WriteFault) = Breaks begun start p q troubles.WriteFault
-  Diagnosed start p q pairs count (Err ask_ends.Memory) = Breaks begun start p q troubles.Memory
+  abbrev pub Diagnosed : Meaning Entry → Place Entry → Place Entry → Store → ℕ → Result E AskEnd → Type 0
+  Diagnosed start p q store count (Ok e) = Talks start p q (after_step talker (after_turn d found state ops names store count (ends e)))
+  Diagnosed start p q store count (Err ask_ends.Stopped) = Talks start p q (after_step talker (unanswered d found state ops names store count false))
+  Diagnosed start p q store count (Err ask_ends.Quit) = Talks start p q (after_step talker (unanswered d found state ops names store count true))
+  Diagnosed start p q store count (Err ask_ends.Ended) = Closes start p q AtEnd (closed_asked ops names AtEnd)
+  Diagnosed start p q store count (Err ask_ends.ReadFault) = Closes start p q AtFault (closed_asked ops names AtFault)
+  Diagnosed start p q store count (Err ask_ends.InputLimit) = Closes start p q AtLimit (closed_asked ops names AtLimit)
+  Diagnosed start p q store count (Err ask_ends.WriteFault) = Breaks begun start p q troubles.WriteFault
+  Diagnosed start p q store count (Err ask_ends.Memory) = Breaks begun start p q troubles.Memory
 
 -- from `start` at p the conversation goes on from this state at q, has ended there, or broke off
 abbrev pub GoesOnSo : {S : Type 0} → Talker Entry S → S → Meaning Entry → Place Entry → Place Entry → Result Next Trouble → Type 0

@@ -3,7 +3,7 @@ use Rattle.std.specs.Prelude.{◌≡◌, ℕ, List, Bool, false, true}
 use Rattle.apd_answers.specs.Dialogue.{Diagnosis}
 use Rattle.apd_answers.specs.declared.question.Asked.{Asked}
 use Rattle.apd_answers.specs.declared.question.Reply.{Reply}
-use Rattle.apd_answers.specs.declared.store.Pair.{Pair}
+use Rattle.apd_answers.specs.Store.{Store}
 use Rattle.apd_console.specs.Lines.{Close}
 use Rattle.apd_console.specs.declared.line.Line.{Line}
 use Rattle.apd_debug.specs.Stand.{Stand, asking}
@@ -22,17 +22,17 @@ use Rattle.apd_text.specs.declared.entry.Entry.{Entry}
 module _ {S D E : Type 0} (d : Diagnosis D E) (found : E → Entry) (state : Stand D → S) {names : List (List ℕ)} (reader : Reader names) (ops : Table) (talker : Talker Entry S) where
   -- where a question of the diagnosis waits, the talker hears a line as a reply to it
   pub record HearsReplies : Type 0 where
-    pub steps : (pairs : List Pair) (count : ℕ) (asked : Asked) (next : Reply → D) (line : Line) →
-        talker.step (state (asking pairs count asked next)) line ≡ reply_step d found state ops names pairs count asked next (spoken_of asked.question (line_in reader ops line))
-    pub closes : (pairs : List Pair) (count : ℕ) (asked : Asked) (next : Reply → D) (close : Close) →
-        talker.closing (state (asking pairs count asked next)) close ≡ closing_asked ops names close
+    pub steps : (store : Store) (count : ℕ) (asked : Asked) (next : Reply → D) (line : Line) →
+        talker.step (state (asking store count asked next)) line ≡ reply_step d found state ops names store count asked next (spoken_of asked (line_in reader ops line))
+    pub closes : (store : Store) (count : ℕ) (asked : Asked) (next : Reply → D) (close : Close) →
+        talker.closing (state (asking store count asked next)) close ≡ closing_asked ops names close
 
   -- what comes after a question, by the reply to it
-  abbrev pub afterwards : List Pair → ℕ → Asked → (Reply → D) → Afterwards
-  afterwards pairs count asked next = record {
-    replied = λ r. after talker (replied d found state ops names pairs count asked next r);
-    stopped = after talker (unanswered d found state ops names pairs count false);
-    quit = after talker (unanswered d found state ops names pairs count true);
+  abbrev pub afterwards : Store → ℕ → Asked → (Reply → D) → Afterwards
+  afterwards store count asked next = record {
+    replied = λ r. after talker (replied d found state ops names store count asked next r);
+    stopped = after talker (unanswered d found state ops names store count false);
+    quit = after talker (unanswered d found state ops names store count true);
     closed = λ close. record { utterances = closing_asked ops names close; ending = ending_of close };
   }
 

@@ -6,7 +6,7 @@ use Rattle.apd_answers.specs.Oracle.{Call}
 use Rattle.apd_answers.specs.declared.oracle.AskEnd.{AskEnd}
 use Rattle.apd_answers.specs.declared.question.Asked.{Asked}
 use Rattle.apd_answers.specs.declared.question.Reply.{Reply}
-use Rattle.apd_answers.specs.declared.store.Pair.{Pair}
+use Rattle.apd_answers.specs.Store.{Store}
 use Rattle.apd_console.specs.Lines.{Close}
 use Rattle.apd_console.specs.declared.line.Line.{Line}
 use Rattle.apd_debug.specs.Conversing.{Conversing}
@@ -40,37 +40,37 @@ pub record Debugging (S D E : Type 0) : Type 0 where
   pub hears : HearsReplies diagnosis found state reader ops talker
 
 -- a diagnosis over an oracle came to its end, or broke off
-abbrev pub EndsSo : {D E O : Type 0} → Diagnosis D E → (O → Call → O → Type 0) → Stage D O → List Pair → O → Result E AskEnd → Type 0
-EndsSo d step p pairs to result = MatchResult result (λ e. Reaches d step p pairs to e) (λ e. Breaks d step p pairs to e)
+abbrev pub EndsSo : {D E O : Type 0} → Diagnosis D E → (O → Call → O → Type 0) → Stage D O → Store → O → Result E AskEnd → Type 0
+EndsSo d step p store to result = MatchResult result (λ e. Reaches d step p store to e) (λ e. Breaks d step p store to e)
 
 module _ {S D E : Type 0} (b : Debugging S D E) where
   -- lines that are replies make the dialogue with these replies: each question is said with its number, and then its reply,
   -- and the diagnosis goes on as the dialogue does
   abbrev pub LinesMakeTheDialogue : Type 0
-  LinesMakeTheDialogue = (replies : List Reply) (pairs : List Pair) (s : D) (count : ℕ) (lines : List Line) →
-      let x = dialogue b.diagnosis replies pairs s in
+  LinesMakeTheDialogue = (replies : List Reply) (store : Store) (s : D) (count : ℕ) (lines : List Line) →
+      let x = dialogue b.diagnosis replies store s in
       SayReplies b.reader b.ops lines x.exchanges → (rest : List Line) (close : Close) →
-      after b.talker (goes_on b.diagnosis b.found b.state b.ops b.names pairs count s) (lines ++ rest) close
+      after b.talker (goes_on b.diagnosis b.found b.state b.ops b.names store count s) (lines ++ rest) close
       ≡ onto (exchanges_said b.ops b.names count x.exchanges)
-      (after b.talker (after_turn b.diagnosis b.found b.state b.ops b.names x.pairs (count_after count x.exchanges) x.turn) rest close)
+      (after b.talker (after_turn b.diagnosis b.found b.state b.ops b.names x.store (count_after count x.exchanges) x.turn) rest close)
 
   -- where a question waits, each line is a turn: it is answered and the question stands, or it is followed by what comes after
   -- the question
   abbrev pub LinesAreTurns : Type 0
-  LinesAreTurns = (pairs : List Pair) (count : ℕ) (asked : Asked) (next : Reply → D) →
-      let later = afterwards b.diagnosis b.found b.state b.reader b.ops b.talker pairs count asked next in
-      Awaits b.talker (b.state (asking pairs count asked next)) (turn_at asked.question b.ops b.names b.reader later) later.closed
+  LinesAreTurns = (store : Store) (count : ℕ) (asked : Asked) (next : Reply → D) →
+      let later = afterwards b.diagnosis b.found b.state b.reader b.ops b.talker store count asked next in
+      Awaits b.talker (b.state (asking store count asked next)) (turn_at asked b.ops b.names b.reader later) later.closed
 
   -- in a reply's place a line ends the session exactly where it is `quit.`
   abbrev pub OnlyQuitEnds : Type 0
-  OnlyQuitEnds = (pairs : List Pair) (count : ℕ) (asked : Asked) (next : Reply → D) (line : Line) →
-      (b.talker.step (b.state (asking pairs count asked next)) line).quits ≡ is_quit (spoken_of asked.question (line_in b.reader b.ops line))
+  OnlyQuitEnds = (store : Store) (count : ℕ) (asked : Asked) (next : Reply → D) (line : Line) →
+      (b.talker.step (b.state (asking store count asked next)) line).quits ≡ is_quit (spoken_of asked (line_in b.reader b.ops line))
 
   -- however a diagnosis over such an oracle ends, the conversation has come there; and what is found is named
-  pub record GoesAlong {O : Type 0} {step : O → Call → O → Type 0} (c : Conversing step) (IsKnown : ℕ → List Pair → D → Type 0) : Type 0 where
-    pub course : (p : Stage D O) (pairs : List Pair) (to : O) (result : Result E AskEnd) → EndsSo b.diagnosis step p pairs to result →
-        (c.moment p.oracle).spoken.log.ops ≡ b.ops → IsKnown (length (c.moment p.oracle).spoken.log.names) p.pairs p.state → Grown (c.moment to).spoken.log.names b.names →
-        Diagnosed b.diagnosis b.found b.state b.ops b.names b.talker (after_step b.talker (goes_on b.diagnosis b.found b.state b.ops b.names p.pairs (c.count p.oracle) p.state))
-        (place (c.moment p.oracle)) (place (c.moment to)) pairs (c.count to) result
-    pub named : (p : Stage D O) (pairs : List Pair) (to : O) (e : E) → EndsSo b.diagnosis step p pairs to (Ok e) →
-        IsKnown (length (c.moment p.oracle).spoken.log.names) p.pairs p.state → EntryIsNamed (length (c.moment to).spoken.log.names) (b.found e)
+  pub record GoesAlong {O : Type 0} {step : O → Call → O → Type 0} (c : Conversing step) (IsKnown : ℕ → Store → D → Type 0) : Type 0 where
+    pub course : (p : Stage D O) (store : Store) (to : O) (result : Result E AskEnd) → EndsSo b.diagnosis step p store to result →
+        (c.moment p.oracle).spoken.log.ops ≡ b.ops → IsKnown (length (c.moment p.oracle).spoken.log.names) p.store p.state → Grown (c.moment to).spoken.log.names b.names →
+        Diagnosed b.diagnosis b.found b.state b.ops b.names b.talker (after_step b.talker (goes_on b.diagnosis b.found b.state b.ops b.names p.store (c.count p.oracle) p.state))
+        (place (c.moment p.oracle)) (place (c.moment to)) store (c.count to) result
+    pub named : (p : Stage D O) (store : Store) (to : O) (e : E) → EndsSo b.diagnosis step p store to (Ok e) →
+        IsKnown (length (c.moment p.oracle).spoken.log.names) p.store p.state → EntryIsNamed (length (c.moment to).spoken.log.names) (b.found e)

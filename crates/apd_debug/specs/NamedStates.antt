@@ -1,31 +1,41 @@
 -- States of diagnoses whose names are among the first n names, and what is said of their ends.
 use Rattle.std.specs.Prelude.{ℕ, List, [], ◌∷◌}
 use Rattle.apd_answers.specs.declared.finding.Finding.{Finding}
+use Rattle.apd_answers.specs.declared.question.Question.{Question}
+use Rattle.apd_answers.specs.declared.question.Reply.{Reply}
 use Rattle.apd_answers.specs.declared.store.Pair.{Pair}
+use Rattle.apd_answers.specs.Questions.{Fits}
+use Rattle.apd_answers.specs.Store.{Store}
 use Rattle.apd_debug.specs.NamedTrees.{RecordIsNamed, TreeIsNamed}
 use Rattle.apd_loop.specs.Loop.{Earlier, Looping, whole, between, descending, rising, denied, within}
 use Rattle.apd_loop.specs.declared.LoopEnd.{LoopEnd}
 use Rattle.apd_loop.specs.declared.LoopEnd.TheVariants as loop_ends
 use Rattle.apd_missing.specs.declared.state.Unanswered.{Unanswered}
-use Rattle.apd_oracle.specs.Dialogue.{IsReply}
 use Rattle.apd_record.specs.Recorded.{Recorded}
 use Rattle.apd_term.specs.Named.{AllTuplesNamed, IsNamed}
 use Rattle.apd_term.specs.declared.tuple.Tuple.{Tuple}
-use Rattle.apd_text.specs.Named.{HasStandardNames}
+use Rattle.apd_text.specs.Named.{HasStandardNames, ReplyIsNamed}
 use Rattle.apd_text.specs.declared.entry.Entry.{Entry}
 use Rattle.apd_text.specs.declared.entry.Entry.TheVariants as entry
 
--- each reply of the store is one to its question, and named
-abbrev pub AreReplies : ℕ → List Pair → Type 0
-AreReplies n [] = Unit {0}
-AreReplies n (pair ∷ pairs) = IsReply n pair.question pair.reply × AreReplies n pairs
+-- a reply of the store is one to its question, and named
+abbrev pub IsNamedReply : ℕ → Question → Reply → Type 0
+IsNamedReply n question reply = Fits question reply × ReplyIsNamed n reply
+
+abbrev pub AreRepliesIn : ℕ → List Pair → Type 0
+AreRepliesIn n [] = Unit {0}
+AreRepliesIn n (pair ∷ pairs) = IsNamedReply n pair.question pair.reply × AreRepliesIn n pairs
+
+-- so is each
+abbrev pub AreReplies : ℕ → Store → Type 0
+AreReplies n store = AreRepliesIn n store.pairs
 
 -- a state of the diagnosis of a missing answer is named, and so are the program, the replies, and the words that findings are
 -- written with
-pub record IsKnownGoal (P : List Tuple) (n : ℕ) (pairs : List Pair) (s : Unanswered) : Type 0 where
+pub record IsKnownGoal (P : List Tuple) (n : ℕ) (store : Store) (s : Unanswered) : Type 0 where
   pub standard : HasStandardNames n
   pub program : AllTuplesNamed n P
-  pub replies : AreReplies n pairs
+  pub replies : AreReplies n store
   pub goal : IsNamed n s.goal
 
 abbrev pub AllEarlierNamed : ℕ → List Earlier → Type 0
@@ -42,7 +52,7 @@ LoopingIsNamed n (within x) = TreeIsNamed n x
 
 -- a state of the diagnosis of a run that doesn't end is named, whatever the store keeps, and so are the record and the words
 -- that findings are written with
-pub record IsKnownLoop (R : Recorded) (n : ℕ) (pairs : List Pair) (s : Looping) : Type 0 where
+pub record IsKnownLoop (R : Recorded) (n : ℕ) (store : Store) (s : Looping) : Type 0 where
   pub standard : HasStandardNames n
   pub history : RecordIsNamed n R
   pub state : LoopingIsNamed n s

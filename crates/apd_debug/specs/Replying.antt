@@ -16,7 +16,7 @@ use Rattle.apd_text.specs.declared.entry.Entry.TheVariants.{Question, Replied}
 -- each line is the reply of its exchange
 abbrev pub SayReplies : {names : List (List ℕ)} → Reader names → Table → List Line → List Exchange → Type 0
 SayReplies reader ops [] [] = ⊤
-SayReplies reader ops (line ∷ lines) (e ∷ es) = (spoken_of e.asked.question (line_in reader ops line) ≡ spoken.Reply e.reply) × SayReplies reader ops lines es
+SayReplies reader ops (line ∷ lines) (e ∷ es) = (spoken_of e.asked (line_in reader ops line) ≡ spoken.Reply e.reply) × SayReplies reader ops lines es
 SayReplies reader ops _ _ = ⊥
 
 -- each question is said with its number, and then its reply

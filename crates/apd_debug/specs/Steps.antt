@@ -1,10 +1,9 @@
 -- What is said while a diagnosis goes on in a conversation. The state of the conversation is made from where the diagnosis stands.
 use Rattle.std.specs.Prelude.{ℕ, List, [], ◌∷◌, ◌++◌, Bool, true, false}
 use Rattle.apd_answers.specs.Dialogue.{Diagnosis, Turn, asks, goes, ends, next_turn}
-use Rattle.apd_answers.specs.Store.{with_pair}
+use Rattle.apd_answers.specs.Store.{Store, with_pair}
 use Rattle.apd_answers.specs.declared.question.Asked.{Asked}
 use Rattle.apd_answers.specs.declared.question.Reply.{Reply}
-use Rattle.apd_answers.specs.declared.store.Pair.{Pair}
 use Rattle.apd_base.specs.Counts.{risen}
 use Rattle.apd_console.specs.Lines.{Close, AtEnd, AtFault, AtLimit}
 use Rattle.apd_debug.specs.Stand.{Stand, ready, asking}
@@ -30,33 +29,33 @@ closing_asked ops names AtLimit = plain ops names entry.InputOver ∷ []
 -- by a diagnosis, the entry of what it ends in, and the state of the conversation where it stands so
 module _ {S D E : Type 0} (d : Diagnosis D E) (found : E → Entry) (state : Stand D → S) (ops : Table) (names : List (List ℕ)) where
   -- the question of a turn is said, and waits; or what was found is said
-  abbrev pub after_turn : List Pair → ℕ → Turn D E → Step Entry S
-  after_turn pairs count (asks asked next) = record {
+  abbrev pub after_turn : Store → ℕ → Turn D E → Step Entry S
+  after_turn store count (asks asked next) = record {
     utterances = plain ops names (entry.Question (risen count) asked) ∷ [];
-    next = state (asking pairs (risen count) asked next);
+    next = state (asking store (risen count) asked next);
     quits = false;
   }
-  after_turn pairs count (goes s) = record { utterances = []; next = state (ready pairs count); quits = false }
-  after_turn pairs count (ends e) = record { utterances = plain ops names (found e) ∷ []; next = state (ready pairs count); quits = false }
+  after_turn store count (goes s) = record { utterances = []; next = state (ready store count); quits = false }
+  after_turn store count (ends e) = record { utterances = plain ops names (found e) ∷ []; next = state (ready store count); quits = false }
 
   -- the diagnosis goes on from where it stands
-  abbrev pub goes_on : List Pair → ℕ → D → Step Entry S
-  goes_on pairs count s = after_turn pairs count (next_turn d pairs s)
+  abbrev pub goes_on : Store → ℕ → D → Step Entry S
+  goes_on store count s = after_turn store count (next_turn d store s)
 
   -- a reply is kept and said, with how many suspects it leaves, and the diagnosis goes on
-  abbrev pub replied : List Pair → ℕ → Asked → (Reply → D) → Reply → Step Entry S
-  replied pairs count asked next r =
-      says_before (plain ops names (entry.Replied r (d.left (next r))) ∷ []) (goes_on (with_pair pairs asked.question r) count (next r))
+  abbrev pub replied : Store → ℕ → Asked → (Reply → D) → Reply → Step Entry S
+  replied store count asked next r =
+      says_before (plain ops names (entry.Replied r (d.left (next r))) ∷ []) (goes_on (with_pair store asked.question r) count (next r))
 
   -- the diagnosis ends without a finding
-  abbrev pub unanswered : List Pair → ℕ → Bool → Step Entry S
-  unanswered pairs count quits = record { utterances = plain ops names (entry.Unanswered true) ∷ []; next = state (ready pairs count); quits = quits }
+  abbrev pub unanswered : Store → ℕ → Bool → Step Entry S
+  unanswered store count quits = record { utterances = plain ops names (entry.Unanswered true) ∷ []; next = state (ready store count); quits = quits }
 
   -- what is said to a line in a reply's place
-  abbrev pub reply_step : List Pair → ℕ → Asked → (Reply → D) → Spoken → Step Entry S
-  reply_step pairs count asked next spoken.Nothing = record { utterances = []; next = state (asking pairs count asked next); quits = false }
-  reply_step pairs count asked next (spoken.Reply r) = replied pairs count asked next r
-  reply_step pairs count asked next spoken.Stop = unanswered pairs count false
-  reply_step pairs count asked next spoken.Quit = unanswered pairs count true
-  reply_step pairs count asked next (spoken.Bad reason) =
-      record { utterances = plain ops names (entry.BadReply reason) ∷ []; next = state (asking pairs count asked next); quits = false }
+  abbrev pub reply_step : Store → ℕ → Asked → (Reply → D) → Spoken → Step Entry S
+  reply_step store count asked next spoken.Nothing = record { utterances = []; next = state (asking store count asked next); quits = false }
+  reply_step store count asked next (spoken.Reply r) = replied store count asked next r
+  reply_step store count asked next spoken.Stop = unanswered store count false
+  reply_step store count asked next spoken.Quit = unanswered store count true
+  reply_step store count asked next (spoken.Bad reason) =
+      record { utterances = plain ops names (entry.BadReply reason) ∷ []; next = state (asking store count asked next); quits = false }

@@ -25,10 +25,10 @@ use apd_answers::Oracle;
 /// Which states of a diagnosis are known, by the names that there are. It has no data, and nothing of it runs.
 pub trait Known<D> {
     ghost use Rattle.std.specs.Prelude.{List, ℕ};
-    ghost use Rattle.apd_answers.specs.declared.store.Pair.{Pair};
+    ghost use Rattle.apd_answers.specs.Store.{Store};
 
     /// By how many names are known, the store and the state.
-    ghost is_known: { ℕ → List Pair → D → Type 0 };
+    ghost is_known: { ℕ → Store → D → Type 0 };
 }
 
 /// The calls that a diagnosis makes of an oracle, where each is a part of a conversation, are the steps of the conversation:

@@ -14,7 +14,7 @@ use Rattle.apd_answers.specs.declared.oracle.AskEnd.TheVariants as ask_ends
 use Rattle.apd_answers.specs.declared.question.Asked.{Asked}
 use Rattle.apd_answers.specs.declared.question.Question.{Question}
 use Rattle.apd_answers.specs.declared.question.Reply.{Reply}
-use Rattle.apd_answers.specs.declared.store.Pair.{Pair}
+use Rattle.apd_answers.specs.Store.{Store}
 use Rattle.apd_debug.specs.Diagnosed.{trouble_of}
 use Rattle.apd_debug.specs.NamedTrees.{IsKnownTree}
 use Rattle.apd_debug.specs.Replying.{count_after, exchanges_said}
@@ -78,7 +78,7 @@ module _ (strategy : Strategy) (reply : Question → Reply) (reply_named : (n : 
     pub keeps_place : KeepsPlace p q
 
   -- the last calls of a diagnosis that broke off, where the exchanges that were to follow begin with the question of its turn
-  module _ (n count : ℕ) (before : List Pair) (turn : Turn Tree Finding) (at : IsAt strategy n before turn) (from to : O) (replies : c.reply from ≡ reply) (counts : c.count from ≡ count) (names : length (c.said from).log.names ≡ n) (rest : List Exchange)
+  module _ (n count : ℕ) (before : Store) (turn : Turn Tree Finding) (at : IsAt strategy n before turn) (from to : O) (replies : c.reply from ≡ reply) (counts : c.count from ≡ count) (names : length (c.said from).log.names ≡ n) (rest : List Exchange)
       (begins : BeginsWith reply (wrong strategy).left turn rest) (end : AskEnd) where
     first_of : (asked : Asked) (next : Reply → Tree) → turn ≡ asks asked next → (later : List Exchange) × (rest ≡ record { asked = asked; reply = reply asked.question; left = (wrong strategy).left (next (reply asked.question)) } ∷ later)
     first_of asked next is = subst (λ (t : Turn Tree Finding). BeginsWith reply (wrong strategy).left t rest) is begins
@@ -91,7 +91,7 @@ module _ (strategy : Strategy) (reply : Question → Reply) (reply_named : (n : 
         subst (λ (f : Question → Reply). SaysQuestion asked (risen count) (f asked.question) (c.said from) (c.said mid) result) replies
         (subst (λ (k : ℕ). SaysQuestion asked (risen k) (c.reply from asked.question) (c.said from) (c.said mid) result) counts (c.calls from (asks_of asked result) mid it))
 
-    broken : (kept : List Pair) (calls : List Call) → Broken (wrong strategy).left turn before end calls kept → GoesThrough step from calls to → SaysFront count rest end (c.said from) (c.said to)
+    broken : (kept : Store) (calls : List Call) → Broken (wrong strategy).left turn before end calls kept → GoesThrough step from calls to → SaysFront count rest end (c.said from) (c.said to)
     broken kept calls (unasked is) went =
         subst (λ (o : O). SaysFront count rest end (c.said from) (c.said o)) went (record { says = none_said (saying count rest) end (c.said from) is; keeps_place = λ some. some })
     broken kept calls (unanswered asked next is) (mid, it, went) =
@@ -133,57 +133,57 @@ module _ (strategy : Strategy) (reply : Question → Reply) (reply_named : (n : 
           keeps_place = λ some. told.keeps_place (question.keeps_place some);
         })
 
-  abbrev whole_of : List Pair → Tree → Dialogue Tree Finding
-  whole_of pairs x = answered_by reply (wrong strategy) (suspects x) pairs x
+  abbrev whole_of : Store → Tree → Dialogue Tree Finding
+  whole_of store x = answered_by reply (wrong strategy) (suspects x) store x
 
   -- it came to its end
-  pub reached : (n count : ℕ) (pairs kept : List Pair) (x : Tree) (from to : O) (f : Finding) → c.reply from ≡ reply → c.count from ≡ count → length (c.said from).log.names ≡ n → IsKnownTree n pairs x
-      → Reaches (wrong strategy) step (record { pairs = pairs; state = x; oracle = from }) kept to f
-      → Demonstrates (whole_of pairs x) count (c.said from) (c.said to) kept (c.count to) (Ok f)
-  reached n count pairs kept x from to f replies counts names known r =
-      let end : Dialogue Tree Finding = record { exchanges = r.exchanges; pairs = kept; turn = ends f } in
+  pub reached : (n count : ℕ) (store kept : Store) (x : Tree) (from to : O) (f : Finding) → c.reply from ≡ reply → c.count from ≡ count → length (c.said from).log.names ≡ n → IsKnownTree n store x
+      → Reaches (wrong strategy) step (record { store = store; state = x; oracle = from }) kept to f
+      → Demonstrates (whole_of store x) count (c.said from) (c.said to) kept (c.count to) (Ok f)
+  reached n count store kept x from to f replies counts names known r =
+      let end : Dialogue Tree Finding = record { exchanges = r.exchanges; store = kept; turn = ends f } in
       let moved = subst (λ (y : Dialogue Tree Finding). AllByRecursion (λ (e : Exchange). FitsAsked e.asked e.reply) y.exchanges × GoesThrough step from (calls_of y.exchanges) to) (sym r.whole) (r.fit, r.calls) in
       let along : Along reply strategy n count (c.said from) (c.said to) (c.count to) end = subst (Along reply strategy n count (c.said from) (c.said to) (c.count to)) r.whole
-      (goes_along strategy reply reply_named step c r.replies n count pairs x from to replies counts names known moved.0 moved.1) in
-      let given : AreGiven reply (dialogue (wrong strategy) r.replies pairs x).exchanges = subst (λ (y : Dialogue Tree Finding). AreGiven reply y.exchanges) (sym r.whole) along.given in
-      let front : IsFrontOf reply (wrong strategy).left end (whole_of pairs x) = subst (λ (y : Dialogue Tree Finding). IsFrontOf reply (wrong strategy).left y (whole_of pairs x)) r.whole
-      (are_fronts reply strategy r.replies (suspects x) pairs x (omega arith) given) in
-      let is : whole_of pairs x ≡ end = front.whole f refl in
+      (goes_along strategy reply reply_named step c r.replies n count store x from to replies counts names known moved.0 moved.1) in
+      let given : AreGiven reply (dialogue (wrong strategy) r.replies store x).exchanges = subst (λ (y : Dialogue Tree Finding). AreGiven reply y.exchanges) (sym r.whole) along.given in
+      let front : IsFrontOf reply (wrong strategy).left end (whole_of store x) = subst (λ (y : Dialogue Tree Finding). IsFrontOf reply (wrong strategy).left y (whole_of store x)) r.whole
+      (are_fronts reply strategy r.replies (suspects x) store x (omega arith) given) in
+      let is : whole_of store x ≡ end = front.whole f refl in
       subst (λ (y : Dialogue Tree Finding). Demonstrates y count (c.said from) (c.said to) kept (c.count to) (Ok f)) (sym is)
       (record {
         says = along.says;
         keeps_place = along.keeps_place;
         done = record {
           ends_so = refl;
-          pairs_are = refl;
+          store_is = refl;
           asked = along.asked;
           named = (found-named (wrong strategy) (λ g. Found g 0) IsKnownTree (wrong-keeps strategy (λ g. 0)) (length (c.said from).log.names) kept along.at.state f along.at.is (rw names along.at.known)).1;
         };
       })
 
   -- it broke off
-  pub broke : (n count : ℕ) (pairs kept : List Pair) (x : Tree) (from to : O) (end : AskEnd) → c.reply from ≡ reply → c.count from ≡ count → length (c.said from).log.names ≡ n → IsKnownTree n pairs x
-      → Breaks (wrong strategy) step (record { pairs = pairs; state = x; oracle = from }) kept to end
-      → Demonstrates (whole_of pairs x) count (c.said from) (c.said to) kept (c.count to) (Err (trouble_of end))
-  broke n count pairs kept x from to end replies counts names known b =
+  pub broke : (n count : ℕ) (store kept : Store) (x : Tree) (from to : O) (end : AskEnd) → c.reply from ≡ reply → c.count from ≡ count → length (c.said from).log.names ≡ n → IsKnownTree n store x
+      → Breaks (wrong strategy) step (record { store = store; state = x; oracle = from }) kept to end
+      → Demonstrates (whole_of store x) count (c.said from) (c.said to) kept (c.count to) (Err (trouble_of end))
+  broke n count store kept x from to end replies counts names known b =
       let last = b.last in
-      let so_far : Dialogue Tree Finding = record { exchanges = b.goes.exchanges; pairs = last.pairs; turn = next_turn (wrong strategy) last.pairs last.state } in
+      let so_far : Dialogue Tree Finding = record { exchanges = b.goes.exchanges; store = last.store; turn = next_turn (wrong strategy) last.store last.state } in
       let rs = b.goes.replies ++ [] in
-      let whole : dialogue (wrong strategy) rs pairs x ≡ so_far =
-      b.goes.rest [] ∙ ap (λ (es : List Exchange). record { exchanges = es; pairs = last.pairs; turn = next_turn (wrong strategy) last.pairs last.state }) (append-nil b.goes.exchanges) in
+      let whole : dialogue (wrong strategy) rs store x ≡ so_far =
+      b.goes.rest [] ∙ ap (λ (es : List Exchange). record { exchanges = es; store = last.store; turn = next_turn (wrong strategy) last.store last.state }) (append-nil b.goes.exchanges) in
       let moved = subst (λ (y : Dialogue Tree Finding). AllByRecursion (λ (e : Exchange). FitsAsked e.asked e.reply) y.exchanges × GoesThrough step from (calls_of y.exchanges) last.oracle) (sym whole) (b.goes.fit, b.goes.calls) in
-      let went : Along reply strategy n count (c.said from) (c.said last.oracle) (c.count last.oracle) (dialogue (wrong strategy) rs pairs x) =
-      goes_along strategy reply reply_named step c rs n count pairs x from last.oracle replies counts names known moved.0 moved.1 in
-      let front : IsFrontOf reply (wrong strategy).left so_far (whole_of pairs x) = subst (λ (y : Dialogue Tree Finding). IsFrontOf reply (wrong strategy).left y (whole_of pairs x)) whole
-      (are_fronts reply strategy rs (suspects x) pairs x (omega arith) went.given) in
+      let went : Along reply strategy n count (c.said from) (c.said last.oracle) (c.count last.oracle) (dialogue (wrong strategy) rs store x) =
+      goes_along strategy reply reply_named step c rs n count store x from last.oracle replies counts names known moved.0 moved.1 in
+      let front : IsFrontOf reply (wrong strategy).left so_far (whole_of store x) = subst (λ (y : Dialogue Tree Finding). IsFrontOf reply (wrong strategy).left y (whole_of store x)) whole
+      (are_fronts reply strategy rs (suspects x) store x (omega arith) went.given) in
       let along : Along reply strategy n count (c.said from) (c.said last.oracle) (c.count last.oracle) so_far = subst (Along reply strategy n count (c.said from) (c.said last.oracle) (c.count last.oracle)) whole went in
       let replies_there : c.reply last.oracle ≡ reply = replies_kept (calls_of b.goes.exchanges) from last.oracle b.goes.calls ∙ replies in
-      let off = broken n (c.count last.oracle) last.pairs so_far.turn along.at last.oracle to replies_there refl (ap length along.says.names ∙ names) front.rest front.begins end kept b.calls b.broken b.through in
+      let off = broken n (c.count last.oracle) last.store so_far.turn along.at last.oracle to replies_there refl (ap length along.says.names ∙ names) front.rest front.begins end kept b.calls b.broken b.through in
       let both_said : Says {T = Unit {0}} (λ ops names. saying count b.goes.exchanges ops names ++ saying (c.count last.oracle) front.rest ops names) (c.said from) (c.said to) (Err (trouble_of end)) =
       Says-more (saying count b.goes.exchanges) (saying (c.count last.oracle) front.rest) (c.said from) (c.said last.oracle) (c.said to) (tt {0}) (Err (trouble_of end)) along.says off.says in
       record {
         says =
-            Says-as (λ ops names. saying count b.goes.exchanges ops names ++ saying (c.count last.oracle) front.rest ops names) (saying count (whole_of pairs x).exchanges) (c.said from) (c.said to) (Err (trouble_of end))
+            Says-as (λ ops names. saying count b.goes.exchanges ops names ++ saying (c.count last.oracle) front.rest ops names) (saying count (whole_of store x).exchanges) (c.said from) (c.said to) (Err (trouble_of end))
             (λ ops names. ap (λ (k : ℕ). saying count b.goes.exchanges ops names ++ saying k front.rest ops names) along.asked ∙ said_in_parts ops names count b.goes.exchanges front.rest ∙ ap (λ (es : List Exchange). saying count es ops names) (sym front.parts))
             both_said;
         keeps_place = λ some. off.keeps_place (along.keeps_place some);

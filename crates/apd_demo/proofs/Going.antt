@@ -6,13 +6,12 @@ use Rattle.apd_base.specs.Counts.{risen}
 use Rattle.apd_answers.specs.Dialogue.{Dialogue, Exchange, Turn, asks, goes, ends, dialogue, next_turn, replied}
 use Rattle.apd_answers.specs.Oracle.{Call, asking as asks_of, telling as tells, GoesThrough, calls_of}
 use Rattle.apd_answers.specs.Questions.{FitsAsked}
-use Rattle.apd_answers.specs.Store.{with_pair}
+use Rattle.apd_answers.specs.Store.{Store, with_pair}
 use Rattle.apd_answers.specs.declared.finding.Finding.{Finding}
 use Rattle.apd_answers.specs.declared.oracle.AskEnd.{AskEnd}
 use Rattle.apd_answers.specs.declared.question.Asked.{Asked}
 use Rattle.apd_answers.specs.declared.question.Question.{Question}
 use Rattle.apd_answers.specs.declared.question.Reply.{Reply}
-use Rattle.apd_answers.specs.declared.store.Pair.{Pair}
 use Rattle.apd_debug.specs.Known.{KeepsNamed}
 use Rattle.apd_debug.specs.NamedTrees.{IsKnownTree}
 use Rattle.apd_debug.specs.Replying.{count_after, exchanges_said}
@@ -63,10 +62,10 @@ told_so r left p q s named = by s.said s.answers (s.says named)
     by (Err t) is says = absurd (cc)
 
 -- a state of the diagnosis is known that has this next turn
-pub record IsAt (strategy : Strategy) (n : ℕ) (pairs : List Pair) (turn : Turn Tree Finding) : Type 0 where
+pub record IsAt (strategy : Strategy) (n : ℕ) (store : Store) (turn : Turn Tree Finding) : Type 0 where
   pub state : Tree
-  pub is : next_turn (wrong strategy) pairs state ≡ turn
-  pub known : IsKnownTree n pairs state
+  pub is : next_turn (wrong strategy) store state ≡ turn
+  pub known : IsKnownTree n store state
 
 -- the exchanges of a dialogue were said from p to q, with the replies that are given
 pub record Along (reply : Question → Reply) (strategy : Strategy) (n count : ℕ) (p q : Spoken) (now : ℕ) (x : Dialogue Tree Finding) : Type 0 where
@@ -74,49 +73,49 @@ pub record Along (reply : Question → Reply) (strategy : Strategy) (n count : �
   pub says : Says (saying count x.exchanges) p q (Ok (tt {0}))
   pub asked : now ≡ count_after count x.exchanges
   pub keeps_place : KeepsPlace p q
-  pub at : IsAt strategy n x.pairs x.turn
+  pub at : IsAt strategy n x.store x.turn
 
 module _ (strategy : Strategy) (reply : Question → Reply) (reply_named : (n : ℕ) (q : Question) → ReplyIsNamed n (reply q)) where
   keeps : KeepsNamed (wrong strategy) (λ f. Found f 0) IsKnownTree
   keeps = wrong-keeps strategy (λ f. 0)
 
-  pub question_named : (n : ℕ) (pairs : List Pair) (x : Tree) (asked : Asked) (next : Reply → Tree) → next_turn (wrong strategy) pairs x ≡ asks asked next → IsKnownTree n pairs x → QuestionIsNamed n asked.question
-  question_named n pairs x asked next is known = asked-named (wrong strategy) (λ f. Found f 0) IsKnownTree keeps n pairs x asked next is known
+  pub question_named : (n : ℕ) (store : Store) (x : Tree) (asked : Asked) (next : Reply → Tree) → next_turn (wrong strategy) store x ≡ asks asked next → IsKnownTree n store x → QuestionIsNamed n asked.question
+  question_named n store x asked next is known = asked-named (wrong strategy) (λ f. Found f 0) IsKnownTree keeps n store x asked next is known
 
   module _ {O : Type 0} (step : O → Call → O → Type 0) (c : Saying step) where
     abbrev GoesAlong : List Reply → Type 0
-    GoesAlong rs = (n count : ℕ) (pairs : List Pair) (x : Tree) (from to : O) → c.reply from ≡ reply → c.count from ≡ count → length (c.said from).log.names ≡ n → IsKnownTree n pairs x
-        → AllByRecursion (λ (e : Exchange). FitsAsked e.asked e.reply) (dialogue (wrong strategy) rs pairs x).exchanges → GoesThrough step from (calls_of (dialogue (wrong strategy) rs pairs x).exchanges) to
-        → Along reply strategy n count (c.said from) (c.said to) (c.count to) (dialogue (wrong strategy) rs pairs x)
+    GoesAlong rs = (n count : ℕ) (store : Store) (x : Tree) (from to : O) → c.reply from ≡ reply → c.count from ≡ count → length (c.said from).log.names ≡ n → IsKnownTree n store x
+        → AllByRecursion (λ (e : Exchange). FitsAsked e.asked e.reply) (dialogue (wrong strategy) rs store x).exchanges → GoesThrough step from (calls_of (dialogue (wrong strategy) rs store x).exchanges) to
+        → Along reply strategy n count (c.said from) (c.said to) (c.count to) (dialogue (wrong strategy) rs store x)
 
     -- nothing was asked yet
-    none_asked : (n count : ℕ) (pairs : List Pair) (turn : Turn Tree Finding) (from to : O) → c.count from ≡ count → IsAt strategy n pairs turn → from ≡ to
-        → Along reply strategy n count (c.said from) (c.said to) (c.count to) (record { exchanges = []; pairs = pairs; turn = turn })
-    none_asked n count pairs turn from to counts at went =
-        subst (λ (o : O). Along reply strategy n count (c.said from) (c.said o) (c.count o) (record { exchanges = []; pairs = pairs; turn = turn })) went
+    none_asked : (n count : ℕ) (store : Store) (turn : Turn Tree Finding) (from to : O) → c.count from ≡ count → IsAt strategy n store turn → from ≡ to
+        → Along reply strategy n count (c.said from) (c.said to) (c.count to) (record { exchanges = []; store = store; turn = turn })
+    none_asked n count store turn from to counts at went =
+        subst (λ (o : O). Along reply strategy n count (c.said from) (c.said o) (c.count o) (record { exchanges = []; store = store; turn = turn })) went
         (record { given = tt; says = Says-nothing (c.said from) (tt {0}); asked = counts; keeps_place = λ some. some; at = at })
 
-    one_asked : (r : Reply) (rs : List Reply) → GoesAlong rs → (n count : ℕ) (pairs : List Pair) (turn : Turn Tree Finding) (from to : O) → c.reply from ≡ reply → c.count from ≡ count → length (c.said from).log.names ≡ n → IsAt strategy n pairs turn
-        → AllByRecursion (λ (e : Exchange). FitsAsked e.asked e.reply) (replied (wrong strategy).left (dialogue (wrong strategy) rs) pairs r turn).exchanges
-        → GoesThrough step from (calls_of (replied (wrong strategy).left (dialogue (wrong strategy) rs) pairs r turn).exchanges) to
-        → Along reply strategy n count (c.said from) (c.said to) (c.count to) (replied (wrong strategy).left (dialogue (wrong strategy) rs) pairs r turn)
-    one_asked r rs rest n count pairs (goes y) from to replies counts names at fits went = none_asked n count pairs (goes y) from to counts at went
-    one_asked r rs rest n count pairs (ends f) from to replies counts names at fits went = none_asked n count pairs (ends f) from to counts at went
-    one_asked r rs rest n count pairs (asks asked next) from to replies counts names at fits (mid, asks_it, (then, tells_it, went)) =
+    one_asked : (r : Reply) (rs : List Reply) → GoesAlong rs → (n count : ℕ) (store : Store) (turn : Turn Tree Finding) (from to : O) → c.reply from ≡ reply → c.count from ≡ count → length (c.said from).log.names ≡ n → IsAt strategy n store turn
+        → AllByRecursion (λ (e : Exchange). FitsAsked e.asked e.reply) (replied (wrong strategy).left (dialogue (wrong strategy) rs) store r turn).exchanges
+        → GoesThrough step from (calls_of (replied (wrong strategy).left (dialogue (wrong strategy) rs) store r turn).exchanges) to
+        → Along reply strategy n count (c.said from) (c.said to) (c.count to) (replied (wrong strategy).left (dialogue (wrong strategy) rs) store r turn)
+    one_asked r rs rest n count store (goes y) from to replies counts names at fits went = none_asked n count store (goes y) from to counts at went
+    one_asked r rs rest n count store (ends f) from to replies counts names at fits went = none_asked n count store (ends f) from to counts at went
+    one_asked r rs rest n count store (asks asked next) from to replies counts names at fits (mid, asks_it, (then, tells_it, went)) =
         let question : SaysQuestion asked (risen count) (reply asked.question) (c.said from) (c.said mid) (Ok r) =
         subst (λ (f : Question → Reply). SaysQuestion asked (risen count) (f asked.question) (c.said from) (c.said mid) (Ok r)) replies
         (subst (λ (k : ℕ). SaysQuestion asked (risen k) (c.reply from asked.question) (c.said from) (c.said mid) (Ok r)) counts (c.calls from (asks_of asked (Ok r)) mid asks_it)) in
-        let named : QuestionIsNamed (length (c.said from).log.names) asked.question = rw names (question_named n pairs at.state asked next at.is at.known) in
+        let named : QuestionIsNamed (length (c.said from).log.names) asked.question = rw names (question_named n store at.state asked next at.is at.known) in
         let first = asked_so asked (risen count) (reply asked.question) r (c.said from) (c.said mid) question named in
         let left = (wrong strategy).left (next r) in
         let tells_reply : SaysReply r left (c.said mid) (c.said then) (Ok (tt {0})) = c.calls mid (tells r left (Ok (tt {0}))) then tells_it in
         let reply_is : (m : ℕ) → ReplyIsNamed m r = λ m. subst (ReplyIsNamed m) (sym first.0) (reply_named m asked.question) in
         let second = told_so r left (c.said mid) (c.said then) tells_reply (reply_is (length (c.said mid).log.names)) in
-        let then_known : IsKnownTree n (with_pair pairs asked.question r) (next r) =
-        replied-known (wrong strategy) (λ f. Found f 0) IsKnownTree keeps n pairs at.state asked next r at.is fits.0 (reply_is n) at.known in
-        let more = rest n (risen count) (with_pair pairs asked.question r) (next r) then to (c.same mid _ then tells_it ∙ c.same from _ mid asks_it ∙ replies)
+        let then_known : IsKnownTree n (with_pair store asked.question r) (next r) =
+        replied-known (wrong strategy) (λ f. Found f 0) IsKnownTree keeps n store at.state asked next r at.is fits.0 (reply_is n) at.known in
+        let more = rest n (risen count) (with_pair store asked.question r) (next r) then to (c.same mid _ then tells_it ∙ c.same from _ mid asks_it ∙ replies)
         (c.counts mid _ then tells_it ∙ c.counts from _ mid asks_it ∙ ap risen counts) (ap length (tells_reply.names ∙ question.names) ∙ names) then_known fits.1 went in
-        let es = (dialogue (wrong strategy) rs (with_pair pairs asked.question r) (next r)).exchanges in
+        let es = (dialogue (wrong strategy) rs (with_pair store asked.question r) (next r)).exchanges in
         record {
           given = (first.0, more.given);
           says =
@@ -128,7 +127,7 @@ module _ (strategy : Strategy) (reply : Question → Reply) (reply_named : (n : 
         }
 
     pub goes_along : (rs : List Reply) → GoesAlong rs
-    goes_along [] n count pairs x from to replies counts names known fits went =
-        none_asked n count pairs (next_turn (wrong strategy) pairs x) from to counts (record { state = x; is = refl; known = known }) went
-    goes_along (r ∷ rs) n count pairs x from to replies counts names known fits went =
-        one_asked r rs (goes_along rs) n count pairs (next_turn (wrong strategy) pairs x) from to replies counts names (record { state = x; is = refl; known = known }) fits went
+    goes_along [] n count store x from to replies counts names known fits went =
+        none_asked n count store (next_turn (wrong strategy) store x) from to counts (record { state = x; is = refl; known = known }) went
+    goes_along (r ∷ rs) n count store x from to replies counts names known fits went =
+        one_asked r rs (goes_along rs) n count store (next_turn (wrong strategy) store x) from to replies counts names (record { state = x; is = refl; known = known }) fits went

@@ -5,7 +5,7 @@ use Rattle.apd_answers.specs.Dialogue.{Diagnosis}
 use Rattle.apd_answers.specs.Going.{Moment, Reaches, Breaks}
 use Rattle.apd_answers.specs.Oracle.{Call}
 use Rattle.apd_answers.specs.declared.oracle.AskEnd.{AskEnd}
-use Rattle.apd_answers.specs.declared.store.Pair.{Pair}
+use Rattle.apd_answers.specs.Store.{Store}
 use Rattle.apd_debug.proofs.Asking.{kept_so}
 use Rattle.apd_io.specs.declared.sink.Sink as Sink
 use Rattle.apd_oracle.specs.Dialogue.{counted}
@@ -38,7 +38,7 @@ module _ {K : Type 0} (k : Sink.Ghosts K) where
   abbrev pub IsSame : Demo K k → Demo K k → Type 0
   IsSame d e = (e.sink.ghost_name ≡ d.sink.ghost_name) × (e.log.ghost_name ≡ d.log.ghost_name)
 
-  pub keeps_references : {D E : Type 0} (d : Diagnosis D E) (p : Moment D (Demo K k)) (pairs : List Pair) (to : Demo K k) (result : Result E AskEnd) →
-      MatchResult result (λ e. Reaches d demo_step p pairs to e) (λ e. Breaks d demo_step p pairs to e) → IsSame p.oracle to
-  keeps_references d p pairs to result went =
-      kept_so d demo_step IsSame (λ p. (refl, refl)) (λ p q r one two. (two.0 ∙ one.0, two.1 ∙ one.1)) (λ p call q is. (is.2, is.3)) p pairs to result went
+  pub keeps_references : {D E : Type 0} (d : Diagnosis D E) (p : Moment D (Demo K k)) (store : Store) (to : Demo K k) (result : Result E AskEnd) →
+      MatchResult result (λ e. Reaches d demo_step p store to e) (λ e. Breaks d demo_step p store to e) → IsSame p.oracle to
+  keeps_references d p store to result went =
+      kept_so d demo_step IsSame (λ p. (refl, refl)) (λ p q r one two. (two.0 ∙ one.0, two.1 ∙ one.1)) (λ p call q is. (is.2, is.3)) p store to result went

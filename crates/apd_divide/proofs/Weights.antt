@@ -1,13 +1,18 @@
 -- What a choice and its reply leave of the suspects.
-use Rattle.std.proofs.Common.{◌≡◌, ℕ, ◌+◌, ◌-◌, ◌*◌, ◌<◌, ◌≤◌, ◌&&◌, Bool, true, false, max, Option, Some, None, refl, sym, ◌∙◌, ap, subst, arith}
+use Rattle.std.proofs.Common.{◌≡◌, ℕ, ◌+◌, ◌-◌, ◌*◌, ◌<◌, ◌≤◌, ◌&&◌, ◌||◌, Bool, true, false, max, List, [], ◌∷◌, ◌++◌, Option, Some, None, refl, sym, ◌∙◌, ap, subst, arith}
 use Rattle.std.specs.Prelude.{nat_le, ◌==◌}
 use Rattle.std.specs.Option.{option_map}
 use Rattle.std.proofs.lemmas.Bool.Decides.{nat_tests}
-use Rattle.apd_divide.specs.declared.node.Standing.TheVariants.{Open, Cleared}
+use Rattle.apd_term.specs.Term.{Term}
+use Rattle.apd_term.specs.declared.instance.Instance.{Instance}
+use Rattle.apd_divide.specs.declared.node.Standing.{Standing}
+use Rattle.apd_divide.specs.declared.node.Standing.TheVariants.{Open, Cleared, Doubted}
+use Rattle.apd_divide.specs.declared.node.Verdict.{Verdict}
+use Rattle.apd_divide.specs.declared.node.Verdict.TheVariants.{True, False, Unknown}
 use Rattle.apd_divide.specs.declared.node.Strategy.{Strategy}
 use Rattle.apd_divide.specs.declared.node.Strategy.TheVariants.{Divide, Single, Top}
-use Rattle.apd_divide.specs.Tree.{Tree, Forest, node, bare, beside, standing, cleared, weight, weight_by, weights, suspects, heaviest, width, branching, branchings}
-use Rattle.apd_divide.specs.Choice.{Cut, Among, Way, at_node, in_front_of, behind, here, cut, cut_among, has_suspects, half, halving, stepping, top_down, way_of, choice, judged}
+use Rattle.apd_divide.specs.Tree.{Tree, Forest, node, bare, beside, standing, marked, is_open, is_suspect, label, weight, weight_by, lost_by, weights, suspects, heaviest, width, branching, branchings, children, doubts, doubts_of, IsUndoubted}
+use Rattle.apd_divide.specs.Choice.{Cut, Among, Way, at_node, in_front_of, behind, here, cut, cut_among, has_such, have_such, has_such_by, to_such, first_such, has_suspects, half, halving, stepping, top_down, way_of, choice, judged}
 
 -- the two values of a test
 pub by_test : {C : Type 0} (b : Bool) → (b ≡ true → C) → (b ≡ false → C) → C
@@ -24,17 +29,39 @@ le_true a b e = grind (arith, nat_tests)
 pub le_false : (a b : ℕ) → nat_le a b ≡ false → b < a
 le_false a b e = grind (arith, nat_tests)
 
-pub weight-cleared : (x : Tree) → weight (cleared x) ≡ 0
-weight-cleared (node s c t ts) = refl
+-- what a suspect loses
+weight_marked : (s : Standing) (below : ℕ) → weight_by s below + lost_by s (below + 1) ≡ below + 1
+weight_marked Open below = omega arith
+weight_marked Cleared below = omega arith
+weight_marked Doubted below = omega arith
 
--- a node with a suspect is one itself
-pub weight-open : (x : Tree) → 1 ≤ weight x → weight x ≡ suspects x + 1
-weight-open (node Open c t ts) h = refl
-weight-open (node Cleared c t ts) h = absurd (omega arith)
+pub weight-marked : (s : Standing) (x : Tree) → is_suspect x ≡ true → weight (marked s x) + lost_by s (weight x) ≡ weight x
+weight-marked s (node Open c t ts) h = weight_marked s (weights ts)
+weight-marked s (node Cleared c t ts) h = absurd (cc)
+weight-marked s (node Doubted c t ts) h = absurd (cc)
 
--- a way that takes only nodes with suspects
-abbrev pub TakesSuspects : Way → Type 0
-TakesSuspects way = (x : Tree) (xs : Forest) → way.takes x xs ≡ true → 1 ≤ weight x
+-- a suspect weighs one more than what is below it
+pub weight-suspect : (x : Tree) → is_suspect x ≡ true → weight x ≡ suspects x + 1
+weight-suspect (node Open c t ts) h = refl
+weight-suspect (node Cleared c t ts) h = absurd (cc)
+weight-suspect (node Doubted c t ts) h = absurd (cc)
+
+-- another node with suspects as much
+pub weight-other : (x : Tree) → 1 ≤ weight x → is_suspect x ≡ false → weight x ≡ suspects x
+weight-other (node Open c t ts) h e = absurd (cc)
+weight-other (node Cleared c t ts) h e = absurd (omega (arith, h))
+weight-other (node Doubted c t ts) h e = refl
+
+-- none weighs more
+pub weight-most : (x : Tree) → weight x ≤ suspects x + 1
+weight-most (node Open c t ts) = omega arith
+weight-most (node Cleared c t ts) = omega arith
+weight-most (node Doubted c t ts) = omega arith
+
+-- a way that takes only nodes with suspects, and stops only at suspects
+pub record TakesSuspects (way : Way) : Type 0 where
+  pub some : (x : Tree) (xs : Forest) → way.takes x xs ≡ true → 1 ≤ weight x
+  pub suspect : (x : Tree) → 1 ≤ weight x → way.stops x ≡ true → is_suspect x ≡ true
 
 -- where a node was found: here, below the first node, or beside it
 pub data Found (way : Way) (x : Tree) (xs : Forest) (a : Among) : Type 0 where
@@ -57,47 +84,51 @@ found way x xs a e =
     along t m.0 m.1 m.2)
 
 -- a cut leaves the root as it was judged
-cut_open : (way : Way) (x : Tree) (c : Cut) → cut way x ≡ Some c → standing c.rest ≡ standing x
-cut_open way (node s n t ts) c e =
+cut_open : (way : Way) (v : Standing) (x : Tree) (c : Cut) → cut way x ≡ Some c → standing (c.rest v) ≡ standing x
+cut_open way v (node s n t ts) c e =
     let m = map_some (at_node (node s n t)) (cut_among way ts) c e in
-    subst (λ (d : Cut). standing d.rest ≡ s) m.2 refl
+    subst (λ (d : Cut). standing (d.rest v) ≡ s) m.2 refl
 
 weight_of : (x : Tree) → weight x ≡ weight_by (standing x) (suspects x)
 weight_of (node s n t ts) = refl
 
--- of a node with a suspect, once something below it is cleared
+-- of a node with a suspect, once something below it is judged
 down_sum : (x y : Tree) (w others : ℕ) → 1 ≤ weight x → standing y ≡ standing x → suspects y + w ≡ suspects x → (weight y + others) + w ≡ weight x + others
 down_sum (node Open n t ts) y w others h s e =
     let f : weight y ≡ suspects y + 1 = weight_of y ∙ ap (λ k. weight_by k (suspects y)) s in
     omega (arith, e, f)
-down_sum (node Cleared n t ts) y w others h s e = absurd (omega arith)
+down_sum (node Cleared n t ts) y w others h s e = absurd (omega (arith, h))
+down_sum (node Doubted n t ts) y w others h s e =
+    let f : weight y ≡ suspects y = weight_of y ∙ ap (λ k. weight_by k (suspects y)) s in
+    omega (arith, e, f)
 
--- what is chosen is a suspect, and the rest are what is left
-pub record Splits (w whole rest : ℕ) : Type 0 where
-  pub some : 1 ≤ w
-  pub sum : rest + w ≡ whole
+-- what is chosen is a suspect, and the rest are what is left as it is judged
+pub record Splits (chosen : Tree) (whole : ℕ) (rest : Standing → ℕ) : Type 0 where
+  pub suspect : is_suspect chosen ≡ true
+  pub sum : (v : Standing) → rest v + lost_by v (weight chosen) ≡ whole
 
 mutual
-  pub cut-splits : (way : Way) → TakesSuspects way → (x : Tree) (c : Cut) → cut way x ≡ Some c → Splits (weight c.chosen) (suspects x) (suspects c.rest)
+  pub cut-splits : (way : Way) → TakesSuspects way → (x : Tree) (c : Cut) → cut way x ≡ Some c → Splits c.chosen (suspects x) (λ v. suspects (c.rest v))
   cut-splits way h (node s n t ts) c e =
       let m = map_some (at_node (node s n t)) (cut_among way ts) c e in
       let k = cut_among-splits way h ts m.0 m.1 in
-      subst (λ (d : Cut). Splits (weight d.chosen) (weights ts) (suspects d.rest)) m.2 k
+      subst (λ (d : Cut). Splits d.chosen (weights ts) (λ v. suspects (d.rest v))) m.2 (record { suspect = k.suspect; sum = k.sum })
 
-  pub cut_among-splits : (way : Way) → TakesSuspects way → (ts : Forest) (a : Among) → cut_among way ts ≡ Some a → Splits (weight a.chosen) (weights ts) (weights a.rest)
+  pub cut_among-splits : (way : Way) → TakesSuspects way → (ts : Forest) (a : Among) → cut_among way ts ≡ Some a → Splits a.chosen (weights ts) (λ v. weights (a.rest v))
   cut_among-splits way h bare a e = absurd (cc)
   cut_among-splits way h (beside x xs) a e = elim (found way x xs a e) [
     | stopped t s f ↦
-        subst (λ (d : Among). Splits (weight d.chosen) (weight x + weights xs) (weights d.rest)) f
-        (record { some = h x xs t; sum = rw (weight-cleared x) (omega arith) })
+        let p = h.suspect x (h.some x xs t) s in
+        subst (λ (d : Among). Splits d.chosen (weight x + weights xs) (λ v. weights (d.rest v))) f
+        (record { suspect = p; sum = λ v. let z = weight-marked v x p in omega (arith, z) })
     | down t s c g f ↦
         let k = cut-splits way h x c g in
-        subst (λ (d : Among). Splits (weight d.chosen) (weight x + weights xs) (weights d.rest)) f
-        (record { some = k.some; sum = down_sum x c.rest (weight c.chosen) (weights xs) (h x xs t) (cut_open way x c g) k.sum })
+        subst (λ (d : Among). Splits d.chosen (weight x + weights xs) (λ v. weights (d.rest v))) f
+        (record { suspect = k.suspect; sum = λ v. down_sum x (c.rest v) (lost_by v (weight c.chosen)) (weights xs) (h.some x xs t) (cut_open way v x c g) (k.sum v) })
     | along t b g f ↦
         let k = cut_among-splits way h xs b g in
-        subst (λ (d : Among). Splits (weight d.chosen) (weight x + weights xs) (weights d.rest)) f
-        (record { some = k.some; sum = omega (arith, k.sum) })
+        subst (λ (d : Among). Splits d.chosen (weight x + weights xs) (λ v. weights (d.rest v))) f
+        (record { suspect = k.suspect; sum = λ v. let z = k.sum v in omega (arith, z) })
   ]
 
 -- a way that finds a suspect wherever there is one
@@ -116,7 +147,7 @@ some_here way x xs f h below right =
     by_test (way.takes x xs)
     (λ t. by_test (way.stops x)
     (λ s. (here x xs, rw (t, s) refl))
-    (λ s. let k = below (f.deep x (f.suspect x xs t) s) in (in_front_of xs k.0, rw (t, s) (ap (option_map (in_front_of xs)) k.1))))
+    (λ s. let k = below (f.deep x (f.suspect.some x xs t) s) in (in_front_of xs k.0, rw (t, s) (ap (option_map (in_front_of xs)) k.1))))
     (λ t. let k = right (later way x xs f h t) in (behind x k.0, rw t (ap (option_map (behind x)) k.1)))
 
 -- where there is a suspect, one is chosen
@@ -156,10 +187,26 @@ halving-takes most x xs t =
 pub halving-leaves : (most : ℕ) (x : Tree) (xs : Forest) → 1 ≤ weight x → (halving most).takes x xs ≡ false → weight x < heaviest xs
 halving-leaves most x xs h t = le_false (heaviest xs) (weight x) (and_false (has_suspects x) (nat_le (heaviest xs) (weight x)) (le_is 1 (weight x) h) t)
 
+pub halving-suspects : (most : ℕ) → TakesSuspects (halving most)
+halving-suspects most = record {
+  some = λ x xs t. (halving-takes most x xs t).0;
+  suspect = λ x h s. (and_true (is_suspect x) (nat_le (weight x) most) s).0;
+}
+
+-- a suspect at which divide and query doesn't stop is heavier
+pub halving-heavy : (most : ℕ) (x : Tree) → is_suspect x ≡ true → (halving most).stops x ≡ false → most < weight x
+halving-heavy most x o s = le_false (weight x) most (and_false (is_suspect x) (nat_le (weight x) most) o s)
+
+pub halving-deep : (most : ℕ) → 1 ≤ most → (x : Tree) → 1 ≤ weight x → (halving most).stops x ≡ false → 1 ≤ suspects x
+halving-deep most m x h s =
+    by_test (is_suspect x)
+    (λ o. let l = halving-heavy most x o s in let w = weight-suspect x o in omega (arith, l, w, m))
+    (λ o. let w = weight-other x h o in omega (arith, w, h))
+
 pub halving-finds : (most : ℕ) → 1 ≤ most → Finds (halving most)
 halving-finds most m = record {
-  suspect = λ x xs t. (halving-takes most x xs t).0;
-  deep = λ x h s. let l = le_false (weight x) most s in let w = weight-open x h in omega (arith, l, w, m);
+  suspect = halving-suspects most;
+  deep = halving-deep most m;
   wide = λ x xs h t. let l = halving-leaves most x xs h t in let w = heaviest_weights xs in omega (arith, l, w, h);
 }
 
@@ -169,17 +216,27 @@ not_zero n e = grind (arith, nat_tests)
 absurd_takes : (x : Tree) (xs : Forest) → 1 ≤ weight x → has_suspects x ≡ false → 1 ≤ weights xs
 absurd_takes x xs h t = let l = le_false 1 (weight x) t in absurd (omega (arith, l, h))
 
+zero_is : (n : ℕ) → (n == 0) ≡ true → n ≡ 0
+zero_is n e = grind (arith, nat_tests)
+
+-- where no suspect is below a node with one, it is one itself
+lowest-suspect : (x : Tree) → 1 ≤ weight x → (suspects x == 0) ≡ true → is_suspect x ≡ true
+lowest-suspect x h s =
+    by_test (is_suspect x)
+    (λ o. o)
+    (λ o. let z = zero_is (suspects x) s in let w = weight-other x h o in absurd (omega (arith, z, w, h)))
+
 pub stepping-finds : Finds stepping
 stepping-finds = record {
-  suspect = λ x xs t. le_true 1 (weight x) t;
+  suspect = record { some = λ x xs t. le_true 1 (weight x) t; suspect = lowest-suspect };
   deep = λ x h s. not_zero (suspects x) s;
   wide = λ x xs h t. absurd_takes x xs h t;
 }
 
 pub top_down-finds : Finds top_down
 top_down-finds = record {
-  suspect = λ x xs t. le_true 1 (weight x) t;
-  deep = λ x h s. absurd (cc);
+  suspect = record { some = λ x xs t. le_true 1 (weight x) t; suspect = λ x h s. s };
+  deep = λ x h s. let w = weight-other x h s in omega (arith, w, h);
   wide = λ x xs h t. absurd_takes x xs h t;
 }
 
@@ -190,26 +247,34 @@ way-finds Top u h = top_down-finds
 
 -- each strategy takes suspects alone
 pub way-takes : (strategy : Strategy) (u : ℕ) → TakesSuspects (way_of strategy u)
-way-takes Divide u = λ x xs t. (halving-takes (half u) x xs t).0
+way-takes Divide u = halving-suspects (half u)
 way-takes Single u = stepping-finds.suspect
 way-takes Top u = top_down-finds.suspect
 
--- a choice takes one suspect with those below it away from the others
-pub choice-splits : (strategy : Strategy) (x : Tree) (c : Cut) → choice strategy x ≡ Some c → Splits (weight c.chosen) (suspects x) (suspects c.rest)
-choice-splits Divide x c e = cut-splits (halving (half (suspects x))) (λ y ys t. (halving-takes (half (suspects x)) y ys t).0) x c e
-choice-splits Single x c e = cut-splits stepping stepping-finds.suspect x c e
-choice-splits Top x c e = cut-splits top_down top_down-finds.suspect x c e
+-- a choice takes a suspect, and as it is judged those below it, away from the others
+pub choice-splits : (strategy : Strategy) (x : Tree) (c : Cut) → choice strategy x ≡ Some c → Splits c.chosen (suspects x) (λ v. suspects (c.rest v))
+choice-splits strategy x c e = cut-splits (way_of strategy (suspects x)) (way-takes strategy (suspects x)) x c e
+
+-- the same in numbers
+pub record Shares (w whole rest below : ℕ) : Type 0 where
+  pub some : 1 ≤ w
+  pub sum : rest + w ≡ whole
+  pub one : below + 1 ≡ w
+
+pub choice-shares : (strategy : Strategy) (x : Tree) (c : Cut) → choice strategy x ≡ Some c → Shares (weight c.chosen) (suspects x) (suspects (c.rest Cleared)) (suspects c.chosen)
+choice-shares strategy x c e =
+    let k = choice-splits strategy x c e in
+    let w = weight-suspect c.chosen k.suspect in
+    record { some = omega (arith, w); sum = k.sum Cleared; one = sym w }
 
 pub choice-some : (strategy : Strategy) (x : Tree) → 1 ≤ suspects x → (c : Cut) × (choice strategy x ≡ Some c)
 choice-some strategy x h = cut-some (way_of strategy (suspects x)) (way-finds strategy (suspects x) h) x h
 
--- either reply leaves fewer suspects
-pub choice-lowers : (strategy : Strategy) (x : Tree) (c : Cut) (b : Bool) → choice strategy x ≡ Some c → suspects (judged c b) < suspects x
-choice-lowers strategy x c true e = let k = choice-splits strategy x c e in omega (arith, k.some, k.sum)
-choice-lowers strategy x c false e =
-    let k = choice-splits strategy x c e in
-    let w = weight-open c.chosen k.some in
-    omega (arith, k.some, k.sum, w)
+-- each verdict leaves fewer suspects
+pub choice-lowers : (strategy : Strategy) (x : Tree) (c : Cut) (v : Verdict) → choice strategy x ≡ Some c → suspects (judged c v) < suspects x
+choice-lowers strategy x c True e = let k = choice-shares strategy x c e in omega (arith, k.some, k.sum)
+choice-lowers strategy x c False e = let k = choice-shares strategy x c e in omega (arith, k.some, k.sum, k.one)
+choice-lowers strategy x c Unknown e = let k = (choice-splits strategy x c e).sum Doubted in omega (arith, k)
 
 pub choice-none : (strategy : Strategy) (x : Tree) → choice strategy x ≡ None → suspects x ≡ 0
 choice-none strategy x e = by_test (nat_le 1 (suspects x))
@@ -221,7 +286,52 @@ none-choice strategy x z = by (choice strategy x) refl
   where
     by : (o : Option Cut) → choice strategy x ≡ o → o ≡ None
     by None e = refl
-    by (Some c) e = let k = choice-splits strategy x c e in absurd (omega (arith, k.some, k.sum, z))
+    by (Some c) e = let k = choice-shares strategy x c e in absurd (omega (arith, k.some, k.sum, z))
+
+-- The first suspect that has such a label.
+mutual
+  has_such-weighs : (such : Term → Bool) (x : Tree) → has_such such x ≡ true → 1 ≤ weight x
+  has_such-weighs such (node Open c t ts) h = omega arith
+  has_such-weighs such (node Cleared c t ts) h = absurd (cc)
+  has_such-weighs such (node Doubted c t ts) h = have_such-weigh such ts h
+
+  have_such-weigh : (such : Term → Bool) (ts : Forest) → have_such such ts ≡ true → 1 ≤ weights ts
+  have_such-weigh such bare h = absurd (cc)
+  have_such-weigh such (beside x xs) h =
+      by_test (has_such such x)
+      (λ t. let w = has_such-weighs such x t in omega (arith, w))
+      (λ t. let w = have_such-weigh such xs (rw t at h) in omega (arith, w))
+
+pub such-suspects : (such : Term → Bool) → TakesSuspects (to_such such)
+such-suspects such = record {
+  some = λ x xs t. has_such-weighs such x t;
+  suspect = λ x h s. (and_true (is_suspect x) (such (label x)) s).0;
+}
+
+pub such-lowers : (such : Term → Bool) (x : Tree) (c : Cut) → first_such such x ≡ Some c → suspects (c.rest Cleared) < suspects x
+such-lowers such x c e =
+    let k = cut-splits (to_such such) (such-suspects such) x c e in
+    let w = weight-suspect c.chosen k.suspect in
+    let s = k.sum Cleared in
+    omega (arith, s, w)
+
+-- what a way stops at
+mutual
+  pub cut-stops : (way : Way) (x : Tree) (c : Cut) → cut way x ≡ Some c → way.stops c.chosen ≡ true
+  cut-stops way (node s n t ts) c e =
+      let m = map_some (at_node (node s n t)) (cut_among way ts) c e in
+      subst (λ (d : Cut). way.stops d.chosen ≡ true) m.2 (cut_among-stops way ts m.0 m.1)
+
+  cut_among-stops : (way : Way) (ts : Forest) (a : Among) → cut_among way ts ≡ Some a → way.stops a.chosen ≡ true
+  cut_among-stops way bare a e = absurd (cc)
+  cut_among-stops way (beside x xs) a e = elim (found way x xs a e) [
+    | stopped t s f ↦ subst (λ (d : Among). way.stops d.chosen ≡ true) f s
+    | down t s c g f ↦ subst (λ (d : Among). way.stops d.chosen ≡ true) f (cut-stops way x c g)
+    | along t b g f ↦ subst (λ (d : Among). way.stops d.chosen ≡ true) f (cut_among-stops way xs b g)
+  ]
+
+pub such-label : (such : Term → Bool) (x : Tree) (c : Cut) → first_such such x ≡ Some c → such (label c.chosen) ≡ true
+such-label such x c e = (and_true (is_suspect c.chosen) (such (label c.chosen)) (cut-stops (to_such such) x c e)).1
 
 sum_times : (a d c : ℕ) → a * c ≤ (a + d) * c
 sum_times a d c = omega arith
@@ -261,32 +371,48 @@ heavy_later b most x xs t l = let g = leaves_heavier most x xs t in let e : max 
 widest : (b most : ℕ) (ts : Forest) → width ts ≤ b → most ≤ weights ts → most ≤ heaviest ts * b
 widest b most ts h l = let k = heaviest_share ts in let m = times_le_right (width ts) b (heaviest ts) h in omega (arith, k, m, l)
 
+-- no live node is judged unknown: none of the first subtree, and none of the others
+none_of : (xs ys : List Instance) → xs ++ ys ≡ [] → (xs ≡ []) × (ys ≡ [])
+none_of [] ys e = (refl, e)
+none_of (x ∷ xs) ys e = absurd (cc)
+
+-- so a node with suspects is one
+undoubted-suspect : (x : Tree) → 1 ≤ weight x → doubts x ≡ [] → (is_suspect x ≡ true) × IsUndoubted x
+undoubted-suspect (node Open c t ts) h e = (refl, e)
+undoubted-suspect (node Cleared c t ts) h e = absurd (omega (arith, h))
+undoubted-suspect (node Doubted c t ts) h e = absurd (cc)
+
 mutual
-  pub share : (b most : ℕ) → (x : Tree) → branching x ≤ b → most ≤ suspects x → (c : Cut) → cut (halving most) x ≡ Some c → IsShare b most (weight c.chosen)
-  share b most (node s n t ts) h l c e =
+  pub share : (b most : ℕ) → (x : Tree) → IsUndoubted x → branching x ≤ b → most ≤ suspects x → (c : Cut) → cut (halving most) x ≡ Some c → IsShare b most (weight c.chosen)
+  share b most (node s n t ts) u h l c e =
       let m = map_some (at_node (node s n t)) (cut_among (halving most) ts) c e in
-      subst (λ (d : Cut). IsShare b most (weight d.chosen)) m.2 (share_among b most ts (omega (arith, h)) (widest b most ts (omega (arith, h)) l) m.0 m.1)
+      subst (λ (d : Cut). IsShare b most (weight d.chosen)) m.2 (share_among b most ts u (omega (arith, h)) (widest b most ts (omega (arith, h)) l) m.0 m.1)
 
-  pub share_among : (b most : ℕ) → (ts : Forest) → branchings ts ≤ b → most ≤ heaviest ts * b → (a : Among) → cut_among (halving most) ts ≡ Some a → IsShare b most (weight a.chosen)
-  share_among b most bare h l a e = absurd (cc)
-  share_among b most (beside x xs) h l a e = elim (found (halving most) x xs a e) [
-    | stopped t s f ↦
-        let k = halving-takes most x xs t in
-        subst (λ (d : Among). IsShare b most (weight d.chosen)) f (record { below = le_true (weight x) most s; above = heavy_here b most (weight x) (heaviest xs) k.1 l })
-    | down t s c g f ↦
-        let k = halving-takes most x xs t in
-        let w = weight-open x k.0 in
-        let o = le_false (weight x) most s in
-        subst (λ (d : Among). IsShare b most (weight d.chosen)) f (share b most x (omega (arith, h)) (omega (arith, w, o)) c g)
-    | along t d g f ↦
-        subst (λ (d : Among). IsShare b most (weight d.chosen)) f (share_among b most xs (omega (arith, h)) (heavy_later b most x xs t l) d g)
-  ]
+  pub share_among : (b most : ℕ) → (ts : Forest) → doubts_of ts ≡ [] → branchings ts ≤ b → most ≤ heaviest ts * b → (a : Among) → cut_among (halving most) ts ≡ Some a → IsShare b most (weight a.chosen)
+  share_among b most bare u h l a e = absurd (cc)
+  share_among b most (beside x xs) u h l a e =
+      let v = none_of (doubts x) (doubts_of xs) u in
+      elim (found (halving most) x xs a e) [
+        | stopped t s f ↦
+            let k = halving-takes most x xs t in
+            let o = (and_true (is_suspect x) (nat_le (weight x) most) s).1 in
+            subst (λ (d : Among). IsShare b most (weight d.chosen)) f (record { below = le_true (weight x) most o; above = heavy_here b most (weight x) (heaviest xs) k.1 l })
+        | down t s c g f ↦
+            let k = halving-takes most x xs t in
+            let i = undoubted-suspect x k.0 v.0 in
+            let w = weight-suspect x i.0 in
+            let o = halving-heavy most x i.0 s in
+            subst (λ (d : Among). IsShare b most (weight d.chosen)) f (share b most x i.1 (omega (arith, h)) (omega (arith, w, o)) c g)
+        | along t d g f ↦
+            subst (λ (d : Among). IsShare b most (weight d.chosen)) f (share_among b most xs v.1 (omega (arith, h)) (heavy_later b most x xs t l) d g)
+      ]
 
--- what divide and query chooses of u suspects: at most half, and at least one in b of the half
-pub choice-share : (x : Tree) (b : ℕ) (c : Cut) → branching x ≤ b → choice Divide x ≡ Some c → IsShare b (half (suspects x)) (weight c.chosen)
-choice-share x b c h e =
-    let k = choice-splits Divide x c e in
-    share b (half (suspects x)) x h (omega (arith, k.some, k.sum)) c e
+-- what divide and query chooses of u suspects, where no live node is judged unknown: at most half, and at least one in b of
+-- the half
+pub choice-share : (x : Tree) (b : ℕ) (c : Cut) → IsUndoubted x → branching x ≤ b → choice Divide x ≡ Some c → IsShare b (half (suspects x)) (weight c.chosen)
+choice-share x b c u h e =
+    let k = choice-shares Divide x c e in
+    share b (half (suspects x)) x u h (omega (arith, k.some, k.sum)) c e
 
 left_true : (c rest w h : ℕ) → rest + w ≤ 2 * h → h ≤ w * (c + 1) → 2 * (c + 1) * rest ≤ (2 * c + 1) * (rest + w)
 left_true c rest w h a l = omega (arith, a, l)
@@ -320,14 +446,15 @@ fraction_false b u w p o s l =
     let e : 2 * v + 1 + d ≡ u = let z = twice_half u in omega (arith, z, l, o) in
     subst (λ n. 2 * n * v ≤ (2 * b - 1) * u) f (subst (λ n. 2 * (c + 1) * v ≤ n * u) g (subst (λ n. 2 * (c + 1) * v ≤ (2 * c + 1) * n) e (left_false c v d)))
 
--- either reply to a question of divide and query leaves at most (2b - 1) / (2b) of the suspects
-pub choice-fraction : (x : Tree) (b : ℕ) (c : Cut) (reply : Bool) → 1 ≤ b → branching x ≤ b → choice Divide x ≡ Some c → 2 * b * suspects (judged c reply) ≤ (2 * b - 1) * suspects x
-choice-fraction x b c true p h e =
-    let k = choice-splits Divide x c e in
-    fraction_true b (suspects x) (weight c.chosen) (suspects c.rest) p k.sum (choice-share x b c h e).above
-choice-fraction x b c false p h e =
-    let k = choice-splits Divide x c e in
-    let w = weight-open c.chosen k.some in
+-- yes and no to a question of divide and query each leave at most (2b - 1) / (2b) of the suspects then
+pub choice-fraction : (x : Tree) (b : ℕ) (c : Cut) (v : Verdict) → IsUndoubted x → ¬ (v ≡ Unknown) → 1 ≤ b → branching x ≤ b → choice Divide x ≡ Some c → 2 * b * suspects (judged c v) ≤ (2 * b - 1) * suspects x
+choice-fraction x b c True u n p h e =
+    let k = choice-shares Divide x c e in
+    fraction_true b (suspects x) (weight c.chosen) (suspects (c.rest Cleared)) p k.sum (choice-share x b c u h e).above
+choice-fraction x b c False u n p h e =
+    let k = choice-shares Divide x c e in
+    let w = k.one in
     let f : suspects c.chosen ≡ weight c.chosen - 1 = omega (arith, w) in
     subst (λ n. 2 * b * n ≤ (2 * b - 1) * suspects x) (sym f)
-    (fraction_false b (suspects x) (weight c.chosen) p k.some (omega (arith, k.sum)) (choice-share x b c h e).below)
+    (fraction_false b (suspects x) (weight c.chosen) p k.some (omega (arith, k.sum)) (choice-share x b c u h e).below)
+choice-fraction x b c Unknown u n p h e = absurd (n refl)

@@ -1,22 +1,22 @@
 //! The suspects of a proof tree as rows, one for each node.
 
-ghost use Rattle.std.specs.Prelude.{◌≡◌, ◌≤◌, ◌<◌, ◌↔◌, length, slice_get, None, IsSome, IfSome, IfOk};
+ghost use Rattle.std.specs.Prelude.{◌≡◌, ◌≤◌, ◌<◌, ◌↔◌, ◌++◌, ◌+◌, ◌^◌, length, slice_get, None, IsSome, IfSome, IfOk, OnOk};
 ghost use Rattle.apd_divide.specs.declared.node.Row.{Row};
 ghost use Rattle.apd_divide.specs.declared.node.Strategy.TheVariants.{Divide};
-ghost use Rattle.apd_divide.specs.Tree.{label, suspects, clause_at, instance, branching};
-ghost use Rattle.apd_divide.specs.Choice.{judged};
-ghost use Rattle.apd_divide.specs.Kept.{Kept, kept_at, IsKept, tree_of, cut_of, replaced, IsChosen, LeavesFraction};
-ghost use Rattle.apd_divide.specs.Rows.{broadest};
+ghost use Rattle.apd_divide.specs.Tree.{label, children, suspects, clause_at, instance, branching, lost_by, candidates, doubts_of};
+ghost use Rattle.apd_divide.specs.Choice.{judged, standing_for, first_such, is_listed, IsChoiceAt};
+ghost use Rattle.apd_divide.specs.Kept.{Kept, kept_at, IsKept, tree_of, cut_of, replaced, IsChosen, LeavesFraction, forest_from};
+ghost use Rattle.apd_divide.specs.Rows.{broadest, rows_of};
 ghost use Rattle.apd_divide.specs.Recorded.{tree};
 ghost use Rattle.apd_divide.specs.Exits.{IsLabelled};
 
 use crate::growing::grown;
-use crate::node::{NodeId, Row, Standing, Strategy};
+use crate::node::{NodeId, Row, Standing, Strategy, Verdict};
 use crate::spans::set_spans;
-use crate::walk::chosen_place;
+use crate::walk::{chosen_place, first_listed};
 use apd_ports::PointId;
 use apd_record::Record;
-use apd_term::{Flat, Tuple};
+use apd_term::{Flat, Instance, Instances, Preds, Tuple};
 use std::alloc::{AllocError, Global};
 use std::marker::Model;
 
@@ -31,27 +31,81 @@ fn broadest(rows: &[Row]) -> u32
     most
 }
 
-/// The node at a place is judged true: it has no suspect any more, and those above it have as many fewer.
-fn clear(rows: &mut [Row], root: usize, node: usize)
+/// How a node stands that is judged so; none where it becomes the root.
+fn standing_for(value: Verdict) -> Option<Standing>
+    ensures { result ≡ standing_for value }
+{
+    match value {
+        Verdict::True => Some(Standing::Cleared),
+        Verdict::False => None,
+        Verdict::Unknown => Some(Standing::Doubted),
+    }
+}
+
+/// How many suspects fewer there are once a suspect of this weight stands so.
+fn lost_by(standing: Standing, weight: u32) -> u32
+    ensures { result ≡ lost_by standing weight }
+{
+    match standing {
+        Standing::Open => 0,
+        Standing::Cleared => weight,
+        Standing::Doubted => 1,
+    }
+}
+
+/// The suspect at a place stands as it is judged: it has fewer suspects, and so have those above it.
+fn mark(rows: &mut [Row], root: usize, node: usize, standing: Standing)
     requires kept { IsKept (kept_at rows.old root) }
     requires suspect { IsSome (cut_of (kept_at rows.old root) node) }
     requires there { node < length rows.old }
-    ensures { let k = kept_at rows.old root in IfSome (cut_of k node) (λ c. rows.new ≡ replaced k c.rest) }
+    ensures { let k = kept_at rows.old root in IfSome (cut_of k node) (λ c. rows.new ≡ replaced k (c.rest standing)) }
 {
-    let weight = rows[node].weight;
+    let lost = lost_by(standing, rows[node].weight);
     let mut at = root;
     'rows: while at < node {
         let span = rows[at].span as usize;
         if at + span <= node {
             at += span;
         } else {
-            rows[at].weight -= weight;
+            rows[at].weight -= lost;
             at += 1;
         }
     }
     let row = &mut rows[node];
-    row.weight = 0;
-    row.standing = Standing::Cleared;
+    row.weight -= lost;
+    row.standing = standing;
+}
+
+/// The instance of a row.
+fn instance_of(alloc: Global, row: &Row) -> Result<Instance, AllocError>
+    ensures clause { IfOk result (λ i. i.clause ≡ row.now.clause) }
+    ensures tuple { IfOk result (λ i. i.tuple ≡ row.now.tuple) }
+{
+    let tuple = row.tuple.tuple(alloc)?;
+    Ok(Instance {
+        clause: row.clause,
+        tuple,
+    })
+}
+
+/// Puts the instances of the nodes that were judged unknown, and aren't below one that was judged true, at the end.
+fn push_doubts(alloc: Global, rows: &[Row], instances: &mut Instances) -> Result<(), AllocError>
+    requires { rows.now ≡ rows_of (forest_from rows.now) }
+    ensures { OnOk result (instances.new ≡ instances.old ++ doubts_of (forest_from rows.now)) }
+{
+    let mut at: usize = 0;
+    'rows: while at < rows.len() {
+        let row = &rows[at];
+        match row.standing {
+            Standing::Open => at += 1,
+            Standing::Cleared => at += row.span as usize,
+            Standing::Doubted => {
+                instances.push(instance_of(alloc, row)?)?;
+                at += 1;
+            }
+        }
+    }
+    Ok(())
 }
 
 /// The suspects of a proof tree. A node comes before those below it, and those below it stand right behind it.
@@ -98,6 +152,16 @@ impl Suspects {
         })
     }
 
+    /// The rows of the trees below the root.
+    fn below(&self) -> &[Row]
+        ensures trees { result.now ≡ rows_of (children (tree_of self.now)) }
+        ensures within { self.now.root + length result.now < length self.now.rows }
+        ensures few { length self.now.rows < 2 ^ 32 }
+    {
+        let row = &self.rows[self.root];
+        &self.rows[self.root + 1..self.root + row.span as usize]
+    }
+
     /// The label of a node of the built tree.
     pub fn label(&self, node: NodeId) -> &Flat
         requires { node.0 < length self.now.rows }
@@ -122,8 +186,9 @@ impl Suspects {
         broadest(self.rows.as_slice())
     }
 
-    /// The node to ask about; none exactly where no suspect is left. Under `Divide` either reply leaves at most
-    /// (2b - 1) / (2b) of the suspects, where no node of the built tree has more than b nodes right below it.
+    /// The node to ask about; none exactly where no suspect is left. Under `Divide` yes and no each leave at most
+    /// (2b - 1) / (2b) of the suspects, where no live node is judged unknown and no node of the built tree has more than b
+    /// nodes right below it.
     pub fn choose(&self, strategy: Strategy) -> Option<NodeId>
         ensures none { (result ≡ None) ↔ (suspects (tree_of self.now) ≡ 0) }
         ensures choice { IfSome result (λ n. IsChosen strategy self.now n.0) }
@@ -140,17 +205,18 @@ impl Suspects {
         Some(NodeId((self.root + 1 + place) as u32))
     }
 
-    /// Judges a suspect: one judged true is cleared, and one judged false becomes the root.
-    pub fn judge(&mut self, node: NodeId, value: bool)
+    /// Judges a suspect: one judged true is cleared with those below it, one judged false becomes the root, and one judged
+    /// unknown is no suspect any more, but those below it are.
+    pub fn judge(&mut self, node: NodeId, value: Verdict)
         requires { IsSome (cut_of self.old node.0) }
         ensures judged { IfSome (cut_of self.old node.0) (λ c. tree_of self.new ≡ judged c value) }
         ensures nodes { length self.new.rows ≡ length self.old.rows }
         ensures branching { broadest self.new.rows ≡ broadest self.old.rows }
     {
-        if value {
-            clear(&mut self.rows, self.root, node.0 as usize);
-        } else {
-            self.root = node.0 as usize;
+        let place = node.0 as usize;
+        match standing_for(value) {
+            Some(standing) => mark(&mut self.rows, self.root, place, standing),
+            None => self.root = place,
         }
     }
 
@@ -162,5 +228,29 @@ impl Suspects {
     {
         let row = &self.rows[self.root];
         Ok((row.clause, row.tuple.tuple(self.alloc)?))
+    }
+
+    /// The instances of the root and of each live node that was judged unknown, in the order in which a node comes before those
+    /// below it, where no suspect is left.
+    pub fn candidates(&self) -> Result<Instances, AllocError>
+        requires { suspects (tree_of self.now) ≡ 0 }
+        ensures { IfOk result (λ is. is ≡ candidates (tree_of self.now)) }
+    {
+        let mut instances = Instances::new(self.alloc);
+        instances.push(instance_of(self.alloc, &self.rows[self.root])?)?;
+        push_doubts(self.alloc, self.below(), &mut instances)?;
+        Ok(instances)
+    }
+
+    /// The first suspect of one of these predicates, in the order in which a node comes before those below it; none exactly where
+    /// there is none.
+    pub fn next_of(&self, preds: &Preds) -> Option<NodeId>
+        ensures none { (result ≡ None) ↔ (first_such (is_listed preds.now) (tree_of self.now) ≡ None) }
+        ensures some { IfSome result (λ n. IsChoiceAt (first_such (is_listed preds.now) (tree_of self.now)) (cut_of self.now n.0)) }
+    {
+        let Some(place) = first_listed(self.below(), preds) else {
+            return None;
+        };
+        Some(NodeId((self.root + 1 + place) as u32))
     }
 }

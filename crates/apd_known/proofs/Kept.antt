@@ -9,11 +9,11 @@ use Rattle.apd_term.proofs.Named.{IsNamed-more, AllNamed-more, TupleIsNamed-more
 use Rattle.apd_causes.specs.declared.faults.OracleCause.{OracleCause}
 use Rattle.apd_causes.specs.declared.faults.OracleCause.TheVariants.{NoForm, BadForm}
 use Rattle.apd_answers.specs.Named.{QuestionIsNamed, ReplyIsNamed}
-use Rattle.apd_answers.specs.Store.{is_kept, with_pair}
+use Rattle.apd_answers.specs.Store.{is_kept_in, with_pair_in}
 use Rattle.apd_answers.specs.declared.question.Question.{Question}
 use Rattle.apd_answers.specs.declared.question.Question.TheVariants.{True, Covers, Below}
 use Rattle.apd_answers.specs.declared.question.Reply.{Reply}
-use Rattle.apd_answers.specs.declared.question.Reply.TheVariants.{Yes, No, Values}
+use Rattle.apd_answers.specs.declared.question.Reply.TheVariants.{Yes, No, Values, Unknown}
 use Rattle.apd_answers.specs.declared.store.Pair.{Pair}
 use Rattle.apd_known.specs.Pairs.{AllStatable, IsStatable}
 use Rattle.apd_known.specs.Statements.{form_numbered, form_stated, integer_of, nothing_stated, statement_added, term_stated, with_clause, with_statement}
@@ -29,6 +29,7 @@ reply_more : (n m : ℕ) (r : Reply) → n ≤ m → ReplyIsNamed n r → ReplyI
 reply_more n m Yes le h = tt
 reply_more n m No le h = tt
 reply_more n m (Values values) le h = AllNamed-more n m values le h
+reply_more n m Unknown le h = tt
 
 pub all_more : (n m : ℕ) (pairs : List Pair) → n ≤ m → AllStatable n pairs → AllStatable m pairs
 all_more n m [] le h = tt
@@ -41,8 +42,8 @@ one_more : (n : ℕ) (pairs : List Pair) (p : Pair) → AllStatable n pairs → 
 one_more n [] p h k = (k, tt)
 one_more n (q ∷ pairs) p h k = (h.0, one_more n pairs p h.1 k)
 
-pair_more : (n : ℕ) (pairs : List Pair) (p : Pair) → AllStatable n pairs → IsStatable n p → AllStatable n (with_pair pairs p.question p.reply)
-pair_more n pairs p h k = by_kept (is_kept pairs p.question p.reply)
+pair_more : (n : ℕ) (pairs : List Pair) (p : Pair) → AllStatable n pairs → IsStatable n p → AllStatable n (with_pair_in pairs p.question p.reply)
+pair_more n pairs p h k = by_kept (is_kept_in pairs p.question p.reply)
   where
     by_kept : (b : Bool) → AllStatable n (if b then pairs else pairs ++ record { question = p.question; reply = p.reply } ∷ [])
     by_kept true = h
@@ -51,7 +52,7 @@ pair_more n pairs p h k = by_kept (is_kept pairs p.question p.reply)
 -- what the clauses so far state may be stated
 abbrev pub SoFar : ℕ → Option Stated → Type 0
 SoFar n None = Unit {0}
-SoFar n (Some s) = AllStatable n s.answers
+SoFar n (Some s) = AllStatable n s.answers.pairs
 
 -- and at most one statement for each token
 abbrev pub HasFew : ℕ → Option Stated → Type 0
@@ -60,7 +61,7 @@ HasFew at (Some s) = s.statements ≤ at
 
 pub so_far_more : (n m : ℕ) (s : Option Stated) → n ≤ m → SoFar n s → SoFar m s
 so_far_more n m None le h = tt
-so_far_more n m (Some s) le h = all_more n m s.answers le h
+so_far_more n m (Some s) le h = all_more n m s.answers.pairs le h
 
 -- the form states nothing
 no_pair : (number : Option ℤ) (now : Stated) → form_numbered number ≡ Ok now → nothing_stated ≡ now
@@ -84,15 +85,15 @@ form_first (compound f (more t none)) now e = by_name (f.0 == FORM.0) e
 form_first (compound f (more t (more u ts))) now e = absurd (cc)
 
 -- with a clause more
-pub so_far_next : (n : ℕ) (s : Option Stated) (now : Stated) (t : Term) → with_clause s t ≡ Ok now → IsNamed n t → SoFar n s → AllStatable n now.answers
-so_far_next n None now t e named h = subst (λ (x : Stated). AllStatable n x.answers) (form_first t now e) tt
+pub so_far_next : (n : ℕ) (s : Option Stated) (now : Stated) (t : Term) → with_clause s t ≡ Ok now → IsNamed n t → SoFar n s → AllStatable n now.answers.pairs
+so_far_next n None now t e named h = subst (λ (x : Stated). AllStatable n x.answers.pairs) (form_first t now e) tt
 so_far_next n (Some s) now t e named h = by_pair (term_stated t) refl e
   where
-    by_pair : (w : Result Pair OracleCause) → term_stated t ≡ w → statement_added s w ≡ Ok now → AllStatable n now.answers
+    by_pair : (w : Result Pair OracleCause) → term_stated t ≡ w → statement_added s w ≡ Ok now → AllStatable n now.answers.pairs
     by_pair (Err cause) is q = absurd (cc)
     by_pair (Ok pair) is q =
         let same : with_statement s pair ≡ now = cc in
-        subst (λ (x : Stated). AllStatable n x.answers) same (pair_more n s.answers pair h (term_may n pair t named is))
+        subst (λ (x : Stated). AllStatable n x.answers.pairs) same (pair_more n s.answers.pairs pair h (term_may n pair t named is))
 
 pub few_next : (at next : ℕ) (s : Option Stated) (now : Stated) (t : Term) → with_clause s t ≡ Ok now → at < next → HasFew at s → now.statements ≤ next
 few_next at next None now t e further h = subst (λ (x : Stated). x.statements ≤ next) (form_first t now e) (omega arith)

@@ -30,7 +30,7 @@ use Rattle.apd_answers.specs.Named.{ReplyIsNamed}
 use Rattle.apd_answers.specs.Questions.{Fits, unknowns, with_values}
 use Rattle.apd_answers.specs.declared.question.Question.TheVariants.{True, Covers, Below}
 use Rattle.apd_answers.specs.declared.question.Reply.{Reply}
-use Rattle.apd_answers.specs.declared.question.Reply.TheVariants.{Yes, No, Values}
+use Rattle.apd_answers.specs.declared.question.Reply.TheVariants.{Yes, No, Values, Unknown}
 use Rattle.apd_answers.specs.declared.store.Pair.{Pair}
 use Rattle.apd_known.specs.Pairs.{IsStatable, MayCover}
 use Rattle.apd_known.specs.Statements.{is_own, is_of_own, is_own_atom, is_rule, pair_of, truth_stated, order_stated, values_stated, solution_stated, body_stated, cover_stated, term_stated}
@@ -119,6 +119,7 @@ module _ (n : ℕ) (pair : Pair) where
       let same : pair_of (Covers t) No ≡ pair = cc in
       subst (IsStatable n) same (record { asked = may; fits = tt; question_named = named; reply_named = tt })
   solution_may t (Values vs) may named r_named e = values_may t vs may named r_named e
+  solution_may t Unknown may named r_named e = absurd (cc)
 
   -- a rule has a goal
   rule_has_goal : (c : Term) → is_rule c ≡ true → 0 < length (parts_of c).body

@@ -4,7 +4,7 @@ use Rattle.std.specs.Prelude.{if◌then◌else◌}
 use Rattle.std.specs.Option.{option_map}
 use Rattle.apd_term.specs.Named.{IsNamed, AreNamed, AllNamed}
 use Rattle.apd_term.specs.Term.{Term, Terms, variable, integer, compound, none, more, arguments, list_of, predicate_of}
-use Rattle.apd_term.specs.declared.standard.TheConstants.{CELL, NIL, YES, NO}
+use Rattle.apd_term.specs.declared.standard.TheConstants.{CELL, NIL, YES, NO, UNKNOWN}
 use Rattle.apd_term.specs.declared.term.NameId.{NameId}
 use Rattle.apd_clauses.specs.Kinds.{◌∕◌}
 use Rattle.apd_clauses.specs.Predicates.{is_pred}
@@ -12,8 +12,8 @@ use Rattle.apd_answers.specs.Named.{ReplyIsNamed}
 use Rattle.apd_answers.specs.Questions.{Fits}
 use Rattle.apd_answers.specs.declared.question.Question.{Question}
 use Rattle.apd_answers.specs.declared.question.Reply.{Reply}
-use Rattle.apd_answers.specs.declared.question.Reply.TheVariants.{Yes, No, Values}
-use Rattle.apd_known.specs.Told.{is_word, listed, listed_in, values_of, values_told, word_told}
+use Rattle.apd_answers.specs.declared.question.Reply.TheVariants.{Yes, No, Values, Unknown}
+use Rattle.apd_known.specs.Told.{is_word, listed, listed_in, truth_told, values_of, values_told, word_told}
 
 if_some : {A : Type 0} (b : Bool) (o : Option A) (x : A) → (if b then o else None) ≡ Some x → o ≡ Some x
 if_some true o x is = is
@@ -87,6 +87,46 @@ word_told_named n t r is = word_named n (is_word t YES) (is_word t NO) r is
 
 pub word_told_fits : (q : Question) (t : Term) (r : Reply) → Fits q Yes → Fits q No → word_told t ≡ Some r → Fits q r
 word_told_fits q t r if_yes if_no is = word_by q (is_word t YES) (is_word t NO) r if_yes if_no is
+
+truth_by : (q : Question) (b : Bool) (o : Option Reply) (r : Reply) → Fits q Unknown → (o ≡ Some r → Fits q r) → (if b then Some Unknown else o) ≡ Some r → Fits q r
+truth_by q true o r if_unknown else_ is = let e : Unknown ≡ r = cc in subst (Fits q) e if_unknown
+truth_by q false o r if_unknown else_ is = else_ is
+
+truth_named : (n : ℕ) (b : Bool) (o : Option Reply) (r : Reply) → (o ≡ Some r → ReplyIsNamed n r) → (if b then Some Unknown else o) ≡ Some r → ReplyIsNamed n r
+truth_named n true o r else_ is = let e : Unknown ≡ r = cc in subst (ReplyIsNamed n) e tt
+truth_named n false o r else_ is = else_ is
+
+pub truth_told_named : (n : ℕ) (t : Term) (r : Reply) → truth_told t ≡ Some r → ReplyIsNamed n r
+truth_told_named n t r is = truth_named n (is_word t UNKNOWN) (word_told t) r (word_told_named n t r) is
+
+pub truth_told_fits : (q : Question) (t : Term) (r : Reply) → Fits q Yes → Fits q No → Fits q Unknown → truth_told t ≡ Some r → Fits q r
+truth_told_fits q t r if_yes if_no if_unknown is = truth_by q (is_word t UNKNOWN) (word_told t) r if_unknown (word_told_fits q t r if_yes if_no) is
+
+-- `yes` and `no` alone are told by a word that must be known
+word_known_by : (a b : Bool) → (if a then Some Yes else (if b then Some No else None)) ≡ Some Unknown → ⊥
+word_known_by true b is = cc
+word_known_by false true is = cc
+word_known_by false false is = cc
+
+pub word_known : (t : Term) → word_told t ≡ Some Unknown → ⊥
+word_known t is = word_known_by (is_word t YES) (is_word t NO) is
+
+-- and values, or `no`, of a body
+values_known_of : (o : Option (List Term)) → option_map Values o ≡ Some Unknown → ⊥
+values_known_of None is = cc
+values_known_of (Some vs) is = cc
+
+values_known_in : (ts : List Term) → values_of ts ≡ Some Unknown → ⊥
+values_known_in [] is = cc
+values_known_in (t ∷ []) is = values_known_of (listed t) is
+values_known_in (t ∷ (u ∷ ts)) is = cc
+
+values_known_by : (a b : Bool) (o : Option Reply) → (o ≡ Some Unknown → ⊥) → (if a then Some No else (if b then o else None)) ≡ Some Unknown → ⊥
+values_known_by true b o never is = cc
+values_known_by false b o never is = never (if_some b o Unknown is)
+
+pub values_known : (t : Term) → values_told t ≡ Some Unknown → ⊥
+values_known t is = values_known_by (is_word t NO) (is_pred (predicate_of t) (YES ∕ 1)) (values_of (arguments t)) (values_known_in (arguments t)) is
 
 pub values_told_named : (n : ℕ) (t : Term) (r : Reply) → IsNamed n t → values_told t ≡ Some r → ReplyIsNamed n r
 values_told_named n t r named is = covers_named n (is_word t NO) (is_pred (predicate_of t) (YES ∕ 1)) (values_of (arguments t)) r (λ s e. of_term_named n t s named e) is

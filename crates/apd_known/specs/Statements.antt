@@ -1,5 +1,5 @@
 -- What a clause of an oracle file states.
-use Rattle.std.specs.Prelude.{◌==◌, ◌&&◌, ◌+◌, ℤ, pos, negsuc, List, length, Bool, true, false, if◌then◌else◌, not, Option, None, Some, Result, Ok, Err, []}
+use Rattle.std.specs.Prelude.{◌==◌, ◌&&◌, ◌+◌, ℤ, pos, negsuc, List, length, Bool, true, false, if◌then◌else◌, not, Option, None, Some, Result, Ok, Err}
 use Rattle.std.specs.List.{list_all}
 use Rattle.apd_term.specs.Term.{Term, Terms, variable, integer, compound, none, more, predicate_of}
 use Rattle.apd_term.specs.Canonical.{canonical}
@@ -14,11 +14,11 @@ use Rattle.apd_clauses.specs.Kinds.{kind_of}
 use Rattle.apd_clauses.specs.declared.kinds.Kind.{Kind}
 use Rattle.apd_clauses.specs.declared.kinds.Kind.TheVariants as kinds
 use Rattle.apd_answers.specs.Questions.{unknowns, with_values}
-use Rattle.apd_answers.specs.Store.{with_pair}
+use Rattle.apd_answers.specs.Store.{empty_store, with_pair}
 use Rattle.apd_answers.specs.declared.question.Question.{Question}
 use Rattle.apd_answers.specs.declared.question.Question.TheVariants.{True, Covers, Below}
 use Rattle.apd_answers.specs.declared.question.Reply.{Reply}
-use Rattle.apd_answers.specs.declared.question.Reply.TheVariants.{Yes, No, Values}
+use Rattle.apd_answers.specs.declared.question.Reply.TheVariants.{Yes, No, Values, Unknown}
 use Rattle.apd_answers.specs.declared.store.Pair.{Pair}
 use Rattle.apd_known.specs.Told.{word_told, values_told}
 use Rattle.apd_arith.specs.Truths.{is_ground}
@@ -63,6 +63,7 @@ abbrev pub solution_stated : Tuple → Reply → Result Pair OracleCause
 solution_stated t Yes = Err NotAStatement
 solution_stated t No = Ok (pair_of (Covers t) No)
 solution_stated t (Values values) = values_stated t values
+solution_stated t Unknown = Err NotAStatement
 
 abbrev pub body_stated : Result Tuple BodyFault → Reply → Result Pair OracleCause
 body_stated (Err fault) reply = Err NotAStatement
@@ -88,7 +89,7 @@ term_stated t = Err NotAStatement
 
 -- no statement yet
 abbrev pub nothing_stated : Stated
-nothing_stated = record { answers = []; statements = 0 }
+nothing_stated = record { answers = empty_store; statements = 0 }
 
 -- `form(1)`
 abbrev pub integer_of : Term → Option ℤ

@@ -165,7 +165,7 @@ fn state_clauses(
     requires tokens { HasTokens text.now tokens.now }
     ensures grows { GrowsBy (length text.now) names.old names.new }
     ensures stated { IsStated (λ n reader. all_stated reader ops.now text.now tokens.now) names.new result }
-    ensures pairs { IfOk result (λ s. AllStatable (length names.new) s.answers) }
+    ensures pairs { IfOk result (λ s. AllStatable (length names.new) s.answers.pairs) }
 {
     ops.has_no_clash();
     let mut stated = None;
@@ -211,7 +211,7 @@ pub fn oracle_file(
     requires size { length text.now ≤ MAX_FILE }
     ensures grows { GrowsBy (length text.now) names.old names.new }
     ensures stated { IsStated (λ n reader. stated_in reader ops.now text.now) names.new result }
-    ensures pairs { IfOk result (λ s. AllStatable (length names.new) s.answers) }
+    ensures pairs { IfOk result (λ s. AllStatable (length names.new) s.answers.pairs) }
 {
     match tokens(alloc, text) {
         Ok(tokens) => state_clauses(alloc, text, &tokens, ops, names),

@@ -12,5 +12,5 @@ mod values;
 pub use file::{OracleText, Stated, oracle_file};
 pub use laws::one_statement_list;
 pub use scripted::Scripted;
-pub use told::{values_told, word_told};
+pub use told::{truth_told, values_told, word_told};
 pub use values::{are_ground, are_true_if_builtin, unknown_count};

@@ -1,7 +1,7 @@
 //! An oracle that has all its replies beforehand.
 
 ghost use Rattle.std.specs.Prelude.{◌≡◌, IfOk, None};
-ghost use Rattle.apd_known.specs.Scripts.{fits, fits_body, scripted_reply};
+ghost use Rattle.apd_known.specs.Scripts.{fits_asked, fits_body, scripted_reply};
 
 use crate::values::{are_ground, are_true_if_builtin, unknown_count};
 use apd_answers::store::is_same_form;
@@ -20,36 +20,41 @@ fn fits_body(alloc: Global, tuple: &Tuple, values: &Atoms) -> Result<bool, Alloc
     are_true_if_builtin(alloc, &body)
 }
 
-/// Whether a reply fits a question.
-fn fits(alloc: Global, question: &Question, reply: &Reply) -> Result<bool, AllocError>
-    ensures { IfOk result (λ b. b ≡ fits question.now reply.now) }
+/// Whether a reply fits what is asked.
+fn fits(alloc: Global, asked: &Asked, reply: &Reply) -> Result<bool, AllocError>
+    ensures { IfOk result (λ b. b ≡ fits_asked asked.now reply.now) }
 {
-    match (question, reply) {
-        (Question::Covers(_), Reply::Yes) => Ok(false),
+    match (&asked.question, reply) {
         (Question::Covers(tuple), Reply::Values(values)) => fits_body(alloc, tuple, values),
-        (_, Reply::Values(_)) => Ok(false),
-        _ => Ok(true),
+        (Question::Covers(_), Reply::No) => Ok(true),
+        (Question::Covers(_), Reply::Yes | Reply::Unknown) => Ok(false),
+        (Question::True(_), Reply::Unknown) => Ok(asked.suspects.is_some()),
+        (Question::Below(_, _), Reply::Unknown) => Ok(false),
+        (Question::True(_) | Question::Below(_, _), Reply::Yes | Reply::No) => Ok(true),
+        (Question::True(_) | Question::Below(_, _), Reply::Values(_)) => Ok(false),
     }
 }
 
-/// The reply of the first pair with this question that fits it.
+/// The reply of the first pair with this question that fits what is asked.
 fn scripted_reply(
     alloc: Global,
     pairs: &Answers,
-    question: &Question,
+    asked: &Asked,
 ) -> Result<Option<Reply>, AllocError>
-    ensures { IfOk result (λ r. r ≡ scripted_reply pairs.now question.now) }
+    ensures { IfOk result (λ r. r ≡ scripted_reply pairs.now.pairs asked.now) }
 {
     'pairs: for i in 0..pairs.len() {
         let reply = pairs.reply(i);
-        if is_same_form(alloc, pairs.question(i), question)? && fits(alloc, question, reply)? {
+        let is_same = is_same_form(alloc, pairs.question(i), &asked.question)?;
+        if is_same && fits(alloc, asked, reply)? {
             return Ok(Some(reply.copy(alloc)?));
         }
     }
     Ok(None)
 }
 
-/// An oracle that has all its replies beforehand: to a question, that of the first pair with this question that fits it.
+/// An oracle that has all its replies beforehand: to a question, that of the first pair with this question that fits it as
+/// it is asked.
 #[derive(Drop)]
 pub struct Scripted {
     alloc: Global,
@@ -85,7 +90,7 @@ impl Oracle for Scripted {
     ghost step = { λ s call t. (t.pairs ≡ s.pairs) × Scripts s.pairs call };
 
     fn ask(&mut self, asked: &Asked) -> Result<Reply, AskEnd> {
-        match scripted_reply(self.alloc, &self.pairs, &asked.question)? {
+        match scripted_reply(self.alloc, &self.pairs, asked)? {
             Some(reply) => Ok(reply),
             None => {
                 self.end = Some(AskEnd::Ended);

@@ -87,7 +87,7 @@ fn solution_stated(alloc: Global, tuple: Tuple, reply: Reply) -> Result<Statemen
     ensures { IfOk result (λ s. s ≡ solution_stated tuple reply) }
 {
     match reply {
-        Reply::Yes => Ok(Err(OracleCause::NotAStatement)),
+        Reply::Yes | Reply::Unknown => Ok(Err(OracleCause::NotAStatement)),
         Reply::No => Ok(Ok(Pair {
             question: Question::Covers(tuple),
             reply: Reply::No,

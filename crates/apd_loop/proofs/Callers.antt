@@ -16,9 +16,9 @@ use Rattle.apd_record.specs.declared.rows.BoxRow.{BoxRow}
 use Rattle.apd_record.specs.Chain.{Owns, EachOwnsNext}
 use Rattle.apd_record.specs.Sound.{IsKept, IsSound}
 use Rattle.apd_record.specs.Reading.{no_row, row_of, point_of, calling_point, exits_in, exits_to}
-use Rattle.apd_answers.specs.declared.store.Pair.{Pair}
+use Rattle.apd_answers.specs.Store.{Store, SaysYes}
 use Rattle.apd_answers.specs.Bugs.{IsCall, earlier_atoms}
-use Rattle.apd_answers.specs.Findings.{Grants, GrantsBy}
+use Rattle.apd_answers.specs.Findings.{Affirms, IsTrueBy}
 use Rattle.apd_divide.proofs.Solved.{AreSolved, solved-point, of_builtin, always-instance, point-is}
 use Rattle.apd_loop.specs.Loop.{numbered, call_of, earlier_from, earlier_goals}
 use Rattle.apd_loop.specs.Known.{IsLeft, IsSolved}
@@ -123,27 +123,27 @@ earlier-solved R chain i kept o =
     goals-solved R (row_of R callee).from (earlier_atoms R callee) (exits_to R (row_of R callee).from) (solved-before R callee o.row o.point kept o.there o.from)
 
 -- the others are always true
-granted-left : (P : List Tuple) (R : Recorded) (pairs : List Pair) → IsSound P R → (m : ℕ) (atoms : List Term) (xs : List ℕ) → AreSolved R m atoms xs
-    → AllByRecursion (λ a. Grants pairs a ⊎ IsLeft (earlier_from atoms xs) a) atoms
-granted-left P R pairs sound m [] xs s = tt
-granted-left P R pairs sound m (a ∷ atoms) [] s = absurd s
-granted-left P R pairs sound m (a ∷ atoms) (x ∷ xs) s = by (builtin_of_atom a) refl (granted-left P R pairs sound m atoms xs s.1)
+granted-left : (P : List Tuple) (R : Recorded) (store : Store) → IsSound P R → (m : ℕ) (atoms : List Term) (xs : List ℕ) → AreSolved R m atoms xs
+    → AllByRecursion (λ a. Affirms store a ⊎ IsLeft (earlier_from atoms xs) a) atoms
+granted-left P R store sound m [] xs s = tt
+granted-left P R store sound m (a ∷ atoms) [] s = absurd s
+granted-left P R store sound m (a ∷ atoms) (x ∷ xs) s = by (builtin_of_atom a) refl (granted-left P R store sound m atoms xs s.1)
   where
-    by : (o : Option Builtin) → builtin_of_atom a ≡ o → AllByRecursion (λ b. Grants pairs b ⊎ IsLeft (earlier_from atoms xs) b) atoms
-        → (Grants pairs a ⊎ IsLeft (if is_none o then record { exit = x; atom = canonical a } ∷ earlier_from atoms xs else earlier_from atoms xs) a)
-        × AllByRecursion (λ b. Grants pairs b ⊎ IsLeft (if is_none o then record { exit = x; atom = canonical a } ∷ earlier_from atoms xs else earlier_from atoms xs) b) atoms
+    by : (o : Option Builtin) → builtin_of_atom a ≡ o → AllByRecursion (λ b. Affirms store b ⊎ IsLeft (earlier_from atoms xs) b) atoms
+        → (Affirms store a ⊎ IsLeft (if is_none o then record { exit = x; atom = canonical a } ∷ earlier_from atoms xs else earlier_from atoms xs) a)
+        × AllByRecursion (λ b. Affirms store b ⊎ IsLeft (if is_none o then record { exit = x; atom = canonical a } ∷ earlier_from atoms xs else earlier_from atoms xs) b) atoms
     by None e rest = (
       inr (inl refl),
-      all-map (λ b. Grants pairs b ⊎ IsLeft (earlier_from atoms xs) b) (λ b. Grants pairs b ⊎ IsLeft (record { exit = x; atom = canonical a } ∷ earlier_from atoms xs) b)
+      all-map (λ b. Affirms store b ⊎ IsLeft (earlier_from atoms xs) b) (λ b. Affirms store b ⊎ IsLeft (record { exit = x; atom = canonical a } ∷ earlier_from atoms xs) b)
           (λ b o. elim o [ inl g ↦ inl g | inr l ↦ inr (inr l) ]) atoms rest,
     )
     by (Some g) e rest =
         let w = of_builtin P R sound s.0.point.done x s.0.point s.0.row s.0.there refl s.0.row_there (s.0.user ∙ ap is_none e) in
         let t = always-instance a s.0.point.tuple.head s.0.instance w.holds in
-        (inl (subst (λ o. GrantsBy o pairs a) (sym e) t), rest)
+        (inl (subst (λ o. IsTrueBy (SaysYes store) o a) (sym e) t), rest)
 
-pub earlier-left : (P : List Tuple) (R : Recorded) (chain : List ℕ) (pairs : List Pair) (i : ℕ) → IsSound P R → Owns R (numbered 0 chain i) (numbered 0 chain (i + 1))
-    → AllByRecursion (λ a. Grants pairs a ⊎ IsLeft (earlier_goals R chain i) a) (earlier_atoms R (numbered 0 chain (i + 1)))
-earlier-left P R chain pairs i sound o =
+pub earlier-left : (P : List Tuple) (R : Recorded) (chain : List ℕ) (store : Store) (i : ℕ) → IsSound P R → Owns R (numbered 0 chain i) (numbered 0 chain (i + 1))
+    → AllByRecursion (λ a. Affirms store a ⊎ IsLeft (earlier_goals R chain i) a) (earlier_atoms R (numbered 0 chain (i + 1)))
+earlier-left P R chain store i sound o =
     let callee = numbered 0 chain (i + 1) in
-    granted-left P R pairs sound (row_of R callee).from (earlier_atoms R callee) (exits_to R (row_of R callee).from) (solved-before R callee o.row o.point sound.kept o.there o.from)
+    granted-left P R store sound (row_of R callee).from (earlier_atoms R callee) (exits_to R (row_of R callee).from) (solved-before R callee o.row o.point sound.kept o.there o.from)

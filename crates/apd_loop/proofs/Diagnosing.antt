@@ -10,9 +10,9 @@ use Rattle.apd_record.specs.Recorded.{Recorded, box_at}
 use Rattle.apd_record.specs.declared.rows.BoxRow.{BoxRow}
 use Rattle.apd_record.specs.Chain.{Owns, EachOwnsNext}
 use Rattle.apd_record.specs.Reading.{no_row, call_atom}
+use Rattle.apd_answers.specs.Store.{Store}
 use Rattle.apd_answers.specs.declared.question.Question.TheVariants as asking
 use Rattle.apd_answers.specs.declared.oracle.AskEnd.{AskEnd}
-use Rattle.apd_answers.specs.declared.store.Pair.{Pair}
 use Rattle.apd_answers.specs.Dialogue.{goes, ends}
 use Rattle.apd_answers.specs.Oracle.{Call}
 use Rattle.apd_answers.specs.Going.{Moment, at, Goes, Breaks}
@@ -48,12 +48,12 @@ asked-middle R chain strategy calls low high d e is l m far =
     let middle = low + (high - low) / 2 in
     asked-order R chain strategy (call_of R chain middle) (call_of R chain low) (get_or calls (middle - 1) d) (get_or calls (low - 1) e) (between low high) (between middle high) (between low middle)
     (call-at R chain calls middle d is (omega (arith, l)) (omega (arith, m, far))) (call-at R chain calls low e is l (omega (arith, m, far)))
-    (record { turn = by (nat_le (high - low) 1) refl; left_by_yes = refl; left_by_no = refl })
+    (record { turn = λ store. by store (nat_le (high - low) 1) refl; left_by_yes = refl; left_by_no = refl })
   where
-    by : (b : Bool) → nat_le (high - low) 1 ≡ b
-        → turn_in R chain strategy (between low high) ≡ (let middle = low + (high - low) / 2 in Rattle.apd_answers.specs.Dialogue.asks (record { question = asking.Below (call_of R chain middle) (call_of R chain low); suspects = None }) (Rattle.apd_loop.specs.Loop.by_yes (between middle high) (between low middle)))
-    by true f = let n = le_true (high - low) 1 f in absurd (omega (arith, n, far))
-    by false f = rw f refl
+    by : (store : Store) (b : Bool) → nat_le (high - low) 1 ≡ b
+        → turn_in R chain strategy store (between low high) ≡ (let middle = low + (high - low) / 2 in Rattle.apd_answers.specs.Dialogue.asks (record { question = asking.Below (call_of R chain middle) (call_of R chain low); suspects = None }) (Rattle.apd_loop.specs.Loop.by_yes (between middle high) (between low middle)))
+    by store true f = let n = le_true (high - low) 1 f in absurd (omega (arith, n, far))
+    by store false f = rw f refl
 
 pub asked-descending : (R : Recorded) (chain : List ℕ) (strategy : Strategy) (calls : List Term) (left : ℕ) (d e : Term) → calls ≡ calls_in R chain → 0 < left → left < length calls
     → IsAsked R chain strategy (asking.Below (get_or calls left d) (get_or calls (left - 1) e)) (descending left) (descending (left - 1)) (rising left (earlier_goals R chain left))
@@ -64,7 +64,7 @@ asked-descending R chain strategy calls (suc k) d e is l m =
     subst (λ j. IsAsked R chain strategy (asking.Below (get_or calls (suc k) d) (get_or calls (suc k - 1) e)) (descending (suc k)) (descending j) (rising (suc k) (earlier_goals R chain (suc k)))) (sym n)
     (asked-order R chain strategy (call_of R chain (suc k + 1)) (call_of R chain (suc k)) (get_or calls (suc k) d) (get_or calls (suc k - 1) e) (descending (suc k)) (descending k) (rising (suc k) (earlier_goals R chain (suc k)))
     (call-at R chain calls (suc k + 1) d is (omega arith) (omega (arith, m)) ∙ ap (λ j. get_or calls j d) z) (call-at R chain calls (suc k) e is (omega arith) (omega (arith, m)))
-    (record { turn = refl; left_by_yes = refl; left_by_no = refl }))
+    (record { turn = λ store. refl; left_by_yes = refl; left_by_no = refl }))
 
 pub asked-whole : (R : Recorded) (chain : List ℕ) (strategy : Strategy) (calls : List Term) (d e : Term) → calls ≡ calls_in R chain → 2 ≤ length calls
     → IsAsked R chain strategy (asking.Below (get_or calls (length calls - 1) d) (get_or calls 0 e)) whole (descending (length calls - 1)) (between 1 (length calls))
@@ -74,26 +74,26 @@ asked-whole R chain strategy calls d e is l =
     subst (λ j. IsAsked R chain strategy (asking.Below (get_or calls (length calls - 1) d) (get_or calls 0 e)) whole (descending (j - 1)) (between 1 j)) n
     (asked-order R chain strategy (call_of R chain (length chain)) (call_of R chain 1) (get_or calls (length calls - 1) d) (get_or calls 0 e) whole (descending (length chain - 1)) (between 1 (length chain))
     (ap (call_of R chain) n ∙ call-at R chain calls (length calls) d is (omega (arith, l)) (omega arith)) (call-at R chain calls 1 e is (omega arith) (omega (arith, l)) ∙ ap (λ j. get_or calls j e) z)
-    (record { turn = refl; left_by_yes = refl; left_by_no = refl }))
+    (record { turn = λ store. refl; left_by_yes = refl; left_by_no = refl }))
 
 pub asked-rising : (R : Recorded) (chain : List ℕ) (strategy : Strategy) (i : ℕ) (e : Earlier) (es : List Earlier)
     → IsAsked R chain strategy (asking.True e.atom) (rising i (e ∷ es)) (rising i es) (denied e)
-asked-rising R chain strategy i e es = record { turn = refl; left_by_yes = refl; left_by_no = refl }
+asked-rising R chain strategy i e es = record { turn = λ store. refl; left_by_yes = refl; left_by_no = refl }
 
 -- a question that was answered
-pub went : {O : Type 0} (R : Recorded) (chain : List ℕ) (strategy : Strategy) (step : O → Call → O → Type 0) (p : Moment Looping O) (pairs kept : List Pair) (from to : O) (question : Rattle.apd_answers.specs.declared.question.Question.Question) (state s t next : Looping) (y : Bool)
-    → Goes (loop R chain strategy) step p (at pairs state from) → Decides step question pairs kept from to (Ok y) → IsAsked R chain strategy question state s t → (if y then s else t) ≡ next
+pub went : {O : Type 0} (R : Recorded) (chain : List ℕ) (strategy : Strategy) (step : O → Call → O → Type 0) (p : Moment Looping O) (store kept : Store) (from to : O) (question : Rattle.apd_answers.specs.declared.question.Question.Question) (state s t next : Looping) (y : Bool)
+    → Goes (loop R chain strategy) step p (at store state from) → Decides step question store kept from to (Ok y) → IsAsked R chain strategy question state s t → (if y then s else t) ≡ next
     → Goes (loop R chain strategy) step p (at kept next to)
-went R chain strategy step p pairs kept from to question state s t next y g d a e =
+went R chain strategy step p store kept from to question state s t next y g d a e =
     subst (λ z. Goes (loop R chain strategy) step p (at kept z to)) e
-    (Goes-more (loop R chain strategy) step p (at pairs state from) (at kept (if y then s else t) to) g (d R chain strategy state s t a))
+    (Goes-more (loop R chain strategy) step p (at store state from) (at kept (if y then s else t) to) g (d R chain strategy state s t a))
 
-pub broke : {O : Type 0} (R : Recorded) (chain : List ℕ) (strategy : Strategy) (step : O → Call → O → Type 0) (p : Moment Looping O) (pairs kept : List Pair) (from to : O) (question : Rattle.apd_answers.specs.declared.question.Question.Question) (state s t : Looping) (end e : AskEnd)
-    → Goes (loop R chain strategy) step p (at pairs state from) → Decides {O = _} step question pairs kept from to (Err end) → IsAsked R chain strategy question state s t → e ≡ end
+pub broke : {O : Type 0} (R : Recorded) (chain : List ℕ) (strategy : Strategy) (step : O → Call → O → Type 0) (p : Moment Looping O) (store kept : Store) (from to : O) (question : Rattle.apd_answers.specs.declared.question.Question.Question) (state s t : Looping) (end e : AskEnd)
+    → Goes (loop R chain strategy) step p (at store state from) → Decides {O = _} step question store kept from to (Err end) → IsAsked R chain strategy question state s t → e ≡ end
     → Breaks (loop R chain strategy) step p kept to e
-broke R chain strategy step p pairs kept from to question state s t end e g d a m =
+broke R chain strategy step p store kept from to question state s t end e g d a m =
     subst (λ z. Breaks (loop R chain strategy) step p kept to z) (sym m)
-    (Breaks-more (loop R chain strategy) step p (at pairs state from) kept to end g (d R chain strategy state s t a))
+    (Breaks-more (loop R chain strategy) step p (at store state from) kept to end g (d R chain strategy state s t a))
 
 pub half-is : (s : Segment) (middle : ℕ) (b : Bool) → (if b then between middle s.high else between s.low middle) ≡ between (half s middle b).low (half s middle b).high
 half-is s middle true = refl
@@ -104,27 +104,27 @@ half-order s true l = (omega (arith, l), omega arith, omega arith, omega (arith,
 half-order s false l = (omega (arith, l), omega arith, omega (arith, l), omega (arith, l))
 
 -- an earlier goal that isn't true
-pub denied-goes : {O : Type 0} (R : Recorded) (chain : List ℕ) (strategy : Strategy) (step : O → Call → O → Type 0) (p : Moment Looping O) (pairs : List Pair) (o : O) (e : Earlier)
-    → Goes (loop R chain strategy) step p (at pairs (denied e) o) → Goes (loop R chain strategy) step p (at pairs (within (tree R e.exit e.atom)) o)
-denied-goes R chain strategy step p pairs o e g =
-    Goes-more (loop R chain strategy) step p (at pairs (denied e) o) (at pairs (within (tree R e.exit e.atom)) o) g
-    (Goes-silent (loop R chain strategy) step pairs (denied e) (within (tree R e.exit e.atom)) o (next_turn-goes R chain strategy pairs (denied e) (within (tree R e.exit e.atom)) refl))
+pub denied-goes : {O : Type 0} (R : Recorded) (chain : List ℕ) (strategy : Strategy) (step : O → Call → O → Type 0) (p : Moment Looping O) (store : Store) (o : O) (e : Earlier)
+    → Goes (loop R chain strategy) step p (at store (denied e) o) → Goes (loop R chain strategy) step p (at store (within (tree R e.exit e.atom)) o)
+denied-goes R chain strategy step p store o e g =
+    Goes-more (loop R chain strategy) step p (at store (denied e) o) (at store (within (tree R e.exit e.atom)) o) g
+    (Goes-silent (loop R chain strategy) step store (denied e) (within (tree R e.exit e.atom)) o (next_turn-goes R chain strategy store (denied e) (within (tree R e.exit e.atom)) refl))
 
 -- calls beside each other
-pub beside-goes : {O : Type 0} (R : Recorded) (chain : List ℕ) (strategy : Strategy) (step : O → Call → O → Type 0) (p : Moment Looping O) (pairs : List Pair) (o : O) (low high : ℕ) → high - low ≤ 1
-    → Goes (loop R chain strategy) step p (at pairs (between low high) o) → Goes (loop R chain strategy) step p (at pairs (rising low (earlier_goals R chain low)) o)
-beside-goes R chain strategy step p pairs o low high l g =
-    Goes-more (loop R chain strategy) step p (at pairs (between low high) o) (at pairs (rising low (earlier_goals R chain low)) o) g
+pub beside-goes : {O : Type 0} (R : Recorded) (chain : List ℕ) (strategy : Strategy) (step : O → Call → O → Type 0) (p : Moment Looping O) (store : Store) (o : O) (low high : ℕ) → high - low ≤ 1
+    → Goes (loop R chain strategy) step p (at store (between low high) o) → Goes (loop R chain strategy) step p (at store (rising low (earlier_goals R chain low)) o)
+beside-goes R chain strategy step p store o low high l g =
+    Goes-more (loop R chain strategy) step p (at store (between low high) o) (at store (rising low (earlier_goals R chain low)) o) g
     (record {
       replies = [];
       exchanges = [];
       fit = tt;
-      rest = λ more. Rattle.apd_answers.proofs.Dialogue.dialogue-same (loop R chain strategy) pairs (between low high) (rising low (earlier_goals R chain low))
-          (next_turn-goes R chain strategy pairs (between low high) (rising low (earlier_goals R chain low)) (by (nat_le (high - low) 1) refl)) more;
+      rest = λ more. Rattle.apd_answers.proofs.Dialogue.dialogue-same (loop R chain strategy) store (between low high) (rising low (earlier_goals R chain low))
+          (next_turn-goes R chain strategy store (between low high) (rising low (earlier_goals R chain low)) (by (nat_le (high - low) 1) refl)) more;
       calls = refl;
     })
   where
-    by : (b : Bool) → nat_le (high - low) 1 ≡ b → turn_in R chain strategy (between low high) ≡ goes (rising low (earlier_goals R chain low))
+    by : (b : Bool) → nat_le (high - low) 1 ≡ b → turn_in R chain strategy store (between low high) ≡ goes (rising low (earlier_goals R chain low))
     by true e = rw e refl
     by false e = let n = le_false (high - low) 1 e in absurd (omega (arith, n, l))
 

@@ -3,9 +3,9 @@ use Rattle.std.proofs.Common.{◌≡◌, ℕ, List, [], ◌∷◌, ◌++◌, Ok,
 use Rattle.std.specs.Prelude.{MatchResult}
 use Rattle.std.specs.List.{AllByRecursion}
 use Rattle.apd_record.specs.Recorded.{Recorded}
+use Rattle.apd_answers.specs.Store.{Store}
 use Rattle.apd_answers.specs.declared.finding.Finding.{Finding}
 use Rattle.apd_answers.specs.declared.oracle.AskEnd.{AskEnd}
-use Rattle.apd_answers.specs.declared.store.Pair.{Pair}
 use Rattle.apd_answers.specs.Questions.{FitsAsked}
 use Rattle.apd_answers.specs.Dialogue.{Exchange, onto}
 use Rattle.apd_answers.specs.Oracle.{Call, asking, telling, GoesThrough, calls_of}
@@ -29,7 +29,7 @@ calls-append [] fs = refl
 calls-append (e ∷ es) fs = ap (λ r. asking e.asked (Ok e.reply) ∷ telling e.reply e.left (Ok tt) ∷ r) (calls-append es fs)
 
 -- an end after a part
-pub reaches-more : {O : Type 0} (R : Recorded) (chain : List ℕ) (strategy : Strategy) (step : O → Call → O → Type 0) (p q : Moment Looping O) (kept : List Pair) (to : O) (e : LoopEnd)
+pub reaches-more : {O : Type 0} (R : Recorded) (chain : List ℕ) (strategy : Strategy) (step : O → Call → O → Type 0) (p q : Moment Looping O) (kept : Store) (to : O) (e : LoopEnd)
     → Goes (loop R chain strategy) step p q → Reaches (loop R chain strategy) step q kept to e → Reaches (loop R chain strategy) step p kept to e
 reaches-more R chain strategy step p q kept to e g h = record {
   replies = g.replies ++ h.replies;
@@ -39,19 +39,19 @@ reaches-more R chain strategy step p q kept to e g h = record {
   calls = subst (λ cs. GoesThrough step p.oracle cs to) (sym (calls-append g.exchanges h.exchanges)) (through-append step p.oracle q.oracle to (calls_of g.exchanges) (calls_of h.exchanges) g.calls h.calls);
 }
 
-pub goes-then : {O T : Type 0} (R : Recorded) (chain : List ℕ) (strategy : Strategy) (step : O → Call → O → Type 0) (p q : Moment Looping O) (kept : List Pair) (to : O) (state : T → Looping) (result : Result T AskEnd)
+pub goes-then : {O T : Type 0} (R : Recorded) (chain : List ℕ) (strategy : Strategy) (step : O → Call → O → Type 0) (p q : Moment Looping O) (kept : Store) (to : O) (state : T → Looping) (result : Result T AskEnd)
     → Goes (loop R chain strategy) step p q → GoesTo R chain strategy step q kept to state result → GoesTo R chain strategy step p kept to state result
 goes-then R chain strategy step p q kept to state (Ok x) g h = Goes-more (loop R chain strategy) step p q (at kept (state x) to) g h
 goes-then R chain strategy step p q kept to state (Err e) g h = Breaks-more (loop R chain strategy) step p q kept to e g h
 
-pub ends-then : {O T : Type 0} (R : Recorded) (chain : List ℕ) (strategy : Strategy) (step : O → Call → O → Type 0) (p q : Moment Looping O) (kept : List Pair) (to : O) (end : T → LoopEnd) (result : Result T AskEnd)
+pub ends-then : {O T : Type 0} (R : Recorded) (chain : List ℕ) (strategy : Strategy) (step : O → Call → O → Type 0) (p q : Moment Looping O) (kept : Store) (to : O) (end : T → LoopEnd) (result : Result T AskEnd)
     → Goes (loop R chain strategy) step p q → Ends R chain strategy step q kept to end result → Ends R chain strategy step p kept to end result
 ends-then R chain strategy step p q kept to end (Ok x) g h = reaches-more R chain strategy step p q kept to (end x) g h
 ends-then R chain strategy step p q kept to end (Err e) g h = Breaks-more (loop R chain strategy) step p q kept to e g h
 
 -- a wrong answer inside
-pub ends-inside : {O : Type 0} (R : Recorded) (chain : List ℕ) (strategy : Strategy) (step : O → Call → O → Type 0) (pairs kept : List Pair) (x : Tree) (from to : O) (result : Result Finding AskEnd)
-    → MatchResult result (λ f. Reaches (wrong strategy) step (at pairs x from) kept to f) (λ e. Breaks (wrong strategy) step (at pairs x from) kept to e)
-    → Ends R chain strategy step (at pairs (within x) from) kept to Found result
-ends-inside R chain strategy step pairs kept x from to (Ok f) h = inside-reaches R chain strategy step pairs kept x from to f h
-ends-inside R chain strategy step pairs kept x from to (Err e) h = inside-breaks R chain strategy step pairs kept x from to e h
+pub ends-inside : {O : Type 0} (R : Recorded) (chain : List ℕ) (strategy : Strategy) (step : O → Call → O → Type 0) (store kept : Store) (x : Tree) (from to : O) (result : Result Finding AskEnd)
+    → MatchResult result (λ f. Reaches (wrong strategy) step (at store x from) kept to f) (λ e. Breaks (wrong strategy) step (at store x from) kept to e)
+    → Ends R chain strategy step (at store (within x) from) kept to Found result
+ends-inside R chain strategy step store kept x from to (Ok f) h = inside-reaches R chain strategy step store kept x from to f h
+ends-inside R chain strategy step store kept x from to (Err e) h = inside-breaks R chain strategy step store kept x from to e h

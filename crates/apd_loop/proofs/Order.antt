@@ -1,5 +1,6 @@
 -- What a store says of the order of calls, and what it goes on to say when a pair comes to it.
-use Rattle.std.proofs.Common.{◌≡◌, inl, inr, true, List, [], ◌∷◌, Option, Some, None, refl, sym, ◌∙◌, ap, subst}
+use Rattle.std.proofs.Common.{◌≡◌, inl, inr, ℕ, true, List, [], ◌∷◌, Option, Some, None, refl, sym, ◌∙◌, ap, subst}
+use Rattle.std.specs.Prelude.{IsSome}
 use Rattle.std.specs.List.{AllByRecursion}
 use Rattle.apd_term.specs.Term.{Term, variable, integer, compound, variables}
 use Rattle.apd_term.specs.Canonical.{canonical, place_of, by_appearance}
@@ -12,12 +13,12 @@ use Rattle.apd_record.specs.Recorded.{is_none, is_user_atom}
 use Rattle.apd_answers.specs.declared.question.Question.{Question}
 use Rattle.apd_answers.specs.declared.question.Question.TheVariants as asking
 use Rattle.apd_answers.specs.declared.question.Reply.{Reply}
-use Rattle.apd_answers.specs.declared.question.Reply.TheVariants.{Yes, No, Values}
+use Rattle.apd_answers.specs.declared.question.Reply.TheVariants.{Yes, No, Values, Unknown}
+use Rattle.apd_answers.specs.Fitting.{AllFit, AllFitIn}
+use Rattle.apd_answers.specs.Questions.{canonical_question, with_values, Fits, FitsAsked}
 use Rattle.apd_answers.specs.declared.store.Pair.{Pair}
-use Rattle.apd_answers.specs.Fitting.{AllFit}
-use Rattle.apd_answers.specs.Questions.{canonical_question, with_values, Fits}
-use Rattle.apd_answers.specs.Store.{same_question, told, decided, with_pair, SomePair, SomeTerm, TellsYes, TellsBelow, SaysYes, SaysNo}
-use Rattle.apd_answers.specs.Findings.{Apart, same, said, through, Grants, GrantsBy}
+use Rattle.apd_answers.specs.Store.{Store, decided_in, SomePairIn, same_question, told, decided, with_pair, SomePair, SomeTerm, TellsYes, TellsBelow, SaysYes, SaysNo}
+use Rattle.apd_answers.specs.Findings.{Apart, same, said, through, Affirms, IsTrueBy}
 use Rattle.apd_answers.proofs.Tests.{same_question-equal, then_some-is}
 use Rattle.apd_answers.proofs.Decided.{first_there, decided-yes, decided-no, decided-truth, some_pair-kept, some_pair-added, added-yes, added-no}
 
@@ -36,62 +37,69 @@ fits-order q p (asking.Covers t) r e f = absurd (cc)
 fits-order q p (asking.Below y z) Yes e f = tt
 fits-order q p (asking.Below y z) No e f = tt
 fits-order q p (asking.Below y z) (Values vs) e f = absurd f
+fits-order q p (asking.Below y z) Unknown e f = absurd f
 
 -- what is decided of the order is said
-pub decided-order : (pairs : List Pair) (q p : Term) (r : Reply) → AllFit pairs → decided pairs (asking.Below q p) ≡ Some r → SomePair (TellsBelow r q p) pairs × Fits (asking.Below q p) r
-decided-order [] q p r fit e = absurd (cc)
-decided-order (pair ∷ pairs) q p r fit e = elim (first_there (told pair (asking.Below q p)) (decided pairs (asking.Below q p)) r e) [
+decided-order_in : (pairs : List Pair) (q p : Term) (r : Reply) → AllFitIn pairs → decided_in pairs (asking.Below q p) ≡ Some r → SomePairIn (TellsBelow r q p) pairs × Fits (asking.Below q p) r
+decided-order_in [] q p r fit e = absurd (cc)
+decided-order_in (pair ∷ pairs) q p r fit e = elim (first_there (told pair (asking.Below q p)) (decided_in pairs (asking.Below q p)) r e) [
   | inl h ↦
       let t = then_some-is (same_question (canonical_question pair.question) (canonical_question (asking.Below q p))) pair.reply r h in
       let s = same_question-equal (canonical_question pair.question) (canonical_question (asking.Below q p)) t.0 in (
         inl (subst (λ y. TellsBelow r q p pair.question y) (sym t.1) (tells r q p pair.question s)),
         subst (Fits (asking.Below q p)) t.1 (fits-order q p pair.question pair.reply s fit.0),
       )
-  | inr h ↦ (let d = decided-order pairs q p r fit.1 h.1 in (inr d.0, d.1))
+  | inr h ↦ (let d = decided-order_in pairs q p r fit.1 h.1 in (inr d.0, d.1))
 ]
 
-pub added-order : (pairs : List Pair) (q p : Term) (r : Reply) → SomePair (TellsBelow r q p) (with_pair pairs (asking.Below q p) r)
-added-order pairs q p r = some_pair-added (TellsBelow r q p) pairs (asking.Below q p) r (tells r q p)
+pub decided-order : (store : Store) (q p : Term) (r : Reply) → AllFit store → decided store (asking.Below q p) ≡ Some r → SomePair (TellsBelow r q p) store × Fits (asking.Below q p) r
+decided-order store q p r fit e = decided-order_in store.pairs q p r fit e
+
+pub added-order : (store : Store) (q p : Term) (r : Reply) → SomePair (TellsBelow r q p) (with_pair store (asking.Below q p) r)
+added-order store q p r = some_pair-added (TellsBelow r q p) store (asking.Below q p) r (tells r q p)
 
 -- what is said of the truth of an atom
-abbrev pub SaysTruth : List Pair → Term → Reply → Type 0
-SaysTruth pairs a Yes = SaysYes pairs a
-SaysTruth pairs a No = SaysNo pairs a
-SaysTruth pairs a (Values vs) = ⊥
+abbrev pub SaysTruth : Store → Term → Reply → Type 0
+SaysTruth store a Yes = SaysYes store a
+SaysTruth store a No = SaysNo store a
+SaysTruth store a (Values vs) = ⊥
+SaysTruth store a Unknown = ⊥
 
-pub decided-says : (pairs : List Pair) (a : Term) (r : Reply) → decided pairs (asking.True a) ≡ Some r → SaysTruth pairs a r
-decided-says pairs a Yes e = decided-yes pairs a e
-decided-says pairs a No e = decided-no pairs a e
-decided-says pairs a (Values vs) e = elim (decided-truth pairs a (Values vs) e) [ inl f ↦ absurd (cc) | inr f ↦ absurd (cc) ]
+pub decided-says : (store : Store) (a : Term) (r : Reply) → decided store (asking.True a) ≡ Some r → SaysTruth store a r
+decided-says store a Yes e = decided-yes store a e
+decided-says store a No e = decided-no store a e
+decided-says store a (Values vs) e = elim (decided-truth store a (Values vs) e) [ inl f ↦ absurd (cc) | inr f ↦ absurd (cc) ]
+decided-says store a Unknown e = elim (decided-truth store a Unknown e) [ inl f ↦ absurd (cc) | inr f ↦ absurd (cc) ]
 
-pub added-says : (pairs : List Pair) (a : Term) (r : Reply) → Fits (asking.True a) r → SaysTruth (with_pair pairs (asking.True a) r) a r
-added-says pairs a Yes f = added-yes pairs a
-added-says pairs a No f = added-no pairs a
-added-says pairs a (Values vs) f = absurd f
+pub added-says : (store : Store) (a : Term) (r : Reply) → FitsAsked (record { question = asking.True a; suspects = None }) r → SaysTruth (with_pair store (asking.True a) r) a r
+added-says store a Yes f = added-yes store a
+added-says store a No f = added-no store a
+added-says store a (Values vs) f = absurd f.0
+added-says store a Unknown f = let i : IsSome {T = ℕ} None = f.1 refl in absurd (cc)
 
 -- the store stayed, or a pair came to it
-pub data Later (pairs : List Pair) : List Pair → Type 0 where
-  stayed : Later pairs pairs
-  added : (q : Question) (r : Reply) → Later pairs (with_pair pairs q r)
+pub data Later (store : Store) : Store → Type 0 where
+  stayed : Later store store
+  added : (q : Question) (r : Reply) → Later store (with_pair store q r)
 
-pub later : (P : Question → Reply → Type 0) (pairs kept : List Pair) → Later pairs kept → SomePair P pairs → SomePair P kept
-later P pairs _ stayed o = o
-later P pairs _ (added q r) o = some_pair-kept P pairs q r o
+pub later : (P : Question → Reply → Type 0) (store kept : Store) → Later store kept → SomePair P store → SomePair P kept
+later P store _ stayed o = o
+later P store _ (added q r) o = some_pair-kept P store q r o
 
-pub apart-later : (pairs kept : List Pair) (q p : Term) → Later pairs kept → Apart pairs q p → Apart kept q p
-apart-later pairs kept _ _ l (same q) = same q
-apart-later pairs kept _ _ l (said q p o) = said q p (later (TellsBelow No q p) pairs kept l o)
-apart-later pairs kept _ _ l (through q p r o a) = through q p r (later (TellsBelow Yes p r) pairs kept l o) (apart-later pairs kept q r l a)
+pub apart-later : (store kept : Store) (q p : Term) → Later store kept → Apart store q p → Apart kept q p
+apart-later store kept _ _ l (same q) = same q
+apart-later store kept _ _ l (said q p o) = said q p (later (TellsBelow No q p) store kept l o)
+apart-later store kept _ _ l (through q p r o a) = through q p r (later (TellsBelow Yes p r) store kept l o) (apart-later store kept q r l a)
 
-pub grants-later : (pairs kept : List Pair) (a : Term) → Later pairs kept → Grants pairs a → Grants kept a
-grants-later pairs kept a l g = by (builtin_of_atom a) g
+pub grants-later : (store kept : Store) (a : Term) → Later store kept → Affirms store a → Affirms kept a
+grants-later store kept a l g = by (builtin_of_atom a) g
   where
-    by : (o : Option Builtin) → GrantsBy o pairs a → GrantsBy o kept a
-    by None h = later (TellsYes a) pairs kept l h
+    by : (o : Option Builtin) → IsTrueBy (SaysYes store) o a → IsTrueBy (SaysYes kept) o a
+    by None h = later (TellsYes a) store kept l h
     by (Some b) h = h
 
-pub grants-said : (pairs : List Pair) (a : Term) → builtin_of_atom a ≡ None → SaysYes pairs a → Grants pairs a
-grants-said pairs a e y = subst (λ o. GrantsBy o pairs a) (sym e) y
+pub grants-said : (store : Store) (a : Term) → builtin_of_atom a ≡ None → SaysYes store a → Affirms store a
+grants-said store a e y = subst (λ o. IsTrueBy (SaysYes store) o a) (sym e) y
 
 -- an atom and its canonical form
 pub canonical-instance : (a : Term) → IsInstance (canonical a) a
@@ -119,18 +127,23 @@ tells-canonical : (a : Term) (q : Question) (r : Reply) → TellsYes (canonical 
 tells-canonical a (asking.True b) Yes i = IsInstance-trans a (canonical a) b (IsInstance-canonical a) i
 tells-canonical a (asking.True b) No h = h
 tells-canonical a (asking.True b) (Values vs) h = h
+tells-canonical a (asking.True b) Unknown h = h
+tells-canonical a (asking.Covers t) Unknown h = h
 tells-canonical a (asking.Covers t) (Values vs) h = terms-canonical a (with_values t vs) h
 tells-canonical a (asking.Covers t) Yes h = h
 tells-canonical a (asking.Covers t) No h = h
 tells-canonical a (asking.Below q p) r h = h
 
-says-canonical : (pairs : List Pair) (a : Term) → SaysYes pairs (canonical a) → SaysYes pairs a
-says-canonical [] a h = h
-says-canonical (pair ∷ pairs) a (inl h) = inl (tells-canonical a pair.question pair.reply h)
-says-canonical (pair ∷ pairs) a (inr h) = inr (says-canonical pairs a h)
+says-canonical_in : (pairs : List Pair) (a : Term) → SomePairIn (TellsYes (canonical a)) pairs → SomePairIn (TellsYes a) pairs
+says-canonical_in [] a h = h
+says-canonical_in (pair ∷ pairs) a (inl h) = inl (tells-canonical a pair.question pair.reply h)
+says-canonical_in (pair ∷ pairs) a (inr h) = inr (says-canonical_in pairs a h)
 
-pub grants-canonical : (pairs : List Pair) (a : Term) → builtin_of_atom (canonical a) ≡ None → SaysYes pairs (canonical a) → Grants pairs a
-grants-canonical pairs a e y = grants-said pairs a (not_builtin a (canonical a) (sym (user-canonical a)) e) (says-canonical pairs a y)
+says-canonical : (store : Store) (a : Term) → SaysYes store (canonical a) → SaysYes store a
+says-canonical store a h = says-canonical_in store.pairs a h
+
+pub grants-canonical : (store : Store) (a : Term) → builtin_of_atom (canonical a) ≡ None → SaysYes store (canonical a) → Affirms store a
+grants-canonical store a e y = grants-said store a (not_builtin a (canonical a) (sym (user-canonical a)) e) (says-canonical store a y)
 
 pub all-map : {X : Type 0} (P Q : X → Type 0) → ((x : X) → P x → Q x) → (xs : List X) → AllByRecursion P xs → AllByRecursion Q xs
 all-map P Q h [] a = tt

@@ -11,7 +11,7 @@ use Rattle.apd_term.proofs.Opposite.{same_term-equal}
 use Rattle.apd_term.specs.declared.tuple.Tuple.{Tuple}
 use Rattle.apd_record.specs.Recorded.{Recorded}
 use Rattle.apd_record.specs.Reading.{call_atom}
-use Rattle.apd_answers.specs.declared.store.Pair.{Pair}
+use Rattle.apd_answers.specs.Store.{Store}
 use Rattle.apd_answers.specs.Findings.{Apart, same}
 use Rattle.apd_loop.specs.Loop.{Looping, whole, between, call_of, calls_in, equal_from, repeated_or, start_from, loop_start}
 use Rattle.apd_answers.specs.Fitting.{AllFit}
@@ -84,9 +84,9 @@ call-is R chain i q e =
     let f : ℕ → Term = λ b. canonical (call_atom R b) in
     of_some f (slice_get chain i) q (sym (slice_get-map f chain i) ∙ e)
 
-start-said : (P : List Tuple) (R : Recorded) (chain : List ℕ) (pairs : List Pair) (s : Looping) → StartsSo (calls_in R chain) s → IsSaid P R chain pairs s
-start-said P R chain pairs _ from_whole = tt
-start-said P R chain pairs _ (from_equal i j q l a b) =
+start-said : (P : List Tuple) (R : Recorded) (chain : List ℕ) (store : Store) (s : Looping) → StartsSo (calls_in R chain) s → IsSaid P R chain store s
+start-said P R chain store _ from_whole = tt
+start-said P R chain store _ (from_equal i j q l a b) =
     let x = call-is R chain i q a in
     let y = call-is R chain j q b in
     let m = slice_get_within (calls_in R chain) j q b in
@@ -95,8 +95,8 @@ start-said P R chain pairs _ (from_equal i j q l a b) =
       from = omega arith;
       order = omega (arith, l);
       to = omega (arith, m, n);
-      apart = subst (λ z. Apart pairs z (call_of R chain (suc i))) (sym y) (subst (λ z. Apart pairs q z) (sym x) (same q));
+      apart = subst (λ z. Apart store z (call_of R chain (suc i))) (sym y) (subst (λ z. Apart store q z) (sym x) (same q));
     }
 
-pub start-known : (P : List Tuple) (R : Recorded) (chain : List ℕ) (pairs : List Pair) → AllFit pairs → IsKnown P R chain pairs (loop_start R chain)
-start-known P R chain pairs fit = record { fit = fit; said = start-said P R chain pairs (loop_start R chain) (starts-so (calls_in R chain)) }
+pub start-known : (P : List Tuple) (R : Recorded) (chain : List ℕ) (store : Store) → AllFit store → IsKnown P R chain store (loop_start R chain)
+start-known P R chain store fit = record { fit = fit; said = start-said P R chain store (loop_start R chain) (starts-so (calls_in R chain)) }

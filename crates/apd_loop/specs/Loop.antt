@@ -1,6 +1,6 @@
 -- The diagnosis of a run that doesn't end (Shapiro 1983): among the calls of a chain it looks for one that isn't below its
 -- caller. Calls are numbered from 1.
-use Rattle.std.specs.Prelude.{ℕ, zero, suc, ◌+◌, ◌-◌, ◌/◌, nat_le, max, if◌then◌else◌, List, [], ◌∷◌, length, map, take, slice_get, Option, Some, None}
+use Rattle.std.specs.Prelude.{ℕ, Bool, true, false, zero, suc, ◌+◌, ◌-◌, ◌/◌, nat_le, max, if◌then◌else◌, List, [], ◌∷◌, length, map, take, slice_get, Option, Some, None}
 use Rattle.std.specs.Option.{unwrap_or}
 use Rattle.apd_term.specs.Term.{Term}
 use Rattle.apd_term.specs.Canonical.{canonical}
@@ -9,6 +9,8 @@ use Rattle.apd_record.specs.Recorded.{Recorded, is_user_atom}
 use Rattle.apd_record.specs.Reading.{call_atom, calling_point, row_of, exits_to}
 use Rattle.apd_answers.specs.declared.question.Question.TheVariants as asking
 use Rattle.apd_answers.specs.declared.question.Reply.{Reply}
+use Rattle.apd_answers.specs.declared.question.Reply.TheVariants as replies
+use Rattle.apd_answers.specs.Store.{Store}
 use Rattle.apd_answers.specs.declared.question.Asked.{Asked}
 use Rattle.apd_answers.specs.declared.finding.Finding.{Finding}
 use Rattle.apd_answers.specs.declared.finding.Finding.TheVariants.{Violation}
@@ -16,9 +18,8 @@ use Rattle.apd_answers.specs.Bugs.{earlier_atoms}
 use Rattle.apd_answers.specs.Dialogue.{Turn, asks, goes, ends, Diagnosis}
 use Rattle.apd_divide.specs.declared.node.Strategy.{Strategy}
 use Rattle.apd_divide.specs.Tree.{Tree, suspects}
-use Rattle.apd_divide.specs.Choice.{choice}
 use Rattle.apd_divide.specs.Recorded.{tree}
-use Rattle.apd_wrong.specs.Wrong.{is_yes, turn_by}
+use Rattle.apd_wrong.specs.Wrong.{wrong}
 use Rattle.apd_loop.specs.declared.LoopEnd.{LoopEnd}
 use Rattle.apd_loop.specs.declared.LoopEnd.TheVariants.{Found, AllDescend}
 
@@ -69,6 +70,12 @@ violation R chain i =
 abbrev pub below : Recorded → List ℕ → ℕ → ℕ → Asked
 below R chain i j = record { question = asking.Below (call_of R chain i) (call_of R chain j); suspects = None }
 
+abbrev pub is_yes : Reply → Bool
+is_yes replies.Yes = true
+is_yes replies.No = false
+is_yes (replies.Values values) = false
+is_yes replies.Unknown = false
+
 abbrev pub by_yes : {S : Type 0} → S → S → Reply → S
 by_yes s t reply = if is_yes reply then s else t
 
@@ -78,21 +85,21 @@ inside state end (asks asked next) = asks asked (λ reply. state (next reply))
 inside state end (goes s) = goes (state s)
 inside state end (ends e) = ends (end e)
 
-abbrev pub turn_in : Recorded → List ℕ → Strategy → Looping → Turn Looping LoopEnd
-turn_in R chain strategy whole =
+abbrev pub turn_in : Recorded → List ℕ → Strategy → Store → Looping → Turn Looping LoopEnd
+turn_in R chain strategy store whole =
     asks (below R chain (length chain) 1) (by_yes (descending (length chain - 1)) (between 1 (length chain)))
-turn_in R chain strategy (between low high) =
+turn_in R chain strategy store (between low high) =
     if nat_le (high - low) 1
     then goes (rising low (earlier_goals R chain low))
     else (let middle = low + (high - low) / 2 in asks (below R chain middle low) (by_yes (between middle high) (between low middle)))
-turn_in R chain strategy (descending zero) = ends AllDescend
-turn_in R chain strategy (descending (suc i)) =
+turn_in R chain strategy store (descending zero) = ends AllDescend
+turn_in R chain strategy store (descending (suc i)) =
     asks (below R chain (suc i + 1) (suc i)) (by_yes (descending i) (rising (suc i) (earlier_goals R chain (suc i))))
-turn_in R chain strategy (rising i []) = ends (Found (violation R chain i))
-turn_in R chain strategy (rising i (e ∷ es)) =
+turn_in R chain strategy store (rising i []) = ends (Found (violation R chain i))
+turn_in R chain strategy store (rising i (e ∷ es)) =
     asks (record { question = asking.True e.atom; suspects = None }) (by_yes (rising i es) (denied e))
-turn_in R chain strategy (denied e) = goes (within (tree R e.exit e.atom))
-turn_in R chain strategy (within x) = inside within Found (turn_by x (choice strategy x))
+turn_in R chain strategy store (denied e) = goes (within (tree R e.exit e.atom))
+turn_in R chain strategy store (within x) = inside within Found ((wrong strategy).turn store x)
 
 abbrev pub left_in : Looping → Option ℕ
 left_in (within x) = Some (suspects x)
@@ -118,9 +125,9 @@ bound_in R chain (within x) = suspects x
 
 abbrev pub loop : Recorded → List ℕ → Strategy → Diagnosis Looping LoopEnd
 loop R chain strategy = record {
-  turn = λ pairs s. turn_in R chain strategy s;
+  turn = λ store s. turn_in R chain strategy store s;
   left = left_in;
-  bound = λ pairs s. bound_in R chain s;
+  bound = λ store s. bound_in R chain s;
 }
 
 -- the number of the first of these calls that is equal to the call, where the first has number n

@@ -16,12 +16,12 @@ use Rattle.apd_record.specs.Recorded.{Recorded, is_none, is_user_atom}
 use Rattle.apd_answers.specs.declared.question.Question.{Question}
 use Rattle.apd_answers.specs.declared.question.Question.TheVariants as asking
 use Rattle.apd_answers.specs.declared.question.Reply.{Reply}
-use Rattle.apd_answers.specs.declared.question.Reply.TheVariants.{Yes, No, Values}
+use Rattle.apd_answers.specs.declared.question.Reply.TheVariants.{Yes, No, Values, Unknown}
 use Rattle.apd_answers.specs.declared.finding.Finding.{Finding}
 use Rattle.apd_answers.specs.declared.finding.Finding.TheVariants.{Uncovered}
-use Rattle.apd_answers.specs.declared.store.Pair.{Pair}
 use Rattle.apd_answers.specs.Questions.{canonical_question}
-use Rattle.apd_answers.specs.Store.{decided, told, same_question, SaysYes, SaysNo, SaysUncovered, TellsUncovered}
+use Rattle.apd_answers.specs.declared.store.Pair.{Pair}
+use Rattle.apd_answers.specs.Store.{Store, decided_in, SomePairIn, decided, told, same_question, SaysYes, SaysNo, SaysUncovered, TellsUncovered}
 use Rattle.apd_answers.specs.Findings.{IsByReplies, IsClosed, IsDenied, IsFalseBuiltin, instance_for}
 use Rattle.apd_answers.specs.Dialogue.{ends}
 use Rattle.apd_answers.proofs.Tests.{both, then_some-is, same_question-equal, some_passes}
@@ -48,74 +48,79 @@ no_is None e = absurd (cc)
 no_is (Some Yes) e = absurd (cc)
 no_is (Some No) e = refl
 no_is (Some (Values vs)) e = absurd (cc)
+no_is (Some Unknown) e = absurd (cc)
 
 tells_uncovered : (t : Tuple) (q : Question) (r : Reply) → r ≡ No → same_question (canonical_question q) (asking.Covers (canonical_tuple t)) ≡ true → TellsUncovered t q r
 tells_uncovered t (asking.True a) r n e = absurd (cc)
 tells_uncovered t (asking.Below x y) r n e = absurd (cc)
 tells_uncovered t (asking.Covers u) Yes n e = absurd (cc)
 tells_uncovered t (asking.Covers u) (Values vs) n e = absurd (cc)
+tells_uncovered t (asking.Covers u) Unknown n e = absurd (cc)
 tells_uncovered t (asking.Covers u) No n e = let f = same_question-equal (asking.Covers (canonical_tuple u)) (asking.Covers (canonical_tuple t)) e in cc
 
-decided-uncovered : (pairs : List Pair) (t : Tuple) → decided pairs (asking.Covers t) ≡ Some No → SaysUncovered pairs t
-decided-uncovered [] t e = absurd (cc)
-decided-uncovered (pair ∷ pairs) t e = elim (first_there (told pair (asking.Covers t)) (decided pairs (asking.Covers t)) No e) [
+decided-uncovered_in : (pairs : List Pair) (t : Tuple) → decided_in pairs (asking.Covers t) ≡ Some No → SomePairIn (TellsUncovered t) pairs
+decided-uncovered_in [] t e = absurd (cc)
+decided-uncovered_in (pair ∷ pairs) t e = elim (first_there (told pair (asking.Covers t)) (decided_in pairs (asking.Covers t)) No e) [
   | inl h ↦
       let p = then_some-is (same_question (canonical_question pair.question) (asking.Covers (canonical_tuple t))) pair.reply No h in
       inl (tells_uncovered t pair.question pair.reply p.1 p.0)
-  | inr h ↦ inr (decided-uncovered pairs t h.1)
+  | inr h ↦ inr (decided-uncovered_in pairs t h.1)
 ]
+
+decided-uncovered : (store : Store) (t : Tuple) → decided store (asking.Covers t) ≡ Some No → SaysUncovered store t
+decided-uncovered store t e = decided-uncovered_in store.pairs t e
 
 pub user_is : (o : Option Builtin) → is_none o ≡ true → o ≡ None
 user_is None e = refl
 user_is (Some g) e = absurd (cc)
 
-denied_is : (pairs : List Pair) (body : List Term) → is_denied pairs body ≡ true → IsDenied pairs body
-denied_is pairs body e =
-    let p = both (list_all is_ground body) (list_any (is_denied_atom pairs) body) e in
+denied_is : (store : Store) (body : List Term) → is_denied store body ≡ true → IsDenied store body
+denied_is store body e =
+    let p = both (list_all is_ground body) (list_any (is_denied_atom store) body) e in
     record {
       has_no_variable = all_ground body p.0;
-      denied = some_passes (is_denied_atom pairs) (λ a. (builtin_of_atom a ≡ None) × SaysNo pairs a)
-          (λ a f. let q = both (is_user_atom a) (is_no (decided pairs (asking.True a))) f in (user_is (builtin_of_atom a) q.0, decided-no pairs a (no_is (decided pairs (asking.True a)) q.1)))
+      denied = some_passes (is_denied_atom store) (λ a. (builtin_of_atom a ≡ None) × SaysNo store a)
+          (λ a f. let q = both (is_user_atom a) (is_no (decided store (asking.True a))) f in (user_is (builtin_of_atom a) q.0, decided-no store a (no_is (decided store (asking.True a)) q.1)))
           body p.1;
     }
 
-pub closed_is : (pairs : List Pair) (t : Tuple) → is_closed pairs t ≡ true → IsClosed pairs t
-closed_is pairs t e = elim (either (list_any is_false_builtin t.body) (is_no (decided pairs (asking.Covers t)) || is_denied pairs t.body) e) [
+pub closed_is : (store : Store) (t : Tuple) → is_closed store t ≡ true → IsClosed store t
+closed_is store t e = elim (either (list_any is_false_builtin t.body) (is_no (decided store (asking.Covers t)) || is_denied store t.body) e) [
   | inl f ↦ inl (some_passes is_false_builtin IsFalseBuiltin false_builtin t.body f)
-  | inr f ↦ (elim (either (is_no (decided pairs (asking.Covers t))) (is_denied pairs t.body) f) [
-    | inl g ↦ inr (inl (decided-uncovered pairs t (no_is (decided pairs (asking.Covers t)) g)))
-    | inr g ↦ inr (inr (denied_is pairs t.body g))
+  | inr f ↦ (elim (either (is_no (decided store (asking.Covers t))) (is_denied store t.body) f) [
+    | inl g ↦ inr (inl (decided-uncovered store t (no_is (decided store (asking.Covers t)) g)))
+    | inr g ↦ inr (inr (denied_is store t.body g))
   ])
 ]
 
 -- where no clause is open, each is closed
-all_closed : (pairs : List Pair) (goal : Term) (n : ℕ) (P : List Tuple) → first_open pairs goal n P ≡ None → AllByRecursion (λ (c : Tuple). IsInstance goal c.head → IsClosed pairs (instance_for c goal)) P
-all_closed pairs goal n [] e = tt
-all_closed pairs goal n (c ∷ cs) e =
-    by_test (is_closed pairs (instance_for c goal))
+all_closed : (store : Store) (goal : Term) (n : ℕ) (P : List Tuple) → first_open store goal n P ≡ None → AllByRecursion (λ (c : Tuple). IsInstance goal c.head → IsClosed store (instance_for c goal)) P
+all_closed store goal n [] e = tt
+all_closed store goal n (c ∷ cs) e =
+    by_test (is_closed store (instance_for c goal))
     (λ k. (
-      λ i. closed_is pairs (instance_for c goal) k,
+      λ i. closed_is store (instance_for c goal) k,
       by_test (is_instance goal c.head)
-          (λ h. all_closed pairs goal (n + 1) cs (rw (h, k) at e))
-          (λ h. all_closed pairs goal (n + 1) cs (rw h at e)),
+          (λ h. all_closed store goal (n + 1) cs (rw (h, k) at e))
+          (λ h. all_closed store goal (n + 1) cs (rw h at e)),
     ))
     (λ k. by_test (is_instance goal c.head)
     (λ h. let f : Some (record { clause = n; instance = instance_for c goal }) ≡ None = rw (h, k) at e in absurd (cc))
-    (λ h. (λ i. let f = sym h ∙ (is_instance-is goal c.head).1 i in absurd (cc), all_closed pairs goal (n + 1) cs (rw h at e))))
+    (λ h. (λ i. let f = sym h ∙ (is_instance-is goal c.head).1 i in absurd (cc), all_closed store goal (n + 1) cs (rw h at e))))
 
 -- the turn at which the diagnosis ends
 no_end_of_ground : (R : Recorded) (s : Unanswered) (l : Looked) (o : Option Term) (f : Finding) → turn_of_ground R s l o ≡ ends f → ⊥
 no_end_of_ground R s l None f e = cc
 no_end_of_ground R s l (Some a) f e = cc
 
-pub ended-uncovered : (P : List Tuple) (R : Recorded) (pairs : List Pair) (s : Unanswered) (f : Finding) → builtin_of_atom s.goal ≡ None → IsGround s.goal → SaysYes pairs s.goal
-    → (missing P R).turn pairs s ≡ ends f → IsByReplies P R pairs f
-ended-uncovered P R pairs s f u g y e = by (first_open pairs s.goal 1 P) refl e
+pub ended-uncovered : (P : List Tuple) (R : Recorded) (store : Store) (s : Unanswered) (f : Finding) → builtin_of_atom s.goal ≡ None → IsGround s.goal → SaysYes store s.goal
+    → (missing P R).turn store s ≡ ends f → IsByReplies P R store f
+ended-uncovered P R store s f u g y e = by (first_open store s.goal 1 P) refl e
   where
-    by : (o : Option Looked) → first_open pairs s.goal 1 P ≡ o → turn_of R pairs s o ≡ ends f → IsByReplies P R pairs f
+    by : (o : Option Looked) → first_open store s.goal 1 P ≡ o → turn_of R store s o ≡ ends f → IsByReplies P R store f
     by None n t =
         let same : Uncovered s.goal ≡ f = cc in
-        subst (IsByReplies P R pairs) same (record { of_program = u; has_no_variable = g; says = y; closed = all_closed pairs s.goal 1 P n })
+        subst (IsByReplies P R store) same (record { of_program = u; has_no_variable = g; says = y; closed = all_closed store s.goal 1 P n })
     by (Some l) n t = by_test (list_all is_ground l.instance.body)
-        (λ h. let k : turn_of_ground R s l (first_undecided pairs l.instance.body) ≡ ends f = rw h at t in absurd (no_end_of_ground R s l (first_undecided pairs l.instance.body) f k))
+        (λ h. let k : turn_of_ground R s l (first_undecided store l.instance.body) ≡ ends f = rw h at t in absurd (no_end_of_ground R s l (first_undecided store l.instance.body) f k))
         (λ h. let k = rw h at t in absurd (cc))

@@ -22,10 +22,9 @@ use Rattle.apd_record.specs.Sound.{clause_of, IsAlwaysTrue}
 use Rattle.apd_record.specs.Full.{IsGroundTuple}
 use Rattle.apd_answers.specs.declared.question.Question.TheVariants as asking
 use Rattle.apd_answers.specs.declared.question.Reply.{Reply}
-use Rattle.apd_answers.specs.declared.store.Pair.{Pair}
-use Rattle.apd_answers.specs.Findings.{Grants, GrantsBy, instance_for}
+use Rattle.apd_answers.specs.Findings.{Affirms, IsTrueBy, instance_for}
 use Rattle.apd_answers.specs.Questions.{FitsBody, IsTrueIfBuiltin, body_with, with_values}
-use Rattle.apd_answers.specs.Store.{decided, SaysYes, SomeTerm}
+use Rattle.apd_answers.specs.Store.{Store, decided, SaysYes, SomeTerm}
 use Rattle.apd_answers.proofs.Decided.{decided-yes, decided-truth}
 use Rattle.apd_answers.proofs.Tests.{both}
 use Rattle.apd_missing.specs.Missing.{Looked, is_false_builtin, is_no, is_denied, is_closed, first_open, is_undecided, first_undecided}
@@ -33,40 +32,40 @@ use Rattle.apd_missing.proofs.Tests.{by_test, not_true}
 use Rattle.apd_missing.proofs.Places.{values_ground}
 
 -- a body that has no variables, is true by the replies, and is one of an instance of the clause with this head
-pub record IsGiven (pairs : List Pair) (rule : Tuple) (goal : Term) (body : List Term) : Type 0 where
+pub record IsGiven (store : Store) (rule : Tuple) (goal : Term) (body : List Term) : Type 0 where
   pub instance : IsTupleInstance (record { head = goal; body = body }) rule
   pub has_no_variable : IsGroundTuple (record { head = goal; body = body })
-  pub granted : AllByRecursion (Grants pairs) body
+  pub granted : AllByRecursion (Affirms store) body
 
 -- the clause that is looked at
-pub record IsLooked (pairs : List Pair) (goal : Term) (n : ℕ) (cs : List Tuple) (l : Looked) : Type 0 where
+pub record IsLooked (store : Store) (goal : Term) (n : ℕ) (cs : List Tuple) (l : Looked) : Type 0 where
   pub place : ℕ
   pub rule : Tuple
   pub there : slice_get cs place ≡ Some rule
   pub number : l.clause ≡ n + place
   pub matches : is_instance goal rule.head ≡ true
-  pub is_open : is_closed pairs (instance_for rule goal) ≡ false
+  pub is_open : is_closed store (instance_for rule goal) ≡ false
   pub is : l.instance ≡ instance_for rule goal
 
-pub looked : (pairs : List Pair) (goal : Term) (n : ℕ) (cs : List Tuple) (l : Looked) → first_open pairs goal n cs ≡ Some l → IsLooked pairs goal n cs l
-looked pairs goal n [] l e = absurd (cc)
-looked pairs goal n (c ∷ cs) l e =
-    by_test (is_instance goal c.head && not (is_closed pairs (instance_for c goal)))
+pub looked : (store : Store) (goal : Term) (n : ℕ) (cs : List Tuple) (l : Looked) → first_open store goal n cs ≡ Some l → IsLooked store goal n cs l
+looked store goal n [] l e = absurd (cc)
+looked store goal n (c ∷ cs) l e =
+    by_test (is_instance goal c.head && not (is_closed store (instance_for c goal)))
     (λ t.
     let k : Some (record { clause = n; instance = instance_for c goal }) ≡ Some l = rw t at e in
     let same : (let x : Looked = record { clause = n; instance = instance_for c goal } in x) ≡ l = cc in
-    let p = both (is_instance goal c.head) (not (is_closed pairs (instance_for c goal))) t in
+    let p = both (is_instance goal c.head) (not (is_closed store (instance_for c goal))) t in
     record {
       place = 0;
       rule = c;
       there = refl;
       number = sym (ap (λ (x : Looked). x.clause) same) ∙ (omega arith);
       matches = p.0;
-      is_open = not_true (is_closed pairs (instance_for c goal)) p.1;
+      is_open = not_true (is_closed store (instance_for c goal)) p.1;
       is = sym (ap (λ (x : Looked). x.instance) same);
     })
     (λ t.
-    let k = looked pairs goal (n + 1) cs l (rw t at e) in
+    let k = looked store goal (n + 1) cs l (rw t at e) in
     record {
       place = suc k.place;
       rule = k.rule;
@@ -78,8 +77,8 @@ looked pairs goal n (c ∷ cs) l e =
     })
 
 -- it is the clause of its number
-pub looked_clause : (pairs : List Pair) (goal : Term) (P : List Tuple) (l : Looked) → (k : IsLooked pairs goal 1 P l) → clause_of P l.clause ≡ Some k.rule
-looked_clause pairs goal P l k =
+pub looked_clause : (store : Store) (goal : Term) (P : List Tuple) (l : Looked) → (k : IsLooked store goal 1 P l) → clause_of P l.clause ≡ Some k.rule
+looked_clause store goal P l k =
     let e : l.clause ≡ suc k.place = (let m = k.number in omega (arith, m)) in
     subst (λ i. clause_of P i ≡ Some k.rule) (sym e) k.there
 
@@ -108,9 +107,9 @@ ground_true : (a : Term) → IsGround a → IsTrueAtom a → IsAlwaysTrue a
 ground_true a g t = λ s h. subst IsTrueAtom (sym (apply-ground s a g)) t
 
 -- an atom of a body without variables that isn't closed, and of which all is decided
-granted_by : (pairs : List Pair) (a : Term) → IsGround a → (o : Option Builtin) → (is_none o ≡ true → SaysYes pairs a) → (is_none o ≡ false → IsTrueAtom a) → GrantsBy o pairs a
-granted_by pairs a g None says truth = says refl
-granted_by pairs a g (Some goal) says truth = ground_true a g (truth refl)
+granted_by : (store : Store) (a : Term) → IsGround a → (o : Option Builtin) → (is_none o ≡ true → SaysYes store a) → (is_none o ≡ false → IsTrueAtom a) → IsTrueBy (SaysYes store) o a
+granted_by store a g None says truth = says refl
+granted_by store a g (Some goal) says truth = ground_true a g (truth refl)
 
 no_any : {X : Type 0} (p : X → Bool) (x : X) (xs : List X) → list_any p (x ∷ xs) ≡ false → (p x ≡ false) × (list_any p xs ≡ false)
 no_any p x xs e = by (p x) refl
@@ -120,10 +119,10 @@ no_any p x xs e = by (p x) refl
     by false h = (h, rw h at e)
 
 -- a true reply that isn't no is yes
-yes_of : (pairs : List Pair) (a : Term) → (o : Option Reply) → decided pairs (asking.True a) ≡ o → is_undecided o ≡ false → is_no o ≡ false → SaysYes pairs a
-yes_of pairs a None d u n = absurd (cc)
-yes_of pairs a (Some r) d u n = elim (decided-truth pairs a r d) [
-  | inl e ↦ decided-yes pairs a (d ∙ ap (λ x. Some x) e)
+yes_of : (store : Store) (a : Term) → (o : Option Reply) → decided store (asking.True a) ≡ o → is_undecided o ≡ false → is_no o ≡ false → SaysYes store a
+yes_of store a None d u n = absurd (cc)
+yes_of store a (Some r) d u n = elim (decided-truth store a r d) [
+  | inl e ↦ decided-yes store a (d ∙ ap (λ x. Some x) e)
   | inr e ↦ let bad : true ≡ false = ap (λ x. is_no (Some x)) (sym e) ∙ n in absurd (cc)
 ]
 
@@ -134,23 +133,23 @@ true_of a g u h f = (is_true-is a).0 (by (is_true_atom a) refl)
     by true e = refl
     by false e = let bad : true ≡ false = rw (u, h, e) at f in absurd (cc)
 
-all_granted : (pairs : List Pair) (body : List Term) → list_all is_ground body ≡ true → AllByRecursion IsGround body → list_any is_false_builtin body ≡ false
-    → list_any (λ a. is_user_atom a && is_no (decided pairs (asking.True a))) body ≡ false → first_undecided pairs body ≡ None → AllByRecursion (Grants pairs) body
-all_granted pairs [] t g f d u = tt
-all_granted pairs (a ∷ body) t g f d u =
+all_granted : (store : Store) (body : List Term) → list_all is_ground body ≡ true → AllByRecursion IsGround body → list_any is_false_builtin body ≡ false
+    → list_any (λ a. is_user_atom a && is_no (decided store (asking.True a))) body ≡ false → first_undecided store body ≡ None → AllByRecursion (Affirms store) body
+all_granted store [] t g f d u = tt
+all_granted store (a ∷ body) t g f d u =
     let p = both (is_ground a) (list_all is_ground body) t in
     let x = no_any is_false_builtin a body f in
-    let y = no_any (λ b. is_user_atom b && is_no (decided pairs (asking.True b))) a body d in
-    by_test (is_user_atom a && is_undecided (decided pairs (asking.True a)))
+    let y = no_any (λ b. is_user_atom b && is_no (decided store (asking.True b))) a body d in
+    by_test (is_user_atom a && is_undecided (decided store (asking.True a)))
     (λ h. let bad : Some a ≡ None = rw h at u in absurd (cc))
     (λ h. (
-      granted_by pairs a g.0 (builtin_of_atom a)
+      granted_by store a g.0 (builtin_of_atom a)
           (λ user.
-          let i : is_undecided (decided pairs (asking.True a)) ≡ false = rw user at h in
-          let j : is_no (decided pairs (asking.True a)) ≡ false = rw user at y.0 in
-          yes_of pairs a (decided pairs (asking.True a)) refl i j)
+          let i : is_undecided (decided store (asking.True a)) ≡ false = rw user at h in
+          let j : is_no (decided store (asking.True a)) ≡ false = rw user at y.0 in
+          yes_of store a (decided store (asking.True a)) refl i j)
           (λ builtin. true_of a g.0 builtin p.0 x.0),
-      all_granted pairs body p.1 g.1 x.1 y.1 (rw h at u),
+      all_granted store body p.1 g.1 x.1 y.1 (rw h at u),
     ))
 
 pub no_either : (a b : Bool) → (a || b) ≡ false → (a ≡ false) × (b ≡ false)
@@ -158,18 +157,18 @@ no_either true b e = absurd (cc)
 no_either false b e = (refl, e)
 
 -- the body of an instance without variables that isn't closed, and of which all is decided
-pub given_ground : (pairs : List Pair) (rule : Tuple) (goal : Term) → IsGround goal → is_instance goal rule.head ≡ true → is_closed pairs (instance_for rule goal) ≡ false
-    → list_all is_ground (instance_for rule goal).body ≡ true → first_undecided pairs (instance_for rule goal).body ≡ None → IsGiven pairs rule goal (instance_for rule goal).body
-given_ground pairs rule goal g m c t u =
+pub given_ground : (store : Store) (rule : Tuple) (goal : Term) → IsGround goal → is_instance goal rule.head ≡ true → is_closed store (instance_for rule goal) ≡ false
+    → list_all is_ground (instance_for rule goal).body ≡ true → first_undecided store (instance_for rule goal).body ≡ None → IsGiven store rule goal (instance_for rule goal).body
+given_ground store rule goal g m c t u =
     let body = (instance_for rule goal).body in
-    let p = no_either (list_any is_false_builtin body) (is_no (decided pairs (asking.Covers (instance_for rule goal))) || is_denied pairs body) c in
-    let q = no_either (is_no (decided pairs (asking.Covers (instance_for rule goal)))) (is_denied pairs body) p.1 in
-    let d : list_any (λ a. is_user_atom a && is_no (decided pairs (asking.True a))) body ≡ false = rw t at q.1 in
+    let p = no_either (list_any is_false_builtin body) (is_no (decided store (asking.Covers (instance_for rule goal))) || is_denied store body) c in
+    let q = no_either (is_no (decided store (asking.Covers (instance_for rule goal)))) (is_denied store body) p.1 in
+    let d : list_any (λ a. is_user_atom a && is_no (decided store (asking.True a))) body ≡ false = rw t at q.1 in
     let ground = all_ground body t in
     record {
       instance = instance_of_rule rule goal m;
       has_no_variable = tuple_ground goal body g (ground_list body ground);
-      granted = all_granted pairs body t ground p.0 d u;
+      granted = all_granted store body t ground p.0 d u;
     }
 
 -- the atoms of a body are instances of themselves
@@ -181,13 +180,13 @@ all_among : (ts : List Term) → AllByRecursion (λ a. SomeTerm (IsInstance a) t
 all_among [] = tt
 all_among (t ∷ ts) = (inl (variable, apply-variable t), all_map (λ a. SomeTerm (IsInstance a) ts) (λ a. SomeTerm (IsInstance a) (t ∷ ts)) (λ a h. inr h) ts (all_among ts))
 
-granted_value : (pairs : List Pair) (a : Term) (o : Option Builtin) → IsGround a → SaysYes pairs a → (IsSome o → IsTrueAtom a) → GrantsBy o pairs a
-granted_value pairs a None g y t = y
-granted_value pairs a (Some goal) g y t = ground_true a g (t refl)
+granted_value : (store : Store) (a : Term) (o : Option Builtin) → IsGround a → SaysYes store a → (IsSome o → IsTrueAtom a) → IsTrueBy (SaysYes store) o a
+granted_value store a None g y t = y
+granted_value store a (Some goal) g y t = ground_true a g (t refl)
 
-granted_values : (pairs : List Pair) (ts : List Term) → AllByRecursion IsGround ts → AllByRecursion (SaysYes pairs) ts → AllByRecursion IsTrueIfBuiltin ts → AllByRecursion (Grants pairs) ts
-granted_values pairs [] g y t = tt
-granted_values pairs (a ∷ ts) g y t = (granted_value pairs a (builtin_of_atom a) g.0 y.0 t.0, granted_values pairs ts g.1 y.1 t.1)
+granted_values : (store : Store) (ts : List Term) → AllByRecursion IsGround ts → AllByRecursion (SaysYes store) ts → AllByRecursion IsTrueIfBuiltin ts → AllByRecursion (Affirms store) ts
+granted_values store [] g y t = tt
+granted_values store (a ∷ ts) g y t = (granted_value store a (builtin_of_atom a) g.0 y.0 t.0, granted_values store ts g.1 y.1 t.1)
 
 -- what a tuple without variables in its head has the form of
 head_same : (u t : Tuple) → IsGround t.head → canonical_tuple u ≡ canonical_tuple t → u.head ≡ t.head
@@ -203,9 +202,9 @@ values_instance t values g =
     IsTupleInstance-trans (record { head = t.head; body = with_values t values }) (canonical_tuple t) t (s, rw head refl) (canonical_is_instance t)
 
 -- the body of an instance with values that were said of a tuple with its canonical form
-pub given_values : (pairs : List Pair) (rule : Tuple) (goal : Term) (u : Tuple) (values : List Term) → IsGround goal → is_instance goal rule.head ≡ true → canonical_tuple u ≡ canonical_tuple (instance_for rule goal)
-    → FitsBody u values → ((a : Term) → SomeTerm (IsInstance a) (with_values u values) → SaysYes pairs a) → IsGiven pairs rule goal (with_values (instance_for rule goal) values)
-given_values pairs rule goal u values g m e f says =
+pub given_values : (store : Store) (rule : Tuple) (goal : Term) (u : Tuple) (values : List Term) → IsGround goal → is_instance goal rule.head ≡ true → canonical_tuple u ≡ canonical_tuple (instance_for rule goal)
+    → FitsBody u values → ((a : Term) → SomeTerm (IsInstance a) (with_values u values) → SaysYes store a) → IsGiven store rule goal (with_values (instance_for rule goal) values)
+given_values store rule goal u values g m e f says =
     let t = instance_for rule goal in
     let same : with_values u values ≡ with_values t values = ap (λ x. body_with x values) e in
     let head = head_same u t g e in
@@ -213,8 +212,8 @@ given_values pairs rule goal u values g m e f says =
     record {
       instance = IsTupleInstance-trans (record { head = goal; body = with_values t values }) t rule (values_instance t values g) (instance_of_rule rule goal m);
       has_no_variable = tuple_ground goal (with_values t values) g ground;
-      granted = subst (AllByRecursion (Grants pairs)) same
-          (granted_values pairs (with_values u values) (list_ground (with_values u values) (ap (flat_map variables) same ∙ ground))
-          (all_map (λ a. SomeTerm (IsInstance a) (with_values u values)) (SaysYes pairs) says (with_values u values) (all_among (with_values u values)))
+      granted = subst (AllByRecursion (Affirms store)) same
+          (granted_values store (with_values u values) (list_ground (with_values u values) (ap (flat_map variables) same ∙ ground))
+          (all_map (λ a. SomeTerm (IsInstance a) (with_values u values)) (SaysYes store) says (with_values u values) (all_among (with_values u values)))
           f.builtins);
     }

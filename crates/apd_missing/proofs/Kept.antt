@@ -13,10 +13,9 @@ use Rattle.apd_answers.specs.declared.question.Question.{Question}
 use Rattle.apd_answers.specs.declared.question.Question.TheVariants as asking
 use Rattle.apd_answers.specs.declared.question.Reply.{Reply}
 use Rattle.apd_answers.specs.declared.question.Reply.TheVariants.{Yes, No}
-use Rattle.apd_answers.specs.declared.store.Pair.{Pair}
 use Rattle.apd_answers.specs.Findings.{instance_for}
 use Rattle.apd_answers.specs.Questions.{canonical_question}
-use Rattle.apd_answers.specs.Store.{decided, told, same_question, with_pair}
+use Rattle.apd_answers.specs.Store.{Store, decided, told, same_question, with_pair}
 use Rattle.apd_answers.proofs.Fitted.{decided-kept, added_decides}
 use Rattle.apd_answers.proofs.Tests.{both}
 use Rattle.apd_missing.specs.Missing.{is_false_builtin, is_no, is_denied_atom, is_denied, is_closed, is_open, first_open, is_undecided, first_undecided}
@@ -24,11 +23,11 @@ use Rattle.apd_missing.specs.Solving.{Keeps, ArePassed}
 use Rattle.apd_missing.proofs.Closed.{no_is}
 use Rattle.apd_missing.proofs.Tests.{by_test, either}
 
-pub keeps_added : (pairs : List Pair) (q : Question) (r : Reply) → Keeps pairs (with_pair pairs q r)
-keeps_added pairs q r = λ x y e. decided-kept pairs q r x y e
+pub keeps_added : (store : Store) (q : Question) (r : Reply) → Keeps store (with_pair store q r)
+keeps_added store q r = λ x y e. decided-kept store q r x y e
 
-no_kept : (pairs after : List Pair) → Keeps pairs after → (x : Question) → is_no (decided pairs x) ≡ true → is_no (decided after x) ≡ true
-no_kept pairs after k x e = ap is_no (k x No (no_is (decided pairs x) e))
+no_kept : (store after : Store) → Keeps store after → (x : Question) → is_no (decided store x) ≡ true → is_no (decided after x) ≡ true
+no_kept store after k x e = ap is_no (k x No (no_is (decided store x) e))
 
 or_right : (a b : Bool) → b ≡ true → (a || b) ≡ true
 or_right true b e = refl
@@ -45,19 +44,19 @@ any_kept p q h (t ∷ ts) e =
     (λ f. or_right (q t) (list_any q ts) (any_kept p q h ts (rw f at e)))
 
 -- a body that is closed
-pub closed_kept : (pairs after : List Pair) → Keeps pairs after → (t : Tuple) → is_closed pairs t ≡ true → is_closed after t ≡ true
-closed_kept pairs after k t e = elim (either (list_any is_false_builtin t.body) (is_no (decided pairs (asking.Covers t)) || is_denied pairs t.body) e) [
+pub closed_kept : (store after : Store) → Keeps store after → (t : Tuple) → is_closed store t ≡ true → is_closed after t ≡ true
+closed_kept store after k t e = elim (either (list_any is_false_builtin t.body) (is_no (decided store (asking.Covers t)) || is_denied store t.body) e) [
   | inl f ↦ rw f refl
   | inr f ↦ or_right (list_any is_false_builtin t.body) (is_no (decided after (asking.Covers t)) || is_denied after t.body)
-      (elim (either (is_no (decided pairs (asking.Covers t))) (is_denied pairs t.body) f) [
-        | inl g ↦ let h = no_kept pairs after k (asking.Covers t) g in rw h refl
+      (elim (either (is_no (decided store (asking.Covers t))) (is_denied store t.body) f) [
+        | inl g ↦ let h = no_kept store after k (asking.Covers t) g in rw h refl
         | inr g ↦ or_right (is_no (decided after (asking.Covers t))) (is_denied after t.body)
-            (let w = both (list_all is_ground t.body) (list_any (is_denied_atom pairs) t.body) g in
+            (let w = both (list_all is_ground t.body) (list_any (is_denied_atom store) t.body) g in
             and_true (list_all is_ground t.body) (list_any (is_denied_atom after) t.body) w.0
-            (any_kept (is_denied_atom pairs) (is_denied_atom after)
+            (any_kept (is_denied_atom store) (is_denied_atom after)
             (λ a d.
-            let v = both (is_user_atom a) (is_no (decided pairs (asking.True a))) d in
-            and_true (is_user_atom a) (is_no (decided after (asking.True a))) v.0 (no_kept pairs after k (asking.True a) v.1))
+            let v = both (is_user_atom a) (is_no (decided store (asking.True a))) d in
+            and_true (is_user_atom a) (is_no (decided after (asking.True a))) v.0 (no_kept store after k (asking.True a) v.1))
             t.body w.1))
       ])
 ]
@@ -66,44 +65,44 @@ not_false : (b : Bool) → not b ≡ false → b ≡ true
 not_false true e = refl
 not_false false e = absurd (cc)
 
-pub passed_kept : (pairs after : List Pair) → Keeps pairs after → (goal : Term) (c : Tuple) → is_open pairs goal c ≡ false → is_open after goal c ≡ false
-passed_kept pairs after k goal c e =
+pub passed_kept : (store after : Store) → Keeps store after → (goal : Term) (c : Tuple) → is_open store goal c ≡ false → is_open after goal c ≡ false
+passed_kept store after k goal c e =
     by_test (is_instance goal c.head)
     (λ m.
-    let n : not (is_closed pairs (instance_for c goal)) ≡ false = rw m at e in
-    let h = closed_kept pairs after k (instance_for c goal) (not_false (is_closed pairs (instance_for c goal)) n) in
+    let n : not (is_closed store (instance_for c goal)) ≡ false = rw m at e in
+    let h = closed_kept store after k (instance_for c goal) (not_false (is_closed store (instance_for c goal)) n) in
     rw (m, h) refl)
     (λ m. rw m refl)
 
-pub all_passed_kept : (pairs after : List Pair) → Keeps pairs after → (goal : Term) (cs : List Tuple) → ArePassed pairs goal cs → ArePassed after goal cs
-all_passed_kept pairs after k goal [] h = tt
-all_passed_kept pairs after k goal (c ∷ cs) h = (passed_kept pairs after k goal c h.0, all_passed_kept pairs after k goal cs h.1)
+pub all_passed_kept : (store after : Store) → Keeps store after → (goal : Term) (cs : List Tuple) → ArePassed store goal cs → ArePassed after goal cs
+all_passed_kept store after k goal [] h = tt
+all_passed_kept store after k goal (c ∷ cs) h = (passed_kept store after k goal c h.0, all_passed_kept store after k goal cs h.1)
 
 -- a body that is closed isn't open
-pub closed_passed : (pairs : List Pair) (goal : Term) (c : Tuple) → is_closed pairs (instance_for c goal) ≡ true → is_open pairs goal c ≡ false
-closed_passed pairs goal c e = by (is_instance goal c.head)
+pub closed_passed : (store : Store) (goal : Term) (c : Tuple) → is_closed store (instance_for c goal) ≡ true → is_open store goal c ≡ false
+closed_passed store goal c e = by (is_instance goal c.head)
   where
-    by : (b : Bool) → (b && not (is_closed pairs (instance_for c goal))) ≡ false
+    by : (b : Bool) → (b && not (is_closed store (instance_for c goal))) ≡ false
     by true = ap not e
     by false = refl
 
 -- the first open clause is at the place up to which all are passed
-pub first_open-at : (pairs : List Pair) (goal : Term) (n : ℕ) (cs : List Tuple) (i : ℕ) (c : Tuple) → ArePassed pairs goal (take i cs) → slice_get cs i ≡ Some c → is_open pairs goal c ≡ true
-    → first_open pairs goal n cs ≡ Some (record { clause = n + i; instance = instance_for c goal })
-first_open-at pairs goal n [] i c h e o = absurd (cc)
-first_open-at pairs goal n (x ∷ xs) zero c h e o =
+pub first_open-at : (store : Store) (goal : Term) (n : ℕ) (cs : List Tuple) (i : ℕ) (c : Tuple) → ArePassed store goal (take i cs) → slice_get cs i ≡ Some c → is_open store goal c ≡ true
+    → first_open store goal n cs ≡ Some (record { clause = n + i; instance = instance_for c goal })
+first_open-at store goal n [] i c h e o = absurd (cc)
+first_open-at store goal n (x ∷ xs) zero c h e o =
     let same : x ≡ c = cc in
     let m : n ≡ n + 0 = omega arith in
-    subst (λ y. first_open pairs goal n (y ∷ xs) ≡ Some (record { clause = n + 0; instance = instance_for c goal })) (sym same)
+    subst (λ y. first_open store goal n (y ∷ xs) ≡ Some (record { clause = n + 0; instance = instance_for c goal })) (sym same)
     (rw o (ap (λ k. Some (record { clause = k; instance = instance_for c goal })) m))
-first_open-at pairs goal n (x ∷ xs) (suc i) c h e o =
+first_open-at store goal n (x ∷ xs) (suc i) c h e o =
     let m : n + 1 + i ≡ n + suc i = omega arith in
     let p = h.0 in
-    rw p (first_open-at pairs goal (n + 1) xs i c h.1 e o ∙ ap (λ k. Some (record { clause = k; instance = instance_for c goal })) m)
+    rw p (first_open-at store goal (n + 1) xs i c h.1 e o ∙ ap (λ k. Some (record { clause = k; instance = instance_for c goal })) m)
 
-pub first_open-none : (pairs : List Pair) (goal : Term) (n : ℕ) (cs : List Tuple) → ArePassed pairs goal cs → first_open pairs goal n cs ≡ None
-first_open-none pairs goal n [] h = refl
-first_open-none pairs goal n (c ∷ cs) h = let p = h.0 in rw p (first_open-none pairs goal (n + 1) cs h.1)
+pub first_open-none : (store : Store) (goal : Term) (n : ℕ) (cs : List Tuple) → ArePassed store goal cs → first_open store goal n cs ≡ None
+first_open-none store goal n [] h = refl
+first_open-none store goal n (c ∷ cs) h = let p = h.0 in rw p (first_open-none store goal (n + 1) cs h.1)
 
 all_append : {X : Type 0} (P : X → Type 0) (xs ys : List X) → AllByRecursion P xs → AllByRecursion P ys → AllByRecursion P (xs ++ ys)
 all_append P [] ys a b = b
@@ -114,10 +113,10 @@ get_is [] i x d e = absurd (cc)
 get_is (y ∷ ys) zero x d e = (omega arith, cc)
 get_is (y ∷ ys) (suc i) x d e = let h = get_is ys i x d e in let l = h.0 in (omega (arith, l), h.1)
 
-pub passed_more : (pairs : List Pair) (goal : Term) (cs : List Tuple) (i : ℕ) (c : Tuple) → ArePassed pairs goal (take i cs) → slice_get cs i ≡ Some c → is_open pairs goal c ≡ false → ArePassed pairs goal (take (i + 1) cs)
-passed_more pairs goal cs i c h e o =
+pub passed_more : (store : Store) (goal : Term) (cs : List Tuple) (i : ℕ) (c : Tuple) → ArePassed store goal (take i cs) → slice_get cs i ≡ Some c → is_open store goal c ≡ false → ArePassed store goal (take (i + 1) cs)
+passed_more store goal cs i c h e o =
     let g = get_is cs i c c e in
-    subst (ArePassed pairs goal) (sym (take_more cs i c g.0 ∙ ap (λ x. take i cs ++ x ∷ []) g.1)) (all_append (λ (x : Tuple). is_open pairs goal x ≡ false) (take i cs) (c ∷ []) h (o, tt))
+    subst (ArePassed store goal) (sym (take_more cs i c g.0 ∙ ap (λ x. take i cs ++ x ∷ []) g.1)) (all_append (λ (x : Tuple). is_open store goal x ≡ false) (take i cs) (c ∷ []) h (o, tt))
 
 -- Yes to an atom that wasn't decided says no to nothing
 not_no : (b : Bool) → is_no (then_some b Yes) ≡ false
@@ -129,65 +128,65 @@ yes_tells a (asking.True b) = not_no (is_instance b a)
 yes_tells a (asking.Covers t) = not_no (same_question (canonical_question (asking.True a)) (canonical_question (asking.Covers t)))
 yes_tells a (asking.Below y z) = not_no (same_question (canonical_question (asking.True a)) (canonical_question (asking.Below y z)))
 
-no_by_yes : (pairs : List Pair) (a : Term) (x : Question) → decided pairs (asking.True a) ≡ None → is_no (decided (with_pair pairs (asking.True a) Yes) x) ≡ is_no (decided pairs x)
-no_by_yes pairs a x n = by (decided pairs x) refl
+no_by_yes : (store : Store) (a : Term) (x : Question) → decided store (asking.True a) ≡ None → is_no (decided (with_pair store (asking.True a) Yes) x) ≡ is_no (decided store x)
+no_by_yes store a x n = by (decided store x) refl
   where
-    by : (o : Option Reply) → decided pairs x ≡ o → is_no (decided (with_pair pairs (asking.True a) Yes) x) ≡ is_no (decided pairs x)
-    by (Some y) e = ap is_no (decided-kept pairs (asking.True a) Yes x y e ∙ sym e)
-    by None e = ap is_no (added_decides pairs (asking.True a) Yes x n tt e) ∙ yes_tells a x ∙ sym (ap is_no e)
+    by : (o : Option Reply) → decided store x ≡ o → is_no (decided (with_pair store (asking.True a) Yes) x) ≡ is_no (decided store x)
+    by (Some y) e = ap is_no (decided-kept store (asking.True a) Yes x y e ∙ sym e)
+    by None e = ap is_no (added_decides store (asking.True a) Yes x n tt tt e) ∙ yes_tells a x ∙ sym (ap is_no e)
 
 any_same : (p q : Term → Bool) → ((t : Term) → p t ≡ q t) → (ts : List Term) → list_any p ts ≡ list_any q ts
 any_same p q h [] = refl
 any_same p q h (t ∷ ts) = rw (h t, any_same p q h ts) refl
 
-closed_same : (pairs after : List Pair) → ((x : Question) → is_no (decided after x) ≡ is_no (decided pairs x)) → (t : Tuple) → is_closed after t ≡ is_closed pairs t
-closed_same pairs after h t =
-    rw (h (asking.Covers t), any_same (is_denied_atom after) (is_denied_atom pairs) (λ a. ap (λ b. is_user_atom a && b) (h (asking.True a))) t.body) refl
+closed_same : (store after : Store) → ((x : Question) → is_no (decided after x) ≡ is_no (decided store x)) → (t : Tuple) → is_closed after t ≡ is_closed store t
+closed_same store after h t =
+    rw (h (asking.Covers t), any_same (is_denied_atom after) (is_denied_atom store) (λ a. ap (λ b. is_user_atom a && b) (h (asking.True a))) t.body) refl
 
-first_open-same : (pairs after : List Pair) → ((x : Question) → is_no (decided after x) ≡ is_no (decided pairs x)) → (goal : Term) (n : ℕ) (cs : List Tuple) → first_open after goal n cs ≡ first_open pairs goal n cs
-first_open-same pairs after h goal n [] = refl
-first_open-same pairs after h goal n (c ∷ cs) = rw (closed_same pairs after h (instance_for c goal), first_open-same pairs after h goal (n + 1) cs) refl
+first_open-same : (store after : Store) → ((x : Question) → is_no (decided after x) ≡ is_no (decided store x)) → (goal : Term) (n : ℕ) (cs : List Tuple) → first_open after goal n cs ≡ first_open store goal n cs
+first_open-same store after h goal n [] = refl
+first_open-same store after h goal n (c ∷ cs) = rw (closed_same store after h (instance_for c goal), first_open-same store after h goal (n + 1) cs) refl
 
-pub open_by_yes : (pairs : List Pair) (a goal : Term) (cs : List Tuple) → decided pairs (asking.True a) ≡ None → first_open (with_pair pairs (asking.True a) Yes) goal 1 cs ≡ first_open pairs goal 1 cs
-open_by_yes pairs a goal cs n = first_open-same pairs (with_pair pairs (asking.True a) Yes) (λ x. no_by_yes pairs a x n) goal 1 cs
+pub open_by_yes : (store : Store) (a goal : Term) (cs : List Tuple) → decided store (asking.True a) ≡ None → first_open (with_pair store (asking.True a) Yes) goal 1 cs ≡ first_open store goal 1 cs
+open_by_yes store a goal cs n = first_open-same store (with_pair store (asking.True a) Yes) (λ x. no_by_yes store a x n) goal 1 cs
 
 -- atoms that are decided
-abbrev pub AreDecided : List Pair → List Term → Type 0
-AreDecided pairs atoms = AllByRecursion (λ a. (is_user_atom a && is_undecided (decided pairs (asking.True a))) ≡ false) atoms
+abbrev pub AreDecided : Store → List Term → Type 0
+AreDecided store atoms = AllByRecursion (λ a. (is_user_atom a && is_undecided (decided store (asking.True a))) ≡ false) atoms
 
-undecided_kept : (pairs after : List Pair) → Keeps pairs after → (a : Term) → (is_user_atom a && is_undecided (decided pairs (asking.True a))) ≡ false → (is_user_atom a && is_undecided (decided after (asking.True a))) ≡ false
-undecided_kept pairs after k a e = by_test (is_user_atom a) (λ u. rw u (by (decided pairs (asking.True a)) refl (rw u at e))) (λ u. rw u refl)
+undecided_kept : (store after : Store) → Keeps store after → (a : Term) → (is_user_atom a && is_undecided (decided store (asking.True a))) ≡ false → (is_user_atom a && is_undecided (decided after (asking.True a))) ≡ false
+undecided_kept store after k a e = by_test (is_user_atom a) (λ u. rw u (by (decided store (asking.True a)) refl (rw u at e))) (λ u. rw u refl)
   where
-    by : (o : Option Reply) → decided pairs (asking.True a) ≡ o → is_undecided (decided pairs (asking.True a)) ≡ false → is_undecided (decided after (asking.True a)) ≡ false
+    by : (o : Option Reply) → decided store (asking.True a) ≡ o → is_undecided (decided store (asking.True a)) ≡ false → is_undecided (decided after (asking.True a)) ≡ false
     by None d f = let bad : true ≡ false = ap is_undecided (sym d) ∙ f in absurd (cc)
     by (Some y) d f = ap is_undecided (k (asking.True a) y d)
 
-pub decided_all_kept : (pairs after : List Pair) → Keeps pairs after → (atoms : List Term) → AreDecided pairs atoms → AreDecided after atoms
-decided_all_kept pairs after k [] h = tt
-decided_all_kept pairs after k (a ∷ atoms) h = (undecided_kept pairs after k a h.0, decided_all_kept pairs after k atoms h.1)
+pub decided_all_kept : (store after : Store) → Keeps store after → (atoms : List Term) → AreDecided store atoms → AreDecided after atoms
+decided_all_kept store after k [] h = tt
+decided_all_kept store after k (a ∷ atoms) h = (undecided_kept store after k a h.0, decided_all_kept store after k atoms h.1)
 
-pub decided_next : (pairs : List Pair) (atoms : List Term) (i : ℕ) (a : Term) → i < length atoms → a ≡ get_or atoms i a → (is_user_atom a && is_undecided (decided pairs (asking.True a))) ≡ false → AreDecided pairs (take i atoms) → AreDecided pairs (take (i + 1) atoms)
-decided_next pairs atoms i a l e d h =
-    subst (AreDecided pairs) (sym (take_more atoms i a l ∙ ap (λ x. take i atoms ++ x ∷ []) (sym e)))
-    (all_append (λ b. (is_user_atom b && is_undecided (decided pairs (asking.True b))) ≡ false) (take i atoms) (a ∷ []) h (d, tt))
+pub decided_next : (store : Store) (atoms : List Term) (i : ℕ) (a : Term) → i < length atoms → a ≡ get_or atoms i a → (is_user_atom a && is_undecided (decided store (asking.True a))) ≡ false → AreDecided store (take i atoms) → AreDecided store (take (i + 1) atoms)
+decided_next store atoms i a l e d h =
+    subst (AreDecided store) (sym (take_more atoms i a l ∙ ap (λ x. take i atoms ++ x ∷ []) (sym e)))
+    (all_append (λ b. (is_user_atom b && is_undecided (decided store (asking.True b))) ≡ false) (take i atoms) (a ∷ []) h (d, tt))
 
-first_undecided-drop : (pairs : List Pair) (atoms : List Term) (i : ℕ) → AreDecided pairs (take i atoms) → first_undecided pairs atoms ≡ first_undecided pairs (drop i atoms)
-first_undecided-drop pairs [] zero h = refl
-first_undecided-drop pairs [] (suc i) h = refl
-first_undecided-drop pairs (a ∷ atoms) zero h = refl
-first_undecided-drop pairs (a ∷ atoms) (suc i) h = let p = h.0 in rw p (first_undecided-drop pairs atoms i h.1)
+first_undecided-drop : (store : Store) (atoms : List Term) (i : ℕ) → AreDecided store (take i atoms) → first_undecided store atoms ≡ first_undecided store (drop i atoms)
+first_undecided-drop store [] zero h = refl
+first_undecided-drop store [] (suc i) h = refl
+first_undecided-drop store (a ∷ atoms) zero h = refl
+first_undecided-drop store (a ∷ atoms) (suc i) h = let p = h.0 in rw p (first_undecided-drop store atoms i h.1)
 
-pub first_undecided-at : (pairs : List Pair) (atoms : List Term) (i : ℕ) (a : Term) → i < length atoms → a ≡ get_or atoms i a → (is_user_atom a && is_undecided (decided pairs (asking.True a))) ≡ true → AreDecided pairs (take i atoms)
-    → first_undecided pairs atoms ≡ Some a
-first_undecided-at pairs atoms i a l e d h =
-    first_undecided-drop pairs atoms i h ∙ ap (first_undecided pairs) (drop_more atoms i a l) ∙ ap (λ x. first_undecided pairs (x ∷ drop (i + 1) atoms)) (sym e) ∙ here
+pub first_undecided-at : (store : Store) (atoms : List Term) (i : ℕ) (a : Term) → i < length atoms → a ≡ get_or atoms i a → (is_user_atom a && is_undecided (decided store (asking.True a))) ≡ true → AreDecided store (take i atoms)
+    → first_undecided store atoms ≡ Some a
+first_undecided-at store atoms i a l e d h =
+    first_undecided-drop store atoms i h ∙ ap (first_undecided store) (drop_more atoms i a l) ∙ ap (λ x. first_undecided store (x ∷ drop (i + 1) atoms)) (sym e) ∙ here
   where
-    here : first_undecided pairs (a ∷ drop (i + 1) atoms) ≡ Some a
+    here : first_undecided store (a ∷ drop (i + 1) atoms) ≡ Some a
     here = rw d refl
 
-pub first_undecided-none : (pairs : List Pair) (atoms : List Term) → AreDecided pairs atoms → first_undecided pairs atoms ≡ None
-first_undecided-none pairs [] h = refl
-first_undecided-none pairs (a ∷ atoms) h = let p = h.0 in rw p (first_undecided-none pairs atoms h.1)
+pub first_undecided-none : (store : Store) (atoms : List Term) → AreDecided store atoms → first_undecided store atoms ≡ None
+first_undecided-none store [] h = refl
+first_undecided-none store (a ∷ atoms) h = let p = h.0 in rw p (first_undecided-none store atoms h.1)
 
 -- No to an atom closes a body without variables that it stands in
 any_at : (p : Term → Bool) (ts : List Term) (i : ℕ) (t : Term) → i < length ts → t ≡ get_or ts i t → p t ≡ true → list_any p ts ≡ true
@@ -195,15 +194,15 @@ any_at p [] i t l e h = absurd (omega (arith, l))
 any_at p (x ∷ xs) zero t l e h = let k : p x ≡ true = ap p (sym e) ∙ h in rw k refl
 any_at p (x ∷ xs) (suc i) t l e h = or_right (p x) (list_any p xs) (any_at p xs i t (omega (arith, l)) e h)
 
-pub closed_by_no : (pairs : List Pair) (t : Tuple) (i : ℕ) (a : Term) → list_all is_ground t.body ≡ true → i < length t.body → a ≡ get_or t.body i a → is_user_atom a ≡ true → decided pairs (asking.True a) ≡ Some No → is_closed pairs t ≡ true
-closed_by_no pairs t i a g l e u d =
-    or_right (list_any is_false_builtin t.body) (is_no (decided pairs (asking.Covers t)) || is_denied pairs t.body)
-    (or_right (is_no (decided pairs (asking.Covers t))) (is_denied pairs t.body)
-    (and_true (list_all is_ground t.body) (list_any (is_denied_atom pairs) t.body) g
-    (any_at (is_denied_atom pairs) t.body i a l e (and_true (is_user_atom a) (is_no (decided pairs (asking.True a))) u (ap is_no d)))))
+pub closed_by_no : (store : Store) (t : Tuple) (i : ℕ) (a : Term) → list_all is_ground t.body ≡ true → i < length t.body → a ≡ get_or t.body i a → is_user_atom a ≡ true → decided store (asking.True a) ≡ Some No → is_closed store t ≡ true
+closed_by_no store t i a g l e u d =
+    or_right (list_any is_false_builtin t.body) (is_no (decided store (asking.Covers t)) || is_denied store t.body)
+    (or_right (is_no (decided store (asking.Covers t))) (is_denied store t.body)
+    (and_true (list_all is_ground t.body) (list_any (is_denied_atom store) t.body) g
+    (any_at (is_denied_atom store) t.body i a l e (and_true (is_user_atom a) (is_no (decided store (asking.True a))) u (ap is_no d)))))
 
 -- and No to the whole of it
-pub closed_by_covers : (pairs : List Pair) (t : Tuple) → decided pairs (asking.Covers t) ≡ Some No → is_closed pairs t ≡ true
-closed_by_covers pairs t d =
-    let h : is_no (decided pairs (asking.Covers t)) ≡ true = ap is_no d in
-    or_right (list_any is_false_builtin t.body) (is_no (decided pairs (asking.Covers t)) || is_denied pairs t.body) (rw h refl)
+pub closed_by_covers : (store : Store) (t : Tuple) → decided store (asking.Covers t) ≡ Some No → is_closed store t ≡ true
+closed_by_covers store t d =
+    let h : is_no (decided store (asking.Covers t)) ≡ true = ap is_no d in
+    or_right (list_any is_false_builtin t.body) (is_no (decided store (asking.Covers t)) || is_denied store t.body) (rw h refl)

@@ -17,16 +17,16 @@ use Rattle.apd_record.specs.Full.{IsFull}
 use Rattle.apd_answers.specs.declared.question.Question.{Question}
 use Rattle.apd_answers.specs.declared.question.Question.TheVariants as asking
 use Rattle.apd_answers.specs.declared.question.Reply.{Reply}
-use Rattle.apd_answers.specs.declared.question.Reply.TheVariants.{Yes, No, Values}
+use Rattle.apd_answers.specs.declared.question.Reply.TheVariants.{Yes, No, Values, Unknown}
 use Rattle.apd_answers.specs.declared.question.Asked.{Asked}
 use Rattle.apd_answers.specs.declared.finding.Finding.{Finding}
 use Rattle.apd_answers.specs.declared.finding.Finding.TheVariants.{Uncovered}
-use Rattle.apd_answers.specs.declared.store.Pair.{Pair}
 use Rattle.apd_answers.specs.Dialogue.{Turn, asks, goes, ends, next_turn}
 use Rattle.apd_answers.specs.Falling.{FallsWhere}
 use Rattle.apd_answers.specs.Fitting.{AllFit}
 use Rattle.apd_answers.specs.Questions.{Fits, FitsAsked, FitsBody, body_with, with_values, canonical_question}
-use Rattle.apd_answers.specs.Store.{same_question, decided, with_pair, SaysYes, SomePair, SomeTerm, TellsYes}
+use Rattle.apd_answers.specs.declared.store.Pair.{Pair}
+use Rattle.apd_answers.specs.Store.{Store, decided_in, SomePairIn, same_question, decided, with_pair, SaysYes, SomePair, SomeTerm, TellsYes}
 use Rattle.apd_answers.proofs.Decided.{some_pair-added, some_pair-kept}
 use Rattle.apd_answers.proofs.Fitted.{fit_added, decided-covers}
 use Rattle.apd_answers.proofs.Pursued.{known-decided, known-asks, known-goes, known-ends}
@@ -40,29 +40,29 @@ use Rattle.apd_missing.proofs.Tests.{by_test}
 use Rattle.apd_missing.proofs.Walk.{next_followed}
 
 -- the cases of a turn
-pub by_turn : (R : Recorded) (pairs : List Pair) (s : Unanswered) (C : Turn Unanswered Finding → Type 0) (o : Option Looked)
+pub by_turn : (R : Recorded) (store : Store) (s : Unanswered) (C : Turn Unanswered Finding → Type 0) (o : Option Looked)
     → (o ≡ None → C (ends (Uncovered s.goal)))
-    → ((l : Looked) → o ≡ Some l → list_all is_ground l.instance.body ≡ true → (a : Term) → first_undecided pairs l.instance.body ≡ Some a → C (asks (alone (asking.True a)) (λ reply. s)))
-    → ((l : Looked) → o ≡ Some l → list_all is_ground l.instance.body ≡ true → first_undecided pairs l.instance.body ≡ None → C (goes (state_after s (followed R s l.clause l.instance.body))))
+    → ((l : Looked) → o ≡ Some l → list_all is_ground l.instance.body ≡ true → (a : Term) → first_undecided store l.instance.body ≡ Some a → C (asks (alone (asking.True a)) (λ reply. s)))
+    → ((l : Looked) → o ≡ Some l → list_all is_ground l.instance.body ≡ true → first_undecided store l.instance.body ≡ None → C (goes (state_after s (followed R s l.clause l.instance.body))))
     → ((l : Looked) → o ≡ Some l → list_all is_ground l.instance.body ≡ false → C (asks (covers l.instance) (after_values R s l)))
-    → C (turn_of R pairs s o)
-by_turn R pairs s C None ended atom follow body = ended refl
-by_turn R pairs s C (Some l) ended atom follow body =
+    → C (turn_of R store s o)
+by_turn R store s C None ended atom follow body = ended refl
+by_turn R store s C (Some l) ended atom follow body =
     by_test (list_all is_ground l.instance.body)
-    (λ t. rw t (by t (first_undecided pairs l.instance.body) refl))
+    (λ t. rw t (by t (first_undecided store l.instance.body) refl))
     (λ t. rw t (body l refl t))
   where
-    by : list_all is_ground l.instance.body ≡ true → (u : Option Term) → first_undecided pairs l.instance.body ≡ u → C (turn_of_ground R s l u)
+    by : list_all is_ground l.instance.body ≡ true → (u : Option Term) → first_undecided store l.instance.body ≡ u → C (turn_of_ground R s l u)
     by t None e = follow l refl t e
     by t (Some a) e = atom l refl t a e
 
 -- an atom that isn't decided
-undecided-is : (pairs : List Pair) (body : List Term) (a : Term) → first_undecided pairs body ≡ Some a → is_undecided (decided pairs (asking.True a)) ≡ true
-undecided-is pairs [] a e = absurd (cc)
-undecided-is pairs (b ∷ body) a e =
-    by_test (is_user_atom b && is_undecided (decided pairs (asking.True b)))
-    (λ t. let k : Some b ≡ Some a = rw t at e in let same : b ≡ a = cc in subst (λ x. is_undecided (decided pairs (asking.True x)) ≡ true) same (both (is_user_atom b) (is_undecided (decided pairs (asking.True b))) t).1)
-    (λ t. undecided-is pairs body a (rw t at e))
+undecided-is : (store : Store) (body : List Term) (a : Term) → first_undecided store body ≡ Some a → is_undecided (decided store (asking.True a)) ≡ true
+undecided-is store [] a e = absurd (cc)
+undecided-is store (b ∷ body) a e =
+    by_test (is_user_atom b && is_undecided (decided store (asking.True b)))
+    (λ t. let k : Some b ≡ Some a = rw t at e in let same : b ≡ a = cc in subst (λ x. is_undecided (decided store (asking.True x)) ≡ true) same (both (is_user_atom b) (is_undecided (decided store (asking.True b))) t).1)
+    (λ t. undecided-is store body a (rw t at e))
 
 -- a box that is there
 there_within : {X : Type 0} (xs : List X) (i : ℕ) (x : X) → slice_get xs i ≡ Some x → i < length xs
@@ -78,9 +78,9 @@ pub lower_bound : (R : Recorded) (s t : Unanswered) (m : IsMissing R t.box_no t.
 lower_bound R s t m l = let h = box_within R t.box_no m.row m.there in omega (arith, l, h)
 
 -- the state after
-pub after_next : (R : Recorded) (pairs : List Pair) (s : Unanswered) (next : Option Unanswered) → HasNext R pairs s next → IsKnown R pairs (state_after s next) × (length R.boxes - (state_after s next).box_no < length R.boxes - s.box_no)
-after_next R pairs s next h =
-    subst (λ (o : Option Unanswered). IsKnown R pairs (state_after s o) × (length R.boxes - (state_after s o).box_no < length R.boxes - s.box_no)) (sym h.is)
+pub after_next : (R : Recorded) (store : Store) (s : Unanswered) (next : Option Unanswered) → HasNext R store s next → IsKnown R store (state_after s next) × (length R.boxes - (state_after s next).box_no < length R.boxes - s.box_no)
+after_next R store s next h =
+    subst (λ (o : Option Unanswered). IsKnown R store (state_after s o) × (length R.boxes - (state_after s o).box_no < length R.boxes - s.box_no)) (sym h.is)
     (h.known, lower_bound R s h.goal h.known.missing h.later)
 
 -- values that were said
@@ -89,163 +89,171 @@ covers_form a t values (asking.True b) e h = absurd (cc)
 covers_form a t values (asking.Below y z) e h = absurd (cc)
 covers_form a t values (asking.Covers u) e h = let same : canonical_tuple t ≡ canonical_tuple u = cc in subst (λ c. SomeTerm (IsInstance a) (body_with c values)) same h
 
-pub says_added : (pairs : List Pair) (t : Tuple) (values : List Term) (a : Term) → SomeTerm (IsInstance a) (with_values t values) → SaysYes (with_pair pairs (asking.Covers t) (Values values)) a
-says_added pairs t values a h = some_pair-added (TellsYes a) pairs (asking.Covers t) (Values values) (λ x e. covers_form a t values x e h)
+pub says_added : (store : Store) (t : Tuple) (values : List Term) (a : Term) → SomeTerm (IsInstance a) (with_values t values) → SaysYes (with_pair store (asking.Covers t) (Values values)) a
+says_added store t values a h = some_pair-added (TellsYes a) store (asking.Covers t) (Values values) (λ x e. covers_form a t values x e h)
 
-some_map : (P Q : Question → Reply → Type 0) → ((q : Question) (r : Reply) → P q r → Q q r) → (pairs : List Pair) → SomePair P pairs → SomePair Q pairs
-some_map P Q f [] o = absurd o
-some_map P Q f (p ∷ pairs) (inl o) = inl (f p.question p.reply o)
-some_map P Q f (p ∷ pairs) (inr o) = inr (some_map P Q f pairs o)
+some_map_in : (P Q : Question → Reply → Type 0) → ((q : Question) (r : Reply) → P q r → Q q r) → (pairs : List Pair) → SomePairIn P pairs → SomePairIn Q pairs
+some_map_in P Q f [] o = absurd o
+some_map_in P Q f (p ∷ pairs) (inl o) = inl (f p.question p.reply o)
+some_map_in P Q f (p ∷ pairs) (inr o) = inr (some_map_in P Q f pairs o)
 
-says_decided : (pairs : List Pair) (u : Tuple) (values : List Term) (a : Term) → SomePair (λ q y. (q ≡ asking.Covers u) × (y ≡ Values values)) pairs → SomeTerm (IsInstance a) (with_values u values) → SaysYes pairs a
-says_decided pairs u values a o h =
+some_map : (P Q : Question → Reply → Type 0) → ((q : Question) (r : Reply) → P q r → Q q r) → (store : Store) → SomePair P store → SomePair Q store
+some_map P Q f store o = some_map_in P Q f store.pairs o
+
+says_decided : (store : Store) (u : Tuple) (values : List Term) (a : Term) → SomePair (λ q y. (q ≡ asking.Covers u) × (y ≡ Values values)) store → SomeTerm (IsInstance a) (with_values u values) → SaysYes store a
+says_decided store u values a o h =
     some_map (λ q y. (q ≡ asking.Covers u) × (y ≡ Values values)) (TellsYes a)
-    (λ q y w. subst (λ z. TellsYes a z y) (sym w.0) (subst (TellsYes a (asking.Covers u)) (sym w.1) h)) pairs o
+    (λ q y w. subst (λ z. TellsYes a z y) (sym w.0) (subst (TellsYes a (asking.Covers u)) (sym w.1) h)) store o
 
 -- a canonical form is its own, and the store decides as much of it
 canonical_again : (t : Tuple) → canonical_tuple (canonical_tuple t) ≡ canonical_tuple t
 canonical_again t = AreTupleVariants_from_instances (canonical_tuple t) t (IsTupleInstance-canonical t) (canonical_is_instance t)
 
-pub decided_canonical : (pairs : List Pair) (t : Tuple) → decided pairs (covers t).question ≡ decided pairs (asking.Covers t)
-decided_canonical [] t = refl
-decided_canonical (p ∷ pairs) t =
-    ap (λ c. option_or (then_some (same_question (canonical_question p.question) (asking.Covers c)) p.reply) (decided pairs (covers t).question)) (canonical_again t)
-    ∙ ap (λ o. option_or (then_some (same_question (canonical_question p.question) (asking.Covers (canonical_tuple t))) p.reply) o) (decided_canonical pairs t)
+decided_canonical_in : (pairs : List Pair) (t : Tuple) → decided_in pairs (covers t).question ≡ decided_in pairs (asking.Covers t)
+decided_canonical_in [] t = refl
+decided_canonical_in (p ∷ pairs) t =
+    ap (λ c. option_or (then_some (same_question (canonical_question p.question) (asking.Covers c)) p.reply) (decided_in pairs (covers t).question)) (canonical_again t)
+    ∙ ap (λ o. option_or (then_some (same_question (canonical_question p.question) (asking.Covers (canonical_tuple t))) p.reply) o) (decided_canonical_in pairs t)
+
+pub decided_canonical : (store : Store) (t : Tuple) → decided store (covers t).question ≡ decided store (asking.Covers t)
+decided_canonical store t = decided_canonical_in store.pairs t
 
 -- with one more pair as much is known
-pub known_kept : (R : Recorded) (pairs : List Pair) (s : Unanswered) (q : Question) (r : Reply) → IsKnown R pairs s → Fits q r → IsKnown R (with_pair pairs q r) s
-known_kept R pairs s q r k f = record {
+pub known_kept : (R : Recorded) (store : Store) (s : Unanswered) (q : Question) (r : Reply) → IsKnown R store s → Fits q r → IsKnown R (with_pair store q r) s
+known_kept R store s q r k f = record {
   missing = k.missing;
-  says = some_pair-kept (TellsYes s.goal) pairs q r k.says;
-  fit = fit_added pairs q r k.fit f;
+  says = some_pair-kept (TellsYes s.goal) store q r k.says;
+  fit = fit_added store q r k.fit f;
 }
 
 module _ (P : List Tuple) (R : Recorded) (sound : IsSound P R) (full : IsFull P R) where
   -- the goal after a body that the replies make true
-  pub next_ground : (pairs : List Pair) (s : Unanswered) (l : Looked) → IsKnown R pairs s → first_open pairs s.goal 1 P ≡ Some l → list_all is_ground l.instance.body ≡ true → first_undecided pairs l.instance.body ≡ None
-      → HasNext R pairs s (followed R s l.clause l.instance.body)
-  next_ground pairs s l known o t u =
-      let k = looked pairs s.goal 1 P l o in
-      let g = given_ground pairs k.rule s.goal known.missing.has_no_variable k.matches k.is_open
-      (subst (λ (x : Tuple). list_all is_ground x.body ≡ true) k.is t) (subst (λ (x : Tuple). first_undecided pairs x.body ≡ None) k.is u) in
-      subst (λ (x : Tuple). HasNext R pairs s (followed R s l.clause x.body)) (sym k.is)
-      (next_followed P R sound full s pairs l.clause k.rule (record { head = s.goal; body = _ }) known.missing known.fit (looked_clause pairs s.goal P l k) refl g.instance g.has_no_variable g.granted)
+  pub next_ground : (store : Store) (s : Unanswered) (l : Looked) → IsKnown R store s → first_open store s.goal 1 P ≡ Some l → list_all is_ground l.instance.body ≡ true → first_undecided store l.instance.body ≡ None
+      → HasNext R store s (followed R s l.clause l.instance.body)
+  next_ground store s l known o t u =
+      let k = looked store s.goal 1 P l o in
+      let g = given_ground store k.rule s.goal known.missing.has_no_variable k.matches k.is_open
+      (subst (λ (x : Tuple). list_all is_ground x.body ≡ true) k.is t) (subst (λ (x : Tuple). first_undecided store x.body ≡ None) k.is u) in
+      subst (λ (x : Tuple). HasNext R store s (followed R s l.clause x.body)) (sym k.is)
+      (next_followed P R sound full s store l.clause k.rule (record { head = s.goal; body = _ }) known.missing known.fit (looked_clause store s.goal P l k) refl g.instance g.has_no_variable g.granted)
 
-  pub next_values : (pairs after : List Pair) (s : Unanswered) (l : Looked) (u : Tuple) (values : List Term) → IsMissing R s.box_no s.goal → first_open pairs s.goal 1 P ≡ Some l → AllFit after
+  pub next_values : (store after : Store) (s : Unanswered) (l : Looked) (u : Tuple) (values : List Term) → IsMissing R s.box_no s.goal → first_open store s.goal 1 P ≡ Some l → AllFit after
       → canonical_tuple u ≡ canonical_tuple l.instance → FitsBody u values → ((a : Term) → SomeTerm (IsInstance a) (with_values u values) → SaysYes after a)
       → HasNext R after s (followed R s l.clause (with_values l.instance values))
-  next_values pairs after s l u values m o fit e f says =
-      let k = looked pairs s.goal 1 P l o in
+  next_values store after s l u values m o fit e f says =
+      let k = looked store s.goal 1 P l o in
       let g = given_values after k.rule s.goal u values m.has_no_variable k.matches (e ∙ ap canonical_tuple k.is) f says in
       subst (λ (x : Tuple). HasNext R after s (followed R s l.clause (with_values x values))) (sym k.is)
-      (next_followed P R sound full s after l.clause k.rule (record { head = s.goal; body = _ }) m fit (looked_clause pairs s.goal P l k) refl g.instance g.has_no_variable g.granted)
+      (next_followed P R sound full s after l.clause k.rule (record { head = s.goal; body = _ }) m fit (looked_clause store s.goal P l k) refl g.instance g.has_no_variable g.granted)
 
-  pub next_said : (pairs : List Pair) (s : Unanswered) (l : Looked) (values : List Term) → IsKnown R pairs s → first_open pairs s.goal 1 P ≡ Some l → FitsBody (canonical_tuple l.instance) values
-      → HasNext R (with_pair pairs (covers l.instance).question (Values values)) s (followed R s l.clause (with_values l.instance values))
-  next_said pairs s l values known o f =
-      next_values pairs (with_pair pairs (covers l.instance).question (Values values)) s l (canonical_tuple l.instance) values known.missing o (fit_added pairs (covers l.instance).question (Values values) known.fit f)
-      (canonical_again l.instance) f (says_added pairs (canonical_tuple l.instance) values)
+  pub next_said : (store : Store) (s : Unanswered) (l : Looked) (values : List Term) → IsKnown R store s → first_open store s.goal 1 P ≡ Some l → FitsBody (canonical_tuple l.instance) values
+      → HasNext R (with_pair store (covers l.instance).question (Values values)) s (followed R s l.clause (with_values l.instance values))
+  next_said store s l values known o f =
+      next_values store (with_pair store (covers l.instance).question (Values values)) s l (canonical_tuple l.instance) values known.missing o (fit_added store (covers l.instance).question (Values values) known.fit f)
+      (canonical_again l.instance) f (says_added store (canonical_tuple l.instance) values)
 
-  pub next_decided : (pairs : List Pair) (s : Unanswered) (l : Looked) (values : List Term) → IsKnown R pairs s → first_open pairs s.goal 1 P ≡ Some l → decided pairs (covers l.instance).question ≡ Some (Values values)
-      → HasNext R pairs s (followed R s l.clause (with_values l.instance values))
-  next_decided pairs s l values known o d =
-      let c = decided-covers pairs (canonical_tuple l.instance) (Values values) known.fit d in
-      next_values pairs pairs s l c.0 values known.missing o known.fit (c.1 ∙ canonical_again l.instance) c.2 (λ a. says_decided pairs c.0 values a c.3)
+  pub next_decided : (store : Store) (s : Unanswered) (l : Looked) (values : List Term) → IsKnown R store s → first_open store s.goal 1 P ≡ Some l → decided store (covers l.instance).question ≡ Some (Values values)
+      → HasNext R store s (followed R s l.clause (with_values l.instance values))
+  next_decided store s l values known o d =
+      let c = decided-covers store (canonical_tuple l.instance) (Values values) known.fit d in
+      next_values store store s l c.0 values known.missing o known.fit (c.1 ∙ canonical_again l.instance) c.2 (λ a. says_decided store c.0 values a c.3)
 
   -- a reply that the store has to whether the body of an open clause has a solution
-  pub covers_decided : (pairs : List Pair) (s : Unanswered) (l : Looked) (r : Reply) → IsKnown R pairs s → first_open pairs s.goal 1 P ≡ Some l → decided pairs (covers l.instance).question ≡ Some r
-      → IsKnown R pairs (after_values R s l r) × (length R.boxes - (after_values R s l r).box_no < length R.boxes - s.box_no)
-  covers_decided pairs s l No known o d =
-      let k = looked pairs s.goal 1 P l o in
-      let p = no_either (list_any is_false_builtin l.instance.body) (is_no (decided pairs (asking.Covers l.instance)) || is_denied pairs l.instance.body) (ap (is_closed pairs) k.is ∙ k.is_open) in
-      let q = no_either (is_no (decided pairs (asking.Covers l.instance))) (is_denied pairs l.instance.body) p.1 in
-      let bad : true ≡ false = ap is_no (sym d ∙ decided_canonical pairs l.instance) ∙ q.0 in
+  pub covers_decided : (store : Store) (s : Unanswered) (l : Looked) (r : Reply) → IsKnown R store s → first_open store s.goal 1 P ≡ Some l → decided store (covers l.instance).question ≡ Some r
+      → IsKnown R store (after_values R s l r) × (length R.boxes - (after_values R s l r).box_no < length R.boxes - s.box_no)
+  covers_decided store s l No known o d =
+      let k = looked store s.goal 1 P l o in
+      let p = no_either (list_any is_false_builtin l.instance.body) (is_no (decided store (asking.Covers l.instance)) || is_denied store l.instance.body) (ap (is_closed store) k.is ∙ k.is_open) in
+      let q = no_either (is_no (decided store (asking.Covers l.instance))) (is_denied store l.instance.body) p.1 in
+      let bad : true ≡ false = ap is_no (sym d ∙ decided_canonical store l.instance) ∙ q.0 in
       absurd (cc)
-  covers_decided pairs s l Yes known o d = let c = decided-covers pairs (canonical_tuple l.instance) Yes known.fit d in absurd c.2
-  covers_decided pairs s l (Values values) known o d =
-      after_next R pairs s (followed R s l.clause (with_values l.instance values)) (next_decided pairs s l values known o d)
+  covers_decided store s l Yes known o d = let c = decided-covers store (canonical_tuple l.instance) Yes known.fit d in absurd c.2
+  covers_decided store s l Unknown known o d = let c = decided-covers store (canonical_tuple l.instance) Unknown known.fit d in absurd c.2
+  covers_decided store s l (Values values) known o d =
+      after_next R store s (followed R s l.clause (with_values l.instance values)) (next_decided store s l values known o d)
 
-  pub covers_replied : (pairs : List Pair) (s : Unanswered) (l : Looked) (r : Reply) → IsKnown R pairs s → first_open pairs s.goal 1 P ≡ Some l → Fits (covers l.instance).question r
-      → IsKnown R (with_pair pairs (covers l.instance).question r) (after_values R s l r)
-  covers_replied pairs s l No known o f = known_kept R pairs s (covers l.instance).question No known f
-  covers_replied pairs s l Yes known o f = absurd f
-  covers_replied pairs s l (Values values) known o f =
-      (after_next R (with_pair pairs (covers l.instance).question (Values values)) s (followed R s l.clause (with_values l.instance values)) (next_said pairs s l values known o f)).0
+  pub covers_replied : (store : Store) (s : Unanswered) (l : Looked) (r : Reply) → IsKnown R store s → first_open store s.goal 1 P ≡ Some l → Fits (covers l.instance).question r
+      → IsKnown R (with_pair store (covers l.instance).question r) (after_values R s l r)
+  covers_replied store s l No known o f = known_kept R store s (covers l.instance).question No known f
+  covers_replied store s l Yes known o f = absurd f
+  covers_replied store s l Unknown known o f = absurd f
+  covers_replied store s l (Values values) known o f =
+      (after_next R (with_pair store (covers l.instance).question (Values values)) s (followed R s l.clause (with_values l.instance values)) (next_said store s l values known o f)).0
 
   pub missing_falls : FallsWhere (missing P R) (IsKnown R)
   missing_falls = record {
-    by_reply = λ pairs s asked next r known e d.
-        by_turn R pairs s (λ turn. turn ≡ asks asked next → IsKnown R pairs (next r) × (length R.boxes - (next r).box_no < length R.boxes - s.box_no)) (first_open pairs s.goal 1 P)
+    by_reply = λ store s asked next r known e d.
+        by_turn R store s (λ turn. turn ≡ asks asked next → IsKnown R store (next r) × (length R.boxes - (next r).box_no < length R.boxes - s.box_no)) (first_open store s.goal 1 P)
         (λ o f. absurd (cc))
         (λ l o t a u f.
         let same : alone (asking.True a) ≡ asked = cc in
-        let bad : true ≡ false = sym (undecided-is pairs l.instance.body a u) ∙ ap is_undecided (ap (λ (x : Asked). decided pairs x.question) same ∙ d) in
+        let bad : true ≡ false = sym (undecided-is store l.instance.body a u) ∙ ap is_undecided (ap (λ (x : Asked). decided store x.question) same ∙ d) in
         absurd (cc))
         (λ l o t u f. absurd (cc))
         (λ l o t f.
         let same : covers l.instance ≡ asked = cc in
         let on : after_values R s l ≡ next = cc in
-        subst (λ (x : Reply → Unanswered). IsKnown R pairs (x r) × (length R.boxes - (x r).box_no < length R.boxes - s.box_no)) on
-        (covers_decided pairs s l r known o (ap (λ (x : Asked). decided pairs x.question) same ∙ d)))
+        subst (λ (x : Reply → Unanswered). IsKnown R store (x r) × (length R.boxes - (x r).box_no < length R.boxes - s.box_no)) on
+        (covers_decided store s l r known o (ap (λ (x : Asked). decided store x.question) same ∙ d)))
         e;
-    by_going = λ pairs s t known e.
-        by_turn R pairs s (λ turn. turn ≡ goes t → IsKnown R pairs t × (length R.boxes - t.box_no < length R.boxes - s.box_no)) (first_open pairs s.goal 1 P)
+    by_going = λ store s t known e.
+        by_turn R store s (λ turn. turn ≡ goes t → IsKnown R store t × (length R.boxes - t.box_no < length R.boxes - s.box_no)) (first_open store s.goal 1 P)
         (λ o f. absurd (cc))
         (λ l o g a u f. absurd (cc))
         (λ l o g u f.
         let same : state_after s (followed R s l.clause l.instance.body) ≡ t = cc in
-        subst (λ (x : Unanswered). IsKnown R pairs x × (length R.boxes - x.box_no < length R.boxes - s.box_no)) same
-        (after_next R pairs s (followed R s l.clause l.instance.body) (next_ground pairs s l known o g u)))
+        subst (λ (x : Unanswered). IsKnown R store x × (length R.boxes - x.box_no < length R.boxes - s.box_no)) same
+        (after_next R store s (followed R s l.clause l.instance.body) (next_ground store s l known o g u)))
         (λ l o g f. absurd (cc))
         e;
-    by_asking = λ pairs s asked next r known e d fits.
-        by_turn R pairs s (λ turn. turn ≡ asks asked next → IsKnown R (with_pair pairs asked.question r) (next r)) (first_open pairs s.goal 1 P)
+    by_asking = λ store s asked next r known e d fits.
+        by_turn R store s (λ turn. turn ≡ asks asked next → IsKnown R (with_pair store asked.question r) (next r)) (first_open store s.goal 1 P)
         (λ o f. absurd (cc))
         (λ l o t a u f.
         let on : (let g : Reply → Unanswered = λ reply. s in g) ≡ next = cc in
-        subst (λ (x : Reply → Unanswered). IsKnown R (with_pair pairs asked.question r) (x r)) on (known_kept R pairs s asked.question r known fits))
+        subst (λ (x : Reply → Unanswered). IsKnown R (with_pair store asked.question r) (x r)) on (known_kept R store s asked.question r known fits.0))
         (λ l o t u f. absurd (cc))
         (λ l o t f.
         let same : covers l.instance ≡ asked = cc in
         let on : after_values R s l ≡ next = cc in
-        subst (λ (x : Reply → Unanswered). IsKnown R (with_pair pairs asked.question r) (x r)) on
-        (subst (λ (x : Asked). IsKnown R (with_pair pairs x.question r) (after_values R s l r)) same
-        (covers_replied pairs s l r known o (subst (λ (x : Asked). FitsAsked x r) (sym same) fits))))
+        subst (λ (x : Reply → Unanswered). IsKnown R (with_pair store asked.question r) (x r)) on
+        (subst (λ (x : Asked). IsKnown R (with_pair store x.question r) (after_values R s l r)) same
+        (covers_replied store s l r known o (subst (λ (x : Asked). FitsAsked x r) (sym same) fits).0)))
         e;
   }
 
   -- questions count no suspects
-  asked_alone : (pairs : List Pair) (s : Unanswered) (asked : Asked) (next : Reply → Unanswered) → (missing P R).turn pairs s ≡ asks asked next → asked.suspects ≡ None
-  asked_alone pairs s asked next e =
-      by_turn R pairs s (λ turn. turn ≡ asks asked next → asked.suspects ≡ None) (first_open pairs s.goal 1 P)
+  asked_alone : (store : Store) (s : Unanswered) (asked : Asked) (next : Reply → Unanswered) → (missing P R).turn store s ≡ asks asked next → asked.suspects ≡ None
+  asked_alone store s asked next e =
+      by_turn R store s (λ turn. turn ≡ asks asked next → asked.suspects ≡ None) (first_open store s.goal 1 P)
       (λ o f. absurd (cc))
       (λ l o t a u f. let same : alone (asking.True a) ≡ asked = cc in sym (ap (λ (x : Asked). x.suspects) same))
       (λ l o t u f. absurd (cc))
       (λ l o t f. let same : covers l.instance ≡ asked = cc in sym (ap (λ (x : Asked). x.suspects) same))
       e
 
-  comes_within : (pairs : List Pair) (k : ℕ) (s : Unanswered) → length R.boxes - s.box_no < k → IsKnown R pairs s → ComesNext P R pairs (next_turn (missing P R) pairs s)
-  comes_within pairs zero s l known = absurd (omega (arith, l))
-  comes_within pairs (suc k) s l known = by ((missing P R).turn pairs s) refl (λ t m. comes_within pairs k t (omega (arith, l, m)))
+  comes_within : (store : Store) (k : ℕ) (s : Unanswered) → length R.boxes - s.box_no < k → IsKnown R store s → ComesNext P R store (next_turn (missing P R) store s)
+  comes_within store zero s l known = absurd (omega (arith, l))
+  comes_within store (suc k) s l known = by ((missing P R).turn store s) refl (λ t m. comes_within store k t (omega (arith, l, m)))
     where
-      by_decided : (asked : Asked) (next : Reply → Unanswered) → (missing P R).turn pairs s ≡ asks asked next → (o : Option Reply) → decided pairs asked.question ≡ o
-          → ((t : Unanswered) → length R.boxes - t.box_no < length R.boxes - s.box_no → IsKnown R pairs t → ComesNext P R pairs (next_turn (missing P R) pairs t)) → ComesNext P R pairs (next_turn (missing P R) pairs s)
+      by_decided : (asked : Asked) (next : Reply → Unanswered) → (missing P R).turn store s ≡ asks asked next → (o : Option Reply) → decided store asked.question ≡ o
+          → ((t : Unanswered) → length R.boxes - t.box_no < length R.boxes - s.box_no → IsKnown R store t → ComesNext P R store (next_turn (missing P R) store t)) → ComesNext P R store (next_turn (missing P R) store s)
       by_decided asked next e None d onward =
-          subst (ComesNext P R pairs) (sym (known-asks (missing P R) (IsKnown R) missing_falls pairs s asked next known e d))
-          (record { alone = asked_alone pairs s asked next e; undecided = d; known = λ r fits. missing_falls.by_asking pairs s asked next r known e d fits })
+          subst (ComesNext P R store) (sym (known-asks (missing P R) (IsKnown R) missing_falls store s asked next known e d))
+          (record { alone = asked_alone store s asked next e; undecided = d; known = λ r fits. missing_falls.by_asking store s asked next r known e d fits })
       by_decided asked next e (Some r) d onward =
-          let h = missing_falls.by_reply pairs s asked next r known e d in
-          subst (ComesNext P R pairs) (sym (known-decided (missing P R) (IsKnown R) missing_falls pairs s asked next r known e d)) (onward (next r) h.1 h.0)
+          let h = missing_falls.by_reply store s asked next r known e d in
+          subst (ComesNext P R store) (sym (known-decided (missing P R) (IsKnown R) missing_falls store s asked next r known e d)) (onward (next r) h.1 h.0)
 
-      by : (turn : Turn Unanswered Finding) → (missing P R).turn pairs s ≡ turn
-          → ((t : Unanswered) → length R.boxes - t.box_no < length R.boxes - s.box_no → IsKnown R pairs t → ComesNext P R pairs (next_turn (missing P R) pairs t)) → ComesNext P R pairs (next_turn (missing P R) pairs s)
-      by (asks asked next) e onward = by_decided asked next e (decided pairs asked.question) refl onward
+      by : (turn : Turn Unanswered Finding) → (missing P R).turn store s ≡ turn
+          → ((t : Unanswered) → length R.boxes - t.box_no < length R.boxes - s.box_no → IsKnown R store t → ComesNext P R store (next_turn (missing P R) store t)) → ComesNext P R store (next_turn (missing P R) store s)
+      by (asks asked next) e onward = by_decided asked next e (decided store asked.question) refl onward
       by (goes t) e onward =
-          let h = missing_falls.by_going pairs s t known e in
-          subst (ComesNext P R pairs) (sym (known-goes (missing P R) (IsKnown R) missing_falls pairs s t known e)) (onward t h.1 h.0)
+          let h = missing_falls.by_going store s t known e in
+          subst (ComesNext P R store) (sym (known-goes (missing P R) (IsKnown R) missing_falls store s t known e)) (onward t h.1 h.0)
       by (ends f) e onward =
-          subst (ComesNext P R pairs) (sym (known-ends (missing P R) (IsKnown R) missing_falls pairs s f known e))
-          (ended-uncovered P R pairs s f known.missing.of_program known.missing.has_no_variable known.says e)
+          subst (ComesNext P R store) (sym (known-ends (missing P R) (IsKnown R) missing_falls store s f known e))
+          (ended-uncovered P R store s f known.missing.of_program known.missing.has_no_variable known.says e)
 
-  pub comes_next : (pairs : List Pair) (s : Unanswered) → IsKnown R pairs s → ComesNext P R pairs (next_turn (missing P R) pairs s)
-  comes_next pairs s known = comes_within pairs (suc (length R.boxes - s.box_no)) s (omega arith) known
+  pub comes_next : (store : Store) (s : Unanswered) → IsKnown R store s → ComesNext P R store (next_turn (missing P R) store s)
+  comes_next store s known = comes_within store (suc (length R.boxes - s.box_no)) s (omega arith) known

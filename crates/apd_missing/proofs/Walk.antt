@@ -20,8 +20,8 @@ use Rattle.apd_record.specs.Full.{IsGroundTuple, HasExit, IsFull}
 use Rattle.apd_record.proofs.Lists.{get-one}
 use Rattle.apd_record.proofs.Missing.{both_empty, ground_at, drop_none, drop_some, drop_next, Reached, Called, goal_called, reached_exit, builtin_exit, user_call}
 use Rattle.apd_record.proofs.Readers.{child-is, first-is, follow-is, exits-are}
-use Rattle.apd_answers.specs.declared.store.Pair.{Pair}
-use Rattle.apd_answers.specs.Findings.{Grants, GrantsBy}
+use Rattle.apd_answers.specs.Store.{Store, SaysYes}
+use Rattle.apd_answers.specs.Findings.{Affirms, IsTrueBy}
 use Rattle.apd_answers.specs.Fitting.{AllFit}
 use Rattle.apd_missing.specs.Missing.{Unanswered, first_exit, after_exit, at_child, from_child, walk, followed}
 use Rattle.apd_missing.specs.Known.{IsMissing, HasNext}
@@ -109,11 +109,11 @@ module _ (P : List Tuple) (R : Recorded) (sound : IsSound P R) (full : IsFull P 
       )
 
   -- a goal without an exit is the next
-  next_here : (s : Unanswered) (pairs : List Pair) (t : Tuple) (d : ℕ) (a : Term) → AllFit pairs → IsGround a → (r : Reached P R sound full s.box_no t d) → (c : Called P R sound full a r.number)
-      → (o : Option Builtin) → builtin_of_atom a ≡ o → GrantsBy o pairs a → (is_none o ≡ false → HasExit R c.number a) → first_exit R a (exits R c.number) ≡ None
-      → HasNext R pairs s (Some (record { box_no = c.number; goal = a }))
-  next_here s pairs t d a fit ground r c (Some goal) e g exit none = absurd (has_no_exit R c.number a none (exit refl))
-  next_here s pairs t d a fit ground r c None e g exit none =
+  next_here : (s : Unanswered) (store : Store) (t : Tuple) (d : ℕ) (a : Term) → AllFit store → IsGround a → (r : Reached P R sound full s.box_no t d) → (c : Called P R sound full a r.number)
+      → (o : Option Builtin) → builtin_of_atom a ≡ o → IsTrueBy (SaysYes store) o a → (is_none o ≡ false → HasExit R c.number a) → first_exit R a (exits R c.number) ≡ None
+      → HasNext R store s (Some (record { box_no = c.number; goal = a }))
+  next_here s store t d a fit ground r c (Some goal) e g exit none = absurd (has_no_exit R c.number a none (exit refl))
+  next_here s store t d a fit ground r c None e g exit none =
       let k = sound.kept.called c.number c.row c.there in
       let caller : k.caller ≡ r.point = get-one (point_at R r.number) k.caller r.point (subst (λ i. point_at R i ≡ Some k.caller) c.from k.there) r.there in
       let owner : k.caller.owner ≡ s.box_no = ap (λ (q : Point). q.owner) caller ∙ r.owner in
@@ -136,38 +136,38 @@ module _ (P : List Tuple) (R : Recorded) (sound : IsSound P R) (full : IsFull P 
         };
       }
 
-  always_true : (pairs : List Pair) (o : Option Builtin) (a : Term) → GrantsBy o pairs a → is_none o ≡ false → IsAlwaysTrue a
-  always_true pairs None a g e = absurd (cc)
-  always_true pairs (Some goal) a g e = g
+  always_true : (store : Store) (o : Option Builtin) (a : Term) → IsTrueBy (SaysYes store) o a → is_none o ≡ false → IsAlwaysTrue a
+  always_true store None a g e = absurd (cc)
+  always_true store (Some goal) a g e = g
 
   -- on the way from a point, the first goal without an exit
-  next_on_way : (s : Unanswered) (pairs : List Pair) (b : BoxRow) (t : Tuple) → box_at R s.box_no ≡ Some b → b.complete ≡ true → ¬ HasExit R s.box_no t.head → IsGroundTuple t → AllFit pairs
-      → (atoms : List Term) (d : ℕ) → (r : Reached P R sound full s.box_no t d) → drop d t.body ≡ atoms → AllByRecursion (Grants pairs) atoms → HasNext R pairs s (walk R atoms r.number)
-  next_on_way s pairs b t box complete none ground fit [] d r rest g = absurd (none (reached_exit P R sound full s.box_no t d r (drop_none t.body d rest)))
-  next_on_way s pairs b t box complete none ground fit (a ∷ atoms) d r rest g =
+  next_on_way : (s : Unanswered) (store : Store) (b : BoxRow) (t : Tuple) → box_at R s.box_no ≡ Some b → b.complete ≡ true → ¬ HasExit R s.box_no t.head → IsGroundTuple t → AllFit store
+      → (atoms : List Term) (d : ℕ) → (r : Reached P R sound full s.box_no t d) → drop d t.body ≡ atoms → AllByRecursion (Affirms store) atoms → HasNext R store s (walk R atoms r.number)
+  next_on_way s store b t box complete none ground fit [] d r rest g = absurd (none (reached_exit P R sound full s.box_no t d r (drop_none t.body d rest)))
+  next_on_way s store b t box complete none ground fit (a ∷ atoms) d r rest g =
       let goal = drop_some t.body d a atoms rest in
       let c = goal_called P R sound full s.box_no b t d a box complete r goal in
       let called : child R r.number ≡ Some c.number = (child-is R sound.kept r.number c.number).1 (c.row, c.there, c.from) in
       let is_ground : IsGround a = ground_at t.body d a (both_empty (variables t.head) (flat_map variables t.body) ground).1 goal in
-      subst (λ o. HasNext R pairs s (from_child R (walk R atoms) r.number a o)) (sym called)
+      subst (λ o. HasNext R store s (from_child R (walk R atoms) r.number a o)) (sym called)
       (by c goal is_ground (first_exit R a (exits R c.number)) refl
-      (λ q. next_on_way s pairs b t box complete none ground fit atoms (suc d) q (drop_next t.body d a atoms rest) g.1))
+      (λ q. next_on_way s store b t box complete none ground fit atoms (suc d) q (drop_next t.body d a atoms rest) g.1))
     where
       by : (c : Called P R sound full a r.number) → slice_get t.body d ≡ Some a → IsGround a → (o : Option ℕ) → first_exit R a (exits R c.number) ≡ o
-          → ((q : Reached P R sound full s.box_no t (suc d)) → HasNext R pairs s (walk R atoms q.number)) → HasNext R pairs s (at_child R (walk R atoms) r.number a c.number o)
+          → ((q : Reached P R sound full s.box_no t (suc d)) → HasNext R store s (walk R atoms q.number)) → HasNext R store s (at_child R (walk R atoms) r.number a c.number o)
       by c goal is_ground None e onward =
-          next_here s pairs t d a fit is_ground r c (builtin_of_atom a) refl g.0
-          (λ builtin. builtin_exit P R sound full t d a ground goal builtin (always_true pairs (builtin_of_atom a) a g.0 builtin) r.number c) e
+          next_here s store t d a fit is_ground r c (builtin_of_atom a) refl g.0
+          (λ builtin. builtin_exit P R sound full t d a ground goal builtin (always_true store (builtin_of_atom a) a g.0 builtin) r.number c) e
       by c goal is_ground (Some e) h onward =
           let x = has_exit R c.number a e h in
           let q = reached_by_exit s.box_no b t d a box complete ground r goal c x.0 in
-          subst (λ o. HasNext R pairs s (after_exit (walk R atoms) o)) (sym (ap (follow R r.number) (sym x.1) ∙ q.1)) (onward q.0)
+          subst (λ o. HasNext R store s (after_exit (walk R atoms) o)) (sym (ap (follow R r.number) (sym x.1) ∙ q.1)) (onward q.0)
 
   -- the record is followed to a next goal
-  pub next_followed : (s : Unanswered) (pairs : List Pair) (c : ℕ) (rule t : Tuple) → IsMissing R s.box_no s.goal → AllFit pairs → clause_of P c ≡ Some rule → t.head ≡ s.goal → IsTupleInstance t rule
-      → IsGroundTuple t → AllByRecursion (Grants pairs) t.body → HasNext R pairs s (followed R s c t.body)
-  next_followed s pairs c rule t m fit there head of_rule ground g =
+  pub next_followed : (s : Unanswered) (store : Store) (c : ℕ) (rule t : Tuple) → IsMissing R s.box_no s.goal → AllFit store → clause_of P c ≡ Some rule → t.head ≡ s.goal → IsTupleInstance t rule
+      → IsGroundTuple t → AllByRecursion (Affirms store) t.body → HasNext R store s (followed R s c t.body)
+  next_followed s store c rule t m fit there head of_rule ground g =
       let user = user_call P R sound full s.box_no m.row s.goal m.there m.instance (ap is_none m.of_program) in
       let r = reached_by_clause s.box_no m.row c rule t m.there m.complete user there ground of_rule (subst (λ x. IsInstance x m.row.atom) (sym head) m.instance) in
-      subst (λ o. HasNext R pairs s (after_exit (walk R t.body) o)) (sym r.1)
-      (next_on_way s pairs m.row t m.there m.complete (λ x. m.missing (subst (HasExit R s.box_no) head x)) ground fit t.body 0 r.0 refl g)
+      subst (λ o. HasNext R store s (after_exit (walk R t.body) o)) (sym r.1)
+      (next_on_way s store m.row t m.there m.complete (λ x. m.missing (subst (HasExit R s.box_no) head x)) ground fit t.body 0 r.0 refl g)

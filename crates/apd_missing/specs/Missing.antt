@@ -12,13 +12,12 @@ use Rattle.apd_record.specs.Reading.{point_of}
 use Rattle.apd_answers.specs.declared.question.Question.{Question}
 use Rattle.apd_answers.specs.declared.question.Question.TheVariants as asking
 use Rattle.apd_answers.specs.declared.question.Reply.{Reply}
-use Rattle.apd_answers.specs.declared.question.Reply.TheVariants.{Yes, No, Values}
+use Rattle.apd_answers.specs.declared.question.Reply.TheVariants.{Yes, No, Values, Unknown}
 use Rattle.apd_answers.specs.declared.question.Asked.{Asked}
 use Rattle.apd_answers.specs.declared.finding.Finding.{Finding}
 use Rattle.apd_answers.specs.declared.finding.Finding.TheVariants.{Uncovered}
-use Rattle.apd_answers.specs.declared.store.Pair.{Pair}
 use Rattle.apd_answers.specs.Questions.{with_values}
-use Rattle.apd_answers.specs.Store.{decided}
+use Rattle.apd_answers.specs.Store.{Store, decided}
 use Rattle.apd_answers.specs.Findings.{instance_for}
 use Rattle.apd_answers.specs.Dialogue.{Turn, asks, goes, ends, Diagnosis}
 pub use Rattle.apd_missing.specs.declared.state.Unanswered.{Unanswered}
@@ -35,37 +34,37 @@ abbrev pub is_no : Option Reply → Bool
 is_no (Some No) = true
 is_no _ = false
 
-abbrev pub is_denied_atom : List Pair → Term → Bool
-is_denied_atom pairs a = is_user_atom a && is_no (decided pairs (asking.True a))
+abbrev pub is_denied_atom : Store → Term → Bool
+is_denied_atom store a = is_user_atom a && is_no (decided store (asking.True a))
 
 -- No to an atom of a ground body
-abbrev pub is_denied : List Pair → List Term → Bool
-is_denied pairs body = list_all is_ground body && list_any (is_denied_atom pairs) body
+abbrev pub is_denied : Store → List Term → Bool
+is_denied store body = list_all is_ground body && list_any (is_denied_atom store) body
 
 -- the body has no solution by the replies
-abbrev pub is_closed : List Pair → Tuple → Bool
-is_closed pairs t = list_any is_false_builtin t.body || (is_no (decided pairs (asking.Covers t)) || is_denied pairs t.body)
+abbrev pub is_closed : Store → Tuple → Bool
+is_closed store t = list_any is_false_builtin t.body || (is_no (decided store (asking.Covers t)) || is_denied store t.body)
 
 -- a clause for the goal whose body isn't closed
-abbrev pub is_open : List Pair → Term → Tuple → Bool
-is_open pairs goal c = is_instance goal c.head && not (is_closed pairs (instance_for c goal))
+abbrev pub is_open : Store → Term → Tuple → Bool
+is_open store goal c = is_instance goal c.head && not (is_closed store (instance_for c goal))
 
 -- the first of them, where the first of these clauses has number n
-abbrev pub first_open : List Pair → Term → ℕ → List Tuple → Option Looked
-first_open pairs goal n [] = None
-first_open pairs goal n (c ∷ cs) =
-    if is_open pairs goal c
+abbrev pub first_open : Store → Term → ℕ → List Tuple → Option Looked
+first_open store goal n [] = None
+first_open store goal n (c ∷ cs) =
+    if is_open store goal c
     then Some (record { clause = n; instance = instance_for c goal })
-    else first_open pairs goal (n + 1) cs
+    else first_open store goal (n + 1) cs
 
 abbrev pub is_undecided : Option Reply → Bool
 is_undecided None = true
 is_undecided (Some r) = false
 
 -- the leftmost atom that isn't decided
-abbrev pub first_undecided : List Pair → List Term → Option Term
-first_undecided pairs [] = None
-first_undecided pairs (a ∷ atoms) = if is_user_atom a && is_undecided (decided pairs (asking.True a)) then Some a else first_undecided pairs atoms
+abbrev pub first_undecided : Store → List Term → Option Term
+first_undecided store [] = None
+first_undecided store (a ∷ atoms) = if is_user_atom a && is_undecided (decided store (asking.True a)) then Some a else first_undecided store atoms
 
 -- the first of these exits whose head has the atom as an instance
 abbrev pub first_exit : Recorded → Term → List ℕ → Option ℕ
@@ -102,11 +101,13 @@ abbrev pub after_values : Recorded → Unanswered → Looked → Reply → Unans
 after_values R s l (Values values) = state_after s (followed R s l.clause (with_values l.instance values))
 after_values R s l Yes = s
 after_values R s l No = s
+after_values R s l Unknown = s
 
 abbrev pub is_yes : Reply → Bool
 is_yes Yes = true
 is_yes No = false
 is_yes (Values values) = false
+is_yes Unknown = false
 
 abbrev pub alone : Question → Asked
 alone question = record { question = question; suspects = None }
@@ -120,17 +121,17 @@ abbrev pub turn_of_ground : Recorded → Unanswered → Looked → Option Term �
 turn_of_ground R s l (Some a) = asks (alone (asking.True a)) (λ reply. s)
 turn_of_ground R s l None = goes (state_after s (followed R s l.clause l.instance.body))
 
-abbrev pub turn_of : Recorded → List Pair → Unanswered → Option Looked → Turn Unanswered Finding
-turn_of R pairs s None = ends (Uncovered s.goal)
-turn_of R pairs s (Some l) =
+abbrev pub turn_of : Recorded → Store → Unanswered → Option Looked → Turn Unanswered Finding
+turn_of R store s None = ends (Uncovered s.goal)
+turn_of R store s (Some l) =
     if list_all is_ground l.instance.body
-    then turn_of_ground R s l (first_undecided pairs l.instance.body)
+    then turn_of_ground R s l (first_undecided store l.instance.body)
     else asks (covers l.instance) (after_values R s l)
 
 -- the boxes that are looked at have rising numbers
 abbrev pub missing : List Tuple → Recorded → Diagnosis Unanswered Finding
 missing P R = record {
-  turn = λ pairs s. turn_of R pairs s (first_open pairs s.goal 1 P);
+  turn = λ store s. turn_of R store s (first_open store s.goal 1 P);
   left = λ s. None;
-  bound = λ pairs s. length R.boxes - s.box_no;
+  bound = λ store s. length R.boxes - s.box_no;
 }

@@ -5,7 +5,7 @@ use Rattle.apd_base.specs.Counts.{Counted, Rose}
 use Rattle.apd_answers.specs.Oracle.{is_read_fault, is_write_fault}
 use Rattle.apd_answers.specs.declared.oracle.AskEnd.{AskEnd}
 use Rattle.apd_answers.specs.declared.oracle.AskEnd.TheVariants as ends
-use Rattle.apd_answers.specs.declared.question.Question.{Question}
+use Rattle.apd_answers.specs.declared.question.Asked.{Asked}
 use Rattle.apd_answers.specs.declared.question.Reply.{Reply}
 use Rattle.apd_console.specs.Console.{Kept, IsKept, HearsLine, HearsEnd, room_of}
 use Rattle.apd_console.specs.Console as console
@@ -80,15 +80,15 @@ abbrev pub onward : Moment → Kept → Option (List ℕ) → ℕ → List (List
 onward p k left reads names =
     record { console = k; left = left; read_faults = reads; spoken = record { log = record { names = names; ops = p.spoken.log.ops; entries = p.spoken.log.entries }; held = p.spoken.held; write_faults = p.spoken.write_faults } }
 
-module _ (question : Question) (p : Moment) (k : Kept) (y : Option (List ℕ)) (b : ℕ) (sound : IsKept k) where
+module _ (asked : Asked) (p : Moment) (k : Kept) (y : Option (List ℕ)) (b : ℕ) (sound : IsKept k) where
   -- no line is heard
-  ends_so : (e : LineEnd) → HearsEnd p.console k p.left y e → p.read_faults ≤ b → (e ≡ line_ends.ReadFault → Rose p.read_faults b) → Follows HearsOne (waiting question) p (onward p k y b p.spoken.log.names) (Err (end_of_line e))
-  ends_so line_ends.Ended hears reads rose = λ names grew reader after. Closes-hear (turn_at question p.spoken.log.ops names reader after) after.closed line_ends.Ended p.console k p.left y p.spoken.held p.read_faults b p.spoken.write_faults p.spoken.log.entries.list hears reads rose (λ e. absurd (cc))
-  ends_so line_ends.ReadFault hears reads rose = λ names grew reader after. Closes-hear (turn_at question p.spoken.log.ops names reader after) after.closed line_ends.ReadFault p.console k p.left y p.spoken.held p.read_faults b p.spoken.write_faults p.spoken.log.entries.list hears reads rose (λ e. absurd (cc))
-  ends_so line_ends.InputLimit hears reads rose = λ names grew reader after. Closes-hear (turn_at question p.spoken.log.ops names reader after) after.closed line_ends.InputLimit p.console k p.left y p.spoken.held p.read_faults b p.spoken.write_faults p.spoken.log.entries.list hears reads rose (λ e. absurd (cc))
+  ends_so : (e : LineEnd) → HearsEnd p.console k p.left y e → p.read_faults ≤ b → (e ≡ line_ends.ReadFault → Rose p.read_faults b) → Follows HearsOne (waiting asked) p (onward p k y b p.spoken.log.names) (Err (end_of_line e))
+  ends_so line_ends.Ended hears reads rose = λ names grew reader after. Closes-hear (turn_at asked p.spoken.log.ops names reader after) after.closed line_ends.Ended p.console k p.left y p.spoken.held p.read_faults b p.spoken.write_faults p.spoken.log.entries.list hears reads rose (λ e. absurd (cc))
+  ends_so line_ends.ReadFault hears reads rose = λ names grew reader after. Closes-hear (turn_at asked p.spoken.log.ops names reader after) after.closed line_ends.ReadFault p.console k p.left y p.spoken.held p.read_faults b p.spoken.write_faults p.spoken.log.entries.list hears reads rose (λ e. absurd (cc))
+  ends_so line_ends.InputLimit hears reads rose = λ names grew reader after. Closes-hear (turn_at asked p.spoken.log.ops names reader after) after.closed line_ends.InputLimit p.console k p.left y p.spoken.held p.read_faults b p.spoken.write_faults p.spoken.log.entries.list hears reads rose (λ e. absurd (cc))
   ends_so line_ends.Memory hears reads rose = λ names grew reader after. Breaks-end-here begun _ line_ends.Memory p.console k p.left y p.spoken.held p.read_faults b p.spoken.write_faults p.spoken.log.entries.list troubles.Memory hears reads (λ e. absurd (cc))
 
-  pub heard_end : (e : LineEnd) → HearsEnd p.console k p.left y e → Counted (console.is_read_fault e) p.read_faults b → HasHeard HearsOne (waiting question) p (onward p k y b p.spoken.log.names) (Err (end_of_line e))
+  pub heard_end : (e : LineEnd) → HearsEnd p.console k p.left y e → Counted (console.is_read_fault e) p.read_faults b → HasHeard HearsOne (waiting asked) p (onward p k y b p.spoken.log.names) (Err (end_of_line e))
   heard_end e hears counts = record {
     keeps = record { names = Grown-self p.spoken.log.names; few = let s = hears.shrinks in omega (arith, s); ops = refl; sound = sound };
     keeps_place = λ some. some;
@@ -109,7 +109,7 @@ module _ (question : Question) (p : Moment) (k : Kept) (y : Option (List ℕ)) (
     reads_later = let r = reads in omega (arith, r)
 
     -- memory ran out while it was read
-    pub heard_unread : HasHeard HearsOne (waiting question) p (onward p k y b names) (Err ends.Memory)
+    pub heard_unread : HasHeard HearsOne (waiting asked) p (onward p k y b names) (Err ends.Memory)
     heard_unread = record {
       keeps = onward_keeps;
       keeps_place = λ some. some;
@@ -118,18 +118,18 @@ module _ (question : Question) (p : Moment) (k : Kept) (y : Option (List ℕ)) (
       faults = record { read = reads; write = refl };
     }
 
-    module _ (read : LineRead) (is : Lasting names (λ n. (reader : Reader n) → read ≡ line_in reader p.spoken.log.ops line)) (said : Spoken) (says : said ≡ spoken_of question read) where
-      turn_is : (later : List (List ℕ)) → Grown names later → (reader : Reader later) (after : Afterwards) → turn_at question p.spoken.log.ops later reader after line ≡ turn_of p.spoken.log.ops later after said
+    module _ (read : LineRead) (is : Lasting names (λ n. (reader : Reader n) → read ≡ line_in reader p.spoken.log.ops line)) (said : Spoken) (says : said ≡ spoken_of asked read) where
+      turn_is : (later : List (List ℕ)) → Grown names later → (reader : Reader later) (after : Afterwards) → turn_at asked p.spoken.log.ops later reader after line ≡ turn_of p.spoken.log.ops later after said
       turn_is later grew reader after = rw (says, is later grew reader) refl
 
       -- what comes after a reply, or a word
       goes_then : (h : Afterwards → Hearing Entry) → ((ops : Table) (later : List (List ℕ)) (after : Afterwards) → turn_of ops later after said ≡ Then (h after)) →
-          Lasting names (λ later. (reader : Reader later) (after : Afterwards) → Talks (means (waiting question p.spoken.log.ops later reader after)) (place p) (place (onward p k y b names)) (means (h after)))
+          Lasting names (λ later. (reader : Reader later) (after : Afterwards) → Talks (means (waiting asked p.spoken.log.ops later reader after)) (place p) (place (onward p k y b names)) (means (h after)))
       goes_then h then = λ later grew reader after.
-          Talks-then (turn_at question p.spoken.log.ops later reader after) after.closed line (h after) p.console k p.left y p.spoken.held p.read_faults b p.spoken.write_faults p.spoken.log.entries.list hears reads_later
+          Talks-then (turn_at asked p.spoken.log.ops later reader after) after.closed line (h after) p.console k p.left y p.spoken.held p.read_faults b p.spoken.write_faults p.spoken.log.entries.list hears reads_later
           (turn_is later grew reader after ∙ then p.spoken.log.ops later after)
 
-      pub heard_reply : (r : Reply) → said ≡ spoken.Reply r → HasHeard HearsOne (waiting question) p (onward p k y b names) (Ok (Some r))
+      pub heard_reply : (r : Reply) → said ≡ spoken.Reply r → HasHeard HearsOne (waiting asked) p (onward p k y b names) (Ok (Some r))
       heard_reply r so = record {
         keeps = onward_keeps;
         keeps_place = λ some. some;
@@ -137,7 +137,7 @@ module _ (question : Question) (p : Moment) (k : Kept) (y : Option (List ℕ)) (
         faults = record { read = reads; write = refl };
       }
 
-      pub heard_stop : said ≡ spoken.Stop → HasHeard HearsOne (waiting question) p (onward p k y b names) (Err ends.Stopped)
+      pub heard_stop : said ≡ spoken.Stop → HasHeard HearsOne (waiting asked) p (onward p k y b names) (Err ends.Stopped)
       heard_stop so = record {
         keeps = onward_keeps;
         keeps_place = λ some. some;
@@ -145,7 +145,7 @@ module _ (question : Question) (p : Moment) (k : Kept) (y : Option (List ℕ)) (
         faults = record { read = reads; write = refl };
       }
 
-      pub heard_quit : said ≡ spoken.Quit → HasHeard HearsOne (waiting question) p (onward p k y b names) (Err ends.Quit)
+      pub heard_quit : said ≡ spoken.Quit → HasHeard HearsOne (waiting asked) p (onward p k y b names) (Err ends.Quit)
       heard_quit so = record {
         keeps = onward_keeps;
         keeps_place = λ some. some;
@@ -153,12 +153,12 @@ module _ (question : Question) (p : Moment) (k : Kept) (y : Option (List ℕ)) (
         faults = record { read = reads; write = refl };
       }
 
-      pub heard_nothing : said ≡ spoken.Nothing → HasHeard HearsOne (waiting question) p (onward p k y b names) (Ok None)
+      pub heard_nothing : said ≡ spoken.Nothing → HasHeard HearsOne (waiting asked) p (onward p k y b names) (Ok None)
       heard_nothing so = record {
         keeps = onward_keeps;
         keeps_place = λ some. some;
         follows = λ later grew reader after.
-            Talks-again (turn_at question p.spoken.log.ops later reader after) after.closed line [] p.console k p.left y p.spoken.held p.spoken.held p.read_faults b p.spoken.write_faults p.spoken.write_faults p.spoken.log.entries.list p.spoken.log.entries.list hears reads_later
+            Talks-again (turn_at asked p.spoken.log.ops later reader after) after.closed line [] p.console k p.left y p.spoken.held p.spoken.held p.read_faults b p.spoken.write_faults p.spoken.write_faults p.spoken.log.entries.list p.spoken.log.entries.list hears reads_later
             (turn_is later grew reader after ∙ ap (turn_of p.spoken.log.ops later after) so) (Utters-nothing p.spoken.log.entries.list p.spoken.held) (omega arith);
         faults = record { read = reads; write = refl };
       }
@@ -176,25 +176,25 @@ module _ (question : Question) (p : Moment) (k : Kept) (y : Option (List ℕ)) (
           sound = sound;
         }
 
-        pub heard_bad : {T : Type 0} (t : T) → Says (one (BadReply reason)) (onward p k y b names).spoken q (Ok t) → HasHeard HearsOne (waiting question) p there (Ok None)
+        pub heard_bad : {T : Type 0} (t : T) → Says (one (BadReply reason)) (onward p k y b names).spoken q (Ok t) → HasHeard HearsOne (waiting asked) p there (Ok None)
         heard_bad t refuses = record {
           keeps = bad_keeps (Ok t) refuses;
           keeps_place = room;
           follows = λ later grew reader after.
               let grown : Grown names later = subst (λ (l : List (List ℕ)). Grown l later) refuses.names grew in
-              Talks-again (turn_at question p.spoken.log.ops later reader after) after.closed line (one (BadReply reason) p.spoken.log.ops later) p.console k p.left y p.spoken.held q.held p.read_faults b p.spoken.write_faults q.write_faults p.spoken.log.entries.list q.log.entries.list hears reads_later
+              Talks-again (turn_at asked p.spoken.log.ops later reader after) after.closed line (one (BadReply reason) p.spoken.log.ops later) p.console k p.left y p.spoken.held q.held p.read_faults b p.spoken.write_faults q.write_faults p.spoken.log.entries.list q.log.entries.list hears reads_later
               (turn_is later grown reader after ∙ ap (turn_of p.spoken.log.ops later after) so) (refuses.all later grown) (says_later (one (BadReply reason)) (onward p k y b names).spoken q (Ok t) refuses);
           faults = record { read = reads; write = refuses.cause };
         }
 
-        pub heard_bad_front : {T : Type 0} (t : Trouble) → Says {T = T} (one (BadReply reason)) (onward p k y b names).spoken q (Err t) → HasHeard HearsOne (waiting question) p there (Err (end_of_trouble t))
+        pub heard_bad_front : {T : Type 0} (t : Trouble) → Says {T = T} (one (BadReply reason)) (onward p k y b names).spoken q (Err t) → HasHeard HearsOne (waiting asked) p there (Err (end_of_trouble t))
         heard_bad_front {T} t refuses = record {
           keeps = bad_keeps {T = T} (Err t) refuses;
           keeps_place = room;
           follows = λ later grew reader after.
               let grown : Grown names later = subst (λ (l : List (List ℕ)). Grown l later) refuses.names grew in
               heard_trouble _ _ _ after t
-              (Breaks-again begun (turn_at question p.spoken.log.ops later reader after) after.closed line (one (BadReply reason) p.spoken.log.ops later) p.console k p.left y p.spoken.held q.held p.read_faults b p.spoken.write_faults q.write_faults p.spoken.log.entries.list q.log.entries.list t hears reads_later
+              (Breaks-again begun (turn_at asked p.spoken.log.ops later reader after) after.closed line (one (BadReply reason) p.spoken.log.ops later) p.console k p.left y p.spoken.held q.held p.read_faults b p.spoken.write_faults q.write_faults p.spoken.log.entries.list q.log.entries.list t hears reads_later
               (turn_is later grown reader after ∙ ap (turn_of p.spoken.log.ops later after) so) (refuses.front later grown) (says_later {T = T} (one (BadReply reason)) (onward p k y b names).spoken q (Err t) refuses) (says_rose {T = T} (one (BadReply reason)) (onward p k y b names).spoken q t refuses));
           faults = record { read = trouble_reads p.read_faults b t reads; write = trouble_writes p.spoken.write_faults q.write_faults t refuses.cause };
         }

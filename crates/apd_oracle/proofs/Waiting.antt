@@ -7,7 +7,6 @@ use Rattle.apd_answers.specs.Oracle as calls
 use Rattle.apd_answers.specs.declared.oracle.AskEnd.{AskEnd}
 use Rattle.apd_answers.specs.declared.oracle.AskEnd.TheVariants as ends
 use Rattle.apd_answers.specs.declared.question.Asked.{Asked}
-use Rattle.apd_answers.specs.declared.question.Question.{Question}
 use Rattle.apd_answers.specs.declared.question.Reply.{Reply}
 use Rattle.apd_console.specs.Console.{IsKept, room_of}
 use Rattle.apd_console.specs.Lines.{InputEnd}
@@ -49,9 +48,9 @@ can_still_hear p q can grew few = record {
 }
 
 -- the lines from p to q left the question as it was
-pub record IsWaiting (question : Question) (p q : Moment) : Type 0 where
+pub record IsWaiting (asked : Asked) (p q : Moment) : Type 0 where
   pub talks : Lasting q.spoken.log.names (λ names. (reader : Reader names) (after : Afterwards) →
-      Talks (means (waiting question p.spoken.log.ops names reader after)) (place p) (place q) (means (waiting question p.spoken.log.ops names reader after)))
+      Talks (means (waiting asked p.spoken.log.ops names reader after)) (place p) (place q) (means (waiting asked p.spoken.log.ops names reader after)))
   pub names : Grown p.spoken.log.names q.spoken.log.names
   pub few : length q.spoken.log.names + room_of q.console ≤ length p.spoken.log.names + room_of p.console
   pub ops : q.spoken.log.ops ≡ p.spoken.log.ops
@@ -60,8 +59,8 @@ pub record IsWaiting (question : Question) (p q : Moment) : Type 0 where
   pub reads : q.read_faults ≡ p.read_faults
   pub writes : q.spoken.write_faults ≡ p.spoken.write_faults
 
-pub IsWaiting-start : (question : Question) (p : Moment) → CanHear p → IsWaiting question p p
-IsWaiting-start question p can = record {
+pub IsWaiting-start : (asked : Asked) (p : Moment) → CanHear p → IsWaiting asked p p
+IsWaiting-start asked p can = record {
   talks = λ names grew reader after. Talks-self _ _;
   names = Grown-self p.spoken.log.names;
   few = omega arith;
@@ -72,7 +71,7 @@ IsWaiting-start question p can = record {
   writes = refl;
 }
 
-module _ (question : Question) (p q r : Moment) (before : IsWaiting question p q) where
+module _ (asked : Asked) (p q r : Moment) (before : IsWaiting asked p q) where
   waited_keeps : Keeps q r → Keeps p r
   waited_keeps keeps = record {
     names = Grown-more p.spoken.log.names q.spoken.log.names r.spoken.log.names before.names keeps.names;
@@ -81,11 +80,11 @@ module _ (question : Question) (p q r : Moment) (before : IsWaiting question p q
     sound = keeps.sound;
   }
 
-  pub IsWaiting-more : HasHeard HearsOne (waiting question) q r (Ok None) → IsWaiting question p r
+  pub IsWaiting-more : HasHeard HearsOne (waiting asked) q r (Ok None) → IsWaiting asked p r
   IsWaiting-more heard = record {
     talks = λ names grew reader after.
-        Talks-more _ (means (waiting question p.spoken.log.ops names reader after)) _ (place p) (place q) (place r) (before.talks names (Grown-more q.spoken.log.names r.spoken.log.names names heard.keeps.names grew) reader after)
-        (subst (λ (ops : Table). Talks (means (waiting question ops names reader after)) (place q) (place r) (means (waiting question ops names reader after))) before.ops (heard.follows names grew reader after));
+        Talks-more _ (means (waiting asked p.spoken.log.ops names reader after)) _ (place p) (place q) (place r) (before.talks names (Grown-more q.spoken.log.names r.spoken.log.names names heard.keeps.names grew) reader after)
+        (subst (λ (ops : Table). Talks (means (waiting asked ops names reader after)) (place q) (place r) (means (waiting asked ops names reader after))) before.ops (heard.follows names grew reader after));
     names = (waited_keeps heard.keeps).names;
     few = (waited_keeps heard.keeps).few;
     ops = (waited_keeps heard.keeps).ops;
@@ -96,12 +95,12 @@ module _ (question : Question) (p q r : Moment) (before : IsWaiting question p q
   }
 
   -- the last line: a reply, or why there is none
-  last_follows : (result : Result Reply AskEnd) → Grown q.spoken.log.names r.spoken.log.names → Follows Hears (waiting question) q r result → Follows Hears (waiting question) p r result
+  last_follows : (result : Result Reply AskEnd) → Grown q.spoken.log.names r.spoken.log.names → Follows Hears (waiting asked) q r result → Follows Hears (waiting asked) p r result
   last_follows result grown follows = λ names grew reader after.
-      Hears-more _ (means (waiting question p.spoken.log.ops names reader after)) (place p) (place q) (place r) after result (before.talks names (Grown-more q.spoken.log.names r.spoken.log.names names grown grew) reader after)
-      (subst (λ (ops : Table). Hears (means (waiting question ops names reader after)) (place q) (place r) after result) before.ops (follows names grew reader after))
+      Hears-more _ (means (waiting asked p.spoken.log.ops names reader after)) (place p) (place q) (place r) after result (before.talks names (Grown-more q.spoken.log.names r.spoken.log.names names grown grew) reader after)
+      (subst (λ (ops : Table). Hears (means (waiting asked ops names reader after)) (place q) (place r) after result) before.ops (follows names grew reader after))
 
-  pub waited_reply : (reply : Reply) → HasHeard HearsOne (waiting question) q r (Ok (Some reply)) → HasHeard Hears (waiting question) p r (Ok reply)
+  pub waited_reply : (reply : Reply) → HasHeard HearsOne (waiting asked) q r (Ok (Some reply)) → HasHeard Hears (waiting asked) p r (Ok reply)
   waited_reply reply heard = record {
     keeps = waited_keeps heard.keeps;
     keeps_place = λ some. heard.keeps_place (before.keeps_place some);
@@ -109,7 +108,7 @@ module _ (question : Question) (p q r : Moment) (before : IsWaiting question p q
     faults = record { read = heard.faults.read ∙ before.reads; write = heard.faults.write ∙ before.writes };
   }
 
-  pub waited_end : (end : AskEnd) → HasHeard {T = Option Reply} HearsOne (waiting question) q r (Err end) → HasHeard Hears (waiting question) p r (Err end)
+  pub waited_end : (end : AskEnd) → HasHeard {T = Option Reply} HearsOne (waiting asked) q r (Err end) → HasHeard Hears (waiting asked) p r (Err end)
   waited_end end heard = record {
     keeps = waited_keeps heard.keeps;
     keeps_place = λ some. heard.keeps_place (before.keeps_place some);
@@ -164,21 +163,21 @@ module _ (count n : ℕ) (is : n ≡ risen count) (copy asked : Asked) (same : c
           heard_trouble _ _ _ after t
           (Breaks-say begun _ p.console p.left p.spoken.held s.held p.read_faults p.spoken.write_faults s.write_faults p.spoken.log.entries.list s.log.entries.list (one (Asks n asked) p.spoken.log.ops names) t
           (says.front names grown) (says_later {T = T} (one (Asks n asked)) p.spoken s (Err t) says) (says_rose {T = T} (one (Asks n asked)) p.spoken s t says)
-          (λ room more ends. (means (waiting asked.question p.spoken.log.ops names reader after) room more ends, first_said (one (Asks n asked) p.spoken.log.ops names) (waiting asked.question p.spoken.log.ops names reader after) room more ends)))
+          (λ room more ends. (means (waiting asked p.spoken.log.ops names reader after) room more ends, first_said (one (Asks n asked) p.spoken.log.ops names) (waiting asked p.spoken.log.ops names reader after) room more ends)))
 
   -- it was said, and heard to its reply
-  module _ {T : Type 0} (t : T) (says_if : EntryIsNamed (length p.spoken.log.names) (Asks n copy) → Says (one (Asks n copy)) p.spoken s (Ok t)) (r : Moment) (result : Result Reply AskEnd) (heard : HasHeard Hears (waiting asked.question) (saying p s) r result) where
+  module _ {T : Type 0} (t : T) (says_if : EntryIsNamed (length p.spoken.log.names) (Asks n copy) → Says (one (Asks n copy)) p.spoken s (Ok t)) (r : Moment) (result : Result Reply AskEnd) (heard : HasHeard Hears (waiting asked) (saying p s) r result) where
     asked_follows : QuestionIsNamed (length p.spoken.log.names) asked.question → Follows Hears (asking n asked) p r result
     asked_follows named = λ names grew reader after.
         let says : Says (one (Asks n asked)) p.spoken s (Ok t) = rw same at (says_if (standard, rw same named)) in
         let later : Grown s.log.names names = Grown-more s.log.names r.spoken.log.names names heard.keeps.names grew in
         let grown : Grown p.spoken.log.names names = subst (λ (l : List (List ℕ)). Grown l names) names_stay later in
-        Hears-more _ (means (waiting asked.question p.spoken.log.ops names reader after)) (place p) (place (saying p s)) (place r) after result
+        Hears-more _ (means (waiting asked p.spoken.log.ops names reader after)) (place p) (place (saying p s)) (place r) after result
         (Talks-say _ _ p.console p.left p.spoken.held s.held p.read_faults p.spoken.write_faults s.write_faults p.spoken.log.entries.list s.log.entries.list (one (Asks n asked) p.spoken.log.ops names)
-        (says.all names grown) (says_later (one (Asks n asked)) p.spoken s (Ok t) says) (first_said (one (Asks n asked) p.spoken.log.ops names) (waiting asked.question p.spoken.log.ops names reader after)))
-        (subst (λ (ops : Table). Hears (means (waiting asked.question ops names reader after)) (place (saying p s)) (place r) after result) ops_stay (heard.follows names grew reader after))
+        (says.all names grown) (says_later (one (Asks n asked)) p.spoken s (Ok t) says) (first_said (one (Asks n asked) p.spoken.log.ops names) (waiting asked p.spoken.log.ops names reader after)))
+        (subst (λ (ops : Table). Hears (means (waiting asked ops names reader after)) (place (saying p s)) (place r) after result) ops_stay (heard.follows names grew reader after))
 
-    pub asked_heard : IfOk result (IsReply (length r.spoken.log.names) asked.question) → Calls (calls.asking asked result) count p r
+    pub asked_heard : IfOk result (IsReply (length r.spoken.log.names) asked) → Calls (calls.asking asked result) count p r
     asked_heard reply = record {
       keeps = Keeps-more p (saying p s) r (saying_keeps p s sound names_stay ops_stay) heard.keeps;
       keeps_place = λ some. heard.keeps_place (place_stays some);

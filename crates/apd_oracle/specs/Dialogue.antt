@@ -6,8 +6,8 @@ use Rattle.apd_answers.specs.Oracle.{Call, is_read_fault, is_write_fault}
 use Rattle.apd_answers.specs.Oracle as calls
 use Rattle.apd_answers.specs.declared.oracle.AskEnd.{AskEnd}
 use Rattle.apd_answers.specs.declared.oracle.AskEnd.TheVariants as ends
-use Rattle.apd_answers.specs.Questions.{Fits}
-use Rattle.apd_answers.specs.declared.question.Question.{Question}
+use Rattle.apd_answers.specs.Questions.{FitsAsked}
+use Rattle.apd_answers.specs.declared.question.Asked.{Asked}
 use Rattle.apd_answers.specs.declared.question.Reply.{Reply}
 use Rattle.apd_console.specs.Console.{room_of}
 use Rattle.apd_console.specs.Lines.{AtEnd, AtFault, AtLimit}
@@ -85,9 +85,9 @@ pub record HasHeard {T : Type 0} (hears : Meaning Entry → Place Entry → Plac
   pub follows : Follows hears course p q result
   pub faults : HasFaults p q result
 
--- a reply to this question, whose names are among the first n
-abbrev pub IsReply : ℕ → Question → Reply → Type 0
-IsReply n question reply = Fits question reply × ReplyIsNamed n reply
+-- a reply to what is asked, whose names are among the first n
+abbrev pub IsReply : ℕ → Asked → Reply → Type 0
+IsReply n asked reply = FitsAsked asked reply × ReplyIsNamed n reply
 
 -- a reply is said from p to q, if its names are known
 pub record SaysReply (reply : Reply) (left : Option ℕ) (p q : Spoken) (result : Result (Unit {0}) AskEnd) : Type 0 where
@@ -107,7 +107,7 @@ HearsNothing p q = (q.console ≡ p.console) × (q.left ≡ p.left) × (q.read_f
 abbrev pub Acts : Call → ℕ → Moment → Moment → Type 0
 Acts (calls.asking asked result) number p q =
     (QuestionIsNamed (length p.spoken.log.names) asked.question → Follows Hears (asking number asked) p q result)
-    × IfOk result (IsReply (length q.spoken.log.names) asked.question)
+    × IfOk result (IsReply (length q.spoken.log.names) asked)
 Acts (calls.telling reply left result) number p q = HearsNothing p q × SaysReply reply left p.spoken q.spoken result
 
 -- how many questions were asked after a call

@@ -1,7 +1,6 @@
 -- What the lines mean while a question waits for its reply.
 use Rattle.std.specs.Prelude.{ℕ, List, []}
 use Rattle.apd_answers.specs.declared.question.Asked.{Asked}
-use Rattle.apd_answers.specs.declared.question.Question.{Question}
 use Rattle.apd_answers.specs.declared.question.Reply.{Reply}
 use Rattle.apd_console.specs.Lines.{Close}
 use Rattle.apd_console.specs.declared.line.Line.{Line}
@@ -37,13 +36,13 @@ turn_of ops names after (spoken.Bad reason) = Again (one (BadReply reason) ops n
 abbrev pub Course : Type 0
 Course = Table → (names : List (List ℕ)) → Reader names → Afterwards → Hearing Entry
 
-abbrev pub turn_at : Question → Table → (names : List (List ℕ)) → Reader names → Afterwards → Line → Turn Entry
-turn_at question ops names reader after line = turn_of ops names after (spoken_of question (line_in reader ops line))
+abbrev pub turn_at : Asked → Table → (names : List (List ℕ)) → Reader names → Afterwards → Line → Turn Entry
+turn_at asked ops names reader after line = turn_of ops names after (spoken_of asked (line_in reader ops line))
 
--- this question waits
-abbrev pub waiting : Question → Course
-waiting question ops names reader after = await (turn_at question ops names reader after) after.closed
+-- what is asked waits for its reply
+abbrev pub waiting : Asked → Course
+waiting asked ops names reader after = await (turn_at asked ops names reader after) after.closed
 
 -- the question is said, and waits
 abbrev pub asking : ℕ → Asked → Course
-asking number asked ops names reader after = says_first (one (Asks number asked) ops names) (waiting asked.question ops names reader after)
+asking number asked ops names reader after = says_first (one (Asks number asked) ops names) (waiting asked ops names reader after)

@@ -11,7 +11,7 @@ ghost use Rattle.apd_oracle.specs.Dialogue.{Calls, CanHear, HasFaults, HasHeard,
 ghost use Rattle.apd_oracle.specs.Waiting.{waiting};
 
 use crate::spoken::{Spoken, spoken_of};
-use apd_answers::{AskEnd, Asked, Question, Reply};
+use apd_answers::{AskEnd, Asked, Reply};
 use apd_console::{Console, LineEnd};
 use apd_io::{Sink, Source};
 use apd_lines::read_line;
@@ -44,17 +44,17 @@ fn end_of_trouble(trouble: Trouble) -> AskEnd
 /// Hears one line, and refuses it if it is no reply.
 fn hear_one<S: Source, K: Sink>(
     alloc: Global,
-    question: &Question,
+    asked: &Asked,
     console: &mut Console,
     source: &mut S,
     sink: &mut K,
     log: &mut Log,
 ) -> Result<Option<Reply>, AskEnd>
     requires { CanHear (moment S.Source K.Sink console.old source.old log.old sink.old) }
-    ensures heard { HasHeard HearsOne (waiting question.now)
+    ensures heard { HasHeard HearsOne (waiting asked.now)
         (moment S.Source K.Sink console.old source.old log.old sink.old)
         (moment S.Source K.Sink console.new source.new log.new sink.new) result }
-    ensures reply { IfOk result (λ r. IfSome r (IsReply (length log.new.names) question.now)) }
+    ensures reply { IfOk result (λ r. IfSome r (IsReply (length log.new.names) asked.now)) }
     ensures less { OnOk result (room_of console.new < room_of console.old) }
 {
     let line = match console.line(source) {
@@ -62,7 +62,7 @@ fn hear_one<S: Source, K: Sink>(
         Err(end) => return Err(end_of_line(end)),
     };
     let read = read_line(alloc, &log.ops, &mut log.names, &line)?;
-    match spoken_of(alloc, question, &read)? {
+    match spoken_of(alloc, asked, &read)? {
         Spoken::Nothing => Ok(None),
         Spoken::Reply(reply) => Ok(Some(reply)),
         Spoken::Stop => Err(AskEnd::Stopped),
@@ -77,20 +77,20 @@ fn hear_one<S: Source, K: Sink>(
 /// Hears lines till one is a reply.
 fn hear_reply<S: Source, K: Sink>(
     alloc: Global,
-    question: &Question,
+    asked: &Asked,
     console: &mut Console,
     source: &mut S,
     sink: &mut K,
     log: &mut Log,
 ) -> Result<Reply, AskEnd>
     requires { CanHear (moment S.Source K.Sink console.old source.old log.old sink.old) }
-    ensures heard { HasHeard Hears (waiting question.now)
+    ensures heard { HasHeard Hears (waiting asked.now)
         (moment S.Source K.Sink console.old source.old log.old sink.old)
         (moment S.Source K.Sink console.new source.new log.new sink.new) result }
-    ensures reply { IfOk result (IsReply (length log.new.names) question.now) }
+    ensures reply { IfOk result (IsReply (length log.new.names) asked.now) }
 {
     'lines: loop {
-        if let Some(reply) = hear_one(alloc, question, console, source, sink, log)? {
+        if let Some(reply) = hear_one(alloc, asked, console, source, sink, log)? {
             return Ok(reply);
         }
     }
@@ -124,7 +124,7 @@ pub(crate) fn ask_question<S: Source, K: Sink>(
         },
     };
     match say_kept(alloc, sink, log, entry) {
-        Ok(()) => hear_reply(alloc, &asked.question, console, source, sink, log),
+        Ok(()) => hear_reply(alloc, asked, console, source, sink, log),
         Err(trouble) => Err(end_of_trouble(trouble)),
     }
 }

@@ -4,8 +4,8 @@ ghost use Rattle.std.specs.Prelude.{◌≡◌, IfOk};
 ghost use Rattle.apd_oracle.specs.Replies.{reply_spoken, spoken_of, term_spoken, told};
 
 use crate::values::values_spoken;
-use apd_answers::{Question, Reply};
-use apd_known::{values_told, word_told};
+use apd_answers::{Asked, Question, Reply};
+use apd_known::{truth_told, values_told, word_told};
 use apd_lines::LineRead;
 use apd_term::standard::{QUIT, STOP};
 use apd_term::{Flat, Pred};
@@ -27,13 +27,14 @@ pub enum Spoken {
     Bad(Reason),
 }
 
-/// The reply that a term is to a question of this kind.
-fn told(alloc: Global, question: &Question, term: &Flat) -> Result<Option<Reply>, AllocError>
-    ensures { IfOk result (λ r. r ≡ told question.now term.now) }
+/// The reply that a term is to what is asked: where suspects are counted, whether an atom is true needn't be known.
+fn told(alloc: Global, asked: &Asked, term: &Flat) -> Result<Option<Reply>, AllocError>
+    ensures { IfOk result (λ r. r ≡ told asked.now term.now) }
 {
-    match question {
-        Question::True(_) | Question::Below(_, _) => Ok(word_told(term)),
-        Question::Covers(_) => values_told(alloc, term),
+    match (&asked.question, asked.suspects) {
+        (Question::True(_), Some(_)) => Ok(truth_told(term)),
+        (Question::True(_), None) | (Question::Below(_, _), _) => Ok(word_told(term)),
+        (Question::Covers(_), _) => values_told(alloc, term),
     }
 }
 
@@ -55,8 +56,8 @@ fn reply_spoken(
 }
 
 /// What a term says.
-fn term_spoken(alloc: Global, question: &Question, term: &Flat) -> Result<Spoken, AllocError>
-    ensures { IfOk result (λ s. s ≡ term_spoken question.now term.now) }
+fn term_spoken(alloc: Global, asked: &Asked, term: &Flat) -> Result<Spoken, AllocError>
+    ensures { IfOk result (λ s. s ≡ term_spoken asked.now term.now) }
 {
     match term.pred() {
         Some(
@@ -72,24 +73,24 @@ fn term_spoken(alloc: Global, question: &Question, term: &Flat) -> Result<Spoken
             },
         ) => Ok(Spoken::Quit),
         _ => {
-            let reply = told(alloc, question, term)?;
-            reply_spoken(alloc, question, reply)
+            let reply = told(alloc, asked, term)?;
+            reply_spoken(alloc, &asked.question, reply)
         }
     }
 }
 
-/// What a line, of which this was read, says in the place of a reply to this question.
+/// What a line, of which this was read, says in the place of a reply to what is asked.
 ///
 /// # Errors
 ///
 /// Where there was no memory.
-pub fn spoken_of(alloc: Global, question: &Question, read: &LineRead) -> Result<Spoken, AllocError>
-    ensures { IfOk result (λ s. s ≡ spoken_of question.now read.now) }
+pub fn spoken_of(alloc: Global, asked: &Asked, read: &LineRead) -> Result<Spoken, AllocError>
+    ensures { IfOk result (λ s. s ≡ spoken_of asked.now read.now) }
 {
     match read {
         LineRead::Empty => Ok(Spoken::Nothing),
         LineRead::TooLong => Ok(Spoken::Bad(Reason::TooLong)),
         LineRead::Bad(_) => Ok(Spoken::Bad(Reason::Syntax)),
-        LineRead::Clause(read) => term_spoken(alloc, question, &read.term),
+        LineRead::Clause(read) => term_spoken(alloc, asked, &read.term),
     }
 }

@@ -2,7 +2,7 @@
 
 ghost use Rattle.std.specs.Prelude.{◌≡◌, ◌<◌, ◌≤◌, ℕ, pos, length, IfErr, IfOk, MatchOption, MatchResult, Ok, Err};
 ghost use Rattle.apd_divide.specs.Exits.{IsUserExit};
-ghost use Rattle.apd_symptoms.specs.Symptoms.{IsNoBox, exit_of, line_found, line_of_clause, numbered};
+ghost use Rattle.apd_symptoms.specs.Symptoms.{IsNoBox, exit_of, line_found, line_of_clause, line_of_first, numbered};
 ghost use Rattle.apd_clauses.specs.Clauses.{clause_at};
 ghost use Rattle.apd_text.specs.Named.{RefusalIsNamed};
 
@@ -10,6 +10,7 @@ use apd_answers::Finding;
 use apd_clauses::Program;
 use apd_ports::PointId;
 use apd_record::Record;
+use apd_term::Instance;
 use apd_text::Refusal;
 
 /// The number of a box of the record, where it is one.
@@ -67,7 +68,18 @@ fn line_of_clause(program: &Program, number: u32) -> u32
     program.clause(number).line
 }
 
-/// The line of the clause that was found, counted from 1; 0 where what was found has no clause.
+/// The line of the first candidate's clause, counted from 1; 0 where there is none.
+fn line_of_first(program: &Program, candidates: &[Instance]) -> u32
+    ensures { result ≡ line_of_first program.now candidates.now }
+{
+    match candidates {
+        [first, ..] => line_of_clause(program, first.clause),
+        [] => 0,
+    }
+}
+
+/// The line of the clause that was found, of candidates that of the first, counted from 1; 0 where what was found has no
+/// clause.
 pub fn line_found(program: &Program, finding: &Finding) -> u32
     ensures { result ≡ line_found program.now finding.now }
 {
@@ -76,5 +88,6 @@ pub fn line_found(program: &Program, finding: &Finding) -> u32
             line_of_clause(program, *clause)
         }
         Finding::Uncovered { .. } => 0,
+        Finding::Candidates(candidates) => line_of_first(program, candidates.as_slice()),
     }
 }

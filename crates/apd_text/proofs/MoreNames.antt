@@ -1,11 +1,13 @@
 -- A text stays where names are put at the end.
 use Rattle.std.proofs.Common.{◌≡◌, ℕ, ◌<◌, List, [], ◌∷◌, ◌++◌, length, refl, map, arith}
-use Rattle.std.specs.Prelude.{pos, Bool, true, false, nat_eq, if◌then◌else◌}
+use Rattle.std.specs.Prelude.{pos, flat_map, Bool, true, false, nat_eq, if◌then◌else◌}
+use Rattle.std.specs.List.{AllByRecursion}
 use Rattle.apd_term.specs.declared.standard.TheConstants.{CELL, COMMA, DIVIDE, NECK}
 use Rattle.apd_term.specs.Term.{Term, Terms, variable, integer, compound, none, more}
 use Rattle.apd_term.specs.Named.{IsNamed, AreNamed, AllNamed, TupleIsNamed}
 use Rattle.apd_term.specs.Canonical.{canonical}
 use Rattle.apd_term.specs.Tuple.{canonical_tuple}
+use Rattle.apd_term.specs.declared.instance.Instance.{Instance}
 use Rattle.apd_term.specs.declared.tuple.Tuple.{Tuple}
 use Rattle.apd_term.specs.declared.term.NameId.{NameId}
 use Rattle.apd_term.specs.declared.term.Pred.{Pred}
@@ -26,11 +28,11 @@ use Rattle.apd_text.specs.Causes.{body_text, cause_text}
 use Rattle.apd_answers.specs.declared.question.Question.{Question}
 use Rattle.apd_answers.specs.declared.question.Question.TheVariants.{True, Covers, Below}
 use Rattle.apd_answers.specs.declared.question.Reply.{Reply}
-use Rattle.apd_answers.specs.declared.question.Reply.TheVariants.{Yes, No, Values}
+use Rattle.apd_answers.specs.declared.question.Reply.TheVariants.{Yes, No, Values, Unknown}
 use Rattle.apd_answers.specs.declared.finding.Finding.{Finding}
-use Rattle.apd_answers.specs.declared.finding.Finding.TheVariants.{WrongInstance, Uncovered, Violation}
+use Rattle.apd_answers.specs.declared.finding.Finding.TheVariants.{WrongInstance, Uncovered, Violation, Candidates}
 use Rattle.apd_text.specs.ClauseTerms.{pair, conjunction, with_body, clause_term, list_term}
-use Rattle.apd_text.specs.Dialogues.{atom_text, clause_text, told_text, asked_text, reply_text, finding_text}
+use Rattle.apd_text.specs.Dialogues.{atom_text, candidate_text, clause_text, told_text, asked_text, reply_text, finding_text}
 use Rattle.apd_text.specs.declared.entry.Told.{Told}
 use Rattle.apd_text.specs.declared.entry.Told.TheVariants.{Wrong, Missing, NoEnd}
 use Rattle.apd_text.specs.Entries.{refusal_text, text_of}
@@ -93,6 +95,8 @@ body_text-more names others body.Negation named = refl
 body_text-more names others body.Disjunction named = refl
 body_text-more names others body.IfThen named = refl
 body_text-more names others (body.Impure p) named = rw (text_of_name-append names others p.name named) refl
+body_text-more names others body.DcgList named = refl
+body_text-more names others body.DcgArity named = refl
 body_text-more names others body.BodyOver named = refl
 body_text-more names others body.Memory named = refl
 
@@ -167,6 +171,13 @@ reply_text-more ops names others No standard named = refl
 reply_text-more ops names others (Values values) standard named =
     let list : IsNamed (length names) (list_term values) = list_named (length names) values (neck_named (length names) standard) named in
     rw (atom_text-more ops names others (list_term values) list) refl
+reply_text-more ops names others Unknown standard named = refl
+
+candidates-more : (ops : Table) (names others : List (List ℕ)) (cs : List Instance) → HasStandardNames (length names) → AllByRecursion (λ (c : Instance). TupleIsNamed (length names) c.tuple) cs
+    → flat_map (candidate_text ops (names ++ others)) cs ≡ flat_map (candidate_text ops names) cs
+candidates-more ops names others [] standard named = refl
+candidates-more ops names others (c ∷ cs) standard named =
+    rw (clause_text-more ops names others c.tuple standard named.0, candidates-more ops names others cs standard named.1) refl
 
 finding_text-more : (ops : Table) (names others : List (List ℕ)) (f : Finding) (line : ℕ) → HasStandardNames (length names) → FindingIsNamed (length names) f → finding_text ops (names ++ others) f line ≡ finding_text ops names f line
 unfolding finding_text
@@ -174,6 +185,7 @@ finding_text-more ops names others (WrongInstance clause t) line standard named 
 finding_text-more ops names others (Uncovered goal) line standard named = rw (atom_text-more ops names others goal named) refl
 finding_text-more ops names others (Violation clause goal caller_no callee_no caller callee) line standard named =
     rw (atom_text-more ops names others caller named.0, atom_text-more ops names others callee named.1) refl
+finding_text-more ops names others (Candidates cs) line standard named = rw (candidates-more ops names others cs standard named) refl
 
 predicates_named : (n : ℕ) (preds : List Pred) → HasStandardNames n → PredsAreNamed n preds → AllNamed n (map predicate_term preds)
 predicates_named n [] standard named = tt

@@ -7,9 +7,9 @@ use Rattle.apd_divide.proofs.Weights.{by_test, le_true, le_false}
 use Rattle.apd_answers.specs.declared.question.Question.{Question}
 use Rattle.apd_answers.specs.declared.question.Question.TheVariants as asking
 use Rattle.apd_answers.specs.declared.question.Reply.{Reply}
-use Rattle.apd_answers.specs.declared.question.Reply.TheVariants.{Yes, No, Values}
-use Rattle.apd_answers.specs.declared.store.Pair.{Pair}
-use Rattle.apd_answers.specs.Store.{TellsNo, SaysNo}
+use Rattle.apd_answers.specs.declared.question.Reply.TheVariants.{Yes, No, Values, Unknown}
+use Rattle.apd_answers.specs.Store.{Store, TellsNo, SaysNo, empty_store}
+use Rattle.apd_answers.specs.Trust.{IsAnswered}
 use Rattle.apd_wrong.proofs.Support.{some_pair-map}
 use Rattle.apd_term.specs.Term.{Term}
 use Rattle.apd_term.specs.Canonical.{canonical}
@@ -67,87 +67,103 @@ fits-exit P R sound e l x c i =
       solved = subst (λ (p : Point). AreSolved R e (instance_with p.tuple l).body (exits_in p.done R e)) q f.2;
     }
 
--- the nodes for atoms that were solved
-pub record Nodes (P : List Tuple) (atoms : List Term) (ts : Forest) : Type 0 where
+-- the nodes for atoms that were solved, of which nothing is judged yet
+pub record Nodes (P : List Tuple) (R : Recorded) (store : Store) (atoms : List Term) (ts : Forest) : Type 0 where
   pub are : AreForAtoms atoms ts
   pub proved : AreProofTrees P ts
+  pub judged : AreJudgedBy R store ts
+
+-- the same of a node
+pub record Stands (P : List Tuple) (R : Recorded) (store : Store) (l : Term) (x : Tree) : Type 0 where
+  pub proves : IsProofTree P x
+  pub label_is : label x ≡ l
+  pub judged : IsJudgedBy R store x
+
+-- what an exit's head has as an instance is answered
+answered : (R : Recorded) (e : ℕ) (l : Term) → (x : IsUserExit R e) → IsInstance l x.point.tuple.head → IsAnswered R l
+answered R e l x i = record {
+  number = x.point.owner;
+  row = x.row;
+  there = x.row_there;
+  user = x.user;
+  exit = record { number = e; point = x.point; there = x.there; owner = refl; is_exit = x.is_exit; instance = i };
+}
 
 abbrev user_exit : (R : Recorded) (m x : ℕ) (a : Term) → IsSolvedBy R m a x → is_user_atom a ≡ true → IsUserExit R x
 user_exit R m x a s u = record { point = s.point; there = s.there; is_exit = s.is_exit; row = s.row; row_there = s.row_there; user = s.user ∙ u }
 
-nodes-proved : (P : List Tuple) (R : Recorded) → IsSound P R → (m : ℕ) (below : ℕ → Term → Tree)
-    → ((x : ℕ) (l : Term) (y : IsUserExit R x) → x < m → canonical l ≡ l → IsInstance l y.point.tuple.head → IsProofTree P (below x l) × (label (below x l) ≡ l))
-    → (atoms : List Term) (xs : List ℕ) → AreSolved R m atoms xs → Nodes P atoms (nodes_for below atoms xs)
-nodes-proved P R sound m below h [] [] s = record { are = tt; proved = tt }
-nodes-proved P R sound m below h [] (x ∷ xs) s = absurd s
-nodes-proved P R sound m below h (a ∷ atoms) [] s = absurd s
-nodes-proved P R sound m below h (a ∷ atoms) (x ∷ xs) s =
-    let r = by (is_user_atom a) refl (nodes-proved P R sound m below h atoms xs s.1) in
-    record { are = r.0; proved = r.1 }
+nodes-proved : (P : List Tuple) (R : Recorded) (store : Store) → IsSound P R → (m : ℕ) (below : ℕ → Term → Tree)
+    → ((x : ℕ) (l : Term) (y : IsUserExit R x) → x < m → canonical l ≡ l → IsInstance l y.point.tuple.head → Stands P R store l (below x l))
+    → (atoms : List Term) (xs : List ℕ) → AreSolved R m atoms xs → Nodes P R store atoms (nodes_for below atoms xs)
+nodes-proved P R store sound m below h [] [] s = record { are = tt; proved = tt; judged = tt }
+nodes-proved P R store sound m below h [] (x ∷ xs) s = absurd s
+nodes-proved P R store sound m below h (a ∷ atoms) [] s = absurd s
+nodes-proved P R store sound m below h (a ∷ atoms) (x ∷ xs) s =
+    let r = by (is_user_atom a) refl (nodes-proved P R store sound m below h atoms xs s.1) in
+    record { are = r.0; proved = r.1; judged = r.2 }
   where
-    by : (b : Bool) → is_user_atom a ≡ b → Nodes P atoms (nodes_for below atoms xs)
+    by : (b : Bool) → is_user_atom a ≡ b → Nodes P R store atoms (nodes_for below atoms xs)
         → IsForAtom b a (AreForAtoms atoms) (if b then beside (below x (canonical a)) (nodes_for below atoms xs) else nodes_for below atoms xs)
         × AreProofTrees P (if b then beside (below x (canonical a)) (nodes_for below atoms xs) else nodes_for below atoms xs)
+        × AreJudgedBy R store (if b then beside (below x (canonical a)) (nodes_for below atoms xs) else nodes_for below atoms xs)
     by true u n =
         let y = user_exit R m x a s.0 u in
         let i : IsInstance (canonical a) y.point.tuple.head =
         IsInstance-trans (canonical a) a y.point.tuple.head (IsInstance_from_variants (canonical a) a (canonical-canonical a)) s.0.instance in
         let k = h x (canonical a) y s.0.earlier (canonical-canonical a) i in
-        ((k.1, n.are), (k.0, n.proved))
+        ((k.label_is, n.are), (k.proves, n.proved), (k.judged, n.judged))
     by false u n =
         let w = of_builtin P R sound s.0.point.done x s.0.point s.0.row s.0.there refl s.0.row_there (s.0.user ∙ u) in
-        ((always-instance a s.0.point.tuple.head s.0.instance w.holds, n.are), n.proved)
+        ((always-instance a s.0.point.tuple.head s.0.instance w.holds, n.are), n.proved, n.judged)
 
 none_solved : (R : Recorded) (m : ℕ) (atoms : List Term) (xs : List ℕ) → m ≤ 0 → AreSolved R m atoms xs → AreForAtoms atoms bare
 none_solved R m [] xs l s = tt
 none_solved R m (a ∷ atoms) [] l s = absurd s
 none_solved R m (a ∷ atoms) (x ∷ xs) l s = let e = s.0.earlier in absurd (omega (arith, e, l))
 
-pub tree_in-proves : (P : List Tuple) (R : Recorded) → IsSound P R → (k e : ℕ) (l : Term) (x : IsUserExit R e) → e ≤ k → canonical l ≡ l → IsInstance l x.point.tuple.head
-    → IsProofTree P (tree_in k R e l) × (label (tree_in k R e l) ≡ l)
-tree_in-proves P R sound zero e l x m c i =
+pub tree_in-proves : (P : List Tuple) (R : Recorded) (store : Store) → IsSound P R → (k e : ℕ) (l : Term) (x : IsUserExit R e) → e ≤ k → canonical l ≡ l → IsInstance l x.point.tuple.head
+    → Stands P R store l (tree_in k R e l)
+tree_in-proves P R store sound zero e l x m c i =
     let f = fits-exit P R sound e l x c i in
-    ((f.of_clause, none_solved R e (instance_with (point_of R e).tuple l).body (exits_to R e) m f.solved, tt), f.head)
-tree_in-proves P R sound (suc k) e l x m c i =
+    record {
+      proves = (f.of_clause, none_solved R e (instance_with (point_of R e).tuple l).body (exits_to R e) m f.solved, tt);
+      label_is = f.head;
+      judged = (subst (IsAnswered R) (sym f.head) (answered R e l x i), tt, tt);
+    }
+tree_in-proves P R store sound (suc k) e l x m c i =
     let f = fits-exit P R sound e l x c i in
-    let n = nodes-proved P R sound e (tree_in k R) (λ y t u b d j. tree_in-proves P R sound k y t u (omega (arith, b, m)) d j) (instance_with (point_of R e).tuple l).body (exits_to R e) f.solved in
-    ((f.of_clause, n.are, n.proved), f.head)
+    let n = nodes-proved P R store sound e (tree_in k R) (λ y t u b d j. tree_in-proves P R store sound k y t u (omega (arith, b, m)) d j) (instance_with (point_of R e).tuple l).body (exits_to R e) f.solved in
+    record {
+      proves = (f.of_clause, n.are, n.proved);
+      label_is = f.head;
+      judged = (subst (IsAnswered R) (sym f.head) (answered R e l x i), tt, n.judged);
+    }
 
 canonical-instance : (l t : Term) → IsInstance l t → IsInstance (canonical l) t
 canonical-instance l t i = IsInstance-trans (canonical l) l t (IsInstance_from_variants (canonical l) l (canonical-canonical l)) i
 
 -- the tree of an exit, with a label that is an instance of its head
+pub tree-stands : (P : List Tuple) (R : Recorded) (store : Store) → IsSound P R → (e : ℕ) (l : Term) (x : IsUserExit R e) → IsInstance l x.point.tuple.head → Stands P R store (canonical l) (tree R e l)
+tree-stands P R store sound e l x i = tree_in-proves P R store sound e e (canonical l) x (omega arith) (canonical-canonical l) (canonical-instance l x.point.tuple.head i)
+
+-- whatever the store says
 pub tree-proves : (P : List Tuple) (R : Recorded) → IsSound P R → (e : ℕ) (l : Term) (x : IsUserExit R e) → IsInstance l x.point.tuple.head → IsProofTree P (tree R e l) × (label (tree R e l) ≡ canonical l)
-tree-proves P R sound e l x i = tree_in-proves P R sound e e (canonical l) x (omega arith) (canonical-canonical l) (canonical-instance l x.point.tuple.head i)
-
--- nothing is judged yet
-nodes-unjudged : (pairs : List Pair) (below : ℕ → Term → Tree) → ((x : ℕ) (l : Term) → IsJudgedBy pairs (below x l)) → (atoms : List Term) (xs : List ℕ) → AreJudgedBy pairs (nodes_for below atoms xs)
-nodes-unjudged pairs below h [] xs = tt
-nodes-unjudged pairs below h (a ∷ atoms) [] = tt
-nodes-unjudged pairs below h (a ∷ atoms) (x ∷ xs) = by (is_user_atom a) (nodes-unjudged pairs below h atoms xs)
-  where
-    by : (b : Bool) → AreJudgedBy pairs (nodes_for below atoms xs) → AreJudgedBy pairs (if b then beside (below x (canonical a)) (nodes_for below atoms xs) else nodes_for below atoms xs)
-    by true j = (h x (canonical a), j)
-    by false j = j
-
-pub tree_in-unjudged : (pairs : List Pair) (R : Recorded) (k e : ℕ) (l : Term) → IsJudgedBy pairs (tree_in k R e l)
-tree_in-unjudged pairs R zero e l = (tt, tt)
-tree_in-unjudged pairs R (suc k) e l =
-    (tt, nodes-unjudged pairs (tree_in k R) (λ x t. tree_in-unjudged pairs R k x t) (instance_with (point_of R e).tuple l).body (exits_to R e))
+tree-proves P R sound e l x i = let t = tree-stands P R empty_store sound e l x i in (t.proves, t.label_is)
 
 tells_no-instance : (a b : Term) → IsInstance a b → (q : Question) (r : Reply) → TellsNo a q r → TellsNo b q r
 tells_no-instance a b i (asking.True x) Yes t = t
 tells_no-instance a b i (asking.True x) No t = IsInstance-trans x a b t i
 tells_no-instance a b i (asking.True x) (Values vs) t = t
+tells_no-instance a b i (asking.True x) Unknown t = t
 tells_no-instance a b i (asking.Covers u) r t = t
 tells_no-instance a b i (asking.Below x y) r t = t
 
 -- where the store says that the label isn't true, the tree is one of a wrong answer
-pub tree-wrong : (P : List Tuple) (R : Recorded) (pairs : List Pair) → IsSound P R → (e : ℕ) (l : Term) (x : IsUserExit R e) → IsInstance l x.point.tuple.head → SaysNo pairs l → IsWrongTree P pairs (tree R e l)
-tree-wrong P R pairs sound e l x i n =
-    let t = tree-proves P R sound e l x i in
+pub tree-wrong : (P : List Tuple) (R : Recorded) (store : Store) → IsSound P R → (e : ℕ) (l : Term) (x : IsUserExit R e) → IsInstance l x.point.tuple.head → SaysNo store l → IsWrongTree P R store (tree R e l)
+tree-wrong P R store sound e l x i n =
+    let t = tree-stands P R store sound e l x i in
     record {
-      proves = t.0;
-      judged = tree_in-unjudged pairs R e e (canonical l);
-      root = subst (SaysNo pairs) (sym t.1) (some_pair-map (TellsNo l) (TellsNo (canonical l)) (tells_no-instance l (canonical l) (IsInstance-canonical l)) pairs n);
+      proves = t.proves;
+      judged = t.judged;
+      root = subst (SaysNo store) (sym t.label_is) (some_pair-map (TellsNo l) (TellsNo (canonical l)) (tells_no-instance l (canonical l) (IsInstance-canonical l)) store n);
     }

@@ -6,24 +6,24 @@ ghost use Rattle.apd_term.specs.declared.tuple.Tuple.{Tuple};
 ghost use Rattle.apd_record.specs.Recorded.{Recorded};
 ghost use Rattle.apd_answers.specs.declared.question.Reply.{Reply};
 ghost use Rattle.apd_answers.specs.declared.finding.Finding.{Finding};
-ghost use Rattle.apd_answers.specs.declared.store.Pair.{Pair};
 ghost use Rattle.apd_answers.specs.declared.question.Question.TheVariants as asking;
 ghost use Rattle.apd_answers.specs.declared.question.Reply.TheVariants.{No};
-ghost use Rattle.apd_answers.specs.Dialogue.{dialogue, ends, next_turn};
+ghost use Rattle.apd_answers.specs.Dialogue.{Exchange, dialogue, ends, next_turn};
 ghost use Rattle.apd_answers.specs.Falling.{Falls};
 ghost use Rattle.apd_answers.specs.Findings.{IsByReplies};
 ghost use Rattle.apd_divide.specs.declared.node.Strategy.{Strategy};
-ghost use Rattle.apd_divide.specs.Tree.{Tree, branching};
+ghost use Rattle.apd_divide.specs.Tree.{Tree};
 ghost use Rattle.apd_wrong.specs.Wrong.{wrong};
 ghost use Rattle.apd_wrong.specs.Support.{IsProofTree, IsWrongTree};
 ghost use Rattle.apd_divide.specs.Exits.{IsUserExit};
 ghost use Rattle.apd_divide.specs.Recorded.{tree};
 ghost use Rattle.apd_record.specs.Sound.{IsSound};
-ghost use Rattle.apd_answers.specs.Store.{SaysNo, with_pair};
+ghost use Rattle.apd_answers.specs.Store.{Store, SaysNo, with_pair};
+ghost use Rattle.apd_answers.specs.Questions.{FitsAsked};
 ghost use Rattle.apd_term.specs.Term.{Term};
 ghost use Rattle.apd_term.specs.Substitution.{IsInstance};
-ghost use Rattle.apd_wrong.specs.Verdicts.{IsVerdict};
 ghost use Rattle.apd_wrong.specs.Next.{ComesNext};
+ghost use Rattle.apd_wrong.specs.Part.{IsPartOf};
 
 /// Each turn of the diagnosis leaves fewer suspects; so it comes to a question or to its end.
 pub fn suspects_fall()
@@ -34,21 +34,26 @@ pub fn suspects_fall()
 /// where the store says that the label isn't true, as it does of a symptom once it is told, it is one of a wrong answer.
 pub fn a_recorded_tree_proves()
     ensures proves { (P : List Tuple) (R : Recorded) (e : ℕ) (l : Term) → IsSound P R → (x : IsUserExit R e) → IsInstance l x.point.tuple.head → IsProofTree P (tree R e l) }
-    ensures starts { (P : List Tuple) (R : Recorded) (pairs : List Pair) (e : ℕ) (l : Term) → IsSound P R → (x : IsUserExit R e) → IsInstance l x.point.tuple.head → SaysNo pairs l → IsWrongTree P pairs (tree R e l) }
-    ensures told { (P : List Tuple) (R : Recorded) (pairs : List Pair) (e : ℕ) (l : Term) →
+    ensures starts { (P : List Tuple) (R : Recorded) (store : Store) (e : ℕ) (l : Term) → IsSound P R → (x : IsUserExit R e) → IsInstance l x.point.tuple.head → SaysNo store l → IsWrongTree P R store (tree R e l) }
+    ensures told { (P : List Tuple) (R : Recorded) (store : Store) (e : ℕ) (l : Term) →
         IsSound P R → (x : IsUserExit R e) → IsInstance l x.point.tuple.head →
-        IsWrongTree P (with_pair pairs (asking.True l) No) (tree R e l) }
+        IsWrongTree P R (with_pair store (asking.True l) No) (tree R e l) }
 {}
 
-/// What comes next in a tree of a wrong answer is a question that the store doesn't decide, and whatever the reply, it leaves
-/// such a tree with fewer suspects, by divide and query at most (2b - 1) / (2b) of them; or it is a finding by the replies.
+/// What comes next in a tree of a wrong answer is a question that got no reply yet, and whatever the reply, it leaves such a tree
+/// with fewer suspects; by divide and query, where of no label of the whole tree it is kept that it isn't known, at most
+/// (2b - 1) / (2b) of them. Or it is a finding by the replies.
 pub fn what_comes_next()
-    ensures { (P : List Tuple) (strategy : Strategy) (pairs : List Pair) (broad : ℕ) (x : Tree) →
-        IsWrongTree P pairs x → branching x ≤ broad →
-        ComesNext P strategy pairs broad (next_turn (wrong strategy) pairs x) }
+    ensures { (P : List Tuple) (R : Recorded) (strategy : Strategy) (store : Store) (whole x : Tree) →
+        IsWrongTree P R store x → IsPartOf whole x →
+        ComesNext P R strategy store whole (next_turn (wrong strategy) store x) }
 {}
 
-/// What a dialogue about a wrong answer ends in is found by its replies.
+/// What a dialogue about a wrong answer ends in is found by its replies, where each fits what was asked.
 pub fn a_dialogue_finds_by_replies()
-    ensures { (P : List Tuple) (R : Recorded) (strategy : Strategy) (replies : List Reply) (pairs : List Pair) (x : Tree) (f : Finding) → AllByRecursion IsVerdict replies → IsWrongTree P pairs x → (dialogue (wrong strategy) replies pairs x).turn ≡ ends f → IsByReplies P R (dialogue (wrong strategy) replies pairs x).pairs f }
+    ensures { (P : List Tuple) (R : Recorded) (strategy : Strategy) (replies : List Reply) (store : Store) (x : Tree) (f : Finding) →
+        IsWrongTree P R store x →
+        AllByRecursion (λ (e : Exchange). FitsAsked e.asked e.reply) (dialogue (wrong strategy) replies store x).exchanges →
+        (dialogue (wrong strategy) replies store x).turn ≡ ends f →
+        IsByReplies P R (dialogue (wrong strategy) replies store x).store f }
 {}

@@ -1,0 +1,75 @@
+-- A store keeps each pair once; so statements that tell its pairs in their order, up to canonical form, make such a store again.
+use Rattle.std.proofs.Common.{◌≡◌, ◌++◌, ◌&&◌, ◌||◌, Bool, true, false, if◌then◌else◌, List, [], ◌∷◌, refl, sym, ◌∙◌, ap, subst}
+use Rattle.apd_answers.specs.declared.question.Question.{Question}
+use Rattle.apd_answers.specs.declared.question.Reply.{Reply}
+use Rattle.apd_answers.specs.declared.store.Pair.{Pair}
+use Rattle.apd_answers.specs.Questions.{canonical_question}
+use Rattle.apd_answers.specs.Store.{same_question, same_reply, is_kept_as, is_kept_in, with_pair_in}
+use Rattle.apd_answers.specs.Once.{AreNew, AreOnce, with_pairs_in, AreSame}
+
+none_behind : (ps : List Pair) → ps ++ [] ≡ ps
+none_behind [] = refl
+none_behind (p ∷ ps) = ap (λ xs. p ∷ xs) (none_behind ps)
+
+one_behind : (ps qs : List Pair) (p : Pair) → (ps ++ p ∷ []) ++ qs ≡ ps ++ p ∷ qs
+one_behind [] qs p = refl
+one_behind (x ∷ ps) qs p = ap (λ xs. x ∷ xs) (one_behind ps qs p)
+
+put-new : (before : List Pair) (p : Pair) → is_kept_in before p.question p.reply ≡ false → with_pair_in before p.question p.reply ≡ before ++ p ∷ []
+put-new before p e = ap (λ (b : Bool). if b then before else before ++ p ∷ []) e
+
+-- pairs that are new are all kept, in their order
+pub all-put : (before ps : List Pair) → AreNew before ps → with_pairs_in before ps ≡ before ++ ps
+all-put before [] n = sym (none_behind before)
+all-put before (p ∷ ps) n = ap (λ xs. with_pairs_in xs ps) (put-new before p n.0) ∙ all-put (before ++ p ∷ []) ps n.1 ∙ one_behind before ps p
+
+-- what is kept, by pairs that are the same
+kept-same : (ps qs : List Pair) (form : Question) (r : Reply) → AreSame ps qs → is_kept_as ps form r ≡ is_kept_as qs form r
+kept-same [] [] form r s = refl
+kept-same [] (q ∷ qs) form r s = absurd s
+kept-same (p ∷ ps) [] form r s = absurd s
+kept-same (p ∷ ps) (q ∷ qs) form r s =
+    ap (λ (f : Question). (same_question f form && same_reply p.reply r) || is_kept_as ps form r) s.0
+    ∙ ap (λ (y : Reply). (same_question (canonical_question q.question) form && same_reply y r) || is_kept_as ps form r) s.1
+    ∙ ap (λ (b : Bool). (same_question (canonical_question q.question) form && same_reply q.reply r) || b) (kept-same ps qs form r s.2)
+
+same-more : (ps qs : List Pair) (p q : Pair) → AreSame ps qs → canonical_question p.question ≡ canonical_question q.question → p.reply ≡ q.reply → AreSame (ps ++ p ∷ []) (qs ++ q ∷ [])
+same-more [] [] p q s e f = (e, f, tt)
+same-more [] (y ∷ qs) p q s e f = absurd s
+same-more (x ∷ ps) [] p q s e f = absurd s
+same-more (x ∷ ps) (y ∷ qs) p q s e f = (s.0, s.1, same-more ps qs p q s.2 e f)
+
+new-same : (before again ps qs : List Pair) → AreSame before again → AreSame ps qs → AreNew before ps → AreNew again qs
+new-same before again [] [] s t n = tt
+new-same before again [] (q ∷ qs) s t n = absurd t
+new-same before again (p ∷ ps) [] s t n = absurd t
+new-same before again (p ∷ ps) (q ∷ qs) s t n = (
+  sym (kept-same before again (canonical_question q.question) q.reply s)
+      ∙ ap (λ (f : Question). is_kept_as before f q.reply) (sym t.0)
+      ∙ ap (λ (y : Reply). is_kept_as before (canonical_question p.question) y) (sym t.1)
+      ∙ n.0,
+  new-same (before ++ p ∷ []) (again ++ q ∷ []) ps qs (same-more before again p q s t.0 t.1) t.2 n.1,
+)
+
+-- pairs that are the same as those of a store, put to an empty one in their order, are all kept
+pub put-again : (ps qs : List Pair) → AreOnce ps → AreSame ps qs → with_pairs_in [] qs ≡ qs
+put-again ps qs n s = all-put [] qs (new-same [] [] ps qs tt s n)
+
+new-more : (before ps : List Pair) (p : Pair) → AreNew before ps → is_kept_in (before ++ ps) p.question p.reply ≡ false → AreNew before (ps ++ p ∷ [])
+new-more before [] p n e = (subst (λ xs. is_kept_in xs p.question p.reply ≡ false) (none_behind before) e, tt)
+new-more before (x ∷ ps) p n e = (n.0, new-more (before ++ x ∷ []) ps p n.1 (subst (λ xs. is_kept_in xs p.question p.reply ≡ false) (sym (one_behind before ps x)) e))
+
+-- a pair that is put to a store leaves each kept once
+pub once-put : (pairs : List Pair) (q : Question) (r : Reply) → AreOnce pairs → AreOnce (with_pair_in pairs q r)
+once-put pairs q r o = by (is_kept_in pairs q r) refl
+  where
+    by : (b : Bool) → is_kept_in pairs q r ≡ b → AreOnce (if b then pairs else pairs ++ record { question = q; reply = r } ∷ [])
+    by true e = o
+    by false e = new-more [] pairs (record { question = q; reply = r }) o e
+
+-- a pair behind others, which isn't kept by them
+pub once-behind : (ps new : List Pair) (p : Pair) (form : Question) (reply : Reply) (b : Bool) → AreOnce ps → new ≡ ps ++ p ∷ [] → canonical_question p.question ≡ form → p.reply ≡ reply
+    → b ≡ is_kept_as ps form reply → b ≡ false → AreOnce new
+once-behind ps new p form reply b o is f r kept unkept =
+    let e : is_kept_in ps p.question p.reply ≡ false = ap (λ (z : Question). is_kept_as ps z p.reply) f ∙ ap (λ (z : Reply). is_kept_as ps form z) r ∙ sym kept ∙ unkept in
+    subst AreOnce (sym is) (new-more [] ps p o e)

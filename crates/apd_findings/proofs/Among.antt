@@ -1,0 +1,123 @@
+-- The tests of candidates tell what they test.
+use Rattle.std.proofs.Common.{◌≡◌, ◌↔◌, ◌⊎◌, inl, inr, ◌<◌, ◌≤◌, ◌+◌, ℕ, zero, suc, Bool, true, false, List, [], ◌∷◌, length, drop, get_or, Result, Ok, Err, refl, sym, ap, ◌∙◌, subst, arith}
+use Rattle.std.specs.Prelude.{IsTrue, IfOk}
+use Rattle.std.specs.List.{AllByRecursion}
+use Rattle.std.specs.declared.alloc.AllocError.{AllocError}
+use Rattle.std.proofs.lemmas.List.{drop_all, drop_more}
+use Rattle.apd_term.specs.Term.{Term}
+use Rattle.apd_term.specs.Canonical.{canonical}
+use Rattle.apd_term.specs.declared.instance.Instance.{Instance}
+use Rattle.apd_term.specs.declared.tuple.Tuple.{Tuple}
+use Rattle.apd_record.specs.Recorded.{Recorded}
+use Rattle.apd_record.specs.Sound.{clause_of}
+use Rattle.apd_answers.specs.Findings.{AreCandidates, AreCandidatesByReplies, IsByReplies, IsCandidate, IsHeadAmong, IsTrueWhere, SaysNoToFirst}
+use Rattle.apd_answers.specs.Store.{Store, SaysNo}
+use Rattle.apd_answers.specs.Trust.{IsGranted}
+use Rattle.apd_answers.specs.declared.finding.Finding.{Finding}
+use Rattle.apd_answers.specs.declared.finding.Finding.TheVariants.{Candidates}
+use Rattle.apd_findings.specs.Deciding.{is_instance_of, says_no}
+use Rattle.apd_findings.proofs.Tests.{instance_of-is, says_no-is}
+
+-- The heads of those that are later.
+
+module _ (a form : Term) (is : form ≡ canonical a) where
+  head-step : (cs : List Instance) (i : ℕ) (c : Instance) → i < length cs → c ≡ get_or cs i c → IsHeadAmong (drop i cs) a ↔ ((canonical c.tuple.head ≡ canonical a) ⊎ IsHeadAmong (drop (i + 1) cs) a)
+  head-step cs i c l e =
+      let d = drop_more cs i c l in
+      let one : drop i cs ≡ c ∷ drop (i + 1) cs = cc in
+      rw one (λ h. h, λ h. h)
+
+  pub head-found : (cs : List Instance) (i : ℕ) (c : Instance) (own : Term) (b : Bool) → IsHeadAmong cs a ↔ IsHeadAmong (drop i cs) a → i < length cs → c ≡ get_or cs i c → own ≡ canonical c.tuple.head → b ≡ true ↔ (own ≡ form) → b ≡ true
+      → true ≡ true ↔ IsHeadAmong cs a
+  head-found cs i c own b so_far l e f test g = (λ k. so_far.1 ((head-step cs i c l e).1 (inl (sym f ∙ test.0 g ∙ is))), λ k. refl)
+
+  pub head-passed : (cs : List Instance) (i : ℕ) (c : Instance) (own : Term) (b : Bool) → IsHeadAmong cs a ↔ IsHeadAmong (drop i cs) a → i < length cs → c ≡ get_or cs i c → own ≡ canonical c.tuple.head → b ≡ true ↔ (own ≡ form) → b ≡ false
+      → IsHeadAmong cs a ↔ IsHeadAmong (drop (i + 1) cs) a
+  head-passed cs i c own b so_far l e f test g = (
+    λ h. elim ((head-step cs i c l e).0 (so_far.0 h)) [ inl same ↦ absurd (let u : true ≡ false = sym (test.1 (f ∙ same ∙ sym is)) ∙ g in cc) | inr rest ↦ rest ],
+    λ h. so_far.1 ((head-step cs i c l e).1 (inr h)),
+  )
+
+  pub head-nowhere : (cs : List Instance) (i : ℕ) → IsHeadAmong cs a ↔ IsHeadAmong (drop i cs) a → length cs ≤ i → false ≡ true ↔ IsHeadAmong cs a
+  head-nowhere cs i so_far l = (λ k. absurd (cc), λ h. absurd (let none : IsHeadAmong [] a = rw (drop_all i cs l) at (so_far.0 h) in none))
+
+pub supported-yes : (R : Recorded) (store : Store) (later : List Instance) (a : Term) (b : Bool) → b ≡ true ↔ IsGranted R store a → b ≡ true → true ≡ true ↔ (IsGranted R store a ⊎ IsHeadAmong later a)
+supported-yes R store later a b test is = (λ k. inl (test.0 is), λ k. refl)
+
+pub supported-by : (R : Recorded) (store : Store) (later : List Instance) (a : Term) (b : Bool) (r : Result Bool AllocError) → b ≡ true ↔ IsGranted R store a → b ≡ false → IfOk r (λ x. IsTrue x ↔ IsHeadAmong later a)
+    → IfOk r (λ x. IsTrue x ↔ (IsGranted R store a ⊎ IsHeadAmong later a))
+supported-by R store later a b (Ok x) test not h = (
+  λ k. inr (h.0 k),
+  λ w. elim w [ inl y ↦ absurd (let u : true ≡ false = sym (test.1 y) ∙ not in cc) | inr z ↦ h.1 z ],
+)
+supported-by R store later a b (Err x) test not h = tt
+
+module _ (P : List Tuple) (R : Recorded) (store : Store) where
+  -- One of them.
+
+  abbrev Supported : List Instance → Term → Type 0
+  Supported later = IsTrueWhere (λ a. IsGranted R store a ⊎ IsHeadAmong later a)
+
+  pub no-instance : (later : List Instance) (c : Instance) (b : Bool) → b ≡ is_instance_of c.tuple (clause_of P c.clause) → b ≡ false → false ≡ true ↔ IsCandidate P R store later c
+  no-instance later c b e f = (λ k. absurd (cc), λ w. absurd (let u : true ≡ false = sym ((instance_of-is c.tuple (clause_of P c.clause)).1 w.of_clause) ∙ sym e ∙ f in cc))
+
+  pub candidate-by : (later : List Instance) (c : Instance) (b : Bool) (r : Result Bool AllocError) → b ≡ is_instance_of c.tuple (clause_of P c.clause) → b ≡ true → IfOk r (λ x. IsTrue x ↔ AllByRecursion (Supported later) c.tuple.body)
+      → IfOk r (λ x. IsTrue x ↔ IsCandidate P R store later c)
+  candidate-by later c b (Ok x) e f test = (
+    λ k. record { of_clause = (instance_of-is c.tuple (clause_of P c.clause)).0 (sym e ∙ f); body = test.0 k },
+    λ w. test.1 w.body,
+  )
+  candidate-by later c b (Err x) e f test = tt
+
+  -- Each of them.
+
+  each-step : (cs : List Instance) (i : ℕ) (c : Instance) → i < length cs → c ≡ get_or cs i c → AreCandidates P R store (drop i cs) ↔ (IsCandidate P R store (drop (i + 1) cs) c × AreCandidates P R store (drop (i + 1) cs))
+  each-step cs i c l e =
+      let d = drop_more cs i c l in
+      let one : drop i cs ≡ c ∷ drop (i + 1) cs = cc in
+      rw one (λ h. h, λ h. h)
+
+  pub each-fails : (cs : List Instance) (i : ℕ) (c : Instance) (b : Bool) → AreCandidates P R store cs ↔ AreCandidates P R store (drop i cs) → i < length cs → c ≡ get_or cs i c → b ≡ true ↔ IsCandidate P R store (drop (i + 1) cs) c → b ≡ false
+      → false ≡ true ↔ AreCandidates P R store cs
+  each-fails cs i c b so_far l e test fails = (
+    λ k. absurd (cc),
+    λ all. absurd (let h = (each-step cs i c l e).0 (so_far.0 all) in let t : true ≡ false = sym (test.1 h.0) ∙ fails in cc),
+  )
+
+  pub each-goes : (cs : List Instance) (i : ℕ) (c : Instance) (b : Bool) → AreCandidates P R store cs ↔ AreCandidates P R store (drop i cs) → i < length cs → c ≡ get_or cs i c → b ≡ true ↔ IsCandidate P R store (drop (i + 1) cs) c → b ≡ true
+      → AreCandidates P R store cs ↔ AreCandidates P R store (drop (i + 1) cs)
+  each-goes cs i c b so_far l e test goes = (
+    λ all. ((each-step cs i c l e).0 (so_far.0 all)).1,
+    λ rest. so_far.1 ((each-step cs i c l e).1 (test.0 goes, rest)),
+  )
+
+  pub each-ends : (cs : List Instance) (i : ℕ) → AreCandidates P R store cs ↔ AreCandidates P R store (drop i cs) → length cs ≤ i → true ≡ true ↔ AreCandidates P R store cs
+  each-ends cs i so_far l = (λ k. so_far.1 (rw (drop_all i cs l) tt), λ k. refl)
+
+  -- All together.
+
+  pub too-few : (cs : List Instance) → length cs < 2 → false ≡ true ↔ AreCandidatesByReplies P R store cs
+  too-few cs l = (λ k. absurd (cc), λ w. absurd (let s = w.several in omega (arith, l, s)))
+
+  pub some-fails : (cs : List Instance) (b : Bool) → b ≡ true ↔ AreCandidates P R store cs → b ≡ false → false ≡ true ↔ AreCandidatesByReplies P R store cs
+  some-fails cs b test f = (λ k. absurd (cc), λ w. absurd (let u : true ≡ false = sym (test.1 w.each) ∙ f in cc))
+
+  first-is : (cs : List Instance) (c : Instance) → 0 < length cs → c ≡ get_or cs 0 c → SaysNoToFirst store cs ↔ SaysNo store c.tuple.head
+  first-is [] c l e = absurd (omega (arith, l))
+  first-is (d ∷ ds) c l e = (
+    λ h. subst (λ (x : Instance). SaysNo store x.tuple.head) (sym e) h,
+    λ h. subst (λ (x : Instance). SaysNo store x.tuple.head) e h,
+  )
+
+  pub candidates-if : (cs : List Instance) (c : Instance) (b : Bool) (r : Result Bool AllocError) → 2 ≤ length cs → b ≡ true ↔ AreCandidates P R store cs → b ≡ true → c ≡ get_or cs 0 c → IfOk r (λ x. x ≡ says_no store c.tuple.head)
+      → IfOk r (λ x. IsTrue x ↔ AreCandidatesByReplies P R store cs)
+  candidates-if cs c b (Ok x) l test f e h =
+      let first = first-is cs c (omega (arith, l)) e in (
+        λ k. record { several = l; each = test.0 f; first = first.1 ((says_no-is store c.tuple.head).0 (sym h ∙ k)) },
+        λ w. h ∙ (says_no-is store c.tuple.head).1 (first.0 w.first),
+      )
+  candidates-if cs c b (Err x) l test f e h = tt
+
+  pub candidates-by : (f : Finding) (cs : List Instance) (r : Result Bool AllocError) → f ≡ Candidates cs → IfOk r (λ b. IsTrue b ↔ AreCandidatesByReplies P R store cs) → IfOk r (λ b. IsTrue b ↔ IsByReplies P R store f)
+  candidates-by f cs (Ok b) e h = rw e h
+  candidates-by f cs (Err x) e h = tt

@@ -1,0 +1,10 @@
+pub mod Instances
+pub mod Standing
+pub mod Tests
+pub mod Telling
+pub mod Clauses
+pub mod Following
+pub mod Calls
+pub mod Each
+pub mod Granted
+pub mod Among

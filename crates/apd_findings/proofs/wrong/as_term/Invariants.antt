@@ -1,0 +1,7 @@
+use Rattle.std.proofs.Common.{◌≡◌, drop, take}
+use Rattle.std.specs.List.{list_any, list_all}
+use Rattle.std.proofs.Common.{◌∷◌}
+use Rattle.apd_findings.proofs.wrong.as_term.Given as goal
+
+abbrev pub invariant-atoms : goal.invariant-atoms
+invariant-atoms l = l.parts ≡ l.tuple.head ∷ take l.atom-index l.tuple.body

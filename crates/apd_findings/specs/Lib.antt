@@ -1,0 +1,5 @@
+pub mod Always
+pub mod Deciding
+pub mod Following
+pub mod Calling
+pub mod Granting

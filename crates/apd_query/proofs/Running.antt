@@ -1,19 +1,11 @@
 -- A run as a whole.
-use Rattle.std.proofs.Common.{◌≡◌, ℕ, ◌+◌, ◌⊎◌, inl, inr, List, [], ◌∷◌, ◌++◌, length, refl, ap, sym, ◌∙◌, Option, Some, subst, Bool, true, false, if◌then◌else◌, Result}
+use Rattle.std.proofs.Common.{◌≡◌, ℕ, ◌+◌, ◌⊎◌, inl, inr, List, [], ◌∷◌, ◌++◌, length, refl, ap, sym, ◌∙◌, Option, Some, subst, Bool, true, false, if◌then◌else◌}
 use Rattle.apd_io.specs.Outside.{Adds}
 use Rattle.apd_console.specs.Print.{AddsFront}
 use Rattle.apd_talk.specs.Utterance.{Utters, UttersFront}
 use Rattle.apd_console.proofs.Printing.{Adds-more}
 use Rattle.apd_talk.proofs.Uttering.{Utters-one, UttersFront-none, UttersFront-one, UttersFront-begun}
-use Rattle.apd_clauses.specs.Clauses.{IsProgram, MayRun, tuples_of}
-use Rattle.apd_clauses.specs.declared.clause.Clause.{Clause}
-use Rattle.apd_clauses.proofs.Pure.{goals_are_atoms}
-use Rattle.apd_record.specs.Full.{IsFull}
-use Rattle.apd_record.specs.Recorded.{Recorded}
-use Rattle.apd_record.specs.Sound.{IsSound}
-use Rattle.apd_recorded.specs.Told.{record_of}
-use Rattle.apd_recorded.proofs.Law.{run_sound, run_full}
-use Rattle.apd_recorded.proofs.Recording.{program_clauses}
+use Rattle.apd_clauses.specs.Clauses.{tuples_of}
 use Rattle.apd_ops.specs.Table.{Table}
 use Rattle.apd_ports.specs.Filter.{Admission, after_event, before_events, is_admitted}
 use Rattle.apd_ports.specs.declared.hook.Shown.{Shown}
@@ -29,14 +21,9 @@ use Rattle.apd_text.specs.declared.entry.Entry.{Entry}
 use Rattle.apd_text.specs.declared.entry.Entry.TheVariants.{Run}
 use Rattle.apd_trace.proofs.Named.{run_named}
 use Rattle.apd_trace.specs.Named.{AllShownNamed}
-use Rattle.apd_trace.specs.Run.{query_run, shown_of, ran_of}
-use Rattle.apd_engine.specs.Cut.{IsCut}
-use Rattle.apd_engine.specs.declared.running.RunFault.{RunFault}
-use Rattle.apd_ports.specs.Hook.{GoesThrough}
-use Rattle.apd_ports.specs.declared.hook.HookFault.{HookFault}
-use Rattle.apd_query.specs.Histories.{record_by}
-use Rattle.apd_query.specs.Running.{IsRecordOf, entered, lines_of}
-use Rattle.apd_query.specs.Runs.{shown_text, run_for, run_in, run_text, run_said, said_for}
+use Rattle.apd_trace.specs.Run.{shown_of, ran_of}
+use Rattle.apd_query.specs.Running.{entered, lines_of}
+use Rattle.apd_query.specs.Runs.{shown_text, run_for, run_text, run_said, said_for}
 use Rattle.apd_talk.specs.Speech.{begun}
 use Rattle.apd_query.specs.declared.state.State.{State}
 use Rattle.apd_query.proofs.Passing.{front_more, front_less}
@@ -112,32 +99,3 @@ run_ends ops names more s q log middle log_now x y z w ran program named pushed 
     let end : AddsFront z w (end_text (ran_for s q)) = subst (λ (r : Ran). AddsFront z w (end_text r)) is last in
     UttersFront-one begun log log_now x w (said_for ops (names ++ more) s q) (ended ops (names ++ more) s q log middle log_now ran pushed is finishes)
     (subst (λ (t : List ℕ). AddsFront x w t) (text_is ops names more s q program named) (front_more x y w _ _ head (front_more y z w _ _ lines end)))
-
--- the record that is kept is that of the run
-pub history_is : (s : State) (q : Query) (program : List Clause) (asked : Query) (h : Recorded) → program ≡ s.program → asked ≡ q → h ≡ record_by program asked s.budget s.answers → h ≡ record_of (run_in s q).passed
-unfolding run_for
-history_is s q program asked h same copied is =
-    is ∙ ap (λ (cs : List Clause). record_by cs asked s.budget s.answers) same ∙ ap (λ (x : Query). record_by s.program x s.budget s.answers) copied
-
-pub is_record : (s : State) (q : Query) (h : Recorded) → IsProgram s.program → MayRun q.tuple → h ≡ record_of (run_in s q).passed → IsRecordOf s q h
-unfolding run_for
-is_record s q h program may is =
-    record {
-      is = is;
-      sound = subst (IsSound (tuples_of s.program)) (sym is) (run_sound (tuples_of s.program) (program_clauses s.program program) q.tuple (goals_are_atoms q.tuple.body may.body.goals) s.budget s.answers);
-      full = subst (IsFull (tuples_of s.program)) (sym is) (run_full (tuples_of s.program) (program_clauses s.program program) q.tuple (goals_are_atoms q.tuple.body may.body.goals) s.budget s.answers);
-    }
-
--- what is said of a run by an equal program is said of this one
-module _ {H : Type 0} (step : H → Shown → Result (Unit {0}) HookFault → H → Type 0) (start end : H) (s : State) (q : Query) (program : List Clause) (same : program ≡ s.program) where
-  pub shown_in : GoesThrough step start (shown_of (query_run (tuples_of program) q.tuple s.budget s.answers).passed) end → GoesThrough step start (shown_of (run_in s q).passed) end
-  unfolding run_for
-  shown_in h = subst (λ (cs : List Clause). GoesThrough step start (shown_of (query_run (tuples_of cs) q.tuple s.budget s.answers).passed) end) same h
-
-  pub cut_in : (fault : RunFault) → IsCut step start (shown_of (query_run (tuples_of program) q.tuple s.budget s.answers).passed) end fault → IsCut step start (shown_of (run_in s q).passed) end fault
-  unfolding run_for
-  cut_in fault h = subst (λ (cs : List Clause). IsCut step start (shown_of (query_run (tuples_of cs) q.tuple s.budget s.answers).passed) end fault) same h
-
-pub ran_in : (s : State) (q : Query) (program : List Clause) (ran : Ran) → program ≡ s.program → ran ≡ ran_of (query_run (tuples_of program) q.tuple s.budget s.answers) → ran ≡ ran_of (run_in s q)
-unfolding run_for
-ran_in s q program ran same h = h ∙ ap (λ (cs : List Clause). ran_of (query_run (tuples_of cs) q.tuple s.budget s.answers)) same

@@ -1,5 +1,4 @@
 pub mod Runs
-pub mod Histories
 pub mod Printing
 pub mod Printed
 pub mod Running

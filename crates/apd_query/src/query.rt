@@ -10,18 +10,18 @@ ghost use Rattle.apd_text.specs.Lines.{end_text};
 ghost use Rattle.apd_trace.specs.Run.{ran_of};
 ghost use Rattle.apd_words.specs.Words.{AreLimits};
 ghost use Rattle.apd_query.specs.Printed.{lines_by};
-ghost use Rattle.apd_query.specs.Running.{Begins, BeginsFront, IsReady, IsRunOf, lines_of};
+ghost use Rattle.apd_query.specs.Running.{Begins, BeginsFront, IsReady, IsRecordOf, IsRunOf, lines_of};
 ghost use Rattle.apd_query.specs.Runs.{last_run, run_in, said_for};
 ghost use Rattle.apd_talk.specs.Speech.{HasWriteCause, Says, spoken};
 
-use crate::history::History;
 use crate::printer::Printer;
 use crate::state::{LastRun, State};
 use apd_causes::{Query, Ran};
 use apd_console::Console;
-use apd_engine::{RunFault, show};
+use apd_engine::{RunFault, run};
 use apd_io::Sink;
 use apd_ports::Admit;
+use apd_record::Record;
 use apd_talk::Trouble;
 use apd_text::{Entry, Log, end_line, head_line};
 use std::alloc::Global;
@@ -57,12 +57,13 @@ fn begin_run<K: Sink>(
     Ok(())
 }
 
-/// Searches, and shows the printer the ports and the answers.
+/// Searches, shows the printer the ports and the answers, and records what is passed.
 fn show_to<K: Sink>(
     alloc: Global,
     state: &State,
     query: &Query,
     printer: &mut Printer<K>,
+    history: &mut Record,
 ) -> Result<Ran, Trouble>
     requires limits { AreLimits state.now.budget state.now.answers }
     requires runnable { MayRun query.now.tuple }
@@ -73,24 +74,33 @@ fn show_to<K: Sink>(
         (lines_by printer.old (run_in state.now query.now))) }
     ensures err { OnErr result (AddsFront (K.held printer.old.out.now) (K.held printer.new.out.now)
         (lines_by printer.old (run_in state.now query.now))) }
+    ensures kept { OnOk result (IsRecordOf state.now query.now history.new) }
     ensures cause { HasWriteCause
         (K.faults printer.old.out.now) (K.faults printer.new.out.now) result }
 {
-    let program = state.program.get();
-    match show(alloc, program, query, state.budget, state.answers, printer) {
+    match run(
+        alloc,
+        &state.program,
+        query,
+        state.budget,
+        state.answers,
+        printer,
+        history,
+    ) {
         Ok(ran) => Ok(ran),
         Err(RunFault::WriteFault) => Err(Trouble::WriteFault),
         Err(RunFault::Memory) => Err(Trouble::Memory),
     }
 }
 
-/// Searches, and prints the ports that the filter admits and the answers.
+/// Searches, prints the ports that the filter admits and the answers, and records what is passed.
 fn search<K: Sink>(
     alloc: Global,
     state: &State,
     query: &Query,
     log: &Log,
     out: &mut K,
+    history: &mut Record,
 ) -> Result<Ran, Trouble>
     requires ready { IsReady (length log.now.names) state.now }
     requires runnable { MayRun query.now.tuple }
@@ -99,6 +109,7 @@ fn search<K: Sink>(
         (lines_of log.now.ops log.now.names state.now query.now)) }
     ensures err { OnErr result (AddsFront (K.held out.old) (K.held out.new)
         (lines_of log.now.ops log.now.names state.now query.now)) }
+    ensures kept { OnOk result (IsRecordOf state.now query.now history.new) }
     ensures cause { HasWriteCause (K.faults out.old) (K.faults out.new) result }
 {
     let mut admit = Admit::new(alloc, &state.filter)?;
@@ -111,7 +122,7 @@ fn search<K: Sink>(
         admit: &mut admit,
         answers: 0,
     };
-    show_to(alloc, state, query, &mut printer)
+    show_to(alloc, state, query, &mut printer, history)
 }
 
 /// Sets the end of a run in the log, and prints its last line.
@@ -129,7 +140,30 @@ fn end_run<K: Sink>(alloc: Global, ran: Ran, out: &mut K, log: &mut Log) -> Resu
     Ok(())
 }
 
-/// Runs a query: its entry, its lines and its end. The answer is the run as it is kept.
+/// Says a query's run: its entry, its lines and its end. What is passed is recorded.
+fn say_run<K: Sink>(
+    alloc: Global,
+    state: &State,
+    query: &Query,
+    out: &mut K,
+    log: &mut Log,
+    history: &mut Record,
+) -> Result<Ran, Trouble>
+    requires ready { IsReady (length log.old.names) state.now }
+    requires runnable { MayRun query.now.tuple }
+    requires named { TupleIsNamed (length log.old.names) query.now.tuple }
+    ensures ran { IfOk result (λ r. r ≡ ran_of (run_in state.now query.now)) }
+    ensures kept { OnOk result (IsRecordOf state.now query.now history.new) }
+    ensures says { Says (λ ops names. said_for ops names state.now query.now ∷ [])
+        (spoken K.Sink log.old out.old) (spoken K.Sink log.new out.new) result }
+{
+    begin_run(alloc, state, query, out, log)?;
+    let ran = search(alloc, state, query, log, out, history)?;
+    end_run(alloc, ran, out, log)?;
+    Ok(ran)
+}
+
+/// Runs a query: its entry, its lines and its end. The answer is the run as it is kept, with the record that it left.
 ///
 /// # Errors
 ///
@@ -149,15 +183,11 @@ pub fn run_query<K: Sink>(
     ensures says { Says (λ ops names. said_for ops names state.now query ∷ [])
         (spoken K.Sink log.old out.old) (spoken K.Sink log.new out.new) result }
 {
-    let _count = state.program.get().count();
-    let program = state.program.share()?;
-    let asked = query.copy(alloc)?;
-    begin_run(alloc, state, &query, out, log)?;
-    let ran = search(alloc, state, &query, log, out)?;
-    end_run(alloc, ran, out, log)?;
+    let mut history = Record::new(alloc);
+    let ran = say_run(alloc, state, &query, out, log, &mut history)?;
     Ok(LastRun {
         query,
-        history: History::new(program, asked, state.budget, state.answers),
+        history,
         end: ran.end,
     })
 }

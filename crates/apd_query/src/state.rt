@@ -1,19 +1,19 @@
 //! What a session keeps from line to line.
 
-use crate::history::History;
-use crate::shared::SharedProgram;
 use apd_answers::Answers;
 use apd_causes::{Query, RunEnd};
+use apd_clauses::Program;
 use apd_divide::Strategy;
 use apd_ports::Filter;
+use apd_record::Record;
 
 /// The last run of a session.
 #[derive(Drop)]
 pub struct LastRun {
     /// What was asked.
     pub query: Query,
-    /// The boxes and points of its search, recorded when they are first asked for.
-    pub history: History,
+    /// The boxes and points of its search, recorded as it was made.
+    pub history: Record,
     /// How it ended.
     pub end: RunEnd,
 }
@@ -22,7 +22,7 @@ pub struct LastRun {
 #[derive(Drop)]
 pub struct State {
     /// The program that was loaded.
-    pub program: SharedProgram,
+    pub program: Program,
     /// The most ports that a run shows, from 1 to 1,000,000.
     pub budget: u32,
     /// The most answers that a run shows, from 1 to 1,000,000.

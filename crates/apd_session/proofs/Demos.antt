@@ -1,6 +1,7 @@
 -- A demonstration: what it says in parts, and as a session.
 use Rattle.std.proofs.Common.{◌≡◌, ℕ, List, [], ◌++◌, refl, sym, ap, ◌∙◌, subst, inl, inr, Option, Some, None}
 use Rattle.std.specs.Prelude.{Result, Ok, Err, pos}
+use Rattle.apd_answers.specs.Store.{empty_store}
 use Rattle.apd_account.specs.Account.{with_told}
 use Rattle.apd_answers.specs.Dialogue.{Dialogue}
 use Rattle.apd_answers.specs.declared.finding.Finding.{Finding}
@@ -102,7 +103,7 @@ transcript_is {names} reader ops nodes s passed called c warned is =
 
 -- what the text of the tree made
 pub tree_made : {names : List (List ℕ)} (reader : Reader names) (options : Options) (nodes : ℕ) (text bytes : List ℕ) (program now : List Clause) (ops ops_now : Table) (passed passed_now : List Note) (st : Status) (log : Log) (x y : Option (List ℕ))
-    → IsSaid st (demonstrates reader nodes (first_state now options []) ops_now passed_now) log x y → bytes ≡ text → program_of reader bytes ≡ loads (record { program = program; ops = ops; passed = passed })
+    → IsSaid st (demonstrates reader nodes (first_state now options empty_store) ops_now passed_now) log x y → bytes ≡ text → program_of reader bytes ≡ loads (record { program = program; ops = ops; passed = passed })
     → program ≡ now → ops ≡ ops_now → passed ≡ passed_now → IsSaid st (after_tree reader options nodes (program_of reader text)) log x y
 tree_made reader options nodes text bytes program now ops ops_now passed passed_now st log x y said b made p o q =
     let is : program_of reader text ≡ loads (record { program = now; ops = ops_now; passed = passed_now }) =

@@ -4,7 +4,7 @@ use Rattle.std.specs.Prelude.{Result, Ok, Err, IfOk, MatchResult}
 use Rattle.apd_answers.specs.Dialogue.{Diagnosis}
 use Rattle.apd_answers.specs.Going.{at, Breaks, Reaches}
 use Rattle.apd_answers.specs.declared.oracle.AskEnd.{AskEnd}
-use Rattle.apd_answers.specs.declared.store.Pair.{Pair}
+use Rattle.apd_answers.specs.Store.{Store}
 use Rattle.apd_console.specs.Console.{IsKept}
 use Rattle.apd_debug.specs.Asking.{dialogue_step, moment_of}
 use Rattle.apd_debug.specs.Hearing.{HearsReplies}
@@ -30,40 +30,40 @@ abbrev pub HearsFor : {D E : Type 0} → Method D E → Type 0
 HearsFor d = (names : List (List ℕ)) (reader : Reader names) (ops : Table) (s : State) → HearsReplies (d.diagnosis s) (d.found s) (situation d s) reader ops (talker reader ops)
 
 pub hears_wrong : HearsFor by_wrong
-hears_wrong names reader ops s = record { steps = λ pairs count asked next line. refl; closes = λ pairs count asked next close. refl }
+hears_wrong names reader ops s = record { steps = λ store count asked next line. refl; closes = λ store count asked next close. refl }
 
 pub hears_missing : HearsFor by_missing
-hears_missing names reader ops s = record { steps = λ pairs count asked next line. refl; closes = λ pairs count asked next close. refl }
+hears_missing names reader ops s = record { steps = λ store count asked next line. refl; closes = λ store count asked next close. refl }
 
 pub hears_loop : HearsFor by_loop
-hears_loop names reader ops s = record { steps = λ pairs count asked next line. refl; closes = λ pairs count asked next close. refl }
+hears_loop names reader ops s = record { steps = λ store count asked next line. refl; closes = λ store count asked next close. refl }
 
-module _ {D E : Type 0} (d : Method D E) (hears : HearsFor d) (this : Diagnosis D E) (IsKnown : ℕ → List Pair → D → Type 0) (keeps : (s : State) → KeepsNamed this (d.found s) IsKnown)
-    {S K : Type 0} (s : Source.Ghosts S) (k : Sink.Ghosts K) (x : D) (pairs pairs_now : List Pair) (from to : Dialogue S K s k) where
+module _ {D E : Type 0} (d : Method D E) (hears : HearsFor d) (this : Diagnosis D E) (IsKnown : ℕ → Store → D → Type 0) (keeps : (s : State) → KeepsNamed this (d.found s) IsKnown)
+    {S K : Type 0} (s : Source.Ghosts S) (k : Sink.Ghosts K) (x : D) (store pairs_now : Store) (from to : Dialogue S K s k) where
   -- the diagnosis came to its end over the dialogue, or it broke off
   abbrev Went : Diagnosis D E → Result E AskEnd → Type 0
-  Went z result = MatchResult result (λ e. Reaches z (dialogue_step s k) (at pairs x from) pairs_now to e) (λ e. Breaks z (dialogue_step s k) (at pairs x from) pairs_now to e)
+  Went z result = MatchResult result (λ e. Reaches z (dialogue_step s k) (at store x from) pairs_now to e) (λ e. Breaks z (dialogue_step s k) (at store x from) pairs_now to e)
 
-  found_named : (t : State) (answer : Result E AskEnd) → Went this answer → IsKnown (length from.log.now.names) pairs x → IfOk answer (λ e. EntryIsNamed (length to.log.now.names) (d.found t e))
-  found_named t (Ok e) reached known = named_reached this (d.found t) IsKnown (keeps t) (dialogue_step s k) (conversing s k) (at pairs x from) pairs_now to e reached known
+  found_named : (t : State) (answer : Result E AskEnd) → Went this answer → IsKnown (length from.log.now.names) store x → IfOk answer (λ e. EntryIsNamed (length to.log.now.names) (d.found t e))
+  found_named t (Ok e) reached known = named_reached this (d.found t) IsKnown (keeps t) (dialogue_step s k) (conversing s k) (at store x from) pairs_now to e reached known
   found_named t (Err end) broke known = tt
 
   -- in a state in which the diagnosis is this one
-  is_diagnosed : (result : Result E AskEnd) → Went this result → IsKnown (length from.log.now.names) pairs x → (names : List (List ℕ)) (reader : Reader names) → Grown to.log.now.names names → (t : State) → d.diagnosis t ≡ this →
-      IsDiagnosed d reader t x (answered pairs from.asked) (answered pairs_now to.asked) (moment_of s k from) (moment_of s k to) result
+  is_diagnosed : (result : Result E AskEnd) → Went this result → IsKnown (length from.log.now.names) store x → (names : List (List ℕ)) (reader : Reader names) → Grown to.log.now.names names → (t : State) → d.diagnosis t ≡ this →
+      IsDiagnosed d reader t x (answered store from.asked) (answered pairs_now to.asked) (moment_of s k from) (moment_of s k to) result
   is_diagnosed result went known names reader grew t same =
       diagnosed_so (d.diagnosis t) (d.found t) IsKnown (subst (λ (z : Diagnosis D E). KeepsNamed z (d.found t) IsKnown) (sym same) (keeps t)) (dialogue_step s k) (conversing s k)
-      (situation d t) reader from.log.now.ops (talker reader from.log.now.ops) (hears names reader from.log.now.ops t) (at pairs x from) pairs_now to result
+      (situation d t) reader from.log.now.ops (talker reader from.log.now.ops) (hears names reader from.log.now.ops t) (at store x from) pairs_now to result
       (subst (λ (z : Diagnosis D E). Went z result) (sym same) went) refl known grew
 
-  pub diagnoses : (result : Result E AskEnd) → Went this result → IsKnown (length from.log.now.names) pairs x → AreReplies (length from.log.now.names) pairs → IsKept from.console.now → (entry : E → Entry) → KeepsNamed this entry IsKnown →
-      Diagnoses d this x (answered pairs from.asked) (answered pairs_now to.asked) (moment_of s k from) (moment_of s k to) result
+  pub diagnoses : (result : Result E AskEnd) → Went this result → IsKnown (length from.log.now.names) store x → AreReplies (length from.log.now.names) store → IsKept from.console.now → (entry : E → Entry) → KeepsNamed this entry IsKnown →
+      Diagnoses d this x (answered store from.asked) (answered pairs_now to.asked) (moment_of s k from) (moment_of s k to) result
   diagnoses result went known replies sound entry keeps_entry =
-      let kept = keeps_dialogue s k this (at pairs x from) pairs_now to result went in
+      let kept = keeps_dialogue s k this (at store x from) pairs_now to result went in
       record {
         keeps = kept.keeps sound;
         keeps_place = kept.keeps_place;
         course = λ names grew reader t same. is_diagnosed result went known names reader grew t same;
         named = λ t. found_named t result went known;
-        replies = replies_kept this entry IsKnown keeps_entry (dialogue_step s k) (conversing s k) (at pairs x from) pairs_now to result went known replies;
+        replies = replies_kept this entry IsKnown keeps_entry (dialogue_step s k) (conversing s k) (at store x from) pairs_now to result went known replies;
       }

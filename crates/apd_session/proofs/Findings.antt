@@ -19,7 +19,7 @@ use Rattle.apd_console.specs.Lines.{Close, InputEnd, hear}
 use Rattle.apd_console.specs.declared.line.Line.{Line}
 use Rattle.apd_answers.specs.Fitting.{AllFit}
 use Rattle.apd_answers.specs.Interpretation.{Interpretation}
-use Rattle.apd_answers.specs.declared.store.Pair.{Pair}
+use Rattle.apd_answers.specs.Store.{Store, empty_store}
 use Rattle.apd_known.specs.Files.{States, stated_in}
 use Rattle.apd_known.specs.Files as oracle
 use Rattle.apd_known.proofs.Fitting.{FitsIn, stated_fit}
@@ -42,7 +42,7 @@ use Rattle.apd_talk.specs.Speech.{plain}
 use Rattle.apd_text.specs.declared.entry.Entry.{Entry}
 use Rattle.apd_text.specs.declared.entry.Entry.TheVariants.{FileTooLong, InputFault, Loaded, OracleRefused}
 use Rattle.apd_text.specs.declared.entry.Refusal.TheVariants.{NotACommand}
-use Rattle.apd_account.specs.Account.{Account, after_entries}
+use Rattle.apd_account.specs.Account.{Account, after_entries, account_with}
 use Rattle.apd_account.specs.Right.{AreRight, IsRight}
 use Rattle.apd_account.proofs.Fronts.{right-append}
 use Rattle.apd_commands.specs.Filters.{filter_at, trace_asked}
@@ -58,7 +58,7 @@ use Rattle.apd_query.specs.declared.state.State.{State}
 use Rattle.apd_session.specs.Demo.{asked_said, blamed, query_line, shown_said}
 use Rattle.apd_words.proofs.Alone.{words-alone}
 use Rattle.apd_words.specs.Words.{InFile, OfTree, Options, StandsAlone, Subject, options_of}
-use Rattle.apd_session.specs.Headline.{AreRightFor, account_with, replies_in}
+use Rattle.apd_session.specs.Headline.{AreRightFor, replies_in}
 use Rattle.apd_session.specs.Outcome.{IsFileLoad, IsSubjectText}
 use Rattle.apd_session.specs.Session.{World, FileLoad, Gives, Faults, Transcript, after_load, after_options, after_prepared, after_subject, after_tree, after_words, ends_before, first_state, prepared, prepared_by, prepared_from, says_one, session_of}
 use Rattle.apd_session.specs.declared.preparing.Prepared.TheVariants.{Knows, Refuses}
@@ -126,17 +126,17 @@ module _ (m : Interpretation) (program : List Clause) (is : IsProgram program) (
   Right a us = AreRight m program strategy a (entries_of us)
 
   -- one line
-  line-step : (s : Situation) (a : Account) (line : Line) → Stands m program is strategy s a → IsStep m program is strategy a ((talker reader ops).step s line)
+  pub line-step : (s : Situation) (a : Account) (line : Line) → Stands m program is strategy s a → IsStep m program is strategy a ((talker reader ops).step s line)
   line-step s a line h = by s.mode h.mode
     where
       by : (mode : Waiting) → IsMode m program is strategy mode a → IsStep m program is strategy a (step_for reader ops s.state mode line)
       by ForCommand k = command-step m program is strategy ops names s.state a (command_in reader ops line) (λ q e. query_atoms reader ops line q e) h.state
       by (ForWrong asked next) k =
-          wrong_reply-step m program is strategy ops names s.state a asked next (spoken_of asked.question (line_in reader ops line)) (λ r e. reply_fits asked.question (line_in reader ops line) r e) h.state k
+          wrong_reply-step m program is strategy ops names s.state a asked next (spoken_of asked (line_in reader ops line)) (λ r e. reply_fits asked (line_in reader ops line) r e) h.state k
       by (ForMissing asked next) k =
-          missing_reply-step m program is strategy ops names s.state a asked next (spoken_of asked.question (line_in reader ops line)) (λ r e. reply_fits asked.question (line_in reader ops line) r e) h.state k
+          missing_reply-step m program is strategy ops names s.state a asked next (spoken_of asked (line_in reader ops line)) (λ r e. reply_fits asked (line_in reader ops line) r e) h.state k
       by (ForLoop asked next) k =
-          loop_reply-step m program is strategy ops names s.state a asked next (spoken_of asked.question (line_in reader ops line)) (λ r e. reply_fits asked.question (line_in reader ops line) r e) h.state k
+          loop_reply-step m program is strategy ops names s.state a asked next (spoken_of asked (line_in reader ops line)) (λ r e. reply_fits asked (line_in reader ops line) r e) h.state k
 
   -- what is said after what is right
   both-right : (a : Account) (us vs : List (Utterance Entry)) → Right a us → Right (after_entries program a (entries_of us)) vs → Right a (us ++ vs)
@@ -202,29 +202,29 @@ module _ (m : Interpretation) (program : List Clause) (is : IsProgram program) (
 
 -- Each session.
 
-first_stands : (m : Interpretation) (options : Options) (program : List Clause) (pairs : List Pair) (is : IsProgram program) → AllFit pairs
-    → Stands m program is options.strategy (ready_in (first_state program options pairs)) (account_with pairs)
-first_stands m options program pairs is fit = record {
-  state = record { program_is = refl; strategy_is = refl; pairs_are = refl; fit = fit; last = (refl, tt) };
+pub first_stands : (m : Interpretation) (options : Options) (program : List Clause) (store : Store) (is : IsProgram program) → AllFit store
+    → Stands m program is options.strategy (ready_in (first_state program options store)) (account_with store)
+first_stands m options program store is fit = record {
+  state = record { program_is = refl; strategy_is = refl; store_is = refl; fit = fit; last = (refl, tt) };
   mode = tt;
 }
 
 module _ (m : Interpretation) {names : List (List ℕ)} (reader : Reader names) (options : Options) where
-  abbrev RightWith : List Clause → List Pair → Transcript → Type 0
-  RightWith program pairs t = AreRight m program options.strategy (account_with pairs) (entries_of t.utterances)
+  abbrev RightWith : List Clause → Store → Transcript → Type 0
+  RightWith program store t = AreRight m program options.strategy (account_with store) (entries_of t.utterances)
 
   -- with these replies known
-  known_so-right : (input : List ℕ) (ends : InputEnd) (program : List Clause) (ops : Table) (passed : List Note) (statements : Option ℕ) (pairs : List Pair) → IsProgram program → AllFit pairs → RightWith program pairs (after_prepared reader options input ends program ops passed (Knows statements pairs))
-  known_so-right input ends program ops passed statements pairs is fit =
-      before-right m program is options.strategy names reader ops (account_with pairs) passed (warnings_of program) statements (replies (talker reader ops) (ready_in (first_state program options pairs)) 16777216 input ends).utterances
-      (conversation-right m program is options.strategy names reader ops (ready_in (first_state program options pairs)) (account_with pairs) 16777216 input ends (first_stands m options program pairs is fit))
+  known_so-right : (input : List ℕ) (ends : InputEnd) (program : List Clause) (ops : Table) (passed : List Note) (statements : Option ℕ) (store : Store) → IsProgram program → AllFit store → RightWith program store (after_prepared reader options input ends program ops passed (Knows statements store))
+  known_so-right input ends program ops passed statements store is fit =
+      before-right m program is options.strategy names reader ops (account_with store) passed (warnings_of program) statements (replies (talker reader ops) (ready_in (first_state program options store)) 16777216 input ends).utterances
+      (conversation-right m program is options.strategy names reader ops (ready_in (first_state program options store)) (account_with store) 16777216 input ends (first_stands m options program store is fit))
 
   -- where the session ends before the first line
-  refusal-right : (program : List Clause) (ops : Table) (passed : List Note) (pairs : List Pair) (e : Entry) (st : Status) → IsProgram program → IsRight m program options.strategy (account_with pairs) e → RightWith program pairs (ends_before names program ops passed e st)
-  refusal-right program ops passed pairs e st is r = opening-right m program is options.strategy names reader ops (account_with pairs) passed (warnings_of program) (plain ops names e ∷ []) (r, tt)
+  refusal-right : (program : List Clause) (ops : Table) (passed : List Note) (store : Store) (e : Entry) (st : Status) → IsProgram program → IsRight m program options.strategy (account_with store) e → RightWith program store (ends_before names program ops passed e st)
+  refusal-right program ops passed store e st is r = opening-right m program is options.strategy names reader ops (account_with store) passed (warnings_of program) (plain ops names e ∷ []) (r, tt)
 
   stated-right : (input : List ℕ) (ends : InputEnd) (program : List Clause) (ops : Table) (passed : List Note) → IsProgram program → (w : States) → FitsIn w → RightWith program (replies_in (prepared_by w)) (after_prepared reader options input ends program ops passed (prepared_by w))
-  stated-right input ends program ops passed is (oracle.refused line cause) fit = refusal-right program ops passed [] (OracleRefused line cause) status.OracleText is tt
+  stated-right input ends program ops passed is (oracle.refused line cause) fit = refusal-right program ops passed empty_store (OracleRefused line cause) status.OracleText is tt
   stated-right input ends program ops passed is (oracle.states s) fit = known_so-right input ends program ops passed (Some s.statements) s.answers is fit
 
   given-right : (input : List ℕ) (ends : InputEnd) (program : List Clause) (ops : Table) (passed : List Note) (known : List ℕ) → IsProgram program
@@ -232,13 +232,13 @@ module _ (m : Interpretation) {names : List (List ℕ)} (reader : Reader names) 
   given-right input ends program ops passed known is = by (nat_lt 1048576 (length known))
     where
       by : (b : Bool) → let x = if b then Refuses (FileTooLong 1048577) status.FileTooLong else prepared_by (stated_in reader ops known) in RightWith program (replies_in x) (after_prepared reader options input ends program ops passed x)
-      by true = refusal-right program ops passed [] (FileTooLong 1048577) status.FileTooLong is tt
+      by true = refusal-right program ops passed empty_store (FileTooLong 1048577) status.FileTooLong is tt
       by false = stated-right input ends program ops passed is (stated_in reader ops known) (stated_fit reader ops known)
 
   -- whatever the load of an oracle file gives that has this text
   prepared-right : (input : List ℕ) (ends : InputEnd) (program : List Clause) (ops : Table) (passed : List Note) (known : List ℕ) (file : FileLoad) (name : Option (List ℕ)) → IsProgram program → IfSome name (λ n. IsFileLoad (Some known) file)
       → RightWith program (replies_in (prepared reader ops name (Gives known))) (after_prepared reader options input ends program ops passed (prepared reader ops name file))
-  prepared-right input ends program ops passed known file None is h = known_so-right input ends program ops passed None [] is tt
+  prepared-right input ends program ops passed known file None is h = known_so-right input ends program ops passed None empty_store is tt
   prepared-right input ends program ops passed known Faults (Some name) is h = refusal-right program ops passed (replies_in (prepared_from reader ops (Gives known))) InputFault status.ReadFault is tt
   prepared-right input ends program ops passed known (Gives bytes) (Some name) is h =
       subst (λ t. RightWith program (replies_in (prepared_from reader ops (Gives known))) (after_prepared reader options input ends program ops passed (prepared_from reader ops (Gives t)))) (sym h) (given-right input ends program ops passed known is)
@@ -276,7 +276,7 @@ module _ (m : Interpretation) {names : List (List ℕ)} (reader : Reader names) 
     -- a demonstration
     tree-right : (nodes : ℕ) (o : Loads) → IsProgramIn o → options.oracle ≡ None → RightFor (entries_of (after_tree reader options nodes o).utterances) o
     tree-right nodes (refused line cause) is none = tt
-    tree-right nodes (loads l) is none = rw none (shown-right m l.program is options.strategy names reader l.ops (account_with []) nodes (first_state l.program options []) l.passed (warnings_of l.program) (first_stands m options l.program [] is tt).state refl)
+    tree-right nodes (loads l) is none = rw none (shown-right m l.program is options.strategy names reader l.ops (account_with empty_store) nodes (first_state l.program options empty_store) l.passed (warnings_of l.program) (first_stands m options l.program empty_store is tt).state refl)
 
     subject-right : (world : World) (text : List ℕ) (s : Subject) → options.subject ≡ s → IsSubjectText s text world.program → StandsAlone s options.oracle → IfSome options.oracle (λ n. IsFileLoad (Some known) world.oracle)
         → RightFor (entries_of (after_subject reader world options s).utterances) (program_of reader text)

@@ -1,7 +1,7 @@
 -- The log of a session is right, also where not all was said.
-use Rattle.std.proofs.Common.{◌≡◌, ℕ, List, [], ◌∷◌, ◌++◌, Option, Some, None, refl, sym, subst, inl, inr}
+use Rattle.std.proofs.Common.{◌≡◌, ◌∙◌, ℕ, List, [], ◌∷◌, ◌++◌, Option, Some, None, refl, sym, ap, subst, inl, inr}
 use Rattle.std.specs.Prelude.{IfSome}
-use Rattle.apd_account.specs.Account.{Account}
+use Rattle.apd_account.specs.Account.{Account, account_with}
 use Rattle.apd_account.specs.Right.{IsRight, AreRight}
 use Rattle.apd_account.proofs.Fronts.{right-front, right-last}
 use Rattle.apd_answers.specs.Interpretation.{Interpretation}
@@ -17,15 +17,17 @@ use Rattle.apd_text.specs.declared.entry.Entry.TheVariants.{Run}
 use Rattle.apd_text.specs.declared.log.Log.{Log}
 use Rattle.apd_words.specs.Words.{InFile, OfTree, Options, Subject, options_of}
 use Rattle.apd_session.proofs.Findings.{session-right}
-use Rattle.apd_answers.specs.declared.store.Pair.{Pair}
-use Rattle.apd_session.specs.Headline.{AreRightFor, IsRightLog, account_with, replies_in}
+use Rattle.apd_session.proofs.Flowing.{every-session-flows}
+use Rattle.apd_session.specs.Flow.{Due, Nothing, due_by, part_of, Flows, FlowsTo}
+use Rattle.apd_answers.specs.Store.{Store}
+use Rattle.apd_session.specs.Headline.{AreRightFor, MeetsRightly, bytes_in, replies_in}
 use Rattle.apd_session.specs.Known.{Outside}
-use Rattle.apd_session.specs.Outcome.{IsFileLoad, IsNamedLoad, IsSaid, IsSubjectLoad, IsSubjectText, IsText, IsWhole, Meets}
-use Rattle.apd_session.specs.Session.{FileLoad, Gives, Transcript, prepared, session_of}
+use Rattle.apd_session.specs.Outcome.{IsFileLoad, IsSaid, IsSubjectText, IsWhole, Meets}
+use Rattle.apd_session.specs.Session.{FileLoad, Gives, Faults, Transcript, prepared, session_of}
 use Rattle.apd_session.specs.declared.status.Status.{Status}
 use Rattle.apd_session.specs.declared.status.Status.TheVariants as status
 
-module _ (m : Interpretation) (program : List Clause) (strategy : Strategy) (known : List Pair) where
+module _ (m : Interpretation) (program : List Clause) (strategy : Strategy) (known : Store) where
   -- a run whose end isn't set yet tells nothing
   begun-right : (a : Account) (e : Entry) → IsRight m program strategy a e → IsRight m program strategy a (begun e)
   begun-right a (Run q budget answers filter end) r = tt
@@ -67,28 +69,71 @@ said-right_for m reader options known st t log x y (refused line cause) h r = tt
 said-right_for m reader options known st t log x y (loads l) h r =
     said-right m l.program options.strategy (replies_in (prepared reader l.ops options.oracle (Gives known))) st t log x y h r
 
--- where the content of a file that is named is known, this is what a load of it gives
-known_load : (content : List ℕ → Option (List ℕ)) (known : List ℕ) (file : FileLoad) (name : Option (List ℕ)) → IsNamedLoad content name file → IfSome name (λ n. content n ≡ Some known) → IfSome name (λ n. IsFileLoad (Some known) file)
-known_load content known file None is told = tt
-known_load content known file (Some name) is told = subst (λ c. IsFileLoad c file) told is
+-- a front of entries that fit
+front-flows : (d e : Due) (xs ys : List Entry) → Flows d (xs ++ ys) e → (x : Due) × Flows d xs x
+front-flows d e [] ys h = (d, refl)
+front-flows d e (x ∷ xs) ys h = let rest = front-flows h.0 e xs ys h.2 in (rest.0, (h.0, h.1, rest.1))
 
--- what is debugged has this text, whatever its load gives
-subject_text : (content : List ℕ → Option (List ℕ)) (s : Subject) (text : List ℕ) (loading : FileLoad) → IsSubjectLoad content s loading → IsText content s text → IsSubjectText s text loading
-subject_text content (InFile name) text loading is told = subst (λ c. IsFileLoad c loading) told is
-subject_text content (OfTree nodes) text loading is told = told
+-- an entry is to a diagnosis what it was when it began
+begun-part : (e : Entry) → part_of (begun e) ≡ part_of e
+begun-part (Run q budget answers filter end) = refl
+begun-part e = refl
 
--- a log whose session meets a world
-pub log-right : (m : Interpretation) (words : List (List ℕ)) (p q : Outside) (st : Status) (log : Log) → Lasting log.names (λ names. (reader : Reader names) → Meets words reader p q st log) → IsRightLog m words p log
-log-right m words p q st log meaning = by (options_of words) refl
+begun-flows : (d e : Due) (xs : List Entry) (x : Entry) → Flows d (xs ++ x ∷ []) e → Flows d (xs ++ begun x ∷ []) e
+begun-flows d e [] x h = (h.0, ap (due_by d) (begun-part x) ∙ h.1, h.2)
+begun-flows d e (y ∷ xs) x h = (h.0, h.1, begun-flows h.0 e xs x h.2)
+
+pushed-flows : (es : List Entry) (us : List (Utterance Entry)) → Pushed begun [] es us → (d : Due) → Flows Nothing (entries_of us) d → Flows Nothing es d
+pushed-flows es us (inl e) d h = subst (λ l. Flows Nothing l d) (sym e) h
+pushed-flows es us (inr p) d h =
+    let before = p.0 in
+    let last = p.1 in
+    let whole : Flows Nothing (entries_of before ++ last.entry ∷ []) d =
+    subst (λ l. Flows Nothing l d) (entries_of-append before (last ∷ [])) (subst (λ l. Flows Nothing (entries_of l) d) p.2 h) in
+    subst (λ l. Flows Nothing l d) (sym p.3) (begun-flows Nothing d (entries_of before) last.entry whole)
+
+cut-flows : (log : Log) (x y : Option (List ℕ)) (us : List (Utterance Entry)) → UttersFront begun [] log.entries.list x y us → Flows Nothing (entries_of us) Nothing → (d : Due) × Flows Nothing log.entries.list d
+cut-flows log x y us f h =
+    let parts : Flows Nothing (entries_of f.said ++ entries_of f.unsaid) Nothing =
+    subst (λ l. Flows Nothing l Nothing) (entries_of-append f.said f.unsaid) (subst (λ l. Flows Nothing (entries_of l) Nothing) f.parts h) in
+    let front = front-flows Nothing Nothing (entries_of f.said) (entries_of f.unsaid) parts in
+    (front.0, pushed-flows log.entries.list f.said f.pushed front.0 front.1)
+
+whole-flows : (st : Status) (t : Transcript) (log : Log) (x y : Option (List ℕ)) → IsWhole st t log x y → Flows Nothing (entries_of t.utterances) Nothing → Flows Nothing log.entries.list Nothing
+whole-flows st t log x y w h = subst (λ es. Flows Nothing es Nothing) (sym w.says.logged) h
+
+-- what is due in the end, by what was said
+said-flows : (st : Status) (t : Transcript) (log : Log) (x y : Option (List ℕ)) → IsSaid st t log x y → Flows Nothing (entries_of t.utterances) Nothing → FlowsTo st log.entries.list
+said-flows status.WriteFault t log x y h k = cut-flows log x y t.utterances h.0 k
+said-flows status.Memory t log x y h k = cut-flows log x y t.utterances h.0 k
+said-flows status.Done t log x y h k = whole-flows status.Done t log x y h k
+said-flows status.Usage t log x y h k = whole-flows status.Usage t log x y h k
+said-flows status.Program t log x y h k = whole-flows status.Program t log x y h k
+said-flows status.ReadFault t log x y h k = whole-flows status.ReadFault t log x y h k
+said-flows status.InputLimit t log x y h k = whole-flows status.InputLimit t log x y h k
+said-flows status.OracleText t log x y h k = whole-flows status.OracleText t log x y h k
+said-flows status.FileTooLong t log x y h k = whole-flows status.FileTooLong t log x y h k
+
+-- what a load gives is what it gives
+bytes-given : (loading : FileLoad) → IsFileLoad (Some (bytes_in loading)) loading
+bytes-given (Gives bytes) = refl
+bytes-given Faults = tt
+
+oracle-given : (name : Option (List ℕ)) (loading : FileLoad) → IfSome name (λ n. IsFileLoad (Some (bytes_in loading)) loading)
+oracle-given None loading = tt
+oracle-given (Some n) loading = bytes-given loading
+
+-- what is said in the world that is met is right, whatever is known of it
+pub meets-rightly : (m : Interpretation) (words names : List (List ℕ)) (reader : Reader names) (p q : Outside) (st : Status) (log : Log) → Meets words reader p q st log → MeetsRightly m words reader p q st log
+meets-rightly m words names reader p q st log meets = record {
+  meets = meets;
+  right = by (options_of words) refl;
+  flows = said-flows st (session_of words reader meets.world) log p.streams.held q.streams.held meets.said (every-session-flows words names reader meets.world);
+}
   where
     by : (o : Option Options) → options_of words ≡ o
-        → IfSome o (λ options. (text known : List ℕ) → IsText p.content options.subject text → IfSome options.oracle (λ name. p.content name ≡ Some known) →
-        Lasting log.names (λ names. (reader : Reader names) → AreRightFor m reader options known log.entries.list (program_of reader text)))
+        → IfSome o (λ options. (text : List ℕ) → IsSubjectText options.subject text meets.world.program → AreRightFor m reader options (bytes_in meets.world.oracle) log.entries.list (program_of reader text))
     by None named = tt
-    by (Some options) named = λ text known told stated names grew reader.
-        let met = meaning names grew reader in
-        let file : IsSubjectLoad p.content options.subject met.world.program = subst (λ o. IfSome o (λ (z : Options). IsSubjectLoad p.content z.subject met.world.program)) named met.met.program in
-        let given = subject_text p.content options.subject text met.world.program file told in
-        let oracle : IsNamedLoad p.content options.oracle met.world.oracle = subst (λ o. IfSome o (λ (z : Options). IsNamedLoad p.content z.oracle met.world.oracle)) named met.met.oracle in
-        said-right_for m reader options known st (session_of words reader met.world) log p.streams.held q.streams.held (program_of reader text) met.said
-        (session-right m words names reader met.world options text known named given (known_load p.content known met.world.oracle options.oracle oracle stated))
+    by (Some options) named = λ text given.
+        said-right_for m reader options (bytes_in meets.world.oracle) st (session_of words reader meets.world) log p.streams.held q.streams.held (program_of reader text) meets.said
+        (session-right m words names reader meets.world options text (bytes_in meets.world.oracle) named given (oracle-given options.oracle meets.world.oracle))

@@ -6,13 +6,12 @@ use Rattle.std.proofs.lemmas.Bool.{eqb-true}
 use Rattle.apd_answers.specs.Dialogue.{Turn, asks, goes, ends, next_turn}
 use Rattle.apd_answers.specs.Questions.{unknowns, with_values}
 use Rattle.apd_account.specs.Account.{with_told}
-use Rattle.apd_answers.specs.Store.{with_pair}
+use Rattle.apd_answers.specs.Store.{Store, with_pair}
 use Rattle.apd_answers.specs.declared.question.Asked.{Asked}
 use Rattle.apd_answers.specs.declared.question.Question.{Question}
 use Rattle.apd_answers.specs.declared.question.Question.TheVariants.{True, Covers, Below}
 use Rattle.apd_answers.specs.declared.question.Reply.{Reply}
-use Rattle.apd_answers.specs.declared.question.Reply.TheVariants.{Yes, No, Values}
-use Rattle.apd_answers.specs.declared.store.Pair.{Pair}
+use Rattle.apd_answers.specs.declared.question.Reply.TheVariants.{Yes, No, Values, Unknown}
 use Rattle.apd_causes.specs.declared.faults.BodyFault.{BodyFault}
 use Rattle.apd_causes.specs.declared.reading.Read.{Read}
 use Rattle.apd_causes.specs.declared.run.Query.{Query}
@@ -97,14 +96,14 @@ stops_not None is = absurd (cc)
 stops_not (Some p) is = stop_by p (p.name.0 == STOP.0) refl is
 
 module _ (ops : Table) (names : List (List ℕ)) (s : State) where
-  turn_quits : {D E : Type 0} (d : Method D E) (pairs : List Pair) (count : ℕ) (turn : Turn D E) → (after_turn (d.diagnosis s) (d.found s) (situation d s) ops names pairs count turn).quits ≡ false
-  turn_quits d pairs count (asks asked next) = refl
-  turn_quits d pairs count (goes x) = refl
-  turn_quits d pairs count (ends f) = refl
+  turn_quits : {D E : Type 0} (d : Method D E) (store : Store) (count : ℕ) (turn : Turn D E) → (after_turn (d.diagnosis s) (d.found s) (situation d s) ops names store count turn).quits ≡ false
+  turn_quits d store count (asks asked next) = refl
+  turn_quits d store count (goes x) = refl
+  turn_quits d store count (ends f) = refl
 
   -- a diagnosis that goes on
-  goes_quits : {D E : Type 0} (d : Method D E) (pairs : List Pair) (count : ℕ) (x : D) → (carries_on d ops names s pairs count x).quits ≡ false
-  goes_quits d pairs count x = turn_quits d pairs count (next_turn (d.diagnosis s) pairs x)
+  goes_quits : {D E : Type 0} (d : Method D E) (store : Store) (count : ℕ) (x : D) → (carries_on d ops names s store count x).quits ≡ false
+  goes_quits d store count x = turn_quits d store count (next_turn (d.diagnosis s) store x)
 
   -- in a command's place
   wrong_at-quits : (R : Recorded) (r : Result ℕ Refusal) → (wrong_at ops names s R r).quits ≡ false
@@ -161,18 +160,19 @@ module _ (ops : Table) (names : List (List ℕ)) (s : State) where
     said_quits (Covers t) (Some Yes) = replied_quits Yes
     said_quits (Covers t) (Some No) = replied_quits No
     said_quits (Covers t) (Some (Values values)) = values_by t values _ _ _ refl refl refl
+    said_quits (Covers t) (Some Unknown) = replied_quits Unknown
     said_quits (Below q p) (Some r) = replied_quits r
 
-    word_said : (r : Read) (stop quit : Bool) → is_word r.term STOP ≡ stop → is_word r.term QUIT ≡ quit → quits_to (term_spoken asked.question r.term) ≡ (if stop then false else quit)
+    word_said : (r : Read) (stop quit : Bool) → is_word r.term STOP ≡ stop → is_word r.term QUIT ≡ quit → quits_to (term_spoken asked r.term) ≡ (if stop then false else quit)
     word_said r true quit one two = rw one refl
     word_said r false true one two = rw (one, two) refl
-    word_said r false false one two = rw (one, two) (said_quits asked.question (told asked.question r.term))
+    word_said r false false one two = rw (one, two) (said_quits asked.question (told asked r.term))
 
-    word_quits : (r : Read) (stop quit : Bool) → is_word r.term STOP ≡ stop → is_word r.term QUIT ≡ quit → quits_to (term_spoken asked.question r.term) ≡ is_quit (term_asked r (predicate_of r.term))
+    word_quits : (r : Read) (stop quit : Bool) → is_word r.term STOP ≡ stop → is_word r.term QUIT ≡ quit → quits_to (term_spoken asked r.term) ≡ is_quit (term_asked r (predicate_of r.term))
     word_quits r true quit one two = word_said r true quit one two ∙ sym (asked_quits r false (stops_not (predicate_of r.term) one))
     word_quits r false quit one two = word_said r false quit one two ∙ sym (asked_quits r quit two)
 
-    reply_quits : (line : LineRead) → quits_to (spoken_of asked.question line) ≡ is_quit (command_of line)
+    reply_quits : (line : LineRead) → quits_to (spoken_of asked line) ≡ is_quit (command_of line)
     reply_quits lines.Empty = refl
     reply_quits lines.TooLong = refl
     reply_quits (lines.Bad cause) = refl

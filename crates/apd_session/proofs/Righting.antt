@@ -12,6 +12,7 @@ use Rattle.apd_record.specs.Full.{IsFull}
 use Rattle.apd_record.specs.Recorded.{Recorded, chain}
 use Rattle.apd_record.specs.Reading.{point_of}
 use Rattle.apd_record.specs.Sound.{IsSound}
+use Rattle.apd_record.proofs.Keeping.{sound_empty}
 use Rattle.apd_recorded.specs.Told.{record_of}
 use Rattle.apd_recorded.proofs.Law.{run_chained, run_full, run_sound}
 use Rattle.apd_trace.specs.Run.{query_run}
@@ -23,20 +24,19 @@ use Rattle.apd_answers.specs.declared.question.Reply.TheVariants.{No, Yes}
 use Rattle.apd_answers.specs.Findings.{IsByReplies}
 use Rattle.apd_answers.specs.Fitting.{AllFit}
 use Rattle.apd_answers.proofs.Fitted.{fit_added}
-use Rattle.apd_answers.specs.declared.store.Pair.{Pair}
+use Rattle.apd_answers.specs.Store.{Store, with_pair}
 use Rattle.apd_answers.specs.Dialogue.{Exchange, Turn, asks, goes, ends, dialogue, next_turn, replied as exchanged}
 use Rattle.std.specs.List.{AllByRecursion}
 use Rattle.apd_demo.specs.Answered.{replies_by}
 use Rattle.apd_demo.specs.Replies.{reply_to}
 use Rattle.apd_demo.proofs.Answering.{answered-fit}
-use Rattle.apd_demo.proofs.Fitting.{reply-fits}
+use Rattle.apd_demo.proofs.Fitting.{asked-fits}
 use Rattle.apd_answers.specs.declared.finding.Finding.{Finding}
 use Rattle.apd_wrong.specs.Wrong.{wrong}
 use Rattle.apd_session.specs.Demo.{blamed, blamed_at, dialogue_said, found_said}
 use Rattle.apd_symptoms.specs.Symptoms.{exit_of}
 use Rattle.apd_answers.specs.Interpretation.{Interpretation}
 use Rattle.apd_answers.specs.Questions.{FitsAsked}
-use Rattle.apd_answers.specs.Store.{with_pair}
 use Rattle.apd_divide.specs.declared.node.Strategy.{Strategy}
 use Rattle.apd_divide.specs.Recorded.{tree}
 use Rattle.apd_divide.specs.Tree.{Tree, suspects}
@@ -85,12 +85,17 @@ module _ (m : Interpretation) (program : List Clause) (is : IsProgram program) (
   abbrev pub IsLast : Option LastRun → Recorded → Type 0
   IsLast last R = (history_of last ≡ R) × IfSome last (λ run. IsRun R)
 
-  -- a state with these pairs is what was told
-  pub record IsTold (s : State) (pairs : List Pair) (a : Account) : Type 0 where
+  -- its record is sound
+  told-sound : (last : Option LastRun) (R : Recorded) → IsLast last R → IsSound (tuples_of program) R
+  told-sound None R l = subst (IsSound (tuples_of program)) l.0 (sound_empty (tuples_of program))
+  told-sound (Some run) R l = l.1.sound
+
+  -- a state with this store is what was told
+  pub record IsTold (s : State) (store : Store) (a : Account) : Type 0 where
     pub program_is : s.program ≡ program
     pub strategy_is : s.strategy ≡ strategy
-    pub pairs_are : pairs ≡ a.pairs
-    pub fit : AllFit a.pairs
+    pub store_is : store ≡ a.store
+    pub fit : AllFit a.store
     pub last : IsLast s.last a.history
 
   -- what is known where a question of a diagnosis waits
@@ -118,46 +123,46 @@ module _ (m : Interpretation) (program : List Clause) (is : IsProgram program) (
   refused-step ops names s a r h = record { right = (tt, tt); stands = is_ready s a h }
 
   -- A diagnosis: where something is known of its state, its next turn is right.
-  pub record IsRightly {D E : Type 0} (d : Method D E) (Known : Recorded → List Pair → Option Told → D → Type 0) (left : D → Option ℕ) (IsEnd : Recorded → List Pair → E → Type 0) : Type 0 where
+  pub record IsRightly {D E : Type 0} (d : Method D E) (Known : Recorded → Store → Option Told → D → Type 0) (left : D → Option ℕ) (IsEnd : Recorded → Store → E → Type 0) : Type 0 where
     pub waits : (a : Account) (asked : Asked) (next : Reply → D) → Waits strategy Known left a asked next → IsMode (d.waits asked next) a
     pub left_is : (s : State) (x : D) → (d.diagnosis s).left x ≡ left x
-    pub ends : (s : State) (pairs : List Pair) (a : Account) (e : E) → IsTold s pairs a → IsEnd a.history a.pairs e → IsRight m program strategy a (d.found s e)
+    pub ends : (s : State) (store : Store) (a : Account) (e : E) → IsTold s store a → IsEnd a.history a.store e → IsRight m program strategy a (d.found s e)
     pub tells_nothing : (s : State) (a : Account) (e : E) → after_entry program a (d.found s e) ≡ a
-    pub turns : (s : State) (pairs : List Pair) (a : Account) (x : D) → IsTold s pairs a → Known a.history a.pairs a.symptom x →
-        RightTurn strategy Known left IsEnd a.history a.pairs a.symptom (next_turn (d.diagnosis s) pairs x)
+    pub turns : (s : State) (store : Store) (a : Account) (x : D) → IsTold s store a → Known a.history a.store a.symptom x →
+        RightTurn strategy Known left IsEnd a.history a.store a.symptom (next_turn (d.diagnosis s) store x)
 
-  module _ {D E : Type 0} (d : Method D E) (Known : Recorded → List Pair → Option Told → D → Type 0) (left : D → Option ℕ) (IsEnd : Recorded → List Pair → E → Type 0) (rightly : IsRightly d Known left IsEnd) where
+  module _ {D E : Type 0} (d : Method D E) (Known : Recorded → Store → Option Told → D → Type 0) (left : D → Option ℕ) (IsEnd : Recorded → Store → E → Type 0) (rightly : IsRightly d Known left IsEnd) where
     -- the state where a diagnosis stands
-    told_at : (s : State) (pairs : List Pair) (count : ℕ) (mode : Mode D) (a : Account) → IsTold s pairs a → IsMode (mode_of d mode) a → Stands (situation d s (record { pairs = pairs; asked = count; mode = mode })) a
-    told_at s pairs count mode a h k = record {
-      state = record { program_is = h.program_is; strategy_is = h.strategy_is; pairs_are = h.pairs_are; fit = h.fit; last = h.last };
+    told_at : (s : State) (store : Store) (count : ℕ) (mode : Mode D) (a : Account) → IsTold s store a → IsMode (mode_of d mode) a → Stands (situation d s (record { store = store; asked = count; mode = mode })) a
+    told_at s store count mode a h k = record {
+      state = record { program_is = h.program_is; strategy_is = h.strategy_is; store_is = h.store_is; fit = h.fit; last = h.last };
       mode = k;
     }
 
     -- the turn of a diagnosis
-    turn-step : (ops : Table) (names : List (List ℕ)) (s : State) (pairs : List Pair) (count : ℕ) (a : Account) (turn : Turn D E) → IsTold s pairs a
-        → RightTurn strategy Known left IsEnd a.history a.pairs a.symptom turn → IsStep a (after_turn (d.diagnosis s) (d.found s) (situation d s) ops names pairs count turn)
-    turn-step ops names s pairs count a (asks asked next) h k =
-        let told : IsTold s pairs (with_asked a asked) = record { program_is = h.program_is; strategy_is = h.strategy_is; pairs_are = h.pairs_are; fit = h.fit; last = h.last } in
+    turn-step : (ops : Table) (names : List (List ℕ)) (s : State) (store : Store) (count : ℕ) (a : Account) (turn : Turn D E) → IsTold s store a
+        → RightTurn strategy Known left IsEnd a.history a.store a.symptom turn → IsStep a (after_turn (d.diagnosis s) (d.found s) (situation d s) ops names store count turn)
+    turn-step ops names s store count a (asks asked next) h k =
+        let told : IsTold s store (with_asked a asked) = record { program_is = h.program_is; strategy_is = h.strategy_is; store_is = h.store_is; fit = h.fit; last = h.last } in
         record {
-          right = (k.undecided, tt);
-          stands = told_at s pairs (risen count) (Asking asked next) (with_asked a asked) told (rightly.waits (with_asked a asked) asked next (waits strategy Known left a asked next k));
+          right = (k.unanswered, tt);
+          stands = told_at s store (risen count) (Asking asked next) (with_asked a asked) told (rightly.waits (with_asked a asked) asked next (waits strategy Known left a asked next k));
         }
-    turn-step ops names s pairs count a (goes y) h k = absurd k
-    turn-step ops names s pairs count a (ends e) h k = record {
-      right = (rightly.ends s pairs a e h k, tt);
-      stands = subst (Stands (situation d s (record { pairs = pairs; asked = count; mode = Ready }))) (sym (rightly.tells_nothing s a e)) (told_at s pairs count Ready a h tt);
+    turn-step ops names s store count a (goes y) h k = absurd k
+    turn-step ops names s store count a (ends e) h k = record {
+      right = (rightly.ends s store a e h k, tt);
+      stands = subst (Stands (situation d s (record { store = store; asked = count; mode = Ready }))) (sym (rightly.tells_nothing s a e)) (told_at s store count Ready a h tt);
     }
 
-    carries_on-step : (ops : Table) (names : List (List ℕ)) (s : State) (pairs : List Pair) (count : ℕ) (a : Account) (x : D) → IsTold s pairs a → Known a.history a.pairs a.symptom x → IsStep a (carries_on d ops names s pairs count x)
-    carries_on-step ops names s pairs count a x h k = turn-step ops names s pairs count a (next_turn (d.diagnosis s) pairs x) h (rightly.turns s pairs a x h k)
+    carries_on-step : (ops : Table) (names : List (List ℕ)) (s : State) (store : Store) (count : ℕ) (a : Account) (x : D) → IsTold s store a → Known a.history a.store a.symptom x → IsStep a (carries_on d ops names s store count x)
+    carries_on-step ops names s store count a x h k = turn-step ops names s store count a (next_turn (d.diagnosis s) store x) h (rightly.turns s store a x h k)
 
     -- a symptom is told, and its diagnosis begins
-    begins-step : (ops : Table) (names : List (List ℕ)) (s : State) (a : Account) (what : Told) (x : D) → IsTold s s.replies a → IsSymptom a what → AllFit (with_told a.pairs what) → Known a.history (with_told a.pairs what) (Some what) x
+    begins-step : (ops : Table) (names : List (List ℕ)) (s : State) (a : Account) (what : Told) (x : D) → IsTold s s.replies a → IsSymptom a what → AllFit (with_told a.store what) → Known a.history (with_told a.store what) (Some what) x
         → IsStep a (begins d ops names s what x)
     begins-step ops names s a what x h symptom fit k =
         let told : IsTold s (with_told s.replies what) (after_told a what) =
-        record { program_is = h.program_is; strategy_is = h.strategy_is; pairs_are = ap (λ ps. with_told ps what) h.pairs_are; fit = fit; last = h.last } in
+        record { program_is = h.program_is; strategy_is = h.strategy_is; store_is = ap (λ ps. with_told ps what) h.store_is; fit = fit; last = h.last } in
         let st = carries_on-step ops names s (with_told s.replies what) s.asked (after_told a what) x told k in
         record { right = (symptom, st.right); stands = st.stands }
 
@@ -167,7 +172,7 @@ module _ (m : Interpretation) (program : List Clause) (is : IsProgram program) (
     replied-step ops names s a asked next r h w fits =
         let b = with_reply a (Some asked) r in
         let told : IsTold s (with_pair s.replies asked.question r) b =
-        record { program_is = h.program_is; strategy_is = h.strategy_is; pairs_are = ap (λ ps. with_pair ps asked.question r) h.pairs_are; fit = fit_added a.pairs asked.question r h.fit fits; last = h.last } in
+        record { program_is = h.program_is; strategy_is = h.strategy_is; store_is = ap (λ ps. with_pair ps asked.question r) h.store_is; fit = fit_added a.store asked.question r h.fit fits.0; last = h.last } in
         let st = carries_on-step ops names s (with_pair s.replies asked.question r) s.asked b (next r) told (w.asks.known r fits) in
         let e : b ≡ with_reply a a.asked r = sym (replied-is a asked r w.last) in
         let entries = entries_of (carries_on d ops names s (with_pair s.replies asked.question r) s.asked (next r)).utterances in
@@ -187,41 +192,41 @@ module _ (m : Interpretation) (program : List Clause) (is : IsProgram program) (
     reply-step ops names s a asked next (spoken.Bad reason) fits h w = record { right = (tt, tt); stands = told_at s s.replies s.asked (Asking asked next) a h (rightly.waits a asked next w) }
 
   -- The diagnosis of a wrong answer.
-  wrong_rightly : IsRightly by_wrong (IsKnownTree (tuples_of program)) wrong_left (IsByReplies (tuples_of program))
+  pub wrong_rightly : IsRightly by_wrong (IsKnownTree (tuples_of program)) wrong_left (IsByReplies (tuples_of program))
   wrong_rightly = record {
     waits = λ a asked next w. w;
     left_is = λ s x. refl;
-    ends = λ s pairs a f h by. found-right m program a f by;
+    ends = λ s store a f h by. found-right m program a f (told-sound s.last a.history h.last) by;
     tells_nothing = λ s a f. refl;
-    turns = λ s pairs a x h k. rw (h.strategy_is, h.pairs_are) (wrong_turn (tuples_of program) strategy a.history a.pairs a.symptom x k);
+    turns = λ s store a x h k. rw (h.strategy_is, h.store_is) (wrong_turn (tuples_of program) strategy a.history a.store a.symptom x k);
   }
 
   -- Of a missing answer.
-  missing_rightly : IsRightly by_missing (IsKnownGoal (tuples_of program)) goal_left (IsByReplies (tuples_of program))
+  pub missing_rightly : IsRightly by_missing (IsKnownGoal (tuples_of program)) goal_left (IsByReplies (tuples_of program))
   missing_rightly = record {
     waits = λ a asked next w. w;
     left_is = λ s x. refl;
-    ends = λ s pairs a f h by. found-right m program a f by;
+    ends = λ s store a f h by. found-right m program a f (told-sound s.last a.history h.last) by;
     tells_nothing = λ s a f. refl;
-    turns = λ s pairs a x h k. rw (h.program_is, h.last.0, h.pairs_are) (missing_turn (tuples_of program) strategy a.history a.pairs a.symptom x k);
+    turns = λ s store a x h k. rw (h.program_is, h.last.0, h.store_is) (missing_turn (tuples_of program) strategy a.history a.store a.symptom x k);
   }
 
   -- Of a run that doesn't end.
-  loop_ends-right : (s : State) (pairs : List Pair) (a : Account) (e : LoopEnd) → IsTold s pairs a → IsLoopEnd (tuples_of program) a.history a.pairs e → IsRight m program strategy a (by_loop.found s e)
-  loop_ends-right s pairs a (loop_ends.Found f) h by = found-right m program a f by
-  loop_ends-right s pairs a loop_ends.AllDescend h by = rw h.last.0 (descent-right m a by)
+  loop_ends-right : (s : State) (store : Store) (a : Account) (e : LoopEnd) → IsTold s store a → IsLoopEnd (tuples_of program) a.history a.store e → IsRight m program strategy a (by_loop.found s e)
+  loop_ends-right s store a (loop_ends.Found f) h by = found-right m program a f (told-sound s.last a.history h.last) by
+  loop_ends-right s store a loop_ends.AllDescend h by = rw h.last.0 (descent-right m a by)
 
   loop_tells-nothing : (s : State) (a : Account) (e : LoopEnd) → after_entry program a (by_loop.found s e) ≡ a
   loop_tells-nothing s a (loop_ends.Found f) = refl
   loop_tells-nothing s a loop_ends.AllDescend = refl
 
-  loop_rightly : IsRightly by_loop (IsKnownLoop (tuples_of program)) left_in (IsLoopEnd (tuples_of program))
+  pub loop_rightly : IsRightly by_loop (IsKnownLoop (tuples_of program)) left_in (IsLoopEnd (tuples_of program))
   loop_rightly = record {
     waits = λ a asked next w. w;
     left_is = λ s x. refl;
     ends = loop_ends-right;
     tells_nothing = loop_tells-nothing;
-    turns = λ s pairs a x h k. rw (h.strategy_is, h.last.0, h.pairs_are) (loop_turn (tuples_of program) strategy a.history a.pairs a.symptom x k);
+    turns = λ s store a x h k. rw (h.strategy_is, h.last.0, h.store_is) (loop_turn (tuples_of program) strategy a.history a.store a.symptom x k);
   }
 
   -- a line in the place of a reply to a question of one of the three
@@ -248,8 +253,8 @@ module _ (m : Interpretation) (program : List Clause) (is : IsProgram program) (
       by (Ok n) e =
           let x = exit_of-exits a.history b k n e in
           let atom = (point_of a.history n).tuple.head in
-          begins-step by_wrong (IsKnownTree (tuples_of program)) wrong_left (IsByReplies (tuples_of program)) wrong_rightly ops names s a (Wrong atom) (tree a.history n atom) h tt (fit_added a.pairs (True atom) No h.fit tt)
-          (wrong_begins (tuples_of program) a.history a.pairs n atom l.1.sound x.exit x.head)
+          begins-step by_wrong (IsKnownTree (tuples_of program)) wrong_left (IsByReplies (tuples_of program)) wrong_rightly ops names s a (Wrong atom) (tree a.history n atom) h tt (fit_added a.store (True atom) No h.fit tt)
+          (wrong_begins (tuples_of program) a.history a.store n atom l.1.sound x.exit x.head)
 
   -- The diagnosis of a demonstration.
 
@@ -257,37 +262,37 @@ module _ (m : Interpretation) (program : List Clause) (is : IsProgram program) (
   AllFit' exchanges = AllByRecursion (λ (e : Exchange). FitsAsked e.asked e.reply) exchanges
 
   abbrev IsDialogueRight : List Reply → Type 0
-  IsDialogueRight rs = (ops : Table) (names : List (List ℕ)) (nodes : ℕ) (s : State) (pairs : List Pair) (count : ℕ) (a : Account) (x : Tree) → IsTold s pairs a → IsKnownTree (tuples_of program) a.history a.pairs a.symptom x
-      → AllFit' (dialogue (wrong s.strategy) rs pairs x).exchanges → AreRight m program strategy a (entries_of (dialogue_said ops names s.program nodes count (dialogue (wrong s.strategy) rs pairs x)))
+  IsDialogueRight rs = (ops : Table) (names : List (List ℕ)) (nodes : ℕ) (s : State) (store : Store) (count : ℕ) (a : Account) (x : Tree) → IsTold s store a → IsKnownTree (tuples_of program) a.history a.store a.symptom x
+      → AllFit' (dialogue (wrong s.strategy) rs store x).exchanges → AreRight m program strategy a (entries_of (dialogue_said ops names s.program nodes count (dialogue (wrong s.strategy) rs store x)))
 
-  found_said-right : (ops : Table) (names : List (List ℕ)) (nodes : ℕ) (s : State) (pairs : List Pair) (count : ℕ) (a : Account) (turn : Turn Tree Finding) → IsTold s pairs a
-      → RightTurn strategy (IsKnownTree (tuples_of program)) wrong_left (IsByReplies (tuples_of program)) a.history a.pairs a.symptom turn
+  found_said-right : (ops : Table) (names : List (List ℕ)) (nodes : ℕ) (s : State) (store : Store) (count : ℕ) (a : Account) (turn : Turn Tree Finding) → IsTold s store a
+      → RightTurn strategy (IsKnownTree (tuples_of program)) wrong_left (IsByReplies (tuples_of program)) a.history a.store a.symptom turn
       → AreRight m program strategy a (entries_of (found_said ops names s.program nodes count turn))
-  found_said-right ops names nodes s pairs count a (asks asked next) h k = tt
-  found_said-right ops names nodes s pairs count a (goes y) h k = tt
-  found_said-right ops names nodes s pairs count a (ends f) h k = (found-right m program a f k, (tt, tt))
+  found_said-right ops names nodes s store count a (asks asked next) h k = tt
+  found_said-right ops names nodes s store count a (goes y) h k = tt
+  found_said-right ops names nodes s store count a (ends f) h k = (found-right m program a f (told-sound s.last a.history h.last) k, (tt, tt))
 
-  replied_said-right : (r : Reply) (rs : List Reply) → IsDialogueRight rs → (ops : Table) (names : List (List ℕ)) (nodes : ℕ) (s : State) (pairs : List Pair) (count : ℕ) (a : Account) (turn : Turn Tree Finding) → IsTold s pairs a
-      → RightTurn strategy (IsKnownTree (tuples_of program)) wrong_left (IsByReplies (tuples_of program)) a.history a.pairs a.symptom turn
-      → AllFit' (exchanged (wrong s.strategy).left (dialogue (wrong s.strategy) rs) pairs r turn).exchanges
-      → AreRight m program strategy a (entries_of (dialogue_said ops names s.program nodes count (exchanged (wrong s.strategy).left (dialogue (wrong s.strategy) rs) pairs r turn)))
-  replied_said-right r rs rest ops names nodes s pairs count a (goes y) h k fits = absurd k
-  replied_said-right r rs rest ops names nodes s pairs count a (ends f) h k fits = found_said-right ops names nodes s pairs count a (ends f) h k
-  replied_said-right r rs rest ops names nodes s pairs count a (asks asked next) h k fits =
+  replied_said-right : (r : Reply) (rs : List Reply) → IsDialogueRight rs → (ops : Table) (names : List (List ℕ)) (nodes : ℕ) (s : State) (store : Store) (count : ℕ) (a : Account) (turn : Turn Tree Finding) → IsTold s store a
+      → RightTurn strategy (IsKnownTree (tuples_of program)) wrong_left (IsByReplies (tuples_of program)) a.history a.store a.symptom turn
+      → AllFit' (exchanged (wrong s.strategy).left (dialogue (wrong s.strategy) rs) store r turn).exchanges
+      → AreRight m program strategy a (entries_of (dialogue_said ops names s.program nodes count (exchanged (wrong s.strategy).left (dialogue (wrong s.strategy) rs) store r turn)))
+  replied_said-right r rs rest ops names nodes s store count a (goes y) h k fits = absurd k
+  replied_said-right r rs rest ops names nodes s store count a (ends f) h k fits = found_said-right ops names nodes s store count a (ends f) h k
+  replied_said-right r rs rest ops names nodes s store count a (asks asked next) h k fits =
       let b = with_reply (with_asked a asked) (Some asked) r in
-      let told : IsTold s (with_pair pairs asked.question r) b =
-      record { program_is = h.program_is; strategy_is = h.strategy_is; pairs_are = ap (λ ps. with_pair ps asked.question r) h.pairs_are; fit = fit_added a.pairs asked.question r h.fit fits.0; last = h.last } in (
-        k.undecided,
+      let told : IsTold s (with_pair store asked.question r) b =
+      record { program_is = h.program_is; strategy_is = h.strategy_is; store_is = ap (λ ps. with_pair ps asked.question r) h.store_is; fit = fit_added a.store asked.question r h.fit fits.0.0; last = h.last } in (
+        k.unanswered,
         (
           reply-right strategy (IsKnownTree (tuples_of program)) wrong_left (with_asked a asked) asked next r (waits strategy (IsKnownTree (tuples_of program)) wrong_left a asked next k) fits.0,
-          rest ops names nodes s (with_pair pairs asked.question r) (risen count) b (next r) told (k.known r fits.0) fits.1,
+          rest ops names nodes s (with_pair store asked.question r) (risen count) b (next r) told (k.known r fits.0) fits.1,
         ),
       )
 
   dialogue-right : (rs : List Reply) → IsDialogueRight rs
-  dialogue-right [] ops names nodes s pairs count a x h k fits = found_said-right ops names nodes s pairs count a (next_turn (wrong s.strategy) pairs x) h (wrong_rightly.turns s pairs a x h k)
-  dialogue-right (r ∷ rs) ops names nodes s pairs count a x h k fits =
-      replied_said-right r rs (dialogue-right rs) ops names nodes s pairs count a (next_turn (wrong s.strategy) pairs x) h (wrong_rightly.turns s pairs a x h k) fits
+  dialogue-right [] ops names nodes s store count a x h k fits = found_said-right ops names nodes s store count a (next_turn (wrong s.strategy) store x) h (wrong_rightly.turns s store a x h k)
+  dialogue-right (r ∷ rs) ops names nodes s store count a x h k fits =
+      replied_said-right r rs (dialogue-right rs) ops names nodes s store count a (next_turn (wrong s.strategy) store x) h (wrong_rightly.turns s store a x h k) fits
 
   -- what is said of the last run
   pub blamed-right : (ops : Table) (names : List (List ℕ)) (nodes : ℕ) (s : State) (a : Account) (last : Option LastRun) → IsTold s s.replies a → IsLast last a.history → AreRight m program strategy a (entries_of (blamed ops names nodes s last))
@@ -299,15 +304,15 @@ module _ (m : Interpretation) (program : List Clause) (is : IsProgram program) (
       by (Ok n) e =
           let x = exit_of-exits a.history (pos 1) (pos 1) n e in
           let atom = (point_of a.history n).tuple.head in
-          let pairs = with_told s.replies (Wrong atom) in
+          let store = with_told s.replies (Wrong atom) in
           let b = after_told a (Wrong atom) in
-          let told : IsTold s pairs b =
-          record { program_is = h.program_is; strategy_is = h.strategy_is; pairs_are = ap (λ ps. with_told ps (Wrong atom)) h.pairs_are; fit = fit_added a.pairs (True atom) No h.fit tt; last = h.last } in
+          let told : IsTold s store b =
+          record { program_is = h.program_is; strategy_is = h.strategy_is; store_is = ap (λ ps. with_told ps (Wrong atom)) h.store_is; fit = fit_added a.store (True atom) No h.fit tt; last = h.last } in
           let t = tree a.history n atom in (
             tt,
-            dialogue-right (replies_by (reply_to nodes s.program) (wrong s.strategy) (suspects t) pairs t) ops names nodes s pairs s.asked b t told
-                (wrong_begins (tuples_of program) a.history a.pairs n atom l.1.sound x.exit x.head)
-                (answered-fit (reply_to nodes s.program) s.strategy (reply-fits nodes s.program) (suspects t) pairs t),
+            dialogue-right (replies_by (reply_to nodes s.program) (wrong s.strategy) (suspects t) store t) ops names nodes s store s.asked b t told
+                (wrong_begins (tuples_of program) a.history a.store n atom l.1.sound x.exit x.head)
+                (answered-fit (reply_to nodes s.program) s.strategy (asked-fits nodes s.program) (suspects t) store t),
           )
 
   missing-step : (ops : Table) (names : List (List ℕ)) (s : State) (a : Account) (b : ℤ) (atom : Term) (last : Option LastRun) → IsTold s s.replies a → IsLast last a.history → IsStep a (missing_step ops names s last b atom)
@@ -317,8 +322,8 @@ module _ (m : Interpretation) (program : List Clause) (is : IsProgram program) (
       by : (r : Result ℕ Refusal) → unanswered_box a.history b atom ≡ r → IsStep a (missing_at ops names s atom r)
       by (Err r) e = refused-step ops names s a r h
       by (Ok n) e =
-          begins-step by_missing (IsKnownGoal (tuples_of program)) goal_left (IsByReplies (tuples_of program)) missing_rightly ops names s a (Missing atom) (record { box_no = n; goal = atom }) h tt (fit_added a.pairs (True atom) Yes h.fit tt)
-          (missing_begins (tuples_of program) a.history a.pairs n atom l.1.sound l.1.full h.fit (box_lacks a.history b n atom l.1.sound.kept e))
+          begins-step by_missing (IsKnownGoal (tuples_of program)) goal_left (IsByReplies (tuples_of program)) missing_rightly ops names s a (Missing atom) (record { box_no = n; goal = atom }) h tt (fit_added a.store (True atom) Yes h.fit tt)
+          (missing_begins (tuples_of program) a.history a.store n atom l.1.sound l.1.full h.fit (box_lacks a.history b n atom l.1.sound.kept e))
 
   loop-step : (ops : Table) (names : List (List ℕ)) (s : State) (a : Account) (last : Option LastRun) → IsTold s s.replies a → IsLast last a.history → IsStep a (loop_step ops names s last)
   loop-step ops names s a None h l = refused-step ops names s a _ h
@@ -330,7 +335,7 @@ module _ (m : Interpretation) (program : List Clause) (is : IsProgram program) (
           let c = chain_stopped a.history run.end calls e in
           subst (λ bs. IsStep a (loop_at ops names s a.history (Ok bs))) (sym c.0)
           (begins-step by_loop (IsKnownLoop (tuples_of program)) left_in (IsLoopEnd (tuples_of program)) loop_rightly ops names s a (NoEnd (length (chain a.history))) (loop_start a.history (chain a.history)) h refl h.fit
-          (loop_begins (tuples_of program) a.history a.pairs (length (chain a.history)) l.1.sound (is_chain a.history l.1.sound.kept l.1.chained c.1) h.fit))
+          (loop_begins (tuples_of program) a.history a.store (length (chain a.history)) l.1.sound (is_chain a.history l.1.sound.kept l.1.chained c.1) h.fit))
 
   -- Notes tell nothing.
   remark-is : (a : Account) (why : Noted) (n : Note) → IsRight m program strategy a (remark why n) × (after_entry program a (remark why n) ≡ a)
@@ -369,7 +374,7 @@ module _ (m : Interpretation) (program : List Clause) (is : IsProgram program) (
         state = record {
           program_is = h.program_is;
           strategy_is = h.strategy_is;
-          pairs_are = h.pairs_are;
+          store_is = h.store_is;
           fit = h.fit;
           last = (ap (λ p. (last_run (record s { program = p }) q).history) h.program_is, run);
         };
@@ -389,7 +394,7 @@ module _ (m : Interpretation) (program : List Clause) (is : IsProgram program) (
   command-step ops names s a (command.Query q) atoms h = query-step ops names s a q (atoms q refl) h
   command-step ops names s a (command.Trace f) atoms h = record {
     right = (tt, tt);
-    stands = is_ready (with_filter s f) a (record { program_is = h.program_is; strategy_is = h.strategy_is; pairs_are = h.pairs_are; fit = h.fit; last = h.last });
+    stands = is_ready (with_filter s f) a (record { program_is = h.program_is; strategy_is = h.strategy_is; store_is = h.store_is; fit = h.fit; last = h.last });
   }
   command-step ops names s a (command.Wrong b k) atoms h = wrong-step ops names s a b k s.last h h.last
   command-step ops names s a (command.Missing b atom) atoms h = missing-step ops names s a b atom s.last h h.last

@@ -6,6 +6,7 @@ use Rattle.apd_answers.specs.Dialogue.{Diagnosis}
 use Rattle.apd_answers.specs.declared.finding.Finding.{Finding}
 use Rattle.apd_answers.specs.declared.oracle.AskEnd.{AskEnd}
 use Rattle.apd_answers.specs.declared.store.Pair.{Pair}
+use Rattle.apd_answers.specs.Store.{Store}
 use Rattle.apd_clauses.specs.Clauses.{IsProgram, tuples_of}
 use Rattle.apd_clauses.proofs.Pure.{goals_are_atoms}
 use Rattle.apd_record.specs.Chain.{EachOwnsNext}
@@ -16,10 +17,10 @@ use Rattle.apd_commands.specs.declared.commands.Command.{Command}
 use Rattle.apd_commands.specs.declared.commands.Command.TheVariants as commands
 use Rattle.apd_console.specs.Console.{IsKept}
 use Rattle.apd_debug.specs.Diagnosed.{Diagnosed, SaysEnd, SaysEndIf, SaysLast, is_said, last_entry, next_after, trouble_of}
-use Rattle.apd_answers.specs.Fitting.{AllFit}
+use Rattle.apd_answers.specs.Fitting.{AllFit, AllFitIn}
 use Rattle.apd_answers.specs.declared.question.Question.TheVariants.{True}
 use Rattle.apd_answers.specs.declared.question.Reply.TheVariants.{No, Yes}
-use Rattle.apd_debug.specs.NamedStates.{AreReplies, loop_entry}
+use Rattle.apd_debug.specs.NamedStates.{AreReplies, AreRepliesIn, loop_entry}
 use Rattle.apd_debug.proofs.NamedReplies.{with_pair-replies}
 use Rattle.apd_debug.specs.NamedTrees.{AllPointsNamed, RecordIsNamed}
 use Rattle.apd_debug.specs.Stand.{ready}
@@ -70,7 +71,7 @@ use Rattle.apd_session.proofs.Turning.{IsReady-more, leads_by}
 
 -- replies don't change what a state is ready for
 abbrev pub with_answers : State → Answered → State
-with_answers s now = record s { replies = now.pairs; asked = now.asked }
+with_answers s now = record s { replies = now.store; asked = now.asked }
 
 last_answered : (n : ℕ) (s : State) (now : Answered) (last : Option LastRun) → IfSome last (IsRunOf n s) → IfSome last (IsRunOf n (with_answers s now))
 last_answered n s now None is = tt
@@ -85,15 +86,18 @@ pub ready_answered : (n : ℕ) (s : State) (now : Answered) → IsReady n s → 
 ready_answered n s now is = record { limits = is.limits; standard = is.standard; named = is.named; last = last_answered n s now s.last is.last }
 
 -- a symptom leaves replies that fit
-pub told-replies : (n : ℕ) (pairs : List Pair) (what : Told) → AreReplies n pairs → AreReplies n (with_told pairs what)
-told-replies n pairs (Wrong a) are = with_pair-replies n pairs (True a) No are (tt, tt)
-told-replies n pairs (Missing a) are = with_pair-replies n pairs (True a) Yes are (tt, tt)
-told-replies n pairs (NoEnd calls) are = are
+pub told-replies : (n : ℕ) (store : Store) (what : Told) → AreReplies n store → AreReplies n (with_told store what)
+told-replies n store (Wrong a) are = with_pair-replies n store (True a) No are (tt, tt)
+told-replies n store (Missing a) are = with_pair-replies n store (True a) Yes are (tt, tt)
+told-replies n store (NoEnd calls) are = are
 
 -- the replies of a store fit its questions
-pub all_fit : (n : ℕ) (pairs : List Pair) → AreReplies n pairs → AllFit pairs
-all_fit n [] are = tt
-all_fit n (pair ∷ pairs) are = (are.0.0, all_fit n pairs are.1)
+all_fit_in : (n : ℕ) (pairs : List Pair) → AreRepliesIn n pairs → AllFitIn pairs
+all_fit_in n [] are = tt
+all_fit_in n (pair ∷ pairs) are = (are.0.0, all_fit_in n pairs are.1)
+
+pub all_fit : (n : ℕ) (store : Store) → AreReplies n store → AllFit store
+all_fit n store are = all_fit_in n store.pairs are
 
 -- the names of the last run are known
 pub run_named : (n : ℕ) (s : State) (run : LastRun) → s.last ≡ Some run → IsReady n s → RecordIsNamed n run.history
@@ -117,11 +121,11 @@ last_keeps found (Ok e) p q result (says, next) = (says.names, says.ops)
 last_keeps found (Err end) p q result says = last_keeps_end (is_said end) end p q result says
 
 -- a diagnosis after what was said before it
-diagnosed_after : {D E : Type 0} (d : Method D E) {names : List (List ℕ)} (reader : Reader names) (ops : Table) (s : State) (f g : Meaning Entry) (p q r : Place Entry) (pairs : List Pair) (count : ℕ) (answer : Result E AskEnd) → Talks f p q g →
-    Diagnosed (d.diagnosis s) (d.found s) (situation d s) ops names (talker reader ops) g q r pairs count answer →
-    Diagnosed (d.diagnosis s) (d.found s) (situation d s) ops names (talker reader ops) f p r pairs count answer
-diagnosed_after d {names} reader ops s f g p q r pairs count (Ok e) first second = Talks-more f g _ p q r first second
-diagnosed_after d {names} reader ops s f g p q r pairs count (Err end) first second = Diagnosed-more (d.diagnosis s) (d.found s) (situation d s) ops names (talker reader ops) f g p q r pairs count end first second
+diagnosed_after : {D E : Type 0} (d : Method D E) {names : List (List ℕ)} (reader : Reader names) (ops : Table) (s : State) (f g : Meaning Entry) (p q r : Place Entry) (store : Store) (count : ℕ) (answer : Result E AskEnd) → Talks f p q g →
+    Diagnosed (d.diagnosis s) (d.found s) (situation d s) ops names (talker reader ops) g q r store count answer →
+    Diagnosed (d.diagnosis s) (d.found s) (situation d s) ops names (talker reader ops) f p r store count answer
+diagnosed_after d {names} reader ops s f g p q r store count (Ok e) first second = Talks-more f g _ p q r first second
+diagnosed_after d {names} reader ops s f g p q r store count (Err end) first second = Diagnosed-more (d.diagnosis s) (d.found s) (situation d s) ops names (talker reader ops) f g p q r store count end first second
 
 leads_ready : (s : State) (now : List (List ℕ)) (result : Result Next Trouble) → IsPrepared (length now) s → OnOk result (IsPrepared (length now) s)
 leads_ready s now (Ok n) is = is
@@ -132,7 +136,7 @@ module _ {D E : Type 0} (d : Method D E) (s : State) (command : Command) (what :
   abbrev symptom : Entry
   symptom = Symptom what
 
-  abbrev replied : List Pair
+  abbrev replied : Store
   replied = with_told s.replies what
 
   keeps_said : {T : Type 0} (result : Result T Trouble) → Says (one symptom) p.spoken said result → Keeps p (said_at p said)
@@ -182,11 +186,11 @@ module _ {D E : Type 0} (d : Method D E) (s : State) (command : Command) (what :
             let first : Talks (after_step (talker reader ops) (says_before (plain ops names symptom ∷ []) st)) (place p) (place (said_at p said)) (after_step (talker reader ops) st) =
             Talks-before (talker reader ops) p said (plain ops names symptom ∷ []) st (says_later (one symptom) p.spoken said (Ok u) says) (says.all names grown) in
             let second = subst (λ (o : Table). Diagnosed (d.diagnosis s) (d.found s) (situation d s) o names (talker reader o)
-            (after_step (talker reader o) (carries_on d o names s replied s.asked x)) (place (said_at p said)) (place q) now.pairs now.asked answer) says.ops (diagnosis.course names on reader s same) in
+            (after_step (talker reader o) (carries_on d o names s replied s.asked x)) (place (said_at p said)) (place q) now.store now.asked answer) says.ops (diagnosis.course names on reader s same) in
             rw (is ops names)
-            (last_on (d.diagnosis s) (d.found s) (situation d s) ops names (talker reader ops) (after_step (talker reader ops) (says_before (plain ops names symptom ∷ []) st)) (place p) q last now.pairs now.asked
+            (last_on (d.diagnosis s) (d.found s) (situation d s) ops names (talker reader ops) (after_step (talker reader ops) (says_before (plain ops names symptom ∷ []) st)) (place p) q last now.store now.asked
             (diagnosis.keeps.ops ∙ says.ops) on answer result
-            (diagnosed_after d reader ops s _ (after_step (talker reader ops) st) (place p) (place (said_at p said)) (place q) now.pairs now.asked answer first second) concludes);
+            (diagnosed_after d reader ops s _ (after_step (talker reader ops) st) (place p) (place (said_at p said)) (place q) now.store now.asked answer first second) concludes);
         ready = leads_ready (with_answers s now) last.log.names result record {
           ready = IsReady-more (length p.spoken.log.names) (length last.log.names) (with_answers s now) (Grown-length p.spoken.log.names last.log.names grew_last) (ready_answered (length p.spoken.log.names) s now ready_before);
           replies = rw kept.0 diagnosis.replies;

@@ -4,7 +4,8 @@ use Rattle.std.specs.Prelude.{ℕ, List, [], ◌∷◌, ◌++◌, ◌-◌, ◌^�
 use Rattle.apd_account.specs.Account.{with_told}
 use Rattle.apd_answers.specs.Dialogue.{Dialogue, Turn, asks, goes, ends}
 use Rattle.apd_answers.specs.declared.finding.Finding.{Finding}
-use Rattle.apd_answers.specs.declared.finding.Finding.TheVariants.{WrongInstance, Uncovered, Violation}
+use Rattle.apd_answers.specs.declared.finding.Finding.TheVariants.{WrongInstance, Uncovered, Violation, Candidates}
+use Rattle.apd_term.specs.declared.instance.Instance.{Instance}
 use Rattle.apd_clauses.specs.declared.clause.Clause.{Clause}
 use Rattle.apd_commands.specs.Commands.{command_in}
 use Rattle.apd_commands.specs.declared.commands.Command.{Command}
@@ -36,11 +37,16 @@ use Rattle.apd_session.specs.Steps.{after_run, found_in, opening_said, query_sai
 abbrev pub query_line : Line
 query_line = Text (codes "?- n1.")
 
--- the number of the clause that was found; 0 where what was found has none
+abbrev pub first_clause : List Instance → ℕ
+first_clause [] = 0
+first_clause (c ∷ cs) = c.clause
+
+-- the number of the clause that was found, of candidates the first one's; 0 where what was found has none
 abbrev pub clause_found : Finding → ℕ
 clause_found (WrongInstance c t) = c
 clause_found (Uncovered goal) = 0
 clause_found (Violation c goal caller_no callee caller_atom callee_atom) = c
+clause_found (Candidates cs) = first_clause cs
 
 -- a count as far as 32 bits go
 abbrev pub within_32_bits : ℕ → ℕ

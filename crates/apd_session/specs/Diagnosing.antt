@@ -2,7 +2,7 @@
 use Rattle.std.specs.Prelude.{ℕ, ◌≡◌, List, length, Result, IfOk}
 use Rattle.apd_answers.specs.Dialogue.{Diagnosis}
 use Rattle.apd_answers.specs.declared.oracle.AskEnd.{AskEnd}
-use Rattle.apd_answers.specs.declared.store.Pair.{Pair}
+use Rattle.apd_answers.specs.Store.{Store}
 use Rattle.apd_debug.specs.Diagnosed.{Diagnosed}
 use Rattle.apd_debug.specs.NamedStates.{AreReplies}
 use Rattle.apd_oracle.specs.Dialogue.{KeepsPlace}
@@ -16,18 +16,18 @@ use Rattle.apd_session.specs.Steps.{Method, carries_on, situation, talker}
 
 -- what is kept by the way of a diagnosis: the replies, and how many questions were asked
 pub record Answered : Type 0 where
-  pub pairs : List Pair
+  pub store : Store
   pub asked : ℕ
 
-abbrev pub answered : List Pair → ℕ → Answered
-answered pairs asked = record { pairs = pairs; asked = asked }
+abbrev pub answered : Store → ℕ → Answered
+answered store asked = record { store = store; asked = asked }
 
 module _ {D E : Type 0} (d : Method D E) where
   -- in this state of the session a diagnosis went on from this state of it to its end: what is said last is still to be said
   abbrev pub IsDiagnosed : {names : List (List ℕ)} → Reader names → State → D → Answered → Answered → Moment → Moment → Result E AskEnd → Type 0
   IsDiagnosed {names} reader s x before now p q result =
       Diagnosed (d.diagnosis s) (d.found s) (situation d s) p.spoken.log.ops names (talker reader p.spoken.log.ops)
-      (after_step (talker reader p.spoken.log.ops) (carries_on d p.spoken.log.ops names s before.pairs before.asked x)) (place p) (place q) now.pairs now.asked result
+      (after_step (talker reader p.spoken.log.ops) (carries_on d p.spoken.log.ops names s before.store before.asked x)) (place p) (place q) now.store now.asked result
 
   -- so it went in each state in which the diagnosis is this one; what it came to has names that are known, and what it keeps are
   -- replies
@@ -36,4 +36,4 @@ module _ {D E : Type 0} (d : Method D E) where
     pub keeps_place : KeepsPlace p.spoken q.spoken
     pub course : Lasting q.spoken.log.names (λ names. (reader : Reader names) (s : State) → d.diagnosis s ≡ this → IsDiagnosed reader s x before now p q result)
     pub named : (s : State) → IfOk result (λ e. EntryIsNamed (length q.spoken.log.names) (d.found s e))
-    pub replies : AreReplies (length q.spoken.log.names) now.pairs
+    pub replies : AreReplies (length q.spoken.log.names) now.store

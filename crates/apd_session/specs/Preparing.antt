@@ -1,5 +1,5 @@
 -- What is known before the first line, by the oracle file.
-use Rattle.std.specs.Prelude.{ℕ, ◌≡◌, ◌⊎◌, List, length, if◌then◌else◌, nat_lt, Option}
+use Rattle.std.specs.Prelude.{ℕ, ◌≡◌, ◌⊎◌, List, Option}
 use Rattle.apd_debug.specs.NamedStates.{AreReplies}
 use Rattle.apd_known.specs.Files.{stated_in}
 use Rattle.apd_ops.specs.Table.{Table}
@@ -37,7 +37,7 @@ IsRefusal failed st = ((st ≡ status.ReadFault) × failed) ⊎ ((st ≡ status.
 
 -- replies and entries have names that are known
 abbrev pub AreReady : ℕ → Type 0 → Prepared → Type 0
-AreReady n failed (Knows statements pairs) = AreReplies n pairs
+AreReady n failed (Knows statements store) = AreReplies n store
 AreReady n failed (Refuses entry st) = EntryIsNamed n entry × IsRefusal failed st
 
 -- what is said with a program in this state, before the first line and to the lines of the input

@@ -2,6 +2,7 @@
 
 ghost use Rattle.std.specs.Prelude.{◌≡◌, ◌<◌, ◌≤◌, ◌≢◌, [], length, IfOk};
 ghost use Rattle.apd_answers.specs.Dialogue.{ends};
+ghost use Rattle.apd_answers.specs.Store.{empty_store};
 ghost use Rattle.apd_commands.specs.Obeying.{CanObey};
 ghost use Rattle.apd_base.specs.declared.limits.TheConstants.{MAX_FILE, MAX_LINE};
 ghost use Rattle.apd_clauses.specs.Clauses.{tuples_of};
@@ -12,7 +13,7 @@ ghost use Rattle.apd_load.specs.Program.{program_of};
 ghost use Rattle.apd_load.specs.Warnings.{NotesAreNamed, warnings_of};
 ghost use Rattle.apd_ops.specs.Standard.{standard_table};
 ghost use Rattle.apd_read.specs.Reader.{Reader};
-ghost use Rattle.apd_session.specs.Demo.{asked_said, blamed, clause_found, found_said, query_line, shown_said, within_32_bits};
+ghost use Rattle.apd_session.specs.Demo.{asked_said, blamed, clause_found, first_clause, found_said, query_line, shown_said, within_32_bits};
 ghost use Rattle.apd_session.specs.Outcome.{IsSaid, status_shown};
 ghost use Rattle.apd_session.specs.Session.{after_tree, demonstrates, first_state, most_names};
 ghost use Rattle.apd_session.specs.Turns.{IsPrepared};
@@ -26,7 +27,6 @@ ghost use Rattle.apd_words.specs.Words.{AreLimits, asked_options};
 use crate::diagnosing::keep_wrong;
 use crate::notes::say_opening;
 use crate::opening::first_state;
-use crate::remembering::remember;
 use crate::status::{Status, status_of};
 use crate::top::end_with;
 use crate::turns::answer;
@@ -42,6 +42,7 @@ use apd_load::{LoadText, Loaded, Note, load};
 use apd_query::State;
 use apd_symptoms::{exit_of, line_found};
 use apd_talk::{Trouble, say, say_last};
+use apd_term::Instance;
 use apd_text::{Entry, Log};
 use apd_words::Asked;
 use std::alloc::{AllocError, Global};
@@ -50,13 +51,24 @@ use std::mem::replace;
 /// The query of a demonstration.
 const QUERY: &[u8] = b"?- n1.";
 
-/// The number of the clause that was found; 0 where what was found has none.
+/// The number of the first candidate's clause; 0 where there is none.
+fn first_clause(candidates: &[Instance]) -> u32
+    ensures { result ≡ first_clause candidates.now }
+{
+    match candidates {
+        [first, ..] => first.clause,
+        [] => 0,
+    }
+}
+
+/// The number of the clause that was found, of candidates the first one's; 0 where what was found has none.
 fn clause_found(finding: &Finding) -> u32
     ensures { result ≡ clause_found finding.now }
 {
     match finding {
         Finding::WrongInstance { clause, .. } | Finding::Violation { clause, .. } => *clause,
         Finding::Uncovered { .. } => 0,
+        Finding::Candidates(candidates) => first_clause(candidates.as_slice()),
     }
 }
 
@@ -114,7 +126,7 @@ fn blame<K: Sink>(
     let Some(run) = &state.last else {
         return Ok(());
     };
-    let history = run.history.made()?;
+    let history = &run.history;
     let exit = match exit_of(history, 1, 1) {
         Ok(exit) => exit,
         Err(refusal) => return say(alloc, out, log, Entry::Refused { refusal }),
@@ -122,7 +134,7 @@ fn blame<K: Sink>(
     let label = keep_wrong(alloc, history, exit, &mut state.replies, out, log)?;
     let tree = Tree {
         nodes,
-        program: state.program.get(),
+        program: &state.program,
     };
     let finding = diagnose_tree(
         alloc,
@@ -136,15 +148,7 @@ fn blame<K: Sink>(
         out,
         log,
     )?;
-    say_found(
-        alloc,
-        nodes,
-        state.asked,
-        state.program.get(),
-        finding,
-        out,
-        log,
-    )
+    say_found(alloc, nodes, state.asked, &state.program, finding, out, log)
 }
 
 /// Runs the query that a command asks for, and diagnoses its answer.
@@ -165,7 +169,6 @@ fn ask<K: Sink>(
     match command {
         Command::Query(query) => {
             answer(alloc, state, query, out, log)?;
-            remember(alloc, state)?;
             blame(alloc, nodes, state, out, log)
         }
         _ => Ok(()),
@@ -192,7 +195,7 @@ fn demonstrate<K: Sink>(
         shown_said ops names nodes state.old passed.now called.now command)
         (spoken K.Sink log.old out.old) (spoken K.Sink log.new out.new) result }
 {
-    say_opening(alloc, state.program.get(), passed, called, None, out, log)?;
+    say_opening(alloc, &state.program, passed, called, None, out, log)?;
     ask(alloc, nodes, state, command, out, log)
 }
 
@@ -264,16 +267,14 @@ fn show_first<K: Sink>(
     requires room { length log.old.names ≤ 100000000 }
     ensures said { Lasting log.new.names (λ names. (reader : Reader names) →
         IsSaid result (demonstrates reader nodes
-        (first_state program (asked_options asked.entry) []) log.old.ops passed.now)
+        (first_state program (asked_options asked.entry) empty_store) log.old.ops passed.now)
         log.new (K.held out.old) (K.held out.new)) }
     ensures names { GrowsBy MAX_LINE log.old.names log.new.names }
     ensures limit { result ≢ Status.InputLimit }
     ensures read { result ≢ Status.ReadFault }
     ensures write { result ≡ Status.WriteFault → Rose (K.faults out.old) (K.faults out.new) }
 {
-    let Ok(mut state) = first_state(alloc, asked, program, Answers::new(alloc)) else {
-        return Status::Memory;
-    };
+    let mut state = first_state(asked, program, Answers::new(alloc));
     let shown = show(alloc, nodes, &mut state, passed, called, out, log);
     drop(state);
     status_shown(shown)

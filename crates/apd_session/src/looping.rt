@@ -127,12 +127,12 @@ pub(crate) fn no_end<S: Source, K: Sink>(
     let Some(run) = &state.last else {
         return refuse(alloc, Refusal::NoRun, out, log);
     };
-    let history = run.history.made()?;
+    let history = &run.history;
     let calls = match stopped_chain(history, run.end)? {
         Ok(calls) => calls,
         Err(refusal) => return refuse(alloc, refusal, out, log),
     };
-    is_program(state.program.get());
+    is_program(&state.program);
     let count = call_count(history, &calls);
     keep_symptom(alloc, Told::NoEnd(count), &mut state.replies, out, log)?;
     let answer = diagnose(
@@ -147,5 +147,5 @@ pub(crate) fn no_end<S: Source, K: Sink>(
         out,
         log,
     );
-    conclude_loop(alloc, state.program.get(), count, answer, out, log)
+    conclude_loop(alloc, &state.program, count, answer, out, log)
 }

@@ -128,7 +128,7 @@ fn seek<S: Source, K: Sink>(
     let Some(run) = &state.last else {
         return refuse(alloc, Refusal::NoRun, out, log);
     };
-    let history = run.history.made()?;
+    let history = &run.history;
     let found = match unanswered_box(alloc, history, box_no, atom)? {
         Ok(found) => found,
         Err(refusal) => return refuse(alloc, refusal, out, log),
@@ -136,7 +136,7 @@ fn seek<S: Source, K: Sink>(
     keep_missing(alloc, atom, &mut state.replies, out, log)?;
     let answer = diagnose(
         alloc,
-        state.program.get(),
+        &state.program,
         history,
         found,
         atom,
@@ -147,7 +147,7 @@ fn seek<S: Source, K: Sink>(
         out,
         log,
     );
-    conclude(alloc, state.program.get(), answer, out, log)
+    conclude(alloc, &state.program, answer, out, log)
 }
 
 /// Does what `missing(B, A)` says.

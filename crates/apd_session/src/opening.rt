@@ -1,5 +1,5 @@
 //! What a session begins with: its state, and what it says before it hears the first line.
-ghost use Rattle.std.specs.Prelude.{◌≡◌, ◌<◌, ◌≤◌, [], length, IfOk};
+ghost use Rattle.std.specs.Prelude.{◌≡◌, ◌<◌, ◌≤◌, [], length};
 ghost use Rattle.apd_console.specs.Console.{fresh};
 ghost use Rattle.apd_io.specs.Outside.{Rose};
 ghost use Rattle.apd_load.specs.Warnings.{NotesAreNamed, warnings_of};
@@ -22,23 +22,21 @@ use apd_clauses::Program;
 use apd_console::Console;
 use apd_io::{Sink, Source};
 use apd_load::Note;
-use apd_query::{SharedProgram, State};
+use apd_query::State;
 use apd_talk::{Ending, Trouble};
 use apd_text::Log;
 use apd_words::Asked;
-use std::alloc::{AllocError, Global};
+use std::alloc::Global;
 
 /// What a session begins with.
 pub(crate) fn first_state(
-    alloc: Global,
     asked: Asked<'_>,
     program: Program,
     replies: apd_answers::Answers,
-) -> Result<State, AllocError>
-    ensures { IfOk result (λ s. s ≡ first_state program (asked_options asked.entry) replies) }
+) -> State
+    ensures { result ≡ first_state program (asked_options asked.entry) replies }
 {
-    let program = SharedProgram::new(alloc, program)?;
-    Ok(State {
+    State {
         program,
         budget: asked.budget,
         answers: asked.answers,
@@ -47,7 +45,7 @@ pub(crate) fn first_state(
         last: None,
         replies,
         asked: 0,
-    })
+    }
 }
 
 /// Says what there is to say before the first line, and hears the lines of the input.
@@ -72,15 +70,7 @@ fn begin<S: Source, K: Sink>(
         (moment S.Source K.Sink console.old input.old log.old out.old)
         (moment S.Source K.Sink console.new input.new log.new out.new) result }
 {
-    say_opening(
-        alloc,
-        state.program.get(),
-        passed,
-        called,
-        statements,
-        out,
-        log,
-    )?;
+    say_opening(alloc, &state.program, passed, called, statements, out, log)?;
     converse(alloc, state, console, input, out, log)
 }
 
@@ -161,9 +151,7 @@ pub(crate) fn start<S: Source, K: Sink>(
     ensures read { result ≡ Status.ReadFault → Rose (S.faults input.old) (S.faults input.new) }
     ensures write { result ≡ Status.WriteFault → Rose (K.faults out.old) (K.faults out.new) }
 {
-    let Ok(mut state) = first_state(alloc, asked, program, replies) else {
-        return Status::Memory;
-    };
+    let mut state = first_state(asked, program, replies);
     meet(
         alloc, &mut state, passed, called, statements, input, out, log,
     )

@@ -125,7 +125,7 @@ pub(crate) fn wrong<S: Source, K: Sink>(
     let Some(run) = &state.last else {
         return refuse(alloc, Refusal::NoRun, out, log);
     };
-    let history = run.history.made()?;
+    let history = &run.history;
     let exit = match exit_of(history, box_no, exit) {
         Ok(exit) => exit,
         Err(refusal) => return refuse(alloc, refusal, out, log),
@@ -144,5 +144,5 @@ pub(crate) fn wrong<S: Source, K: Sink>(
         out,
         log,
     );
-    conclude(alloc, state.program.get(), answer, out, log)
+    conclude(alloc, &state.program, answer, out, log)
 }

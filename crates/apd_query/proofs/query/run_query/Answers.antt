@@ -1,87 +1,14 @@
-use Rattle.std.proofs.lemmas.Result.{err_from_is_err_and}
-use Rattle.std.proofs.Common.{◌∙◌, ap, refl, subst}
+use Rattle.std.proofs.Common.{ap, refl}
 use Rattle.apd_causes.specs.declared.run.Ran.{Ran}
-use Rattle.apd_talk.specs.Speech.{begun}
-use Rattle.apd_talk.proofs.Speaking.{cause_after}
-use Rattle.apd_talk.proofs.Uttering.{UttersFront-none}
-use Rattle.apd_clauses.specs.Clauses.{IsProgram}
-use Rattle.apd_query.proofs.Running.{history_is, is_record, run_utters, run_begins, run_breaks, run_ends}
 use Rattle.apd_query.proofs.query.run_query.Goals as goal
 
-pub returns-in_err-program-clause-says : goal.returns-in_err-program-clause-says
-returns-in_err-program-clause-says g c = let p = err_from_is_err_and c.from_residual.result c.from_residual.ensures.1 in rw (p.1, p.2) record {
-  all = tt;
-  front = λ names grew. UttersFront-none begun _ _ _ _ refl;
-  names = refl;
-  ops = refl;
-  cause = refl;
-}
-
-pub returns-in_err-asked-clause-says : goal.returns-in_err-asked-clause-says
-returns-in_err-asked-clause-says g c = let p = err_from_is_err_and c.from_residual-in_err-asked.result c.from_residual-in_err-asked.ensures.1 in rw (p.1, p.2) record {
-  all = tt;
-  front = λ names grew. UttersFront-none begun _ _ _ _ refl;
-  names = refl;
-  ops = refl;
-  cause = refl;
-}
-
-pub returns-in_err-begin_run-clause-says : goal.returns-in_err-begin_run-clause-says
-returns-in_err-begin_run-clause-says g c = let p = err_from_is_err_and c.from_residual-in_err-begin_run.result c.from_residual-in_err-begin_run.ensures.1 in rw (p.1, p.2) record {
-  all = tt;
-  front = λ names grew.
-      rw grew.1
-      (run_begins c.args.log.now.ops c.args.log.now.names grew.0 c.args.state.now c.args.query _ _ _ _ c.requires.ready.named c.requires.named c.in_err-begin_run.ensures.err);
-  names = c.begin_run.ensures.names;
-  ops = c.begin_run.ensures.ops;
-  cause = c.in_err-begin_run.ensures.cause;
-}
-
-pub returns-in_err-ran-clause-says : goal.returns-in_err-ran-clause-says
-returns-in_err-ran-clause-says g c = let p = err_from_is_err_and c.from_residual-in_err-ran.result c.from_residual-in_err-ran.ensures.1 in rw (p.1, p.2) record {
-  all = tt;
-  front = λ names grew.
-      rw grew.1
-      (run_breaks c.args.log.now.ops c.args.log.now.names grew.0 c.args.state.now c.args.query _ _ _ _ _ c.requires.ready.named c.requires.named c.in_ok-begin_run.ensures.ok.0 c.in_ok-begin_run.ensures.ok.1
-      (rw (c.begin_run.ensures.names, c.begin_run.ensures.ops) at c.in_err-ran.ensures.err));
-  names = c.begin_run.ensures.names;
-  ops = c.begin_run.ensures.ops;
-  cause = cause_after _ _ _ _ c.in_ok-begin_run.ensures.cause c.in_err-ran.ensures.cause;
-}
-
-pub returns-clause-says : goal.returns-clause-says
-returns-clause-says g c = record {
-  all = λ names grew.
-      rw grew.1
-      (run_utters c.args.log.now.ops c.args.log.now.names grew.0 c.args.state.now c.args.query _ c.begin_run.new.log.entries.list _ _ _ _ _ c.in_ok-ran.ran c.requires.ready.named c.requires.named
-      c.in_ok-begin_run.ensures.ok.0 c.in_ok-begin_run.ensures.ok.1
-      (rw (c.begin_run.ensures.names, c.begin_run.ensures.ops) at c.in_ok-ran.ensures.lines) c.in_ok-ran.ensures.ran c.end_run.ensures.finished c.in_ok-end_run.ensures.ok);
-  front = tt;
-  names = c.end_run.ensures.names ∙ c.begin_run.ensures.names;
-  ops = c.end_run.ensures.ops ∙ c.begin_run.ensures.ops;
-  cause = c.in_ok-end_run.ensures.cause ∙ c.in_ok-ran.ensures.cause ∙ c.in_ok-begin_run.ensures.cause;
-}
-
-pub returns-in_err-end_run-clause-says : goal.returns-in_err-end_run-clause-says
-returns-in_err-end_run-clause-says g c = let p = err_from_is_err_and c.from_residual-in_err-end_run.result c.from_residual-in_err-end_run.ensures.1 in rw (p.1, p.2) record {
-  all = tt;
-  front = λ names grew.
-      rw grew.1
-      (run_ends c.args.log.now.ops c.args.log.now.names grew.0 c.args.state.now c.args.query _ c.begin_run.new.log.entries.list _ _ _ _ _ c.in_ok-ran.ran c.requires.ready.named c.requires.named
-      c.in_ok-begin_run.ensures.ok.0 c.in_ok-begin_run.ensures.ok.1
-      (rw (c.begin_run.ensures.names, c.begin_run.ensures.ops) at c.in_ok-ran.ensures.lines) c.in_ok-ran.ensures.ran c.end_run.ensures.finished c.in_err-end_run.ensures.err);
-  names = c.end_run.ensures.names ∙ c.begin_run.ensures.names;
-  ops = c.end_run.ensures.ops ∙ c.begin_run.ensures.ops;
-  cause = cause_after _ _ _ _ (c.in_ok-ran.ensures.cause ∙ c.in_ok-begin_run.ensures.cause) c.in_err-end_run.ensures.cause;
-}
-
 pub returns-clause-run : goal.returns-clause-run
-returns-clause-run g c = rw (history_is c.args.state.now c.args.query _ _ _ c.in_ok-program.ensures c.in_ok-asked.ensures c.new.ensures, c.in_ok-ran.ensures.ran) refl
+returns-clause-run g c = rw (c.in_ok-ran.ensures.kept.is, c.in_ok-ran.ensures.ran) refl
 
 pub returns-clause-kept : goal.returns-clause-kept
 returns-clause-kept g c = record {
   runnable = c.requires.runnable;
   named = c.requires.named;
-  history = is_record c.args.state.now c.args.query _ (subst IsProgram c.get.ensures c.count-count.ensures.program) c.requires.runnable (history_is c.args.state.now c.args.query _ _ _ c.in_ok-program.ensures c.in_ok-asked.ensures c.new.ensures);
+  history = c.in_ok-ran.ensures.kept;
   end = ap (λ (r : Ran). r.end) c.in_ok-ran.ensures.ran;
 }

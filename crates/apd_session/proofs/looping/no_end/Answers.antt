@@ -1,5 +1,4 @@
-use Rattle.std.proofs.Common.{◌∙◌, ap, refl, subst, sym, length}
-use Rattle.apd_clauses.specs.Clauses.{IsProgram}
+use Rattle.std.proofs.Common.{◌∙◌, ap, refl, sym, length}
 use Rattle.std.proofs.lemmas.Result.{err_from_is_err_and}
 use Rattle.apd_commands.specs.declared.commands.Command.TheVariants as command
 use Rattle.apd_session.specs.Diagnosing.{answered}
@@ -22,25 +21,17 @@ returns-in_default g c =
     (moment g.S.Source g.K.Sink c.args.console.now c.args.input.now c.refuse.new.log c.refuse.new.out) refl refl refl (λ ops names. loop_none ops names c.args.state.now c.in_default.is)
     c.requires.sound c.refuse.result c.refuse.ensures.says c.refuse.ensures.goes c.requires.ready
 
-pub returns-in_err-history : goal.returns-in_err-history
-returns-in_err-history g c =
+pub returns-in_err-calls : goal.returns-in_err-calls
+returns-in_err-calls g c =
     let p : Moment = moment g.S.Source g.K.Sink c.args.console.now c.args.input.now c.args.log.now c.args.out.now in
     let e = err_from_is_err_and c.from_residual.result c.from_residual.ensures.1 in
     rw (e.1, e.2)
     (leads_broken (λ ops names. command_step ops names c.args.state.now command.Loop) p p refl refl refl c.requires.sound {T = Next} c.args.state.now _
     (Says-none {T = Next} (λ ops names. (command_step ops names c.args.state.now command.Loop).utterances) p.spoken p.spoken refl refl refl refl refl))
 
-pub returns-in_err-calls : goal.returns-in_err-calls
-returns-in_err-calls g c =
-    let p : Moment = moment g.S.Source g.K.Sink c.args.console.now c.args.input.now c.args.log.now c.args.out.now in
-    let e = err_from_is_err_and c.from_residual-in_err-calls.result c.from_residual-in_err-calls.ensures.1 in
-    rw (e.1, e.2)
-    (leads_broken (λ ops names. command_step ops names c.args.state.now command.Loop) p p refl refl refl c.requires.sound {T = Next} c.args.state.now _
-    (Says-none {T = Next} (λ ops names. (command_step ops names c.args.state.now command.Loop).utterances) p.spoken p.spoken refl refl refl refl refl))
-
 pub returns-in-Err : goal.returns-in-Err
 returns-in-Err g c =
-    let calls = sym (rw c.in-Err.is at (rw c.in_ok-history.ensures at c.in_ok-calls.ensures.chain)) in
+    let calls = sym (rw c.in-Err.is at c.in_ok-calls.ensures.chain) in
     refused_leads c.args.state.now command.Loop _ (moment g.S.Source g.K.Sink c.args.console.now c.args.input.now c.args.log.now c.args.out.now)
     (moment g.S.Source g.K.Sink c.args.console.now c.args.input.now c.refuse-in-Err.new.log c.refuse-in-Err.new.out) refl refl refl
     (λ ops names. loop_refused ops names c.args.state.now c.in-Some.run' c.in-Err.refusal c.in-Some.is calls)
@@ -48,7 +39,7 @@ returns-in-Err g c =
 
 pub returns-in_err-keep_symptom : goal.returns-in_err-keep_symptom
 returns-in_err-keep_symptom g c =
-    let calls = sym (rw c.in-Ok.is at (rw c.in_ok-history.ensures at c.in_ok-calls.ensures.chain)) in
+    let calls = sym (rw c.in-Ok.is at c.in_ok-calls.ensures.chain) in
     let e = err_from_is_err_and c.from_residual-in_err-keep_symptom.result c.from_residual-in_err-keep_symptom.ensures.1 in
     rw (e.1, e.2)
     (symptom_breaks by_loop c.args.state.now command.Loop (NoEnd (length c.in-Ok.calls)) (loop_start c.in-Some.run'.history c.in-Ok.calls) (λ ops names. loop_begins ops names c.args.state.now c.in-Some.run' c.in-Ok.calls c.in-Some.is calls)
@@ -60,29 +51,29 @@ diagnose-answer-requires-clause-replies g c =
 
 pub diagnose-answer-requires-clause-chain : goal.diagnose-answer-requires-clause-chain
 diagnose-answer-requires-clause-chain g c =
-    let calls = sym (rw c.in-Ok.is at (rw c.in_ok-history.ensures at c.in_ok-calls.ensures.chain)) in
+    let calls = sym (rw c.in-Ok.is at c.in_ok-calls.ensures.chain) in
     let chained = chain_stopped c.in-Some.run'.history c.in-Some.run'.end c.in-Ok.calls calls in
-    rw (c.in_ok-history.ensures, chained.0) (record { several = chained.1; owned = run_owned (length c.args.log.now.names) c.args.state.now c.in-Some.run' c.in-Some.is c.requires.ready.ready (subst IsProgram c.get.ensures c.is_program.ensures) })
+    rw chained.0 (record { several = chained.1; owned = run_owned (length c.args.log.now.names) c.args.state.now c.in-Some.run' c.in-Some.is c.requires.ready.ready c.is_program.ensures })
 
 pub diagnose-answer-requires-clause-named : goal.diagnose-answer-requires-clause-named
-diagnose-answer-requires-clause-named g c = rw (c.in_ok-history.ensures, c.in_ok-keep_symptom.ensures.says.names) (run_named (length c.args.log.now.names) c.args.state.now c.in-Some.run' c.in-Some.is c.requires.ready.ready)
+diagnose-answer-requires-clause-named g c = rw c.in_ok-keep_symptom.ensures.says.names (run_named (length c.args.log.now.names) c.args.state.now c.in-Some.run' c.in-Some.is c.requires.ready.ready)
 
 pub call_count-count-requires : goal.call_count-count-requires
 call_count-count-requires g c =
-    let calls = sym (rw c.in-Ok.is at (rw c.in_ok-history.ensures at c.in_ok-calls.ensures.chain)) in
+    let calls = sym (rw c.in-Ok.is at c.in_ok-calls.ensures.chain) in
     let chained = chain_stopped c.in-Some.run'.history c.in-Some.run'.end c.in-Ok.calls calls in
-    rw c.in_ok-history.ensures chained.0
+    chained.0
 
 pub conclude_loop-requires-clause-named : goal.conclude_loop-requires-clause-named
 conclude_loop-requires-clause-named g c =
-    let calls = sym (rw c.in-Ok.is at (rw c.in_ok-history.ensures at c.in_ok-calls.ensures.chain)) in
+    let calls = sym (rw c.in-Ok.is at c.in_ok-calls.ensures.chain) in
     let chained = chain_stopped c.in-Some.run'.history c.in-Some.run'.end c.in-Ok.calls calls in
     let count = ap length (run_calls c.args.state.now c.in-Some.run' c.in-Ok.calls c.in-Some.is chained.0) ∙ sym c.call_count-count.ensures in
-    rw c.get-2.ensures (rw count at (c.diagnose-answer.ensures.named c.args.state.now))
+    rw count at (c.diagnose-answer.ensures.named c.args.state.now)
 
 pub returns : goal.returns
 returns g c =
-    let calls = sym (rw c.in-Ok.is at (rw c.in_ok-history.ensures at c.in_ok-calls.ensures.chain)) in
+    let calls = sym (rw c.in-Ok.is at c.in_ok-calls.ensures.chain) in
     let chained = chain_stopped c.in-Some.run'.history c.in-Some.run'.end c.in-Ok.calls calls in
     let same = run_calls c.args.state.now c.in-Some.run' c.in-Ok.calls c.in-Some.is chained.0 in
     let count = ap length same ∙ sym c.call_count-count.ensures in
@@ -91,7 +82,7 @@ returns g c =
     (loop c.in-Some.run'.history c.in-Ok.calls c.args.state.now.strategy) (loop_this c.args.state.now c.in-Some.run' c.in-Ok.calls c.in-Some.is chained.0)
     _ (moment g.S.Source g.K.Sink c.diagnose-answer.new.console c.diagnose-answer.new.input c.diagnose-answer.new.log c.diagnose-answer.new.out) (spoken g.K.Sink c.conclude_loop.new.log c.conclude_loop.new.out)
     (answered c.diagnose-answer.new.replies c.diagnose-answer.new.asked) c.diagnose-answer.result c.conclude_loop.result (rw c.call_count-count.ensures at c.in_ok-keep_symptom.ensures.says)
-    (rw c.in_ok-keep_symptom.ensures.replies at (rw c.in_ok-history.ensures at c.diagnose-answer.ensures)) (rw (← count, c.get-2.ensures) at c.conclude_loop.ensures) c.requires.ready.ready
+    (rw c.in_ok-keep_symptom.ensures.replies at c.diagnose-answer.ensures) (rw (← count) at c.conclude_loop.ensures) c.requires.ready.ready
 
 pub refuse-requires-in-Err : goal.refuse-requires-in-Err
 refuse-requires-in-Err g c = rw c.in-Err.is at (c.in_ok-calls.ensures.named (length c.args.log.now.names))

@@ -27,25 +27,17 @@ returns-in_default g c =
     (moment g.S.Source g.K.Sink c.args.console.now c.args.input.now c.refuse.new.log c.refuse.new.out) refl refl refl (λ ops names. missing_none ops names c.args.state.now c.args.box_no c.args.atom.now c.in_default.is)
     c.requires.ready.sound c.refuse.result c.refuse.ensures.says c.refuse.ensures.goes c.requires.ready.ready
 
-pub returns-in_err-history : goal.returns-in_err-history
-returns-in_err-history g c =
+pub returns-in_err-found : goal.returns-in_err-found
+returns-in_err-found g c =
     let p : Moment = moment g.S.Source g.K.Sink c.args.console.now c.args.input.now c.args.log.now c.args.out.now in
     let e = err_from_is_err_and c.from_residual.result c.from_residual.ensures.1 in
     rw (e.1, e.2)
     (leads_broken (λ ops names. command_step ops names c.args.state.now (command.Missing c.args.box_no c.args.atom.now)) p p refl refl refl c.requires.ready.sound {T = Next} c.args.state.now _
     (Says-none {T = Next} (λ ops names. (command_step ops names c.args.state.now (command.Missing c.args.box_no c.args.atom.now)).utterances) p.spoken p.spoken refl refl refl refl refl))
 
-pub returns-in_err-found : goal.returns-in_err-found
-returns-in_err-found g c =
-    let p : Moment = moment g.S.Source g.K.Sink c.args.console.now c.args.input.now c.args.log.now c.args.out.now in
-    let e = err_from_is_err_and c.from_residual-in_err-found.result c.from_residual-in_err-found.ensures.1 in
-    rw (e.1, e.2)
-    (leads_broken (λ ops names. command_step ops names c.args.state.now (command.Missing c.args.box_no c.args.atom.now)) p p refl refl refl c.requires.ready.sound {T = Next} c.args.state.now _
-    (Says-none {T = Next} (λ ops names. (command_step ops names c.args.state.now (command.Missing c.args.box_no c.args.atom.now)).utterances) p.spoken p.spoken refl refl refl refl refl))
-
 pub returns-in-Err : goal.returns-in-Err
 returns-in-Err g c =
-    let found = sym (rw (to_z-of_z _ c.args.box_no c.ranges.box_no, c.in-Err.is) at (rw c.in_ok-history.ensures at c.in_ok-found.ensures.found)) in
+    let found = sym (rw (to_z-of_z _ c.args.box_no c.ranges.box_no, c.in-Err.is) at c.in_ok-found.ensures.found) in
     refused_leads c.args.state.now (command.Missing c.args.box_no c.args.atom.now) _ (moment g.S.Source g.K.Sink c.args.console.now c.args.input.now c.args.log.now c.args.out.now)
     (moment g.S.Source g.K.Sink c.args.console.now c.args.input.now c.refuse-in-Err.new.log c.refuse-in-Err.new.out) refl refl refl
     (λ ops names. missing_refused ops names c.args.state.now c.args.box_no c.args.atom.now c.in-Some.run' c.in-Err.refusal c.in-Some.is found)
@@ -53,27 +45,27 @@ returns-in-Err g c =
 
 pub returns-in_err-keep_missing : goal.returns-in_err-keep_missing
 returns-in_err-keep_missing g c =
-    let found = sym (rw (to_z-of_z _ c.args.box_no c.ranges.box_no, c.in-Ok.is) at (rw c.in_ok-history.ensures at c.in_ok-found.ensures.found)) in
+    let found = sym (rw (to_z-of_z _ c.args.box_no c.ranges.box_no, c.in-Ok.is) at c.in_ok-found.ensures.found) in
     let e = err_from_is_err_and c.from_residual-in_err-keep_missing.result c.from_residual-in_err-keep_missing.ensures.1 in
     rw (e.1, e.2)
     (symptom_breaks by_missing c.args.state.now (command.Missing c.args.box_no c.args.atom.now) (Missing c.args.atom.now) (record { box_no = c.in-Ok.found; goal = c.args.atom.now }) (λ ops names. missing_begins ops names c.args.state.now c.args.box_no c.args.atom.now c.in-Some.run' c.in-Ok.found c.in-Some.is found)
-    (moment g.S.Source g.K.Sink c.args.console.now c.args.input.now c.args.log.now c.args.out.now) (spoken g.K.Sink c.keep_missing.new.log c.keep_missing.new.out) c.requires.ready.sound _ _ (c.in_err-keep_missing.ensures.says))
+    (moment g.S.Source g.K.Sink c.args.console.now c.args.input.now c.args.log.now c.args.out.now) (spoken g.K.Sink c.keep_missing.new.log c.keep_missing.new.out) c.requires.ready.sound _ _ c.in_err-keep_missing.ensures.says)
 
 pub diagnose-answer-requires-clause-replies : goal.diagnose-answer-requires-clause-replies
 diagnose-answer-requires-clause-replies g c =
     rw (c.in_ok-keep_missing.ensures.says.names, c.in_ok-keep_missing.ensures.replies) (told-replies (length c.args.log.now.names) c.args.state.now.replies (Missing c.args.atom.now) c.requires.ready.ready.replies)
 
 pub diagnose-answer-requires-clause-recorded : goal.diagnose-answer-requires-clause-recorded
-diagnose-answer-requires-clause-recorded g c = rw (c.in_ok-history.ensures, c.get.ensures) (run_kept (length c.args.log.now.names) c.args.state.now c.in-Some.run' c.in-Some.is c.requires.ready.ready.ready).history.sound
+diagnose-answer-requires-clause-recorded g c = (run_kept (length c.args.log.now.names) c.args.state.now c.in-Some.run' c.in-Some.is c.requires.ready.ready.ready).history.sound
 
 pub diagnose-answer-requires-clause-full : goal.diagnose-answer-requires-clause-full
-diagnose-answer-requires-clause-full g c = rw (c.in_ok-history.ensures, c.get.ensures) (run_kept (length c.args.log.now.names) c.args.state.now c.in-Some.run' c.in-Some.is c.requires.ready.ready.ready).history.full
+diagnose-answer-requires-clause-full g c = (run_kept (length c.args.log.now.names) c.args.state.now c.in-Some.run' c.in-Some.is c.requires.ready.ready.ready).history.full
 
 pub diagnose-answer-requires-clause-known : goal.diagnose-answer-requires-clause-known
 diagnose-answer-requires-clause-known g c =
-    let found = sym (rw (to_z-of_z _ c.args.box_no c.ranges.box_no, c.in-Ok.is) at (rw c.in_ok-history.ensures at c.in_ok-found.ensures.found)) in
+    let found = sym (rw (to_z-of_z _ c.args.box_no c.ranges.box_no, c.in-Ok.is) at c.in_ok-found.ensures.found) in
     let run = run_kept (length c.args.log.now.names) c.args.state.now c.in-Some.run' c.in-Some.is c.requires.ready.ready.ready in
-    rw (c.in_ok-history.ensures, c.in_ok-keep_missing.ensures.replies)
+    rw c.in_ok-keep_missing.ensures.replies
     (record {
       missing = box_lacks c.in-Some.run'.history c.args.box_no c.in-Ok.found c.args.atom.now run.history.sound.kept found;
       says = added-yes c.args.state.now.replies c.args.atom.now;
@@ -81,7 +73,7 @@ diagnose-answer-requires-clause-known g c =
     })
 
 pub diagnose-answer-requires-clause-program : goal.diagnose-answer-requires-clause-program
-diagnose-answer-requires-clause-program g c = rw (c.get.ensures, c.in_ok-keep_missing.ensures.says.names) c.requires.ready.ready.ready.named
+diagnose-answer-requires-clause-program g c = rw c.in_ok-keep_missing.ensures.says.names c.requires.ready.ready.ready.named
 
 pub diagnose-answer-requires-clause-named : goal.diagnose-answer-requires-clause-named
 diagnose-answer-requires-clause-named g c = rw c.in_ok-keep_missing.ensures.says.names c.requires.named
@@ -91,12 +83,12 @@ conclude-requires-clause-named g c = c.diagnose-answer.ensures.named c.args.stat
 
 pub returns : goal.returns
 returns g c =
-    let found = sym (rw (to_z-of_z _ c.args.box_no c.ranges.box_no, c.in-Ok.is) at (rw c.in_ok-history.ensures at c.in_ok-found.ensures.found)) in
+    let found = sym (rw (to_z-of_z _ c.args.box_no c.ranges.box_no, c.in-Ok.is) at c.in_ok-found.ensures.found) in
     symptom_leads by_missing c.args.state.now (command.Missing c.args.box_no c.args.atom.now) (Missing c.args.atom.now) (record { box_no = c.in-Ok.found; goal = c.args.atom.now }) (λ ops names. missing_begins ops names c.args.state.now c.args.box_no c.args.atom.now c.in-Some.run' c.in-Ok.found c.in-Some.is found)
     (moment g.S.Source g.K.Sink c.args.console.now c.args.input.now c.args.log.now c.args.out.now) (spoken g.K.Sink c.keep_missing.new.log c.keep_missing.new.out) c.requires.ready.sound (missing (tuples_of c.args.state.now.program) c.in-Some.run'.history) (rw c.in-Some.is refl)
     _ (moment g.S.Source g.K.Sink c.diagnose-answer.new.console c.diagnose-answer.new.input c.diagnose-answer.new.log c.diagnose-answer.new.out) (spoken g.K.Sink c.conclude.new.log c.conclude.new.out)
-    (answered c.diagnose-answer.new.replies c.diagnose-answer.new.asked) c.diagnose-answer.result c.conclude.result (c.in_ok-keep_missing.ensures.says)
-    (rw c.in_ok-keep_missing.ensures.replies at (rw (c.in_ok-history.ensures, c.get.ensures) at c.diagnose-answer.ensures)) (rw c.get-2.ensures at c.conclude.ensures) c.requires.ready.ready.ready
+    (answered c.diagnose-answer.new.replies c.diagnose-answer.new.asked) c.diagnose-answer.result c.conclude.result c.in_ok-keep_missing.ensures.says
+    (rw c.in_ok-keep_missing.ensures.replies at c.diagnose-answer.ensures) c.conclude.ensures c.requires.ready.ready.ready
 
 pub refuse-requires-in-Err : goal.refuse-requires-in-Err
 refuse-requires-in-Err g c = rw c.in-Err.is at (c.in_ok-found.ensures.named (length c.args.log.now.names))

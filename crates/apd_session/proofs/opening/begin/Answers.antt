@@ -17,12 +17,12 @@ returns-in_err-say_opening g c =
     let p = err_from_is_err_and c.from_residual.result c.from_residual.ensures.1 in rw (p.1, p.2)
     (opens_not c.args.state.now c.args.passed.now c.args.statements (moment g.S.Source g.K.Sink c.args.console.now c.args.input.now c.args.log.now c.args.out.now) _ refl refl refl _ (kept_at_first c.args.console.now c.requires.start)
     (Says-as (λ ops names. opening_said ops names c.args.state.now.program c.args.passed.now c.args.called.now c.args.statements) _ _ _ (Err _)
-    (λ ops names. ap (λ (l : List Note). opening_said ops names c.args.state.now.program c.args.passed.now l c.args.statements) c.requires.warnings) (rw c.get.ensures at c.in_err-say_opening.ensures)))
+    (λ ops names. ap (λ (l : List Note). opening_said ops names c.args.state.now.program c.args.passed.now l c.args.statements) c.requires.warnings) c.in_err-say_opening.ensures))
 
 pub returns : goal.returns
 returns g c =
     opens c.args.state.now c.args.passed.now c.args.statements (moment g.S.Source g.K.Sink c.args.console.now c.args.input.now c.args.log.now c.args.out.now)
     (moment g.S.Source g.K.Sink c.args.console.now c.args.input.now c.say_opening.new.log c.say_opening.new.out) refl refl refl _ _ c.converse.result
     (Says-as (λ ops names. opening_said ops names c.args.state.now.program c.args.passed.now c.args.called.now c.args.statements) _ _ _ (Ok _)
-    (λ ops names. ap (λ (l : List Note). opening_said ops names c.args.state.now.program c.args.passed.now l c.args.statements) c.requires.warnings) (rw c.get.ensures at c.in_ok-say_opening.ensures))
+    (λ ops names. ap (λ (l : List Note). opening_said ops names c.args.state.now.program c.args.passed.now l c.args.statements) c.requires.warnings) c.in_ok-say_opening.ensures)
     c.converse.ensures

@@ -3,12 +3,9 @@ use Rattle.std.proofs.lemmas.Int.{to_z-of_z}
 use Rattle.std.proofs.lemmas.Result.{err_from_is_err_and}
 use Rattle.apd_commands.specs.declared.commands.Command.TheVariants as command
 use Rattle.apd_session.specs.Diagnosing.{answered}
-use Rattle.apd_session.specs.Steps.{command_step}
-use Rattle.apd_session.proofs.Turning.{leads_broken}
-use Rattle.apd_talk.proofs.Speaking.{Says-none, Says-ok}
-use Rattle.apd_talk.specs.Moment.{Moment, moment}
+use Rattle.apd_talk.proofs.Speaking.{Says-ok}
+use Rattle.apd_talk.specs.Moment.{moment}
 use Rattle.apd_talk.specs.Speech.{one, spoken}
-use Rattle.apd_talk.specs.declared.talk.Next.{Next}
 use Rattle.apd_answers.proofs.Decided.{added-no}
 use Rattle.apd_debug.proofs.NamedTrees.{tree-named}
 use Rattle.apd_divide.specs.Recorded.{tree}
@@ -27,17 +24,9 @@ returns-in_default g c =
     (moment g.S.Source g.K.Sink c.args.console.now c.args.input.now c.refuse.new.log c.refuse.new.out) refl refl refl (λ ops names. wrong_none ops names c.args.state.now c.args.box_no c.args.exit c.in_default.is)
     c.requires.sound c.refuse.result c.refuse.ensures.says c.refuse.ensures.goes c.requires.ready
 
-pub returns-in_err-history : goal.returns-in_err-history
-returns-in_err-history g c =
-    let p : Moment = moment g.S.Source g.K.Sink c.args.console.now c.args.input.now c.args.log.now c.args.out.now in
-    let e = err_from_is_err_and c.from_residual.result c.from_residual.ensures.1 in
-    rw (e.1, e.2)
-    (leads_broken (λ ops names. command_step ops names c.args.state.now (command.Wrong c.args.box_no c.args.exit)) p p refl refl refl c.requires.sound {T = Next} c.args.state.now _
-    (Says-none {T = Next} (λ ops names. (command_step ops names c.args.state.now (command.Wrong c.args.box_no c.args.exit)).utterances) p.spoken p.spoken refl refl refl refl refl))
-
 pub returns-in-Err : goal.returns-in-Err
 returns-in-Err g c =
-    let exit = rw (to_z-of_z _ c.args.box_no c.ranges.box_no, to_z-of_z _ c.args.exit c.ranges.exit) at (rw c.in_ok-history.ensures at c.in-Err.ensures.exit) in
+    let exit = rw (to_z-of_z _ c.args.box_no c.ranges.box_no, to_z-of_z _ c.args.exit c.ranges.exit) at c.in-Err.ensures.exit in
     refused_leads c.args.state.now (command.Wrong c.args.box_no c.args.exit) _ (moment g.S.Source g.K.Sink c.args.console.now c.args.input.now c.args.log.now c.args.out.now)
     (moment g.S.Source g.K.Sink c.args.console.now c.args.input.now c.refuse-in-Err.new.log c.refuse-in-Err.new.out) refl refl refl
     (λ ops names. wrong_refused ops names c.args.state.now c.args.box_no c.args.exit c.in-Some.run' c.in-Err.refusal c.in-Some.is exit)
@@ -45,40 +34,37 @@ returns-in-Err g c =
 
 pub keep_wrong-requires-clause-named : goal.keep_wrong-requires-clause-named
 keep_wrong-requires-clause-named g c =
-    let user = rw c.in_ok-history.ensures at c.in-Ok.ensures.user in
-    rw c.in_ok-history.ensures (head_named (length c.args.log.now.names) c.args.state.now c.in-Some.run' c.in-Ok.exit.0 c.in-Some.is c.requires.ready.ready user)
+    head_named (length c.args.log.now.names) c.args.state.now c.in-Some.run' c.in-Ok.exit.0 c.in-Some.is c.requires.ready.ready c.in-Ok.ensures.user
 
 pub returns-in_err-label : goal.returns-in_err-label
 returns-in_err-label g c =
     let atom : Term = (point_of c.in-Some.run'.history c.in-Ok.exit.0).tuple.head in
-    let exit = rw (to_z-of_z _ c.args.box_no c.ranges.box_no, to_z-of_z _ c.args.exit c.ranges.exit) at (rw c.in_ok-history.ensures at c.in-Ok.ensures.exit) in
-    let e = err_from_is_err_and c.from_residual-in_err-label.result c.from_residual-in_err-label.ensures.1 in
+    let exit = rw (to_z-of_z _ c.args.box_no c.ranges.box_no, to_z-of_z _ c.args.exit c.ranges.exit) at c.in-Ok.ensures.exit in
+    let e = err_from_is_err_and c.from_residual.result c.from_residual.ensures.1 in
     rw (e.1, e.2)
     (symptom_breaks by_wrong c.args.state.now (command.Wrong c.args.box_no c.args.exit) (Wrong atom) (tree c.in-Some.run'.history c.in-Ok.exit.0 atom) (λ ops names. wrong_begins ops names c.args.state.now c.args.box_no c.args.exit c.in-Some.run' c.in-Ok.exit.0 atom c.in-Some.is exit refl)
-    (moment g.S.Source g.K.Sink c.args.console.now c.args.input.now c.args.log.now c.args.out.now) (spoken g.K.Sink c.keep_wrong.new.log c.keep_wrong.new.out) c.requires.sound _ _ (rw c.in_ok-history.ensures at c.in_err-label.ensures.says))
+    (moment g.S.Source g.K.Sink c.args.console.now c.args.input.now c.args.log.now c.args.out.now) (spoken g.K.Sink c.keep_wrong.new.log c.keep_wrong.new.out) c.requires.sound _ _ c.in_err-label.ensures.says)
 
 pub diagnose-answer-requires-clause-labelled : goal.diagnose-answer-requires-clause-labelled
 diagnose-answer-requires-clause-labelled g c =
-    let user = rw c.in_ok-history.ensures at c.in-Ok.ensures.user in
-    rw (c.in_ok-label.ensures.head, c.in_ok-history.ensures) (head_labelled c.in-Some.run'.history c.in-Ok.exit.0 user)
+    rw c.in_ok-label.ensures.head (head_labelled c.in-Some.run'.history c.in-Ok.exit.0 c.in-Ok.ensures.user)
 
 pub diagnose-answer-requires-clause-symptom : goal.diagnose-answer-requires-clause-symptom
 diagnose-answer-requires-clause-symptom g c =
     let atom : Term = (point_of c.in-Some.run'.history c.in-Ok.exit.0).tuple.head in
-    rw (c.in_ok-label.ensures.head, c.in_ok-label.ensures.replies, c.in_ok-history.ensures) (added-no c.args.state.now.replies atom)
+    rw (c.in_ok-label.ensures.head, c.in_ok-label.ensures.replies) (added-no c.args.state.now.replies atom)
 
 pub diagnose-answer-requires-clause-replies : goal.diagnose-answer-requires-clause-replies
 diagnose-answer-requires-clause-replies g c =
     let atom : Term = (point_of c.in-Some.run'.history c.in-Ok.exit.0).tuple.head in
-    rw (c.in_ok-label.ensures.says.names, c.in_ok-label.ensures.replies, c.in_ok-history.ensures) (told-replies (length c.args.log.now.names) c.args.state.now.replies (Wrong atom) c.requires.ready.replies)
+    rw (c.in_ok-label.ensures.says.names, c.in_ok-label.ensures.replies) (told-replies (length c.args.log.now.names) c.args.state.now.replies (Wrong atom) c.requires.ready.replies)
 
 pub diagnose-answer-requires-clause-named : goal.diagnose-answer-requires-clause-named
 diagnose-answer-requires-clause-named g c =
     let atom : Term = (point_of c.in-Some.run'.history c.in-Ok.exit.0).tuple.head in
-    let user = rw c.in_ok-history.ensures at c.in-Ok.ensures.user in
     let n : ℕ = length c.args.log.now.names in
-    let named = head_named n c.args.state.now c.in-Some.run' c.in-Ok.exit.0 c.in-Some.is c.requires.ready.ready user in
-    rw (c.in_ok-label.ensures.head, c.in_ok-history.ensures, c.in_ok-label.ensures.says.names) (tree-named n c.in-Some.run'.history c.in-Ok.exit.0 atom (run_named n c.args.state.now c.in-Some.run' c.in-Some.is c.requires.ready.ready) named)
+    let named = head_named n c.args.state.now c.in-Some.run' c.in-Ok.exit.0 c.in-Some.is c.requires.ready.ready c.in-Ok.ensures.user in
+    rw (c.in_ok-label.ensures.head, c.in_ok-label.ensures.says.names) (tree-named n c.in-Some.run'.history c.in-Ok.exit.0 atom (run_named n c.args.state.now c.in-Some.run' c.in-Some.is c.requires.ready.ready) named)
 
 pub conclude-requires-clause-named : goal.conclude-requires-clause-named
 conclude-requires-clause-named g c = c.diagnose-answer.ensures.named c.args.state.now
@@ -86,10 +72,10 @@ conclude-requires-clause-named g c = c.diagnose-answer.ensures.named c.args.stat
 pub returns : goal.returns
 returns g c =
     let atom : Term = (point_of c.in-Some.run'.history c.in-Ok.exit.0).tuple.head in
-    let exit = rw (to_z-of_z _ c.args.box_no c.ranges.box_no, to_z-of_z _ c.args.exit c.ranges.exit) at (rw c.in_ok-history.ensures at c.in-Ok.ensures.exit) in
+    let exit = rw (to_z-of_z _ c.args.box_no c.ranges.box_no, to_z-of_z _ c.args.exit c.ranges.exit) at c.in-Ok.ensures.exit in
     symptom_leads by_wrong c.args.state.now (command.Wrong c.args.box_no c.args.exit) (Wrong atom) (tree c.in-Some.run'.history c.in-Ok.exit.0 atom) (λ ops names. wrong_begins ops names c.args.state.now c.args.box_no c.args.exit c.in-Some.run' c.in-Ok.exit.0 atom c.in-Some.is exit refl)
     (moment g.S.Source g.K.Sink c.args.console.now c.args.input.now c.args.log.now c.args.out.now) (spoken g.K.Sink c.keep_wrong.new.log c.keep_wrong.new.out) c.requires.sound (wrong c.args.state.now.strategy) refl
     _ (moment g.S.Source g.K.Sink c.diagnose-answer.new.console c.diagnose-answer.new.input c.diagnose-answer.new.log c.diagnose-answer.new.out) (spoken g.K.Sink c.conclude.new.log c.conclude.new.out)
     (answered c.diagnose-answer.new.replies c.diagnose-answer.new.asked) c.diagnose-answer.result c.conclude.result
-    (Says-ok (one (Symptom (Wrong atom))) _ _ c.in_ok-label.label (tt {0}) (rw c.in_ok-history.ensures at c.in_ok-label.ensures.says))
-    (rw (c.in_ok-label.ensures.head, c.in_ok-label.ensures.replies, c.in_ok-history.ensures) at c.diagnose-answer.ensures) (rw c.get.ensures at c.conclude.ensures) c.requires.ready.ready
+    (Says-ok (one (Symptom (Wrong atom))) _ _ c.in_ok-label.label (tt {0}) c.in_ok-label.ensures.says)
+    (rw (c.in_ok-label.ensures.head, c.in_ok-label.ensures.replies) at c.diagnose-answer.ensures) c.conclude.ensures c.requires.ready.ready

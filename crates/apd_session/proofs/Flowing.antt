@@ -1,0 +1,416 @@
+-- Each diagnosis of a session comes to an end, unless a question stays without a reply.
+use Rattle.std.proofs.Common.{◌≡◌, ◌≤◌, zero, suc, arith, ℕ, ℤ, Bool, true, false, List, [], ◌∷◌, ◌++◌, length, Option, Some, None, Result, Ok, Err, refl, sym, ◌∙◌, ap, subst, append_assoc}
+use borrow.Author.Tests.{ltb-false}
+use Rattle.std.specs.Prelude.{if◌then◌else◌, nat_lt, pos}
+use Rattle.apd_answers.specs.Interpretation.{Interpretation}
+use Rattle.apd_term.specs.Term.{Term}
+use Rattle.apd_causes.specs.declared.run.Query.{Query}
+use Rattle.apd_clauses.specs.declared.clause.Clause.{Clause}
+use Rattle.apd_clauses.specs.Clauses.{IsProgram, tuples_of}
+use Rattle.apd_console.specs.Lines.{Close, AtEnd, AtFault, AtLimit, InputEnd, hear}
+use Rattle.apd_console.specs.declared.line.Line.{Line}
+use Rattle.apd_record.specs.Recorded.{Recorded, chain}
+use Rattle.apd_record.specs.Reading.{point_of}
+use Rattle.apd_answers.specs.declared.question.Asked.{Asked}
+use Rattle.apd_answers.specs.declared.question.Question.TheVariants.{True}
+use Rattle.apd_answers.specs.declared.question.Reply.{Reply}
+use Rattle.apd_answers.specs.declared.question.Reply.TheVariants.{No, Yes}
+use Rattle.apd_answers.specs.Findings.{IsByReplies}
+use Rattle.apd_answers.specs.Fitting.{AllFit}
+use Rattle.apd_answers.proofs.Fitted.{fit_added}
+use Rattle.apd_answers.specs.Store.{Store, with_pair, empty_store}
+use Rattle.apd_answers.specs.declared.finding.Finding.{Finding}
+use Rattle.apd_answers.specs.Dialogue.{Dialogue, Exchange, Turn, asks, goes, ends, dialogue, next_turn, replied as exchanged, silent}
+use Rattle.apd_answers.specs.declared.question.Question.{Question}
+use Rattle.apd_base.specs.Counts.{risen}
+use Rattle.apd_debug.specs.Replying.{count_after, exchanges_said}
+use Rattle.apd_demo.specs.Answered.{answered_by, demonstrated, replies_by, reply_at}
+use Rattle.apd_demo.specs.Replies.{reply_to}
+use Rattle.apd_demo.proofs.Falling.{Lowers, next-lowers}
+use Rattle.apd_gen.proofs.Sizes.{tree-short}
+use Rattle.apd_gen.specs.Programs.{tree_text}
+use Rattle.apd_wrong.specs.Wrong.{wrong}
+use Rattle.apd_words.proofs.Alone.{words-alone}
+use Rattle.apd_session.specs.Demo.{asked_said, blamed, blamed_at, found_said, query_line}
+use Rattle.apd_answers.specs.Questions.{FitsAsked}
+use Rattle.apd_divide.specs.declared.node.Strategy.{Strategy}
+use Rattle.apd_divide.specs.Recorded.{tree}
+use Rattle.apd_divide.specs.Tree.{Tree, suspects}
+use Rattle.apd_loop.specs.Loop.{left_in, loop_start}
+use Rattle.apd_loop.specs.declared.LoopEnd.{LoopEnd}
+use Rattle.apd_loop.specs.declared.LoopEnd.TheVariants as loop_ends
+use Rattle.apd_lines.specs.Lines.{line_in}
+use Rattle.apd_load.specs.declared.Note.{Note}
+use Rattle.apd_load.specs.Warnings.{query_warnings, warnings_of}
+use Rattle.apd_load.specs.Program.{Loads, refused, loads, program_of}
+use Rattle.apd_load.specs.Programs.{IsProgramIn}
+use Rattle.apd_load.proofs.Programs.{loaded_is_program}
+use Rattle.apd_known.specs.Files.{States, stated_in}
+use Rattle.apd_known.specs.Files as oracle
+use Rattle.apd_known.proofs.Fitting.{FitsIn, stated_fit}
+use Rattle.apd_ops.specs.Table.{Table}
+use Rattle.apd_oracle.specs.Replies.{spoken_of}
+use Rattle.apd_oracle.specs.declared.spoken.Spoken.{Spoken}
+use Rattle.apd_oracle.specs.declared.spoken.Spoken.TheVariants as spoken
+use Rattle.apd_oracle.proofs.Fitting.{reply_fits}
+use Rattle.apd_read.specs.Reader.{Reader}
+use Rattle.apd_talk.specs.Talk.{Step, onto, run, replies}
+use Rattle.apd_talk.specs.declared.talk.Ending.TheVariants.{Done}
+use Rattle.apd_talk.specs.Utterance.{Utterance, entries_of}
+use Rattle.apd_talk.proofs.Uttering.{entries_of-append}
+use Rattle.apd_talk.specs.Speech.{plain}
+use Rattle.apd_text.specs.declared.entry.Entry.{Entry}
+use Rattle.apd_text.specs.declared.entry.Entry.TheVariants.{FileTooLong, InputFault, Loaded, OracleRefused}
+use Rattle.apd_text.specs.declared.entry.Refusal.{Refusal}
+use Rattle.apd_text.specs.declared.entry.Told.{Told}
+use Rattle.apd_text.specs.declared.entry.Told.TheVariants.{Wrong, Missing, NoEnd}
+use Rattle.apd_account.specs.Account.{Account, after_entries, after_told, with_reply, with_told, account_with}
+use Rattle.apd_account.proofs.Diagnosing.{IsKnownTree, RightTurn, Waits, wrong_begins, wrong_left}
+use Rattle.apd_commands.specs.Commands.{command_in}
+use Rattle.apd_commands.specs.declared.commands.Command.{Command}
+use Rattle.apd_commands.specs.declared.commands.Command.TheVariants as command
+use Rattle.apd_debug.specs.Steps.{after_turn, closing_asked, replied}
+use Rattle.apd_query.specs.Runs.{said_for, run_said}
+use Rattle.apd_query.specs.declared.state.LastRun.{LastRun}
+use Rattle.apd_query.specs.declared.state.State.{State}
+use Rattle.apd_symptoms.specs.Chains.{stopped_chain}
+use Rattle.apd_symptoms.specs.Symptoms.{exit_of}
+use Rattle.apd_symptoms.specs.Unanswered.{unanswered_box}
+use Rattle.apd_session.specs.Steps.{Method, after_run, Situation, Waiting, ForCommand, ForWrong, ForMissing, ForLoop, begins, by_loop, by_missing, by_wrong, carries_on, closing_in, command_step, known_said, load_said, loop_at, loop_step, missing_at, missing_step, opening_said, query_said, ready_in, refused as refuses, remark, remarks, reply_said, situation, step_for, talker, warnings_for, wrong_at, wrong_step}
+use Rattle.apd_session.specs.declared.notes.Noted.{Noted}
+use Rattle.apd_session.specs.declared.notes.Noted.TheVariants as noted
+use Rattle.apd_session.specs.declared.preparing.Prepared.TheVariants.{Knows, Refuses}
+use Rattle.apd_session.specs.declared.status.Status.{Status}
+use Rattle.apd_session.specs.declared.status.Status.TheVariants as status
+use Rattle.apd_session.specs.Headline.{nothing_intended}
+use Rattle.apd_session.specs.Session.{World, FileLoad, Gives, Faults, Transcript, after_load, after_options, after_prepared, after_subject, after_tree, after_words, ends_before, first_state, prepared, prepared_by, says_one, session_of}
+use Rattle.apd_session.specs.Flow.{Due, Nothing, Move, Reply as Waits_for, due_after, Flows}
+use Rattle.apd_session.proofs.Courses.{IsKnownGoal, IsKnownLoop, IsLoopEnd, goal_left, loop_begins, missing_begins}
+use Rattle.apd_session.proofs.Exiting.{exit_of-exits}
+use Rattle.apd_session.proofs.Lacking.{box_lacks, chain_stopped, is_chain}
+use Rattle.apd_session.proofs.Findings.{first_stands, line-step}
+use Rattle.apd_session.proofs.Righting.{IsLast, IsMode, IsRightly, IsTold, Stands, loop_rightly, missing_rightly, wrong_rightly}
+use Rattle.apd_words.specs.Words.{InFile, OfTree, Options, StandsAlone, Subject, options_of}
+
+append-flows : (d x e : Due) (xs ys : List Entry) → Flows d xs x → Flows x ys e → Flows d (xs ++ ys) e
+append-flows d x e [] ys h k = subst (λ y. Flows y ys e) (sym h) k
+append-flows d x e (z ∷ zs) ys h k = (h.0, h.1, append-flows h.0 x e zs ys h.2 k)
+
+said-flows : (d x e : Due) (us vs : List (Utterance Entry)) → Flows d (entries_of us) x → Flows x (entries_of vs) e → Flows d (entries_of (us ++ vs)) e
+said-flows d x e us vs h k = subst (λ es. Flows d es e) (sym (entries_of-append us vs)) (append-flows d x e (entries_of us) (entries_of vs) h k)
+
+-- what is due where a session stands so
+abbrev pub due_of : Waiting → Due
+due_of ForCommand = Nothing
+due_of (ForWrong asked next) = Waits_for
+due_of (ForMissing asked next) = Waits_for
+due_of (ForLoop asked next) = Waits_for
+
+-- the entries of a step fit, and where it quits nothing is due
+pub record StepFlows (d : Due) (st : Step Entry Situation) : Type 0 where
+  pub flows : Flows d (entries_of st.utterances) (due_of st.next.mode)
+  pub quits : st.quits ≡ true → due_of st.next.mode ≡ Nothing
+
+module _ (m : Interpretation) (program : List Clause) (is : IsProgram program) (strategy : Strategy) where
+  refused-flows : (ops : Table) (names : List (List ℕ)) (s : State) (r : Refusal) → StepFlows Nothing (refuses ops names s r)
+  refused-flows ops names s r = record { flows = (Nothing, refl, refl); quits = λ e. refl }
+
+  module _ {D E : Type 0} (d : Method D E) (Known : Recorded → Store → Option Told → D → Type 0) (left : D → Option ℕ) (IsEnd : Recorded → Store → E → Type 0) (rightly : IsRightly m program is strategy d Known left IsEnd)
+      (waits_for : (asked : Asked) (next : Reply → D) → due_of (d.waits asked next) ≡ Waits_for) (closes : (s : State) (e : E) → due_after Move (d.found s e) ≡ Some Nothing) where
+    turn-flows : (ops : Table) (names : List (List ℕ)) (s : State) (store : Store) (count : ℕ) (a : Account) (turn : Turn D E)
+        → RightTurn strategy Known left IsEnd a.history a.store a.symptom turn → StepFlows Move (after_turn (d.diagnosis s) (d.found s) (situation d s) ops names store count turn)
+    turn-flows ops names s store count a (asks asked next) k = record { flows = (Waits_for, refl, sym (waits_for asked next)); quits = λ e. absurd (cc) }
+    turn-flows ops names s store count a (goes y) k = absurd k
+    turn-flows ops names s store count a (ends e) k = record { flows = (Nothing, closes s e, refl); quits = λ e. refl }
+
+    carries-flows : (ops : Table) (names : List (List ℕ)) (s : State) (store : Store) (count : ℕ) (a : Account) (x : D) → IsTold m program is strategy s store a → Known a.history a.store a.symptom x → StepFlows Move (carries_on d ops names s store count x)
+    carries-flows ops names s store count a x h k = turn-flows ops names s store count a (next_turn (d.diagnosis s) store x) (rightly.turns s store a x h k)
+
+    begins-flows : (ops : Table) (names : List (List ℕ)) (s : State) (a : Account) (what : Told) (x : D) → IsTold m program is strategy s s.replies a → AllFit (with_told a.store what) → Known a.history (with_told a.store what) (Some what) x
+        → StepFlows Nothing (begins d ops names s what x)
+    begins-flows ops names s a what x h fit k =
+        let told : IsTold m program is strategy s (with_told s.replies what) (after_told a what) =
+        record { program_is = h.program_is; strategy_is = h.strategy_is; store_is = ap (λ ps. with_told ps what) h.store_is; fit = fit; last = h.last } in
+        let st = carries-flows ops names s (with_told s.replies what) s.asked (after_told a what) x told k in
+        record { flows = (Move, refl, st.flows); quits = st.quits }
+
+    replied-flows : (ops : Table) (names : List (List ℕ)) (s : State) (a : Account) (asked : Asked) (next : Reply → D) (r : Reply) → IsTold m program is strategy s s.replies a → Waits strategy Known left a asked next → FitsAsked asked r
+        → StepFlows Waits_for (replied (d.diagnosis s) (d.found s) (situation d s) ops names s.replies s.asked asked next r)
+    replied-flows ops names s a asked next r h w fits =
+        let b = with_reply a (Some asked) r in
+        let told : IsTold m program is strategy s (with_pair s.replies asked.question r) b =
+        record { program_is = h.program_is; strategy_is = h.strategy_is; store_is = ap (λ ps. with_pair ps asked.question r) h.store_is; fit = fit_added a.store asked.question r h.fit fits.0; last = h.last } in
+        let st = carries-flows ops names s (with_pair s.replies asked.question r) s.asked b (next r) told (w.asks.known r fits) in
+        record { flows = (Move, refl, st.flows); quits = st.quits }
+
+    reply-flows : (ops : Table) (names : List (List ℕ)) (s : State) (a : Account) (asked : Asked) (next : Reply → D) (said : Spoken) → ((r : Reply) → said ≡ spoken.Reply r → FitsAsked asked r)
+        → IsTold m program is strategy s s.replies a → Waits strategy Known left a asked next → StepFlows Waits_for (reply_said d ops names s asked next said)
+    reply-flows ops names s a asked next spoken.Nothing fits h w = record { flows = sym (waits_for asked next); quits = λ e. absurd (cc) }
+    reply-flows ops names s a asked next (spoken.Reply r) fits h w = replied-flows ops names s a asked next r h w (fits r refl)
+    reply-flows ops names s a asked next spoken.Stop fits h w = record { flows = (Nothing, refl, refl); quits = λ e. refl }
+    reply-flows ops names s a asked next spoken.Quit fits h w = record { flows = (Nothing, refl, refl); quits = λ e. refl }
+    reply-flows ops names s a asked next (spoken.Bad reason) fits h w = record { flows = (Waits_for, refl, sym (waits_for asked next)); quits = λ e. absurd (cc) }
+
+  loop-closes : (s : State) (e : LoopEnd) → due_after Move (by_loop.found s e) ≡ Some Nothing
+  loop-closes s (loop_ends.Found f) = refl
+  loop-closes s loop_ends.AllDescend = refl
+
+  -- commands about the last run
+  wrong-flows : (ops : Table) (names : List (List ℕ)) (s : State) (a : Account) (b k : ℤ) (last : Option LastRun) → IsTold m program is strategy s s.replies a → IsLast m program is strategy last a.history → StepFlows Nothing (wrong_step ops names s last b k)
+  wrong-flows ops names s a b k None h l = refused-flows ops names s _
+  wrong-flows ops names s a b k (Some run) h l = subst (λ R. StepFlows Nothing (wrong_at ops names s R (exit_of R b k))) (sym l.0) (by (exit_of a.history b k) refl)
+    where
+      by : (r : Result ℕ Refusal) → exit_of a.history b k ≡ r → StepFlows Nothing (wrong_at ops names s a.history r)
+      by (Err r) e = refused-flows ops names s r
+      by (Ok n) e =
+          let x = exit_of-exits a.history b k n e in
+          let atom = (point_of a.history n).tuple.head in
+          begins-flows by_wrong (IsKnownTree (tuples_of program)) wrong_left (IsByReplies (tuples_of program)) (wrong_rightly m program is strategy) (λ asked next. refl) (λ s f. refl) ops names s a (Wrong atom) (tree a.history n atom) h (fit_added a.store (True atom) No h.fit tt)
+          (wrong_begins (tuples_of program) a.history a.store n atom l.1.sound x.exit x.head)
+
+  missing-flows : (ops : Table) (names : List (List ℕ)) (s : State) (a : Account) (b : ℤ) (atom : Term) (last : Option LastRun) → IsTold m program is strategy s s.replies a → IsLast m program is strategy last a.history → StepFlows Nothing (missing_step ops names s last b atom)
+  missing-flows ops names s a b atom None h l = refused-flows ops names s _
+  missing-flows ops names s a b atom (Some run) h l = subst (λ R. StepFlows Nothing (missing_at ops names s atom (unanswered_box R b atom))) (sym l.0) (by (unanswered_box a.history b atom) refl)
+    where
+      by : (r : Result ℕ Refusal) → unanswered_box a.history b atom ≡ r → StepFlows Nothing (missing_at ops names s atom r)
+      by (Err r) e = refused-flows ops names s r
+      by (Ok n) e =
+          begins-flows by_missing (IsKnownGoal (tuples_of program)) goal_left (IsByReplies (tuples_of program)) (missing_rightly m program is strategy) (λ asked next. refl) (λ s f. refl) ops names s a (Missing atom) (record { box_no = n; goal = atom }) h (fit_added a.store (True atom) Yes h.fit tt)
+          (missing_begins (tuples_of program) a.history a.store n atom l.1.sound l.1.full h.fit (box_lacks a.history b n atom l.1.sound.kept e))
+
+  loop-flows : (ops : Table) (names : List (List ℕ)) (s : State) (a : Account) (last : Option LastRun) → IsTold m program is strategy s s.replies a → IsLast m program is strategy last a.history → StepFlows Nothing (loop_step ops names s last)
+  loop-flows ops names s a None h l = refused-flows ops names s _
+  loop-flows ops names s a (Some run) h l = subst (λ R. StepFlows Nothing (loop_at ops names s R (stopped_chain R run.end))) (sym l.0) (by (stopped_chain a.history run.end) refl)
+    where
+      by : (r : Result (List ℕ) Refusal) → stopped_chain a.history run.end ≡ r → StepFlows Nothing (loop_at ops names s a.history r)
+      by (Err r) e = refused-flows ops names s r
+      by (Ok calls) e =
+          let c = chain_stopped a.history run.end calls e in
+          subst (λ bs. StepFlows Nothing (loop_at ops names s a.history (Ok bs))) (sym c.0)
+          (begins-flows by_loop (IsKnownLoop (tuples_of program)) left_in (IsLoopEnd (tuples_of program)) (loop_rightly m program is strategy) (λ asked next. refl) loop-closes ops names s a (NoEnd (length (chain a.history))) (loop_start a.history (chain a.history)) h h.fit
+          (loop_begins (tuples_of program) a.history a.store (length (chain a.history)) l.1.sound (is_chain a.history l.1.sound.kept l.1.chained c.1) h.fit))
+
+  -- remarks
+  remark-flows : (why : Noted) (n : Note) → due_after Nothing (remark why n) ≡ Some Nothing
+  remark-flows noted.PassedOver n = refl
+  remark-flows noted.Called n = refl
+  remark-flows noted.Asked n = refl
+
+  pub remarks-flow : (ops : Table) (names : List (List ℕ)) (why : Noted) (ns : List Note) (us : List (Utterance Entry)) → Flows Nothing (entries_of us) Nothing → Flows Nothing (entries_of (remarks ops names why ns ++ us)) Nothing
+  remarks-flow ops names why [] us h = h
+  remarks-flow ops names why (n ∷ ns) us h = (Nothing, remark-flows why n, remarks-flow ops names why ns us h)
+
+  query-flows : (ops : Table) (names : List (List ℕ)) (s : State) (q : Query) → StepFlows Nothing (command_step ops names s (command.Query q))
+  unfolding query_said warnings_for run_said
+  query-flows ops names s q = record {
+    flows = remarks-flow ops names noted.Asked (query_warnings s.program q.tuple.body) (said_for ops names s q ∷ []) (Nothing, refl, refl);
+    quits = λ e. refl;
+  }
+
+  command-flows : (ops : Table) (names : List (List ℕ)) (s : State) (a : Account) (c : Command) → IsTold m program is strategy s s.replies a → StepFlows Nothing (command_step ops names s c)
+  command-flows ops names s a command.Nothing h = record { flows = refl; quits = λ e. refl }
+  command-flows ops names s a command.Quit h = record { flows = refl; quits = λ e. refl }
+  command-flows ops names s a (command.Refused r) h = refused-flows ops names s r
+  command-flows ops names s a (command.Query q) h = query-flows ops names s q
+  command-flows ops names s a (command.Trace f) h = record { flows = (Nothing, refl, refl); quits = λ e. refl }
+  command-flows ops names s a (command.Wrong b k) h = wrong-flows ops names s a b k s.last h h.last
+  command-flows ops names s a (command.Missing b atom) h = missing-flows ops names s a b atom s.last h h.last
+  command-flows ops names s a command.Loop h = loop-flows ops names s a s.last h h.last
+
+  -- after the last line
+  asked-flows : (ops : Table) (names : List (List ℕ)) (close : Close) → Flows Waits_for (entries_of (closing_asked ops names close)) Nothing
+  asked-flows ops names AtEnd = (Nothing, refl, refl)
+  asked-flows ops names AtFault = (Nothing, refl, refl)
+  asked-flows ops names AtLimit = (Nothing, refl, refl)
+
+  closing-flows : (ops : Table) (names : List (List ℕ)) (mode : Waiting) (close : Close) → Flows (due_of mode) (entries_of (closing_in ops names mode close)) Nothing
+  closing-flows ops names ForCommand AtEnd = refl
+  closing-flows ops names ForCommand AtFault = (Nothing, refl, refl)
+  closing-flows ops names ForCommand AtLimit = (Nothing, refl, refl)
+  closing-flows ops names (ForWrong asked next) close = asked-flows ops names close
+  closing-flows ops names (ForMissing asked next) close = asked-flows ops names close
+  closing-flows ops names (ForLoop asked next) close = asked-flows ops names close
+
+  module _ (names : List (List ℕ)) (reader : Reader names) (ops : Table) where
+    line-flows : (s : Situation) (a : Account) (line : Line) → Stands m program is strategy s a → StepFlows (due_of s.mode) ((talker reader ops).step s line)
+    line-flows s a line h = by s.mode h.mode
+      where
+        by : (mode : Waiting) → IsMode m program is strategy mode a → StepFlows (due_of mode) (step_for reader ops s.state mode line)
+        by ForCommand k = command-flows ops names s.state a (command_in reader ops line) h.state
+        by (ForWrong asked next) k =
+            reply-flows by_wrong (IsKnownTree (tuples_of program)) wrong_left (IsByReplies (tuples_of program)) (wrong_rightly m program is strategy) (λ asked next. refl) (λ s f. refl) ops names s.state a asked next (spoken_of asked (line_in reader ops line)) (λ r e. reply_fits asked (line_in reader ops line) r e) h.state k
+        by (ForMissing asked next) k =
+            reply-flows by_missing (IsKnownGoal (tuples_of program)) goal_left (IsByReplies (tuples_of program)) (missing_rightly m program is strategy) (λ asked next. refl) (λ s f. refl) ops names s.state a asked next (spoken_of asked (line_in reader ops line)) (λ r e. reply_fits asked (line_in reader ops line) r e) h.state k
+        by (ForLoop asked next) k =
+            reply-flows by_loop (IsKnownLoop (tuples_of program)) left_in (IsLoopEnd (tuples_of program)) (loop_rightly m program is strategy) (λ asked next. refl) loop-closes ops names s.state a asked next (spoken_of asked (line_in reader ops line)) (λ r e. reply_fits asked (line_in reader ops line) r e) h.state k
+
+    lines-flow : (s : Situation) (a : Account) (input : List Line) (close : Close) → Stands m program is strategy s a → Flows (due_of s.mode) (entries_of (run (talker reader ops) s input close).utterances) Nothing
+    lines-flow s a [] close h = closing-flows ops names s.mode close
+    lines-flow s a (line ∷ input) close h =
+        let st = line-step m program is strategy names reader ops s a line h in
+        by ((talker reader ops).step s line) (line-flows s a line h) (lines-flow ((talker reader ops).step s line).next (after_entries program a (entries_of ((talker reader ops).step s line).utterances)) input close st.stands)
+      where
+        by : (step : Step Entry Situation) → StepFlows (due_of s.mode) step → Flows (due_of step.next.mode) (entries_of (run (talker reader ops) step.next input close).utterances) Nothing
+            → Flows (due_of s.mode) (entries_of (if step.quits then record { utterances = step.utterances; ending = Done } else onto step.utterances (run (talker reader ops) step.next input close)).utterances) Nothing
+        by step f rest = quits step.quits refl
+          where
+            quits : (b : Bool) → step.quits ≡ b → Flows (due_of s.mode) (entries_of (if b then record { utterances = step.utterances; ending = Done } else onto step.utterances (run (talker reader ops) step.next input close)).utterances) Nothing
+            quits true e = subst (λ x. Flows (due_of s.mode) (entries_of step.utterances) x) (f.quits e) f.flows
+            quits false e = said-flows (due_of s.mode) (due_of step.next.mode) Nothing step.utterances (run (talker reader ops) step.next input close).utterances f.flows rest
+
+    conversation-flows : (s : Situation) (a : Account) (room : ℕ) (input : List ℕ) (end : InputEnd) → Stands m program is strategy s a → Flows (due_of s.mode) (entries_of (replies (talker reader ops) s room input end).utterances) Nothing
+    unfolding replies
+    conversation-flows s a room input end h = lines-flow s a (hear room input end).lines (hear room input end).close h
+
+    load-flows : (passed called : List Note) (us : List (Utterance Entry)) → Flows Nothing (entries_of us) Nothing → Flows Nothing (entries_of (load_said ops names program passed called ++ us)) Nothing
+    unfolding load_said
+    load-flows passed called us h =
+        let last = plain ops names (Loaded (length program)) in
+        subst (λ us. Flows Nothing (entries_of us) Nothing) (sym (twice (remarks ops names noted.PassedOver passed) (remarks ops names noted.Called called) (last ∷ []) us))
+        (remarks-flow ops names noted.PassedOver passed (remarks ops names noted.Called called ++ (last ∷ us))
+        (remarks-flow ops names noted.Called called (last ∷ us) (Nothing, refl, h)))
+      where
+        twice : (xs ys zs us : List (Utterance Entry)) → (xs ++ (ys ++ zs)) ++ us ≡ xs ++ (ys ++ (zs ++ us))
+        twice xs ys zs us = append_assoc xs (ys ++ zs) us ∙ ap (λ (l : List (Utterance Entry)). xs ++ l) (append_assoc ys zs us)
+
+    known-flows : (statements : Option ℕ) (us : List (Utterance Entry)) → Flows Nothing (entries_of us) Nothing → Flows Nothing (entries_of (known_said ops names statements ++ us)) Nothing
+    known-flows None us h = h
+    known-flows (Some n) us h = (Nothing, refl, h)
+
+    opening-flows : (passed called : List Note) (statements : Option ℕ) (us : List (Utterance Entry)) → Flows Nothing (entries_of us) Nothing → Flows Nothing (entries_of (opening_said ops names program passed called statements ++ us)) Nothing
+    opening-flows passed called statements us h =
+        subst (λ us. Flows Nothing (entries_of us) Nothing) (sym (append_assoc (load_said ops names program passed called) (known_said ops names statements) us)) (load-flows passed called (known_said ops names statements ++ us) (known-flows statements us h))
+
+-- Each session that debugs a file.
+module _ {names : List (List ℕ)} (reader : Reader names) (options : Options) where
+  abbrev TranscriptFlows : Transcript → Type 0
+  TranscriptFlows t = Flows Nothing (entries_of t.utterances) Nothing
+
+  known_so-flows : (input : List ℕ) (end : InputEnd) (program : List Clause) (ops : Table) (passed : List Note) (statements : Option ℕ) (store : Store) → IsProgram program → AllFit store → TranscriptFlows (after_prepared reader options input end program ops passed (Knows statements store))
+  known_so-flows input end program ops passed statements store is fit =
+      opening-flows nothing_intended program is options.strategy names reader ops passed (warnings_of program) statements (replies (talker reader ops) (ready_in (first_state program options store)) 16777216 input end).utterances
+      (conversation-flows nothing_intended program is options.strategy names reader ops (ready_in (first_state program options store)) (account_with store) 16777216 input end (first_stands nothing_intended options program store is fit))
+
+  refusal-flows : (program : List Clause) (ops : Table) (passed : List Note) (e : Entry) (st : Status) → IsProgram program → due_after Nothing e ≡ Some Nothing → TranscriptFlows (ends_before names program ops passed e st)
+  refusal-flows program ops passed e st is h = load-flows nothing_intended program is options.strategy names reader ops passed (warnings_of program) (plain ops names e ∷ []) (Nothing, h, refl)
+
+  stated-flows : (input : List ℕ) (end : InputEnd) (program : List Clause) (ops : Table) (passed : List Note) → IsProgram program → (w : States) → FitsIn w → TranscriptFlows (after_prepared reader options input end program ops passed (prepared_by w))
+  stated-flows input end program ops passed is (oracle.refused line cause) fit = refusal-flows program ops passed (OracleRefused line cause) status.OracleText is refl
+  stated-flows input end program ops passed is (oracle.states s) fit = known_so-flows input end program ops passed (Some s.statements) s.answers is fit
+
+  prepared-flows : (input : List ℕ) (end : InputEnd) (program : List Clause) (ops : Table) (passed : List Note) (file : FileLoad) (name : Option (List ℕ)) → IsProgram program → TranscriptFlows (after_prepared reader options input end program ops passed (prepared reader ops name file))
+  prepared-flows input end program ops passed file None is = known_so-flows input end program ops passed None empty_store is tt
+  prepared-flows input end program ops passed Faults (Some name) is = refusal-flows program ops passed InputFault status.ReadFault is refl
+  prepared-flows input end program ops passed (Gives known) (Some name) is = by (nat_lt 1048576 (length known))
+    where
+      by : (b : Bool) → TranscriptFlows (after_prepared reader options input end program ops passed (if b then Refuses (FileTooLong 1048577) status.FileTooLong else prepared_by (stated_in reader ops known)))
+      by true = refusal-flows program ops passed (FileTooLong 1048577) status.FileTooLong is refl
+      by false = stated-flows input end program ops passed is (stated_in reader ops known) (stated_fit reader ops known)
+
+  loaded-flows : (file : FileLoad) (input : List ℕ) (end : InputEnd) (o : Loads) → IsProgramIn o → TranscriptFlows (after_load reader options file input end o)
+  loaded-flows file input end (refused line cause) is = (Nothing, refl, refl)
+  loaded-flows file input end (loads l) is = prepared-flows input end l.program l.ops l.passed file options.oracle is
+
+  file-flows : (world : World) (file : FileLoad) → TranscriptFlows (after_words reader world options file)
+  file-flows world Faults = (Nothing, refl, refl)
+  file-flows world (Gives text) = by (nat_lt 1048576 (length text)) refl
+    where
+      by : (b : Bool) → nat_lt 1048576 (length text) ≡ b → TranscriptFlows (if b then says_one names (FileTooLong 1048577) status.FileTooLong else after_load reader options world.oracle world.input world.ends (program_of reader text))
+      by true long = (Nothing, refl, refl)
+      by false short = loaded-flows world.oracle world.input world.ends (program_of reader text) (loaded_is_program names reader text (ltb-false 1048576 (length text) short))
+
+-- A demonstration.
+
+abbrev HasEnded : Turn Tree Finding → Type 0
+HasEnded turn = (f : Finding) × (turn ≡ ends f)
+
+module _ (reply : Question → Reply) (strategy : Strategy) where
+  -- what is replied to a turn, and then
+  abbrev whole_at : ℕ → Store → Turn Tree Finding → Dialogue Tree Finding
+  whole_at k store (asks asked next) = exchanged (wrong strategy).left (λ ps y. answered_by reply (wrong strategy) k ps y) store (reply asked.question) (asks asked next)
+  whole_at k store (goes y) = silent store (goes y)
+  whole_at k store (ends f) = silent store (ends f)
+
+  turn_is : (k : ℕ) (store : Store) (x : Tree) (turn : Turn Tree Finding) → next_turn (wrong strategy) store x ≡ turn → answered_by reply (wrong strategy) (suc k) store x ≡ whole_at k store turn
+  turn_is k store x turn is = ap (λ (t : Turn Tree Finding). dialogue (wrong strategy) (reply_at reply (replies_by reply (wrong strategy) k) store t) store x) is ∙ by turn is
+    where
+      by : (t : Turn Tree Finding) → next_turn (wrong strategy) store x ≡ t → dialogue (wrong strategy) (reply_at reply (replies_by reply (wrong strategy) k) store t) store x ≡ whole_at k store t
+      by (asks asked next) e =
+          let r = reply asked.question in
+          ap (exchanged (wrong strategy).left (dialogue (wrong strategy) (replies_by reply (wrong strategy) k (with_pair store asked.question r) (next r))) store r) e
+      by (goes y) e = ap (silent store) e
+      by (ends f) e = ap (silent store) e
+
+  none-ends : (store : Store) (x : Tree) (turn : Turn Tree Finding) (n : ℕ) → Lowers n turn → n ≤ 0 → HasEnded turn
+  none-ends store x (asks asked next) n lowers few = absurd (let less = lowers (reply asked.question) in omega (arith, less, few))
+  none-ends store x (goes y) n lowers few = absurd lowers
+  none-ends store x (ends f) n lowers few = (f, refl)
+
+  answered-ends : (k : ℕ) (store : Store) (x : Tree) → suspects x ≤ k → HasEnded (answered_by reply (wrong strategy) k store x).turn
+  answered-ends zero store x few = none-ends store x (next_turn (wrong strategy) store x) (suspects x) (next-lowers strategy store x) few
+  answered-ends (suc k) store x few =
+      let turn = next_turn (wrong strategy) store x in
+      subst (λ (d : Dialogue Tree Finding). HasEnded d.turn) (sym (turn_is k store x turn refl)) (by turn (next-lowers strategy store x) (answered-ends k))
+    where
+      by : (turn : Turn Tree Finding) → Lowers (suspects x) turn → ((ps : Store) (y : Tree) → suspects y ≤ k → HasEnded (answered_by reply (wrong strategy) k ps y).turn) → HasEnded (whole_at k store turn).turn
+      by (asks asked next) lowers rest =
+          let less = lowers (reply asked.question) in
+          rest (with_pair store asked.question (reply asked.question)) (next (reply asked.question)) (omega (arith, less, few))
+      by (goes y) lowers rest = absurd lowers
+      by (ends f) lowers rest = (f, refl)
+
+exchanges-flow : (ops : Table) (names : List (List ℕ)) (count : ℕ) (es : List Exchange) (us : List (Utterance Entry)) → Flows Move (entries_of us) Nothing → Flows Move (entries_of (exchanges_said ops names count es ++ us)) Nothing
+exchanges-flow ops names count [] us h = h
+exchanges-flow ops names count (e ∷ es) us h = (Waits_for, refl, (Move, refl, exchanges-flow ops names (risen count) es us h))
+
+found-flows : (ops : Table) (names : List (List ℕ)) (program : List Clause) (nodes count : ℕ) (turn : Turn Tree Finding) → HasEnded turn → Flows Move (entries_of (found_said ops names program nodes count turn)) Nothing
+found-flows ops names program nodes count (asks asked next) h = absurd (let e = h.1 in cc)
+found-flows ops names program nodes count (goes y) h = absurd (let e = h.1 in cc)
+found-flows ops names program nodes count (ends f) h = (Nothing, refl, (Nothing, refl, refl))
+
+blamed-flows : (ops : Table) (names : List (List ℕ)) (nodes : ℕ) (s : State) (R : Recorded) (r : Result ℕ Refusal) → Flows Nothing (entries_of (blamed_at ops names nodes s R r)) Nothing
+blamed-flows ops names nodes s R (Err r) = (Nothing, refl, refl)
+blamed-flows ops names nodes s R (Ok e) =
+    let atom = (point_of R e).tuple.head in
+    let store = with_told s.replies (Wrong atom) in
+    let x = demonstrated nodes s.program s.strategy store (tree R e atom) in (
+      Move,
+      refl,
+      exchanges-flow ops names s.asked x.exchanges (found_said ops names s.program nodes (count_after s.asked x.exchanges) x.turn)
+          (found-flows ops names s.program nodes (count_after s.asked x.exchanges) x.turn (answered-ends (reply_to nodes s.program) s.strategy (suspects (tree R e atom)) store (tree R e atom) (omega arith))),
+    )
+
+last-flows : (ops : Table) (names : List (List ℕ)) (nodes : ℕ) (s : State) (last : Option LastRun) → Flows Nothing (entries_of (blamed ops names nodes s last)) Nothing
+last-flows ops names nodes s None = refl
+last-flows ops names nodes s (Some run) = blamed-flows ops names nodes s run.history (exit_of run.history (pos 1) (pos 1))
+
+module _ (m : Interpretation) (program : List Clause) (is : IsProgram program) (strategy : Strategy) where
+  shown_query-flows : (ops : Table) (names : List (List ℕ)) (nodes : ℕ) (s : State) (c : Command) → Flows Nothing (entries_of (asked_said ops names nodes s c)) Nothing
+  shown_query-flows ops names nodes s (command.Query q) =
+      said-flows Nothing Nothing Nothing (query_said ops names s q) (blamed ops names nodes (after_run s q) (after_run s q).last) (query-flows m program is strategy ops names s q).flows (last-flows ops names nodes (after_run s q) (after_run s q).last)
+  shown_query-flows ops names nodes s command.Nothing = refl
+  shown_query-flows ops names nodes s command.Quit = refl
+  shown_query-flows ops names nodes s (command.Refused r) = refl
+  shown_query-flows ops names nodes s (command.Wrong b k) = refl
+  shown_query-flows ops names nodes s (command.Missing b a) = refl
+  shown_query-flows ops names nodes s command.Loop = refl
+  shown_query-flows ops names nodes s (command.Trace f) = refl
+
+tree-flows : {names : List (List ℕ)} (reader : Reader names) (options : Options) (nodes : ℕ) (o : Loads) → IsProgramIn o → Flows Nothing (entries_of (after_tree reader options nodes o).utterances) Nothing
+tree-flows reader options nodes (refused line cause) is = (Nothing, refl, refl)
+tree-flows {names} reader options nodes (loads l) is =
+    opening-flows nothing_intended l.program is options.strategy names reader l.ops l.passed (warnings_of l.program) None (asked_said l.ops names nodes (first_state l.program options empty_store) (command_in reader l.ops query_line))
+    (shown_query-flows nothing_intended l.program is options.strategy l.ops names nodes (first_state l.program options empty_store) (command_in reader l.ops query_line))
+
+pub every-session-flows : (words names : List (List ℕ)) (reader : Reader names) (world : World) → Flows Nothing (entries_of (session_of words reader world).utterances) Nothing
+every-session-flows words names reader world = by (options_of words) refl
+  where
+    by_subject : (options : Options) (s : Subject) → StandsAlone s options.oracle → Flows Nothing (entries_of (after_subject reader world options s).utterances) Nothing
+    by_subject options (InFile name) alone = file-flows reader options world world.program
+    by_subject options (OfTree nodes) alone =
+        let size = tree-short nodes alone.0.1 in
+        tree-flows reader options nodes (program_of reader (tree_text nodes)) (loaded_is_program names reader (tree_text nodes) (omega (arith, size)))
+
+    by : (o : Option Options) → options_of words ≡ o → Flows Nothing (entries_of (after_options reader world o).utterances) Nothing
+    by None named = (Nothing, refl, refl)
+    by (Some options) named = by_subject options options.subject (words-alone words options named)

@@ -144,7 +144,7 @@ fn dialogue(
 }
 
 /// What is said in the diagnosis. None where a file isn't there or isn't what it should be, or for want of memory.
-pub fn diagnosed(alloc: Global, files: &mut impl Files) -> Option<Text> {
+pub fn insertion_sort(alloc: Global, files: &mut impl Files) -> Option<Text> {
     let mut names = Names::standard(alloc).ok()?;
     let loaded = loaded(alloc, files, PROGRAM, &mut names)?;
     let said = dialogue(alloc, files, &loaded, &mut names)?;

@@ -1,7 +1,7 @@
 //! Whoever replies from a list.
 
 ghost use Rattle.std.specs.Prelude.{◌≡◌, None};
-ghost use Rattle.apd_answers.specs.Questions.{Fits};
+ghost use Rattle.apd_answers.specs.Questions.{FitsAsked};
 
 use apd_answers::{AskEnd, Asked, Oracle, Question, Reply};
 
@@ -27,11 +27,11 @@ impl<'r> Listed<'r> {
     }
 }
 
-/// The reply of this kind to a question; to one of values, that there are none.
-fn reply_of(question: &Question, yes: bool) -> Reply
-    ensures { Fits question.now result }
+/// The reply of this kind to what is asked; to a question of values, that there are none.
+fn reply_of(asked: &Asked, yes: bool) -> Reply
+    ensures { FitsAsked asked.now result }
 {
-    match question {
+    match &asked.question {
         Question::True(_) | Question::Below(_, _) => { if yes { Reply::Yes } else { Reply::No } }
         Question::Covers(_) => Reply::No,
     }
@@ -52,7 +52,7 @@ impl Oracle for Listed<'_> {
         match self.left.split_first() {
             Some((yes, left)) => {
                 self.left = left;
-                Ok(reply_of(&asked.question, *yes))
+                Ok(reply_of(asked, *yes))
             }
             None => {
                 self.end = Some(AskEnd::Ended);

@@ -10,6 +10,14 @@ pub struct NamedFile {
     pub content: Text,
 }
 
+impl NamedFile {
+    fn copy(&self, alloc: Global) -> Result<NamedFile, AllocError> {
+        let name = self.name.clone()?;
+        let content = Text::copy_of(alloc, self.content.bytes())?;
+        Ok(NamedFile { name, content })
+    }
+}
+
 /// The numbers of the calls that fail, counted from 1; 0 is none.
 #[derive(Clone, Copy)]
 pub struct Failing {
@@ -18,13 +26,15 @@ pub struct Failing {
     pub write: u32,
 }
 
-/// How the input is read.
+/// How the input is read and the output is written.
 #[derive(Clone, Copy)]
-pub enum Reading {
+pub enum Passing {
     /// As many bytes at a time as are asked for.
     Whole,
-    /// A line at a time; what is wanted then shows each line where it was read, behind `< `.
+    /// The input a line at a time; what is wanted then shows each line where it was read, behind `< `.
     Lines,
+    /// At most so many bytes at a time, both.
+    Pieces(u32),
 }
 
 /// A session and what is wanted of it.
@@ -38,9 +48,11 @@ pub struct Case {
     pub failing: Failing,
     /// How many bytes the output takes.
     pub room: u32,
-    pub reading: Reading,
+    pub passing: Passing,
     pub status: u8,
     pub output: Text,
+    /// The text of the log's last entry, where that is looked at.
+    pub last: Option<Text>,
 }
 
 /// Room for every output but those that are cut off.
@@ -61,9 +73,25 @@ impl Case {
                 write: 0,
             },
             room: ROOM,
-            reading: Reading::Whole,
+            passing: Passing::Whole,
             status: 0,
             output: Text::new(alloc),
+            last: None,
         })
+    }
+
+    /// A session with the words, the files and the input of this one, of which nothing is wanted.
+    pub fn like(&self, alloc: Global, name: &str) -> Result<Case, AllocError> {
+        let mut case = Case::new(alloc, name)?;
+        for word in &self.words {
+            let word = word.clone()?;
+            case.words.push(word)?;
+        }
+        for file in &self.files {
+            let file = file.copy(alloc)?;
+            case.files.push(file)?;
+        }
+        case.input.extend(self.input.bytes())?;
+        Ok(case)
     }
 }

@@ -12,14 +12,19 @@
 //!     status: 5
 //!     output:
 //!     | loaded: 1 clauses
+//!     last: TEXT
+//!     case NAME like NAME
+//!     pieces: 3
 //!
 //! What is left out is none, and its status 0. `fails` has the numbers of the load, the read and the write that fail.
 //! With `read: by line` the input is read a line at a time, and the output that is wanted has each line where it was read,
-//! behind `< `, and `<` where nothing was left. There may be several files, and blocks of any length (`blocks.rt`).
-//! Lines that are empty or begin with `#` say nothing.
+//! behind `< `, and `<` where nothing was left. `pieces: 3` has at most three bytes pass in a read or a write. `last` has the
+//! text of the log's last entry, which isn't looked at otherwise. A case that is like an earlier one of the file has its
+//! words, files and input, and what stands below comes behind them. There may be several files, and blocks of any length
+//! (`blocks.rt`). Lines that are empty or begin with `#` say nothing.
 
 use crate::blocks::{is_block_line, put_line};
-use crate::case::{Case, Failing, NamedFile, Reading};
+use crate::case::{Case, Failing, NamedFile, Passing};
 use crate::fault::CaseFault;
 use apd_base::Text;
 use std::alloc::Global;
@@ -64,11 +69,18 @@ fn status(text: &str) -> Result<u8, CaseFault> {
 }
 
 /// How a text says that the input is read.
-fn reading(text: &str) -> Result<Reading, CaseFault> {
+fn passing(text: &str) -> Result<Passing, CaseFault> {
     match text {
-        "by line" => Ok(Reading::Lines),
+        "by line" => Ok(Passing::Lines),
         _ => Err(CaseFault::Line),
     }
+}
+
+/// A line of a text, with its newline.
+fn line_of(alloc: Global, text: &str) -> Result<Text, CaseFault> {
+    let mut line = Text::copy_of(alloc, text.as_bytes())?;
+    line.push(b'\n')?;
+    Ok(line)
 }
 
 impl Case {
@@ -95,7 +107,9 @@ impl Case {
             "words" => self.add_words(alloc, value)?,
             "fails" => self.failing = failing(value)?,
             "room" => self.room = number(value)?,
-            "read" => self.reading = reading(value)?,
+            "read" => self.passing = passing(value)?,
+            "pieces" => self.passing = Passing::Pieces(number(value)?),
+            "last" => self.last = Some(line_of(alloc, value)?),
             "status" => self.status = status(value)?,
             _ => return Err(CaseFault::Line),
         }
@@ -146,6 +160,19 @@ impl Case {
     }
 }
 
+/// The case that begins with these words: a new one, or one that is like another of those so far.
+fn begun(alloc: Global, cases: &[Case], head: &str) -> Result<Case, CaseFault> {
+    let Some((name, other)) = head.split_once(" like ") else {
+        return Ok(Case::new(alloc, head)?);
+    };
+    for case in cases {
+        if case.name.as_str() == other {
+            return Ok(case.like(alloc, name)?);
+        }
+    }
+    Err(CaseFault::Line)
+}
+
 /// Takes a line of a file of cases, and tells the block that it stands in.
 fn take_line(
     alloc: Global,
@@ -156,8 +183,8 @@ fn take_line(
     if line.is_empty() || line.starts_with('#') {
         return Ok(block);
     }
-    if let Some(name) = line.strip_prefix("case ") {
-        let case = Case::new(alloc, name)?;
+    if let Some(head) = line.strip_prefix("case ") {
+        let case = begun(alloc, cases.as_slice(), head)?;
         cases.push(case)?;
         return Ok(Block::None);
     }

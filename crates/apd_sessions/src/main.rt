@@ -16,7 +16,7 @@ mod turns;
 use crate::case::Case;
 use crate::cases::cases_of;
 use crate::fault::CaseFault;
-use crate::played::{Played, play};
+use crate::played::{Ended, Played, play};
 use apd_base::Text;
 use apd_io::{DiskFiles, Files};
 use std::alloc::Global;
@@ -52,7 +52,8 @@ fn first_difference(text: &[u8], other: &[u8]) -> u32 {
 fn compare(rt: &impl Print, case: &Case, played: &Played) -> Result<bool, CaseFault> {
     let name = case.name.as_str();
     let wanted = case.status;
-    let status = played.status;
+    let Ended { status, last } = &played.ended;
+    let status = *status;
     let other_status = status != wanted;
     if other_status {
         say(println!(rt; "{name}: status {status}, wanted {wanted}"))?;
@@ -62,7 +63,14 @@ fn compare(rt: &impl Print, case: &Case, played: &Played) -> Result<bool, CaseFa
         let line = first_difference(played.output.bytes(), case.output.bytes());
         say(println!(rt; "{name}: line {line} of the output differs"))?;
     }
-    Ok(other_status || other_output)
+    let other_last = case
+        .last
+        .as_ref()
+        .is_some_and(|text| text.bytes() != last.bytes());
+    if other_last {
+        say(println!(rt; "{name}: the log's last entry differs"))?;
+    }
+    Ok(other_status || other_output || other_last)
 }
 
 /// Tries a case, says where it differs, and tells whether it does.

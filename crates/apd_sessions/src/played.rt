@@ -1,18 +1,26 @@
 //! The session of a case.
 
-use crate::case::{Case, Reading};
+use crate::case::{Case, Passing};
 use crate::turns::{CountedSink, LineSource, transcript};
 use apd_base::{Ids, Text};
 use apd_io::{MemFiles, MemSink, MemSource, Sink, Source};
 use apd_session::{Log, Untold, session};
+use apd_text::text_of;
 use std::alloc::{AllocError, Global};
 use std::cell::Cell;
 
 /// How a session ended, and what was said.
 #[derive(Drop)]
 pub struct Played {
-    pub status: u8,
+    pub ended: Ended,
     pub output: Text,
+}
+
+/// The status of a session, and the text of its log's last entry, which is none for a run and for no entry.
+#[derive(Drop)]
+pub struct Ended {
+    pub status: u8,
+    pub last: Text,
 }
 
 /// The number of the one call that fails, or none.
@@ -50,22 +58,38 @@ fn files_of(alloc: Global, case: &Case) -> Result<MemFiles, AllocError> {
 fn source_of(alloc: Global, case: &Case) -> Result<MemSource, AllocError> {
     let bytes = Text::copy_of(alloc, case.input.bytes())?;
     let failing = only(alloc, case.failing.read)?;
-    Ok(MemSource::new(bytes, failing))
+    match case.passing {
+        Passing::Pieces(most) if most > 0 => Ok(MemSource::in_pieces(bytes, failing, most)),
+        _ => Ok(MemSource::new(bytes, failing)),
+    }
 }
 
 /// The output of a case in memory.
 fn sink_of(alloc: Global, case: &Case) -> Result<MemSink, AllocError> {
     let failing = only(alloc, case.failing.write)?;
-    MemSink::new(alloc, case.room, failing)
+    match case.passing {
+        Passing::Pieces(most) if most > 0 => MemSink::in_pieces(alloc, case.room, failing, most),
+        _ => MemSink::new(alloc, case.room, failing),
+    }
+}
+
+fn last_text(alloc: Global, log: &Log) -> Result<Text, AllocError> {
+    let mut text = Text::new(alloc);
+    let count = log.entries.len();
+    if count > 0 {
+        let last = log.entries.entry(count - 1);
+        text_of(alloc, last, &log.names, &log.ops, &mut text)?;
+    }
+    Ok(text)
 }
 
 /// How the session of a case ends over an input and an output.
-fn status_of<S: Source, K: Sink>(
+fn end_of<S: Source, K: Sink>(
     alloc: Global,
     case: &Case,
     input: &mut S,
     out: &mut K,
-) -> Result<u8, AllocError> {
+) -> Result<Ended, AllocError> {
     let words = words_of(alloc, case)?;
     let mut files = files_of(alloc, case)?;
     let mut log = Log::new(alloc)?;
@@ -78,16 +102,19 @@ fn status_of<S: Source, K: Sink>(
         out,
         &mut log,
     );
-    Ok(status.number())
+    Ok(Ended {
+        status: status.number(),
+        last: last_text(alloc, &log)?,
+    })
 }
 
 /// The session over an input and an output in memory.
 fn play_whole(alloc: Global, case: &Case) -> Result<Played, AllocError> {
     let mut input = source_of(alloc, case)?;
     let mut out = sink_of(alloc, case)?;
-    let status = status_of(alloc, case, &mut input, &mut out)?;
+    let ended = end_of(alloc, case, &mut input, &mut out)?;
     let output = Text::copy_of(alloc, out.held())?;
-    Ok(Played { status, output })
+    Ok(Played { ended, output })
 }
 
 /// The session over an input that is read line by line, with what was said before each read.
@@ -95,15 +122,15 @@ fn play_lines(alloc: Global, case: &Case) -> Result<Played, AllocError> {
     let written = Cell::new(0);
     let mut input = LineSource::new(alloc, case.input.bytes(), &written);
     let mut out = CountedSink::new(alloc, &written);
-    let status = status_of(alloc, case, &mut input, &mut out)?;
+    let ended = end_of(alloc, case, &mut input, &mut out)?;
     let output = transcript(alloc, input.turns(), case.input.bytes(), out.text())?;
-    Ok(Played { status, output })
+    Ok(Played { ended, output })
 }
 
 /// The session of a case.
 pub fn play(alloc: Global, case: &Case) -> Result<Played, AllocError> {
-    match case.reading {
-        Reading::Whole => play_whole(alloc, case),
-        Reading::Lines => play_lines(alloc, case),
+    match case.passing {
+        Passing::Lines => play_lines(alloc, case),
+        Passing::Whole | Passing::Pieces(_) => play_whole(alloc, case),
     }
 }

@@ -1,5 +1,6 @@
 //! Tries the rows of all tables: those of texts, of terms and programs, and of runs. Prints of each table how many rows there
-//! are and which differ, and before them whether real files and streams pass their bytes.
+//! are and which differ, and before them whether real files and streams pass their bytes, and what the diagnoses of records that
+//! are made by hand find.
 //!
 //! The words name the tables. Each row of the file `NAME.table` has fields with a tab between them, of which the last is
 //! what is wanted of the call that the table is about. Nothing is tried twice: a new case is a new line.
@@ -8,9 +9,11 @@
 //! that is, for the measurement of times.
 #![tactic(auto)]
 
+mod by_hand;
 mod outside;
 mod timed;
 
+use crate::by_hand::print_by_hand;
 use apd_io::DiskFiles;
 use apd_program_tables::ProgramTables;
 use apd_rows::{Tables, Trial, try_tables};
@@ -46,6 +49,7 @@ fn main(rt: HostRuntime) -> io::Result<ExitCode> {
         return Ok(ExitCode::FAILURE);
     }
     println!(&rt; "outside: files and streams pass their bytes")?;
+    print_by_hand(&rt, alloc, &mut files)?;
     let names = words.get(1..).unwrap_or(&[]);
     try_tables(&rt, alloc, &mut files, &AllTables, names)
 }

@@ -21,11 +21,23 @@ fn is_passed_on(rt: &HostRuntime) -> io::Result<bool> {
     Ok(matches!((taken, given, end), (Ok(5), Ok(5), Ok(0))) && buf.starts_with(b"facts"))
 }
 
-/// Whether a file that is open to be read takes nothing, and one that is open to be written gives nothing.
-fn is_refused(rt: &HostRuntime) -> io::Result<bool> {
+/// Whether what a sink took is in the file while the writer, which keeps bytes back, still lives: no contract says that a sink
+/// flushes.
+fn is_flushed(rt: &HostRuntime, alloc: Global) -> io::Result<bool> {
+    let mut sink = StdSink::new(io::BufWriter::new(alloc, fs::create(rt, GIVEN)?)?);
+    let taken = sink.write(b"rules");
+    let there = DiskFiles::new(rt).load(alloc, GIVEN);
+    drop(sink);
+    Ok(matches!(taken, Ok(5)) && there.is_ok_and(|text| text.bytes() == b"rules".as_slice()))
+}
+
+/// Whether a file that is open to be read takes nothing, also where only the flush fails, and one that is open to be written
+/// gives nothing.
+fn is_refused(rt: &HostRuntime, alloc: Global) -> io::Result<bool> {
     let written = StdSink::new(fs::open(rt, GIVEN)?).write(b"x");
+    let flushed = StdSink::new(io::BufWriter::new(alloc, fs::open(rt, GIVEN)?)?).write(b"x");
     let read = StdSource::new(fs::create(rt, LONG)?).read(&mut [0u8; 8]);
-    Ok(written.is_err() && read.is_err())
+    Ok(written.is_err() && flushed.is_err() && read.is_err())
 }
 
 /// Whether a file is loaded whole, and one that isn't there isn't.
@@ -56,7 +68,7 @@ pub fn holds(rt: &HostRuntime) -> io::Result<bool> {
     let alloc = rt.alloc();
     let _ = fs::remove_dir_all(rt, FOLDER);
     fs::create_dir(rt, FOLDER)?;
-    let streams = is_passed_on(rt)? && is_refused(rt)?;
+    let streams = is_flushed(rt, alloc)? && is_passed_on(rt)? && is_refused(rt, alloc)?;
     let files = is_loaded(rt, alloc) && is_measured(rt, alloc)?;
     fs::remove_dir_all(rt, FOLDER)?;
     Ok(streams && files)

@@ -1,0 +1,16 @@
+# Completion for apd in bash: source this file.
+_apd() {
+    local word=${COMP_WORDS[COMP_CWORD]} before=${COMP_WORDS[COMP_CWORD - 1]}
+    case $before in
+    --strategy) mapfile -t COMPREPLY < <(compgen -W "divide single top" -- "$word") ;;
+    --budget | --answers | --demo) COMPREPLY=() ;;
+    --oracle) mapfile -t COMPREPLY < <(compgen -f -- "$word") ;;
+    *)
+        case $word in
+        -*) mapfile -t COMPREPLY < <(compgen -W "--budget --answers --trace --strategy --oracle --demo" -- "$word") ;;
+        *) mapfile -t COMPREPLY < <(compgen -f -X '!*.pl' -- "$word"; compgen -d -- "$word") ;;
+        esac
+        ;;
+    esac
+}
+complete -o filenames -F _apd apd ./apd apdi ./apdi

@@ -1,0 +1,1 @@
+"""Tests of apdi: .ci/terminal runs them."""

@@ -1,0 +1,85 @@
+"""What is read of texts, and what is said about them: full stops, predicates, explanations, files of replies."""
+from __future__ import annotations
+
+import re
+import unittest
+
+from terminal import manual
+from terminal.page.terms import is_instance
+from terminal.prolog import predicates, texts_in, with_full_stop
+from terminal.session import oracle_text
+
+LINES = {
+    "E1 syntax: Stray at byte 5": ["no reading", "can't follow"],
+    "E4 goal refused: Impure(write/1)": ["a goal of the query", "isn't pure"],
+    "E9 not complete: 4": ["wasn't searched to its end"],
+    "E15 bad reply: built-in false": ["make a built-in goal of the body untrue"],
+    "program refused: line 3: Cut": ["exclude each other"],
+    "oracle refused: line 2: NotAStatement": ["none of the statements"],
+    "end: error Unbound in box 4, 3 ports, 0 answers": ["an arithmetic fault", "has no value yet"],
+    "end: budget, 3 ports, 0 answers": ["another would follow"],
+    "question 1: true? p(a) [3 suspects]": ["every instance of the atom"],
+    "question 2: true? p(a)": ["every instance of the atom"],
+    "reply: no [2 left]": ["your reply"],
+    "bug: wrong instance of clause 1, line 1: q(1)": ["the head isn't"],
+    "warning: no clauses for edge/2": ["a predicate that has none"],
+}
+
+
+class Texts(unittest.TestCase):
+    """Texts and what is made of them."""
+
+    def test_a_line_is_explained_by_its_row_and_that_of_its_fault(self) -> None:
+        for line, wanted in LINES.items():
+            said = " ".join(manual.explain(line))
+            self.assertTrue(all(it in said for it in wanted), (line, said))
+
+    def test_each_refusal_and_fault_of_the_manual_is_explained(self) -> None:
+        text = manual.MANUAL.read_text(encoding="utf-8")
+        refusals = set(re.findall(r"^\| `(E\d+) ", text, re.MULTILINE))
+        faults = set(re.findall(r"^\| `([A-Z][a-z]\w+)", text, re.MULTILINE))
+        self.assertGreaterEqual(len(refusals), 15)
+        self.assertGreaterEqual(len(faults), 35)
+        for name in refusals | faults | {"wrong", "loop", "--budget"}:
+            self.assertTrue(manual.explain_name(name), name)
+        for status in range(10):
+            self.assertTrue(manual.explain_status(status), status)
+
+    def test_a_missing_full_stop_is_added_where_the_clause_ends(self) -> None:
+        same = ["loop.", "", "% a comment", "?- p. % all", "?- X = a. /* so */"]
+        for line in same:
+            self.assertEqual(with_full_stop(line), line)
+        for line, wanted in {
+            "loop": "loop.",
+            "?- p % all": "?- p. % all",
+            "?- X = a=": "?- X = a= .",
+            "?- X = 'a.'": "?- X = 'a.'.",
+            "?- X = 0'. ": "?- X = 0'.. ",
+        }.items():
+            self.assertEqual(with_full_stop(line), wanted)
+
+    def test_the_predicates_of_a_program(self) -> None:
+        program = "p. q(a, [b, c]) :- r. % s.\n'X y'(1).\n:- op(700, xfx, ===).\nt --> [a].\nu('a, b') --> t.\nX === Y."
+        self.assertEqual(predicates(program), {("p", 0), ("q", 2), ("'X y'", 1), ("t", 2), ("u", 3)})
+
+    def test_lists_of_codes_that_read_as_texts(self) -> None:
+        wanted = [("[104,105]", '"hi"'), ("[65,10|_3]", '"A\\n"|_3')]
+        self.assertEqual(texts_in("p([104,105],[1,2],[65,10|_3])"), wanted)
+
+    def test_a_file_of_replies_keeps_what_it_has(self) -> None:
+        known = ["true(p(1), yes).", "true(q, no)."]
+        self.assertEqual(oracle_text("", known), "form(1).\ntrue(p(1), yes).\ntrue(q, no).\n")
+        before = "% mine\nform(1).\ntrue(q, no).\n"
+        self.assertEqual(oracle_text(before, known), before + "true(p(1), yes).\n")
+
+    def test_instances_by_their_texts(self) -> None:
+        yes = [("app([2],[9],[2,9])", "app([2],_1,[2|_1])"), ("p([1])", "p([_1|_2])"), ("p(b * c + a)", "p(_1 + a)")]
+        yes += [("p((b :- c) + a)", "p(_1 + a)"), ("p(-1)", "p(_1)"), ("p([1,2|_1])", "p([1|_1])")]
+        no = [("p(a,b)", "p(_1,_1)"), ("p([])", "p([_1|_2])"), ("f([1,2],[1])", "f([1|_1],[1|_1])")]
+        no += [("p([1,2])", "p([_1])"), ("p([1|_1])", "p([1])")]
+        self.assertTrue(all(is_instance(term, pattern) for term, pattern in yes))
+        self.assertFalse(any(is_instance(term, pattern) for term, pattern in no))
+
+
+if __name__ == "__main__":
+    unittest.main()

@@ -1,15 +1,13 @@
 #!/bin/sh
 # Times diagnoses: of a wrong answer over trees of 1,000 and 10,000 nodes, how long their suspects take to be found and what a
-# question costs, with the memory beside that of the run and its record; questions one by one over 10,000 suspects; 20,000
-# diagnoses after a run of 100,000 ports; of a missing answer in a run of 100,000 ports; and of a chain of 50,000 calls.
-# The first diagnosis of a run makes its record. It has a row of its own, and the others but for the last two are measured
-# against a session whose record is made.
+# question costs, with the memory beside that of the run; questions one by one over 10,000 suspects; 20,000 diagnoses after a
+# run of 100,000 ports; of a missing answer in a run of 100,000 ports; and of a chain of 50,000 calls.
 # Each row has the bound that it is to meet. It ends with 1 where one isn't met.
 top=$(cd "$(dirname "$0")/.." && pwd) || exit 1
 work=$(mktemp -d) || exit 1
 trap 'rm -rf "$work"' EXIT
-# The launcher builds the program, unless one is named; it is then timed by itself.
-[ -n "$1" ] || "$top/apd" "$top/examples/facts.pl" </dev/null >/dev/null
+# The program is built where it isn't there, unless one is named; it is then timed by itself.
+[ -n "$1" ] || "$top/.ci/build" || exit 1
 program=${1:-$top/crates/apd/out/apd}
 failed=0
 
@@ -92,10 +90,7 @@ difference() {
 for nodes in 1000 10000; do
     tree $nodes
     source=$work/tree$nodes.pl
-    echo '?- n1.' >"$work/bare"
-    bare=$(milliseconds "$work/bare" "$source")
-    bare_peak=$(cat "$work/peak")
-    printf '?- n1.\nwrong(1, 1).\nstop.\n' >"$work/run"
+    echo '?- n1.' >"$work/run"
     run=$(milliseconds "$work/run" "$source")
     run_peak=$(cat "$work/peak")
 
@@ -103,8 +98,7 @@ for nodes in 1000 10000; do
     { cat "$work/run"; for _ in $(seq 50); do printf 'wrong(1, 1).\nstop.\n'; done; } >"$work/stopped"
     stopped=$(milliseconds "$work/stopped" "$source")
     built=$(difference "$stopped" "$run" $((50 * nodes / 1000)))
-    echo "$nodes nodes: the run $bare ms, $bare_peak KB; with its record and a first question $run ms, $run_peak KB"
-    echo "$nodes nodes: the suspects $built ms for 1,000 nodes"
+    echo "$nodes nodes: the run $run ms, $run_peak KB; the suspects $built ms for 1,000 nodes"
     [ $nodes = 1000 ] && first=$built
 
     python3 "$work/dialogue.py" "$program" "$source" $nodes >"$work/replies"
@@ -115,7 +109,7 @@ for nodes in 1000 10000; do
     questions=$(grep -c . "$work/replies")
     row "$nodes nodes: questions" "$questions" '' $([ $nodes = 1000 ] && echo 10 || echo 14)
     row "$nodes nodes: a question, and its part of finding the suspects" "$(difference "$whole" "$run" "$questions")" ms 1
-    row "$nodes nodes: memory beside the run and its record" "$((($(cat "$work/peak") - run_peak) / 1024))" MB 20
+    row "$nodes nodes: memory beside the run" "$((($(cat "$work/peak") - run_peak) / 1024))" MB 20
 done
 row "finding 10,000 suspects against 1,000, for each" "$(awk -v a="$built" -v b="$first" 'BEGIN { printf "%.2f", a / b }')" '' 1.5
 
@@ -149,13 +143,11 @@ row "20,000 diagnoses after a run of 100,000 ports (the run $run ms)" "$took" ms
 } >"$work/missing.pl"
 goal=$(awk 'BEGIN { for (i = 0; i < 400; i++) printf "s("; printf "0"; for (i = 0; i < 400; i++) printf ")" }')
 echo "?- p($goal)." >"$work/run"
-bare=$(milliseconds "$work/run" "$work/missing.pl")
-printf 'missing(1, p(%s)).\nstop.\n' "$goal" >>"$work/run"
 run=$(milliseconds "$work/run" "$work/missing.pl")
 { cat "$work/run"; echo "missing(1, p($goal))."; yes yes. | head -n 401; } >"$work/missing"
 took=$(milliseconds "$work/missing" "$work/missing.pl")
 if ends_with 'bug: uncovered goal: p(0)'; then
-    row "a question about a missing answer, after 98,402 ports ($bare ms, with their record $run ms)" "$(difference "$took" "$run" 401)" ms 1
+    row "a question about a missing answer, after 98,402 ports ($run ms)" "$(difference "$took" "$run" 401)" ms 1
 fi
 
 echo 'p(X) :- p(X).' >"$work/loop.pl"
@@ -164,7 +156,7 @@ run=$(milliseconds "$work/run" --budget 50000 "$work/loop.pl")
 { cat "$work/run"; echo 'loop.'; } >"$work/chain"
 took=$(milliseconds "$work/chain" --budget 50000 "$work/loop.pl")
 if grep -q '^symptom: no end: 50000 calls' "$work/out"; then
-    row "a chain of 50,000 calls, with its record (the run $run ms)" "$(difference "$took" "$run" 1)" ms 1000
+    row "a chain of 50,000 calls (the run $run ms)" "$(difference "$took" "$run" 1)" ms 1000
 else
     ends_with 'bug: call not below its caller'
 fi

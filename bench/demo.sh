@@ -4,8 +4,8 @@
 top=$(cd "$(dirname "$0")/.." && pwd) || exit 1
 work=$(mktemp -d) || exit 1
 trap 'rm -rf "$work"' EXIT
-# The launcher builds the program, unless one is named; it is then timed by itself.
-[ -n "$1" ] || "$top/apd" "$top/examples/facts.pl" </dev/null >/dev/null
+# The program is built where it isn't there, unless one is named; it is then timed by itself.
+[ -n "$1" ] || "$top/.ci/build" || exit 1
 program=${1:-$top/crates/apd/out/apd}
 failed=0
 

@@ -17,7 +17,7 @@ done >"$work/search"
 cp "$work/search.pl" "$work/start.pl"
 echo 'p :- p.' >"$work/nested.pl"
 echo '?- p.' >"$work/nested"
-"$top/apd" "$top/examples/facts.pl" </dev/null >/dev/null
+"$top/.ci/build" || exit 1
 
 # The nanoseconds that a run with this program and budget takes, the least of five.
 nanoseconds() {

@@ -1,18 +1,15 @@
 #!/bin/sh
 # Times searches: what a port costs after 10,000, 100,000 and 1,000,000 ports where the search goes back (queens by generate
-# and test, the colouring of a map over facts); programs that nest, as far as they are carried (a counting loop, hanoi, naive
-# reverse of 30 to 690 elements, a goal that calls itself); and what a printed port costs. Each row has the ports, the time
-# and the peak memory.
-# Where SWI-Prolog is installed (`swipl`), the last rows have what a port takes beside its bare engine with the occurs check,
-# which neither counts ports nor records them; the ports are those that apd counts.
-# It ends with 1 where a port of 1,000,000 takes more than 1.5 times the time of a port of 10,000, or more than 15 times that of
-# SWI-Prolog (60 times in naive reverse); where the naive reverse of 200 elements takes more than 1 s or 100 MB, or that of 690
-# more than 1 GB.
+# and test, the colouring of a map over facts); and programs that nest, as far as they are carried (a counting loop, hanoi,
+# naive reverse of 30 to 690 elements, a goal that calls itself). Each row has the ports, the time and the peak memory, of
+# which the record of the run is a part.
+# It ends with 1 where a port of 1,000,000 takes more than 1.5 times the time of a port of 10,000. The other bounds, beside
+# SWI-Prolog too, are those of bounds.py.
 top=$(cd "$(dirname "$0")/.." && pwd) || exit 1
 work=$(mktemp -d) || exit 1
 trap 'rm -rf "$work"' EXIT
-# The launcher builds the program, unless one is named; it is then timed by itself.
-[ -n "$1" ] || "$top/apd" "$top/examples/facts.pl" </dev/null >/dev/null
+# The program is built where it isn't there, unless one is named; it is then timed by itself.
+[ -n "$1" ] || "$top/.ci/build" || exit 1
 program=${1:-$top/crates/apd/out/apd}
 
 cat >"$work/queens.pl" <<'PROGRAM'
@@ -63,14 +60,14 @@ for n in 30 100 200 690; do
     awk -v n="$n" 'BEGIN { printf "?- reverse([1"; for (i = 2; i <= n; i++) printf ",%d", i; print "], Ys)." }' >"$work/reverse$n"
 done
 
-# The least nanoseconds of three sessions with this program and budget, so many runs of its query, and further words; the last
-# line that it prints goes to `end`, the peak memory in KB to `peak`.
+# The least nanoseconds of three sessions with this program and budget, and so many runs of its query; the last line that it
+# prints goes to `end`, the peak memory in KB to `peak`.
 nanoseconds() {
     least=
     for _ in $(seq "$3"); do cat "$work/$1"; done >"$work/input"
     for _ in 1 2 3; do
         start=$(date +%s%N)
-        /usr/bin/time -f '%M' -o "$work/peak" "$program" --budget "$2" $4 "$work/$1.pl" <"$work/input" >"$work/out"
+        /usr/bin/time -f '%M' -o "$work/peak" "$program" --budget "$2" "$work/$1.pl" <"$work/input" >"$work/out"
         took=$(($(date +%s%N) - start))
         if [ -z "$least" ] || [ "$took" -lt "$least" ]; then
             least=$took
@@ -114,54 +111,6 @@ nest() {
 for program_that_nests in count hanoi reverse30 reverse100 loop; do
     nest $program_that_nests 10000 100000 1000000
 done
-# Whether the last run took at most so many milliseconds and so many MB.
-within() {
-    [ "$took" -le $(($1 * 1000000)) ] && [ "$(cat "$work/peak")" -le $(($2 * 1024)) ] && return
-    echo "NOT MET: at most $1 ms and $2 MB"
-    failed=1
-}
-
 nest reverse200 100000
-within 1000 100
 nest reverse690 1000000
-within 60000 1024
-base=$(nanoseconds colours 100000 1)
-took=$(nanoseconds colours 100000 1 --trace)
-awk -v took="$took" -v base="$base" -v ports="$(ports)" 'BEGIN { printf "a printed port takes %.0f ns more\n", (took - base) / ports }'
-
-# The nanoseconds of so many runs of a goal in SWI-Prolog's engine, up to its first solution.
-swipl_nanoseconds() {
-    swipl -q -f none -g "
-        set_prolog_flag(occurs_check, true),
-        consult('$work/$1.pl'),
-        statistics(cputime, Start),
-        forall(between(1, $3, _), ignore($2)),
-        statistics(cputime, End),
-        Took is round((End - Start) * 1.0e9),
-        writeln(Took)" -t halt
-}
-
-# A program beside SWI-Prolog: its query, the runs of it here and there, and the bound of the ratio.
-compare() {
-    base=$(nanoseconds "$1" 1 "$3")
-    took=$(nanoseconds "$1" 1000000 "$3" '--answers 1')
-    theirs=$(swipl_nanoseconds "$1" "$2" "$4")
-    awk -v kind="$1" -v took="$((took - base))" -v theirs="$theirs" -v ports="$(ports)" -v ours_runs="$3" -v runs="$4" -v bound="$5" 'BEGIN {
-        a = took / ours_runs / ports
-        b = theirs / runs / ports
-        printf "%s: %d ports, %.0f ns each, %.0f ns each in SWI-Prolog, ratio %.1f (at most %d)\n", kind, ports, a, b, a / b, bound
-        exit a > b * bound
-    }' || failed=1
-}
-
-if command -v swipl >/dev/null; then
-    head -n -1000 "$work/colours.pl" >"$work/colours100.pl"
-    for i in $(seq 100); do echo "trial($i)."; done >>"$work/colours100.pl"
-    echo '?- maps.' >"$work/colours100"
-    compare queens 'queens(_)' 1 5 15
-    compare colours100 maps 1 20 15
-    compare count 'count(100000)' 1 5 15
-    compare hanoi 'hanoi(12, a, b, c)' 1 20 15
-    compare reverse30 "$(sed 's/^?- //; s/\.$//' "$work/reverse30")" 100 1000 60
-fi
 exit $failed

@@ -1,0 +1,401 @@
+#!/usr/bin/env python3
+"""Measures the program beside the bounds that it is to meet, in one run; each run of a query leaves its record.
+
+    bench/bounds.py [--only WORD] [PROGRAM [UNRECORDED]]
+
+PROGRAM is the proved program, which the launcher builds where none is named. UNRECORDED is one of the same sources whose
+runs leave no record (`run_query` of apd_query calls `show` in place of `run`); without it what a record costs isn't told.
+With `swipl` on the path some rows are beside SWI-Prolog's bare engine with the occurs check, which neither counts ports nor
+records them. A session that takes more than 20 seconds or 4 GB is cut off, and its row isn't met. With a word, only the
+rows are measured that have it in their names. It ends with 1 where a row isn't met.
+"""
+import os
+import re
+import shutil
+import subprocess
+import sys
+import tempfile
+import threading
+import time
+from pathlib import Path
+
+TOP = Path(__file__).resolve().parent.parent
+LONGEST = 20
+MOST_MEMORY = 4 << 30
+ROUNDS = 3
+
+REVERSE = """append([], Ys, Ys).
+append([X|Xs], Ys, [X|Zs]) :- append(Xs, Ys, Zs).
+reverse([], []).
+reverse([X|Xs], Ys) :- reverse(Xs, Zs), append(Zs, [X], Ys).
+"""
+QUEENS = """queens(Qs) :- permutation([1,2,3,4,5,6,7,8], Qs), safe(Qs).
+permutation([], []).
+permutation(Xs, [X|Ys]) :- select(X, Xs, Zs), permutation(Zs, Ys).
+select(X, [X|Xs], Xs).
+select(X, [Y|Ys], [Y|Zs]) :- select(X, Ys, Zs).
+safe([]).
+safe([Q|Qs]) :- apart(Q, Qs, 1), safe(Qs).
+apart(_, [], _).
+apart(Q, [R|Rs], D) :- Q =\\= R + D, Q =\\= R - D, E is D + 1, apart(Q, Rs, E).
+"""
+COUNT = "count(0).\ncount(N) :- N > 0, M is N - 1, count(M).\n"
+HANOI = """hanoi(0, _, _, _).
+hanoi(N, A, B, C) :- N > 0, M is N - 1, hanoi(M, A, C, B), hanoi(M, C, B, A).
+"""
+TAK = """tak(X, Y, Z, Z) :- X =< Y.
+tak(X, Y, Z, A) :- X > Y, X1 is X - 1, Y1 is Y - 1, Z1 is Z - 1,
+    tak(X1, Y, Z, A1), tak(Y1, Z, X, A2), tak(Z1, X, Y, A3), tak(A1, A2, A3, A).
+"""
+
+
+def colours(trials):
+    """The colouring of a map, from the start for each trial."""
+    names = ["red", "green", "blue"]
+    lines = [f"differ({a}, {b})." for a in names for b in names if a != b]
+    lines.append("none(yellow).")
+    lines.append("map(A, B, C, D, E, F, G, H, I, J) :- differ(A, B), differ(B, C), differ(C, D), differ(D, E), differ(E, F),")
+    lines.append("    differ(F, G), differ(G, H), differ(H, I), differ(I, J), differ(A, C), differ(B, D), none(J).")
+    lines.append("maps :- trial(_), map(_, _, _, _, _, _, _, _, _, _).")
+    lines += [f"trial({i})." for i in range(1, trials + 1)]
+    return "\n".join(lines) + "\n"
+
+
+def elements(number):
+    """A list of so many integers."""
+    return "[" + ",".join(str(i) for i in range(1, number + 1)) + "]"
+
+
+class Cut(Exception):
+    """A session took too long, or too much memory."""
+
+
+def memory(child):
+    """The bytes that a session has in memory; none where it has ended."""
+    try:
+        return 4096 * int(Path(f"/proc/{child.pid}/statm").read_text().split()[1])
+    except (OSError, IndexError):
+        return 0
+
+
+class Bench:
+    def __init__(self, folder, program, unrecorded, only):
+        self.folder, self.program, self.unrecorded, self.only = folder, program, unrecorded, only
+        self.met = True
+
+    def wanted(self, what):
+        return self.only in what
+
+    def file(self, name, text):
+        path = os.path.join(self.folder, name)
+        Path(path).write_text(text)
+        return path
+
+    def session(self, source, lines, words=(), program=None, rounds=ROUNDS):
+        """The least seconds of some sessions, their peak memory in KB, and what is printed."""
+        least = None
+        file = self.file("program.pl", source)
+        asked = self.file("input", "\n".join(lines) + "\n")
+        printed = os.path.join(self.folder, "printed")
+        for _ in range(rounds):
+            with open(asked) as heard, open(printed, "w") as out:
+                start = time.perf_counter()
+                child = subprocess.Popen([program or self.program, *words, file], stdin=heard, stdout=out,
+                                         stderr=subprocess.DEVNULL)
+                try:
+                    took, peak = self.ended(child, start)
+                except Cut:
+                    child.kill()
+                    child.wait()
+                    raise
+            least = took if least is None else min(least, took)
+            if took > LONGEST / 4:
+                break
+        return least, peak, Path(printed).read_text()
+
+    def ended(self, child, start):
+        """The seconds of a session and its peak memory, once it has ended."""
+        while True:
+            number, status, used = os.wait4(child.pid, os.WNOHANG)
+            took = time.perf_counter() - start
+            if number:
+                child.returncode = status
+                if status:
+                    raise Cut
+                return took, used.ru_maxrss
+            if took > LONGEST or memory(child) > MOST_MEMORY:
+                raise Cut
+            time.sleep(0.0005)
+
+    def dialogue(self, source, query, replies, words=()):
+        """The seconds from each line to what is said to it; the lines are the query and then the replies."""
+        file = self.file("program.pl", source)
+        times, last = [], "end: "
+        with subprocess.Popen([self.program, *words, file], stdin=subprocess.PIPE, stdout=subprocess.PIPE, text=True,
+                              stderr=subprocess.DEVNULL) as talk:
+            guard = threading.Timer(3 * LONGEST, talk.kill)
+            guard.start()
+            try:
+                talk.stdout.readline()
+                for line in [query] + replies:
+                    start = time.perf_counter()
+                    talk.stdin.write(line + "\n")
+                    talk.stdin.flush()
+                    if not any(answer.startswith(last) for answer in talk.stdout):
+                        raise Cut
+                    times.append(time.perf_counter() - start)
+                    last = ("question ", "bug", "no bug", "unanswered")
+                talk.stdin.close()
+            except BrokenPipeError:
+                raise Cut from None
+            finally:
+                guard.cancel()
+                talk.kill()
+        return times
+
+    def row(self, what, figure, unit, most):
+        """A row: what was measured, its figure, and the most that it may be."""
+        met = figure is not None and figure <= most
+        self.met = self.met and met
+        shown = "cut off" if figure is None else f"{figure:.3g} {unit}".strip()
+        print(f"{what + ':':66} {shown:>12}  of at most {most:g}{'' if met else '  NOT MET'}", flush=True)
+
+    def measured(self, rows, measure):
+        """The rows that a measure gives, in the order of their names, units and bounds; none where it is cut off."""
+        if not any(self.wanted(what) for what, _, _ in rows):
+            return
+        try:
+            figures = measure()
+        except Cut:
+            figures = [None] * len(rows)
+        for (what, unit, most), figure in zip(rows, figures):
+            self.row(what, figure, unit, most)
+
+
+def ports(printed):
+    """The ports of the last run."""
+    return int(re.findall(r", (\d+) ports", printed)[-1])
+
+
+def swipl(bench, source, goal, runs):
+    """The seconds of a goal in SWI-Prolog, up to its first solution, the middle of so many runs left out of the start."""
+    file = bench.file("program.pl", source)
+    text = (f"set_prolog_flag(occurs_check, true), consult('{file}'), statistics(cputime, Start), "
+            f"forall(between(1, {runs}, _), ignore({goal})), statistics(cputime, End), "
+            f"Took is (End - Start) / {runs}, writeln(Took)")
+    out = subprocess.run(["swipl", "-q", "-f", "none", "-g", text, "-t", "halt"], capture_output=True, text=True, timeout=600)
+    return float(out.stdout)
+
+
+def bare_and_whole(bench, source, goal, repeat, program=None):
+    """The seconds that runs of a goal take beside runs of one port, the ports of one, and the KB beside."""
+    query = [f"?- {goal}."] * repeat
+    bare, low, _ = bench.session(source, query, ["--budget", "1"], program)
+    whole, peak, out = bench.session(source, query, ["--budget", "1000000", "--answers", "1"], program)
+    return (whole - bare) / repeat, ports(out), peak - low
+
+
+def beside_swipl(bench):
+    programs = [
+        ("queens", QUEENS, "queens(_)", 1, 5, 6, 150),
+        ("colouring of a map", colours(100), "maps", 1, 20, 6, 150),
+        ("counting loop", COUNT, "count(100000)", 1, 5, 10, 350),
+        ("hanoi of 12 discs", HANOI, "hanoi(12, a, b, c)", 3, 20, 10, 350),
+        ("tak of 15, 10 and 5", TAK, "tak(15, 10, 5, _)", 1, 20, 10, 350),
+        ("naive reverse of 30", REVERSE, f"reverse({elements(30)}, _)", 100, 2000, 15, None),
+        ("naive reverse of 215", REVERSE, f"reverse({elements(215)}, _)", 3, 50, 15, 350),
+        ("naive reverse of 690", REVERSE, f"reverse({elements(690)}, _)", 1, 5, 20, 350),
+    ]
+    each = {}
+    for what, source, goal, repeat, runs, ratio, bytes_a_port in programs:
+        def measure():
+            took, passed, more = bare_and_whole(bench, source, goal, repeat)
+            each[what] = took / passed
+            theirs = swipl(bench, source, goal, runs) if shutil.which("swipl") else None
+            print(f"{what}: {passed} ports, {took / passed * 1e9:.0f} ns each"
+                  + (f", {theirs / passed * 1e9:.0f} ns each in SWI-Prolog" if theirs else ""))
+            figures = [took / theirs if theirs else None]
+            if bytes_a_port:
+                figures.append(more * 1024 / passed)
+            return figures
+        rows = [(f"{what}, times SWI-Prolog", "", ratio)]
+        if bytes_a_port:
+            rows.append((f"{what}, memory for each port", "bytes", bytes_a_port))
+        bench.measured(rows, measure)
+        if bench.unrecorded:
+            bench.measured([(f"{what}, times the same without a record", "", 1.5)], lambda: [
+                bare_and_whole(bench, source, goal, repeat)[0]
+                / bare_and_whole(bench, source, goal, repeat, bench.unrecorded)[0]])
+    if "naive reverse of 690" in each and "naive reverse of 30" in each:
+        bench.row("a port of the reverse of 690, times one of 30", each["naive reverse of 690"] / each["naive reverse of 30"], "", 1.3)
+
+
+def growing(bench):
+    walk = "e(1,2). e(2,3). e(3,1).\nwalk(X,S) :- e(X,Y), walk(Y,[Y|S]).\n"
+    programs = [
+        ("walk with its way", walk, "walk(1,[])"),
+        ("a growing term", "g(X) :- g(f(X)).\n", "g(a)"),
+        ("a growing list", "l(L) :- l([a|L]).\n", "l([])"),
+        ("a growing open list", "l(L) :- l([_|L]).\n", "l([])"),
+    ]
+    for what, source, goal in programs:
+        run = [f"?- {goal}."]
+
+        def once():
+            took, peak, _ = bench.session(source, run)
+            return [took, peak / 1024]
+
+        def chain():
+            bare, low, _ = bench.session(source, run)
+            took, peak, out = bench.session(source, run + ["loop."])
+            beside = max(0, peak - low - len(out) // 1024)
+            return [took - bare, beside / 1024]
+
+        def most():
+            took, peak, _ = bench.session(source, run, ["--budget", "1000000"])
+            return [took, peak / 1024]
+
+        bench.measured([(f"{what}, 100,000 ports", "s", 0.2), (f"{what}, their memory", "MB", 100)], once)
+        bench.measured([(f"{what}, `loop.`", "s", 0.5), (f"{what}, `loop.`, memory", "MB", 200)], chain)
+        bench.measured([(f"{what}, 1,000,000 ports", "s", 2), (f"{what}, their memory of 1,000,000", "MB", 1024)], most)
+
+    def passed_on():
+        source = "t(0,a).\nt(N,f(T,T)) :- N > 0, M is N-1, t(M,T).\np(T) :- p(T).\n"
+        bare, _, _ = bench.session(source, ["?- t(17,_)."], ["--answers", "1"])
+        took, _, _ = bench.session(source, ["?- t(17,T), p(T)."])
+        return [took - bare]
+
+    bench.measured([("a term of 2^18 symbols passed on, 100,000 ports", "s", 0.2)], passed_on)
+
+    def unification():
+        left = ",".join(f"X{i}" for i in range(1, 41))
+        right = ",".join(f"g(X{i},a,X{i})" for i in range(40))
+        took, _, _ = bench.session("q.\n", [f"?- f({left}) = f({right})."], ["--budget", "1"])
+        return [took * 1000]
+
+    bench.measured([("a unification whose terms double 40 times", "ms", 10)], unification)
+
+    def long_goals():
+        source = f"p :- q({elements(450)}), p.\nq(_).\n"
+        took, peak, _ = bench.session(source, ["?- p."], ["--budget", "1000000"])
+        return [took, peak / 1024]
+
+    bench.measured([("a call with a list of 450 elements, 1,000,000 ports", "s", 1.5), ("their memory", "MB", 500)], long_goals)
+
+
+def facts(bench):
+    rule = "walk(0, X, X).\nwalk(N, X, Y) :- N > 0, M is N - 1, e(X, Z), walk(M, Z, Y).\n"
+    goal = "walk(5000, 1, Y)"
+    took = {}
+
+    def measure(number):
+        source = rule + "".join(f"e({i}, {i * 7 % number + 1}).\n" for i in range(1, number + 1))
+        bare, _, _ = bench.session(source, [f"?- {goal}."], ["--budget", "1"])
+        whole, _, _ = bench.session(source, [f"?- {goal}."], ["--budget", "1000000", "--answers", "1"])
+        took[number] = whole - bare
+        return source
+
+    def beside():
+        measure(1000)
+        source = measure(19000)
+        theirs = swipl(bench, source, goal, 20) if shutil.which("swipl") else None
+        return [took[19000] / theirs if theirs else None, took[19000] / took[1000]]
+
+    bench.measured([("5,000 look-ups in 19,000 facts, times SWI-Prolog", "", 10), ("times those in 1,000 facts", "", 2)], beside)
+
+
+def tables(bench):
+    def repeated():
+        lines = []
+        for i in range(20000):
+            lines += [f"?- r({i}).", "wrong(1,1).", "yes."]
+        return [bench.session("r(X) :- q(X).\nq(_).\n", lines)[0]]
+
+    bench.measured([("20,000 times a query, its symptom and a reply", "s", 1)], repeated)
+
+    def single():
+        lines = ["?- count(20000).", "wrong(1,1)."] + ["yes."] * 20000
+        words = ["--strategy", "single", "--answers", "1", "--budget", "1000000"]
+        return [bench.session("count(0).\ncount(N) :- N > 0, M is N - 1, count(M).\n", lines, words)[0]]
+
+    bench.measured([("`--strategy single` over 20,000 suspects", "s", 1)], single)
+
+    def operators():
+        names = ",".join(f"a{i}" for i in range(100000))
+        return [bench.session(f":- op(700, xfx, [{names}]).\nq.\n", ["?- q."])[0]]
+
+    bench.measured([("100,000 operators of one directive", "s", 1)], operators)
+
+    def leap():
+        names = ",".join(f"p{i}/0" for i in range(8000))
+        lines = [f"trace(leap([{names}])).", "?- c(_)."]
+        return [bench.session("c(X) :- c(X).\n", lines, ["--budget", "300000"])[0]]
+
+    bench.measured([("`leap` of 8,000 predicates, 300,000 ports", "s", 1)], leap)
+
+    def known():
+        statements = ["form(1)."] + [f"true(q({i}, _), yes)." for i in range(20000)]
+        replies = bench.file("replies.pl", "\n".join(statements) + "\n")
+        source = "p(0).\np(N) :- N > 0, M is N - 1, q(N, M), p(M).\nq(_, _).\n"
+        words = ["--strategy", "top", "--answers", "1", "--oracle", replies]
+        return [bench.session(source, ["?- p(500).", "wrong(1,1)."], words)[0]]
+
+    bench.measured([("500 look-ups among 20,000 statements with variables", "s", 1)], known)
+
+
+def diagnoses(bench):
+    programs = [
+        ("d(N,X) of 16,000", "d(0,a).\nd(N,f(X)) :- N > 0, M is N-1, d(M,X).\n", "d(16000,X)"),
+        ("append of 16,000", REVERSE, "append([" + ",".join(["a"] * 16000) + "], [b], Zs)"),
+        ("naive reverse of 400", REVERSE, f"reverse({elements(400)}, Ys)"),
+    ]
+    words = ["--answers", "1", "--budget", "1000000"]
+    for what, source, goal in programs:
+        def measure():
+            _, low, _ = bench.session(source, [f"?- {goal}."], words, rounds=1)
+            _, peak, out = bench.session(source, [f"?- {goal}.", "wrong(1, 1).", "stop."], words, rounds=1)
+            times = bench.dialogue(source, f"?- {goal}.", ["wrong(1, 1)."] + ["yes."] * 5 + ["stop."], words)
+            return [times[1], (peak - low - len(out) // 1024) / 1024, 1000 * max(times[2:-1])]
+
+        bench.measured([(f"{what}: first question", "s", 1), (f"{what}: memory beside the run", "MB", 300),
+                        (f"{what}: a question", "ms", 10)], measure)
+
+    source = "q(1).\nn(1).\nn(2).\n"
+    choices = ", ".join(["n(_)"] * 19)
+
+    def first():
+        times = bench.dialogue(source, f"?- q(X), {choices}, fail.", ["wrong(1, 1)."], ["--budget", "100000"])
+        return [1000 * times[1]]
+
+    bench.measured([("the first diagnosis of a run of 100,000 ports", "ms", 50)], first)
+
+    def part():
+        times = bench.dialogue(source, f"?- q(X), {choices}, fail.", ["wrong(1, 1)."], ["--budget", "1000000"])
+        return [times[1] / times[0]]
+
+    bench.measured([("the first diagnosis of a run of 1,000,000 ports, part of its time", "", 0.1)], part)
+
+    def printed():
+        bare, _, _ = bench.session(colours(1000), ["?- maps."])
+        took, _, out = bench.session(colours(1000), ["?- maps."], ["--trace"])
+        return [(took - bare) / ports(out) * 1e9]
+
+    bench.measured([("a printed port, more than one that isn't", "ns", 500)], printed)
+
+
+def main():
+    words = sys.argv[1:]
+    only = ""
+    if words[:1] == ["--only"]:
+        only, words = words[1], words[2:]
+    if not words:
+        subprocess.run([TOP / "apd", TOP / "examples" / "facts.pl"], stdin=subprocess.DEVNULL, stdout=subprocess.DEVNULL)
+        words = [str(TOP / "crates" / "apd" / "out" / "apd")]
+    with tempfile.TemporaryDirectory() as folder:
+        bench = Bench(folder, words[0], words[1] if len(words) > 1 else None, only)
+        for part in (beside_swipl, growing, facts, tables, diagnoses):
+            part(bench)
+    sys.exit(0 if bench.met else 1)
+
+
+main()

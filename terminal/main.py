@@ -40,7 +40,8 @@ def done(words: List[str]) -> int:
     if words[:1] == ["--page"]:
         return write_page(words[1:])
     if program_file() is None:
-        print(NOT_BUILT, file=sys.stderr)
+        named = os.environ.get("APD")
+        print(f"apdi: {named}, which the variable APD names, is no program" if named else NOT_BUILT, file=sys.stderr)
         return NO_PROGRAM
     return Conversation(words).run()
 

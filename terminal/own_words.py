@@ -1,4 +1,4 @@
-"""apdi's own words. They have no full stop, and what isn't one of them is told to the program."""
+"""apdi's own words. A full stop behind one is passed over, and what isn't one of them is told to the program."""
 from __future__ import annotations
 
 import re
@@ -33,11 +33,11 @@ class OwnWords:
             Word(r"answer +(\d+)", "answer K", "the Kth answer isn't true; at covers? the reply by it", self.answer),
             Word(r"answer +(\d+) +of +goal +(\d+)", "answer K of goal N", "the same of a query of goals", self.answer),
             Word("goals", "goals", "the query's goals with their boxes and exits; at covers? answers", self.goals),
-            Word(r"why(?: +(\S+))?", "why [NAME]", "what the manual says of the last line, or of a fault", self.why),
+            Word(r"why(?: +(\S+?))?", "why [NAME]", "what the manual says of the last line, or of a fault", self.why),
             Word("undo", "undo", "takes back the last reply or symptom, and what came behind it", self.undo),
             Word("again", "again", "the program as it is now, the same queries, the replies kept", self.again),
-            Word(r"save +(\S.*)", "save FILE", "adds the replies to a file for --oracle", self.save),
-            Word(r"page +(\S.*)", "page FILE", "writes the session as a page to look at", self.page),
+            Word(r"save +(\S.*?)", "save FILE", "adds the replies to a file for --oracle", self.save),
+            Word(r"page +(\S.*?)", "page FILE", "writes the session as a page to look at", self.page),
             Word(r"help|\?", "help", "this list; y, n, u are yes. no. unknown., and full stops are added", self.help),
         ]
 
@@ -48,7 +48,7 @@ class OwnWords:
     def obey(self, line: str) -> bool:
         """Does what the line asks for, if it is one of the words."""
         for word in self.words:
-            found = re.fullmatch(word.pattern, line)
+            found = re.fullmatch(rf"(?:{word.pattern}) *\.?", line)
             if found:
                 word.does(*found.groups())
                 return True
@@ -88,7 +88,8 @@ class OwnWords:
         if place and not name:
             before = typed.encode("utf-8", "surrogateescape")[: int(place[1])]
             self.say(typed, " " * len(before.decode("utf-8", "replace")) + "^")
-        self.say(*(manual.explain_name(name) if name else manual.explain(last)))
+        explained = manual.explain_name(name) if name else manual.explain(last)
+        self.say(*(explained or [f"the manual has nothing of {name}"] if name else explained))
 
     def undo(self) -> None:
         """Takes back the last reply or symptom."""
@@ -104,7 +105,7 @@ class OwnWords:
 
     def again(self) -> None:
         """Begins anew with the program as it is now."""
-        self.say(f"begun anew, with {len(self.talk.session.statements())} replies kept")
+        self.say(f"begun anew, with {len(self.talk.session.statements())} statements kept, of replies and symptoms")
         self.talk.session.renew(lambda line: print(colours.painted("apd> " + line, colours.BOLD)))
 
     def save(self, name: str) -> None:
@@ -118,7 +119,7 @@ class OwnWords:
                 self.say(f"{name} is no file of replies, and stays as it is")
                 return
             file.write_text(oracle_text(before, statements), encoding="utf-8")
-            self.say(f"{name} has the {len(statements)} statements of this session")
+            self.say(f"{name} has what it had and the {len(statements)} statements of this session")
         except UnicodeError:
             self.say(f"{name} is no file of replies, and stays as it is")
         except OSError as fault:

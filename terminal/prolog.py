@@ -17,6 +17,7 @@ TOKEN = re.compile(
     | (?P<other> . )""",
     re.VERBOSE | re.DOTALL,
 )
+LATIN_END = "\u0250"
 CODES = re.compile(r"\[([0-9]+(?:,[0-9]+)+)(\|_[0-9]+)?\]")
 
 
@@ -89,12 +90,14 @@ def predicates(text: str) -> Set[Tuple[str, int]]:
 
 
 def texts_in(line: str) -> List[Tuple[str, str]]:
-    """The lists of codes of the line that read as a text, each with that text in double quotes."""
+    """The lists of codes of the line that read as a text of Latin letters, each with that text in double quotes. Of greater
+    numbers most lists are just numbers."""
     found = []
     for codes in CODES.finditer(line):
         characters = [chr(code) if code < 0x110000 else "\0" for code in map(int, codes.group(1).split(","))]
         text = "".join(characters)
-        if text.replace("\n", " ").replace("\t", " ").isprintable() and any(map(str.isalpha, text)):
+        is_shown = text.replace("\n", " ").replace("\t", " ").isprintable()
+        if is_shown and any(map(str.isalpha, text)) and max(text) < LATIN_END:
             shown = text.replace("\n", "\\n").replace("\t", "\\t")
             found.append((codes.group(), f'"{shown}"' + (codes.group(2) or "")))
     return list(dict(found).items())

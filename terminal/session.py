@@ -82,6 +82,13 @@ class Session:
         """What is known by the replies and symptoms of this session, as statements of an oracle file."""
         return list(dict.fromkeys(self.kept + self.known))
 
+    def contradicted(self) -> List[str]:
+        """What was stated before, of which the last statement says the opposite."""
+        last = self.known[-1] if self.known else ""
+        other = {", yes).": ", no).", ", no).": ", yes)."}.get(last[last.rfind(", ") :], "")
+        opposite = last[: last.rfind(", ")] + other
+        return [it for it in self.kept + self.known[:-1] if it == opposite]
+
     def last_said(self) -> int:
         """The place among the lines of the last reply or symptom, or -1."""
         return max((at for at, it in enumerate(self.told) if it.kind in ("reply", "symptom")), default=-1)

@@ -45,7 +45,10 @@ class Talk:
     def tell(self, line: str) -> None:
         """Tells the program a line of the user's."""
         self.typed = line
+        known = len(self.session.known)
         self.session.tell(line)
+        if len(self.session.known) > known:
+            self.say(*(f"this contradicts what was said before: {it}" for it in self.session.contradicted()))
 
     def tell_as(self, line: str) -> None:
         """Tells a line that apdi made of the user's, and says so."""

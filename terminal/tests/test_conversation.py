@@ -45,7 +45,7 @@ class Conversations(unittest.TestCase):
         wrong, right = "insert(X, [Y|Ys], [Y|Zs]) :- insert", "insert(X, [Y|Ys], [Y|Zs]) :- Y < X, insert"
         file.write_text(file.read_text().replace(wrong, right))
         user.type("again")
-        user.converse("5 replies kept", "oracle: 5 statements", "answer 1: X = [1,2,3]", "apd> quit")
+        user.converse("5 statements kept", "oracle: 5 statements", "answer 1: X = [1,2,3]", "apd> quit")
         self.assertEqual(user.leave(), 0)
 
     def test_the_conversation_of_the_manual(self) -> None:
@@ -62,6 +62,13 @@ class Conversations(unittest.TestCase):
         user.converse("apd> ?- tree([2,1,3], T), numbers(T, Ns).", "apd> answer 1", "the query has 2 goals")
         user.converse("apd> goals", "goal 1, box 1: tree", "goal 2, box 15: numbers", "exit 1: numbers")
         user.converse("apd> answer 1 of goal 2", "wrong(15, 1).", "question 1: true? numbers(node(leaf,2,leaf),[2])")
+
+    def test_what_contradicts_is_told(self) -> None:
+        user = self.at_terminal("--answers", "1", str(BUGGY / "isort.pl"))
+        user.converse("apd> ?- isort([2,1,3], X)", "apd> answer 1.", "question 1", "reply> y", "question 2", "reply> y", "question 3")
+        user.converse("reply> stop", "apd> ?- isort([1,3], X)", "apd> answer 1", "symptom: not true: isort([1,3],[3,1])")
+        user.converse("% this contradicts what was said before: true(isort([1,3],[3,1]), yes).", "reply> stop")
+        user.converse("apd> why foo", "% the manual has nothing of foo", "apd> help.", "answer K of goal N", "apd> ")
 
     def test_a_reply_to_covers_by_an_answer_of_the_program(self) -> None:
         user = self.at_terminal(str(BUGGY / "family.pl"))

@@ -3,7 +3,7 @@
 
     bench/bounds.py [--only WORD] [PROGRAM [UNRECORDED]]
 
-PROGRAM is the proved program, which the launcher builds where none is named. UNRECORDED is one of the same sources whose
+PROGRAM is the proved program, which is built where none is named. UNRECORDED is one of the same sources whose
 runs leave no record (`run_query` of apd_query calls `show` in place of `run`); without it what a record costs isn't told.
 With `swipl` on the path some rows are beside SWI-Prolog's bare engine with the occurs check, which neither counts ports nor
 records them. A session that takes more than 20 seconds or 4 GB is cut off, and its row isn't met. With a word, only the
@@ -12,6 +12,7 @@ rows are measured that have it in their names. It ends with 1 where a row isn't 
 import os
 import re
 import shutil
+import signal
 import subprocess
 import sys
 import tempfile
@@ -71,9 +72,10 @@ class Cut(Exception):
 
 
 def memory(child):
-    """The bytes that a session has in memory; none where it has ended."""
+    """The bytes that the program has in memory which this child of ours runs; none where it has ended."""
     try:
-        return 4096 * int(Path(f"/proc/{child.pid}/statm").read_text().split()[1])
+        program = Path(f"/proc/{child.pid}/task/{child.pid}/children").read_text().split()[0]
+        return 4096 * int(Path(f"/proc/{program}/statm").read_text().split()[1])
     except (OSError, IndexError):
         return 0
 
@@ -96,33 +98,32 @@ class Bench:
         least = None
         file = self.file("program.pl", source)
         asked = self.file("input", "\n".join(lines) + "\n")
-        printed = os.path.join(self.folder, "printed")
+        printed, most = os.path.join(self.folder, "printed"), os.path.join(self.folder, "most")
         for _ in range(rounds):
             with open(asked) as heard, open(printed, "w") as out:
                 start = time.perf_counter()
-                child = subprocess.Popen([program or self.program, *words, file], stdin=heard, stdout=out,
-                                         stderr=subprocess.DEVNULL)
+                child = subprocess.Popen(["/usr/bin/time", "-f", "%M", "-o", most, program or self.program, *words, file],
+                                         stdin=heard, stdout=out, stderr=subprocess.DEVNULL, start_new_session=True)
                 try:
-                    took, peak = self.ended(child, start)
-                except Cut:
-                    child.kill()
-                    child.wait()
-                    raise
+                    took = self.ended(child, start)
+                finally:
+                    if child.poll() is None:
+                        os.killpg(child.pid, signal.SIGKILL)
+                        child.wait()
             least = took if least is None else min(least, took)
             if took > LONGEST / 4:
                 break
-        return least, peak, Path(printed).read_text()
+        return least, int(Path(most).read_text()), Path(printed).read_text()
 
     def ended(self, child, start):
-        """The seconds of a session and its peak memory, once it has ended."""
+        """The seconds of a session, once it has ended."""
         while True:
-            number, status, used = os.wait4(child.pid, os.WNOHANG)
+            status = child.poll()
             took = time.perf_counter() - start
-            if number:
-                child.returncode = status
+            if status is not None:
                 if status:
                     raise Cut
-                return took, used.ru_maxrss
+                return took
             if took > LONGEST or memory(child) > MOST_MEMORY:
                 raise Cut
             time.sleep(0.0005)
@@ -338,7 +339,7 @@ def tables(bench):
         replies = bench.file("replies.pl", "\n".join(statements) + "\n")
         source = "p(0).\np(N) :- N > 0, M is N - 1, q(N, M), p(M).\nq(_, _).\n"
         words = ["--strategy", "top", "--answers", "1", "--oracle", replies]
-        return [bench.session(source, ["?- p(500).", "wrong(1,1)."], words)[0]]
+        return [bench.session(source, ["?- p(500).", "wrong(1,1)."] + ["no."] * 500, words)[0]]
 
     bench.measured([("500 look-ups among 20,000 statements with variables", "s", 1)], known)
 
@@ -389,7 +390,8 @@ def main():
     if words[:1] == ["--only"]:
         only, words = words[1], words[2:]
     if not words:
-        subprocess.run([TOP / "apd", TOP / "examples" / "facts.pl"], stdin=subprocess.DEVNULL, stdout=subprocess.DEVNULL)
+        if subprocess.run([TOP / ".ci" / "build"]).returncode:
+            sys.exit(1)
         words = [str(TOP / "crates" / "apd" / "out" / "apd")]
     with tempfile.TemporaryDirectory() as folder:
         bench = Bench(folder, words[0], words[1] if len(words) > 1 else None, only)

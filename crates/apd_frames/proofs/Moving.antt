@@ -28,6 +28,7 @@ use Rattle.apd_frames.specs.Kept.{Kept, HasEntered, Enters}
 use Rattle.apd_frames.specs.Solves.{solution_as, Settles}
 use Rattle.apd_frames.specs.Linked.{frames_at, oldest, saved_of, entered_link, handed_link, IsFramed, IsGoalAt, IsBranchAt}
 use Rattle.apd_frames.proofs.Linking.{frames_newest, frames_below, tuple_of, with_tuple}
+use Rattle.apd_ports.specs.declared.point.TheConstants.{BUILTIN}
 use Rattle.apd_frames.proofs.Branching.{framed_kept, framed_link, framed_there, saved-branch, framed_branch, saved-link, saved-kept, saved-forgotten, marked-forgotten}
 use Rattle.apd_frames.proofs.Instancing.{loaded_free}
 use Rattle.apd_frames.proofs.Current.{view_of, IsInnermost, front_applied}
@@ -100,13 +101,13 @@ module _ (s : Stored) (links : List Link) (k : ℕ) (bs : List Branch) (now : Ke
     pub solves_without : (r : Solved) (G : List Frame) → r ≢ Entered → Settles r s s' (term_at s goal.0) → AreAlike (solution now.current g m) (solution_as r G)
     solves_without r G n a = subst (λ (x : Kept). AreAlike (solution x.current g m) (solution_as r G)) view (solves_other (frames_at s links k) g m (term_at s goal.0) (h.1 s) r s s' G n a)
 
-    pub solves_with : (i : Instance) (links' : List Link) (n : ℕ) → i ≡ record { head = goal; goals = [] } → links' ≡ entered_link g 4294967295 i m k ∷ links → n ≡ length links + 1
+    pub solves_with : (i : Instance) (links' : List Link) (n : ℕ) → i ≡ record { head = goal; goals = [] } → links' ≡ entered_link g BUILTIN i m k ∷ links → n ≡ length links + 1
         → Settles Entered s s' (term_at s goal.0) → AreAlike (solution now.current g m) (solution_as Entered (frames_at s' links' n))
     solves_with i links' n ie le ne a =
         let t : Tuple = record { head = term_at s goal.0; body = [] } in
         let there : (u : ℕ → Term) → ((d : ℕ) → d < length s.cells → term_at s' d ≡ apply u (term_at s d)) → frames_at s' links' n ≡ apply_frames u (built g (term_at s goal.0) m ∷ frames_at s links k) =
         λ u made.
-        rw (le, ne) (front_applied u s s' links g 4294967295 m k i t made f.placed
+        rw (le, ne) (front_applied u s s' links g BUILTIN m k i t made f.placed
         (ap (tuple_in s') ie ∙ ap (λ x. tuple_of x []) (made goal.0 (h.0 (length s.cells) f.placed)))) in
         subst (λ (x : Kept). AreAlike (solution x.current g m) (solution_as Entered (frames_at s' links' n))) view
         (solves_entered (frames_at s links k) g m (term_at s goal.0) (h.1 s) s s' (frames_at s' links' n) there a)
@@ -120,10 +121,10 @@ module _ (s : Stored) (links : List Link) (k : ℕ) (bs : List Branch) (now : Ke
       saved-link s' l links bs (framed_kept s s' links k bs kept more f).marked ∙ saved-kept s s' links bs kept f.marked ∙ ap (λ (x : Kept). x.saved) view
 
   pub solved_framed : (goal : Cell) → IsGoalAt links k (Some goal) → (s' : Stored) (l : Link) (gs : List Cell) (links' : List Link) (n : ℕ) → Keeps s s' → length s.cells ≤ length s'.cells → gs ≡ []
-      → l ≡ entered_link g 4294967295 (record { head = goal; goals = gs }) m k → links' ≡ l ∷ links → n ≡ length links + 1 → IsFramed s' links' n bs
+      → l ≡ entered_link g BUILTIN (record { head = goal; goals = gs }) m k → links' ≡ l ∷ links → n ≡ length links + 1 → IsFramed s' links' n bs
   solved_framed goal h s' l gs links' n kept more none is le ne =
       let inside : goal.0 < length s.cells = h.0 (length s.cells) f.placed in
-      rw (le, is, none) (pushed_framed s' (entered_link g 4294967295 (record { head = goal; goals = [] }) m k) n kept more (record { head = omega arith; goals = tt }) f.within ne)
+      rw (le, is, none) (pushed_framed s' (entered_link g BUILTIN (record { head = goal; goals = [] }) m k) n kept more (record { head = omega arith; goals = tt }) f.within ne)
 
 -- the innermost link gives way to one that is handed an exit, or to the one around it
 pub takes_over : (s : Stored) (links : List Link) (k : ℕ) (bs : List Branch) (now : Kept) (l : Link) (m n : ℕ) (links' : List Link) → view_of s links k bs ≡ now → IsFramed s links k bs → IsInnermost s links l now

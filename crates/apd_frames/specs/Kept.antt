@@ -5,7 +5,9 @@ use Rattle.apd_term.specs.Term.{IsAmong}
 use Rattle.apd_frames.specs.Codes.{frame_code}
 use Rattle.apd_term.specs.Tuple.{variables_of_tuple}
 use Rattle.apd_term.specs.declared.tuple.Tuple.{Tuple}
-use Rattle.apd_trace.specs.Frames.{is_large, left, look_of, point_at}
+use Rattle.apd_term.specs.declared.term.Sym.{Sym}
+use Rattle.apd_unify.specs.First.{AreClashing, key_of}
+use Rattle.apd_trace.specs.Frames.{entering, is_large, left, look_of, point_at}
 use Rattle.apd_trace.specs.declared.frame.Look.{Look}
 use Rattle.apd_trace.specs.declared.frame.Look.TheVariants.{Nothing, Goal, Exit as Exits, Answer as Answers}
 use Rattle.apd_trace.specs.declared.frame.Frame.{Frame}
@@ -43,6 +45,11 @@ pub record HasEntered (entered : Option (List Frame)) (old new : Kept) : Type 0 
 abbrev pub Enters : Option (List Frame) → Bool → Kept → Kept → Type 0
 Enters entered true old new = HasEntered entered old new
 Enters entered false old new = (entered ≡ None) × (new ≡ old)
+
+-- no clause is entered whose first argument begins otherwise than the key says
+abbrev pub IsKey : Sym → List Frame → Type 0
+IsKey key F =
+    (g : Called) (r : Tuple) (c m : ℕ) → AreClashing key (key_of r.head) → entering F g r c m ≡ None
 
 -- whether the innermost frame's instance is too large
 abbrev pub is_large_of : List Frame → Bool

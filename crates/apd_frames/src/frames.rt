@@ -9,7 +9,7 @@ ghost use Rattle.apd_clauses.specs.Clauses.{IsRunnable};
 ghost use Rattle.apd_trace.specs.Frames.{entering, look_of, handed_all, outer, query_frame};
 ghost use Rattle.apd_trace.specs.BuiltIn.{solution};
 ghost use Rattle.apd_trace.specs.Renaming.{AreAlike};
-ghost use Rattle.apd_frames.specs.Kept.{Calls, Enters, IsIn, MayCall, Takes, Points, ahead_of, exit_in, fits, newest_of};
+ghost use Rattle.apd_frames.specs.Kept.{Calls, Enters, IsIn, IsKey, MayCall, Takes, Points, ahead_of, exit_in, fits, newest_of};
 ghost use Rattle.apd_trace.specs.declared.frame.Called.{Called};
 ghost use Rattle.apd_term.specs.Term.{predicate_of};
 ghost use Rattle.apd_frames.specs.Links.{link_of, instance_of};
@@ -22,17 +22,15 @@ use crate::instance::{canonical_within, instantiate, is_within, keep_sizes, load
 use crate::links::{Branch, LinkRef, Links};
 use crate::reading::{ahead, goal_depth, left, look, next_goal};
 use crate::settling::{predicate_at, settle};
+use apd_ports::BUILTIN;
 use apd_term::tuple::canonical_tuple;
-use apd_term::{Pred, Tuple};
+use apd_term::{Pred, Sym, Tuple};
 use apd_trace::{Called, Look, Point, Step};
 use apd_unify::scratch::Scratch;
 use apd_unify::stack::Stack;
 use apd_unify::store::{Cell, Store};
 use std::alloc::{AllocError, Global};
 use std::marker::Model;
-
-/// The clause of a built-in goal's frame.
-const BUILTIN: u32 = 4294967295;
 
 /// The frames: links over a store, and the branches that a search may come back to.
 #[derive(Drop)]
@@ -99,7 +97,11 @@ impl Frames {
     /// The frame of a query.
     pub fn open(alloc: Global, query: &Tuple) -> Result<Frames, AllocError>
         requires { IsRunnable query.now }
-        ensures { IfOk result (λ f. f ≡ record { current = query_frame (canonical_tuple query.now) ∷ []; saved = [] }) }
+        ensures { IfOk result (λ f. f ≡ record {
+          current = query_frame
+              (canonical_tuple query.now) ∷ [];
+          saved = [];
+        }) }
     {
         let tuple = canonical_tuple(alloc, query)?;
         let mut store = Store::new(alloc);
@@ -220,6 +222,17 @@ impl Frames {
         predicate_at(&self.store, goal)
     }
 
+    /// What the first argument of the innermost frame's next goal begins with; a variable where
+    /// nothing is known of it.
+    pub fn key(&self) -> Sym
+        ensures { IsKey result self.now.current }
+    {
+        match next_goal(&self.links, self.innermost) {
+            Some(goal) => self.store.key(goal),
+            None => Sym::Var(0),
+        }
+    }
+
     /// Keeps the sizes of long terms in the innermost frame's instance, for [`Frames::fits`] to know.
     fn keep_sizes(&mut self) -> Result<(), AllocError>
         ensures { self.new ≡ self.old }
@@ -241,7 +254,8 @@ impl Frames {
     ) -> Result<bool, AllocError>
         requires deep { MayCall self.old.current }
         requires runnable { IsRunnable rule.now }
-        ensures { IfOk result (λ b. (g : Called) → Calls self.old.current box_no g → Enters (entering self.old.current g rule.now clause point) b self.old self.new) }
+        ensures { IfOk result (λ b. (g : Called) → Calls self.old.current box_no g →
+            Enters (entering self.old.current g rule.now clause point) b self.old self.new) }
     {
         let Some(goal) = next_goal(&self.links, self.innermost) else {
             return Ok(false);
@@ -265,7 +279,8 @@ impl Frames {
     /// Solves the innermost frame's next goal, called in this box, if it is built in.
     pub fn solve(&mut self, alloc: Global, box_no: u32, point: u32) -> Result<Solved, AllocError>
         requires { MayCall self.old.current }
-        ensures alike { IfOk result (λ r. (g : Called) → Calls self.old.current box_no g → AreAlike (solution self.old.current g point) (solution_as r self.new.current)) }
+        ensures alike { IfOk result (λ r. (g : Called) → Calls self.old.current box_no g →
+            AreAlike (solution self.old.current g point) (solution_as r self.new.current)) }
         ensures kept { IfOk result (λ r. Keeps r self.old self.new) }
     {
         let Some(goal) = next_goal(&self.links, self.innermost) else {
@@ -295,7 +310,10 @@ impl Frames {
     /// The innermost frame takes over an exit.
     pub fn take_over(&mut self, point: u32) -> Result<(), AllocError>
         requires { Takes self.old.current }
-        ensures { OnOk result (self.new ≡ record { current = handed_all self.old.current point; saved = self.old.saved }) }
+        ensures { OnOk result (self.new ≡ record {
+          current = handed_all self.old.current point;
+          saved = self.old.saved;
+        }) }
     {
         let Some(number) = self.links.push_handed(self.innermost, point)? else {
             return Ok(());
@@ -307,7 +325,10 @@ impl Frames {
 
     /// Saves the frames for a choice.
     pub fn save(&mut self) -> Result<(), AllocError>
-        ensures { OnOk result (self.new ≡ record { current = self.old.current; saved = self.old.current ∷ self.old.saved }) }
+        ensures { OnOk result (self.new ≡ record {
+          current = self.old.current;
+          saved = self.old.current ∷ self.old.saved;
+        }) }
     {
         let branch = here(&self.store, &self.links, self.innermost);
         self.branches.push(branch)?;

@@ -43,7 +43,8 @@ pub fn next_goal(links: &Links, number: usize) -> Option<Cell>
 /// How deep the next goal of the link with this number is called.
 pub fn goal_depth(links: &Links, number: usize) -> u32
     requires { (s : Stored) → MayCall (frames_at s links.now number) }
-    ensures { (s : Stored) (n : ℕ) (g : Called) → Calls (frames_at s links.now number) n g → IsIn n result g }
+    ensures { (s : Stored) (n : ℕ) (g : Called) → Calls (frames_at s links.now number) n g →
+        IsIn n result g }
 {
     match links.get(number) {
         None => 0,

@@ -212,7 +212,8 @@ impl Heap {
     /// Whether no binding leads to a term that has arguments: then a term has as many symbols as are written of it. False
     /// says nothing.
     pub fn is_flat(&self) -> bool
-        ensures { OnTrue result ((c : ℕ) → size (term_at self.now c) ≡ size (written self.now.cells c)) }
+        ensures { OnTrue result ((c : ℕ) → size (term_at self.now c) ≡
+            size (written self.now.cells c)) }
     {
         if self.compounds > 0 {
             return false;

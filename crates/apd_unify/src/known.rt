@@ -57,7 +57,8 @@ pub fn known_at(known: &Stack<Known>, place: usize, cell: usize) -> Option<Exten
 
 /// Forgets what was found since the trail had so many notes.
 pub fn forget_since(known: &mut Stack<Known>, notes: usize)
-    ensures { (s : Stored) (n a : ℕ) → AreKnown s n a known.old → AreKnown s (notes - 1) a known.new }
+    ensures { (s : Stored) (n a : ℕ) → AreKnown s n a known.old →
+        AreKnown s (notes - 1) a known.new }
 {
     'known: while let Some(newest) = known.top() {
         if newest.since < notes {
@@ -82,7 +83,8 @@ pub fn forget_above(known: &mut Stack<Known>, v: u64)
 /// A number that is no less than this one, and above the variables of all that is known.
 pub fn above_all(known: &Stack<Known>, above: u64) -> u64
     ensures more { above ≤ result }
-    ensures all { (s : Stored) (n a : ℕ) → AreKnown s n a known.now → AreKnown s n result known.now }
+    ensures all { (s : Stored) (n a : ℕ) → AreKnown s n a known.now →
+        AreKnown s n result known.now }
 {
     match known.top() {
         None => above,

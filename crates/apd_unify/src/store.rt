@@ -5,7 +5,7 @@ ghost use Rattle.std.specs.Bool.{OnTrue};
 ghost use Rattle.apd_term.specs.Term.{arguments, Occurs, size};
 ghost use Rattle.apd_term.specs.Canonical.{shifted};
 ghost use Rattle.apd_unify.specs.Arguments.{HasOne, HasTwo};
-ghost use Rattle.apd_unify.specs.First.{AreApart};
+ghost use Rattle.apd_unify.specs.First.{AreApart, key_of};
 ghost use Rattle.apd_unify.specs.Numbered.{IsNumbered};
 ghost use Rattle.apd_unify.specs.Ordered.{Numbers};
 ghost use Rattle.apd_unify.specs.Step.{first_symbol};
@@ -122,6 +122,14 @@ impl Store {
         ensures { OnTrue result (AreApart (term_at self.now cell.0) other.now) }
     {
         are_clashing(key_at(&self.heap, cell.0), key_of(other))
+    }
+
+    /// What the first argument of the term at a cell begins with; a variable where it has none.
+    pub fn key(&self, cell: Cell) -> Sym
+        requires { cell.0 < length self.now.cells }
+        ensures { result ≡ key_of (term_at self.now cell.0) }
+    {
+        key_at(&self.heap, cell.0)
     }
 
     /// The first symbol of the term at a cell.

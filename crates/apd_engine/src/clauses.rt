@@ -4,11 +4,11 @@ ghost use Rattle.std.specs.Prelude.{◌≡◌, ◌<◌, ◌≤◌, length, IfOk}
 ghost use Rattle.apd_clauses.specs.Clauses.{IsProgram, tuples_of};
 ghost use Rattle.apd_trace.specs.declared.frame.Called.{Called};
 ghost use Rattle.apd_frames.specs.Kept.{Calls, MayCall};
-ghost use Rattle.apd_engine.specs.Search.{AreFor, Found, OfGoal, Skips, numbers_by};
+ghost use Rattle.apd_engine.specs.Search.{AreFor, Found, OfGoal, PassesBy, Skips, numbers_by};
 
 use apd_clauses::Program;
 use apd_frames::frames::Frames;
-use apd_term::Pred;
+use apd_term::{Pred, Sym};
 use std::alloc::{AllocError, Global};
 
 /// The numbers of the clauses of a predicate.
@@ -18,6 +18,18 @@ pub fn numbers(program: &Program, pred: Option<Pred>) -> &[u32]
     match pred {
         Some(pred) => program.clauses_of(pred),
         None => &[],
+    }
+}
+
+/// The place of the first of a predicate's clauses, from this one on, that isn't known to begin
+/// otherwise than the key says.
+fn next(program: &Program, pred: Option<Pred>, key: Sym, from: usize) -> usize
+    ensures forward { from ≤ result }
+    ensures passes { PassesBy program.now pred key from result }
+{
+    match pred {
+        Some(pred) => program.next_place(pred, key, from),
+        None => from,
     }
 }
 
@@ -42,13 +54,14 @@ pub fn find(
         (λ g. Found (tuples_of program.now) g point at frames.old frames.new)) }
     ensures kept { IfOk result (λ at. length numbers.now ≤ at → frames.new ≡ frames.old) }
 {
-    let mut at = from;
+    let (pred, key) = (frames.predicate(), frames.key());
+    let mut at = next(program, pred, key, from);
     'clauses: while at < numbers.len() {
         let clause = program.clause(numbers[at]);
         if frames.enter(alloc, box_no, numbers[at], &clause.tuple, point)? {
             return Ok(at);
         }
-        at += 1;
+        at = next(program, pred, key, at + 1);
     }
     Ok(at)
 }

@@ -50,7 +50,8 @@ pub fn compare(
     left: &Flat,
     right: &Flat,
 ) -> Result<bool, ArithFault>
-    ensures { result ≢ Err ArithFault.Memory → result ≡ compared comparison (value left.now) (value right.now) }
+    ensures { result ≢ Err ArithFault.Memory →
+        result ≡ compared comparison (value left.now) (value right.now) }
 {
     let x = eval(alloc, left)?;
     let y = eval(alloc, right)?;

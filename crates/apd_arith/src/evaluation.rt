@@ -60,7 +60,8 @@ fn applied(values: &mut Vec<Value>, name: NameId, arity: u8) -> Value
 /// Puts the value of the term that begins with a symbol on the stack, in place of those of its arguments.
 fn put(values: &mut Vec<Value>, symbol: Sym) -> Result<(), AllocError>
     requires { arity_of symbol ≤ vec_len values.old }
-    ensures { OnOk result (reverse values.new.items ≡ with_symbol symbol (reverse values.old.items)) }
+    ensures { OnOk result (reverse values.new.items ≡
+        with_symbol symbol (reverse values.old.items)) }
 {
     let value = match symbol {
         Sym::Var(_) => Err(ArithFault::Unbound),

@@ -28,6 +28,7 @@ pub fn values_want_no_memory()
 
 /// The evaluation of a goal has at most one fault, and none where the goal is true.
 pub fn one_fault()
-    ensures one { (t : Term) (fault other : ArithFault) → FaultsWith t fault → FaultsWith t other → fault ≡ other }
+    ensures one { (t : Term) (fault other : ArithFault) → FaultsWith t fault → FaultsWith t other →
+        fault ≡ other }
     ensures none { (t : Term) (fault : ArithFault) → IsTrueAtom t → ¬ FaultsWith t fault }
 {}

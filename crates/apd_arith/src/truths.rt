@@ -21,7 +21,8 @@ fn is_integer(term: &Flat, value: i64) -> bool
 
 /// Whether a term is the integer that an expression gives, or the expression's first fault.
 fn is_value(alloc: Global, term: &Flat, expr: &Flat) -> Result<bool, ArithFault>
-    ensures { result ≢ Err ArithFault.Memory → IsFound Builtin.Is (term.now ∷ expr.now ∷ []) result }
+    ensures { result ≢ Err ArithFault.Memory →
+        IsFound Builtin.Is (term.now ∷ expr.now ∷ []) result }
 {
     let value = eval(alloc, expr)?;
     Ok(is_integer(term, value))
@@ -61,7 +62,8 @@ pub fn truth(alloc: Global, atom: &Flat) -> Result<Option<bool>, AllocError>
     requires variable_free { IsGround atom.now }
     requires builtin { IsBuiltin atom.now }
     ensures none { IfOk result (λ found. IsNone found ↔ Faults atom.now) }
-    ensures some { IfOk result (λ found. IfSome found (λ holds. IsTrue holds ↔ IsTrueAtom atom.now)) }
+    ensures some { IfOk result (λ found. IfSome found
+        (λ holds. IsTrue holds ↔ IsTrueAtom atom.now)) }
 {
     match Builtin::of_atom(atom) {
         None | Some(Builtin::Fail) => Ok(Some(false)),

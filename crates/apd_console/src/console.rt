@@ -80,7 +80,8 @@ impl Console {
         ensures line { MatchResult result
             (λ line. HearsLine self.old self.new (S.left source.old) (S.left source.new) line)
             (λ end. HearsEnd self.old self.new (S.left source.old) (S.left source.new) end) }
-        ensures waits { HasNewline self.old.kept → (source.new ≡ source.old) × (self.new.taken ≡ self.old.taken) }
+        ensures waits { HasNewline self.old.kept →
+            (source.new ≡ source.old) × (self.new.taken ≡ self.old.taken) }
         ensures sound { IsKept self.new }
         ensures cause { Counts is_read_fault (S.faults source.old) (S.faults source.new) result }
     {
@@ -128,7 +129,8 @@ impl Console {
     fn more<S: Source>(&mut self, source: &mut S) -> Result<bool, LineEnd>
         ensures hands { Hands self.old self.new (S.left source.old) (S.left source.new) [] }
         ensures some { result ≡ Ok true → 0 < length self.new.kept }
-        ensures waits { 0 < length self.old.kept → (source.new ≡ source.old) × (self.new ≡ self.old) }
+        ensures waits { 0 < length self.old.kept →
+            (source.new ≡ source.old) × (self.new ≡ self.old) }
         ensures over { result ≡ Ok false → (self.new.ended ≡ true) × (self.new.kept ≡ []) }
         ensures none { OnErr result (self.new.kept ≡ []) }
         ensures limit { IsErrOf result LineEnd.InputLimit → self.new.taken ≡ MAX_INPUT }
@@ -207,7 +209,8 @@ impl Console {
 
     // Moves the kept bytes to a draft, up to a newline where there is one, which is answered.
     fn take_part(&mut self, draft: &mut Draft) -> Result<bool, AllocError>
-        ensures part { MatchResult result (TakesPart self.old self.new draft.old draft.new) (λ _. self.new ≡ self.old) }
+        ensures part { MatchResult result (TakesPart self.old self.new draft.old draft.new)
+            (λ _. self.new ≡ self.old) }
         ensures sound { IsKept self.new }
     {
         let kept = self.kept();
@@ -245,7 +248,8 @@ fn read_some<S: Source>(source: &mut S, chunk: &mut [u8], want: usize) -> Result
     requires room { want ≤ length chunk.old }
     ensures len { length chunk.new ≡ length chunk.old }
     ensures bound { IfOk result (λ n. n ≤ want) }
-    ensures bytes { IfOk result (λ n. Takes (S.left source.old) (S.left source.new) (take n chunk.new)) }
+    ensures bytes { IfOk result (λ n. Takes (S.left source.old) (S.left source.new)
+        (take n chunk.new)) }
     ensures end { IfOk result (λ n. n ≡ 0 → IsOver (S.left source.old)) }
     ensures kept { OnErr result (S.left source.new ≡ S.left source.old) }
     ensures cause { Counts (λ _. true) (S.faults source.old) (S.faults source.new) result }

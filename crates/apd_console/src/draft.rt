@@ -31,7 +31,8 @@ impl Draft {
 
     /// Adds bytes.
     pub fn extend(&mut self, piece: &[u8]) -> Result<(), AllocError>
-        ensures { OnOk result ((raw : List ℕ) → Drafts self.old.text self.old.long raw → Drafts self.new.text self.new.long (raw ++ piece.now)) }
+        ensures { OnOk result ((raw : List ℕ) → Drafts self.old.text self.old.long raw →
+            Drafts self.new.text self.new.long (raw ++ piece.now)) }
     {
         if self.long {
             return Ok(());
@@ -45,8 +46,10 @@ impl Draft {
 
     /// Has the line a byte?
     pub fn is_begun(&self) -> bool
-        ensures begun { result ≡ true → (raw : List ℕ) → Drafts self.now.text self.now.long raw → 0 < length raw }
-        ensures none { result ≡ false → (raw : List ℕ) → Drafts self.now.text self.now.long raw → raw ≡ [] }
+        ensures begun { result ≡ true → (raw : List ℕ) → Drafts self.now.text self.now.long raw →
+            0 < length raw }
+        ensures none { result ≡ false → (raw : List ℕ) → Drafts self.now.text self.now.long raw →
+            raw ≡ [] }
     {
         self.long || self.text.len() > 0
     }

@@ -1,13 +1,15 @@
 -- The first suspect that has such a label, by its place.
-use Rattle.std.proofs.Common.{◌≡◌, ℕ, suc, ◌+◌, ◌-◌, Bool, true, false, List, [], ◌∷◌, ◌++◌, get_or, Option, Some, None, refl, sym, ◌∙◌, ap, subst, arith}
+use Rattle.std.proofs.Common.{◌≡◌, ℕ, suc, ◌+◌, ◌-◌, Bool, true, false, List, [], ◌∷◌, ◌++◌, get_or, length, Option, Some, None, refl, sym, ◌∙◌, ap, subst, arith}
 use Rattle.std.specs.Prelude.{IsSome}
 use Rattle.std.specs.Option.{option_map}
 use Rattle.apd_term.specs.Term.{Term}
+use Rattle.apd_term.specs.declared.term.Pred.{Pred}
+use Rattle.apd_divide.specs.declared.node.Standing.TheVariants.{Open, Cleared, Doubted}
 use Rattle.apd_divide.specs.declared.node.Row.{Row}
 use Rattle.apd_term.specs.declared.instance.Instance.{Instance}
-use Rattle.apd_divide.specs.Tree.{Tree, node, children, clause_at, instance, doubts_of, candidates}
-use Rattle.apd_divide.specs.Choice.{Cut, Way, cut, to_such, first_such, IsChoiceAt}
-use Rattle.apd_divide.specs.Rows.{rows_of, cut_number, way_number, number_among}
+use Rattle.apd_divide.specs.Tree.{Tree, Forest, node, bare, beside, children, clause_at, instance, doubts_of, candidates}
+use Rattle.apd_divide.specs.Choice.{Cut, Way, cut, to_such, first_such, has_such, have_such, is_listed, IsChoiceAt}
+use Rattle.apd_divide.specs.Rows.{nodes, rows_of, cut_number, way_number, number_among}
 use Rattle.apd_divide.specs.Kept.{Kept, IsKept, tree_of, cut_of, forest_from}
 use Rattle.apd_divide.proofs.Weights.{such-suspects}
 use Rattle.apd_divide.proofs.Numbers.{way_number-is, is_less}
@@ -60,3 +62,26 @@ candidates_are k r i part first made out kept is c t trees none one more =
     instance_is i (clause_at x) (instance x) (c ∙ ap (λ (q : Row). q.clause) own ∙ own-clause x) (t ∙ ap (λ (q : Row). q.tuple) own ∙ own-instance x) in
     let m : made ≡ i ∷ [] = one ∙ ap (λ z. z ++ i ∷ []) none in
     more ∙ ap (λ z. z ++ doubts_of (forest_from part)) m ∙ ap (λ ts. i ∷ doubts_of ts) (forest-of part (children x) trees) ∙ ap (λ j. j ∷ doubts_of (children x)) same
+
+-- Where nothing is listed, no suspect is.
+nothing_listed : (ps : List Pred) → length ps ≡ 0 → (t : Term) → is_listed ps t ≡ false
+nothing_listed [] e t = refl
+nothing_listed (p ∷ ps) e t = absurd (omega (arith, e))
+
+module _ (such : Term → Bool) (none : (t : Term) → such t ≡ false) where
+  mutual
+    has_none_such : (x : Tree) → has_such such x ≡ false
+    has_none_such (node Open c t ts) = rw (none t.head, have_none_such ts) refl
+    has_none_such (node Cleared c t ts) = refl
+    has_none_such (node Doubted c t ts) = have_none_such ts
+
+    have_none_such : (xs : Forest) → have_such such xs ≡ false
+    have_none_such bare = refl
+    have_none_such (beside x xs) = rw (has_none_such x, have_none_such xs) refl
+
+  none_among : (xs : Forest) → number_among (to_such such) xs ≡ None
+  none_among bare = refl
+  none_among (beside x xs) = rw (has_none_such x) (ap (option_map (λ j. nodes x + j)) (none_among xs))
+
+pub none_listed : (ps : List Pred) (xs : Forest) → length ps ≡ 0 → number_among (to_such (is_listed ps)) xs ≡ None
+none_listed ps xs e = none_among (is_listed ps) (nothing_listed ps e) xs

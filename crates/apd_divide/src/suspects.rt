@@ -5,7 +5,7 @@ ghost use Rattle.apd_divide.specs.declared.node.Row.{Row};
 ghost use Rattle.apd_divide.specs.declared.node.Strategy.TheVariants.{Divide};
 ghost use Rattle.apd_divide.specs.Tree.{label, children, suspects, clause_at, instance, branching, lost_by, candidates, doubts_of};
 ghost use Rattle.apd_divide.specs.Choice.{judged, standing_for, first_such, is_listed, IsChoiceAt};
-ghost use Rattle.apd_divide.specs.Kept.{Kept, kept_at, IsKept, tree_of, cut_of, replaced, IsChosen, LeavesFraction, forest_from};
+ghost use Rattle.apd_divide.specs.Kept.{Kept, kept_at, IsKept, tree_of, cut_of, replaced, IsChosen, LeavesFraction, TakesItsShare, forest_from};
 ghost use Rattle.apd_divide.specs.Rows.{broadest, rows_of};
 ghost use Rattle.apd_divide.specs.Recorded.{tree};
 ghost use Rattle.apd_divide.specs.Exits.{IsLabelled};
@@ -58,7 +58,8 @@ fn mark(rows: &mut [Row], root: usize, node: usize, standing: Standing)
     requires kept { IsKept (kept_at rows.old root) }
     requires suspect { IsSome (cut_of (kept_at rows.old root) node) }
     requires there { node < length rows.old }
-    ensures { let k = kept_at rows.old root in IfSome (cut_of k node) (λ c. rows.new ≡ replaced k (c.rest standing)) }
+    ensures { let k = kept_at rows.old root in
+        IfSome (cut_of k node) (λ c. rows.new ≡ replaced k (c.rest standing)) }
 {
     let lost = lost_by(standing, rows[node].weight);
     let mut at = root;
@@ -140,7 +141,8 @@ impl Suspects {
     ) -> Result<Suspects, AllocError>
         requires { IsLabelled recorded.now exit.0 label.now }
         ensures tree { IfOk result (λ s. tree_of s ≡ tree recorded.now exit.0 label.now) }
-        ensures branching { IfOk result (λ s. broadest s.rows ≡ branching (tree recorded.now exit.0 label.now)) }
+        ensures branching { IfOk result (λ s. broadest s.rows ≡
+            branching (tree recorded.now exit.0 label.now)) }
     {
         recorded.is_kept();
         let mut rows = grown(alloc, recorded, exit, label)?;
@@ -165,7 +167,8 @@ impl Suspects {
     /// The label of a node of the built tree.
     pub fn label(&self, node: NodeId) -> &Flat
         requires { node.0 < length self.now.rows }
-        ensures row { IfSome (slice_get self.now.rows node.0) (λ (r : Row). result.now ≡ r.tuple.head) }
+        ensures row { IfSome (slice_get self.now.rows node.0)
+            (λ (r : Row). result.now ≡ r.tuple.head) }
         ensures suspect { IfSome (cut_of self.now node.0) (λ c. result.now ≡ label c.chosen) }
     {
         self.rows[node.0 as usize].tuple.head()
@@ -186,14 +189,17 @@ impl Suspects {
         broadest(self.rows.as_slice())
     }
 
-    /// The node to ask about; none exactly where no suspect is left. Under `Divide` yes and no each leave at most
-    /// (2b - 1) / (2b) of the suspects, where no live node is judged unknown and no node of the built tree has more than b
-    /// nodes right below it.
+    /// The node to ask about; none exactly where no suspect is left. Under `Divide` its weight is at most
+    /// half of the suspects and at least one in b of the half, so yes and no each leave at most (2b - 1) / (2b) of them, where
+    /// no live node is judged unknown and no node of the built tree has more than b nodes right below it.
     pub fn choose(&self, strategy: Strategy) -> Option<NodeId>
         ensures none { (result ≡ None) ↔ (suspects (tree_of self.now) ≡ 0) }
         ensures choice { IfSome result (λ n. IsChosen strategy self.now n.0) }
         ensures there { IfSome result (λ n. n.0 < length self.now.rows) }
-        ensures fraction { strategy ≡ Divide → IfSome result (λ n. IfSome (cut_of self.now n.0) (LeavesFraction self.now)) }
+        ensures share { strategy ≡ Divide →
+            IfSome result (λ n. IfSome (cut_of self.now n.0) (TakesItsShare self.now)) }
+        ensures fraction { strategy ≡ Divide →
+            IfSome result (λ n. IfSome (cut_of self.now n.0) (LeavesFraction self.now)) }
     {
         let suspects = self.count();
         if suspects == 0 {
@@ -245,8 +251,10 @@ impl Suspects {
     /// The first suspect of one of these predicates, in the order in which a node comes before those below it; none exactly where
     /// there is none.
     pub fn next_of(&self, preds: &Preds) -> Option<NodeId>
-        ensures none { (result ≡ None) ↔ (first_such (is_listed preds.now) (tree_of self.now) ≡ None) }
-        ensures some { IfSome result (λ n. IsChoiceAt (first_such (is_listed preds.now) (tree_of self.now)) (cut_of self.now n.0)) }
+        ensures none { (result ≡ None) ↔ (first_such (is_listed preds.now) (tree_of self.now) ≡
+            None) }
+        ensures some { IfSome result (λ n. IsChoiceAt
+            (first_such (is_listed preds.now) (tree_of self.now)) (cut_of self.now n.0)) }
     {
         let Some(place) = first_listed(self.below(), preds) else {
             return None;

@@ -136,7 +136,8 @@ fn next_new(
 
 /// As many marks as there are pairs, none set.
 fn no_marks(alloc: Global, count: usize) -> Result<Vec<bool>, AllocError>
-    ensures { IfOk result (λ marks. (length marks.items ≡ count) × ((i : ℕ) → ¬ (slice_get marks.items i ≡ Some true))) }
+    ensures { IfOk result (λ marks. (length marks.items ≡ count) ×
+        ((i : ℕ) → ¬ (slice_get marks.items i ≡ Some true))) }
 {
     let mut marks = Vec::new(alloc);
     'marks: for _i in 0..count {

@@ -61,7 +61,8 @@ fn is_call_of(alloc: Global, record: &Record, box_no: u32, atom: &Flat) -> Resul
 
 /// Whether the call is as the finding says.
 fn is_call(alloc: Global, record: &Record, called: &Called<'_>) -> Result<bool, AllocError>
-    ensures call { IfOk result (λ b. b ≡ is_call record.now called.now.clause called.now.goal called.now.caller
+    ensures call { IfOk result
+        (λ b. b ≡ is_call record.now called.now.clause called.now.goal called.now.caller
         called.now.callee called.now.caller_atom.now called.now.callee_atom.now) }
     ensures callee { IfOk result (λ b. IsTrue b → IsBox record.now called.now.callee) }
 {
@@ -88,7 +89,8 @@ fn are_earlier_affirmed(
     callee: u32,
 ) -> Result<bool, AllocError>
     requires { IsBox record.now callee }
-    ensures { IfOk result (λ b. b ≡ list_all (affirms answers.now) (earlier_atoms record.now callee)) }
+    ensures { IfOk result (λ b. b ≡ list_all (affirms answers.now)
+        (earlier_atoms record.now callee)) }
 {
     let point = record.from(callee);
     let tuple = record.tuple(point)?;
@@ -107,7 +109,8 @@ pub fn is_violation(
     answers: &Answers,
     called: &Called<'_>,
 ) -> Result<bool, AllocError>
-    ensures { IfOk result (λ b. IsTrue b ↔ IsViolationByReplies record.now answers.now called.now.clause
+    ensures { IfOk result
+        (λ b. IsTrue b ↔ IsViolationByReplies record.now answers.now called.now.clause
         called.now.goal called.now.caller called.now.callee called.now.caller_atom.now called.now.callee_atom.now) }
 {
     if !is_call(alloc, record, called)? {

@@ -52,7 +52,8 @@ pub fn is_instance_of(
     clause: u32,
     tuple: &Tuple,
 ) -> Result<bool, AllocError>
-    ensures { IfOk result (λ b. b ≡ is_instance_of tuple.now (clause_of (tuples_of program.now) clause)) }
+    ensures { IfOk result (λ b. b ≡ is_instance_of tuple.now
+        (clause_of (tuples_of program.now) clause)) }
 {
     if clause == 0 || program.count() < clause {
         return Ok(false);
@@ -68,7 +69,8 @@ fn is_true(
     answers: &Answers,
     atom: &Flat,
 ) -> Result<bool, AllocError>
-    ensures { IfOk result (λ b. IsTrue b ↔ IsTrueWhere (IsGranted record.now answers.now) atom.now) }
+    ensures { IfOk result (λ b. IsTrue b ↔ IsTrueWhere
+        (IsGranted record.now answers.now) atom.now) }
 {
     match Builtin::of_atom(atom) {
         Some(_) => stands(alloc, atom),

@@ -74,7 +74,8 @@ fn put_rest(
     places: &[u32],
 ) -> Result<u32, AllocError>
     ensures rest { IfOk result (λ r. IsRest links.new.keys (length places.now) r) }
-    ensures places { IfOk result (λ r. rest_at links.new.keys (length places.now) r ≡ reverse places.now) }
+    ensures places { IfOk result (λ r. rest_at links.new.keys (length places.now) r ≡
+        reverse places.now) }
     ensures grown { IsFrontOf links.old.keys links.new.keys }
     ensures distinct { AreDistinct links.old.keys → AreDistinct links.new.keys }
 {
@@ -102,8 +103,10 @@ pub fn node_of(
     requires { arity_of symbol ≤ length places.old.items }
     ensures symbol { IfOk result (λ n. symbol_of n ≡ symbol) }
     ensures linked { IfOk result (λ n. IsLinked links.new.keys n) }
-    ensures arguments { IfOk result (λ n. arguments_of links.new.keys n ≡ take (arity_of symbol) (reverse places.old.items)) }
-    ensures places { OnOk result (reverse places.new.items ≡ drop (arity_of symbol) (reverse places.old.items)) }
+    ensures arguments { IfOk result (λ n. arguments_of links.new.keys n ≡
+        take (arity_of symbol) (reverse places.old.items)) }
+    ensures places { OnOk result (reverse places.new.items ≡
+        drop (arity_of symbol) (reverse places.old.items)) }
     ensures grown { IsFrontOf links.old.keys links.new.keys }
     ensures distinct { AreDistinct links.old.keys → AreDistinct links.new.keys }
 {

@@ -19,8 +19,11 @@ pub struct Pending {
 /// Takes off the place that is to be spelled next.
 fn next_place(links: &[Link], pending: &mut Vec<Pending>) -> Result<Option<u32>, AllocError>
     requires { IsPending links.now (reverse pending.old.items) }
-    ensures next { IfOk result (λ next. IfSome next (λ p. places_left links.now (reverse pending.old.items) ≡ p ∷ places_left links.now (reverse pending.new.items))) }
-    ensures none { IfOk result (λ next. IfNone next (places_left links.now (reverse pending.old.items) ≡ [])) }
+    ensures next { IfOk result (λ next. IfSome next
+        (λ p. places_left links.now (reverse pending.old.items) ≡
+        p ∷ places_left links.now (reverse pending.new.items))) }
+    ensures none { IfOk result (λ next. IfNone next
+        (places_left links.now (reverse pending.old.items) ≡ [])) }
     ensures rest { OnOk result (IsPending links.now (reverse pending.new.items)) }
 {
     let Some(Pending { count, at }) = pending.pop() else {
@@ -39,8 +42,11 @@ fn next_place(links: &[Link], pending: &mut Vec<Pending>) -> Result<Option<u32>,
 
 /// The node's arguments are to be spelled next.
 fn push_arguments(node: Node, pending: &mut Vec<Pending>) -> Result<(), AllocError>
-    ensures next { OnOk result ((links : List Link) → IsLinked links node → places_left links (reverse pending.new.items) ≡ arguments_of links node ++ places_left links (reverse pending.old.items)) }
-    ensures rest { OnOk result ((links : List Link) → IsLinked links node → IsPending links (reverse pending.old.items) → IsPending links (reverse pending.new.items)) }
+    ensures next { OnOk result ((links : List Link) → IsLinked links node →
+        places_left links (reverse pending.new.items) ≡
+        arguments_of links node ++ places_left links (reverse pending.old.items)) }
+    ensures rest { OnOk result ((links : List Link) → IsLinked links node →
+        IsPending links (reverse pending.old.items) → IsPending links (reverse pending.new.items)) }
 {
     if let Node::Compound(_, arity, first, rest) = node {
         if arity > 1 {

@@ -75,8 +75,10 @@ impl Terms {
         requires there { AreThere self.old (reverse places.old.items) }
         requires enough { arity_of symbol ≤ length places.old.items }
         ensures there { OnOk result (AreThere self.new (reverse places.new.items)) }
-        ensures terms { OnOk result (terms_at self.new places.new.items ≡ applied symbol (terms_at self.old places.old.items)) }
-        ensures adds { Adds self.old (first_of (applied symbol (terms_at self.old places.old.items))) self.new }
+        ensures terms { OnOk result (terms_at self.new places.new.items ≡
+            applied symbol (terms_at self.old places.old.items)) }
+        ensures adds { Adds self.old (first_of
+            (applied symbol (terms_at self.old places.old.items))) self.new }
     {
         let node = node_of(&mut self.links, &mut self.link_hints, symbol, places)?;
         let place = put_node(&mut self.nodes, &mut self.node_hints, node)?;

@@ -55,7 +55,8 @@ impl<R: std::rt::Files> Files for DiskFiles<'_, R> {
         ensures long { IfErr result (λ e. (n : ℕ) → e ≡ TooLong n → TellsLong None) }
         ensures step { CountsLoad self.old self.new }
         ensures cause { Counts is_load_fault self.old.faults self.new.faults result }
-        ensures counted { self.new.faults ≡ (if is_failed result then risen self.old.faults else self.old.faults) }
+        ensures counted { self.new.faults ≡
+            (if is_failed result then risen self.old.faults else self.old.faults) }
     {
         match read_file(self.rt, alloc, name) {
             Ok(text) => Ok(text),
@@ -81,11 +82,13 @@ fn read_file<R: std::rt::Files>(rt: &R, alloc: Global, name: &str) -> Result<Tex
 
 // All that a reader has left, of which no more is read than shows that it is too long.
 fn read_all<F: Read>(alloc: Global, file: &mut F) -> Result<Text, LoadFault>
-    ensures whole { IfOk result (λ text. Consumes (F.remaining file.old) (F.remaining file.new) text) }
+    ensures whole { IfOk result (λ text. Consumes (F.remaining file.old)
+        (F.remaining file.new) text) }
     ensures end { OnOk result (IsAtEnd (F.remaining file.new)) }
     ensures bound { IfOk result (λ text. length text ≤ MAX_FILE) }
     ensures number { IfErr result (λ e. (n : ℕ) → e ≡ TooLong n → n ≡ OVER_MAX_FILE) }
-    ensures long { IfErr result (λ e. (n : ℕ) → e ≡ TooLong n → ConsumesCount (F.remaining file.old) (F.remaining file.new) n) }
+    ensures long { IfErr result (λ e. (n : ℕ) → e ≡ TooLong n →
+        ConsumesCount (F.remaining file.old) (F.remaining file.new) n) }
 {
     let mut text = Text::new(alloc);
     let mut buf = [0u8; 4096];
@@ -110,7 +113,8 @@ fn read_part<F: Read>(file: &mut F, buf: &mut [u8], want: usize) -> Option<usize
     requires room { want ≤ length buf.old }
     ensures len { length buf.new ≡ length buf.old }
     ensures bound { IfSome result (λ n. n ≤ want) }
-    ensures consumed { IfSome result (λ n. Consumes (F.remaining file.old) (F.remaining file.new) (take n buf.new)) }
+    ensures consumed { IfSome result (λ n. Consumes (F.remaining file.old) (F.remaining file.new)
+        (take n buf.new)) }
     ensures over { IfSome result (λ n. n ≡ 0 → IsAtEnd (F.remaining file.new)) }
 {
     match file.read(&mut buf[..want]) {

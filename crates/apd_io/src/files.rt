@@ -33,7 +33,8 @@ pub trait Files {
         ensures whole { IfOk result (λ text. Tells (content self.old name.now) text) }
         ensures bound { IfOk result (λ text. length text ≤ MAX_FILE) }
         ensures number { IfErr result (λ e. (n : ℕ) → e ≡ TooLong n → n ≡ OVER_MAX_FILE) }
-        ensures long { IfErr result (λ e. (n : ℕ) → e ≡ TooLong n → TellsLong (content self.old name.now)) }
+        ensures long { IfErr result (λ e. (n : ℕ) → e ≡ TooLong n →
+            TellsLong (content self.old name.now)) }
         ensures same { content self.new ≡ content self.old }
         ensures step { step self.old name.now self.new }
         ensures cause { Counts is_load_fault (faults self.old) (faults self.new) result };

@@ -54,7 +54,8 @@ impl MemFiles {
     /// Where memory ran out; the files are then as they were.
     pub fn add(&mut self, name: &str, content: Text) -> Result<(), AllocError>
         ensures here { OnOk result (content_of self.new.files name.now ≡ Some content) }
-        ensures others { OnOk result ((other : List ℕ) → other ≢ name.now → content_of self.new.files other ≡ content_of self.old.files other) }
+        ensures others { OnOk result ((other : List ℕ) → other ≢ name.now →
+            content_of self.new.files other ≡ content_of self.old.files other) }
         ensures calls { self.new.calls ≡ self.old.calls }
         ensures err { OnErr result (self.new ≡ self.old) }
     {
@@ -80,11 +81,13 @@ impl Files for MemFiles {
         ensures whole { IfOk result (λ text. Tells (content_of self.old.files name.now) text) }
         ensures bound { IfOk result (λ text. length text ≤ MAX_FILE) }
         ensures number { IfErr result (λ e. (n : _) → e ≡ TooLong n → n ≡ OVER_MAX_FILE) }
-        ensures long { IfErr result (λ e. (n : _) → e ≡ TooLong n → TellsLong (content_of self.old.files name.now)) }
+        ensures long { IfErr result (λ e. (n : _) → e ≡ TooLong n →
+            TellsLong (content_of self.old.files name.now)) }
         ensures same { content_of self.new.files ≡ content_of self.old.files }
         ensures step { self.new ≡ loaded_from self.old name.now }
         ensures cause { Counts is_load_fault self.old.calls.faults self.new.calls.faults result }
-        ensures fails { IsErrOf result Failed ↔ IsTrue (is_due self.old.calls || is_none (content_of self.old.files name.now)) }
+        ensures fails { IsErrOf result Failed ↔
+            IsTrue (is_due self.old.calls || is_none (content_of self.old.files name.now)) }
         ensures counted { self.new.calls ≡ called self.old.calls (is_failed result) }
     {
         if self.calls.begin() {
@@ -101,7 +104,8 @@ impl Files for MemFiles {
 
 // The place of the first file of this name.
 fn place_of(files: &[MemFile], name: &[u8]) -> Option<usize>
-    ensures { MatchOption result (content_of files.now name.now ≡ None) (IsPlaceOf files.now name.now) }
+    ensures { MatchOption result (content_of files.now name.now ≡ None)
+        (IsPlaceOf files.now name.now) }
 {
     for (i, file) in files.iter().enumerate() {
         if file.name.bytes() == name {
@@ -113,7 +117,8 @@ fn place_of(files: &[MemFile], name: &[u8]) -> Option<usize>
 
 // The content of the file of this name.
 fn find_content<'a>(files: &'a [MemFile], name: &[u8]) -> Option<&'a Text>
-    ensures { MatchOption result (content_of files.now name.now ≡ None) (λ text. content_of files.now name.now ≡ Some text.now) }
+    ensures { MatchOption result (content_of files.now name.now ≡ None)
+        (λ text. content_of files.now name.now ≡ Some text.now) }
 {
     for file in files {
         if file.name.bytes() == name {
@@ -126,7 +131,8 @@ fn find_content<'a>(files: &'a [MemFile], name: &[u8]) -> Option<&'a Text>
 // A copy of a content that isn't too long.
 fn copy_content(alloc: Global, content: &Text) -> Result<Text, LoadFault>
     ensures ok { IfOk result (λ text. (text ≡ content.now) × (length text ≤ MAX_FILE)) }
-    ensures err { IfErr result (λ e. (e ≡ Memory) ⊎ ((e ≡ TooLong OVER_MAX_FILE) × (MAX_FILE < length content.now))) }
+    ensures err { IfErr result (λ e. (e ≡ Memory) ⊎
+        ((e ≡ TooLong OVER_MAX_FILE) × (MAX_FILE < length content.now))) }
 {
     if content.len() > MAX_FILE {
         return Err(LoadFault::TooLong(OVER_MAX_FILE));

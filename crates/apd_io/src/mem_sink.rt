@@ -98,7 +98,8 @@ impl Sink for MemSink {
         ensures room { self.new.room ≡ self.old.room }
         ensures most { self.new.most ≡ self.old.most }
         ensures cause { Counts (λ _. true) self.old.calls.faults self.new.calls.faults result }
-        ensures fails { IsErr result ↔ IsTrue (is_due self.old.calls || nat_le self.old.room (length self.old.held)) }
+        ensures fails { IsErr result ↔ IsTrue
+            (is_due self.old.calls || nat_le self.old.room (length self.old.held)) }
         ensures counted { self.new.calls ≡ called self.old.calls (is_err result) }
     {
         if self.calls.begin() || self.bytes.len() >= self.room as usize {

@@ -51,10 +51,12 @@ impl<W: Write + Drop> Sink for StdSink<W> {
         requires { 0 < length bytes.now }
         ensures some { IfOk result (λ n. 0 < n) }
         ensures bound { IfOk result (λ n. n ≤ length bytes.now) }
-        ensures appended { IfOk result (λ n. Appends self.old.bytes self.new.bytes (take n bytes.now)) }
+        ensures appended { IfOk result (λ n. Appends self.old.bytes self.new.bytes
+            (take n bytes.now)) }
         ensures front { OnErr result (AppendsFront self.old.bytes self.new.bytes bytes.now) }
         ensures cause { Counts (λ _. true) self.old.faults self.new.faults result }
-        ensures counted { self.new.faults ≡ (if is_err result then risen self.old.faults else self.old.faults) }
+        ensures counted { self.new.faults ≡
+            (if is_err result then risen self.old.faults else self.old.faults) }
     {
         match write_flushed(&mut self.writer, bytes) {
             Some(count) => Ok(count),
@@ -70,8 +72,10 @@ impl<W: Write + Drop> Sink for StdSink<W> {
 fn write_flushed<W: Write>(writer: &mut W, bytes: &[u8]) -> Option<usize>
     ensures some { IfSome result (λ n. 0 < n) }
     ensures bound { IfSome result (λ n. n ≤ length bytes.now) }
-    ensures appended { IfSome result (λ n. Appends (W.contents writer.old) (W.contents writer.new) (take n bytes.now)) }
-    ensures front { IfNone result (AppendsFront (W.contents writer.old) (W.contents writer.new) bytes.now) }
+    ensures appended { IfSome result (λ n. Appends (W.contents writer.old) (W.contents writer.new)
+        (take n bytes.now)) }
+    ensures front { IfNone result (AppendsFront (W.contents writer.old)
+        (W.contents writer.new) bytes.now) }
 {
     let Ok(count) = writer.write(bytes) else {
         return None;

@@ -45,11 +45,13 @@ impl<R: Read + Drop> Source for StdSource<R> {
     fn read(&mut self, buf: &mut [u8]) -> Result<usize, Failed>
         requires { 0 < length buf.old }
         ensures bound { IfOk result (λ n. n ≤ length buf.new) }
-        ensures consumed { IfOk result (λ n. Consumes self.old.bytes self.new.bytes (take n buf.new)) }
+        ensures consumed { IfOk result (λ n. Consumes self.old.bytes self.new.bytes
+            (take n buf.new)) }
         ensures over { IfOk result (λ n. n ≡ 0 → IsAtEnd self.new.bytes) }
         ensures kept { OnErr result (Keeps self.old.bytes self.new.bytes) }
         ensures cause { Counts (λ _. true) self.old.faults self.new.faults result }
-        ensures counted { self.new.faults ≡ (if is_err result then risen self.old.faults else self.old.faults) }
+        ensures counted { self.new.faults ≡
+            (if is_err result then risen self.old.faults else self.old.faults) }
     {
         match self.reader.read(buf) {
             Ok(count) => Ok(count),

@@ -199,7 +199,8 @@ impl Ops {
     #[tactic(auto, using(crate::proofs::Tested::made_is, crate::proofs::Tested::refused_is))]
     pub fn define(&mut self, priority: i64, kind: OpKind, name: NameId) -> Result<(), OpFault>
         ensures defined { OnOk result (definition self.old priority kind name ≡ Ok self.new) }
-        ensures refused { IfErr result (λ f. f ≢ OpFault.Memory → definition self.old priority kind name ≡ Err f) }
+        ensures refused { IfErr result (λ f. f ≢ OpFault.Memory →
+            definition self.old priority kind name ≡ Err f) }
         ensures unchanged { OnErr result (self.new ≡ self.old) }
     {
         match self.change(priority, kind, name) {

@@ -10,4 +10,4 @@ pub mod point;
 pub use event::{Event, Port};
 pub use filter::{Admit, Filter};
 pub use hook::{Hook, HookFault, Shown};
-pub use point::{Point, PointId, Step};
+pub use point::{BUILTIN, Point, PointId, Step};

@@ -141,7 +141,8 @@ fn open(alloc: Global, state: &mut State, inside: Inside, count: usize) -> Resul
 
 /// The innermost item's phrase, whose last operand is this; no frame is left.
 fn item(alloc: Global, level: &mut Level, last: Phrase) -> Result<Phrase, AllocError>
-    ensures { IfOk result (λ t. (t ≡ closed level.old.frames last) × (level.new ≡ record level.old { frames = [] })) }
+    ensures { IfOk result (λ t. (t ≡ closed level.old.frames last) ×
+        (level.new ≡ record level.old { frames = [] })) }
 {
     let frames = mem::replace(&mut level.frames, Stack::new(alloc));
     closed(alloc, frames, last)
@@ -156,7 +157,8 @@ fn operand_step(
 ) -> Result<Next, ClauseFault>
     requires short { length lexemes.now < 4611686018427386000 }
     requires ready { IsReady ops.now lexemes.now state.old None }
-    ensures { MatchResult result (IsNext ops.now lexemes.now state.old.at state.new) (IsClauseFault Reads ops.now lexemes.now) }
+    ensures { MatchResult result (IsNext ops.now lexemes.now state.old.at state.new)
+        (IsClauseFault Reads ops.now lexemes.now) }
 {
     let at = state.at;
     match begins(alloc, ops, lexemes, at)? {
@@ -229,7 +231,8 @@ fn operator_step(
 ) -> Result<Next, ClauseFault>
     requires short { length lexemes.now < 4611686018427386000 }
     requires ready { IsReady ops.now lexemes.now state.old (Some last) }
-    ensures { MatchResult result (IsNext ops.now lexemes.now state.old.at state.new) (IsClauseFault Reads ops.now lexemes.now) }
+    ensures { MatchResult result (IsNext ops.now lexemes.now state.old.at state.new)
+        (IsClauseFault Reads ops.now lexemes.now) }
 {
     let at = state.at;
     let inside = state.level.inside;

@@ -28,7 +28,9 @@ fn named(alloc: Global, names: &mut Names, text: &[u8], token: &Token) -> Result
     requires token { IsTokenOf text.now token.now }
     requires kind { HasText token.now.kind }
     requires room { length names.old < MOST_NAMES }
-    ensures name { IfOk result (λ f. (v : List ℕ) × ContentOf token.now.kind (slice_range text.now token.now.start token.now.end) v × IsNameOf names.new f v) }
+    ensures name { IfOk result (λ f. (v : List ℕ) ×
+        ContentOf token.now.kind (slice_range text.now token.now.start token.now.end) v ×
+        IsNameOf names.new f v) }
     ensures named { IfOk result (λ f. f.0 < length names.new) }
     ensures grown { GrowsBy 1 names.old names.new }
 {
@@ -51,8 +53,10 @@ fn sort_of(
     requires room { length names.old < MOST_NAMES }
     requires few { length vars.old.texts < MOST_NAMES }
     requires indexed { IsIndexed vars.old.named vars.old.places.items vars.old.texts }
-    ensures sort { IfOk result (λ s. IsSort token.now.kind names.new (slice_range text.now token.now.start token.now.end) vars.old.texts s vars.new.texts) }
-    ensures indexed { IfOk result (λ _. IsIndexed vars.new.named vars.new.places.items vars.new.texts) }
+    ensures sort { IfOk result (λ s. IsSort token.now.kind names.new
+        (slice_range text.now token.now.start token.now.end) vars.old.texts s vars.new.texts) }
+    ensures indexed { IfOk result
+        (λ _. IsIndexed vars.new.named vars.new.places.items vars.new.texts) }
     ensures named { IfOk result (SortIsNamed (length names.new)) }
     ensures grown { GrowsBy 1 names.old names.new }
 {
@@ -102,7 +106,8 @@ pub(crate) fn lexemes(
     requires few { length tokens.now ≤ MAX_FILE }
     requires within { at ≤ length tokens.now }
     requires room { length names.old + (length tokens.now - at) < MOST_NAMES }
-    ensures lexemes { IfOk result (λ c. AreLexemes names.new text.now (to_end (drop at tokens.now)) c.lexemes.items c.vars) }
+    ensures lexemes { IfOk result (λ c. AreLexemes names.new text.now
+        (to_end (drop at tokens.now)) c.lexemes.items c.vars) }
     ensures named { IfOk result (λ c. LexemesAreNamed (length names.new) c.lexemes.items) }
     ensures last { IfOk result (λ c. EndsLast c.lexemes.items) }
     ensures grown { IfOk result (λ c. GrowsBy (length c.lexemes.items) names.old names.new) }

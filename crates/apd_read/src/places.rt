@@ -122,7 +122,8 @@ fn only_infix(ops: &Ops, name: NameId, lexemes: &[Lexeme], at: usize) -> bool
 /// Whether a prefix operator before the place is an atom.
 fn stands_alone(ops: &Ops, lexemes: &[Lexeme], at: usize) -> bool
     requires { at < 4611686018427387904 }
-    ensures { result ≡ stands_alone ops.now (slice_get lexemes.now at) (slice_get lexemes.now (at + 1)) }
+    ensures { result ≡ stands_alone ops.now (slice_get lexemes.now at)
+        (slice_get lexemes.now (at + 1)) }
 {
     match lexemes.get(at) {
         None => false,
@@ -164,7 +165,8 @@ fn name_begins(
     at: usize,
 ) -> Result<Begin, AllocError>
     requires { at < 4611686018427387904 }
-    ensures { IfOk result (λ b. b ≡ name_begins ops.now name (slice_get lexemes.now at) (slice_get lexemes.now (at + 1))) }
+    ensures { IfOk result (λ b. b ≡ name_begins ops.now name (slice_get lexemes.now at)
+        (slice_get lexemes.now (at + 1))) }
 {
     if is_direct(lexemes, at) {
         return Ok(Begin::Opens(Inside::Args(name), 2));
@@ -212,7 +214,8 @@ fn unquoted_begins(
     at: usize,
 ) -> Result<Begin, AllocError>
     requires { at < 4611686018427387904 }
-    ensures { IfOk result (λ b. b ≡ unquoted_begins ops.now name (slice_get lexemes.now at) (slice_get lexemes.now (at + 1))) }
+    ensures { IfOk result (λ b. b ≡ unquoted_begins ops.now name (slice_get lexemes.now at)
+        (slice_get lexemes.now (at + 1))) }
 {
     if name.0 == MINUS.0 {
         if let Some(i) = integer_next(lexemes, at) {
@@ -252,7 +255,8 @@ fn begin_by(
     next: usize,
 ) -> Result<Begin, AllocError>
     requires { next < 4611686018427387904 }
-    ensures { IfOk result (λ b. b ≡ begin_by ops.now sort.now (slice_get lexemes.now next) (slice_get lexemes.now (next + 1))) }
+    ensures { IfOk result (λ b. b ≡ begin_by ops.now sort.now (slice_get lexemes.now next)
+        (slice_get lexemes.now (next + 1))) }
 {
     match sort {
         Sort::Name(f) => unquoted_begins(alloc, ops, *f, lexemes, next),

@@ -68,8 +68,11 @@ fn read_by_main(alloc: Global, ops: &Ops, lexemes: &[Lexeme]) -> Result<Whole, C
 /// at most one first fault, and not both. And splitting at main operators is the grammar of the
 /// standard, where no operators clash.
 pub fn one_reading()
-    ensures answers { (ops : Table) (names : List (List ℕ)) (text : List ℕ) (tokens : List Token) (at : ℕ) (a b : Result Read ReadFault) → IsTable ops → IsRead ops names text tokens at a → IsRead ops names text tokens at b → a ≡ b }
-    ensures grammar { (p : ℕ) (ps : List Piece) (t : Phrase) → HasNoClash ps → (Reads p ps t ↔ Splits p ps t) }
+    ensures answers { (ops : Table) (names : List (List ℕ)) (text : List ℕ) (tokens : List Token)
+        (at : ℕ) (a b : Result Read ReadFault) → IsTable ops → IsRead ops names text tokens at a →
+        IsRead ops names text tokens at b → a ≡ b }
+    ensures grammar { (p : ℕ) (ps : List Piece) (t : Phrase) → HasNoClash ps →
+        (Reads p ps t ↔ Splits p ps t) }
 {}
 
 /// The law of every reading: under any names there is a reader of texts. So each clause of a text has,
@@ -124,9 +127,12 @@ pub fn read_clause(
     requires small { length text.now ≤ MAX_FILE }
     requires tokens { HasTokens text.now tokens.now }
     requires within { at < length tokens.now }
-    requires room { (t : Token) → slice_get tokens.now at ≡ Some t → length names.old + (length text.now - t.start) < MOST_NAMES }
-    ensures ok { IfOk result (λ r. (more : List (List ℕ)) → HasReading ops.now (names.new ++ more) text.now tokens.now at r) }
-    ensures err { IfErr result (λ f. (more : List (List ℕ)) → IsReadFault ops.now (names.new ++ more) text.now tokens.now at f) }
+    requires room { (t : Token) → slice_get tokens.now at ≡ Some t →
+        length names.old + (length text.now - t.start) < MOST_NAMES }
+    ensures ok { IfOk result (λ r. (more : List (List ℕ)) →
+        HasReading ops.now (names.new ++ more) text.now tokens.now at r) }
+    ensures err { IfErr result (λ f. (more : List (List ℕ)) →
+        IsReadFault ops.now (names.new ++ more) text.now tokens.now at f) }
     ensures size { IfOk result (λ r. size r.term ≤ 2 * length text.now) }
     ensures forward { IfOk result (λ r. (at < r.next) × (r.next ≤ length tokens.now)) }
     ensures few_vars { IfOk result (λ r. length r.vars ≤ length text.now) }

@@ -48,7 +48,8 @@ impl Variables {
         requires indexed { IsIndexed self.old.named self.old.places.items self.old.texts }
         ensures number { IfOk result (λ n. n ≡ variable_place self.old.texts text + 1) }
         ensures all { OnOk result (self.new.texts ≡ with_variable self.old.texts text) }
-        ensures indexed { OnOk result (IsIndexed self.new.named self.new.places.items self.new.texts) }
+        ensures indexed { OnOk result
+            (IsIndexed self.new.named self.new.places.items self.new.texts) }
     {
         let count = self.texts.len();
         if is_anonymous(text.bytes()) {

@@ -19,7 +19,6 @@ use Rattle.apd_record.specs.Chain.{AreChained, EachOwnsNext}
 use Rattle.apd_record.proofs.Lists.{get-one}
 use Rattle.apd_record.proofs.Growing.{Grown, grown_same, grown_then, grown_point, grown_opened, grown_noted}
 use Rattle.apd_record.proofs.Keeping.{kept_empty, kept_point, sound_empty, sound_opened, sound_point, sound_noted}
-use Rattle.apd_record.specs.ProofTrees.{AreProved}
 use Rattle.apd_record.proofs.Trees.{bodies_are_proved}
 use Rattle.apd_record.proofs.Filling.{full_empty, full_opened, full_point, full_noted}
 use Rattle.apd_record.proofs.Chains.{chained_empty, chained_point, owns_next}
@@ -28,7 +27,7 @@ use Rattle.apd_trace.specs.Trace.{search_from, turn, up_to_error, trace}
 use Rattle.apd_trace.specs.Run.{run_of, query_run, before_event}
 use Rattle.apd_trace.specs.declared.item.Item.{Item}
 use Rattle.apd_trace.specs.declared.item.Item.TheVariants.{Passed, Answer, Made, Error}
-use Rattle.apd_recorded.specs.Told.{told, told_port, record_from, record_of, IsAnswerOf, MayPass, May, MayTake}
+use Rattle.apd_recorded.specs.Told.{told, told_port, record_from, record_of, AnswersAreProved, MayPass, May, MayTake}
 use Rattle.apd_recorded.specs.Within.{MayTakeTo}
 use Rattle.apd_recorded.specs.Joint.{IsJoint}
 use Rattle.apd_recorded.proofs.Tried.{AreAtoms, AreAtoms-of, All-at}
@@ -170,7 +169,7 @@ taken_at : (P : List Tuple) (R : Recorded) (xs : List Item) (x : Item) (ys : Lis
 taken_at P R [] x ys h = (tt, h.0)
 taken_at P R (y ∷ xs) x ys h = let r = taken_at P (told R y) xs x ys h.1 in ((h.0, r.0), r.1)
 
-pub answers_proved : (P : List Tuple) → All IsClause P → (query : Tuple) → All IsAtom query.body → (budget answers : ℕ) (xs ys : List Item) (a : Term) → (query_run P query budget answers).passed ≡ xs ++ Answer a ∷ ys → (p : IsAnswerOf (record_of xs) a) × AreProved P p.point.tuple.body
+pub answers_proved : (P : List Tuple) → All IsClause P → (query : Tuple) → All IsAtom query.body → (budget answers : ℕ) → AnswersAreProved P (query_run P query budget answers).passed
 answers_proved P all query atoms budget answers xs ys a is =
     let t = taken_at P empty xs (Answer a) ys (subst (MayTake P empty) is (run_taken P all query atoms budget answers)) in
     (t.1, bodies_are_proved P (record_of xs) (sound_from P empty xs t.0 (sound_empty P)) (length (record_of xs).points - 1) t.1.point t.1.there t.1.is_exit)

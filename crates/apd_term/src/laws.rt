@@ -21,7 +21,8 @@ pub fn standard_ids_have_their_texts()
 /// canonical form that its own canonical form has.
 pub fn variants_are_instances_of_each_other()
     ensures terms { (a b : Term) → AreVariants a b ↔ (IsInstance a b × IsInstance b a) }
-    ensures tuples { (a b : Tuple) → AreTupleVariants a b ↔ (IsTupleInstance a b × IsTupleInstance b a) }
+    ensures tuples { (a b : Tuple) → AreTupleVariants a b ↔
+        (IsTupleInstance a b × IsTupleInstance b a) }
     ensures of_a_term { (t : Term) → AreVariants (canonical t) t }
     ensures of_a_tuple { (t : Tuple) → AreTupleVariants (canonical_tuple t) t }
 {}

@@ -48,7 +48,8 @@ fn piece_at(text: &[u8], whole: &str, at: usize) -> (Found, usize)
 }
 
 fn begins_script(text: &[u8]) -> bool
-    ensures yes { OnTrue result ((1 < length text.now) × (slice_index text.now 0 ≡ 35) × (slice_index text.now 1 ≡ 33)) }
+    ensures yes { OnTrue result ((1 < length text.now) × (slice_index text.now 0 ≡ 35) ×
+        (slice_index text.now 1 ≡ 33)) }
     ensures no { OnFalse result (BeginsScript text.now → ⊥) }
 {
     match text {
@@ -109,10 +110,14 @@ pub fn tokens(alloc: Global, text: &[u8]) -> Result<Tokens, TokenFault>
 /// The law of one division: a text has at most one list of tokens, at most one first fault, and not
 /// both.
 pub fn one_division()
-    ensures tokens { (text : List ℕ) (ts us : List Token) → HasTokens text ts → HasTokens text us → ts ≡ us }
-    ensures faults { (text : List ℕ) (f g : TokenFault) → HasFault text f → HasFault text g → f ≡ g }
-    ensures apart { (text : List ℕ) (ts : List Token) (f : TokenFault) → HasTokens text ts → HasFault text f → ⊥ }
-    ensures answers { (text : List ℕ) (a b : Result (List Token) TokenFault) → IsDivided text a → IsDivided text b → a ≡ b }
+    ensures tokens { (text : List ℕ) (ts us : List Token) → HasTokens text ts → HasTokens text us →
+        ts ≡ us }
+    ensures faults { (text : List ℕ) (f g : TokenFault) → HasFault text f → HasFault text g →
+        f ≡ g }
+    ensures apart { (text : List ℕ) (ts : List Token) (f : TokenFault) → HasTokens text ts →
+        HasFault text f → ⊥ }
+    ensures answers { (text : List ℕ) (a b : Result (List Token) TokenFault) → IsDivided text a →
+        IsDivided text b → a ≡ b }
 {}
 
 /// The law of every division: each text has a list of tokens or a first fault.

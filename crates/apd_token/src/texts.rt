@@ -56,7 +56,8 @@ pub fn content(alloc: Global, text: &[u8], token: &Token) -> Result<Text, AllocE
     requires small { length text.now ≤ MAX_FILE }
     requires token { IsTokenOf text.now token.now }
     requires kind { HasText token.now.kind }
-    ensures { IfOk result (λ v. ContentOf token.now.kind (slice_range text.now token.now.start token.now.end) v) }
+    ensures { IfOk result (λ v. ContentOf token.now.kind
+        (slice_range text.now token.now.start token.now.end) v) }
 {
     let start = token.start as usize;
     let end = token.end as usize;
@@ -75,5 +76,6 @@ pub fn content(alloc: Global, text: &[u8], token: &Token) -> Result<Text, AllocE
 
 /// The law of one content: an item stands for one text.
 pub fn one_content()
-    ensures { (k : Kind) (bytes u v : List ℕ) → HasText k → ContentOf k bytes u → ContentOf k bytes v → u ≡ v }
+    ensures { (k : Kind) (bytes u v : List ℕ) → HasText k → ContentOf k bytes u →
+        ContentOf k bytes v → u ≡ v }
 {}

@@ -17,7 +17,8 @@ use std::alloc::AllocError;
 
 /// Writes an infix operator between its operands: a space on each side, but none before the comma.
 fn write_infix(names: &Names, name: NameId, out: &mut Text) -> Result<(), AllocError>
-    ensures { OnOk result (out.new ≡ out.old ++ between name (name_text (text_of_name names.now name))) }
+    ensures { OnOk result (out.new ≡ out.old ++ between name
+        (name_text (text_of_name names.now name))) }
 {
     if name == COMMA {
         return out.extend(b", ");
@@ -35,7 +36,8 @@ fn leave(
     frames: &mut Vec<Frame>,
     out: &mut Text,
 ) -> Result<Option<Place>, AllocError>
-    ensures { IfOk result (λ next. (ops : Table) → Leaves ops names.now frame frames.old.items frames.new.items out.old out.new next) }
+    ensures { IfOk result (λ next. (ops : Table) →
+        Leaves ops names.now frame frames.old.items frames.new.items out.old out.new next) }
 {
     match frame {
         Frame::Arguments(left) if left > 0 => {
@@ -61,7 +63,8 @@ pub(crate) fn close(
     frames: &mut Vec<Frame>,
     out: &mut Text,
 ) -> Result<Option<Place>, AllocError>
-    ensures { IfOk result (λ next. (ops : Table) → AddsClosing ops names.now frames.old.items frames.new.items out.old out.new next) }
+    ensures { IfOk result (λ next. (ops : Table) →
+        AddsClosing ops names.now frames.old.items frames.new.items out.old out.new next) }
 {
     'closing: while let Some(frame) = frames.pop() {
         if let Some(place) = leave(names, frame, frames, out)? {

@@ -25,7 +25,8 @@ fn open_fitted(
     out: &mut Text,
 ) -> Result<(), AllocError>
     ensures text { OnOk result (out.new ≡ out.old ++ opening_mark priority max) }
-    ensures frames { OnOk result (frames.new.items ≡ frames.old.items ++ closing_frames priority max) }
+    ensures frames { OnOk result (frames.new.items ≡
+        frames.old.items ++ closing_frames priority max) }
 {
     if priority > max {
         out.push(b'(')?;
@@ -43,7 +44,9 @@ fn open_function(
     out: &mut Text,
 ) -> Result<Place, AllocError>
     requires { 0 < count }
-    ensures { IfOk result (λ next. Puts (function_text (text_of_name names.now name) ++ codes "(") (pushed.Arguments (count - 1) ∷ []) (places.Whole 999) frames.old.items frames.new.items out.old out.new next) }
+    ensures { IfOk result (λ next. Puts (function_text (text_of_name names.now name) ++ codes "(")
+        (pushed.Arguments (count - 1) ∷ [])
+        (places.Whole 999) frames.old.items frames.new.items out.old out.new next) }
 {
     write_function_name(names.text(name), out)?;
     out.push(b'(')?;
@@ -59,7 +62,10 @@ fn open_prefix(
     frames: &mut Vec<Frame>,
     out: &mut Text,
 ) -> Result<Place, AllocError>
-    ensures { IfOk result (λ next. Puts (opening_mark operator.priority max ++ (name_text (text_of_name names.now operator.name) ++ codes " ")) (closing_frames operator.priority max) (places.Left (right_of operator)) frames.old.items frames.new.items out.old out.new next) }
+    ensures { IfOk result (λ next. Puts (opening_mark operator.priority max ++
+        (name_text (text_of_name names.now operator.name) ++ codes " "))
+        (closing_frames operator.priority max)
+        (places.Left (right_of operator)) frames.old.items frames.new.items out.old out.new next) }
 {
     open_fitted(operator.priority, max, frames, out)?;
     write_name(names.text(operator.name), out)?;
@@ -74,7 +80,10 @@ fn open_infix(
     frames: &mut Vec<Frame>,
     out: &mut Text,
 ) -> Result<Place, AllocError>
-    ensures { IfOk result (λ next. Puts (opening_mark operator.priority max) (closing_frames operator.priority max ++ pushed.Right operator.name (right_of operator) ∷ []) (places.Left (left_of operator)) frames.old.items frames.new.items out.old out.new next) }
+    ensures { IfOk result (λ next. Puts (opening_mark operator.priority max)
+        (closing_frames operator.priority max ++ pushed.Right operator.name
+        (right_of operator) ∷ []) (places.Left
+        (left_of operator)) frames.old.items frames.new.items out.old out.new next) }
 {
     open_fitted(operator.priority, max, frames, out)?;
     frames.push(Frame::Right {
@@ -86,7 +95,8 @@ fn open_infix(
 
 /// A list, from its first element on.
 fn open_list(frames: &mut Vec<Frame>, out: &mut Text) -> Result<Place, AllocError>
-    ensures { IfOk result (λ next. Puts (codes "[") (pushed.Rest ∷ []) (places.Whole 999) frames.old.items frames.new.items out.old out.new next) }
+    ensures { IfOk result (λ next. Puts (codes "[") (pushed.Rest ∷ [])
+        (places.Whole 999) frames.old.items frames.new.items out.old out.new next) }
 {
     out.push(b'[')?;
     frames.push(Frame::Rest)?;
@@ -95,7 +105,8 @@ fn open_list(frames: &mut Vec<Frame>, out: &mut Text) -> Result<Place, AllocErro
 
 /// A list's next element.
 fn open_further(frames: &mut Vec<Frame>, out: &mut Text) -> Result<Place, AllocError>
-    ensures { IfOk result (λ next. Puts (codes ",") (pushed.Rest ∷ []) (places.Whole 999) frames.old.items frames.new.items out.old out.new next) }
+    ensures { IfOk result (λ next. Puts (codes ",") (pushed.Rest ∷ [])
+        (places.Whole 999) frames.old.items frames.new.items out.old out.new next) }
 {
     out.push(b',')?;
     frames.push(Frame::Rest)?;
@@ -104,7 +115,8 @@ fn open_further(frames: &mut Vec<Frame>, out: &mut Text) -> Result<Place, AllocE
 
 /// A term in braces.
 fn open_curly(frames: &mut Vec<Frame>, out: &mut Text) -> Result<Place, AllocError>
-    ensures { IfOk result (λ next. Puts (codes "{") (pushed.CurlyEnd ∷ []) (places.Whole 1200) frames.old.items frames.new.items out.old out.new next) }
+    ensures { IfOk result (λ next. Puts (codes "{") (pushed.CurlyEnd ∷ [])
+        (places.Whole 1200) frames.old.items frames.new.items out.old out.new next) }
 {
     out.push(b'{')?;
     frames.push(Frame::CurlyEnd)?;
@@ -122,7 +134,8 @@ fn open_compound(
     out: &mut Text,
 ) -> Result<Place, AllocError>
     requires { 0 < count }
-    ensures { IfOk result (λ next. Opens ops.now names.now name count (places.Whole max) frames.old.items frames.new.items out.old out.new next) }
+    ensures { IfOk result (λ next. Opens ops.now names.now name count
+        (places.Whole max) frames.old.items frames.new.items out.old out.new next) }
 {
     match count {
         1 => match ops.prefix(name) {
@@ -164,7 +177,8 @@ pub(crate) fn open(
     out: &mut Text,
 ) -> Result<Place, AllocError>
     requires { 0 < count }
-    ensures { IfOk result (λ next. Opens ops.now names.now name count place frames.old.items frames.new.items out.old out.new next) }
+    ensures { IfOk result
+        (λ next. Opens ops.now names.now name count place frames.old.items frames.new.items out.old out.new next) }
 {
     match place {
         Place::Whole(max) | Place::Left(max) | Place::Right(max) => {

@@ -33,8 +33,11 @@ pub fn suspects_fall()
 /// The tree of an exit of a sound record, with a label that is an instance of its head, is a proof tree of the program; and
 /// where the store says that the label isn't true, as it does of a symptom once it is told, it is one of a wrong answer.
 pub fn a_recorded_tree_proves()
-    ensures proves { (P : List Tuple) (R : Recorded) (e : ℕ) (l : Term) → IsSound P R → (x : IsUserExit R e) → IsInstance l x.point.tuple.head → IsProofTree P (tree R e l) }
-    ensures starts { (P : List Tuple) (R : Recorded) (store : Store) (e : ℕ) (l : Term) → IsSound P R → (x : IsUserExit R e) → IsInstance l x.point.tuple.head → SaysNo store l → IsWrongTree P R store (tree R e l) }
+    ensures proves { (P : List Tuple) (R : Recorded) (e : ℕ) (l : Term) → IsSound P R →
+        (x : IsUserExit R e) → IsInstance l x.point.tuple.head → IsProofTree P (tree R e l) }
+    ensures starts { (P : List Tuple) (R : Recorded) (store : Store) (e : ℕ) (l : Term) →
+        IsSound P R → (x : IsUserExit R e) → IsInstance l x.point.tuple.head → SaysNo store l →
+        IsWrongTree P R store (tree R e l) }
     ensures told { (P : List Tuple) (R : Recorded) (store : Store) (e : ℕ) (l : Term) →
         IsSound P R → (x : IsUserExit R e) → IsInstance l x.point.tuple.head →
         IsWrongTree P R (with_pair store (asking.True l) No) (tree R e l) }
@@ -44,14 +47,16 @@ pub fn a_recorded_tree_proves()
 /// with fewer suspects; by divide and query, where of no label of the whole tree it is kept that it isn't known, at most
 /// (2b - 1) / (2b) of them. Or it is a finding by the replies.
 pub fn what_comes_next()
-    ensures { (P : List Tuple) (R : Recorded) (strategy : Strategy) (store : Store) (whole x : Tree) →
+    ensures { (P : List Tuple) (R : Recorded) (strategy : Strategy) (store : Store)
+        (whole x : Tree) →
         IsWrongTree P R store x → IsPartOf whole x →
         ComesNext P R strategy store whole (next_turn (wrong strategy) store x) }
 {}
 
 /// What a dialogue about a wrong answer ends in is found by its replies, where each fits what was asked.
 pub fn a_dialogue_finds_by_replies()
-    ensures { (P : List Tuple) (R : Recorded) (strategy : Strategy) (replies : List Reply) (store : Store) (x : Tree) (f : Finding) →
+    ensures { (P : List Tuple) (R : Recorded) (strategy : Strategy) (replies : List Reply)
+        (store : Store) (x : Tree) (f : Finding) →
         IsWrongTree P R store x →
         AllByRecursion (λ (e : Exchange). FitsAsked e.asked e.reply) (dialogue (wrong strategy) replies store x).exchanges →
         (dialogue (wrong strategy) replies store x).turn ≡ ends f →

@@ -15,7 +15,7 @@ use crate::engine::outcome::outcome;
 use crate::engine::tuples::shifted_tuple;
 use apd_causes::RunError;
 use apd_clauses::Program;
-use apd_ports::{Event, Port};
+use apd_ports::{BUILTIN, Event, Port};
 use apd_term::{Atoms, Flat, Tuple, canonical_tuple};
 use apd_trace::{Called, Frame, Item, Outcome};
 use apd_unify::mgu::mgu;
@@ -23,9 +23,6 @@ use std::alloc::{AllocError, Global};
 
 /// So many numbers of variables each clause has to itself: one more than it may have symbols.
 pub(crate) const BLOCK: u64 = 4294967297;
-
-/// The clause of a built-in goal's frame.
-const BUILTIN: u32 = 4294967295;
 
 /// The clause with numbers of its own for its variables, above this one.
 fn renumbered(alloc: Global, rule: &Tuple, fresh: u64) -> Result<Tuple, AllocError>

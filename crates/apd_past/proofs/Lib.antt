@@ -1,0 +1,9 @@
+pub mod Ways
+pub mod Moments
+pub mod Bindings
+pub mod Variables
+pub mod Leading
+pub mod Tuples
+pub mod Mirrored
+pub mod Catching
+pub mod Carrying

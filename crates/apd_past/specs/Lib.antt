@@ -1,0 +1,6 @@
+pub mod Slots
+pub mod Done
+pub mod Linked
+pub mod History
+pub mod Tuples
+pub mod Mirror

@@ -1,0 +1,19 @@
+//! Laws of pasts.
+
+ghost use Rattle.std.specs.Prelude.{◌≡◌, ◌<◌, ℕ, List, length};
+ghost use Rattle.apd_past.specs.Mirror.{StandsIn, place, places_of, tuple_here};
+ghost use Rattle.apd_past.specs.Tuples.{tuple_at};
+ghost use Rattle.apd_past.specs.declared.past.PastCell.{PastCell};
+ghost use Rattle.apd_term.specs.Term.{IsAmong};
+ghost use Rattle.apd_term.specs.Tuple.{canonical_tuple};
+ghost use Rattle.apd_unify.specs.Store.{IsSound};
+ghost use Rattle.apd_unify.specs.Stored.{Stored};
+
+/// Where a store stands in another one, a tuple is there what it is here, in canonical form.
+pub fn tuples_are_the_same_there()
+    ensures { (s t : Stored) (places : List PastCell) (names : List ℕ) (head : ℕ) (goals : List ℕ) →
+        IsSound s → StandsIn s t places names → head < length s.cells →
+        ((c : ℕ) → IsAmong goals c → c < length s.cells) →
+        canonical_tuple (tuple_at t (place places head) (places_of places goals))
+        ≡ canonical_tuple (tuple_here s head goals) }
+{}

@@ -1,0 +1,11 @@
+//! The past of a store: terms in cells that are never dropped, and what variables were bound to at
+//! each moment.
+#![tactic(auto)]
+
+pub mod deeds;
+pub mod laws;
+mod passing;
+pub mod past;
+pub mod slot;
+pub mod then;
+pub mod writing;

@@ -9,17 +9,23 @@ ghost use Rattle.apd_answers.specs.declared.question.Question.TheVariants.{True}
 ghost use Rattle.apd_answers.specs.declared.question.Reply.TheVariants.{Unknown};
 ghost use Rattle.apd_answers.specs.Fitting.{AllFit};
 ghost use Rattle.apd_answers.specs.Once.{AreOnce};
-ghost use Rattle.apd_answers.specs.Marks.{HaveSamePlaces, Notes, mark_of_form, places_from};
+ghost use Rattle.apd_answers.specs.Marks.{mark_of_form, places_from};
 ghost use Rattle.apd_answers.specs.Store.{told_of_truth, decided_in, decided, is_kept_as, is_doubted, empty_store, reply_to, with_pair, same_question, same_reply};
+ghost use Rattle.apd_answers.specs.Tellers.{IsFirstTold, IsNarrow, tellers};
+ghost use Rattle.apd_term.specs.Term.{predicate_of};
+ghost use Rattle.apd_unify.specs.First.{key_of};
 ghost use Rattle.apd_ports.specs.Filter.{is_predicate};
 ghost use Rattle.apd_answers.specs.Trust.{with_trust};
 
-use crate::marks::mark_of_form;
+use crate::marks::{Places, mark_of_form, note_both, with_mark};
 use crate::question::{Question, Reply};
+use crate::tellers::{
+    ANY_ATOM, Told, VARIABLE, earlier, first_told, is_narrow, mark_of_atoms, reply_in, telling_mark,
+};
 use crate::tests_of::{same_question, same_reply};
-use apd_base::ListOf;
 use apd_term::canonical::canonical;
 use apd_term::{Atoms, Flat, Pred, Preds, Subst, Tuple, apply_tuple, canonical_tuple};
+use apd_unify::first::key_of;
 use indexmap::IndexMap;
 use std::alloc::{AllocError, Global};
 use std::marker::Model;
@@ -72,7 +78,11 @@ fn is_instance_of_some(alloc: Global, atom: &Flat, terms: &Atoms) -> Result<bool
 }
 
 /// What a pair tells of whether an atom is true.
-fn told_of_truth(alloc: Global, pair: &Pair, atom: &Flat) -> Result<Option<Reply>, AllocError>
+pub(crate) fn told_of_truth(
+    alloc: Global,
+    pair: &Pair,
+    atom: &Flat,
+) -> Result<Option<Reply>, AllocError>
     ensures { IfOk result (λ r. r ≡ told_of_truth pair.now.question pair.now.reply atom.now) }
 {
     match (&pair.question, &pair.reply) {
@@ -95,7 +105,8 @@ fn told_of_truth(alloc: Global, pair: &Pair, atom: &Flat) -> Result<Option<Reply
 
 /// Whether two questions have one canonical form.
 pub fn is_same_form(alloc: Global, a: &Question, b: &Question) -> Result<bool, AllocError>
-    ensures { IfOk result (λ r. r ≡ same_question (canonical_question a.now) (canonical_question b.now)) }
+    ensures { IfOk result (λ r. r ≡ same_question (canonical_question a.now)
+        (canonical_question b.now)) }
 {
     let x = a.canonical(alloc)?;
     let y = b.canonical(alloc)?;
@@ -143,7 +154,8 @@ fn reply_to(
 
 /// Whether a pair is one with this question, in canonical form, and this reply.
 fn is_such(alloc: Global, pair: &Pair, form: &Question, reply: &Reply) -> Result<bool, AllocError>
-    ensures { IfOk result (λ b. b ≡ (same_question (canonical_question pair.now.question) form.now && same_reply pair.now.reply reply.now)) }
+    ensures { IfOk result (λ b. b ≡ (same_question
+        (canonical_question pair.now.question) form.now && same_reply pair.now.reply reply.now)) }
 {
     if !same_reply(&pair.reply, reply) {
         return Ok(false);
@@ -170,25 +182,6 @@ fn is_kept(
     Ok(false)
 }
 
-/// Notes one more place of a mark.
-fn note(
-    alloc: Global,
-    places: &mut IndexMap<u64, ListOf<usize>>,
-    mark: u64,
-    place: usize,
-) -> Result<(), AllocError>
-    ensures ok { OnOk result (Notes places.old mark place places.new) }
-    ensures err { OnErr result (HaveSamePlaces places.old places.new) }
-{
-    if let Some(of_mark) = places.get_mut(&mark) {
-        return of_mark.push(place);
-    }
-    let mut of_mark = ListOf::new(alloc);
-    of_mark.push(place)?;
-    places.insert(mark, of_mark)?;
-    Ok(())
-}
-
 /// Whether two predicates are one.
 fn is_predicate(pred: Pred, other: Pred) -> bool
     ensures { result ≡ is_predicate (Some pred) other }
@@ -213,7 +206,9 @@ pub struct Answers {
     alloc: Global,
     pairs: Vec<Pair>,
     /// The places of the pairs by their marks, which those with one question share.
-    places: IndexMap<u64, ListOf<usize>>,
+    places: Places,
+    /// The places of the pairs by the marks of the atoms that they may tell of.
+    tellers: Places,
     trusted: Preds,
 }
 
@@ -223,6 +218,7 @@ impl Model for Answers {
     ghost use Rattle.apd_answers.specs.Marks.{IsIndexOf};
     ghost use Rattle.apd_answers.specs.Once.{AreOnce};
     ghost use Rattle.apd_answers.specs.Store.{Store};
+    ghost use Rattle.apd_answers.specs.Tellers.{AreTellers};
 
     ghost Value = { Store };
 
@@ -230,7 +226,8 @@ impl Model for Answers {
 
     ghost view = { λ a. record { pairs = a.pairs.items; trusted = a.trusted } };
 
-    ghost invariant = { λ a. AllFitIn a.pairs.items × IsIndexOf a.pairs.items a.places × AreOnce a.pairs.items };
+    ghost invariant = { λ a. AllFitIn a.pairs.items × IsIndexOf a.pairs.items a.places
+        × AreOnce a.pairs.items × AreTellers a.pairs.items a.tellers };
 }
 
 impl Answers {
@@ -242,6 +239,7 @@ impl Answers {
             alloc,
             pairs: Vec::new(alloc),
             places: IndexMap::new(alloc),
+            tellers: IndexMap::new(alloc),
             trusted: Preds::new(alloc),
         }
     }
@@ -250,9 +248,36 @@ impl Answers {
     fn places_of(&self, mark: u64) -> &[usize]
         ensures { result.now ≡ places_from 0 mark self.now.pairs }
     {
-        match self.places.get(&mark) {
-            Some(places) => places.as_slice(),
-            None => &[],
+        with_mark(&self.places, mark)
+    }
+
+    /// The first of the pairs with this mark that tells whether the atom is true.
+    fn first_with(&self, mark: u64, atom: &Flat) -> Result<Option<Told>, AllocError>
+        ensures { IfOk result (IsFirstTold self.now.pairs atom.now (tellers mark self.now.pairs)) }
+    {
+        let places = with_mark(&self.tellers, mark);
+        first_told(self.alloc, self.pairs.as_slice(), places, atom)
+    }
+
+    /// What the first pair tells that tells whether the atom is true; only few are looked at.
+    fn told_of(&self, pred: Pred, atom: &Flat) -> Result<Option<Reply>, AllocError>
+        requires pred { predicate_of atom.now ≡ Some pred }
+        requires narrow { IsNarrow pred (key_of atom.now) }
+        ensures { IfOk result (λ r. r ≡ decided self.now (Question.True atom.now)) }
+    {
+        let alike = self.first_with(mark_of_atoms(pred, key_of(atom)), atom)?;
+        let free = self.first_with(mark_of_atoms(pred, VARIABLE), atom)?;
+        let any = self.first_with(ANY_ATOM, atom)?;
+        Ok(reply_in(earlier(earlier(alike, free), any)))
+    }
+
+    /// What the first pair tells that tells whether the atom is true.
+    fn truth_of(&self, atom: &Flat) -> Result<Option<Reply>, AllocError>
+        ensures { IfOk result (λ r. r ≡ decided self.now (Question.True atom.now)) }
+    {
+        match atom.pred() {
+            Some(pred) if is_narrow(pred, key_of(atom)) => self.told_of(pred, atom),
+            _ => truth_decided(self.alloc, self.pairs.as_slice(), atom),
         }
     }
 
@@ -297,10 +322,10 @@ impl Answers {
     pub fn find(&self, question: &Question) -> Result<Option<Reply>, AllocError>
         ensures { IfOk result (λ r. r ≡ decided self.now question.now) }
     {
-        let pairs = self.pairs.as_slice();
         if let Question::True(atom) = question {
-            return truth_decided(self.alloc, pairs, atom);
+            return self.truth_of(atom);
         }
+        let pairs = self.pairs.as_slice();
         let form = question.canonical(self.alloc)?;
         reply_to(
             self.alloc,
@@ -326,9 +351,18 @@ impl Answers {
             question: question.copy(self.alloc)?,
             reply: reply.copy(self.alloc)?,
         };
+        let telling = telling_mark(&pair.question);
         let place = self.pairs.len();
         self.pairs.push(pair)?;
-        if note(self.alloc, &mut self.places, mark, place).is_err() {
+        let noted = note_both(
+            self.alloc,
+            &mut self.places,
+            &mut self.tellers,
+            mark,
+            telling,
+            place,
+        );
+        if noted.is_err() {
             let _ = self.pairs.pop();
             return Err(AllocError);
         }

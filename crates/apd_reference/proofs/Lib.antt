@@ -20,3 +20,4 @@ pub mod WatchedRun
 pub mod LowNames
 pub mod Listing
 pub mod Knowing
+pub mod Fitting

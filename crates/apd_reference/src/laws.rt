@@ -24,23 +24,34 @@ use apd_answers::Intended;
 /// What a program replies, within whatever budget, fits the question, isn't that it isn't known, and is true of every interpretation whose ground atoms
 /// that hold are those of the program's least model.
 pub fn replies_are_true<M: Intended>(_intended: &M)
-    ensures truth { (P : List Tuple) → All IsClause P → (budget : ℕ) → 0 < budget → HoldsLeastModel P M.interpretation → (q : Question) (r : Reply) → reference_reply P budget q ≡ Some r → IsTrueReply M.interpretation q r }
-    ensures fits { (P : List Tuple) → All IsClause P → (budget : ℕ) → 0 < budget → (q : Question) (r : Reply) → reference_reply P budget q ≡ Some r → Fits q r × (r ≢ Unknown) }
+    ensures truth { (P : List Tuple) → All IsClause P → (budget : ℕ) → 0 < budget →
+        HoldsLeastModel P M.interpretation → (q : Question) (r : Reply) →
+        reference_reply P budget q ≡ Some r → IsTrueReply M.interpretation q r }
+    ensures fits { (P : List Tuple) → All IsClause P → (budget : ℕ) → 0 < budget →
+        (q : Question) (r : Reply) → reference_reply P budget q ≡ Some r →
+        Fits q r × (r ≢ Unknown) }
 {}
 
 /// An answer, which is canonical, is general exactly where it is a list of as many distinct variables as the goals have.
 pub fn general_answers_are_lists_of_distinct_variables()
-    ensures { (goals : List Term) (t : Term) → canonical t ≡ t → IsTrue (is_general goals t) ↔ IsListOfDistinct (length (variables_of goals)) t }
+    ensures { (goals : List Term) (t : Term) → canonical t ≡ t →
+        IsTrue (is_general goals t) ↔ IsListOfDistinct (length (variables_of goals)) t }
 {}
 
 /// The values that a program replies have no names but its own, the standard ones of lists, and those of the body.
 pub fn replies_are_named()
-    ensures { (n : ℕ) (P : List Tuple) (budget : ℕ) (t : Tuple) (values : List Term) → 1 < n → All IsClause P → AllTuplesNamed n P → AllNamed n t.body → reference_reply P budget (Covers t) ≡ Some (Values values) → AllNamed n values }
+    ensures { (n : ℕ) (P : List Tuple) (budget : ℕ) (t : Tuple) (values : List Term) → 1 < n →
+        All IsClause P → AllTuplesNamed n P → AllNamed n t.body →
+        reference_reply P budget (Covers t) ≡ Some (Values values) → AllNamed n values }
 {}
 
 /// The dialogue in which someone answers the questions that he can, up to k times, is a dialogue with his replies; and where
 /// he can't answer what comes next, it is so for every greater number.
 pub fn who_can_answers<S, E>()
-    ensures dialogue { (replies : Question → Option Reply) (d : Diagnosis S E) (k : ℕ) (store : Store) (s : S) → (given : List Reply) × (answered replies d k store s ≡ dialogue d given store s) }
-    ensures enough { (replies : Question → Option Reply) (d : Diagnosis S E) (k j : ℕ) (store : Store) (s : S) → IsLeft replies d (answered replies d k store s).turn → answered replies d (k + j) store s ≡ answered replies d k store s }
+    ensures dialogue { (replies : Question → Option Reply) (d : Diagnosis S E) (k : ℕ)
+        (store : Store) (s : S) → (given : List Reply) ×
+        (answered replies d k store s ≡ dialogue d given store s) }
+    ensures enough { (replies : Question → Option Reply) (d : Diagnosis S E) (k j : ℕ)
+        (store : Store) (s : S) → IsLeft replies d (answered replies d k store s).turn →
+        answered replies d (k + j) store s ≡ answered replies d k store s }
 {}

@@ -7,9 +7,8 @@ ghost use Rattle.apd_clauses.specs.Clauses.{tuples_of};
 ghost use Rattle.apd_reference.specs.Ready.{IsReady};
 
 use crate::new_names::after_clauses;
-use crate::replier::Replier;
 use crate::replies::reply_to;
-use apd_answers::{Question, Reply};
+use apd_answers::{Question, Replier, Reply};
 use apd_clauses::Program;
 use std::alloc::{AllocError, Global};
 
@@ -48,26 +47,23 @@ impl Reference {
 }
 
 impl Replier for Reference {
+    ghost use Rattle.apd_answers.specs.Repliers.{RepliesAreNamed, RepliesFit};
     ghost use Rattle.apd_clauses.specs.Clauses.{tuples_of};
+    ghost use Rattle.apd_reference.specs.NewNames.{after_program};
     ghost use Rattle.apd_reference.specs.Replying.{reference_reply};
-    ghost use Rattle.std.specs.Prelude.{◌≢◌, Some, IfOk};
-    ghost use Rattle.apd_answers.specs.declared.question.Question.{Question};
-    ghost use Rattle.apd_answers.specs.declared.question.Reply.{Reply};
-    ghost use Rattle.apd_answers.specs.declared.question.Reply.TheVariants.{Unknown};
-    ghost use Rattle.apd_answers.specs.Questions.{Fits};
+    ghost use Rattle.std.specs.Prelude.{IfOk};
 
     ghost replies = { λ r q. reference_reply (tuples_of r.program) r.budget q };
+
+    ghost names = { λ r. after_program (tuples_of r.program) };
 
     fn reply(&mut self, question: &Question) -> Result<Option<Reply>, AllocError>
         ensures reply { IfOk result
             (λ r. r ≡ reference_reply (tuples_of self.old.program) self.old.budget question.now) }
-        ensures same { reference_reply (tuples_of self.new.program) self.new.budget
-            ≡ reference_reply (tuples_of self.old.program) self.old.budget }
-        ensures program { self.new.program ≡ self.old.program }
-        ensures budget { self.new.budget ≡ self.old.budget }
-        ensures fits { (q : Question) (r : Reply) →
-            reference_reply (tuples_of self.old.program) self.old.budget q ≡ Some r →
-            Fits q r × (r ≢ Unknown) }
+        ensures same { self.new ≡ self.old }
+        ensures fits { RepliesFit (reference_reply (tuples_of self.old.program) self.old.budget) }
+        ensures named { RepliesAreNamed (after_program (tuples_of self.old.program))
+            (reference_reply (tuples_of self.old.program) self.old.budget) }
     {
         let _count = self.program.count();
         reply_to(

@@ -1,0 +1,20 @@
+-- What is replied by nobody, or by a program that is known to be right.
+use Rattle.std.specs.Prelude.{ℕ, Option}
+use Rattle.apd_answers.specs.Repliers.{nobody}
+use Rattle.apd_answers.specs.declared.question.Question.{Question}
+use Rattle.apd_answers.specs.declared.question.Reply.{Reply}
+use Rattle.apd_clauses.specs.Clauses.{tuples_of}
+use Rattle.apd_reference.specs.NewNames.{after_program}
+use Rattle.apd_reference.specs.Replying.{reference_reply}
+use Rattle.apd_reference.specs.declared.referee.Referee.{Referee}
+use Rattle.apd_reference.specs.declared.referee.Referee.TheVariants.{Nobody, Program}
+
+-- the reply to a question, if there is one
+abbrev pub replies_of : Referee → Question → Option Reply
+replies_of Nobody = nobody
+replies_of (Program r) = reference_reply (tuples_of r.program) r.budget
+
+-- so many names the replies are made of, beside those of their questions
+abbrev pub names_known : Referee → ℕ
+names_known Nobody = 0
+names_known (Program r) = after_program (tuples_of r.program)

@@ -2,7 +2,7 @@
 use Rattle.std.specs.Prelude.{ℕ, ℤ, List, slice_get, if◌then◌else◌, Option, None, Some, Result, Ok, Err}
 use Rattle.std.specs.Option.{option_and_then}
 use Rattle.apd_term.specs.Term.{Term, variable, integer, compound, arguments, predicate_of}
-use Rattle.apd_term.specs.declared.standard.TheConstants.{LOOP, MISSING, QUERY, QUIT, TRACE, WRONG}
+use Rattle.apd_term.specs.declared.standard.TheConstants.{KNOWN, LOOP, MISSING, QUERY, QUIT, TRACE, WRONG}
 use Rattle.apd_causes.specs.declared.faults.BodyFault.{BodyFault}
 use Rattle.apd_causes.specs.declared.reading.Read.{Read}
 use Rattle.apd_causes.specs.declared.run.Query.{Query}
@@ -48,7 +48,8 @@ missing_asked (Some b) (Some a) = command.Missing b a
 missing_asked (Some b) None = command.Refused refusal.NotACommand
 missing_asked None a = command.Refused refusal.NotACommand
 
--- what a term of this predicate asks for: `quit`, `?- B`, `wrong(B, K)`, `missing(B, A)`, `loop`, or `trace(F)`
+-- what a term of this predicate asks for: `quit`, `?- B`, `wrong(B, K)`, `missing(B, A)`, `loop`, `trace(F)`, or
+-- `known`
 abbrev pub term_asked : Read → Option Pred → Command
 term_asked r p =
     if is_pred p (QUIT ∕ 0) then command.Quit
@@ -57,7 +58,8 @@ term_asked r p =
     else (if is_pred p (MISSING ∕ 2) then missing_asked (integer_at r.term 0) (slice_get (arguments r.term) 1)
     else (if is_pred p (LOOP ∕ 0) then command.Loop
     else (if is_pred p (TRACE ∕ 1) then trace_asked (filter_at r.term)
-    else command.Refused refusal.NotACommand)))))
+    else (if is_pred p (KNOWN ∕ 0) then command.Known
+    else command.Refused refusal.NotACommand))))))
 
 -- what a line asks for of which this was read; one without a token asks for nothing
 abbrev pub command_of : LineRead → Command

@@ -17,3 +17,4 @@ CanObey n (command.Wrong b k) = Unit {0}
 CanObey n (command.Missing b a) = IsNamed n a
 CanObey n command.Loop = Unit {0}
 CanObey n (command.Trace f) = FilterIsNamed n f
+CanObey n command.Known = Unit {0}

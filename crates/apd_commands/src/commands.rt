@@ -19,7 +19,7 @@ use apd_ops::Ops;
 use apd_ports::Filter;
 use apd_read::Read;
 use apd_term::names::Names;
-use apd_term::standard::{LOOP, MISSING, QUERY, QUIT, TRACE, WRONG};
+use apd_term::standard::{KNOWN, LOOP, MISSING, QUERY, QUIT, TRACE, WRONG};
 use apd_term::{Flat, Pred, Sym};
 use apd_text::Refusal;
 use std::alloc::{AllocError, Global};
@@ -43,6 +43,8 @@ pub enum Command {
     Loop,
     /// The ports of later runs are printed by this filter.
     Trace(Filter),
+    /// What is known is printed.
+    Known,
 }
 
 /// What is said to a term that is refused for this fault, which want of memory is not.
@@ -157,6 +159,12 @@ fn term_command(alloc: Global, read: &Read) -> Result<Command, AllocError>
                 arity: 1,
             },
         ) => trace_command(alloc, &read.term),
+        Some(
+            Pred {
+                name: KNOWN,
+                arity: 0,
+            },
+        ) => Ok(Command::Known),
         _ => Ok(Command::Refused(Refusal::NotACommand)),
     }
 }

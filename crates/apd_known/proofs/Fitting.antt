@@ -10,14 +10,17 @@ use Rattle.apd_token.specs.declared.items.Token.{Token}
 use Rattle.apd_ops.specs.Table.{Table}
 use Rattle.apd_read.specs.Reader.{Reader}
 use Rattle.apd_answers.specs.Fitting.{AllFit}
-use Rattle.apd_answers.specs.declared.store.Pair.{Pair}
+use Rattle.apd_answers.specs.Store.{Store}
 use Rattle.apd_answers.proofs.Fitted.{fit_added}
 use Rattle.apd_load.specs.Lines.{line_at}
 use Rattle.apd_known.specs.Files.{States, states, refused, at_end, after_term, after_reading, after_division, stated_from, stated_in}
-use Rattle.apd_known.specs.Statements.{statement_added, term_stated, with_clause, with_statement}
+use Rattle.apd_known.specs.Pairs.{SaidFits}
+use Rattle.apd_known.specs.Statements.{with_clause, with_said}
 use Rattle.apd_known.specs.declared.file.Stated.{Stated}
-use Rattle.apd_known.proofs.Kept.{form_first}
-use Rattle.apd_known.proofs.Stating.{term_fits}
+use Rattle.apd_known.specs.declared.statements.Statement.{Statement}
+use Rattle.apd_known.specs.declared.statements.Statement.TheVariants.{Replies, Trusts}
+use Rattle.apd_known.proofs.Kept.{holds_next}
+use Rattle.apd_known.proofs.Saying.{said_fits}
 
 -- so far
 abbrev SoFit : Option Stated → Type 0
@@ -33,15 +36,13 @@ end_fit : (s : Option Stated) → SoFit s → FitsIn (at_end s)
 end_fit None h = tt
 end_fit (Some s) h = h
 
+said_fit : (store : Store) (said : Statement) → AllFit store → SaidFits said → AllFit (with_said store said)
+said_fit store (Replies pair) h fits = fit_added store pair.question pair.reply h fits
+said_fit store (Trusts p) h fits = h
+
 next_fit : (s : Option Stated) (now : Stated) (t : Term) → with_clause s t ≡ Ok now → SoFit s → AllFit now.answers
-next_fit None now t e h = subst (λ (x : Stated). AllFit x.answers) (form_first t now e) tt
-next_fit (Some s) now t e h = by_pair (term_stated t) refl e
-  where
-    by_pair : (w : Result Pair OracleCause) → term_stated t ≡ w → statement_added s w ≡ Ok now → AllFit now.answers
-    by_pair (Err cause) is q = absurd (cc)
-    by_pair (Ok pair) is q =
-        let same : with_statement s pair ≡ now = cc in
-        subst (λ (x : Stated). AllFit x.answers) same (fit_added s.answers pair.question pair.reply h (term_fits t pair is))
+next_fit s now t e h =
+    holds_next (λ (x : Stated). AllFit x.answers) s now t e (λ form. tt) (λ x said is says. said_fit x.answers said (subst SoFit is h) (said_fits x.form t said says))
 
 module _ {names : List (List ℕ)} (reader : Reader names) (ops : Table) (text : List ℕ) (tokens : List Token) where
   -- what is behind a clause

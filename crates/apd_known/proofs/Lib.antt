@@ -2,6 +2,7 @@ pub mod Truths
 pub mod Listing
 pub mod Telling
 pub mod Stating
+pub mod Saying
 pub mod Kept
 pub mod Reaching
 pub mod Dividing

@@ -1,4 +1,4 @@
--- What a clause states may be stated.
+-- What a clause replies may be stated.
 use Rattle.std.proofs.Common.{◌≡◌, ◌==◌, ◌&&◌, ◌+◌, ◌<◌, ◌≤◌, ℕ, suc, arith, Bool, true, false, List, [], ◌∷◌, length, Option, Some, None, Result, Ok, Err, refl, sym, ap, subst, ◌∙◌}
 use Rattle.std.specs.Prelude.{if◌then◌else◌, not}
 use Rattle.std.specs.Option.{option_map}
@@ -33,16 +33,18 @@ use Rattle.apd_answers.specs.declared.question.Reply.{Reply}
 use Rattle.apd_answers.specs.declared.question.Reply.TheVariants.{Yes, No, Values, Unknown}
 use Rattle.apd_answers.specs.declared.store.Pair.{Pair}
 use Rattle.apd_known.specs.Pairs.{IsStatable, MayCover}
-use Rattle.apd_known.specs.Statements.{is_own, is_of_own, is_own_atom, is_rule, pair_of, truth_stated, order_stated, values_stated, solution_stated, body_stated, cover_stated, term_stated}
-use Rattle.apd_known.specs.Told.{word_told, values_told}
+use Rattle.apd_known.specs.Statements.{is_own, is_of_own, is_own_atom, is_rule, pair_of, truth_stated, order_stated, values_stated, solution_stated, body_stated, cover_stated, reply_stated, truth_in}
+use Rattle.apd_known.specs.Told.{word_told, truth_told, values_told}
+use Rattle.apd_known.specs.declared.statements.Form.{Form}
+use Rattle.apd_known.specs.declared.statements.Form.TheVariants.{First, Second}
 use Rattle.apd_arith.specs.Truths.{is_ground}
 use Rattle.apd_known.specs.Truths.{is_true_if_builtin}
-use Rattle.apd_known.proofs.Telling.{no_yes, values_told_named, word_told_fits, word_told_named}
+use Rattle.apd_known.proofs.Telling.{no_yes, values_told_named, truth_told_fits, truth_told_named, word_told_fits, word_told_named}
 use Rattle.apd_arith.proofs.Tests.{all_ground, test_ground}
 use Rattle.apd_known.proofs.Truths.{all_pass}
 
 -- an atom that passes the test is one of a program's own predicate, and so is its canonical form
-kind_own : (k : Kind) → is_own k ≡ true → k ≡ kinds.User
+pub kind_own : (k : Kind) → is_own k ≡ true → k ≡ kinds.User
 kind_own kinds.User e = refl
 kind_own (kinds.Builtin g) e = absurd (cc)
 kind_own kinds.Conjunction e = absurd (cc)
@@ -159,26 +161,31 @@ module _ (n : ℕ) (pair : Pair) where
       by_test true rule q = body_may c (clause_from c) r refl rule named (of r refl) q
       by_test false rule q = absurd (cc)
 
-  -- what a term states may be stated, with the names of the term
-  pub term_may : (t : Term) → IsNamed n t → term_stated t ≡ Ok pair → IsStatable n pair
-  unfolding term_stated
-  term_may (variable v) named e = absurd (cc)
-  term_may (integer i) named e = absurd (cc)
-  term_may (compound f none) named e = absurd (cc)
-  term_may (compound f (more a none)) named e = absurd (cc)
-  term_may (compound f (more a (more r none))) named e = by_name (f.0 == TRUE.0) (f.0 == COVERS.0) e
+  -- in a file of either form a word is a reply to whether an atom is true
+  word_may : (form : Form) (a r : Term) (s : Reply) → truth_in form r ≡ Some s → Fits (True a) s × ReplyIsNamed n s
+  word_may First a r s is = (word_told_fits (True a) r s tt tt is, word_told_named n r s is)
+  word_may Second a r s is = (truth_told_fits (True a) r s tt tt tt is, truth_told_named n r s is)
+
+  -- what a term replies may be stated, with the names of the term
+  pub reply_may : (form : Form) (t : Term) → IsNamed n t → reply_stated form t ≡ Ok pair → IsStatable n pair
+  unfolding reply_stated
+  reply_may form (variable v) named e = absurd (cc)
+  reply_may form (integer i) named e = absurd (cc)
+  reply_may form (compound f none) named e = absurd (cc)
+  reply_may form (compound f (more a none)) named e = absurd (cc)
+  reply_may form (compound f (more a (more r none))) named e = by_name (f.0 == TRUE.0) (f.0 == COVERS.0) e
     where
-      by_name : (b d : Bool) → (if b then truth_stated a (word_told r) else (if d then cover_stated a (values_told r) else Err NotAStatement)) ≡ Ok pair → IsStatable n pair
-      by_name true d q = truth_may a (word_told r) named.1.0 (λ s is. (word_told_fits (True a) r s tt tt is, word_told_named n r s is)) q
+      by_name : (b d : Bool) → (if b then truth_stated a (truth_in form r) else (if d then cover_stated a (values_told r) else Err NotAStatement)) ≡ Ok pair → IsStatable n pair
+      by_name true d q = truth_may a (truth_in form r) named.1.0 (λ s is. word_may form a r s is) q
       by_name false true q = cover_may a (values_told r) named.1.0 (λ s is. values_told_named n r s named.1.1.0 is) q
       by_name false false q = absurd (cc)
-  term_may (compound f (more x (more y (more r none)))) named e = by_name (f.0 == BELOW.0) e
+  reply_may form (compound f (more x (more y (more r none)))) named e = by_name (f.0 == BELOW.0) e
     where
       by_name : (b : Bool) → (if b then order_stated x y (word_told r) else Err NotAStatement) ≡ Ok pair → IsStatable n pair
       by_name true q =
           order_may x y (word_told r) named.1.0 named.1.1.0 (λ s is. (word_told_fits (Below (canonical x) (canonical y)) r s tt tt is, word_told_named n r s is)) q
       by_name false q = absurd (cc)
-  term_may (compound f (more x (more y (more r (more z ts))))) named e = absurd (cc)
+  reply_may form (compound f (more x (more y (more r (more z ts))))) named e = absurd (cc)
 
 -- each term is named by some names
 abbrev mutual
@@ -203,8 +210,8 @@ mutual
       (IsNamed-more (bound t) (bound t + bounds ts) t (omega arith) (bound_named t), AreNamed-more (bounds ts) (bound t + bounds ts) ts (omega arith) (bounds_named ts))
 
 -- so the reply that is stated fits
-pub term_fits : (t : Term) (pair : Pair) → term_stated t ≡ Ok pair → Fits pair.question pair.reply
-term_fits t pair e = (term_may (bound t) pair t (bound_named t) e).fits
+pub reply_fits : (form : Form) (t : Term) (pair : Pair) → reply_stated form t ≡ Ok pair → Fits pair.question pair.reply
+reply_fits form t pair e = (reply_may (bound t) pair form t (bound_named t) e).fits
 
 -- a term that is a name with three arguments
 pub three_parts : (t a b d : Term) (f : NameId) → is_pred (predicate_of t) (f ∕ 3) ≡ true → slice_get (arguments t) 0 ≡ Some a → slice_get (arguments t) 1 ≡ Some b → slice_get (arguments t) 2 ≡ Some d

@@ -3,7 +3,7 @@ use Rattle.std.specs.Prelude.{◌==◌, ◌&&◌, ◌+◌, ℤ, pos, negsuc, Lis
 use Rattle.std.specs.List.{list_all}
 use Rattle.apd_term.specs.Term.{Term, Terms, variable, integer, compound, none, more, predicate_of}
 use Rattle.apd_term.specs.Canonical.{canonical}
-use Rattle.apd_term.specs.declared.standard.TheConstants.{TRUE, COVERS, BELOW, FORM, NECK}
+use Rattle.apd_term.specs.declared.standard.TheConstants.{TRUE, COVERS, BELOW, FORM, NECK, TRUSTED}
 use Rattle.apd_term.specs.declared.tuple.Tuple.{Tuple}
 use Rattle.apd_term.specs.declared.term.Pred.{Pred}
 use Rattle.apd_causes.specs.declared.faults.BodyFault.{BodyFault}
@@ -14,16 +14,22 @@ use Rattle.apd_clauses.specs.Kinds.{kind_of}
 use Rattle.apd_clauses.specs.declared.kinds.Kind.{Kind}
 use Rattle.apd_clauses.specs.declared.kinds.Kind.TheVariants as kinds
 use Rattle.apd_answers.specs.Questions.{unknowns, with_values}
-use Rattle.apd_answers.specs.Store.{empty_store, with_pair}
+use Rattle.apd_answers.specs.Store.{Store, empty_store, with_pair}
+use Rattle.apd_answers.specs.Trust.{with_trust}
 use Rattle.apd_answers.specs.declared.question.Question.{Question}
 use Rattle.apd_answers.specs.declared.question.Question.TheVariants.{True, Covers, Below}
 use Rattle.apd_answers.specs.declared.question.Reply.{Reply}
 use Rattle.apd_answers.specs.declared.question.Reply.TheVariants.{Yes, No, Values, Unknown}
 use Rattle.apd_answers.specs.declared.store.Pair.{Pair}
-use Rattle.apd_known.specs.Told.{word_told, values_told}
+use Rattle.apd_known.specs.Indicators.{predicate_from}
+use Rattle.apd_known.specs.Told.{truth_told, word_told, values_told}
 use Rattle.apd_arith.specs.Truths.{is_ground}
 use Rattle.apd_known.specs.Truths.{is_true_if_builtin}
 use Rattle.apd_known.specs.declared.file.Stated.{Stated}
+use Rattle.apd_known.specs.declared.statements.Form.{Form}
+use Rattle.apd_known.specs.declared.statements.Form.TheVariants.{First, Second}
+use Rattle.apd_known.specs.declared.statements.Statement.{Statement}
+use Rattle.apd_known.specs.declared.statements.Statement.TheVariants.{Replies, Trusts}
 
 -- an atom of a predicate that a program may define
 abbrev pub is_own : Kind → Bool
@@ -40,7 +46,12 @@ is_own_atom a = is_of_own (predicate_of a)
 abbrev pub pair_of : Question → Reply → Pair
 pair_of question reply = record { question = question; reply = reply }
 
--- `true(A, yes)`, `true(A, no)`: whether an atom is true
+-- the reply that a word is to whether an atom is true; in a file of the second form it needn't be known
+abbrev pub truth_in : Form → Term → Option Reply
+truth_in First t = word_told t
+truth_in Second t = truth_told t
+
+-- `true(A, yes)`, `true(A, no)`, `true(A, unknown)`: whether an atom is true
 abbrev pub truth_stated : Term → Option Reply → Result Pair OracleCause
 truth_stated a None = Err NotAStatement
 truth_stated a (Some reply) = if is_own_atom a then Ok (pair_of (True a) reply) else Err NotUserAtom
@@ -79,41 +90,61 @@ abbrev pub cover_stated : Term → Option Reply → Result Pair OracleCause
 cover_stated c None = Err NotAStatement
 cover_stated c (Some reply) = if is_rule c then body_stated (clause_from c) reply else Err NotAStatement
 
--- what a clause states, or the first cause why it is no statement
-unfoldable pub term_stated : Term → Result Pair OracleCause
-term_stated (compound f (more a (more r none))) =
-    if f.0 == TRUE.0 then truth_stated a (word_told r)
+-- the question and the reply that a clause states, or the first cause why it states none
+unfoldable pub reply_stated : Form → Term → Result Pair OracleCause
+reply_stated form (compound f (more a (more r none))) =
+    if f.0 == TRUE.0 then truth_stated a (truth_in form r)
     else (if f.0 == COVERS.0 then cover_stated a (values_told r) else Err NotAStatement)
-term_stated (compound f (more q (more p (more r none)))) = if f.0 == BELOW.0 then order_stated q p (word_told r) else Err NotAStatement
-term_stated t = Err NotAStatement
+reply_stated form (compound f (more q (more p (more r none)))) = if f.0 == BELOW.0 then order_stated q p (word_told r) else Err NotAStatement
+reply_stated form t = Err NotAStatement
+
+-- `trusted(P/N)`, which a file of the first form doesn't have: what the program proves of a predicate is true
+abbrev pub trust_stated : Form → Option Pred → Result Statement OracleCause
+trust_stated First p = Err NotAStatement
+trust_stated Second None = Err NotAStatement
+trust_stated Second (Some p) = if is_own (kind_of p) then Ok (Trusts p) else Err NotUserAtom
+
+abbrev pub of_reply : Result Pair OracleCause → Result Statement OracleCause
+of_reply (Err cause) = Err cause
+of_reply (Ok pair) = Ok (Replies pair)
+
+-- what a clause of a file of this form states, or the first cause why it is no statement
+unfoldable pub term_stated : Form → Term → Result Statement OracleCause
+term_stated form (compound f (more p none)) = if f.0 == TRUSTED.0 then trust_stated form (predicate_from p) else Err NotAStatement
+term_stated form t = of_reply (reply_stated form t)
 
 -- no statement yet
-abbrev pub nothing_stated : Stated
-nothing_stated = record { answers = empty_store; statements = 0 }
+abbrev pub nothing_stated : Form → Stated
+nothing_stated form = record { form = form; answers = empty_store; statements = 0 }
 
--- `form(1)`
+-- `form(1)`, `form(2)`
 abbrev pub integer_of : Term → Option ℤ
 integer_of (integer n) = Some n
 integer_of t = None
 
 abbrev pub form_numbered : Option ℤ → Result Stated OracleCause
 form_numbered None = Err NoForm
-form_numbered (Some (pos n)) = if n == 1 then Ok nothing_stated else Err BadForm
+form_numbered (Some (pos n)) = if n == 1 then Ok (nothing_stated First) else (if n == 2 then Ok (nothing_stated Second) else Err BadForm)
 form_numbered (Some (negsuc n)) = Err BadForm
 
 abbrev pub form_stated : Term → Result Stated OracleCause
 form_stated (compound f (more t none)) = if f.0 == FORM.0 then form_numbered (integer_of t) else Err NoForm
 form_stated t = Err NoForm
 
--- with a pair more, which is kept once; each statement counts
-abbrev pub with_statement : Stated → Pair → Stated
-with_statement s pair = record { answers = with_pair s.answers pair.question pair.reply; statements = s.statements + 1 }
+-- the store with what a statement says, which is kept once
+abbrev pub with_said : Store → Statement → Store
+with_said store (Replies pair) = with_pair store pair.question pair.reply
+with_said store (Trusts p) = with_trust store p
 
-abbrev pub statement_added : Stated → Result Pair OracleCause → Result Stated OracleCause
+-- with a statement more; each counts
+abbrev pub with_statement : Stated → Statement → Stated
+with_statement s said = record { form = s.form; answers = with_said s.answers said; statements = s.statements + 1 }
+
+abbrev pub statement_added : Stated → Result Statement OracleCause → Result Stated OracleCause
 statement_added s (Err cause) = Err cause
-statement_added s (Ok pair) = Ok (with_statement s pair)
+statement_added s (Ok said) = Ok (with_statement s said)
 
 -- with a clause more: the first is the form, each further one a statement
 abbrev pub with_clause : Option Stated → Term → Result Stated OracleCause
 with_clause None t = form_stated t
-with_clause (Some s) t = statement_added s (term_stated t)
+with_clause (Some s) t = statement_added s (term_stated s.form t)

@@ -1,16 +1,16 @@
 //! The oracle file: replies that are known beforehand.
 
-ghost use Rattle.std.specs.Prelude.{◌≡◌, ◌<◌, ◌≤◌, ◌+◌, length, IfOk};
+ghost use Rattle.std.specs.Prelude.{◌≡◌, ◌<◌, ◌≤◌, ◌+◌, length, IfOk, OnOk};
 ghost use Rattle.std.specs.Option.{ForSome};
 ghost use Rattle.apd_base.specs.declared.limits.TheConstants.{MAX_FILE, MOST_NAMES};
 ghost use Rattle.apd_term.specs.Growth.{GrowsBy};
 ghost use Rattle.apd_token.specs.Grammar.{HasTokens};
 ghost use Rattle.apd_known.specs.Files.{all_stated, stated_in};
-ghost use Rattle.apd_known.specs.Pairs.{AllStatable};
-ghost use Rattle.apd_known.specs.Statements.{form_numbered, form_stated, integer_of, statement_added, term_stated, with_clause};
+ghost use Rattle.apd_known.specs.Pairs.{AllMayTrust, AllStatable, SaidFits};
+ghost use Rattle.apd_known.specs.Statements.{form_numbered, form_stated, integer_of, nothing_stated, statement_added, term_stated, with_clause, with_said};
 ghost use Rattle.apd_known.specs.Steps.{IsStated, unread, undivided};
 
-use crate::statements::term_stated;
+use crate::statements::{Form, Statement, term_stated};
 use apd_answers::Answers;
 use apd_causes::{OracleCause, ReadFault, TokenFault};
 use apd_load::{FIRST, line_of, place_of_fault, place_of_token_fault};
@@ -24,7 +24,10 @@ use std::alloc::{AllocError, Global};
 /// What an oracle file states.
 #[derive(Drop)]
 pub struct Stated {
-    /// The statements, each as a question with its reply, in the file's order; one that is repeated is kept once.
+    /// The file's form.
+    pub form: Form,
+    /// The replies, each with its question, and the predicates that are trusted, in the file's order; one that is repeated is
+    /// kept once.
     pub answers: Answers,
     /// How many statements there are, repeated ones counted.
     pub statements: u32,
@@ -86,21 +89,30 @@ fn integer_of(term: &Flat) -> Option<i64>
     }
 }
 
+/// No statement yet, in a file of this form.
+fn nothing_stated(alloc: Global, form: Form) -> Stated
+    ensures { result ≡ nothing_stated form }
+{
+    Stated {
+        form,
+        answers: Answers::new(alloc),
+        statements: 0,
+    }
+}
+
 /// No statement yet, where the form has this number.
 fn form_numbered(alloc: Global, number: Option<i64>) -> Result<Stated, OracleCause>
     ensures { result ≡ form_numbered number }
 {
     match number {
         None => Err(OracleCause::NoForm),
-        Some(1) => Ok(Stated {
-            answers: Answers::new(alloc),
-            statements: 0,
-        }),
+        Some(1) => Ok(nothing_stated(alloc, Form::First)),
+        Some(2) => Ok(nothing_stated(alloc, Form::Second)),
         Some(_) => Err(OracleCause::BadForm),
     }
 }
 
-/// No statement yet, where the clause is `form(1)`.
+/// No statement yet, where the clause is `form(1)` or `form(2)`.
 fn form_stated(alloc: Global, term: &Flat) -> Result<Result<Stated, OracleCause>, AllocError>
     ensures { IfOk result (λ s. s ≡ form_stated term.now) }
 {
@@ -118,6 +130,17 @@ fn form_stated(alloc: Global, term: &Flat) -> Result<Result<Stated, OracleCause>
     }
 }
 
+/// Puts what a statement says to the store.
+fn keep(store: &mut Answers, said: &Statement) -> Result<(), AllocError>
+    requires { SaidFits said.now }
+    ensures { OnOk result (store.new ≡ with_said store.old said.now) }
+{
+    match said {
+        Statement::Replies(pair) => store.add(&pair.question, &pair.reply),
+        Statement::Trusts(pred) => store.trust(*pred),
+    }
+}
+
 /// What is stated with the clause as one more statement.
 fn with_statement(
     alloc: Global,
@@ -125,12 +148,12 @@ fn with_statement(
     term: &Flat,
 ) -> Result<Result<Stated, OracleCause>, AllocError>
     requires { stated.statements < MAX_FILE }
-    ensures { IfOk result (λ s. s ≡ statement_added stated (term_stated term.now)) }
+    ensures { IfOk result (λ s. s ≡ statement_added stated (term_stated stated.form term.now)) }
 {
-    match term_stated(alloc, term)? {
+    match term_stated(alloc, stated.form, term)? {
         Err(cause) => Ok(Err(cause)),
-        Ok(pair) => {
-            stated.answers.add(&pair.question, &pair.reply)?;
+        Ok(said) => {
+            keep(&mut stated.answers, &said)?;
             stated.statements += 1;
             Ok(Ok(stated))
         }
@@ -166,6 +189,7 @@ fn state_clauses(
     ensures grows { GrowsBy (length text.now) names.old names.new }
     ensures stated { IsStated (λ n reader. all_stated reader ops.now text.now tokens.now) names.new result }
     ensures pairs { IfOk result (λ s. AllStatable (length names.new) s.answers.pairs) }
+    ensures trust { IfOk result (λ s. AllMayTrust (length names.new) s.answers.trusted) }
 {
     ops.has_no_clash();
     let mut stated = None;
@@ -195,12 +219,13 @@ fn state_clauses(
     }
 }
 
-/// What an oracle file states, read by these operators: the first clause is `form(1)`, and each further one a statement.
+/// What an oracle file states, read by these operators: the first clause is `form(1)` or `form(2)`, and each further one a
+/// statement.
 ///
 /// All tokens come first, then the clauses one after the other. The first fault is told: a fault of a token or of a reading
 /// in the line of its place, any other cause in the line of the clause's first token, and line 1 where there is no clause.
-/// Each pair fits, is one of user atoms, and has no other names than these. Whatever is answered, the names have only grown,
-/// by at most as many as the text has bytes.
+/// Each pair fits, is one of user atoms, and has no other names than these; and so is each predicate that is trusted one that
+/// a program may define. Whatever is answered, the names have only grown, by at most as many as the text has bytes.
 pub fn oracle_file(
     alloc: Global,
     text: &[u8],
@@ -212,6 +237,7 @@ pub fn oracle_file(
     ensures grows { GrowsBy (length text.now) names.old names.new }
     ensures stated { IsStated (λ n reader. stated_in reader ops.now text.now) names.new result }
     ensures pairs { IfOk result (λ s. AllStatable (length names.new) s.answers.pairs) }
+    ensures trust { IfOk result (λ s. AllMayTrust (length names.new) s.answers.trusted) }
 {
     match tokens(alloc, text) {
         Ok(tokens) => state_clauses(alloc, text, &tokens, ops, names),

@@ -3,6 +3,7 @@
 
 mod elements;
 mod file;
+mod indicators;
 mod laws;
 mod scripted;
 mod statements;
@@ -12,5 +13,6 @@ mod values;
 pub use file::{OracleText, Stated, oracle_file};
 pub use laws::one_statement_list;
 pub use scripted::Scripted;
+pub use statements::Form;
 pub use told::{truth_told, values_told, word_told};
-pub use values::{are_ground, are_true_if_builtin, unknown_count};
+pub use values::{are_ground, are_true_if_builtin, unknown_count, variable_count};

@@ -1,21 +1,44 @@
 //! What a clause of an oracle file states.
 
 ghost use Rattle.std.specs.Prelude.{◌≡◌, IfOk};
+ghost use Rattle.apd_term.specs.Term.{predicate_of};
+ghost use Rattle.apd_term.specs.declared.standard.TheConstants as names;
 ghost use Rattle.apd_clauses.specs.Bodies.{clause_from};
-ghost use Rattle.apd_known.specs.Statements.{is_rule, is_own_atom, body_stated, cover_stated, order_stated, solution_stated, term_stated, truth_stated, values_stated};
+ghost use Rattle.apd_clauses.specs.Kinds.{◌∕◌};
+ghost use Rattle.apd_clauses.specs.Predicates.{is_pred};
+ghost use Rattle.apd_known.specs.Statements.{is_rule, is_own_atom, body_stated, cover_stated, of_reply, order_stated, reply_stated, solution_stated, term_stated, trust_stated, truth_in, truth_stated, values_stated};
 
-use crate::told::{values_told, word_told};
+use crate::indicators::predicate_from;
+use crate::told::{truth_told, values_told, word_told};
 use crate::values::{are_ground, are_true_if_builtin, unknown_count};
 use apd_answers::{Pair, Question, Reply, with_values};
 use apd_causes::{BodyFault, OracleCause};
 use apd_clauses::{Kind, clause_of, kind_of};
 use apd_term::canonical::canonical;
-use apd_term::standard::{BELOW, COVERS, NECK, TRUE};
+use apd_term::standard::{BELOW, COVERS, NECK, TRUE, TRUSTED};
 use apd_term::{Atoms, Flat, Pred, Tuple};
 use std::alloc::{AllocError, Global};
 
-/// What a clause states, or why it is no statement.
-pub(crate) type Statement = Result<Pair, OracleCause>;
+/// Which statements an oracle file may have.
+#[derive(Clone, Copy)]
+pub enum Form {
+    /// Replies that are yes, no, or values.
+    First,
+    /// Besides these, replies that something isn't known, and trust in predicates.
+    Second,
+}
+
+/// What a statement says.
+#[derive(Drop)]
+pub(crate) enum Statement {
+    /// This is the reply to a question.
+    Replies(Pair),
+    /// What the program proves of this predicate is true.
+    Trusts(Pred),
+}
+
+/// The question and the reply that a clause states, or why it states none.
+type Stated = Result<Pair, OracleCause>;
 
 /// Whether the term is an atom of a predicate that a program may define.
 fn is_own_atom(term: &Flat) -> bool
@@ -27,8 +50,18 @@ fn is_own_atom(term: &Flat) -> bool
     }
 }
 
+/// The reply that a word is to whether an atom is true, in a file of this form.
+fn truth_in(form: Form, word: &Flat) -> Option<Reply>
+    ensures { result ≡ truth_in form word.now }
+{
+    match form {
+        Form::First => word_told(word),
+        Form::Second => truth_told(word),
+    }
+}
+
 /// What `true(A, R)` states.
-fn truth_stated(atom: Flat, reply: Option<Reply>) -> Statement
+fn truth_stated(atom: Flat, reply: Option<Reply>) -> Stated
     ensures { result ≡ truth_stated atom reply }
 {
     let Some(reply) = reply else {
@@ -49,7 +82,7 @@ fn order_stated(
     callee: &Flat,
     caller: &Flat,
     reply: Option<Reply>,
-) -> Result<Statement, AllocError>
+) -> Result<Stated, AllocError>
     ensures { IfOk result (λ s. s ≡ order_stated callee.now caller.now reply) }
 {
     let Some(reply) = reply else {
@@ -63,7 +96,7 @@ fn order_stated(
 }
 
 /// What values of a body's variables state.
-fn values_stated(alloc: Global, tuple: Tuple, values: Atoms) -> Result<Statement, AllocError>
+fn values_stated(alloc: Global, tuple: Tuple, values: Atoms) -> Result<Stated, AllocError>
     ensures { IfOk result (λ s. s ≡ values_stated tuple values) }
 {
     if !are_ground(&values) {
@@ -83,7 +116,7 @@ fn values_stated(alloc: Global, tuple: Tuple, values: Atoms) -> Result<Statement
 }
 
 /// What a reply to whether a clause with a ground head covers states.
-fn solution_stated(alloc: Global, tuple: Tuple, reply: Reply) -> Result<Statement, AllocError>
+fn solution_stated(alloc: Global, tuple: Tuple, reply: Reply) -> Result<Stated, AllocError>
     ensures { IfOk result (λ s. s ≡ solution_stated tuple reply) }
 {
     match reply {
@@ -97,7 +130,7 @@ fn solution_stated(alloc: Global, tuple: Tuple, reply: Reply) -> Result<Statemen
 }
 
 /// What a reply to whether a clause covers states.
-fn body_stated(alloc: Global, clause: &Flat, reply: Reply) -> Result<Statement, AllocError>
+fn body_stated(alloc: Global, clause: &Flat, reply: Reply) -> Result<Stated, AllocError>
     ensures { IfOk result (λ s. s ≡ body_stated (clause_from clause.now) reply) }
 {
     match clause_of(alloc, clause) {
@@ -122,7 +155,7 @@ fn is_rule(term: &Flat) -> bool
 }
 
 /// What `covers(C, R)` states.
-fn cover_stated(alloc: Global, clause: &Flat, reply: Option<Reply>) -> Result<Statement, AllocError>
+fn cover_stated(alloc: Global, clause: &Flat, reply: Option<Reply>) -> Result<Stated, AllocError>
     ensures { IfOk result (λ s. s ≡ cover_stated clause.now reply) }
 {
     match reply {
@@ -131,10 +164,10 @@ fn cover_stated(alloc: Global, clause: &Flat, reply: Option<Reply>) -> Result<St
     }
 }
 
-/// What a clause states, or the first cause why it is no statement.
-#[tactic(auto, unfolding(crate::specs::Statements::term_stated))]
-pub(crate) fn term_stated(alloc: Global, term: &Flat) -> Result<Statement, AllocError>
-    ensures { IfOk result (λ s. s ≡ term_stated term.now) }
+/// The question and the reply that a clause states, or the first cause why it states none.
+#[tactic(auto, unfolding(crate::specs::Statements::reply_stated))]
+fn reply_stated(alloc: Global, form: Form, term: &Flat) -> Result<Stated, AllocError>
+    ensures { IfOk result (λ s. s ≡ reply_stated form term.now) }
 {
     match term.pred() {
         Some(
@@ -145,7 +178,7 @@ pub(crate) fn term_stated(alloc: Global, term: &Flat) -> Result<Statement, Alloc
         ) => {
             let atom = term.arg(alloc, 0)?;
             let word = term.arg(alloc, 1)?;
-            Ok(truth_stated(atom, word_told(&word)))
+            Ok(truth_stated(atom, truth_in(form, &word)))
         }
         Some(
             Pred {
@@ -170,4 +203,55 @@ pub(crate) fn term_stated(alloc: Global, term: &Flat) -> Result<Statement, Alloc
         }
         _ => Ok(Err(OracleCause::NotAStatement)),
     }
+}
+
+/// What `trusted(P)` states, where P tells this predicate, if it tells one.
+fn trust_stated(form: Form, told: Option<Pred>) -> Result<Statement, OracleCause>
+    ensures { result ≡ trust_stated form told }
+{
+    match (form, told) {
+        (Form::Second, Some(pred)) => match kind_of(pred) {
+            Kind::User => Ok(Statement::Trusts(pred)),
+            _ => Err(OracleCause::NotUserAtom),
+        },
+        _ => Err(OracleCause::NotAStatement),
+    }
+}
+
+/// A reply as a statement.
+fn of_reply(stated: Stated) -> Result<Statement, OracleCause>
+    ensures { result ≡ of_reply stated }
+{
+    match stated {
+        Ok(pair) => Ok(Statement::Replies(pair)),
+        Err(cause) => Err(cause),
+    }
+}
+
+/// Whether the term is `trusted` of one argument.
+fn is_trust(term: &Flat) -> bool
+    ensures { result ≡ is_pred (predicate_of term.now) (names.TRUSTED ∕ 1) }
+{
+    matches!(
+        term.pred(),
+        Some(Pred {
+            name: TRUSTED,
+            arity: 1
+        })
+    )
+}
+
+/// What a clause of a file of this form states, or the first cause why it is no statement.
+pub(crate) fn term_stated(
+    alloc: Global,
+    form: Form,
+    term: &Flat,
+) -> Result<Result<Statement, OracleCause>, AllocError>
+    ensures { IfOk result (λ s. s ≡ term_stated form term.now) }
+{
+    if !is_trust(term) {
+        return Ok(of_reply(reply_stated(alloc, form, term)?));
+    }
+    let indicator = term.arg(alloc, 0)?;
+    Ok(trust_stated(form, predicate_from(alloc, &indicator)?))
 }

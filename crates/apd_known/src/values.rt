@@ -2,7 +2,7 @@
 
 ghost use Rattle.std.specs.Prelude.{◌≡◌, length, [], IfOk, OnOk};
 ghost use Rattle.std.specs.List.{flat_map, fold, list_all};
-ghost use Rattle.apd_term.specs.Canonical.{with_new};
+ghost use Rattle.apd_term.specs.Canonical.{by_appearance, with_new};
 ghost use Rattle.apd_term.specs.Term.{variables};
 ghost use Rattle.apd_answers.specs.Questions.{unknowns};
 ghost use Rattle.apd_arith.specs.Truths.{is_ground};
@@ -31,6 +31,15 @@ fn note_variables(seen: &mut IndexSet<u64>, term: &Flat) -> Result<(), AllocErro
         }
     }
     Ok(())
+}
+
+/// How many variables the term has, each counted once.
+pub fn variable_count(alloc: Global, term: &Flat) -> Result<usize, AllocError>
+    ensures { IfOk result (λ n. n ≡ length (by_appearance (variables term.now))) }
+{
+    let mut seen = IndexSet::new(alloc);
+    note_variables(&mut seen, term)?;
+    Ok(seen.len())
 }
 
 /// How many variables the body has.

@@ -1,7 +1,7 @@
-//! The laws of reading back: what `apd_write` writes of a term, and of the goals of a query, is read by `apd_token` and
-//! `apd_read` as that term.
+//! The laws of reading back: what `apd_write` writes of a term, of the goals of a query, and of clauses one after another, is
+//! read by `apd_token` and `apd_read` as these terms.
 //!
-//! The laws are the contracts of [`reading_back`] and [`items_and_queries_read_back`]; no code here runs.
+//! The laws are the contracts of [`reading_back`], [`items_and_queries_read_back`] and [`lines_read_back`]; no code here runs.
 #![tactic(auto)]
 
 ghost use Rattle.apd_term.specs.Term.{Term};
@@ -11,11 +11,12 @@ ghost use Rattle.apd_ops.specs.Table.{Table, IsTable};
 ghost use Rattle.apd_token.specs.declared.items.Token.{Token};
 ghost use Rattle.apd_token.specs.Grammar.{HasTokens};
 ghost use Rattle.apd_read.specs.Reader.{IsRead};
-ghost use Rattle.std.specs.Prelude.{◌≡◌, ℕ, ◌+◌, ◌≤◌, ◌<◌, List, ◌++◌, codes, length, IsUtf8, Result, Ok};
+ghost use Rattle.std.specs.Prelude.{◌≡◌, ℕ, ◌+◌, ◌≤◌, ◌<◌, List, ◌++◌, codes, length, map, IsUtf8, Result, Ok};
 ghost use Rattle.apd_term.specs.Names.{text_of_name};
 ghost use Rattle.apd_term.specs.declared.term.NameId.{NameId};
 ghost use Rattle.apd_reading_back.specs.Law.{AreNames, IsReadable, IsWritable, item_text, clause_text, ReadsAs, ReadsBack, IsTermRead};
 ghost use Rattle.apd_reading_back.specs.Levels.{levels};
+ghost use Rattle.apd_reading_back.specs.Lines.{AreWritten, Line, ReadsInTurn, lines_text};
 ghost use Rattle.apd_reading_back.specs.Queries.{AreReadable, IsAskable, call_term, call_text, conjoined, goals_text, query_term, query_text};
 
 /// The law of reading back. The text of a term as a clause, by a table of operators, has tokens,
@@ -54,4 +55,12 @@ pub fn items_and_queries_read_back()
         (later : List (List ℕ)) (tokens : List Token) (answer : Result Read ReadFault) →
         HasTokens text tokens → IsRead ops (names ++ later) text tokens 0 answer →
         answer ≡ Ok back.read }
+{}
+
+/// Clauses that are written one after another, each in a line of its own, are read in turn as their terms, whatever names come
+/// later.
+pub fn lines_read_back()
+    ensures { (ops : Table) (names : List (List ℕ)) (lines : List Line) →
+        IsTable ops → AreNames names → AreWritten ops names lines →
+        ReadsInTurn ops names (lines_text lines) (map (λ (l : Line). l.term) lines) }
 {}

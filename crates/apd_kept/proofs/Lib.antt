@@ -1,0 +1,6 @@
+pub mod MoreNames
+pub mod Forms
+pub mod Clauses
+pub mod StatedBack
+pub mod Reading
+pub mod Law

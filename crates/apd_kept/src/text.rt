@@ -1,0 +1,116 @@
+//! The text of what is known.
+
+ghost use Rattle.std.specs.Prelude.{◌≡◌, ◌<◌, ◌++◌, flat_map, length, slice_get, IfOk, IfSome, OnErr, OnOk};
+ghost use Rattle.apd_answers.specs.declared.store.Pair.{Pair};
+ghost use Rattle.apd_kept.specs.Kept.{known_text, line_of, pair_line, trust_line};
+
+use crate::statements::{pair_term, trust_term};
+use apd_answers::Answers;
+use apd_base::Text;
+use apd_ops::Ops;
+use apd_term::names::Names;
+use apd_term::{Flat, Pred};
+use apd_write::write_term;
+use std::alloc::{AllocError, Global};
+
+/// A statement in a line of its own.
+fn line_of(alloc: Global, ops: &Ops, names: &Names, statement: &Flat) -> Result<Text, AllocError>
+    ensures { IfOk result (λ t. t ≡ line_of ops.now names.now statement.now) }
+{
+    let mut text = Text::new(alloc);
+    write_term(alloc, ops, names, statement, 1200, &mut text)?;
+    text.extend(b" .\n")?;
+    Ok(text)
+}
+
+/// The line of a predicate that is trusted.
+fn trust_line(alloc: Global, ops: &Ops, names: &Names, pred: Pred) -> Result<Text, AllocError>
+    ensures { IfOk result (λ t. t ≡ trust_line ops.now names.now pred) }
+{
+    let statement = trust_term(alloc, pred)?;
+    line_of(alloc, ops, names, &statement)
+}
+
+/// The line of the reply at a place, counted from 0.
+fn pair_line(
+    alloc: Global,
+    ops: &Ops,
+    names: &Names,
+    answers: &Answers,
+    i: usize,
+) -> Result<Text, AllocError>
+    requires { i < length answers.now.pairs }
+    ensures { IfOk result (λ t. IfSome (slice_get answers.now.pairs i)
+        (λ (p : Pair). t ≡ pair_line ops.now names.now p)) }
+{
+    let statement = pair_term(alloc, answers.question(i), answers.reply(i))?;
+    line_of(alloc, ops, names, &statement)
+}
+
+/// Adds the lines of predicates that are trusted.
+fn add_trust(
+    alloc: Global,
+    ops: &Ops,
+    names: &Names,
+    preds: &[Pred],
+    out: &mut Text,
+) -> Result<(), AllocError>
+    ensures { OnOk result
+        (out.new ≡ out.old ++ flat_map (trust_line ops.now names.now) preds.now) }
+{
+    'preds: for pred in preds {
+        let line = trust_line(alloc, ops, names, *pred)?;
+        out.extend(line.bytes())?;
+    }
+    Ok(())
+}
+
+/// Adds the lines of replies.
+fn add_pairs(
+    alloc: Global,
+    ops: &Ops,
+    names: &Names,
+    answers: &Answers,
+    out: &mut Text,
+) -> Result<(), AllocError>
+    ensures { OnOk result
+        (out.new ≡ out.old ++ flat_map (pair_line ops.now names.now) answers.now.pairs) }
+{
+    'pairs: for i in 0..answers.len() {
+        let line = pair_line(alloc, ops, names, answers, i)?;
+        out.extend(line.bytes())?;
+    }
+    Ok(())
+}
+
+/// The text by itself.
+#[tactic(auto, unfolding(crate::specs::Kept::known_text))]
+fn whole_text(
+    alloc: Global,
+    answers: &Answers,
+    ops: &Ops,
+    names: &Names,
+) -> Result<Text, AllocError>
+    ensures { IfOk result (λ t. t ≡ known_text ops.now names.now answers.now) }
+{
+    let mut text = Text::copy_of(alloc, b"form(2) .\n")?;
+    add_trust(alloc, ops, names, answers.trusted().as_slice(), &mut text)?;
+    add_pairs(alloc, ops, names, answers, &mut text)?;
+    Ok(text)
+}
+
+/// Adds what is known as an oracle file of the second form: a line for each predicate that is trusted, and one for each reply,
+/// in the order in which they came. The terms are written by the operators. After want of memory the text is as before.
+pub fn known_text(
+    alloc: Global,
+    answers: &Answers,
+    ops: &Ops,
+    names: &Names,
+    out: &mut Text,
+) -> Result<(), AllocError>
+    ensures text { OnOk result (out.new ≡ out.old ++ known_text ops.now names.now answers.now) }
+    ensures same { OnErr result (out.new ≡ out.old) }
+{
+    let text = whole_text(alloc, answers, ops, names)?;
+    out.extend(text.bytes())
+}

@@ -1,0 +1,93 @@
+-- The lines of a log, one after the other.
+use Rattle.std.proofs.Common.{◌≡◌, inl, inr, ◌≤◌, ◌<◌, ◌+◌, Bool, false, ℕ, List, [], ◌∷◌, length, None, Some, refl, sym, subst, arith}
+use Rattle.apd_base.specs.declared.limits.TheConstants.{MAX_FILE}
+use Rattle.apd_clauses.specs.declared.clause.Clause.{Clause}
+use Rattle.apd_console.specs.Lines.{lines_of}
+use Rattle.apd_ops.specs.Table.{Table}
+use Rattle.apd_read.specs.Reader.{Reader}
+use Rattle.apd_term.specs.Growth.{Grown}
+use Rattle.apd_talk.specs.Speech.{Lasting}
+use Rattle.apd_check.specs.declared.claim.Claim.{Claim}
+use Rattle.apd_check.specs.declared.claim.Claim.TheVariants.{Runs, Ends, Tells, Asks, Replies, Finds, Descends, Nothing, Garbled}
+use Rattle.apd_check.specs.declared.state.State.{State}
+use Rattle.apd_check.specs.declared.checked.Checked.{Checked}
+use Rattle.apd_check.specs.declared.checked.Checked.TheVariants.{Holds, Fails}
+use Rattle.apd_check.specs.declared.checked.Why.{Why}
+use Rattle.apd_check.specs.Checked.{IsChecked, IsJudged, after_claim, found_in}
+use Rattle.apd_check.specs.Saying.{claim_at, goes_on, said_from}
+use Rattle.apd_check.specs.Sayable.{IsSayable}
+use Rattle.apd_check.specs.Steps.{IsKept, Leads}
+use Rattle.apd_check.proofs.Naming.{grown-twice}
+
+-- What is kept stays kept.
+
+kept-after : (program : List Clause) (s : State) (claim : Claim) → IsKept s → IsSayable claim → IsJudged program s claim None → IsKept (after_claim program s claim)
+kept-after program s (Runs q) kept may j = record { runnable = may; asked = tt }
+kept-after program s (Ends ran) kept may j = record { runnable = tt; asked = kept.asked }
+kept-after program s (Tells q r) kept may j = record { runnable = kept.runnable; asked = tt }
+kept-after program s (Asks q) kept may j = record { runnable = kept.runnable; asked = j }
+kept-after program s (Replies r) kept may j = record { runnable = kept.runnable; asked = tt }
+kept-after program s (Finds f line) kept may j = kept
+kept-after program s (Descends calls) kept may j = kept
+kept-after program s Nothing kept may j = kept
+kept-after program s Garbled kept may j = kept
+
+pub kept-next : (program : List Clause) (s t : State) (claim : Claim) → IsKept s → IsSayable claim → Leads program s claim t None → IsKept t
+kept-next program s t claim kept may leads = subst IsKept (sym leads.1) (kept-after program s claim kept may leads.0)
+
+module _ (program : List Clause) (ops : Table) where
+  -- what is found from here on, where so many findings were met before the line with this number
+  abbrev pub IsFrom : {n : List (List ℕ)} → Reader n → State → ℕ → Bool → ℕ → List (List ℕ) → Checked → Type 0
+  IsFrom reader s found in_group number lines r = IsChecked program s found (said_from reader ops in_group number lines) r
+
+  module _ (n : List (List ℕ)) (reader : Reader n) (s : State) (found : ℕ) (in_group : Bool) (number : ℕ) (line : List ℕ) (lines : List (List ℕ)) (claim : Claim) (is : claim ≡ claim_at reader ops in_group line lines) where
+    good-line : (t : State) (r : Checked) → Leads program s claim t None → IsFrom reader t (found + found_in claim) (goes_on in_group line) (number + 1) lines r → IsFrom reader s found in_group number (line ∷ lines) r
+    good-line t r leads h = inl (
+      subst (λ (c : Claim). IsJudged program s c None) is leads.0,
+      subst (λ (c : Claim). IsFrom reader (after_claim program s c) (found + found_in c) (goes_on in_group line) (number + 1) lines r) is
+          (subst (λ (x : State). IsFrom reader x (found + found_in claim) (goes_on in_group line) (number + 1) lines r) leads.1 h),
+    )
+
+    bad-line : (w : Why) → IsJudged program s claim (Some w) → IsFrom reader s found in_group number (line ∷ lines) (Fails number w)
+    bad-line w j = inr (w, subst (λ (c : Claim). IsJudged program s c (Some w)) is j, refl)
+
+  -- the lines that are left decide
+  abbrev pub Decide : List ℕ → State → List (List ℕ) → State → ℕ → Bool → ℕ → List ℕ → Type 0
+  Decide text first names s found in_group number rest =
+      Lasting names (λ n. (reader : Reader n) → (r : Checked) → IsFrom reader s found in_group number (lines_of rest) r → IsFrom reader first 0 false 1 (lines_of text) r)
+
+  module _ (text : List ℕ) (first : State) where
+    pub record Checking (names : List (List ℕ)) (s : State) (found : ℕ) (in_group : Bool) (number : ℕ) (rest : List ℕ) : Type 0 where
+      pub kept : IsKept s
+      pub few : found + 1 ≤ number
+      pub count : number + length rest ≤ MAX_FILE + 1
+      pub decide : Decide text first names s found in_group number rest
+
+    pub Checking-start : (names : List (List ℕ)) → IsKept first → length text ≤ MAX_FILE → Checking names first 0 false 1 text
+    Checking-start names kept short = record { kept = kept; few = omega arith; count = omega (arith, short); decide = λ n grew reader r h. h }
+
+    module _ (names later : List (List ℕ)) (grew : Grown names later) (s : State) (found : ℕ) (in_group : Bool) (number : ℕ) (rest line behind : List ℕ) (claim : Claim)
+        (before : Checking names s found in_group number rest) (split : lines_of rest ≡ line ∷ lines_of behind) (shorter : length behind < length rest)
+        (is : Lasting later (λ n. (reader : Reader n) → claim ≡ claim_at reader ops in_group line (lines_of behind))) where
+      pub Checking-more : (t : State) (more : ℕ) → IsSayable claim → Leads program s claim t None → more ≡ found_in claim → more ≤ 1 → Checking later t (found + more) (goes_on in_group line) (number + 1) behind
+      Checking-more t more may leads says one = record {
+        kept = kept-next program s t claim before.kept may leads;
+        few = let f = before.few in omega (arith, f, one);
+        count = let c = before.count in omega (arith, c, shorter);
+        decide = λ n g reader r h.
+            before.decide n (grown-twice names later n grew g) reader r
+            (subst (λ (ls : List (List ℕ)). IsFrom reader s found in_group number ls r) (sym split)
+            (good-line n reader s found in_group number line (lines_of behind) claim (is n g reader) t r leads
+            (subst (λ (k : ℕ). IsFrom reader t (found + k) (goes_on in_group line) (number + 1) (lines_of behind) r) says h)));
+      }
+
+      pub Checking-fails : (w : Why) → IsJudged program s claim (Some w) → Lasting later (λ n. (reader : Reader n) → IsFrom reader first 0 false 1 (lines_of text) (Fails number w))
+      Checking-fails w j = λ n g reader.
+          before.decide n (grown-twice names later n grew g) reader (Fails number w)
+          (subst (λ (ls : List (List ℕ)). IsFrom reader s found in_group number ls (Fails number w)) (sym split)
+          (bad-line n reader s found in_group number line (lines_of behind) claim (is n g reader) w j))
+
+    pub Checking-end : (names : List (List ℕ)) (s : State) (found : ℕ) (in_group : Bool) (number : ℕ) (rest : List ℕ) → Checking names s found in_group number rest → lines_of rest ≡ []
+        → Lasting names (λ n. (reader : Reader n) → IsFrom reader first 0 false 1 (lines_of text) (Holds found))
+    Checking-end names s found in_group number rest before end = λ n g reader.
+        before.decide n g reader (Holds found) (subst (λ (ls : List (List ℕ)). IsFrom reader s found in_group number ls (Holds found)) (sym end) refl)

@@ -1,5 +1,5 @@
 -- The entries of a diagnosis are right: of each of the three.
-use Rattle.std.proofs.Common.{◌≡◌, ℕ, List, [], ◌∷◌, Option, Some, None, refl, ap, subst, map}
+use Rattle.std.proofs.Common.{◌≡◌, ℕ, Bool, List, [], ◌∷◌, Option, Some, None, refl, ap, subst, map}
 use Rattle.std.specs.Prelude.{length}
 use Rattle.apd_term.specs.Term.{Term}
 use Rattle.apd_term.specs.Canonical.{canonical}
@@ -36,7 +36,7 @@ use Rattle.apd_wrong.proofs.Next.{comes-next}
 use Rattle.apd_wrong.proofs.Part.{part-whole}
 use Rattle.apd_wrong.proofs.Recorded.{tree-wrong}
 use Rattle.apd_account.specs.Account.{Account, with_asked, with_reply, with_told}
-use Rattle.apd_account.specs.Right.{IsAnswer, IsDescent, IsFound, IsTreeOfSymptom, IsUnanswered, Leaves}
+use Rattle.apd_account.specs.Right.{IsAnswer, IsDescent, IsFound, IsReferred, IsTreeOfSymptom, IsUnanswered, Leaves}
 
 -- what was found by the replies
 pub found-right : (m : Interpretation) (program : List Clause) (a : Account) (f : Finding) → IsSound (tuples_of program) a.history → IsByReplies (tuples_of program) a.history a.store f
@@ -72,8 +72,8 @@ module _ {D : Type 0} (strategy : Strategy) (Known : Recorded → Store → Opti
   waits a asked next k = record { last = refl; asks = record { unanswered = k.unanswered; known = k.known; leaves = k.leaves } }
 
   -- a reply that fits is right
-  pub reply-right : (a : Account) (asked : Asked) (next : Reply → D) (r : Reply) → Waits a asked next → FitsAsked asked r → IsAnswer strategy a r (left (next r))
-  reply-right a asked next r w fits = record { asked = asked; last = w.last; fits = fits; leaves = w.asks.leaves r fits }
+  pub reply-right : (a : Account) (asked : Asked) (next : Reply → D) (r : Reply) (by_reference : Bool) → Waits a asked next → FitsAsked asked r → IsReferred (a.replies asked.question) r by_reference → IsAnswer strategy a r (left (next r)) by_reference
+  reply-right a asked next r by_reference w fits referred = record { asked = asked; last = w.last; fits = fits; referred = referred; leaves = w.asks.leaves r fits }
 
 -- the next turn of a known state: a question that is asked rightly, or an end
 module _ {D E : Type 0} (strategy : Strategy) (Known : Recorded → Store → Option Told → D → Type 0) (left : D → Option ℕ) (IsEnd : Recorded → Store → E → Type 0) where

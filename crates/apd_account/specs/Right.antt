@@ -1,6 +1,6 @@
 -- When the entries of a log are right: what is found is a bug, calls that all descend do so, what is asked isn't known yet, and
 -- a reply leaves few suspects.
-use Rattle.std.specs.Prelude.{◌≡◌, ℕ, ◌<◌, List, [], ◌∷◌, length, Option, None, Some, IfSome, IsSome, false, ⊤}
+use Rattle.std.specs.Prelude.{◌≡◌, ℕ, ◌<◌, List, [], ◌∷◌, length, Option, None, Some, IfSome, IsSome, Bool, true, false, ⊤}
 use Rattle.apd_term.specs.Term.{Term}
 use Rattle.apd_clauses.specs.declared.clause.Clause.{Clause}
 use Rattle.apd_clauses.specs.Clauses.{tuples_of}
@@ -60,11 +60,17 @@ abbrev pub Leaves : Strategy → Recorded → Store → Option Told → Asked �
 Leaves strategy R store symptom asked reply left =
     IfSome asked.suspects (λ before. LeavesFewer strategy R (with_pair store asked.question reply) symptom before left)
 
+-- a reply that is marked as given without a line is the one that there is to the question
+abbrev pub IsReferred : Option Reply → Reply → Bool → Type 0
+IsReferred given reply true = given ≡ Some reply
+IsReferred given reply false = ⊤
+
 -- a reply answers what was asked last, and where that counted the suspects, it leaves fewer
-pub record IsAnswer (strategy : Strategy) (a : Account) (reply : Reply) (left : Option ℕ) : Type 0 where
+pub record IsAnswer (strategy : Strategy) (a : Account) (reply : Reply) (left : Option ℕ) (by_reference : Bool) : Type 0 where
   pub asked : Asked
   pub last : a.asked ≡ Some asked
   pub fits : FitsAsked asked reply
+  pub referred : IsReferred (a.replies asked.question) reply by_reference
   pub leaves : Leaves strategy a.history a.store a.symptom asked reply left
 
 -- what was found follows from the replies; and it is a bug where they are all true, the symptoms and the trust among them. Of
@@ -98,7 +104,7 @@ module _ (m : Interpretation) (program : List Clause) (strategy : Strategy) wher
   IsRight a (AllDescend calls) = IsDescent m a calls
   IsRight a (Symptom what) = IsSymptom a what
   IsRight a (Question number asked) = IsUnanswered a.store asked
-  IsRight a (Replied reply left) = IsAnswer strategy a reply left
+  IsRight a (Replied reply left by_reference) = IsAnswer strategy a reply left by_reference
   IsRight a e = ⊤
 
   -- each entry is right after those before it

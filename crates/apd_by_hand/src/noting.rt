@@ -52,7 +52,11 @@ impl Noting {
         ensures { self.new.scripted ≡ self.old.scripted }
     {
         let reply = reply.copy(self.alloc)?;
-        self.said.push(Entry::Replied { reply, left })?;
+        self.said.push(Entry::Replied {
+            reply,
+            left,
+            by_reference: false,
+        })?;
         Ok(())
     }
 }

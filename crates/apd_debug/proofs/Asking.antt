@@ -1,10 +1,11 @@
 -- A diagnosis over a dialogue.
-use Rattle.std.proofs.Common.{List, refl, ◌∙◌, arith}
+use Rattle.std.proofs.Common.{List, refl, ap, ◌∙◌, arith}
 use Rattle.std.specs.Prelude.{Result, Ok, Err, MatchResult}
 use Rattle.apd_answers.specs.Dialogue.{Diagnosis}
 use Rattle.apd_answers.specs.Going.{Moment as Stage, Reaches, Breaks}
 use Rattle.apd_answers.specs.Oracle.{Call, calls_of}
 use Rattle.apd_answers.specs.declared.oracle.AskEnd.{AskEnd}
+use Rattle.apd_answers.specs.declared.replier.Replier as Replier
 use Rattle.apd_answers.specs.Store.{Store}
 use Rattle.apd_console.specs.Console.{IsKept}
 use Rattle.apd_debug.specs.Asking.{KeepsDialogue, dialogue_step, moment_of}
@@ -40,41 +41,49 @@ kept_so d step R same more each p store to (Err end) broke =
     more p.oracle broke.last.oracle to (kept_through step R same more each (calls_of broke.goes.exchanges) p.oracle broke.last.oracle broke.goes.calls)
     (kept_through step R same more each broke.calls broke.last.oracle to broke.through)
 
-module _ {S K : Type 0} (s : Source.Ghosts S) (k : Sink.Ghosts K) where
-  abbrev pub conversing : Conversing (dialogue_step s k)
+module _ {S K R : Type 0} (s : Source.Ghosts S) (k : Sink.Ghosts K) (r : Replier.Ghosts R) where
+  abbrev pub conversing : Conversing (dialogue_step s k r)
   conversing = record {
-    moment = λ (d : Dialogue S K s k). moment_of s k d;
-    count = λ (d : Dialogue S K s k). d.asked;
-    counts = λ p call q is. is.4;
-    calls = λ p call q is. is.5;
+    moment = λ (d : Dialogue S K R s k r). moment_of s k r d;
+    count = λ (d : Dialogue S K R s k r). d.asked;
+    replies = λ (d : Dialogue S K R s k r). r.replies d.replier.now;
+    by_reference = λ (d : Dialogue S K R s k r). d.by_reference;
+    same = λ p call q is. ap r.replies is.5;
+    refers = λ p call q is. is.6;
+    counts = λ p call q is. is.7;
+    calls = λ p call q is. is.8;
   }
 
-  keeps-self : (d : Dialogue S K s k) → KeepsDialogue s k d d
+  keeps-self : (d : Dialogue S K R s k r) → KeepsDialogue s k r d d
   keeps-self d = record {
-    same = record { console = refl; source = refl; sink = refl; log = refl };
-    keeps = λ sound. Keeps-self (moment_of s k d) sound;
+    same = record { console = refl; source = refl; sink = refl; log = refl; replier = refl };
+    keeps = λ sound. Keeps-self (moment_of s k r d) sound;
     keeps_place = λ free. free;
+    replier = refl;
   }
 
-  keeps-more : (d e f : Dialogue S K s k) → KeepsDialogue s k d e → KeepsDialogue s k e f → KeepsDialogue s k d f
+  keeps-more : (d e f : Dialogue S K R s k r) → KeepsDialogue s k r d e → KeepsDialogue s k r e f → KeepsDialogue s k r d f
   keeps-more d e f one two = record {
     same = record {
       console = two.same.console ∙ one.same.console;
       source = two.same.source ∙ one.same.source;
       sink = two.same.sink ∙ one.same.sink;
       log = two.same.log ∙ one.same.log;
+      replier = two.same.replier ∙ one.same.replier;
     };
-    keeps = λ sound. let first = one.keeps sound in Keeps-more (moment_of s k d) (moment_of s k e) (moment_of s k f) first (two.keeps first.sound);
+    keeps = λ sound. let first = one.keeps sound in Keeps-more (moment_of s k r d) (moment_of s k r e) (moment_of s k r f) first (two.keeps first.sound);
     keeps_place = λ free. two.keeps_place (one.keeps_place free);
+    replier = two.replier ∙ one.replier;
   }
 
-  keeps-each : (d : Dialogue S K s k) (call : Call) (e : Dialogue S K s k) → dialogue_step s k d call e → KeepsDialogue s k d e
+  keeps-each : (d : Dialogue S K R s k r) (call : Call) (e : Dialogue S K R s k r) → dialogue_step s k r d call e → KeepsDialogue s k r d e
   keeps-each d call e is = record {
-    same = record { console = is.0; source = is.1; sink = is.2; log = is.3 };
-    keeps = λ sound. is.5.keeps;
-    keeps_place = is.5.keeps_place;
+    same = record { console = is.0; source = is.1; sink = is.2; log = is.3; replier = is.4 };
+    keeps = λ sound. is.8.keeps;
+    keeps_place = is.8.keeps_place;
+    replier = is.5;
   }
 
-  pub keeps_dialogue : {D E : Type 0} (d : Diagnosis D E) (p : Stage D (Dialogue S K s k)) (store : Store) (to : Dialogue S K s k) (result : Result E AskEnd) →
-      MatchResult result (λ e. Reaches d (dialogue_step s k) p store to e) (λ e. Breaks d (dialogue_step s k) p store to e) → KeepsDialogue s k p.oracle to
-  keeps_dialogue d p store to result went = kept_so d (dialogue_step s k) (KeepsDialogue s k) keeps-self keeps-more keeps-each p store to result went
+  pub keeps_dialogue : {D E : Type 0} (d : Diagnosis D E) (p : Stage D (Dialogue S K R s k r)) (store : Store) (to : Dialogue S K R s k r) (result : Result E AskEnd) →
+      MatchResult result (λ e. Reaches d (dialogue_step s k r) p store to e) (λ e. Breaks d (dialogue_step s k r) p store to e) → KeepsDialogue s k r p.oracle to
+  keeps_dialogue d p store to result went = kept_so d (dialogue_step s k r) (KeepsDialogue s k r) keeps-self keeps-more keeps-each p store to result went

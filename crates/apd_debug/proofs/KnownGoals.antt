@@ -149,7 +149,7 @@ missing-keeps P R line_of = record {
   replied = λ n store s asked next r is fits named known. record {
     standard = known.standard;
     program = known.program;
-    replies = with_pair-replies n store asked.question r known.replies (fits.0, named);
+    replies = with_pair-replies n store asked.question r known.replies (fits.0, named, (subst (TurnIsNamed n) is (turn-named P R n store s known)).0);
     goal = (subst (TurnIsNamed n) is (turn-named P R n store s known)).1 r named;
   };
   going = λ n store s t is known. same_store P n store s t known (subst (TurnIsNamed n) is (turn-named P R n store s known));

@@ -7,6 +7,7 @@ pub mod KnownLoops
 pub mod Kept
 pub mod Bridging
 pub mod Telling
+pub mod Growing
 pub mod Going
 pub mod Asking
 pub mod LastWords

@@ -1,5 +1,5 @@
 -- What a store decides is named where its replies are.
-use Rattle.std.proofs.Common.{◌≡◌, ℕ, ◌≤◌, List, [], ◌∷◌, ◌++◌, Bool, true, false, Option, Some, None, subst}
+use Rattle.std.proofs.Common.{◌≡◌, ℕ, ◌≤◌, arith, List, [], ◌∷◌, ◌++◌, Bool, true, false, Option, Some, None, subst}
 use Rattle.std.specs.Bool.{then_some}
 use Rattle.std.specs.List.{list_any}
 use Rattle.std.specs.Option.{option_or}
@@ -13,8 +13,10 @@ use Rattle.apd_answers.specs.declared.question.Reply.TheVariants.{Yes, No, Value
 use Rattle.apd_answers.specs.declared.store.Pair.{Pair}
 use Rattle.apd_term.specs.Matching.{is_instance}
 use Rattle.apd_term.specs.Term.{Term}
-use Rattle.apd_term.proofs.Named.{AllNamed-more}
-use Rattle.apd_text.specs.Named.{ReplyIsNamed}
+use Rattle.apd_term.specs.declared.term.Pred.{Pred}
+use Rattle.apd_term.proofs.Named.{AllNamed-more, IsNamed-more, TupleIsNamed-more}
+use Rattle.apd_text.specs.FilterTerms.{PredsAreNamed}
+use Rattle.apd_text.specs.Named.{QuestionIsNamed, ReplyIsNamed}
 use Rattle.apd_debug.specs.NamedStates.{AreReplies, AreRepliesIn, IsNamedReply}
 
 pub ReplyIsNamed-more : (n m : ℕ) (r : Reply) → n ≤ m → ReplyIsNamed n r → ReplyIsNamed m r
@@ -23,23 +25,32 @@ ReplyIsNamed-more n m No less named = tt
 ReplyIsNamed-more n m (Values values) less named = AllNamed-more n m values less named
 ReplyIsNamed-more n m Unknown less named = tt
 
+pub QuestionIsNamed-more : (n m : ℕ) (q : Question) → n ≤ m → QuestionIsNamed n q → QuestionIsNamed m q
+QuestionIsNamed-more n m (True a) less named = IsNamed-more n m a less named
+QuestionIsNamed-more n m (Covers t) less named = TupleIsNamed-more n m t less named
+QuestionIsNamed-more n m (Below q p) less named = (IsNamed-more n m q less named.0, IsNamed-more n m p less named.1)
+
 pub AreReplies-more_in : (n m : ℕ) (pairs : List Pair) → n ≤ m → AreRepliesIn n pairs → AreRepliesIn m pairs
 AreReplies-more_in n m [] less named = tt
-AreReplies-more_in n m (pair ∷ pairs) less named = ((named.0.0, ReplyIsNamed-more n m pair.reply less named.0.1), AreReplies-more_in n m pairs less named.1)
+AreReplies-more_in n m (pair ∷ pairs) less named = ((named.0.0, ReplyIsNamed-more n m pair.reply less named.0.1, QuestionIsNamed-more n m pair.question less named.0.2), AreReplies-more_in n m pairs less named.1)
+
+preds-more : (n m : ℕ) (preds : List Pred) → n ≤ m → PredsAreNamed n preds → PredsAreNamed m preds
+preds-more n m [] less named = tt
+preds-more n m (p ∷ preds) less named = (let first = named.0 in omega (arith, first, less), preds-more n m preds less named.1)
 
 pub AreReplies-more : (n m : ℕ) (store : Store) → n ≤ m → AreReplies n store → AreReplies m store
-AreReplies-more n m store less named = AreReplies-more_in n m store.pairs less named
+AreReplies-more n m store less named = record { pairs = AreReplies-more_in n m store.pairs less named.pairs; trust = preds-more n m store.trusted less named.trust }
 
 replies-append : (n : ℕ) (pairs : List Pair) (q : Question) (r : Reply) → AreRepliesIn n pairs → IsNamedReply n q r → AreRepliesIn n (pairs ++ record { question = q; reply = r } ∷ [])
 replies-append n [] q r named last = (last, tt)
 replies-append n (pair ∷ pairs) q r named last = (named.0, replies-append n pairs q r named.1 last)
 
 pub with_pair-replies : (n : ℕ) (store : Store) (q : Question) (r : Reply) → AreReplies n store → IsNamedReply n q r → AreReplies n (with_pair store q r)
-with_pair-replies n store q r named last = by (is_kept store q r)
+with_pair-replies n store q r named last = record { pairs = by (is_kept store q r); trust = named.trust }
   where
     by : (b : Bool) → AreRepliesIn n (if b then store.pairs else store.pairs ++ record { question = q; reply = r } ∷ [])
-    by true = named
-    by false = replies-append n store.pairs q r named last
+    by true = named.pairs
+    by false = replies-append n store.pairs q r named.pairs last
 
 abbrev MayReply : ℕ → Option Reply → Type 0
 MayReply n None = Unit {0}
@@ -77,4 +88,4 @@ may_decide n [] q named = tt
 may_decide n (pair ∷ pairs) q named = or-named n (told pair q) (decided_in pairs q) (told-named n pair q named.0.1) (may_decide n pairs q named.1)
 
 pub decided-named : (n : ℕ) (store : Store) (q : Question) (r : Reply) → decided store q ≡ Some r → AreReplies n store → ReplyIsNamed n r
-decided-named n store q r is named = subst (MayReply n) is (may_decide n store.pairs q named)
+decided-named n store q r is named = subst (MayReply n) is (may_decide n store.pairs q named.pairs)

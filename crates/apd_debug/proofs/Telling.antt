@@ -1,5 +1,5 @@
 -- A reply that is told.
-use Rattle.std.proofs.Common.{◌≡◌, ℕ, ◌≤◌, List, [], arith}
+use Rattle.std.proofs.Common.{◌≡◌, ℕ, ◌≤◌, List, [], arith, Bool}
 use Rattle.std.specs.Prelude.{Result, Ok, Err}
 use Rattle.apd_io.specs.Outside.{Rose}
 use Rattle.apd_answers.specs.declared.oracle.AskEnd.{AskEnd}
@@ -55,21 +55,21 @@ breaks_on f g p q us t same writes rose says so = record {
 }
 
 -- it was said to its end
-pub told_on : (r : Reply) (left : Option ℕ) (p q : Moment) (f g : Meaning Entry) (names : List (List ℕ)) → HearsNothing p q → SaysReply r left p.spoken q.spoken (Ok tt) → ReplyIsNamed (length p.spoken.log.names) r → Grown p.spoken.log.names names →
-    Before f g (one (Replied r left) p.spoken.log.ops names) → Talks f (place p) (place q) g
-told_on r left p q f g names same tells named grew so = by tells.said tells.answers (tells.says named)
+pub told_on : (by_reference : Bool) (r : Reply) (left : Option ℕ) (p q : Moment) (f g : Meaning Entry) (names : List (List ℕ)) → HearsNothing p q → SaysReply by_reference r left p.spoken q.spoken (Ok tt) → ReplyIsNamed (length p.spoken.log.names) r → Grown p.spoken.log.names names →
+    Before f g (one (Replied r left by_reference) p.spoken.log.ops names) → Talks f (place p) (place q) g
+told_on by_reference r left p q f g names same tells named grew so = by tells.said tells.answers (tells.says named)
   where
-    by : (said : Result (Unit {0}) Trouble) → Ok tt ≡ answer_of said → Says (one (Replied r left)) p.spoken q.spoken said → Talks f (place p) (place q) g
-    by (Ok t) is says = talks_on f g p q _ same (says_later (one (Replied r left)) p.spoken q.spoken (Ok t) says) (says.all names grew) so
+    by : (said : Result (Unit {0}) Trouble) → Ok tt ≡ answer_of said → Says (one (Replied r left by_reference)) p.spoken q.spoken said → Talks f (place p) (place q) g
+    by (Ok t) is says = talks_on f g p q _ same (says_later (one (Replied r left by_reference)) p.spoken q.spoken (Ok t) says) (says.all names grew) so
     by (Err t) is says = absurd (cc)
 
 -- it was not
-pub told_off : (r : Reply) (left : Option ℕ) (p q : Moment) (f g : Meaning Entry) (names : List (List ℕ)) (end : AskEnd) → HearsNothing p q → SaysReply r left p.spoken q.spoken (Err end) → ReplyIsNamed (length p.spoken.log.names) r → Grown p.spoken.log.names names →
-    Before f g (one (Replied r left) p.spoken.log.ops names) → (t : Trouble) × (end ≡ end_of_trouble t) × Breaks begun f (place p) (place q) t
-told_off r left p q f g names end same tells named grew so = by tells.said tells.answers (tells.says named)
+pub told_off : (by_reference : Bool) (r : Reply) (left : Option ℕ) (p q : Moment) (f g : Meaning Entry) (names : List (List ℕ)) (end : AskEnd) → HearsNothing p q → SaysReply by_reference r left p.spoken q.spoken (Err end) → ReplyIsNamed (length p.spoken.log.names) r → Grown p.spoken.log.names names →
+    Before f g (one (Replied r left by_reference) p.spoken.log.ops names) → (t : Trouble) × (end ≡ end_of_trouble t) × Breaks begun f (place p) (place q) t
+told_off by_reference r left p q f g names end same tells named grew so = by tells.said tells.answers (tells.says named)
   where
-    by : (said : Result (Unit {0}) Trouble) → Err end ≡ answer_of said → Says (one (Replied r left)) p.spoken q.spoken said → (t : Trouble) × (end ≡ end_of_trouble t) × Breaks begun f (place p) (place q) t
+    by : (said : Result (Unit {0}) Trouble) → Err end ≡ answer_of said → Says (one (Replied r left by_reference)) p.spoken q.spoken said → (t : Trouble) × (end ≡ end_of_trouble t) × Breaks begun f (place p) (place q) t
     by (Ok u) is says = absurd (cc)
     by (Err t) is says =
         let same_end : end ≡ end_of_trouble t = cc in
-        (t, same_end, breaks_on f g p q _ t same (says_later (one (Replied r left)) p.spoken q.spoken (Err t) says) (λ e. says_rose (one (Replied r left)) p.spoken q.spoken t says e) (says.front names grew) so)
+        (t, same_end, breaks_on f g p q _ t same (says_later (one (Replied r left by_reference)) p.spoken q.spoken (Err t) says) (λ e. says_rose (one (Replied r left by_reference)) p.spoken q.spoken t says e) (says.front names grew) so)

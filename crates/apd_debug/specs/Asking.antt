@@ -1,33 +1,37 @@
 -- The dialogue of apd_oracle: each of its calls is a part of the conversation over its console, source, sink and log.
 use Rattle.std.specs.Prelude.{◌≡◌}
 use Rattle.apd_answers.specs.Oracle.{Call}
+use Rattle.apd_answers.specs.declared.replier.Replier as Replier
 use Rattle.apd_console.specs.Console.{IsKept}
 use Rattle.apd_io.specs.declared.sink.Sink as Sink
 use Rattle.apd_io.specs.declared.source.Source as Source
-use Rattle.apd_oracle.specs.Dialogue.{Calls, KeepsPlace, counted}
+use Rattle.apd_oracle.specs.Dialogue.{Calls, KeepsPlace, counted, referred}
 use Rattle.apd_oracle.specs.declared.dialogue.Dialogue.{Dialogue}
 use Rattle.apd_talk.specs.Moment.{Keeps, Moment, moment}
 
-module _ {S K : Type 0} (s : Source.Ghosts S) (k : Sink.Ghosts K) where
+module _ {S K R : Type 0} (s : Source.Ghosts S) (k : Sink.Ghosts K) (r : Replier.Ghosts R) where
   -- the moment of the conversation at which a dialogue is
-  abbrev pub moment_of : Dialogue S K s k → Moment
+  abbrev pub moment_of : Dialogue S K R s k r → Moment
   moment_of d = moment s k d.console.now d.source.now d.log.now d.sink.now
 
   -- both are over the same references
-  pub record SameReferences (d e : Dialogue S K s k) : Type 0 where
+  pub record SameReferences (d e : Dialogue S K R s k r) : Type 0 where
     pub console : e.console.ghost_name ≡ d.console.ghost_name
     pub source : e.source.ghost_name ≡ d.source.ghost_name
     pub sink : e.sink.ghost_name ≡ d.sink.ghost_name
     pub log : e.log.ghost_name ≡ d.log.ghost_name
+    pub replier : e.replier.ghost_name ≡ d.replier.ghost_name
 
   -- the step of a dialogue
-  abbrev pub dialogue_step : Dialogue S K s k → Call → Dialogue S K s k → Type 0
+  abbrev pub dialogue_step : Dialogue S K R s k r → Call → Dialogue S K R s k r → Type 0
   dialogue_step d call e =
       (e.console.ghost_name ≡ d.console.ghost_name) × (e.source.ghost_name ≡ d.source.ghost_name) × (e.sink.ghost_name ≡ d.sink.ghost_name) × (e.log.ghost_name ≡ d.log.ghost_name)
-      × (e.asked ≡ counted call d.asked) × Calls call d.asked (moment_of d) (moment_of e)
+      × (e.replier.ghost_name ≡ d.replier.ghost_name) × (e.replier.now ≡ d.replier.now) × (e.by_reference ≡ referred (r.replies d.replier.now) call d.by_reference)
+      × (e.asked ≡ counted call d.asked) × Calls (r.replies d.replier.now) call d.asked d.by_reference (moment_of d) (moment_of e)
 
   -- what a whole diagnosis keeps of a dialogue
-  pub record KeepsDialogue (d e : Dialogue S K s k) : Type 0 where
+  pub record KeepsDialogue (d e : Dialogue S K R s k r) : Type 0 where
     pub same : SameReferences d e
     pub keeps : IsKept d.console.now → Keeps (moment_of d) (moment_of e)
     pub keeps_place : KeepsPlace (moment_of d).spoken (moment_of e).spoken
+    pub replier : e.replier.now ≡ d.replier.now

@@ -1,5 +1,5 @@
 -- The diagnosis of a demonstration, however it ends: what is said is the whole dialogue, or the front of it.
-use Rattle.std.proofs.Common.{◌≡◌, ℕ, List, [], ◌∷◌, ◌++◌, length, Option, refl, sym, ap, ◌∙◌, subst, arith}
+use Rattle.std.proofs.Common.{◌≡◌, ℕ, List, [], ◌∷◌, ◌++◌, length, Option, false, refl, sym, ap, ◌∙◌, subst, arith}
 use Rattle.std.proofs.lemmas.List.{append-nil}
 use Rattle.std.specs.List.{AllByRecursion}
 use Rattle.std.specs.Prelude.{Result, Ok, Err, MatchResult}
@@ -40,7 +40,7 @@ use Rattle.apd_demo.proofs.Going.{Along, IsAt, Saying, asked_so, goes_along, que
 said_in_parts : (ops : Table) (names : List (List ℕ)) (count : ℕ) (es fs : List Exchange) → saying count es ops names ++ saying (count_after count es) fs ops names ≡ saying count (es ++ fs) ops names
 said_in_parts ops names count [] fs = refl
 said_in_parts ops names count (e ∷ es) fs =
-    ap (λ (us : List _). plain ops names (Asks (risen count) e.asked) ∷ plain ops names (Replied e.reply e.left) ∷ us) (said_in_parts ops names (risen count) es fs)
+    ap (λ (us : List _). plain ops names (Asks (risen count) e.asked) ∷ plain ops names (Replied e.reply e.left false) ∷ us) (said_in_parts ops names (risen count) es fs)
 
 trouble_is : (t : Trouble) → trouble_of (end_of_trouble t) ≡ t
 trouble_is troubles.WriteFault = refl
@@ -58,14 +58,14 @@ asked_off asked number given end p q s named = by s.said s.answers (s.says named
         subst (λ (u : Trouble). Says {T = Unit {0}} (one (Asks number asked)) p q (Err u)) (sym (ap trouble_of same ∙ trouble_is t)) says
 
 -- a reply that wasn't told
-told_off : (r : Reply) (left : Option ℕ) (end : AskEnd) (p q : Spoken) → SaysReply r left p q (Err end) → ReplyIsNamed (length p.log.names) r → Says {T = Unit {0}} (one (Replied r left)) p q (Err (trouble_of end))
+told_off : (r : Reply) (left : Option ℕ) (end : AskEnd) (p q : Spoken) → SaysReply false r left p q (Err end) → ReplyIsNamed (length p.log.names) r → Says {T = Unit {0}} (one (Replied r left false)) p q (Err (trouble_of end))
 told_off r left end p q s named = by s.said s.answers (s.says named)
   where
-    by : (said : Result (Unit {0}) Trouble) → Err end ≡ answer_of said → Says (one (Replied r left)) p q said → Says {T = Unit {0}} (one (Replied r left)) p q (Err (trouble_of end))
+    by : (said : Result (Unit {0}) Trouble) → Err end ≡ answer_of said → Says (one (Replied r left false)) p q said → Says {T = Unit {0}} (one (Replied r left false)) p q (Err (trouble_of end))
     by (Ok u) is says = absurd (cc)
     by (Err t) is says =
         let same : end ≡ end_of_trouble t = cc in
-        subst (λ (u : Trouble). Says {T = Unit {0}} (one (Replied r left)) p q (Err u)) (sym (ap trouble_of same ∙ trouble_is t)) says
+        subst (λ (u : Trouble). Says {T = Unit {0}} (one (Replied r left false)) p q (Err u)) (sym (ap trouble_of same ∙ trouble_is t)) says
 
 -- memory ran out, and nothing more was said
 none_said : (us : Speech) (end : AskEnd) (p : Spoken) → end ≡ ask_ends.Memory → Says {T = Unit {0}} us p p (Err (trouble_of end))
@@ -101,7 +101,7 @@ module _ (strategy : Strategy) (reply : Question → Reply) (reply_named : (n : 
         let e : Exchange = record { asked = asked; reply = reply asked.question; left = (wrong strategy).left (next (reply asked.question)) } in
         subst (λ (o : O). SaysFront count rest end (c.said from) (c.said o)) went
         (record {
-          says = rw f.1 (Says-less {T = Unit {0}} {U = Unit {0}} (one (Asks (risen count) asked)) (λ ops names. plain ops names (Replied e.reply e.left) ∷ saying (risen count) f.0 ops names) (c.said from) (c.said mid) (trouble_of end) said);
+          says = rw f.1 (Says-less {T = Unit {0}} {U = Unit {0}} (one (Asks (risen count) asked)) (λ ops names. plain ops names (Replied e.reply e.left false) ∷ saying (risen count) f.0 ops names) (c.said from) (c.said mid) (trouble_of end) said);
           keeps_place = question.keeps_place;
         })
     broken kept calls (unkept asked next r is fits memory) (mid, it, went) =
@@ -109,7 +109,7 @@ module _ (strategy : Strategy) (reply : Question → Reply) (reply_named : (n : 
         let question = asks_here asked (Ok r) mid it in
         let said = asked_so asked (risen count) (reply asked.question) r (c.said from) (c.said mid) question (named_here asked next is) in
         let e : Exchange = record { asked = asked; reply = reply asked.question; left = (wrong strategy).left (next (reply asked.question)) } in
-        let us : Speech = λ ops names. plain ops names (Replied e.reply e.left) ∷ saying (risen count) f.0 ops names in
+        let us : Speech = λ ops names. plain ops names (Replied e.reply e.left false) ∷ saying (risen count) f.0 ops names in
         subst (λ (o : O). SaysFront count rest end (c.said from) (c.said o)) went
         (record {
           says = rw f.1 (Says-more (one (Asks (risen count) asked)) us (c.said from) (c.said mid) (c.said mid) (tt {0}) (Err (trouble_of end)) said.1 (none_said us end (c.said mid) memory));
@@ -120,16 +120,16 @@ module _ (strategy : Strategy) (reply : Question → Reply) (reply_named : (n : 
         let question = asks_here asked (Ok r) mid it in
         let said = asked_so asked (risen count) (reply asked.question) r (c.said from) (c.said mid) question (named_here asked next is) in
         let left = (wrong strategy).left (next (reply asked.question)) in
-        let telling : SaysReply r ((wrong strategy).left (next r)) (c.said mid) (c.said then) (Err end) = c.calls mid (tells r ((wrong strategy).left (next r)) (Err end)) then tells_it in
-        let told : SaysReply (reply asked.question) left (c.said mid) (c.said then) (Err end) = subst (λ (x : Reply). SaysReply x ((wrong strategy).left (next x)) (c.said mid) (c.said then) (Err end)) said.0 telling in
+        let telling : SaysReply false r ((wrong strategy).left (next r)) (c.said mid) (c.said then) (Err end) = c.calls mid (tells r ((wrong strategy).left (next r)) (Err end)) then tells_it in
+        let told : SaysReply false (reply asked.question) left (c.said mid) (c.said then) (Err end) = subst (λ (x : Reply). SaysReply false x ((wrong strategy).left (next x)) (c.said mid) (c.said then) (Err end)) said.0 telling in
         let off = told_off (reply asked.question) left end (c.said mid) (c.said then) told (reply_named (length (c.said mid).log.names) asked.question) in
         let us : Speech = λ ops names. saying (risen count) f.0 ops names in
         subst (λ (o : O). SaysFront count rest end (c.said from) (c.said o)) went
         (record {
           says =
               rw f.1
-              (Says-more (one (Asks (risen count) asked)) (λ ops names. plain ops names (Replied (reply asked.question) left) ∷ us ops names) (c.said from) (c.said mid) (c.said then) (tt {0}) (Err (trouble_of end)) said.1
-              (Says-less {T = Unit {0}} {U = Unit {0}} (one (Replied (reply asked.question) left)) us (c.said mid) (c.said then) (trouble_of end) off));
+              (Says-more (one (Asks (risen count) asked)) (λ ops names. plain ops names (Replied (reply asked.question) left false) ∷ us ops names) (c.said from) (c.said mid) (c.said then) (tt {0}) (Err (trouble_of end)) said.1
+              (Says-less {T = Unit {0}} {U = Unit {0}} (one (Replied (reply asked.question) left false)) us (c.said mid) (c.said then) (trouble_of end) off));
           keeps_place = λ some. told.keeps_place (question.keeps_place some);
         })
 

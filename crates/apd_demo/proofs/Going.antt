@@ -1,11 +1,12 @@
 -- The dialogue with an oracle that replies for itself: what it says.
-use Rattle.std.proofs.Common.{◌≡◌, ℕ, List, [], ◌∷◌, ◌++◌, length, Option, refl, sym, ap, ◌∙◌, subst}
+use Rattle.std.proofs.Common.{◌≡◌, ℕ, List, [], ◌∷◌, ◌++◌, length, Option, false, refl, sym, ap, ◌∙◌, subst}
 use Rattle.std.specs.List.{AllByRecursion}
 use Rattle.std.specs.Prelude.{Result, Ok, Err}
 use Rattle.apd_base.specs.Counts.{risen}
 use Rattle.apd_answers.specs.Dialogue.{Dialogue, Exchange, Turn, asks, goes, ends, dialogue, next_turn, replied}
 use Rattle.apd_answers.specs.Oracle.{Call, asking as asks_of, telling as tells, GoesThrough, calls_of}
 use Rattle.apd_answers.specs.Questions.{FitsAsked}
+use Rattle.apd_answers.specs.Repliers.{nobody}
 use Rattle.apd_answers.specs.Store.{Store, with_pair}
 use Rattle.apd_answers.specs.declared.finding.Finding.{Finding}
 use Rattle.apd_answers.specs.declared.oracle.AskEnd.{AskEnd}
@@ -42,7 +43,7 @@ pub record Saying {O : Type 0} (step : O → Call → O → Type 0) : Type 0 whe
 
 -- the exchanges of a dialogue are said, one after the other
 abbrev pub saying : ℕ → List Exchange → Speech
-saying count es ops names = exchanges_said ops names count es
+saying count es ops names = exchanges_said nobody ops names count es
 
 -- a question that got a reply was said
 pub asked_so : (asked : Asked) (number : ℕ) (given r : Reply) (p q : Spoken) → SaysQuestion asked number given p q (Ok r) → QuestionIsNamed (length p.log.names) asked.question
@@ -54,11 +55,11 @@ asked_so asked number given r p q s named = by s.said s.answers (s.says named)
     by (Err t) is says = absurd (cc)
 
 -- and so was a reply that was told
-pub told_so : (r : Reply) (left : Option ℕ) (p q : Spoken) → SaysReply r left p q (Ok (tt {0})) → ReplyIsNamed (length p.log.names) r → Says (one (Replied r left)) p q (Ok (tt {0}))
+pub told_so : (r : Reply) (left : Option ℕ) (p q : Spoken) → SaysReply false r left p q (Ok (tt {0})) → ReplyIsNamed (length p.log.names) r → Says (one (Replied r left false)) p q (Ok (tt {0}))
 told_so r left p q s named = by s.said s.answers (s.says named)
   where
-    by : (said : Result (Unit {0}) Trouble) → Ok (tt {0}) ≡ answer_of said → Says (one (Replied r left)) p q said → Says (one (Replied r left)) p q (Ok (tt {0}))
-    by (Ok u) is says = Says-ok (one (Replied r left)) p q u (tt {0}) says
+    by : (said : Result (Unit {0}) Trouble) → Ok (tt {0}) ≡ answer_of said → Says (one (Replied r left false)) p q said → Says (one (Replied r left false)) p q (Ok (tt {0}))
+    by (Ok u) is says = Says-ok (one (Replied r left false)) p q u (tt {0}) says
     by (Err t) is says = absurd (cc)
 
 -- a state of the diagnosis is known that has this next turn
@@ -108,7 +109,7 @@ module _ (strategy : Strategy) (reply : Question → Reply) (reply_named : (n : 
         let named : QuestionIsNamed (length (c.said from).log.names) asked.question = rw names (question_named n store at.state asked next at.is at.known) in
         let first = asked_so asked (risen count) (reply asked.question) r (c.said from) (c.said mid) question named in
         let left = (wrong strategy).left (next r) in
-        let tells_reply : SaysReply r left (c.said mid) (c.said then) (Ok (tt {0})) = c.calls mid (tells r left (Ok (tt {0}))) then tells_it in
+        let tells_reply : SaysReply false r left (c.said mid) (c.said then) (Ok (tt {0})) = c.calls mid (tells r left (Ok (tt {0}))) then tells_it in
         let reply_is : (m : ℕ) → ReplyIsNamed m r = λ m. subst (ReplyIsNamed m) (sym first.0) (reply_named m asked.question) in
         let second = told_so r left (c.said mid) (c.said then) tells_reply (reply_is (length (c.said mid).log.names)) in
         let then_known : IsKnownTree n (with_pair store asked.question r) (next r) =
@@ -119,8 +120,8 @@ module _ (strategy : Strategy) (reply : Question → Reply) (reply_named : (n : 
         record {
           given = (first.0, more.given);
           says =
-              Says-more (one (Asks (risen count) asked)) (λ ops names. one (Replied r left) ops names ++ saying (risen count) es ops names) (c.said from) (c.said mid) (c.said to) (tt {0}) (Ok (tt {0})) first.1
-              (Says-more (one (Replied r left)) (saying (risen count) es) (c.said mid) (c.said then) (c.said to) (tt {0}) (Ok (tt {0})) second more.says);
+              Says-more (one (Asks (risen count) asked)) (λ ops names. one (Replied r left false) ops names ++ saying (risen count) es ops names) (c.said from) (c.said mid) (c.said to) (tt {0}) (Ok (tt {0})) first.1
+              (Says-more (one (Replied r left false)) (saying (risen count) es) (c.said mid) (c.said then) (c.said to) (tt {0}) (Ok (tt {0})) second more.says);
           asked = more.asked;
           keeps_place = λ some. more.keeps_place (tells_reply.keeps_place (question.keeps_place some));
           at = more.at;

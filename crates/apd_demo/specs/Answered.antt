@@ -1,6 +1,7 @@
 -- A diagnosis whose questions get replies from a function of the question.
 use Rattle.std.specs.Prelude.{◌≡◌, ℕ, zero, suc, List, [], ◌∷◌, length, Result, Ok, Err, IfOk}
 use Rattle.apd_answers.specs.Dialogue.{Diagnosis, Dialogue, Turn, asks, goes, ends, dialogue, next_turn}
+use Rattle.apd_answers.specs.Repliers.{nobody}
 use Rattle.apd_answers.specs.Store.{Store, with_pair}
 use Rattle.apd_answers.specs.declared.finding.Finding.{Finding}
 use Rattle.apd_answers.specs.declared.question.Question.{Question}
@@ -52,6 +53,6 @@ pub record IsDone (x : Dialogue Tree Finding) (count : ℕ) (store : Store) (cou
 -- from p to q the questions and replies of a dialogue are said, where so many were asked before; it comes to its end, or it
 -- breaks off
 pub record Demonstrates (x : Dialogue Tree Finding) (count : ℕ) (p q : Spoken) (store : Store) (count_now : ℕ) (result : Result Finding Trouble) : Type 0 where
-  pub says : Says (λ ops names. exchanges_said ops names count x.exchanges) p q (said_of result)
+  pub says : Says (λ ops names. exchanges_said nobody ops names count x.exchanges) p q (said_of result)
   pub keeps_place : KeepsPlace p q
   pub done : IfOk result (IsDone x count store count_now (length p.log.names))

@@ -1,5 +1,5 @@
 -- What a call of the demonstration's oracle does.
-use Rattle.std.specs.Prelude.{◌≡◌, ℕ, List, length, Result, Ok, Err}
+use Rattle.std.specs.Prelude.{◌≡◌, ℕ, List, length, false, Result, Ok, Err}
 use Rattle.apd_base.specs.Counts.{Counts, risen}
 use Rattle.apd_answers.specs.Oracle.{Call, is_write_fault}
 use Rattle.apd_answers.specs.Oracle as calls
@@ -31,4 +31,4 @@ pub record SaysQuestion (asked : Asked) (number : ℕ) (reply : Reply) (p q : Sp
 -- from p to q such a call, where so many questions were asked before: a question gets its reply, and a reply is told
 abbrev pub Calls : (Question → Reply) → Call → ℕ → Spoken → Spoken → Type 0
 Calls reply (calls.asking asked result) count p q = SaysQuestion asked (risen count) (reply asked.question) p q result
-Calls reply (calls.telling r left result) count p q = SaysReply r left p q result
+Calls reply (calls.telling r left result) count p q = SaysReply false r left p q result

@@ -1,6 +1,6 @@
 //! What the oracle of a demonstration says: a question with its reply.
 
-ghost use Rattle.std.specs.Prelude.{◌≡◌, ◌≤◌, length, IfOk};
+ghost use Rattle.std.specs.Prelude.{◌≡◌, ◌≤◌, length, false, IfOk};
 ghost use Rattle.apd_answers.specs.Oracle.{end_after};
 ghost use Rattle.apd_answers.specs.Questions.{FitsAsked};
 ghost use Rattle.apd_base.specs.Counts.{risen};
@@ -67,11 +67,16 @@ pub(crate) fn tell_reply<K: Sink>(
     log: &mut Log,
 ) -> Result<(), AskEnd>
     requires { length standard_names ≤ length log.old.names }
-    ensures { SaysReply reply.now left
+    ensures { SaysReply false reply.now left
         (spoken K.Sink log.old sink.old) (spoken K.Sink log.new sink.new) result }
 {
     let reply = reply.copy(alloc)?;
-    match say_kept(alloc, sink, log, Entry::Replied { reply, left }) {
+    let entry = Entry::Replied {
+        reply,
+        left,
+        by_reference: false,
+    };
+    match say_kept(alloc, sink, log, entry) {
         Ok(()) => Ok(()),
         Err(trouble) => Err(end_of_trouble(trouble)),
     }

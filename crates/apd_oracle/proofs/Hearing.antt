@@ -33,7 +33,7 @@ use Rattle.apd_term.specs.Growth.{Grown}
 use Rattle.apd_text.specs.declared.entry.Entry.{Entry}
 use Rattle.apd_text.specs.declared.entry.Entry.TheVariants.{BadReply}
 use Rattle.apd_text.specs.declared.entry.Reason.{Reason}
-use Rattle.apd_oracle.specs.Dialogue.{Follows, HasHeard, Hears, HearsOne, KeepsPlace, end_of_line, end_of_trouble}
+use Rattle.apd_oracle.specs.Dialogue.{Follows, HasHeard, Hears, HearsFrom, HearsOne, KeepsPlace, end_of_line, end_of_trouble}
 use Rattle.apd_oracle.specs.Replies.{spoken_of}
 use Rattle.apd_oracle.specs.Waiting.{Afterwards, turn_at, turn_of, waiting}
 use Rattle.apd_oracle.specs.declared.spoken.Spoken.{Spoken}
@@ -53,6 +53,17 @@ Hears-more f g p q r after (Err ends.Memory) first second = Breaks-more begun f 
 pub heard_trouble : (f : Meaning Entry) (p q : Place Entry) (after : Afterwards) (t : Trouble) → Breaks begun f p q t → Hears f p q after (Err (end_of_trouble t))
 heard_trouble f p q after troubles.WriteFault breaks = breaks
 heard_trouble f p q after troubles.Memory breaks = breaks
+
+-- and where there may be a reply without a line
+pub HearsFrom-more : (o : Option Reply) (f g : Meaning Entry) (p q r : Place Entry) (after : Afterwards) (result : Result Reply AskEnd) → Talks f p q g → HearsFrom o g q r after result → HearsFrom o f p r after result
+HearsFrom-more None f g p q r after result first second = Hears-more f g p q r after result first second
+HearsFrom-more (Some reply) f g p q r after (Ok given) first second = (second.0, Talks-more f g _ p q r first second.1)
+HearsFrom-more (Some reply) f g p q r after (Err end) first second = Hears-more f g p q r after (Err end) first second
+
+-- where no more can be said, it is so with a reply and without
+pub heard_trouble_from : (o : Option Reply) (f : Meaning Entry) (p q : Place Entry) (after : Afterwards) (t : Trouble) → Breaks begun f p q t → HearsFrom o f p q after (Err (end_of_trouble t))
+heard_trouble_from None f p q after t breaks = heard_trouble f p q after t breaks
+heard_trouble_from (Some reply) f p q after t breaks = heard_trouble f p q after t breaks
 
 -- counts of faults of the console and of the sink, as those of an oracle
 line_counts : (a b : ℕ) (e : LineEnd) → Counted (console.is_read_fault e) a b → Counted (is_read_fault (end_of_line e)) a b

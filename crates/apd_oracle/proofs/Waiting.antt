@@ -1,5 +1,5 @@
 -- While a question waits, and where it is said first.
-use Rattle.std.proofs.Common.{◌≡◌, ℕ, ◌+◌, ◌≤◌, List, [], length, refl, ap, sym, ◌∙◌, arith, Option, None, Some, subst, inl, inr, ◌⊎◌}
+use Rattle.std.proofs.Common.{◌≡◌, ℕ, ◌+◌, ◌≤◌, List, [], length, refl, ap, sym, ◌∙◌, arith, Bool, Option, None, Some, subst, inl, inr, ◌⊎◌}
 use Rattle.std.specs.Prelude.{Result, Ok, Err, IfOk}
 use Rattle.apd_base.specs.Counts.{Counted, Counts, risen}
 use Rattle.apd_answers.specs.Oracle.{is_read_fault, is_write_fault}
@@ -7,6 +7,7 @@ use Rattle.apd_answers.specs.Oracle as calls
 use Rattle.apd_answers.specs.declared.oracle.AskEnd.{AskEnd}
 use Rattle.apd_answers.specs.declared.oracle.AskEnd.TheVariants as ends
 use Rattle.apd_answers.specs.declared.question.Asked.{Asked}
+use Rattle.apd_answers.specs.declared.question.Question.{Question}
 use Rattle.apd_answers.specs.declared.question.Reply.{Reply}
 use Rattle.apd_console.specs.Console.{IsKept, room_of}
 use Rattle.apd_console.specs.Lines.{InputEnd}
@@ -29,9 +30,9 @@ use Rattle.apd_term.specs.StandardNames.{standard_names}
 use Rattle.apd_text.specs.Named.{EntryIsNamed, QuestionIsNamed}
 use Rattle.apd_text.specs.declared.entry.Entry.{Entry}
 use Rattle.apd_text.specs.declared.entry.Entry.TheVariants.{Question as Asks, Replied}
-use Rattle.apd_oracle.specs.Dialogue.{Calls, CanHear, Follows, HasFaults, HasHeard, Hears, HearsOne, IsReply, KeepsPlace, SaysReply, answer_of, end_of_trouble}
-use Rattle.apd_oracle.specs.Waiting.{Afterwards, asking, waiting}
-use Rattle.apd_oracle.proofs.Hearing.{Hears-more, heard_trouble, trouble_reads, trouble_writes}
+use Rattle.apd_oracle.specs.Dialogue.{Calls, CanHear, Follows, HasFaults, HasHeard, Hears, HearsFrom, HearsOne, IsReply, KeepsPlace, SaysReply, answer_of, end_of_trouble}
+use Rattle.apd_oracle.specs.Waiting.{Afterwards, answering, asking, waiting}
+use Rattle.apd_oracle.proofs.Hearing.{Hears-more, HearsFrom-more, heard_trouble_from, trouble_reads, trouble_writes}
 
 pub Keeps-more : (p q r : Moment) → Keeps p q → Keeps q r → Keeps p r
 Keeps-more p q r first second = record {
@@ -133,56 +134,103 @@ saying_keeps p s sound names ops = record {
   sound = sound;
 }
 
--- there was no memory for the question
-pub unasked : (asked : Asked) (count : ℕ) (p : Moment) → IsKept p.console → Calls (calls.asking asked (Err ends.Memory)) count p p
-unasked asked count p sound = record {
+-- there is a reply without a line
+pub given_so : (o : Option Reply) (asked : Asked) (reply : Reply) (p : Moment) → IsKept p.console → o ≡ Some reply → HasHeard (HearsFrom o) (answering o asked) p p (Ok reply)
+given_so o asked reply p sound is = record {
   keeps = record { names = Grown-self p.spoken.log.names; few = omega arith; ops = refl; sound = sound };
   keeps_place = λ some. some;
-  acts = (
-    λ named names grew reader after.
-        Breaks-say begun _ p.console p.left p.spoken.held p.spoken.held p.read_faults p.spoken.write_faults p.spoken.write_faults p.spoken.log.entries.list p.spoken.log.entries.list [] troubles.Memory
-        (UttersFront-none begun p.spoken.log.entries.list p.spoken.log.entries.list p.spoken.held [] refl) (omega arith) (λ e. absurd (cc)) (λ room more ends. (_, refl)),
-    tt,
-  );
+  follows = λ names grew reader after.
+      subst (λ (o : Option Reply). HearsFrom o (means (answering o asked p.spoken.log.ops names reader after)) (place p) (place p) after (Ok reply)) (sym is)
+      (refl, Talks-self (means (after.referred reply)) (place p));
+  faults = record { read = refl; write = refl };
 }
 
-module _ (count n : ℕ) (is : n ≡ risen count) (copy asked : Asked) (same : copy ≡ asked) (p : Moment) (s : Speaking) (sound : IsKept p.console) (standard : length standard_names ≤ length p.spoken.log.names)
-    (names_stay : s.log.names ≡ p.spoken.log.names) (ops_stay : s.log.ops ≡ p.spoken.log.ops) (place_stays : KeepsPlace p.spoken s) where
-  -- it couldn't be said whole
-  pub asked_front : {T : Type 0} (t : Trouble) → (EntryIsNamed (length p.spoken.log.names) (Asks n copy) → Says {T = T} (one (Asks n copy)) p.spoken s (Err t)) → Calls (calls.asking asked (Err (end_of_trouble t))) count p (saying p s)
-  asked_front {T} t says_if = record {
-    keeps = saying_keeps p s sound names_stay ops_stay;
-    keeps_place = place_stays;
-    acts = (subst (λ (i : ℕ). QuestionIsNamed (length p.spoken.log.names) asked.question → Follows Hears (asking i asked) p (saying p s) (Err (end_of_trouble t))) is follows, tt);
+-- or no memory for one
+pub not_given : (o : Option Reply) (asked : Asked) (p : Moment) → IsKept p.console → HasHeard (HearsFrom o) (answering o asked) p p (Err ends.Memory)
+not_given o asked p sound = record {
+  keeps = record { names = Grown-self p.spoken.log.names; few = omega arith; ops = refl; sound = sound };
+  keeps_place = λ some. some;
+  follows = λ names grew reader after.
+      heard_trouble_from o (means (answering o asked p.spoken.log.ops names reader after)) (place p) (place p) after troubles.Memory
+      (Breaks-say begun _ p.console p.left p.spoken.held p.spoken.held p.read_faults p.spoken.write_faults p.spoken.write_faults p.spoken.log.entries.list p.spoken.log.entries.list [] troubles.Memory
+      (UttersFront-none begun p.spoken.log.entries.list p.spoken.log.entries.list p.spoken.held [] refl) (omega arith) (λ e. absurd (cc)) (λ room more ends. (_, refl)));
+  faults = record { read = refl; write = refl };
+}
+
+-- where there is none, lines are heard
+pub waited_for : (o : Option Reply) (asked : Asked) (p r : Moment) (result : Result Reply AskEnd) → o ≡ None → HasHeard Hears (waiting asked) p r result → HasHeard (HearsFrom o) (answering o asked) p r result
+waited_for o asked p r result is heard = record {
+  keeps = heard.keeps;
+  keeps_place = heard.keeps_place;
+  follows = λ names grew reader after.
+      subst (λ (o : Option Reply). HearsFrom o (means (answering o asked p.spoken.log.ops names reader after)) (place p) (place r) after result) (sym is) (heard.follows names grew reader after);
+  faults = heard.faults;
+}
+
+module _ (replies : Question → Option Reply) (by_reference : Bool) where
+  -- there was no memory for the question
+  pub unasked : (asked : Asked) (count : ℕ) (p : Moment) → IsKept p.console → Calls replies (calls.asking asked (Err ends.Memory)) count by_reference p p
+  unasked asked count p sound = record {
+    keeps = record { names = Grown-self p.spoken.log.names; few = omega arith; ops = refl; sound = sound };
+    keeps_place = λ some. some;
+    acts = (
+      λ named names grew reader after.
+          heard_trouble_from (replies asked.question) (means (asking replies (risen count) asked p.spoken.log.ops names reader after)) (place p) (place p) after troubles.Memory
+          (Breaks-say begun _ p.console p.left p.spoken.held p.spoken.held p.read_faults p.spoken.write_faults p.spoken.write_faults p.spoken.log.entries.list p.spoken.log.entries.list [] troubles.Memory
+          (UttersFront-none begun p.spoken.log.entries.list p.spoken.log.entries.list p.spoken.held [] refl) (omega arith) (λ e. absurd (cc)) (λ room more ends. (_, refl))),
+      λ named. tt,
+    );
   }
-    where
-      follows : QuestionIsNamed (length p.spoken.log.names) asked.question → Follows Hears (asking n asked) p (saying p s) (Err (end_of_trouble t))
-      follows named = λ names grew reader after.
-          let says : Says {T = T} (one (Asks n asked)) p.spoken s (Err t) = rw same at (says_if (standard, rw same named)) in
-          let grown : Grown p.spoken.log.names names = subst (λ (l : List (List ℕ)). Grown l names) names_stay grew in
-          heard_trouble _ _ _ after t
-          (Breaks-say begun _ p.console p.left p.spoken.held s.held p.read_faults p.spoken.write_faults s.write_faults p.spoken.log.entries.list s.log.entries.list (one (Asks n asked) p.spoken.log.ops names) t
-          (says.front names grown) (says_later {T = T} (one (Asks n asked)) p.spoken s (Err t) says) (says_rose {T = T} (one (Asks n asked)) p.spoken s t says)
-          (λ room more ends. (means (waiting asked p.spoken.log.ops names reader after) room more ends, first_said (one (Asks n asked) p.spoken.log.ops names) (waiting asked p.spoken.log.ops names reader after) room more ends)))
 
-  -- it was said, and heard to its reply
-  module _ {T : Type 0} (t : T) (says_if : EntryIsNamed (length p.spoken.log.names) (Asks n copy) → Says (one (Asks n copy)) p.spoken s (Ok t)) (r : Moment) (result : Result Reply AskEnd) (heard : HasHeard Hears (waiting asked) (saying p s) r result) where
-    asked_follows : QuestionIsNamed (length p.spoken.log.names) asked.question → Follows Hears (asking n asked) p r result
-    asked_follows named = λ names grew reader after.
-        let says : Says (one (Asks n asked)) p.spoken s (Ok t) = rw same at (says_if (standard, rw same named)) in
-        let later : Grown s.log.names names = Grown-more s.log.names r.spoken.log.names names heard.keeps.names grew in
-        let grown : Grown p.spoken.log.names names = subst (λ (l : List (List ℕ)). Grown l names) names_stay later in
-        Hears-more _ (means (waiting asked p.spoken.log.ops names reader after)) (place p) (place (saying p s)) (place r) after result
-        (Talks-say _ _ p.console p.left p.spoken.held s.held p.read_faults p.spoken.write_faults s.write_faults p.spoken.log.entries.list s.log.entries.list (one (Asks n asked) p.spoken.log.ops names)
-        (says.all names grown) (says_later (one (Asks n asked)) p.spoken s (Ok t) says) (first_said (one (Asks n asked) p.spoken.log.ops names) (waiting asked p.spoken.log.ops names reader after)))
-        (subst (λ (ops : Table). Hears (means (waiting asked ops names reader after)) (place (saying p s)) (place r) after result) ops_stay (heard.follows names grew reader after))
+  module _ (count n : ℕ) (is : n ≡ risen count) (copy asked : Asked) (same : copy ≡ asked) (p : Moment) (s : Speaking) (sound : IsKept p.console) (standard : length standard_names ≤ length p.spoken.log.names)
+      (names_stay : s.log.names ≡ p.spoken.log.names) (ops_stay : s.log.ops ≡ p.spoken.log.ops) (place_stays : KeepsPlace p.spoken s) where
+    abbrev given : Option Reply
+    given = replies asked.question
 
-    pub asked_heard : IfOk result (IsReply (length r.spoken.log.names) asked) → Calls (calls.asking asked result) count p r
-    asked_heard reply = record {
-      keeps = Keeps-more p (saying p s) r (saying_keeps p s sound names_stay ops_stay) heard.keeps;
-      keeps_place = λ some. heard.keeps_place (place_stays some);
-      acts = (subst (λ (i : ℕ). QuestionIsNamed (length p.spoken.log.names) asked.question → Follows Hears (asking i asked) p r result) is asked_follows, reply);
+    abbrev IsAskedNamed : Type 0
+    IsAskedNamed = QuestionIsNamed (length p.spoken.log.names) asked.question
+
+    -- it couldn't be said whole
+    pub asked_front : {T : Type 0} (t : Trouble) → (EntryIsNamed (length p.spoken.log.names) (Asks n copy) → Says {T = T} (one (Asks n copy)) p.spoken s (Err t)) →
+        Calls replies (calls.asking asked (Err (end_of_trouble t))) count by_reference p (saying p s)
+    asked_front {T} t says_if = record {
+      keeps = saying_keeps p s sound names_stay ops_stay;
+      keeps_place = place_stays;
+      acts = (subst (λ (i : ℕ). IsAskedNamed → Follows (HearsFrom given) (asking replies i asked) p (saying p s) (Err (end_of_trouble t))) is follows, λ named. tt);
     }
+      where
+        follows : IsAskedNamed → Follows (HearsFrom given) (asking replies n asked) p (saying p s) (Err (end_of_trouble t))
+        follows named = λ names grew reader after.
+            let says : Says {T = T} (one (Asks n asked)) p.spoken s (Err t) = rw same at (says_if (standard, rw same named)) in
+            let grown : Grown p.spoken.log.names names = subst (λ (l : List (List ℕ)). Grown l names) names_stay grew in
+            let h = answering given asked p.spoken.log.ops names reader after in
+            heard_trouble_from given _ _ _ after t
+            (Breaks-say begun _ p.console p.left p.spoken.held s.held p.read_faults p.spoken.write_faults s.write_faults p.spoken.log.entries.list s.log.entries.list (one (Asks n asked) p.spoken.log.ops names) t
+            (says.front names grown) (says_later {T = T} (one (Asks n asked)) p.spoken s (Err t) says) (says_rose {T = T} (one (Asks n asked)) p.spoken s t says)
+            (λ room more ends. (means h room more ends, first_said (one (Asks n asked) p.spoken.log.ops names) h room more ends)))
+
+    -- it was said, and heard to its reply
+    module _ {T : Type 0} (t : T) (says_if : EntryIsNamed (length p.spoken.log.names) (Asks n copy) → Says (one (Asks n copy)) p.spoken s (Ok t)) (r : Moment) (result : Result Reply AskEnd) (heard : HasHeard (HearsFrom given) (answering given asked) (saying p s) r result) where
+      asked_follows : IsAskedNamed → Follows (HearsFrom given) (asking replies n asked) p r result
+      asked_follows named = λ names grew reader after.
+          let says : Says (one (Asks n asked)) p.spoken s (Ok t) = rw same at (says_if (standard, rw same named)) in
+          let later : Grown s.log.names names = Grown-more s.log.names r.spoken.log.names names heard.keeps.names grew in
+          let grown : Grown p.spoken.log.names names = subst (λ (l : List (List ℕ)). Grown l names) names_stay later in
+          let h = answering given asked p.spoken.log.ops names reader after in
+          HearsFrom-more given _ (means h) (place p) (place (saying p s)) (place r) after result
+          (Talks-say _ _ p.console p.left p.spoken.held s.held p.read_faults p.spoken.write_faults s.write_faults p.spoken.log.entries.list s.log.entries.list (one (Asks n asked) p.spoken.log.ops names)
+          (says.all names grown) (says_later (one (Asks n asked)) p.spoken s (Ok t) says) (first_said (one (Asks n asked) p.spoken.log.ops names) h))
+          (subst (λ (ops : Table). HearsFrom given (means (answering given asked ops names reader after)) (place (saying p s)) (place r) after result) ops_stay (heard.follows names grew reader after))
+
+      pub asked_heard : (QuestionIsNamed (length s.log.names) asked.question → IfOk result (IsReply (length r.spoken.log.names) asked)) → Calls replies (calls.asking asked result) count by_reference p r
+      asked_heard reply = record {
+        keeps = Keeps-more p (saying p s) r (saying_keeps p s sound names_stay ops_stay) heard.keeps;
+        keeps_place = λ some. heard.keeps_place (place_stays some);
+        acts = (
+          subst (λ (i : ℕ). IsAskedNamed → Follows (HearsFrom given) (asking replies i asked) p r result) is asked_follows,
+          λ named. reply (subst (λ (l : List (List ℕ)). QuestionIsNamed (length l) asked.question) (sym names_stay) named),
+        );
+      }
 
 -- what the counts say over both
 pub asked_faults : (p : Moment) (s : Speaking) (r : Moment) (result : Result Reply AskEnd) → s.write_faults ≡ p.spoken.write_faults → HasFaults (saying p s) r result → HasFaults p r result
@@ -196,9 +244,10 @@ said_writes : (c d : ℕ) (said : Result (Unit {0}) Trouble) → Counts speech.i
 said_writes c d (Ok t) counts = counts
 said_writes c d (Err t) counts = trouble_writes c d t counts
 
-pub said_so : (copy reply : Reply) (left : Option ℕ) (p s : Speaking) (said : Result (Unit {0}) Trouble) → copy ≡ reply → length standard_names ≤ length p.log.names → (EntryIsNamed (length p.log.names) (Replied copy left) → Says (one (Replied copy left)) p s said) →
-    s.log.names ≡ p.log.names → s.log.ops ≡ p.log.ops → KeepsPlace p s → Counts speech.is_write_fault p.write_faults s.write_faults said → SaysReply reply left p s (answer_of said)
-said_so copy reply left p s said same standard says_if names ops room counts = record {
+pub said_so : (by_reference : Bool) (copy reply : Reply) (left : Option ℕ) (p s : Speaking) (said : Result (Unit {0}) Trouble) → copy ≡ reply → length standard_names ≤ length p.log.names →
+    (EntryIsNamed (length p.log.names) (Replied copy left by_reference) → Says (one (Replied copy left by_reference)) p s said) →
+    s.log.names ≡ p.log.names → s.log.ops ≡ p.log.ops → KeepsPlace p s → Counts speech.is_write_fault p.write_faults s.write_faults said → SaysReply by_reference reply left p s (answer_of said)
+said_so by_reference copy reply left p s said same standard says_if names ops room counts = record {
   said = said;
   answers = refl;
   says = λ named. rw same at (says_if (standard, rw same named));
@@ -209,11 +258,11 @@ said_so copy reply left p s said same standard says_if names ops room counts = r
 }
 
 -- there was no memory for it
-pub unsaid : (reply : Reply) (left : Option ℕ) (p : Speaking) → SaysReply reply left p p (Err ends.Memory)
-unsaid reply left p = record {
+pub unsaid : (by_reference : Bool) (reply : Reply) (left : Option ℕ) (p : Speaking) → SaysReply by_reference reply left p p (Err ends.Memory)
+unsaid by_reference reply left p = record {
   said = Err troubles.Memory;
   answers = refl;
-  says = λ named. Says-none (one (Replied reply left)) p p refl refl refl refl refl;
+  says = λ named. Says-none (one (Replied reply left by_reference)) p p refl refl refl refl refl;
   names = refl;
   ops = refl;
   keeps_place = λ some. some;
@@ -234,8 +283,9 @@ pub told_reads : (a : ℕ) (said : Result (Unit {0}) Trouble) (result : Result (
 told_reads a said result is = subst (λ (r : Result (Unit {0}) AskEnd). Counts is_read_fault a a r) (sym is) (said_reads a said)
 
 -- a reply is told
-pub told_so : (reply : Reply) (left : Option ℕ) (count : ℕ) (p : Moment) (s : Speaking) (result : Result (Unit {0}) AskEnd) → IsKept p.console → SaysReply reply left p.spoken s result → Calls (calls.telling reply left result) count p (saying p s)
-told_so reply left count p s result sound tells = record {
+pub told_so : (replies : Question → Option Reply) (by_reference : Bool) (reply : Reply) (left : Option ℕ) (count : ℕ) (p : Moment) (s : Speaking) (result : Result (Unit {0}) AskEnd) → IsKept p.console →
+    SaysReply by_reference reply left p.spoken s result → Calls replies (calls.telling reply left result) count by_reference p (saying p s)
+told_so replies by_reference reply left count p s result sound tells = record {
   keeps = saying_keeps p s sound tells.names tells.ops;
   keeps_place = tells.keeps_place;
   acts = ((refl, refl, refl), tells);

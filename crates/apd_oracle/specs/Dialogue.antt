@@ -1,5 +1,5 @@
 -- What a call of a dialogue does.
-use Rattle.std.specs.Prelude.{ℕ, ◌≡◌, ◌+◌, ◌<◌, ◌≤◌, length, Option, None, Some, Result, Ok, Err, IfOk}
+use Rattle.std.specs.Prelude.{ℕ, ◌≡◌, ◌+◌, ◌<◌, ◌≤◌, length, Bool, Option, None, Some, is_some, Result, Ok, Err, IfOk}
 use Rattle.apd_base.specs.Counts.{Counts, risen}
 use Rattle.apd_base.specs.declared.limits.TheConstants.{MOST_NAMES}
 use Rattle.apd_answers.specs.Oracle.{Call, is_read_fault, is_write_fault}
@@ -8,6 +8,7 @@ use Rattle.apd_answers.specs.declared.oracle.AskEnd.{AskEnd}
 use Rattle.apd_answers.specs.declared.oracle.AskEnd.TheVariants as ends
 use Rattle.apd_answers.specs.Questions.{FitsAsked}
 use Rattle.apd_answers.specs.declared.question.Asked.{Asked}
+use Rattle.apd_answers.specs.declared.question.Question.{Question}
 use Rattle.apd_answers.specs.declared.question.Reply.{Reply}
 use Rattle.apd_console.specs.Console.{room_of}
 use Rattle.apd_console.specs.Lines.{AtEnd, AtFault, AtLimit}
@@ -41,6 +42,12 @@ Hears start p q after (Err ends.ReadFault) = Closes start p q AtFault (after.clo
 Hears start p q after (Err ends.InputLimit) = Closes start p q AtLimit (after.closed AtLimit)
 Hears start p q after (Err ends.WriteFault) = Breaks begun start p q troubles.WriteFault
 Hears start p q after (Err ends.Memory) = Breaks begun start p q troubles.Memory
+
+-- the same where there may be a reply without a line
+abbrev pub HearsFrom : Option Reply → Meaning Entry → Place Entry → Place Entry → Afterwards → Result Reply AskEnd → Type 0
+HearsFrom None start p q after result = Hears start p q after result
+HearsFrom (Some reply) start p q after (Ok r) = (r ≡ reply) × Talks start p q (means (after.referred reply))
+HearsFrom (Some reply) start p q after (Err end) = Hears start p q after (Err end)
 
 -- the same after one line, where the question may stand
 abbrev pub HearsOne : Meaning Entry → Place Entry → Place Entry → Afterwards → Result (Option Reply) AskEnd → Type 0
@@ -89,11 +96,11 @@ pub record HasHeard {T : Type 0} (hears : Meaning Entry → Place Entry → Plac
 abbrev pub IsReply : ℕ → Asked → Reply → Type 0
 IsReply n asked reply = FitsAsked asked reply × ReplyIsNamed n reply
 
--- a reply is said from p to q, if its names are known
-pub record SaysReply (reply : Reply) (left : Option ℕ) (p q : Spoken) (result : Result (Unit {0}) AskEnd) : Type 0 where
+-- a reply, which the reference program gave or not, is said from p to q, if its names are known
+pub record SaysReply (by_reference : Bool) (reply : Reply) (left : Option ℕ) (p q : Spoken) (result : Result (Unit {0}) AskEnd) : Type 0 where
   pub said : Result (Unit {0}) Trouble
   pub answers : result ≡ answer_of said
-  pub says : ReplyIsNamed (length p.log.names) reply → Says (one (Replied reply left)) p q said
+  pub says : ReplyIsNamed (length p.log.names) reply → Says (one (Replied reply left by_reference)) p q said
   pub names : q.log.names ≡ p.log.names
   pub ops : q.log.ops ≡ p.log.ops
   pub keeps_place : KeepsPlace p q
@@ -103,20 +110,28 @@ pub record SaysReply (reply : Reply) (left : Option ℕ) (p q : Spoken) (result 
 abbrev pub HearsNothing : Moment → Moment → Type 0
 HearsNothing p q = (q.console ≡ p.console) × (q.left ≡ p.left) × (q.read_faults ≡ p.read_faults)
 
--- a call hears and says: a question is said with this number, if its names are known, and heard to its reply; or a reply is told
-abbrev pub Acts : Call → ℕ → Moment → Moment → Type 0
-Acts (calls.asking asked result) number p q =
-    (QuestionIsNamed (length p.spoken.log.names) asked.question → Follows Hears (asking number asked) p q result)
-    × IfOk result (IsReply (length q.spoken.log.names) asked)
-Acts (calls.telling reply left result) number p q = HearsNothing p q × SaysReply reply left p.spoken q.spoken result
-
 -- how many questions were asked after a call
 abbrev pub counted : Call → ℕ → ℕ
 counted (calls.asking asked result) count = risen count
 counted (calls.telling reply left result) count = count
 
--- from p to q such a call, where so many questions were asked before
-pub record Calls (call : Call) (count : ℕ) (p q : Moment) : Type 0 where
-  pub keeps : Keeps p q
-  pub keeps_place : KeepsPlace p.spoken q.spoken
-  pub acts : Acts call (risen count) p q
+-- by what someone replies without a line
+module _ (replies : Question → Option Reply) where
+  -- a call hears and says: a question is said with this number, if its names are known, and gets its reply; or a reply is told
+  abbrev pub Acts : Bool → Call → ℕ → Moment → Moment → Type 0
+  Acts by_reference (calls.asking asked result) number p q =
+      (QuestionIsNamed (length p.spoken.log.names) asked.question → Follows (HearsFrom (replies asked.question)) (asking replies number asked) p q result)
+      × (QuestionIsNamed (length p.spoken.log.names) asked.question → IfOk result (IsReply (length q.spoken.log.names) asked))
+  Acts by_reference (calls.telling reply left result) number p q = HearsNothing p q × SaysReply by_reference reply left p.spoken q.spoken result
+
+  -- after a call, whether the last reply was given without a line
+  abbrev pub referred : Call → Bool → Bool
+  referred (calls.asking asked (Ok reply)) by_reference = is_some (replies asked.question)
+  referred (calls.asking asked (Err end)) by_reference = by_reference
+  referred (calls.telling reply left result) by_reference = by_reference
+
+  -- from p to q such a call, where so many questions were asked before, and the last reply was given without a line or not
+  pub record Calls (call : Call) (count : ℕ) (by_reference : Bool) (p q : Moment) : Type 0 where
+    pub keeps : Keeps p q
+    pub keeps_place : KeepsPlace p.spoken q.spoken
+    pub acts : Acts by_reference call (risen count) p q

@@ -1,6 +1,7 @@
 -- What the lines mean while a question waits for its reply.
-use Rattle.std.specs.Prelude.{ℕ, List, []}
+use Rattle.std.specs.Prelude.{ℕ, List, [], Option, Some, None}
 use Rattle.apd_answers.specs.declared.question.Asked.{Asked}
+use Rattle.apd_answers.specs.declared.question.Question.{Question}
 use Rattle.apd_answers.specs.declared.question.Reply.{Reply}
 use Rattle.apd_console.specs.Lines.{Close}
 use Rattle.apd_console.specs.declared.line.Line.{Line}
@@ -16,9 +17,11 @@ use Rattle.apd_oracle.specs.Replies.{spoken_of}
 use Rattle.apd_oracle.specs.declared.spoken.Spoken.{Spoken}
 use Rattle.apd_oracle.specs.declared.spoken.Spoken.TheVariants as spoken
 
--- what comes after a question: after each reply, after the words that stop the diagnosis or end the session, and where no line is left
+-- what comes after a question: after each reply of a line, after one that there is without a line, after the words that stop the
+-- diagnosis or end the session, and where no line is left
 pub record Afterwards : Type 0 where
   pub replied : Reply → Hearing Entry
+  pub referred : Reply → Hearing Entry
   pub stopped : Hearing Entry
   pub quit : Hearing Entry
   pub closed : Close → Said Entry
@@ -43,6 +46,11 @@ turn_at asked ops names reader after line = turn_of ops names after (spoken_of a
 abbrev pub waiting : Asked → Course
 waiting asked ops names reader after = await (turn_at asked ops names reader after) after.closed
 
--- the question is said, and waits
-abbrev pub asking : ℕ → Asked → Course
-asking number asked ops names reader after = says_first (one (Asks number asked) ops names) (waiting asked ops names reader after)
+-- what is asked gets a reply that there is without a line; else it waits
+abbrev pub answering : Option Reply → Asked → Course
+answering None asked ops names reader after = waiting asked ops names reader after
+answering (Some reply) asked ops names reader after = after.referred reply
+
+-- the question is said, and gets the reply that someone has to it, if he has one; else it waits
+abbrev pub asking : (Question → Option Reply) → ℕ → Asked → Course
+asking replies number asked ops names reader after = says_first (one (Asks number asked) ops names) (answering (replies asked.question) asked ops names reader after)

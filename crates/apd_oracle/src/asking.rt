@@ -7,11 +7,12 @@ ghost use Rattle.apd_console.specs.Console.{room_of};
 ghost use Rattle.apd_talk.specs.Moment.{moment};
 ghost use Rattle.apd_talk.specs.Speech.{spoken};
 ghost use Rattle.apd_term.specs.StandardNames.{standard_names};
-ghost use Rattle.apd_oracle.specs.Dialogue.{Calls, CanHear, HasFaults, HasHeard, Hears, HearsOne, IsReply, SaysReply, end_of_line, end_of_trouble};
-ghost use Rattle.apd_oracle.specs.Waiting.{waiting};
+ghost use Rattle.apd_text.specs.Named.{QuestionIsNamed};
+ghost use Rattle.apd_oracle.specs.Dialogue.{Calls, CanHear, HasFaults, HasHeard, Hears, HearsFrom, HearsOne, IsReply, SaysReply, end_of_line, end_of_trouble, referred};
+ghost use Rattle.apd_oracle.specs.Waiting.{answering, waiting};
 
 use crate::spoken::{Spoken, spoken_of};
-use apd_answers::{AskEnd, Asked, Reply};
+use apd_answers::{AskEnd, Asked, Replier, Reply};
 use apd_console::{Console, LineEnd};
 use apd_io::{Sink, Source};
 use apd_lines::read_line;
@@ -96,24 +97,65 @@ fn hear_reply<S: Source, K: Sink>(
     }
 }
 
-/// Says a question, where so many were asked before, and hears lines till one is a reply.
-pub(crate) fn ask_question<S: Source, K: Sink>(
+/// Takes the reply of whoever has one without a line, or hears lines till one is a reply. Whether it was the former is noted.
+fn answer_question<S: Source, K: Sink, R: Replier>(
     alloc: Global,
-    count: u64,
     asked: &Asked,
+    replier: &mut R,
+    by_reference: &mut bool,
     console: &mut Console,
     source: &mut S,
     sink: &mut K,
     log: &mut Log,
 ) -> Result<Reply, AskEnd>
-    requires { CanHear (moment S.Source K.Sink console.old source.old log.old sink.old) }
-    ensures calls { Calls (asking asked.now result) count
+    requires hear { CanHear (moment S.Source K.Sink console.old source.old log.old sink.old) }
+    requires few { R.names replier.old ≤ length log.old.names }
+    ensures heard { HasHeard (HearsFrom (R.replies replier.old asked.now.question))
+        (answering (R.replies replier.old asked.now.question) asked.now)
+        (moment S.Source K.Sink console.old source.old log.old sink.old)
+        (moment S.Source K.Sink console.new source.new log.new sink.new) result }
+    ensures reply { QuestionIsNamed (length log.old.names) asked.now.question →
+        IfOk result (IsReply (length log.new.names) asked.now) }
+    ensures fits { IfOk result (FitsAsked asked.now) }
+    ensures same { replier.new ≡ replier.old }
+    ensures by { by_reference.new ≡
+        referred (R.replies replier.old) (asking asked.now result) by_reference.old }
+{
+    console.keeps_its_limits();
+    if let Some(given) = replier.reply(&asked.question)? {
+        *by_reference = true;
+        return Ok(given);
+    }
+    let heard = hear_reply(alloc, asked, console, source, sink, log)?;
+    *by_reference = false;
+    Ok(heard)
+}
+
+/// Says a question, where so many were asked before, and gets a reply to it: of whoever has one without a line, else of the
+/// first line that is one.
+pub(crate) fn ask_question<S: Source, K: Sink, R: Replier>(
+    alloc: Global,
+    count: u64,
+    asked: &Asked,
+    replier: &mut R,
+    by_reference: &mut bool,
+    console: &mut Console,
+    source: &mut S,
+    sink: &mut K,
+    log: &mut Log,
+) -> Result<Reply, AskEnd>
+    requires hear { CanHear (moment S.Source K.Sink console.old source.old log.old sink.old) }
+    requires few { R.names replier.old ≤ length log.old.names }
+    ensures calls { Calls (R.replies replier.old) (asking asked.now result) count by_reference.old
         (moment S.Source K.Sink console.old source.old log.old sink.old)
         (moment S.Source K.Sink console.new source.new log.new sink.new) }
     ensures faults { HasFaults
         (moment S.Source K.Sink console.old source.old log.old sink.old)
         (moment S.Source K.Sink console.new source.new log.new sink.new) result }
-    ensures fits { IfOk result (λ r. FitsAsked asked.now r) }
+    ensures fits { IfOk result (FitsAsked asked.now) }
+    ensures same { replier.new ≡ replier.old }
+    ensures by { by_reference.new ≡
+        referred (R.replies replier.old) (asking asked.now result) by_reference.old }
 {
     console.keeps_its_limits();
     let entry = Entry::Question {
@@ -124,25 +166,40 @@ pub(crate) fn ask_question<S: Source, K: Sink>(
         },
     };
     match say_kept(alloc, sink, log, entry) {
-        Ok(()) => hear_reply(alloc, asked, console, source, sink, log),
+        Ok(()) => answer_question(
+            alloc,
+            asked,
+            replier,
+            by_reference,
+            console,
+            source,
+            sink,
+            log,
+        ),
         Err(trouble) => Err(end_of_trouble(trouble)),
     }
 }
 
-/// Says a reply.
+/// Says a reply, which the reference program gave or not.
 pub(crate) fn tell_reply<K: Sink>(
     alloc: Global,
     reply: &Reply,
     left: Option<u32>,
+    by_reference: bool,
     sink: &mut K,
     log: &mut Log,
 ) -> Result<(), AskEnd>
     requires { length standard_names ≤ length log.old.names }
-    ensures { SaysReply reply.now left
+    ensures { SaysReply by_reference reply.now left
         (spoken K.Sink log.old sink.old) (spoken K.Sink log.new sink.new) result }
 {
     let reply = reply.copy(alloc)?;
-    match say_kept(alloc, sink, log, Entry::Replied { reply, left }) {
+    let entry = Entry::Replied {
+        reply,
+        left,
+        by_reference,
+    };
+    match say_kept(alloc, sink, log, entry) {
         Ok(()) => Ok(()),
         Err(trouble) => Err(end_of_trouble(trouble)),
     }

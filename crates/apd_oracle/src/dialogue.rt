@@ -1,4 +1,5 @@
-//! Whoever is asked by lines.
+//! Whoever is asked by lines, unless a replier has the reply.
+
 ghost use Rattle.std.specs.Prelude.{◌≡◌, ◌<◌, ◌≤◌, ◌+◌, length, None};
 ghost use Rattle.apd_answers.specs.Oracle.{end_after};
 ghost use Rattle.apd_base.specs.declared.limits.TheConstants.{MOST_NAMES};
@@ -6,17 +7,18 @@ ghost use Rattle.apd_console.specs.Console.{room_of};
 ghost use Rattle.apd_term.specs.StandardNames.{standard_names};
 
 use crate::asking::{ask_question, tell_reply};
-use apd_answers::{AskEnd, Asked, Oracle, Reply};
+use apd_answers::{AskEnd, Asked, Oracle, Replier, Reply};
 use apd_console::Console;
 use apd_io::{Sink, Source};
 use apd_text::Log;
 use std::alloc::Global;
 
-/// Whoever is asked by lines: questions go to a sink, replies are lines of a source, and both are kept in a log.
+/// Whoever is asked by lines: questions go to a sink, replies are those of a replier, or else lines of a source, and both are
+/// kept in a log.
 ///
 /// The names of the log, and the bytes that the console may still hand out, are together fewer than names may be.
 #[derive(Drop)]
-pub struct Dialogue<'c, 's, 'k, 'l, S: Source, K: Sink> {
+pub struct Dialogue<'c, 's, 'k, 'l, 'r, S: Source, K: Sink, R: Replier> {
     alloc: Global,
     /// How many questions were asked, as far as a u64 goes.
     pub asked: u64,
@@ -24,14 +26,19 @@ pub struct Dialogue<'c, 's, 'k, 'l, S: Source, K: Sink> {
     pub source: &'s mut S,
     pub sink: &'k mut K,
     pub log: &'l mut Log,
+    /// Who is asked before a line is heard.
+    pub replier: &'r mut R,
+    /// Whether the last reply was the replier's.
+    pub by_reference: bool,
     /// Why the last question had no reply, if that ended the dialogue.
     pub end: Option<AskEnd>,
     pub ghost fits: { length log.now.names + room_of console.now < MOST_NAMES },
     pub ghost standard: { length standard_names ≤ length log.now.names },
+    pub ghost known: { R.names replier.now ≤ length log.now.names },
 }
 
-impl<'c, 's, 'k, 'l, S: Source, K: Sink> Dialogue<'c, 's, 'k, 'l, S, K> {
-    /// A dialogue in which so many questions were asked before.
+impl<'c, 's, 'k, 'l, 'r, S: Source, K: Sink, R: Replier> Dialogue<'c, 's, 'k, 'l, 'r, S, K, R> {
+    /// A dialogue in which so many questions were asked before, and this replier has the first word.
     pub fn new(
         alloc: Global,
         asked: u64,
@@ -39,9 +46,11 @@ impl<'c, 's, 'k, 'l, S: Source, K: Sink> Dialogue<'c, 's, 'k, 'l, S, K> {
         source: &'s mut S,
         sink: &'k mut K,
         log: &'l mut Log,
-    ) -> Dialogue<'c, 's, 'k, 'l, S, K>
+        replier: &'r mut R,
+    ) -> Dialogue<'c, 's, 'k, 'l, 'r, S, K, R>
         requires fits { length log.old.names + room_of console.old < MOST_NAMES }
         requires standard { length standard_names ≤ length log.old.names }
+        requires known { R.names replier.old ≤ length log.old.names }
         ensures asked { result.asked ≡ asked }
         ensures console { (result.console.ghost_name ≡ console.entry.ghost_name)
             × (result.console.now ≡ console.old) }
@@ -51,6 +60,8 @@ impl<'c, 's, 'k, 'l, S: Source, K: Sink> Dialogue<'c, 's, 'k, 'l, S, K> {
             × (result.sink.now ≡ sink.old) }
         ensures log { (result.log.ghost_name ≡ log.entry.ghost_name)
             × (result.log.now ≡ log.old) }
+        ensures replier { (result.replier.ghost_name ≡ replier.entry.ghost_name)
+            × (result.replier.now ≡ replier.old) }
         ensures end { result.end ≡ None }
     {
         Dialogue {
@@ -60,13 +71,15 @@ impl<'c, 's, 'k, 'l, S: Source, K: Sink> Dialogue<'c, 's, 'k, 'l, S, K> {
             source,
             sink,
             log,
+            replier,
+            by_reference: false,
             end: None,
         }
     }
 }
 
-impl<S: Source, K: Sink> Oracle for Dialogue<'_, '_, '_, '_, S, K> {
-    ghost use Rattle.apd_oracle.specs.Dialogue.{Calls, counted};
+impl<S: Source, K: Sink, R: Replier> Oracle for Dialogue<'_, '_, '_, '_, '_, S, K, R> {
+    ghost use Rattle.apd_oracle.specs.Dialogue.{Calls, counted, referred};
     ghost use Rattle.apd_talk.specs.Moment.{moment};
 
     ghost end = { λ d. d.end };
@@ -79,8 +92,11 @@ impl<S: Source, K: Sink> Oracle for Dialogue<'_, '_, '_, '_, S, K> {
         × (e.source.ghost_name ≡ d.source.ghost_name)
         × (e.sink.ghost_name ≡ d.sink.ghost_name)
         × (e.log.ghost_name ≡ d.log.ghost_name)
+        × (e.replier.ghost_name ≡ d.replier.ghost_name)
+        × (e.replier.now ≡ d.replier.now)
+        × (e.by_reference ≡ referred (R.replies d.replier.now) call d.by_reference)
         × (e.asked ≡ counted call d.asked)
-        × Calls call d.asked
+        × Calls (R.replies d.replier.now) call d.asked d.by_reference
         (moment S.Source K.Sink d.console.now d.source.now d.log.now d.sink.now)
         (moment S.Source K.Sink e.console.now e.source.now e.log.now e.sink.now) };
 
@@ -91,6 +107,8 @@ impl<S: Source, K: Sink> Oracle for Dialogue<'_, '_, '_, '_, S, K> {
             self.alloc,
             count,
             asked,
+            self.replier,
+            &mut self.by_reference,
             self.console,
             self.source,
             self.sink,
@@ -102,7 +120,14 @@ impl<S: Source, K: Sink> Oracle for Dialogue<'_, '_, '_, '_, S, K> {
 
     fn told(&mut self, reply: &Reply, left: Option<u32>) -> Result<(), AskEnd> {
         self.console.keeps_its_limits();
-        let answer = tell_reply(self.alloc, reply, left, self.sink, self.log);
+        let answer = tell_reply(
+            self.alloc,
+            reply,
+            left,
+            self.by_reference,
+            self.sink,
+            self.log,
+        );
         self.end = end_after(self.end, &answer);
         answer
     }

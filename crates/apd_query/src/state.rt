@@ -6,6 +6,7 @@ use apd_clauses::Program;
 use apd_divide::Strategy;
 use apd_ports::Filter;
 use apd_record::Record;
+use apd_reference::Referee;
 
 /// The last run of a session.
 #[derive(Drop)]
@@ -35,6 +36,8 @@ pub struct State {
     pub last: Option<LastRun>,
     /// The symptoms and the replies of all diagnoses.
     pub replies: Answers,
+    /// Who is asked before a line is read.
+    pub referee: Referee,
     /// How many questions were asked.
     pub asked: u64,
 }

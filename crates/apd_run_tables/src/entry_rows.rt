@@ -129,6 +129,7 @@ fn entry_named(name: &str, at: u32, pred: Pred, cause: LoadCause) -> Option<Entr
         "query warning" => Entry::Warning { line: None, pred },
         "loaded" => Entry::Loaded { clauses: at },
         "oracle loaded" => Entry::OracleLoaded { statements: at },
+        "reference loaded" => Entry::ReferenceLoaded { clauses: at },
         "too long" => Entry::Refused {
             refusal: Refusal::TooLong,
         },
@@ -137,6 +138,7 @@ fn entry_named(name: &str, at: u32, pred: Pred, cause: LoadCause) -> Option<Entr
         },
         "refused" => refused_for(cause),
         "program refused" => Entry::ProgramRefused { line: at, cause },
+        "reference refused" => Entry::ReferenceRefused { line: at, cause },
         "usage" => Entry::UsageRefused,
         "file too long" => Entry::FileTooLong {
             length: u64::from(at),

@@ -1,7 +1,7 @@
 -- A demonstration: what it says in parts, and as a session.
-use Rattle.std.proofs.Common.{◌≡◌, ℕ, List, [], ◌++◌, refl, sym, ap, ◌∙◌, subst, inl, inr, Option, Some, None}
+use Rattle.std.proofs.Common.{◌≡◌, ℕ, List, [], ◌++◌, refl, sym, ap, ◌∙◌, subst, inl, Option, Some, None}
 use Rattle.std.specs.Prelude.{Result, Ok, Err, pos}
-use Rattle.apd_answers.specs.Store.{empty_store}
+use Rattle.apd_answers.specs.Repliers.{nobody}
 use Rattle.apd_account.specs.Account.{with_told}
 use Rattle.apd_answers.specs.Dialogue.{Dialogue}
 use Rattle.apd_answers.specs.declared.finding.Finding.{Finding}
@@ -25,7 +25,7 @@ use Rattle.apd_talk.proofs.Uttering.{UttersFront-none}
 use Rattle.apd_term.specs.Growth.{Grown}
 use Rattle.apd_term.specs.Term.{Term}
 use Rattle.apd_text.specs.declared.entry.Entry.{Entry}
-use Rattle.apd_text.specs.declared.entry.Entry.TheVariants.{ProgramRefused, Refused, Symptom}
+use Rattle.apd_text.specs.declared.entry.Entry.TheVariants.{Refused, Symptom}
 use Rattle.apd_text.specs.declared.entry.Refusal.{Refusal}
 use Rattle.apd_text.specs.declared.entry.Told.TheVariants.{Wrong}
 use Rattle.apd_text.specs.declared.log.Log.{Log}
@@ -33,18 +33,11 @@ use Rattle.apd_commands.specs.Commands.{command_in}
 use Rattle.apd_commands.specs.declared.commands.Command.{Command}
 use Rattle.apd_commands.specs.declared.commands.Command.TheVariants as command
 use Rattle.apd_causes.specs.declared.run.Query.{Query}
-use Rattle.apd_load.specs.Warnings.{warnings_of}
-use Rattle.apd_load.specs.declared.Note.{Note}
 use Rattle.apd_read.specs.Reader.{Reader}
 use Rattle.apd_session.specs.Demo.{asked_said, blamed, blamed_at, found_said, query_line, shown_said}
 use Rattle.apd_session.specs.Outcome.{IsFront, IsSaid, status_of, status_shown}
-use Rattle.apd_causes.specs.declared.faults.LoadCause.{LoadCause}
-use Rattle.apd_clauses.specs.declared.clause.Clause.{Clause}
-use Rattle.apd_load.specs.Program.{Loads, loads, program_of, refused}
-use Rattle.apd_ops.specs.Standard.{standard_table}
-use Rattle.apd_session.specs.Session.{Transcript, after_tree, demonstrates, first_state, says_one}
-use Rattle.apd_session.specs.declared.status.Status.{Status}
-use Rattle.apd_words.specs.Words.{Options}
+use Rattle.apd_session.specs.Session.{Transcript, demonstrates}
+use Rattle.apd_session.specs.declared.opening.Start.{Start}
 use Rattle.apd_session.specs.declared.status.Status.TheVariants as status
 
 front_said : (t : Trouble) (told : Transcript) (log : Log) (x y : Option (List ℕ)) → log.ops ≡ told.ops → IsFront told log x y → IsSaid (status_of t) told log x y
@@ -83,7 +76,7 @@ abbrev pub symptom_of : Term → Speech
 symptom_of atom = one (Symptom (Wrong atom))
 
 abbrev pub questions_of : ℕ → State → LastRun → ℕ → Term → Speech
-questions_of nodes s run e atom ops names = exchanges_said ops names s.asked (dialogue_of nodes s run e atom).exchanges
+questions_of nodes s run e atom ops names = exchanges_said nobody ops names s.asked (dialogue_of nodes s run e atom).exchanges
 
 abbrev pub found_of : ℕ → State → LastRun → ℕ → Term → Speech
 found_of nodes s run e atom ops names =
@@ -96,29 +89,9 @@ blamed_parts nodes s run e atom last is head ops names =
     sym (ap (blamed ops names nodes s) last ∙ ap (blamed_at ops names nodes s run.history) is ∙ ap (λ (t : Term). symptom_of t ops names ++ (questions_of nodes s run e t ops names ++ found_of nodes s run e t ops names)) head)
 
 -- the command that was read, whatever names are kept later
-pub transcript_is : {names : List (List ℕ)} (reader : Reader names) (ops : Table) (nodes : ℕ) (s : State) (passed called : List Note) (c : Command) → called ≡ warnings_of s.program → c ≡ command_in reader ops query_line
-    → shown_said ops names nodes s passed called c ≡ (demonstrates reader nodes s ops passed).utterances
-transcript_is {names} reader ops nodes s passed called c warned is =
-    ap (λ (ns : List Note). shown_said ops names nodes s passed ns c) warned ∙ ap (λ (d : Command). shown_said ops names nodes s passed (warnings_of s.program) d) is
-
--- what the text of the tree made
-pub tree_made : {names : List (List ℕ)} (reader : Reader names) (options : Options) (nodes : ℕ) (text bytes : List ℕ) (program now : List Clause) (ops ops_now : Table) (passed passed_now : List Note) (st : Status) (log : Log) (x y : Option (List ℕ))
-    → IsSaid st (demonstrates reader nodes (first_state now options empty_store) ops_now passed_now) log x y → bytes ≡ text → program_of reader bytes ≡ loads (record { program = program; ops = ops; passed = passed })
-    → program ≡ now → ops ≡ ops_now → passed ≡ passed_now → IsSaid st (after_tree reader options nodes (program_of reader text)) log x y
-tree_made reader options nodes text bytes program now ops ops_now passed passed_now st log x y said b made p o q =
-    let is : program_of reader text ≡ loads (record { program = now; ops = ops_now; passed = passed_now }) =
-    ap (program_of reader) (sym b) ∙ made ∙ (λ i. loads (record { program = p i; ops = o i; passed = q i })) in
-    subst (λ (l : Loads). IsSaid st (after_tree reader options nodes l) log x y) (sym is) said
-
-pub tree_refused : {names : List (List ℕ)} (reader : Reader names) (options : Options) (nodes : ℕ) (text bytes : List ℕ) (line : ℕ) (cause : LoadCause) (st : Status) (log : Log) (x y : Option (List ℕ))
-    → IsSaid st (says_one names (ProgramRefused line cause) status.Program) log x y → bytes ≡ text → program_of reader bytes ≡ refused line cause
-    → IsSaid st (after_tree reader options nodes (program_of reader text)) log x y
-tree_refused reader options nodes text bytes line cause st log x y said b made =
-    subst (λ (l : Loads). IsSaid st (after_tree reader options nodes l) log x y) (sym (ap (program_of reader) (sym b) ∙ made)) said
-
--- memory ran out before a program was loaded
-pub tree_unsaid : {names : List (List ℕ)} (reader : Reader names) (options : Options) (nodes : ℕ) (o : Loads) (log : Log) (x : Option (List ℕ)) → log.entries.list ≡ [] → log.ops ≡ standard_table → IsSaid status.Memory (after_tree reader options nodes o) log x x
-tree_unsaid reader options nodes o log x empty ops = (UttersFront-none begun [] log.entries.list x (after_tree reader options nodes o).utterances empty, inr ops)
+pub transcript_is : {names : List (List ℕ)} (reader : Reader names) (ops : Table) (nodes : ℕ) (start : Start) (c : Command) → c ≡ command_in reader ops query_line
+    → shown_said ops names nodes start c ≡ (demonstrates reader ops nodes start).utterances
+transcript_is {names} reader ops nodes start c is = ap (λ (d : Command). shown_said ops names nodes start d) is
 
 -- a command that is no query asks nothing
 pub asked_none : (ops : Table) (names : List (List ℕ)) (nodes : ℕ) (s : State) (c : Command) → ((q : Query) → c ≡ command.Query q → ⊥) → asked_said ops names nodes s c ≡ []
@@ -130,6 +103,7 @@ asked_none ops names nodes s (command.Wrong b k) other = refl
 asked_none ops names nodes s (command.Missing b a) other = refl
 asked_none ops names nodes s command.Loop other = refl
 asked_none ops names nodes s (command.Trace f) other = refl
+asked_none ops names nodes s command.Known other = refl
 
 -- nothing is read, and a write fault is counted
 pub shown_no_limit : (r : Result (Unit {0}) Trouble) → status_shown r ≡ status.InputLimit → ⊥

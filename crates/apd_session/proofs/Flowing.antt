@@ -1,7 +1,6 @@
 -- Each diagnosis of a session comes to an end, unless a question stays without a reply.
 use Rattle.std.proofs.Common.{◌≡◌, ◌≤◌, zero, suc, arith, ℕ, ℤ, Bool, true, false, List, [], ◌∷◌, ◌++◌, length, Option, Some, None, Result, Ok, Err, refl, sym, ◌∙◌, ap, subst, append_assoc}
-use borrow.Author.Tests.{ltb-false}
-use Rattle.std.specs.Prelude.{if◌then◌else◌, nat_lt, pos}
+use Rattle.std.specs.Prelude.{if◌then◌else◌, pos}
 use Rattle.apd_answers.specs.Interpretation.{Interpretation}
 use Rattle.apd_term.specs.Term.{Term}
 use Rattle.apd_causes.specs.declared.run.Query.{Query}
@@ -18,7 +17,7 @@ use Rattle.apd_answers.specs.declared.question.Reply.TheVariants.{No, Yes}
 use Rattle.apd_answers.specs.Findings.{IsByReplies}
 use Rattle.apd_answers.specs.Fitting.{AllFit}
 use Rattle.apd_answers.proofs.Fitted.{fit_added}
-use Rattle.apd_answers.specs.Store.{Store, with_pair, empty_store}
+use Rattle.apd_answers.specs.Store.{Store, with_pair}
 use Rattle.apd_answers.specs.declared.finding.Finding.{Finding}
 use Rattle.apd_answers.specs.Dialogue.{Dialogue, Exchange, Turn, asks, goes, ends, dialogue, next_turn, replied as exchanged, silent}
 use Rattle.apd_answers.specs.declared.question.Question.{Question}
@@ -27,12 +26,10 @@ use Rattle.apd_debug.specs.Replying.{count_after, exchanges_said}
 use Rattle.apd_demo.specs.Answered.{answered_by, demonstrated, replies_by, reply_at}
 use Rattle.apd_demo.specs.Replies.{reply_to}
 use Rattle.apd_demo.proofs.Falling.{Lowers, next-lowers}
-use Rattle.apd_gen.proofs.Sizes.{tree-short}
-use Rattle.apd_gen.specs.Programs.{tree_text}
 use Rattle.apd_wrong.specs.Wrong.{wrong}
-use Rattle.apd_words.proofs.Alone.{words-alone}
 use Rattle.apd_session.specs.Demo.{asked_said, blamed, blamed_at, found_said, query_line}
 use Rattle.apd_answers.specs.Questions.{FitsAsked}
+use Rattle.apd_answers.specs.Repliers.{nobody}
 use Rattle.apd_divide.specs.declared.node.Strategy.{Strategy}
 use Rattle.apd_divide.specs.Recorded.{tree}
 use Rattle.apd_divide.specs.Tree.{Tree, suspects}
@@ -41,56 +38,54 @@ use Rattle.apd_loop.specs.declared.LoopEnd.{LoopEnd}
 use Rattle.apd_loop.specs.declared.LoopEnd.TheVariants as loop_ends
 use Rattle.apd_lines.specs.Lines.{line_in}
 use Rattle.apd_load.specs.declared.Note.{Note}
-use Rattle.apd_load.specs.Warnings.{query_warnings, warnings_of}
-use Rattle.apd_load.specs.Program.{Loads, refused, loads, program_of}
-use Rattle.apd_load.specs.Programs.{IsProgramIn}
-use Rattle.apd_load.proofs.Programs.{loaded_is_program}
-use Rattle.apd_known.specs.Files.{States, stated_in}
-use Rattle.apd_known.specs.Files as oracle
-use Rattle.apd_known.proofs.Fitting.{FitsIn, stated_fit}
+use Rattle.apd_load.specs.Warnings.{query_warnings}
 use Rattle.apd_ops.specs.Table.{Table}
 use Rattle.apd_oracle.specs.Replies.{spoken_of}
 use Rattle.apd_oracle.specs.declared.spoken.Spoken.{Spoken}
 use Rattle.apd_oracle.specs.declared.spoken.Spoken.TheVariants as spoken
 use Rattle.apd_oracle.proofs.Fitting.{reply_fits}
 use Rattle.apd_read.specs.Reader.{Reader}
+use Rattle.apd_reference.specs.Referees.{replies_of}
 use Rattle.apd_talk.specs.Talk.{Step, onto, run, replies}
 use Rattle.apd_talk.specs.declared.talk.Ending.TheVariants.{Done}
 use Rattle.apd_talk.specs.Utterance.{Utterance, entries_of}
 use Rattle.apd_talk.proofs.Uttering.{entries_of-append}
 use Rattle.apd_talk.specs.Speech.{plain}
 use Rattle.apd_text.specs.declared.entry.Entry.{Entry}
-use Rattle.apd_text.specs.declared.entry.Entry.TheVariants.{FileTooLong, InputFault, Loaded, OracleRefused}
+use Rattle.apd_text.specs.declared.entry.Entry.TheVariants.{FileTooLong, InputFault, Loaded, OracleRefused, ProgramRefused, UsageRefused}
 use Rattle.apd_text.specs.declared.entry.Refusal.{Refusal}
 use Rattle.apd_text.specs.declared.entry.Told.{Told}
 use Rattle.apd_text.specs.declared.entry.Told.TheVariants.{Wrong, Missing, NoEnd}
-use Rattle.apd_account.specs.Account.{Account, after_entries, after_told, with_reply, with_told, account_with}
-use Rattle.apd_account.proofs.Diagnosing.{IsKnownTree, RightTurn, Waits, wrong_begins, wrong_left}
+use Rattle.apd_account.specs.Account.{Account, after_entries, after_told, with_asked, with_reply, with_told, account_with}
+use Rattle.apd_account.proofs.Diagnosing.{IsKnownTree, RightTurn, Waits, waits, wrong_begins, wrong_left}
 use Rattle.apd_commands.specs.Commands.{command_in}
 use Rattle.apd_commands.specs.declared.commands.Command.{Command}
 use Rattle.apd_commands.specs.declared.commands.Command.TheVariants as command
-use Rattle.apd_debug.specs.Steps.{after_turn, closing_asked, replied}
+use Rattle.apd_debug.specs.Steps.{after_turn, closing_asked, goes_on, goes_within, most_in_a_row, referred_then, replied, replied_then, turn_within}
 use Rattle.apd_query.specs.Runs.{said_for, run_said}
 use Rattle.apd_query.specs.declared.state.LastRun.{LastRun}
 use Rattle.apd_query.specs.declared.state.State.{State}
 use Rattle.apd_symptoms.specs.Chains.{stopped_chain}
 use Rattle.apd_symptoms.specs.Symptoms.{exit_of}
 use Rattle.apd_symptoms.specs.Unanswered.{unanswered_box}
-use Rattle.apd_session.specs.Steps.{Method, after_run, Situation, Waiting, ForCommand, ForWrong, ForMissing, ForLoop, begins, by_loop, by_missing, by_wrong, carries_on, closing_in, command_step, known_said, load_said, loop_at, loop_step, missing_at, missing_step, opening_said, query_said, ready_in, refused as refuses, remark, remarks, reply_said, situation, step_for, talker, warnings_for, wrong_at, wrong_step}
+use Rattle.apd_session.specs.Steps.{Method, after_run, Situation, Waiting, ForCommand, ForWrong, ForMissing, ForLoop, begins, by_loop, by_missing, by_wrong, carries_on, closing_in, command_step, loop_at, loop_step, missing_at, missing_step, query_said, ready_in, refused as refuses, remark, remarks, reply_said, situation, step_for, talker, warnings_for, wrong_at, wrong_step}
 use Rattle.apd_session.specs.declared.notes.Noted.{Noted}
 use Rattle.apd_session.specs.declared.notes.Noted.TheVariants as noted
-use Rattle.apd_session.specs.declared.preparing.Prepared.TheVariants.{Knows, Refuses}
-use Rattle.apd_session.specs.declared.status.Status.{Status}
-use Rattle.apd_session.specs.declared.status.Status.TheVariants as status
 use Rattle.apd_session.specs.Headline.{nothing_intended}
-use Rattle.apd_session.specs.Session.{World, FileLoad, Gives, Faults, Transcript, after_load, after_options, after_prepared, after_subject, after_tree, after_words, ends_before, first_state, prepared, prepared_by, says_one, session_of}
+use Rattle.apd_session.specs.Opening.{beginning_of, beginning_said, course_of, first_state, known_said, load_said}
+use Rattle.apd_session.specs.Session.{World, session_of, transcript_of}
+use Rattle.apd_session.specs.declared.opening.Beginning.{Beginning}
+use Rattle.apd_session.specs.declared.opening.Opening.{Opening}
+use Rattle.apd_session.specs.declared.opening.Opening.TheVariants.{Unloaded, Closed, Open}
+use Rattle.apd_session.specs.declared.opening.Stop.{Stop}
+use Rattle.apd_session.proofs.Openings.{IsLastWord, opening_has}
 use Rattle.apd_session.specs.Flow.{Due, Nothing, Move, Reply as Waits_for, due_after, Flows}
 use Rattle.apd_session.proofs.Courses.{IsKnownGoal, IsKnownLoop, IsLoopEnd, goal_left, loop_begins, missing_begins}
 use Rattle.apd_session.proofs.Exiting.{exit_of-exits}
 use Rattle.apd_session.proofs.Lacking.{box_lacks, chain_stopped, is_chain}
 use Rattle.apd_session.proofs.Findings.{first_stands, line-step}
 use Rattle.apd_session.proofs.Righting.{IsLast, IsMode, IsRightly, IsTold, Stands, loop_rightly, missing_rightly, wrong_rightly}
-use Rattle.apd_words.specs.Words.{InFile, OfTree, Options, StandsAlone, Subject, options_of}
+use Rattle.apd_words.specs.Words.{InFile, OfTree, Options, Subject}
 
 append-flows : (d x e : Due) (xs ys : List Entry) → Flows d xs x → Flows x ys e → Flows d (xs ++ ys) e
 append-flows d x e [] ys h k = subst (λ y. Flows y ys e) (sym h) k
@@ -123,25 +118,56 @@ module _ (m : Interpretation) (program : List Clause) (is : IsProgram program) (
     turn-flows ops names s store count a (goes y) k = absurd k
     turn-flows ops names s store count a (ends e) k = record { flows = (Nothing, closes s e, refl); quits = λ e. refl }
 
+    -- a reply is told, and then the rest
+    reply_then-flows : (rest : Store → ℕ → D → Step Entry Situation) (by_reference : Bool) (ops : Table) (names : List (List ℕ)) (s : State) (store : Store) (count : ℕ) (a : Account) (asked : Asked) (next : Reply → D) (r : Reply)
+        → IsTold m program is strategy s store a → Waits strategy Known left a asked next → FitsAsked asked r
+        → ((b : Account) → IsTold m program is strategy s (with_pair store asked.question r) b → Known b.history b.store b.symptom (next r) → StepFlows Move (rest (with_pair store asked.question r) count (next r)))
+        → StepFlows Waits_for (replied_then (replies_of s.referee) (d.diagnosis s) (d.found s) (situation d s) ops names rest by_reference store count asked next r)
+    reply_then-flows rest by_reference ops names s store count a asked next r h w fits goes_on =
+        let b = with_reply a (Some asked) r in
+        let told : IsTold m program is strategy s (with_pair store asked.question r) b =
+        record { program_is = h.program_is; strategy_is = h.strategy_is; store_is = ap (λ ps. with_pair ps asked.question r) h.store_is; fit = fit_added a.store asked.question r h.fit fits.0; his = h.his; replies_is = h.replies_is; last = h.last } in
+        let st = goes_on b told (w.asks.known r fits) in
+        record { flows = (Move, refl, st.flows); quits = st.quits }
+
+    -- a turn, and the turns after it as long as there are replies without a line
+    within-flows : (k : ℕ) (ops : Table) (names : List (List ℕ)) (s : State) (store : Store) (count : ℕ) (a : Account) (turn : Turn D E) → IsTold m program is strategy s store a
+        → RightTurn strategy Known left IsEnd a.history a.store a.symptom turn → StepFlows Move (turn_within (replies_of s.referee) (d.diagnosis s) (d.found s) (situation d s) ops names k store count turn)
+    within-flows zero ops names s store count a turn h t = turn-flows ops names s store count a turn t
+    within-flows (suc k) ops names s store count a (goes y) h t = absurd t
+    within-flows (suc k) ops names s store count a (ends e) h t = turn-flows ops names s store count a (ends e) t
+    within-flows (suc k) ops names s store count a (asks asked next) h t =
+        by (replies_of s.referee asked.question) refl
+        (λ kept b x told known. within-flows k ops names s kept (risen count) b (next_turn (d.diagnosis s) kept x) told (rightly.turns s kept b x told known))
+      where
+        by : (o : Option Reply) → replies_of s.referee asked.question ≡ o
+            → ((kept : Store) (b : Account) (x : D) → IsTold m program is strategy s kept b → Known b.history b.store b.symptom x → StepFlows Move (goes_within (replies_of s.referee) (d.diagnosis s) (d.found s) (situation d s) ops names k kept (risen count) x))
+            → StepFlows Move (referred_then (replies_of s.referee) (d.diagnosis s) (d.found s) (situation d s) ops names (goes_within (replies_of s.referee) (d.diagnosis s) (d.found s) (situation d s) ops names k) store count asked next o)
+        by None is_none goes_on = turn-flows ops names s store count a (asks asked next) t
+        by (Some r) found_so goes_on =
+            let b = with_asked a asked in
+            let told : IsTold m program is strategy s store b = record { program_is = h.program_is; strategy_is = h.strategy_is; store_is = h.store_is; fit = h.fit; his = h.his; replies_is = h.replies_is; last = h.last } in
+            let kept = with_pair store asked.question r in
+            let f = h.his asked.question r found_so in
+            let st = reply_then-flows (goes_within (replies_of s.referee) (d.diagnosis s) (d.found s) (situation d s) ops names k) true ops names s store (risen count) b asked next r told (waits strategy Known left a asked next t) (f.0, λ unknown. absurd (f.1 unknown)) (λ c told known. goes_on kept c (next r) told known) in
+            record { flows = (Waits_for, refl, st.flows); quits = st.quits }
+
     carries-flows : (ops : Table) (names : List (List ℕ)) (s : State) (store : Store) (count : ℕ) (a : Account) (x : D) → IsTold m program is strategy s store a → Known a.history a.store a.symptom x → StepFlows Move (carries_on d ops names s store count x)
-    carries-flows ops names s store count a x h k = turn-flows ops names s store count a (next_turn (d.diagnosis s) store x) (rightly.turns s store a x h k)
+    carries-flows ops names s store count a x h k = within-flows most_in_a_row ops names s store count a (next_turn (d.diagnosis s) store x) h (rightly.turns s store a x h k)
 
     begins-flows : (ops : Table) (names : List (List ℕ)) (s : State) (a : Account) (what : Told) (x : D) → IsTold m program is strategy s s.replies a → AllFit (with_told a.store what) → Known a.history (with_told a.store what) (Some what) x
         → StepFlows Nothing (begins d ops names s what x)
     begins-flows ops names s a what x h fit k =
         let told : IsTold m program is strategy s (with_told s.replies what) (after_told a what) =
-        record { program_is = h.program_is; strategy_is = h.strategy_is; store_is = ap (λ ps. with_told ps what) h.store_is; fit = fit; last = h.last } in
+        record { program_is = h.program_is; strategy_is = h.strategy_is; store_is = ap (λ ps. with_told ps what) h.store_is; fit = fit; his = h.his; replies_is = h.replies_is; last = h.last } in
         let st = carries-flows ops names s (with_told s.replies what) s.asked (after_told a what) x told k in
         record { flows = (Move, refl, st.flows); quits = st.quits }
 
     replied-flows : (ops : Table) (names : List (List ℕ)) (s : State) (a : Account) (asked : Asked) (next : Reply → D) (r : Reply) → IsTold m program is strategy s s.replies a → Waits strategy Known left a asked next → FitsAsked asked r
-        → StepFlows Waits_for (replied (d.diagnosis s) (d.found s) (situation d s) ops names s.replies s.asked asked next r)
+        → StepFlows Waits_for (replied (replies_of s.referee) (d.diagnosis s) (d.found s) (situation d s) ops names s.replies s.asked asked next r)
     replied-flows ops names s a asked next r h w fits =
-        let b = with_reply a (Some asked) r in
-        let told : IsTold m program is strategy s (with_pair s.replies asked.question r) b =
-        record { program_is = h.program_is; strategy_is = h.strategy_is; store_is = ap (λ ps. with_pair ps asked.question r) h.store_is; fit = fit_added a.store asked.question r h.fit fits.0; last = h.last } in
-        let st = carries-flows ops names s (with_pair s.replies asked.question r) s.asked b (next r) told (w.asks.known r fits) in
-        record { flows = (Move, refl, st.flows); quits = st.quits }
+        reply_then-flows (goes_on (replies_of s.referee) (d.diagnosis s) (d.found s) (situation d s) ops names) false ops names s s.replies s.asked a asked next r h w fits
+        (λ b told known. carries-flows ops names s (with_pair s.replies asked.question r) s.asked b (next r) told known)
 
     reply-flows : (ops : Table) (names : List (List ℕ)) (s : State) (a : Account) (asked : Asked) (next : Reply → D) (said : Spoken) → ((r : Reply) → said ≡ spoken.Reply r → FitsAsked asked r)
         → IsTold m program is strategy s s.replies a → Waits strategy Known left a asked next → StepFlows Waits_for (reply_said d ops names s asked next said)
@@ -213,6 +239,7 @@ module _ (m : Interpretation) (program : List Clause) (is : IsProgram program) (
   command-flows ops names s a (command.Refused r) h = refused-flows ops names s r
   command-flows ops names s a (command.Query q) h = query-flows ops names s q
   command-flows ops names s a (command.Trace f) h = record { flows = (Nothing, refl, refl); quits = λ e. refl }
+  command-flows ops names s a command.Known h = record { flows = (Nothing, refl, refl); quits = λ e. refl }
   command-flows ops names s a (command.Wrong b k) h = wrong-flows ops names s a b k s.last h h.last
   command-flows ops names s a (command.Missing b atom) h = missing-flows ops names s a b atom s.last h h.last
   command-flows ops names s a command.Loop h = loop-flows ops names s a s.last h h.last
@@ -262,62 +289,32 @@ module _ (m : Interpretation) (program : List Clause) (is : IsProgram program) (
     unfolding replies
     conversation-flows s a room input end h = lines-flow s a (hear room input end).lines (hear room input end).close h
 
-    load-flows : (passed called : List Note) (us : List (Utterance Entry)) → Flows Nothing (entries_of us) Nothing → Flows Nothing (entries_of (load_said ops names program passed called ++ us)) Nothing
-    unfolding load_said
-    load-flows passed called us h =
-        let last = plain ops names (Loaded (length program)) in
-        subst (λ us. Flows Nothing (entries_of us) Nothing) (sym (twice (remarks ops names noted.PassedOver passed) (remarks ops names noted.Called called) (last ∷ []) us))
-        (remarks-flow ops names noted.PassedOver passed (remarks ops names noted.Called called ++ (last ∷ us))
-        (remarks-flow ops names noted.Called called (last ∷ us) (Nothing, refl, h)))
-      where
-        twice : (xs ys zs us : List (Utterance Entry)) → (xs ++ (ys ++ zs)) ++ us ≡ xs ++ (ys ++ (zs ++ us))
-        twice xs ys zs us = append_assoc xs (ys ++ zs) us ∙ ap (λ (l : List (Utterance Entry)). xs ++ l) (append_assoc ys zs us)
+-- What is said of a program.
+module _ (ops : Table) (names : List (List ℕ)) where
+  noted-flow : (why : Noted) (ns : List Note) (us : List (Utterance Entry)) → Flows Nothing (entries_of us) Nothing → Flows Nothing (entries_of (remarks ops names why ns ++ us)) Nothing
+  noted-flow why [] us h = h
+  noted-flow noted.PassedOver (n ∷ ns) us h = (Nothing, refl, noted-flow noted.PassedOver ns us h)
+  noted-flow noted.Called (n ∷ ns) us h = (Nothing, refl, noted-flow noted.Called ns us h)
+  noted-flow noted.Asked (n ∷ ns) us h = (Nothing, refl, noted-flow noted.Asked ns us h)
 
-    known-flows : (statements : Option ℕ) (us : List (Utterance Entry)) → Flows Nothing (entries_of us) Nothing → Flows Nothing (entries_of (known_said ops names statements ++ us)) Nothing
-    known-flows None us h = h
-    known-flows (Some n) us h = (Nothing, refl, h)
-
-    opening-flows : (passed called : List Note) (statements : Option ℕ) (us : List (Utterance Entry)) → Flows Nothing (entries_of us) Nothing → Flows Nothing (entries_of (opening_said ops names program passed called statements ++ us)) Nothing
-    opening-flows passed called statements us h =
-        subst (λ us. Flows Nothing (entries_of us) Nothing) (sym (append_assoc (load_said ops names program passed called) (known_said ops names statements) us)) (load-flows passed called (known_said ops names statements ++ us) (known-flows statements us h))
-
--- Each session that debugs a file.
-module _ {names : List (List ℕ)} (reader : Reader names) (options : Options) where
-  abbrev TranscriptFlows : Transcript → Type 0
-  TranscriptFlows t = Flows Nothing (entries_of t.utterances) Nothing
-
-  known_so-flows : (input : List ℕ) (end : InputEnd) (program : List Clause) (ops : Table) (passed : List Note) (statements : Option ℕ) (store : Store) → IsProgram program → AllFit store → TranscriptFlows (after_prepared reader options input end program ops passed (Knows statements store))
-  known_so-flows input end program ops passed statements store is fit =
-      opening-flows nothing_intended program is options.strategy names reader ops passed (warnings_of program) statements (replies (talker reader ops) (ready_in (first_state program options store)) 16777216 input end).utterances
-      (conversation-flows nothing_intended program is options.strategy names reader ops (ready_in (first_state program options store)) (account_with store) 16777216 input end (first_stands nothing_intended options program store is fit))
-
-  refusal-flows : (program : List Clause) (ops : Table) (passed : List Note) (e : Entry) (st : Status) → IsProgram program → due_after Nothing e ≡ Some Nothing → TranscriptFlows (ends_before names program ops passed e st)
-  refusal-flows program ops passed e st is h = load-flows nothing_intended program is options.strategy names reader ops passed (warnings_of program) (plain ops names e ∷ []) (Nothing, h, refl)
-
-  stated-flows : (input : List ℕ) (end : InputEnd) (program : List Clause) (ops : Table) (passed : List Note) → IsProgram program → (w : States) → FitsIn w → TranscriptFlows (after_prepared reader options input end program ops passed (prepared_by w))
-  stated-flows input end program ops passed is (oracle.refused line cause) fit = refusal-flows program ops passed (OracleRefused line cause) status.OracleText is refl
-  stated-flows input end program ops passed is (oracle.states s) fit = known_so-flows input end program ops passed (Some s.statements) s.answers is fit
-
-  prepared-flows : (input : List ℕ) (end : InputEnd) (program : List Clause) (ops : Table) (passed : List Note) (file : FileLoad) (name : Option (List ℕ)) → IsProgram program → TranscriptFlows (after_prepared reader options input end program ops passed (prepared reader ops name file))
-  prepared-flows input end program ops passed file None is = known_so-flows input end program ops passed None empty_store is tt
-  prepared-flows input end program ops passed Faults (Some name) is = refusal-flows program ops passed InputFault status.ReadFault is refl
-  prepared-flows input end program ops passed (Gives known) (Some name) is = by (nat_lt 1048576 (length known))
+  load-flows : (b : Beginning) (us : List (Utterance Entry)) → Flows Nothing (entries_of us) Nothing → Flows Nothing (entries_of (load_said ops names b ++ us)) Nothing
+  unfolding load_said
+  load-flows b us h =
+      let last = plain ops names (Loaded b.clauses) in
+      subst (λ us. Flows Nothing (entries_of us) Nothing) (sym (twice (remarks ops names noted.PassedOver b.passed) (remarks ops names noted.Called b.called) (last ∷ []) us))
+      (noted-flow noted.PassedOver b.passed (remarks ops names noted.Called b.called ++ (last ∷ us))
+      (noted-flow noted.Called b.called (last ∷ us) (Nothing, refl, h)))
     where
-      by : (b : Bool) → TranscriptFlows (after_prepared reader options input end program ops passed (if b then Refuses (FileTooLong 1048577) status.FileTooLong else prepared_by (stated_in reader ops known)))
-      by true = refusal-flows program ops passed (FileTooLong 1048577) status.FileTooLong is refl
-      by false = stated-flows input end program ops passed is (stated_in reader ops known) (stated_fit reader ops known)
+      twice : (xs ys zs us : List (Utterance Entry)) → (xs ++ (ys ++ zs)) ++ us ≡ xs ++ (ys ++ (zs ++ us))
+      twice xs ys zs us = append_assoc xs (ys ++ zs) us ∙ ap (λ (l : List (Utterance Entry)). xs ++ l) (append_assoc ys zs us)
 
-  loaded-flows : (file : FileLoad) (input : List ℕ) (end : InputEnd) (o : Loads) → IsProgramIn o → TranscriptFlows (after_load reader options file input end o)
-  loaded-flows file input end (refused line cause) is = (Nothing, refl, refl)
-  loaded-flows file input end (loads l) is = prepared-flows input end l.program l.ops l.passed file options.oracle is
+  known-flows : (statements : Option ℕ) (us : List (Utterance Entry)) → Flows Nothing (entries_of us) Nothing → Flows Nothing (entries_of (known_said ops names statements ++ us)) Nothing
+  known-flows None us h = h
+  known-flows (Some n) us h = (Nothing, refl, h)
 
-  file-flows : (world : World) (file : FileLoad) → TranscriptFlows (after_words reader world options file)
-  file-flows world Faults = (Nothing, refl, refl)
-  file-flows world (Gives text) = by (nat_lt 1048576 (length text)) refl
-    where
-      by : (b : Bool) → nat_lt 1048576 (length text) ≡ b → TranscriptFlows (if b then says_one names (FileTooLong 1048577) status.FileTooLong else after_load reader options world.oracle world.input world.ends (program_of reader text))
-      by true long = (Nothing, refl, refl)
-      by false short = loaded-flows world.oracle world.input world.ends (program_of reader text) (loaded_is_program names reader text (ltb-false 1048576 (length text) short))
+  beginning-flows : (b : Beginning) (us : List (Utterance Entry)) → Flows Nothing (entries_of us) Nothing → Flows Nothing (entries_of (beginning_said ops names b ++ us)) Nothing
+  beginning-flows b us h =
+      subst (λ us. Flows Nothing (entries_of us) Nothing) (sym (append_assoc (load_said ops names b) (known_said ops names b.statements) us)) (load-flows b (known_said ops names b.statements ++ us) (known-flows b.statements us h))
 
 -- A demonstration.
 
@@ -359,7 +356,7 @@ module _ (reply : Question → Reply) (strategy : Strategy) where
       by (goes y) lowers rest = absurd lowers
       by (ends f) lowers rest = (f, refl)
 
-exchanges-flow : (ops : Table) (names : List (List ℕ)) (count : ℕ) (es : List Exchange) (us : List (Utterance Entry)) → Flows Move (entries_of us) Nothing → Flows Move (entries_of (exchanges_said ops names count es ++ us)) Nothing
+exchanges-flow : (ops : Table) (names : List (List ℕ)) (count : ℕ) (es : List Exchange) (us : List (Utterance Entry)) → Flows Move (entries_of us) Nothing → Flows Move (entries_of (exchanges_said nobody ops names count es ++ us)) Nothing
 exchanges-flow ops names count [] us h = h
 exchanges-flow ops names count (e ∷ es) us h = (Waits_for, refl, (Move, refl, exchanges-flow ops names (risen count) es us h))
 
@@ -395,22 +392,39 @@ module _ (m : Interpretation) (program : List Clause) (is : IsProgram program) (
   shown_query-flows ops names nodes s (command.Missing b a) = refl
   shown_query-flows ops names nodes s command.Loop = refl
   shown_query-flows ops names nodes s (command.Trace f) = refl
+  shown_query-flows ops names nodes s command.Known = refl
 
-tree-flows : {names : List (List ℕ)} (reader : Reader names) (options : Options) (nodes : ℕ) (o : Loads) → IsProgramIn o → Flows Nothing (entries_of (after_tree reader options nodes o).utterances) Nothing
-tree-flows reader options nodes (refused line cause) is = (Nothing, refl, refl)
-tree-flows {names} reader options nodes (loads l) is =
-    opening-flows nothing_intended l.program is options.strategy names reader l.ops l.passed (warnings_of l.program) None (asked_said l.ops names nodes (first_state l.program options empty_store) (command_in reader l.ops query_line))
-    (shown_query-flows nothing_intended l.program is options.strategy l.ops names nodes (first_state l.program options empty_store) (command_in reader l.ops query_line))
+-- what is said last
+last_word-flows : (e : Entry) → IsLastWord e → due_after Nothing e ≡ Some Nothing
+last_word-flows UsageRefused last = refl
+last_word-flows (ProgramRefused line cause) last = refl
+last_word-flows (OracleRefused line cause) last = refl
+last_word-flows (FileTooLong size) last = refl
+last_word-flows InputFault last = refl
+last_word-flows e last = absurd last
+
+-- Each session.
+module _ {names : List (List ℕ)} (reader : Reader names) where
+  abbrev OpeningFlows : Opening → Type 0
+  OpeningFlows x = (input : List ℕ) (end : InputEnd) → Flows Nothing (entries_of (transcript_of reader x input end).utterances) Nothing
+
+  unloaded-flows : (why : Stop) → IsLastWord why.said → OpeningFlows (Unloaded why)
+  unloaded-flows why last = λ input end. (Nothing, last_word-flows why.said last, refl)
+
+  closed-flows : (ops : Table) (b : Beginning) (why : Stop) → IsLastWord why.said → OpeningFlows (Closed ops b why)
+  closed-flows ops b why last = λ input end. beginning-flows ops names b (plain ops names why.said ∷ []) (Nothing, last_word-flows why.said last, refl)
+
+  module _ (options : Options) (program : List Clause) (ops : Table) (store : Store) (is : IsProgram program) (fit : AllFit store) where
+    started-flows : (b : Beginning) (subject : Subject) → OpeningFlows (Open ops (record { beginning = b; state = first_state program options store }) (course_of subject))
+    started-flows b (InFile name) = λ input end.
+        beginning-flows ops names b (replies (talker reader ops) (ready_in (first_state program options store)) 16777216 input end).utterances
+        (conversation-flows nothing_intended program is options.strategy names reader ops (ready_in (first_state program options store)) (account_with nobody store) 16777216 input end (first_stands nothing_intended options program store is fit))
+    started-flows b (OfTree nodes) = λ input end.
+        let s = first_state program options store in
+        let c = command_in reader ops query_line in
+        beginning-flows ops names b (asked_said ops names nodes s c) (shown_query-flows nothing_intended program is options.strategy ops names nodes s c)
 
 pub every-session-flows : (words names : List (List ℕ)) (reader : Reader names) (world : World) → Flows Nothing (entries_of (session_of words reader world).utterances) Nothing
-every-session-flows words names reader world = by (options_of words) refl
-  where
-    by_subject : (options : Options) (s : Subject) → StandsAlone s options.oracle → Flows Nothing (entries_of (after_subject reader world options s).utterances) Nothing
-    by_subject options (InFile name) alone = file-flows reader options world world.program
-    by_subject options (OfTree nodes) alone =
-        let size = tree-short nodes alone.0.1 in
-        tree-flows reader options nodes (program_of reader (tree_text nodes)) (loaded_is_program names reader (tree_text nodes) (omega (arith, size)))
-
-    by : (o : Option Options) → options_of words ≡ o → Flows Nothing (entries_of (after_options reader world o).utterances) Nothing
-    by None named = (Nothing, refl, refl)
-    by (Some options) named = by_subject options options.subject (words-alone words options named)
+every-session-flows words names reader world =
+    opening_has (OpeningFlows reader) reader world.files (unloaded-flows reader) (λ options program ops passed why is table last. closed-flows reader ops (beginning_of program passed None) why last)
+    (λ options program ops passed statements store is table fit. started-flows reader options program ops store is fit (beginning_of program passed statements) options.subject) words world.input world.ends

@@ -1,5 +1,5 @@
 -- A conversation that goes on, turn by turn.
-use Rattle.std.proofs.Common.{◌≡◌, ℕ, ◌+◌, ◌≤◌, List, length, Option, refl, ap, ◌∙◌, arith, subst}
+use Rattle.std.proofs.Common.{◌≡◌, ℕ, ◌+◌, ◌≤◌, List, length, refl, ap, ◌∙◌, arith, subst}
 use Rattle.std.specs.Prelude.{Result, Ok, Err}
 use Rattle.apd_console.specs.Console.{Kept, IsKept, fresh, room_of}
 use Rattle.apd_talk.specs.Talk.{Breaks, Ends, Talks}
@@ -7,15 +7,14 @@ use Rattle.apd_talk.specs.declared.talk.Ending.{Ending}
 use Rattle.apd_talk.specs.declared.talk.Next.TheVariants as nexts
 use Rattle.apd_talk.specs.declared.talk.Trouble.{Trouble}
 use Rattle.apd_talk.proofs.Talking.{Breaks-more, Breaks-say, Ends-more, Talks-more, Talks-say, Talks-self, ends_on}
-use Rattle.apd_load.specs.declared.Note.{Note}
-use Rattle.apd_load.specs.Warnings.{warnings_of}
 use Rattle.apd_ops.specs.Table.{Table}
 use Rattle.apd_read.specs.Reader.{Reader}
 use Rattle.apd_term.specs.Growth.{Grown}
 use Rattle.apd_talk.specs.Moment.{Converses, Keeps, Moment, place}
 use Rattle.apd_talk.proofs.Speaking.{says_later, says_rose}
 use Rattle.apd_talk.specs.Speech.{Lasting, Says, begun}
-use Rattle.apd_session.specs.Steps.{opening_said}
+use Rattle.apd_session.specs.Opening.{beginning_said}
+use Rattle.apd_session.specs.declared.opening.Start.{Start}
 use Rattle.apd_session.specs.Turns.{CanConverse, IsPrepared, Turns, conversation, opening}
 use Rattle.apd_query.specs.declared.state.State.{State}
 use Rattle.apd_lines.proofs.Growing.{Grown-more, Grown-same, Grown-self}
@@ -93,9 +92,9 @@ can_begin s p ready few start =
     record { ready = ready; room = omega (arith, few, room); few = omega (arith, room); sound = kept_at_first p.console start }
 
 -- what is said before the first line, and then the lines of the input
-module _ (s : State) (passed : List Note) (statements : Option ℕ) (p m : Moment) (console : m.console ≡ p.console) (left : m.left ≡ p.left) (reads : m.read_faults ≡ p.read_faults) where
-  pub opens : {T : Type 0} (t : T) (q : Moment) (result : Result Ending Trouble) → Says (λ ops names. opening_said ops names s.program passed (warnings_of s.program) statements) p.spoken m.spoken (Ok t) →
-      Converses (conversation s) m q result → Converses (opening passed statements s) p q result
+module _ (start : Start) (p m : Moment) (console : m.console ≡ p.console) (left : m.left ≡ p.left) (reads : m.read_faults ≡ p.read_faults) where
+  pub opens : {T : Type 0} (t : T) (q : Moment) (result : Result Ending Trouble) → Says (λ ops names. beginning_said ops names start.beginning) p.spoken m.spoken (Ok t) →
+      Converses (conversation start.state) m q result → Converses (opening start) p q result
   opens t q result says rest = record {
     keeps = record {
       names = subst (λ (l : List (List ℕ)). Grown l q.spoken.log.names) says.names rest.keeps.names;
@@ -107,14 +106,14 @@ module _ (s : State) (passed : List Note) (statements : Option ℕ) (p m : Momen
         let ops : Table = p.spoken.log.ops in
         let middle : Grown m.spoken.log.names names = Grown-more m.spoken.log.names q.spoken.log.names names rest.keeps.names grew in
         let grown : Grown p.spoken.log.names names = subst (λ (l : List (List ℕ)). Grown l names) says.names middle in
-        ends_on begun (opening passed statements s ops names reader) (conversation s ops names reader) (place p) (place m) (place q) result
+        ends_on begun (opening start ops names reader) (conversation start.state ops names reader) (place p) (place m) (place q) result
         (rw (console, left, reads)
-        (Talks-say (opening passed statements s ops names reader) (conversation s ops names reader) p.console p.left p.spoken.held m.spoken.held p.read_faults p.spoken.write_faults m.spoken.write_faults p.spoken.log.entries.list m.spoken.log.entries.list
-        (opening_said ops names s.program passed (warnings_of s.program) statements) (says.all names grown) (says_later (λ ops names. opening_said ops names s.program passed (warnings_of s.program) statements) p.spoken m.spoken (Ok t) says) (λ room more ends. refl)))
+        (Talks-say (opening start ops names reader) (conversation start.state ops names reader) p.console p.left p.spoken.held m.spoken.held p.read_faults p.spoken.write_faults m.spoken.write_faults p.spoken.log.entries.list m.spoken.log.entries.list
+        (beginning_said ops names start.beginning) (says.all names grown) (says_later (λ ops names. beginning_said ops names start.beginning) p.spoken m.spoken (Ok t) says) (λ room more ends. refl)))
         (rw (← says.ops) (rest.course names grew reader));
   }
 
-  pub opens_not : {T : Type 0} (e : Trouble) → IsKept p.console → Says {T = T} (λ ops names. opening_said ops names s.program passed (warnings_of s.program) statements) p.spoken m.spoken (Err e) → Converses (opening passed statements s) p m (Err e)
+  pub opens_not : {T : Type 0} (e : Trouble) → IsKept p.console → Says {T = T} (λ ops names. beginning_said ops names start.beginning) p.spoken m.spoken (Err e) → Converses (opening start) p m (Err e)
   opens_not {T} e sound says = record {
     keeps = record {
       names = Grown-same p.spoken.log.names m.spoken.log.names says.names;
@@ -126,6 +125,6 @@ module _ (s : State) (passed : List Note) (statements : Option ℕ) (p m : Momen
         let ops : Table = p.spoken.log.ops in
         let grown : Grown p.spoken.log.names names = subst (λ (l : List (List ℕ)). Grown l names) says.names grew in
         rw (console, left, reads)
-        (Breaks-say begun (opening passed statements s ops names reader) p.console p.left p.spoken.held m.spoken.held p.read_faults p.spoken.write_faults m.spoken.write_faults p.spoken.log.entries.list m.spoken.log.entries.list
-        (opening_said ops names s.program passed (warnings_of s.program) statements) e (says.front names grown) (says_later {T = T} (λ ops names. opening_said ops names s.program passed (warnings_of s.program) statements) p.spoken m.spoken (Err e) says) (says_rose {T = T} (λ ops names. opening_said ops names s.program passed (warnings_of s.program) statements) p.spoken m.spoken e says) (λ room more ends. (conversation s ops names reader room more ends, refl)));
+        (Breaks-say begun (opening start ops names reader) p.console p.left p.spoken.held m.spoken.held p.read_faults p.spoken.write_faults m.spoken.write_faults p.spoken.log.entries.list m.spoken.log.entries.list
+        (beginning_said ops names start.beginning) e (says.front names grown) (says_later {T = T} (λ ops names. beginning_said ops names start.beginning) p.spoken m.spoken (Err e) says) (says_rose {T = T} (λ ops names. beginning_said ops names start.beginning) p.spoken m.spoken e says) (λ room more ends. (conversation start.state ops names reader room more ends, refl)));
   }

@@ -1,29 +1,31 @@
 -- The log of a session is right, also where not all was said.
-use Rattle.std.proofs.Common.{◌≡◌, ◌∙◌, ℕ, List, [], ◌∷◌, ◌++◌, Option, Some, None, refl, sym, ap, subst, inl, inr}
-use Rattle.std.specs.Prelude.{IfSome}
+use Rattle.std.proofs.Common.{◌≡◌, ◌∙◌, ℕ, List, [], ◌∷◌, ◌++◌, Option, refl, sym, ap, subst, inl, inr}
 use Rattle.apd_account.specs.Account.{Account, account_with}
 use Rattle.apd_account.specs.Right.{IsRight, AreRight}
 use Rattle.apd_account.proofs.Fronts.{right-front, right-last}
+use Rattle.apd_answers.specs.Repliers.{nobody}
 use Rattle.apd_answers.specs.Interpretation.{Interpretation}
 use Rattle.apd_clauses.specs.declared.clause.Clause.{Clause}
 use Rattle.apd_divide.specs.declared.node.Strategy.{Strategy}
-use Rattle.apd_load.specs.Program.{Loads, refused, loads, program_of}
 use Rattle.apd_read.specs.Reader.{Reader}
 use Rattle.apd_talk.proofs.Uttering.{entries_of-append}
-use Rattle.apd_talk.specs.Speech.{Lasting, begun}
+use Rattle.apd_talk.specs.Speech.{begun}
 use Rattle.apd_talk.specs.Utterance.{Utterance, UttersFront, Pushed, entries_of}
 use Rattle.apd_text.specs.declared.entry.Entry.{Entry}
 use Rattle.apd_text.specs.declared.entry.Entry.TheVariants.{Run}
 use Rattle.apd_text.specs.declared.log.Log.{Log}
-use Rattle.apd_words.specs.Words.{InFile, OfTree, Options, Subject, options_of}
+use Rattle.apd_words.specs.Words.{options_of}
 use Rattle.apd_session.proofs.Findings.{session-right}
 use Rattle.apd_session.proofs.Flowing.{every-session-flows}
 use Rattle.apd_session.specs.Flow.{Due, Nothing, due_by, part_of, Flows, FlowsTo}
 use Rattle.apd_answers.specs.Store.{Store}
-use Rattle.apd_session.specs.Headline.{AreRightFor, MeetsRightly, bytes_in, replies_in}
+use Rattle.apd_session.specs.Headline.{AreRightFor, MeetsRightly}
 use Rattle.apd_session.specs.Known.{Outside}
-use Rattle.apd_session.specs.Outcome.{IsFileLoad, IsSaid, IsSubjectText, IsWhole, Meets}
-use Rattle.apd_session.specs.Session.{FileLoad, Gives, Faults, Transcript, prepared, session_of}
+use Rattle.apd_session.specs.Outcome.{IsSaid, IsWhole, Meets}
+use Rattle.apd_session.specs.Opening.{opening_of}
+use Rattle.apd_session.specs.Session.{Transcript, session_of}
+use Rattle.apd_session.specs.declared.opening.Opening.{Opening}
+use Rattle.apd_session.specs.declared.opening.Opening.TheVariants.{Unloaded, Closed, Open}
 use Rattle.apd_session.specs.declared.status.Status.{Status}
 use Rattle.apd_session.specs.declared.status.Status.TheVariants as status
 
@@ -34,7 +36,7 @@ module _ (m : Interpretation) (program : List Clause) (strategy : Strategy) (kno
   begun-right a e r = r
 
   abbrev Right : List Entry → Type 0
-  Right es = AreRight m program strategy (account_with known) es
+  Right es = AreRight m program strategy (account_with nobody known) es
 
   pushed-right : (es : List Entry) (us : List (Utterance Entry)) → Pushed begun [] es us → Right (entries_of us) → Right es
   pushed-right es us (inl e) r = subst Right (sym e) r
@@ -42,12 +44,12 @@ module _ (m : Interpretation) (program : List Clause) (strategy : Strategy) (kno
       let before = p.0 in
       let last = p.1 in
       let whole : Right (entries_of before ++ last.entry ∷ []) = subst Right (entries_of-append before (last ∷ [])) (subst (λ l. Right (entries_of l)) p.2 r) in
-      subst Right (sym p.3) (right-last m program strategy begun begun-right (account_with known) (entries_of before) last.entry whole)
+      subst Right (sym p.3) (right-last m program strategy begun begun-right (account_with nobody known) (entries_of before) last.entry whole)
 
   front-right : (log : Log) (x y : Option (List ℕ)) (us : List (Utterance Entry)) → UttersFront begun [] log.entries.list x y us → Right (entries_of us) → Right log.entries.list
   front-right log x y us f r =
       let parts : Right (entries_of f.said ++ entries_of f.unsaid) = subst Right (entries_of-append f.said f.unsaid) (subst (λ l. Right (entries_of l)) f.parts r) in
-      pushed-right log.entries.list f.said f.pushed (right-front m program strategy (account_with known) (entries_of f.said) (entries_of f.unsaid) parts)
+      pushed-right log.entries.list f.said f.pushed (right-front m program strategy (account_with nobody known) (entries_of f.said) (entries_of f.unsaid) parts)
 
   whole-right : (st : Status) (t : Transcript) (log : Log) (x y : Option (List ℕ)) → IsWhole st t log x y → Right (entries_of t.utterances) → Right log.entries.list
   whole-right st t log x y w r = subst Right (sym w.says.logged) r
@@ -63,11 +65,11 @@ module _ (m : Interpretation) (program : List Clause) (strategy : Strategy) (kno
   said-right status.OracleText t log x y h r = whole-right status.OracleText t log x y h r
   said-right status.FileTooLong t log x y h r = whole-right status.FileTooLong t log x y h r
 
-said-right_for : (m : Interpretation) {names : List (List ℕ)} (reader : Reader names) (options : Options) (known : List ℕ) (st : Status) (t : Transcript) (log : Log) (x y : Option (List ℕ)) (o : Loads) → IsSaid st t log x y
-    → AreRightFor m reader options known (entries_of t.utterances) o → AreRightFor m reader options known log.entries.list o
-said-right_for m reader options known st t log x y (refused line cause) h r = tt
-said-right_for m reader options known st t log x y (loads l) h r =
-    said-right m l.program options.strategy (replies_in (prepared reader l.ops options.oracle (Gives known))) st t log x y h r
+-- what was said is right for what the session began with
+said-right_for : (m : Interpretation) (st : Status) (t : Transcript) (log : Log) (x y : Option (List ℕ)) (o : Opening) → IsSaid st t log x y → AreRightFor m (entries_of t.utterances) o → AreRightFor m log.entries.list o
+said-right_for m st t log x y (Unloaded why) h r = λ program strategy known. said-right m program strategy known st t log x y h (r program strategy known)
+said-right_for m st t log x y (Closed ops b why) h r = λ program strategy known. said-right m program strategy known st t log x y h (r program strategy known)
+said-right_for m st t log x y (Open ops start course) h r = said-right m start.state.program start.state.strategy start.state.replies st t log x y h r
 
 -- a front of entries that fit
 front-flows : (d e : Due) (xs ys : List Entry) → Flows d (xs ++ ys) e → (x : Due) × Flows d xs x
@@ -114,26 +116,11 @@ said-flows status.InputLimit t log x y h k = whole-flows status.InputLimit t log
 said-flows status.OracleText t log x y h k = whole-flows status.OracleText t log x y h k
 said-flows status.FileTooLong t log x y h k = whole-flows status.FileTooLong t log x y h k
 
--- what a load gives is what it gives
-bytes-given : (loading : FileLoad) → IsFileLoad (Some (bytes_in loading)) loading
-bytes-given (Gives bytes) = refl
-bytes-given Faults = tt
-
-oracle-given : (name : Option (List ℕ)) (loading : FileLoad) → IfSome name (λ n. IsFileLoad (Some (bytes_in loading)) loading)
-oracle-given None loading = tt
-oracle-given (Some n) loading = bytes-given loading
-
 -- what is said in the world that is met is right, whatever is known of it
 pub meets-rightly : (m : Interpretation) (words names : List (List ℕ)) (reader : Reader names) (p q : Outside) (st : Status) (log : Log) → Meets words reader p q st log → MeetsRightly m words reader p q st log
 meets-rightly m words names reader p q st log meets = record {
   meets = meets;
-  right = by (options_of words) refl;
+  right =
+      said-right_for m st (session_of words reader meets.world) log p.streams.held q.streams.held (opening_of reader meets.world.files (options_of words)) meets.said (session-right m reader words meets.world);
   flows = said-flows st (session_of words reader meets.world) log p.streams.held q.streams.held meets.said (every-session-flows words names reader meets.world);
 }
-  where
-    by : (o : Option Options) → options_of words ≡ o
-        → IfSome o (λ options. (text : List ℕ) → IsSubjectText options.subject text meets.world.program → AreRightFor m reader options (bytes_in meets.world.oracle) log.entries.list (program_of reader text))
-    by None named = tt
-    by (Some options) named = λ text given.
-        said-right_for m reader options (bytes_in meets.world.oracle) st (session_of words reader meets.world) log p.streams.held q.streams.held (program_of reader text) meets.said
-        (session-right m words names reader meets.world options text (bytes_in meets.world.oracle) named given (oracle-given options.oracle meets.world.oracle))

@@ -3,7 +3,7 @@ use Rattle.std.proofs.Common.{◌≡◌, ◌==◌, ℕ, ℤ, List, length, refl,
 use Rattle.std.specs.Prelude.{◌&&◌, if◌then◌else◌, not, slice_get}
 use Rattle.std.specs.List.{list_all}
 use Rattle.std.proofs.lemmas.Bool.{eqb-true}
-use Rattle.apd_answers.specs.Dialogue.{Turn, asks, goes, ends, next_turn}
+use Rattle.apd_answers.specs.Dialogue.{next_turn}
 use Rattle.apd_answers.specs.Questions.{unknowns, with_values}
 use Rattle.apd_account.specs.Account.{with_told}
 use Rattle.apd_answers.specs.Store.{Store, with_pair}
@@ -24,7 +24,9 @@ use Rattle.apd_commands.specs.Commands.{command_in, command_of, integer_at, miss
 use Rattle.apd_commands.specs.declared.commands.Command.{Command}
 use Rattle.apd_commands.specs.declared.commands.Command.TheVariants as command
 use Rattle.apd_console.specs.declared.line.Line.{Line}
-use Rattle.apd_debug.specs.Steps.{after_turn}
+use Rattle.apd_debug.specs.Steps.{most_in_a_row}
+use Rattle.apd_debug.proofs.Bridging.{within_goes_on}
+use Rattle.apd_reference.specs.Referees.{replies_of}
 use Rattle.apd_divide.specs.Recorded.{tree}
 use Rattle.apd_record.specs.Reading.{point_of}
 use Rattle.apd_term.specs.declared.tuple.Tuple.{Tuple}
@@ -47,7 +49,7 @@ use Rattle.apd_symptoms.specs.Chains.{stopped_chain}
 use Rattle.apd_symptoms.specs.Symptoms.{exit_of}
 use Rattle.apd_symptoms.specs.Unanswered.{unanswered_box}
 use Rattle.apd_term.specs.Term.{Term, arguments, predicate_of}
-use Rattle.apd_term.specs.declared.standard.TheConstants.{LOOP, MISSING, QUERY, QUIT, STOP, TRACE, WRONG}
+use Rattle.apd_term.specs.declared.standard.TheConstants.{KNOWN, LOOP, MISSING, QUERY, QUIT, STOP, TRACE, WRONG}
 use Rattle.apd_term.specs.declared.term.Pred.{Pred}
 use Rattle.apd_text.specs.declared.entry.Refusal.{Refusal}
 use Rattle.apd_text.specs.declared.entry.Told.TheVariants.{Wrong, Missing, NoEnd}
@@ -73,18 +75,19 @@ trace_quits : (f : Option Filter) → is_quit (trace_asked f) ≡ false
 trace_quits (Some f) = refl
 trace_quits None = refl
 
-other_quits : (r : Read) (p : Option Pred) (query symptom lack endless filter : Bool) → is_pred p (QUIT ∕ 0) ≡ false → is_pred p (QUERY ∕ 1) ≡ query → is_pred p (WRONG ∕ 2) ≡ symptom → is_pred p (MISSING ∕ 2) ≡ lack → is_pred p (LOOP ∕ 0) ≡ endless → is_pred p (TRACE ∕ 1) ≡ filter →
-    is_quit (term_asked r p) ≡ false
-other_quits r p true symptom lack endless filter not one two three four five = rw (not, one) (query_quits (query_from r))
-other_quits r p false true lack endless filter not one two three four five = rw (not, one, two) (wrong_quits (integer_at r.term 0) (integer_at r.term 1))
-other_quits r p false false true endless filter not one two three four five = rw (not, one, two, three) (missing_quits (integer_at r.term 0) (slice_get (arguments r.term) 1))
-other_quits r p false false false true filter not one two three four five = rw (not, one, two, three, four) refl
-other_quits r p false false false false true not one two three four five = rw (not, one, two, three, four, five) (trace_quits (filter_at r.term))
-other_quits r p false false false false false not one two three four five = rw (not, one, two, three, four, five) refl
+other_quits : (r : Read) (p : Option Pred) (query symptom lack endless filter known : Bool) → is_pred p (QUIT ∕ 0) ≡ false → is_pred p (QUERY ∕ 1) ≡ query → is_pred p (WRONG ∕ 2) ≡ symptom → is_pred p (MISSING ∕ 2) ≡ lack → is_pred p (LOOP ∕ 0) ≡ endless → is_pred p (TRACE ∕ 1) ≡ filter →
+    is_pred p (KNOWN ∕ 0) ≡ known → is_quit (term_asked r p) ≡ false
+other_quits r p true symptom lack endless filter known other one two three four five six = rw (other, one) (query_quits (query_from r))
+other_quits r p false true lack endless filter known other one two three four five six = rw (other, one, two) (wrong_quits (integer_at r.term 0) (integer_at r.term 1))
+other_quits r p false false true endless filter known other one two three four five six = rw (other, one, two, three) (missing_quits (integer_at r.term 0) (slice_get (arguments r.term) 1))
+other_quits r p false false false true filter known other one two three four five six = rw (other, one, two, three, four) refl
+other_quits r p false false false false true known other one two three four five six = rw (other, one, two, three, four, five) (trace_quits (filter_at r.term))
+other_quits r p false false false false false true other one two three four five six = rw (other, one, two, three, four, five, six) refl
+other_quits r p false false false false false false other one two three four five six = rw (other, one, two, three, four, five, six) refl
 
 asked_quits : (r : Read) (b : Bool) → is_pred (predicate_of r.term) (QUIT ∕ 0) ≡ b → is_quit (term_asked r (predicate_of r.term)) ≡ b
 asked_quits r true is = rw is refl
-asked_quits r false is = other_quits r (predicate_of r.term) _ _ _ _ _ is refl refl refl refl refl
+asked_quits r false is = other_quits r (predicate_of r.term) _ _ _ _ _ _ is refl refl refl refl refl refl
 
 -- `stop` isn't `quit`
 stop_by : (p : Pred) (b : Bool) → (p.name.0 == STOP.0) ≡ b → (b && (p.arity == 0)) ≡ true → is_pred (Some p) (QUIT ∕ 0) ≡ false
@@ -96,14 +99,9 @@ stops_not None is = absurd (cc)
 stops_not (Some p) is = stop_by p (p.name.0 == STOP.0) refl is
 
 module _ (ops : Table) (names : List (List ℕ)) (s : State) where
-  turn_quits : {D E : Type 0} (d : Method D E) (store : Store) (count : ℕ) (turn : Turn D E) → (after_turn (d.diagnosis s) (d.found s) (situation d s) ops names store count turn).quits ≡ false
-  turn_quits d store count (asks asked next) = refl
-  turn_quits d store count (goes x) = refl
-  turn_quits d store count (ends f) = refl
-
   -- a diagnosis that goes on
   goes_quits : {D E : Type 0} (d : Method D E) (store : Store) (count : ℕ) (x : D) → (carries_on d ops names s store count x).quits ≡ false
-  goes_quits d store count x = turn_quits d store count (next_turn (d.diagnosis s) store x)
+  goes_quits d store count x = within_goes_on (replies_of s.referee) (d.diagnosis s) (d.found s) (situation d s) ops names most_in_a_row store count (next_turn (d.diagnosis s) store x)
 
   -- in a command's place
   wrong_at-quits : (R : Recorded) (r : Result ℕ Refusal) → (wrong_at ops names s R r).quits ≡ false
@@ -139,6 +137,7 @@ module _ (ops : Table) (names : List (List ℕ)) (s : State) where
   command_quits (command.Missing b a) = missing_step-quits s.last b a
   command_quits command.Loop = loop_step-quits s.last
   command_quits (command.Trace f) = refl
+  command_quits command.Known = refl
 
   -- in a reply's place
   module _ {D E : Type 0} (d : Method D E) (asked : Asked) (next : Reply → D) where

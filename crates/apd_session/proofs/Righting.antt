@@ -1,5 +1,5 @@
 -- Each step of a session says entries that are right.
-use Rattle.std.proofs.Common.{◌≡◌, ℕ, ℤ, List, [], ◌∷◌, ◌++◌, Option, Some, None, Result, Ok, Err, refl, sym, ◌∙◌, ap, subst}
+use Rattle.std.proofs.Common.{◌≡◌, zero, suc, ℕ, ℤ, Bool, true, false, List, [], ◌∷◌, ◌++◌, Option, Some, None, Result, Ok, Err, refl, sym, ◌∙◌, ap, subst}
 use Rattle.std.specs.Prelude.{All, IfSome, length, pos}
 use Rattle.apd_base.specs.Counts.{risen}
 use Rattle.apd_term.specs.Term.{Term}
@@ -18,6 +18,7 @@ use Rattle.apd_recorded.proofs.Law.{run_chained, run_full, run_sound}
 use Rattle.apd_trace.specs.Run.{query_run}
 use Rattle.apd_recorded.proofs.Recording.{program_clauses}
 use Rattle.apd_answers.specs.declared.question.Asked.{Asked}
+use Rattle.apd_answers.specs.declared.question.Question.{Question}
 use Rattle.apd_answers.specs.declared.question.Question.TheVariants.{True}
 use Rattle.apd_answers.specs.declared.question.Reply.{Reply}
 use Rattle.apd_answers.specs.declared.question.Reply.TheVariants.{No, Yes}
@@ -37,6 +38,7 @@ use Rattle.apd_session.specs.Demo.{blamed, blamed_at, dialogue_said, found_said}
 use Rattle.apd_symptoms.specs.Symptoms.{exit_of}
 use Rattle.apd_answers.specs.Interpretation.{Interpretation}
 use Rattle.apd_answers.specs.Questions.{FitsAsked}
+use Rattle.apd_answers.specs.Repliers.{RepliesFit}
 use Rattle.apd_divide.specs.declared.node.Strategy.{Strategy}
 use Rattle.apd_divide.specs.Recorded.{tree}
 use Rattle.apd_divide.specs.Tree.{Tree, suspects}
@@ -47,17 +49,18 @@ use Rattle.apd_missing.specs.declared.state.Unanswered.{Unanswered}
 use Rattle.apd_load.specs.declared.Note.{Note}
 use Rattle.apd_load.specs.Warnings.{query_warnings}
 use Rattle.apd_ops.specs.Table.{Table}
+use Rattle.apd_reference.specs.Referees.{replies_of}
 use Rattle.apd_talk.specs.Talk.{Step}
 use Rattle.apd_talk.specs.Utterance.{Utterance, entries_of}
 use Rattle.apd_text.specs.declared.entry.Entry.{Entry}
 use Rattle.apd_text.specs.declared.entry.Refusal.{Refusal}
 use Rattle.apd_account.specs.Account.{Account, with_asked, with_reply, with_told, after_entry, after_entries, after_told}
-use Rattle.apd_account.specs.Right.{IsRight, IsSymptom, AreRight}
+use Rattle.apd_account.specs.Right.{IsReferred, IsRight, IsSymptom, AreRight}
 use Rattle.apd_account.proofs.Diagnosing.{IsKnownTree, RightTurn, Waits, descent-right, found-right, replied-is, reply-right, waits, wrong_begins, wrong_left, wrong_turn}
 use Rattle.apd_commands.specs.declared.commands.Command.{Command}
 use Rattle.apd_commands.specs.declared.commands.Command.TheVariants as command
 use Rattle.apd_debug.specs.Stand.{Mode, Ready, Asking}
-use Rattle.apd_debug.specs.Steps.{after_turn, closing_asked, replied}
+use Rattle.apd_debug.specs.Steps.{after_turn, closing_asked, goes_on, goes_within, most_in_a_row, referred_then, replied, replied_then, turn_within}
 use Rattle.apd_oracle.specs.declared.spoken.Spoken.{Spoken}
 use Rattle.apd_oracle.specs.declared.spoken.Spoken.TheVariants as spoken
 use Rattle.apd_query.specs.Runs.{last_run, run_for, run_said, said_for}
@@ -90,12 +93,14 @@ module _ (m : Interpretation) (program : List Clause) (is : IsProgram program) (
   told-sound None R l = subst (IsSound (tuples_of program)) l.0 (sound_empty (tuples_of program))
   told-sound (Some run) R l = l.1.sound
 
-  -- a state with this store is what was told
+  -- a state with this store is what was told, and what is replied without a line fits its question
   pub record IsTold (s : State) (store : Store) (a : Account) : Type 0 where
     pub program_is : s.program ≡ program
     pub strategy_is : s.strategy ≡ strategy
     pub store_is : store ≡ a.store
     pub fit : AllFit a.store
+    pub his : RepliesFit (replies_of s.referee)
+    pub replies_is : replies_of s.referee ≡ a.replies
     pub last : IsLast s.last a.history
 
   -- what is known where a question of a diagnosis waits
@@ -135,7 +140,7 @@ module _ (m : Interpretation) (program : List Clause) (is : IsProgram program) (
     -- the state where a diagnosis stands
     told_at : (s : State) (store : Store) (count : ℕ) (mode : Mode D) (a : Account) → IsTold s store a → IsMode (mode_of d mode) a → Stands (situation d s (record { store = store; asked = count; mode = mode })) a
     told_at s store count mode a h k = record {
-      state = record { program_is = h.program_is; strategy_is = h.strategy_is; store_is = h.store_is; fit = h.fit; last = h.last };
+      state = record { program_is = h.program_is; strategy_is = h.strategy_is; store_is = h.store_is; fit = h.fit; his = h.his; replies_is = h.replies_is; last = h.last };
       mode = k;
     }
 
@@ -143,7 +148,7 @@ module _ (m : Interpretation) (program : List Clause) (is : IsProgram program) (
     turn-step : (ops : Table) (names : List (List ℕ)) (s : State) (store : Store) (count : ℕ) (a : Account) (turn : Turn D E) → IsTold s store a
         → RightTurn strategy Known left IsEnd a.history a.store a.symptom turn → IsStep a (after_turn (d.diagnosis s) (d.found s) (situation d s) ops names store count turn)
     turn-step ops names s store count a (asks asked next) h k =
-        let told : IsTold s store (with_asked a asked) = record { program_is = h.program_is; strategy_is = h.strategy_is; store_is = h.store_is; fit = h.fit; last = h.last } in
+        let told : IsTold s store (with_asked a asked) = record { program_is = h.program_is; strategy_is = h.strategy_is; store_is = h.store_is; fit = h.fit; his = h.his; replies_is = h.replies_is; last = h.last } in
         record {
           right = (k.unanswered, tt);
           stands = told_at s store (risen count) (Asking asked next) (with_asked a asked) told (rightly.waits (with_asked a asked) asked next (waits strategy Known left a asked next k));
@@ -154,33 +159,67 @@ module _ (m : Interpretation) (program : List Clause) (is : IsProgram program) (
       stands = subst (Stands (situation d s (record { store = store; asked = count; mode = Ready }))) (sym (rightly.tells_nothing s a e)) (told_at s store count Ready a h tt);
     }
 
+    -- a reply is told, and then the rest
+    reply_then-step : (rest : Store → ℕ → D → Step Entry Situation) (by_reference : Bool) (ops : Table) (names : List (List ℕ)) (s : State) (store : Store) (count : ℕ) (a : Account) (asked : Asked) (next : Reply → D) (r : Reply) → IsTold s store a
+        → Waits strategy Known left a asked next → FitsAsked asked r → IsReferred (a.replies asked.question) r by_reference
+        → ((b : Account) → IsTold s (with_pair store asked.question r) b → Known b.history b.store b.symptom (next r) → IsStep b (rest (with_pair store asked.question r) count (next r)))
+        → IsStep a (replied_then (replies_of s.referee) (d.diagnosis s) (d.found s) (situation d s) ops names rest by_reference store count asked next r)
+    reply_then-step rest by_reference ops names s store count a asked next r h w fits referred goes_on =
+        let b = with_reply a (Some asked) r in
+        let told : IsTold s (with_pair store asked.question r) b =
+        record { program_is = h.program_is; strategy_is = h.strategy_is; store_is = ap (λ ps. with_pair ps asked.question r) h.store_is; fit = fit_added a.store asked.question r h.fit fits.0; his = h.his; replies_is = h.replies_is; last = h.last } in
+        let st = goes_on b told (w.asks.known r fits) in
+        let e : b ≡ with_reply a a.asked r = sym (replied-is a asked r w.last) in
+        let after = rest (with_pair store asked.question r) count (next r) in
+        let entries = entries_of after.utterances in
+        record {
+          right = (rw (rightly.left_is s (next r)) (reply-right strategy Known left a asked next r by_reference w fits referred), subst (λ c. AreRight m program strategy c entries) e st.right);
+          stands = subst (λ c. Stands after.next (after_entries program c entries)) e st.stands;
+        }
+
+    -- what is replied without a line fits what is asked
+    his_fits : (s : State) (store : Store) (a : Account) (asked : Asked) (r : Reply) → IsTold s store a → replies_of s.referee asked.question ≡ Some r → FitsAsked asked r
+    his_fits s store a asked r h is = let f = h.his asked.question r is in (f.0, λ unknown. absurd (f.1 unknown))
+
+    -- a turn, and the turns after it as long as there are such replies
+    within-step : (k : ℕ) (ops : Table) (names : List (List ℕ)) (s : State) (store : Store) (count : ℕ) (a : Account) (turn : Turn D E) → IsTold s store a
+        → RightTurn strategy Known left IsEnd a.history a.store a.symptom turn → IsStep a (turn_within (replies_of s.referee) (d.diagnosis s) (d.found s) (situation d s) ops names k store count turn)
+    within-step zero ops names s store count a turn h t = turn-step ops names s store count a turn h t
+    within-step (suc k) ops names s store count a (goes y) h t = absurd t
+    within-step (suc k) ops names s store count a (ends e) h t = turn-step ops names s store count a (ends e) h t
+    within-step (suc k) ops names s store count a (asks asked next) h t =
+        by (replies_of s.referee asked.question) refl
+        (λ kept b x told known. within-step k ops names s kept (risen count) b (next_turn (d.diagnosis s) kept x) told (rightly.turns s kept b x told known))
+      where
+        by : (o : Option Reply) → replies_of s.referee asked.question ≡ o
+            → ((kept : Store) (b : Account) (x : D) → IsTold s kept b → Known b.history b.store b.symptom x → IsStep b (goes_within (replies_of s.referee) (d.diagnosis s) (d.found s) (situation d s) ops names k kept (risen count) x))
+            → IsStep a (referred_then (replies_of s.referee) (d.diagnosis s) (d.found s) (situation d s) ops names (goes_within (replies_of s.referee) (d.diagnosis s) (d.found s) (situation d s) ops names k) store count asked next o)
+        by None is goes_on = turn-step ops names s store count a (asks asked next) h t
+        by (Some r) is goes_on =
+            let b = with_asked a asked in
+            let told : IsTold s store b = record { program_is = h.program_is; strategy_is = h.strategy_is; store_is = h.store_is; fit = h.fit; his = h.his; replies_is = h.replies_is; last = h.last } in
+            let kept = with_pair store asked.question r in
+            let st = reply_then-step (goes_within (replies_of s.referee) (d.diagnosis s) (d.found s) (situation d s) ops names k) true ops names s store (risen count) b asked next r told (waits strategy Known left a asked next t) (his_fits s store a asked r h is) (ap (λ (f : Question → Option Reply). f asked.question) (sym h.replies_is) ∙ is) (λ c told known. goes_on kept c (next r) told known) in
+            record { right = (t.unanswered, st.right); stands = st.stands }
+
     carries_on-step : (ops : Table) (names : List (List ℕ)) (s : State) (store : Store) (count : ℕ) (a : Account) (x : D) → IsTold s store a → Known a.history a.store a.symptom x → IsStep a (carries_on d ops names s store count x)
-    carries_on-step ops names s store count a x h k = turn-step ops names s store count a (next_turn (d.diagnosis s) store x) h (rightly.turns s store a x h k)
+    carries_on-step ops names s store count a x h k = within-step most_in_a_row ops names s store count a (next_turn (d.diagnosis s) store x) h (rightly.turns s store a x h k)
 
     -- a symptom is told, and its diagnosis begins
     begins-step : (ops : Table) (names : List (List ℕ)) (s : State) (a : Account) (what : Told) (x : D) → IsTold s s.replies a → IsSymptom a what → AllFit (with_told a.store what) → Known a.history (with_told a.store what) (Some what) x
         → IsStep a (begins d ops names s what x)
     begins-step ops names s a what x h symptom fit k =
         let told : IsTold s (with_told s.replies what) (after_told a what) =
-        record { program_is = h.program_is; strategy_is = h.strategy_is; store_is = ap (λ ps. with_told ps what) h.store_is; fit = fit; last = h.last } in
+        record { program_is = h.program_is; strategy_is = h.strategy_is; store_is = ap (λ ps. with_told ps what) h.store_is; fit = fit; his = h.his; replies_is = h.replies_is; last = h.last } in
         let st = carries_on-step ops names s (with_told s.replies what) s.asked (after_told a what) x told k in
         record { right = (symptom, st.right); stands = st.stands }
 
-    -- a reply is told, and the diagnosis goes on
+    -- a reply of a line is told, and the diagnosis goes on
     replied-step : (ops : Table) (names : List (List ℕ)) (s : State) (a : Account) (asked : Asked) (next : Reply → D) (r : Reply) → IsTold s s.replies a → Waits strategy Known left a asked next → FitsAsked asked r
-        → IsStep a (replied (d.diagnosis s) (d.found s) (situation d s) ops names s.replies s.asked asked next r)
+        → IsStep a (replied (replies_of s.referee) (d.diagnosis s) (d.found s) (situation d s) ops names s.replies s.asked asked next r)
     replied-step ops names s a asked next r h w fits =
-        let b = with_reply a (Some asked) r in
-        let told : IsTold s (with_pair s.replies asked.question r) b =
-        record { program_is = h.program_is; strategy_is = h.strategy_is; store_is = ap (λ ps. with_pair ps asked.question r) h.store_is; fit = fit_added a.store asked.question r h.fit fits.0; last = h.last } in
-        let st = carries_on-step ops names s (with_pair s.replies asked.question r) s.asked b (next r) told (w.asks.known r fits) in
-        let e : b ≡ with_reply a a.asked r = sym (replied-is a asked r w.last) in
-        let entries = entries_of (carries_on d ops names s (with_pair s.replies asked.question r) s.asked (next r)).utterances in
-        let after = (carries_on d ops names s (with_pair s.replies asked.question r) s.asked (next r)).next in
-        record {
-          right = (rw (rightly.left_is s (next r)) (reply-right strategy Known left a asked next r w fits), subst (λ c. AreRight m program strategy c entries) e st.right);
-          stands = subst (λ c. Stands after (after_entries program c entries)) e st.stands;
-        }
+        reply_then-step (goes_on (replies_of s.referee) (d.diagnosis s) (d.found s) (situation d s) ops names) false ops names s s.replies s.asked a asked next r h w fits tt
+        (λ b told known. carries_on-step ops names s (with_pair s.replies asked.question r) s.asked b (next r) told known)
 
     -- a line in a reply's place
     reply-step : (ops : Table) (names : List (List ℕ)) (s : State) (a : Account) (asked : Asked) (next : Reply → D) (said : Spoken) → ((r : Reply) → said ≡ spoken.Reply r → FitsAsked asked r)
@@ -281,10 +320,10 @@ module _ (m : Interpretation) (program : List Clause) (is : IsProgram program) (
   replied_said-right r rs rest ops names nodes s store count a (asks asked next) h k fits =
       let b = with_reply (with_asked a asked) (Some asked) r in
       let told : IsTold s (with_pair store asked.question r) b =
-      record { program_is = h.program_is; strategy_is = h.strategy_is; store_is = ap (λ ps. with_pair ps asked.question r) h.store_is; fit = fit_added a.store asked.question r h.fit fits.0.0; last = h.last } in (
+      record { program_is = h.program_is; strategy_is = h.strategy_is; store_is = ap (λ ps. with_pair ps asked.question r) h.store_is; fit = fit_added a.store asked.question r h.fit fits.0.0; his = h.his; replies_is = h.replies_is; last = h.last } in (
         k.unanswered,
         (
-          reply-right strategy (IsKnownTree (tuples_of program)) wrong_left (with_asked a asked) asked next r (waits strategy (IsKnownTree (tuples_of program)) wrong_left a asked next k) fits.0,
+          reply-right strategy (IsKnownTree (tuples_of program)) wrong_left (with_asked a asked) asked next r false (waits strategy (IsKnownTree (tuples_of program)) wrong_left a asked next k) fits.0 tt,
           rest ops names nodes s (with_pair store asked.question r) (risen count) b (next r) told (k.known r fits.0) fits.1,
         ),
       )
@@ -307,7 +346,7 @@ module _ (m : Interpretation) (program : List Clause) (is : IsProgram program) (
           let store = with_told s.replies (Wrong atom) in
           let b = after_told a (Wrong atom) in
           let told : IsTold s store b =
-          record { program_is = h.program_is; strategy_is = h.strategy_is; store_is = ap (λ ps. with_told ps (Wrong atom)) h.store_is; fit = fit_added a.store (True atom) No h.fit tt; last = h.last } in
+          record { program_is = h.program_is; strategy_is = h.strategy_is; store_is = ap (λ ps. with_told ps (Wrong atom)) h.store_is; fit = fit_added a.store (True atom) No h.fit tt; his = h.his; replies_is = h.replies_is; last = h.last } in
           let t = tree a.history n atom in (
             tt,
             dialogue-right (replies_by (reply_to nodes s.program) (wrong s.strategy) (suspects t) store t) ops names nodes s store s.asked b t told
@@ -373,6 +412,8 @@ module _ (m : Interpretation) (program : List Clause) (is : IsProgram program) (
       record {
         state = record {
           program_is = h.program_is;
+          his = h.his;
+          replies_is = h.replies_is;
           strategy_is = h.strategy_is;
           store_is = h.store_is;
           fit = h.fit;
@@ -394,8 +435,9 @@ module _ (m : Interpretation) (program : List Clause) (is : IsProgram program) (
   command-step ops names s a (command.Query q) atoms h = query-step ops names s a q (atoms q refl) h
   command-step ops names s a (command.Trace f) atoms h = record {
     right = (tt, tt);
-    stands = is_ready (with_filter s f) a (record { program_is = h.program_is; strategy_is = h.strategy_is; store_is = h.store_is; fit = h.fit; last = h.last });
+    stands = is_ready (with_filter s f) a (record { program_is = h.program_is; strategy_is = h.strategy_is; store_is = h.store_is; fit = h.fit; his = h.his; replies_is = h.replies_is; last = h.last });
   }
+  command-step ops names s a command.Known atoms h = record { right = (tt, tt); stands = is_ready s a h }
   command-step ops names s a (command.Wrong b k) atoms h = wrong-step ops names s a b k s.last h h.last
   command-step ops names s a (command.Missing b atom) atoms h = missing-step ops names s a b atom s.last h h.last
   command-step ops names s a command.Loop atoms h = loop-step ops names s a s.last h h.last

@@ -38,6 +38,7 @@ use Rattle.apd_query.specs.Runs.{run_for}
 use Rattle.apd_query.specs.declared.state.LastRun.{LastRun}
 use Rattle.apd_query.specs.declared.state.State.{State}
 use Rattle.apd_read.specs.Reader.{Reader}
+use Rattle.apd_reference.specs.Referees.{replies_of}
 use Rattle.apd_record.specs.Reading.{point_of}
 use Rattle.apd_record.specs.Recorded.{Recorded, chain, point_at}
 use Rattle.apd_loop.specs.Loop.{loop, loop_start}
@@ -58,6 +59,7 @@ use Rattle.apd_term.specs.Named.{IsNamed, TupleIsNamed}
 use Rattle.apd_term.specs.Term.{Term, variable}
 use Rattle.apd_term.specs.declared.tuple.Tuple.{Tuple}
 use Rattle.apd_term.proofs.Applying.{apply-variable}
+use Rattle.apd_text.specs.Named.{ToldIsNamed}
 use Rattle.apd_text.specs.declared.entry.Entry.{Entry}
 use Rattle.apd_text.specs.declared.entry.Entry.TheVariants.{AllDescend, Found, Refused, Symptom}
 use Rattle.apd_text.specs.declared.entry.Refusal.{Refusal}
@@ -86,10 +88,10 @@ pub ready_answered : (n : ℕ) (s : State) (now : Answered) → IsReady n s → 
 ready_answered n s now is = record { limits = is.limits; standard = is.standard; named = is.named; last = last_answered n s now s.last is.last }
 
 -- a symptom leaves replies that fit
-pub told-replies : (n : ℕ) (store : Store) (what : Told) → AreReplies n store → AreReplies n (with_told store what)
-told-replies n store (Wrong a) are = with_pair-replies n store (True a) No are (tt, tt)
-told-replies n store (Missing a) are = with_pair-replies n store (True a) Yes are (tt, tt)
-told-replies n store (NoEnd calls) are = are
+pub told-replies : (n : ℕ) (store : Store) (what : Told) → ToldIsNamed n what → AreReplies n store → AreReplies n (with_told store what)
+told-replies n store (Wrong a) named are = with_pair-replies n store (True a) No are (tt, tt, named)
+told-replies n store (Missing a) named are = with_pair-replies n store (True a) Yes are (tt, tt, named)
+told-replies n store (NoEnd calls) named are = are
 
 -- the replies of a store fit its questions
 all_fit_in : (n : ℕ) (pairs : List Pair) → AreRepliesIn n pairs → AllFitIn pairs
@@ -97,7 +99,7 @@ all_fit_in n [] are = tt
 all_fit_in n (pair ∷ pairs) are = (are.0.0, all_fit_in n pairs are.1)
 
 pub all_fit : (n : ℕ) (store : Store) → AreReplies n store → AllFit store
-all_fit n store are = all_fit_in n store.pairs are
+all_fit n store are = all_fit_in n store.pairs are.pairs
 
 -- the names of the last run are known
 pub run_named : (n : ℕ) (s : State) (run : LastRun) → s.last ≡ Some run → IsReady n s → RecordIsNamed n run.history
@@ -162,9 +164,9 @@ module _ {D E : Type 0} (d : Method D E) (s : State) (command : Command) (what :
 
   -- it was said, and so was what the diagnosis came to
   pub symptom_leads : (this : Diagnosis D E) → d.diagnosis s ≡ this → (u : Unit {0}) (q : Moment) (last : Spoken) (now : Answered) (answer : Result E AskEnd) (result : Result Next Trouble) → Says (one symptom) p.spoken said (Ok u) →
-      Diagnoses d this x (answered replied s.asked) now (said_at p said) q answer → SaysLast (d.found s) answer q.spoken last result →
-      IsReady (length p.spoken.log.names) s → Leads (obeying s command) (with_answers s now) p (said_at q last) result
-  symptom_leads this same u q last now answer result says diagnosis concludes ready_before =
+      Diagnoses d (replies_of s.referee) this x (answered replied s.asked) now (said_at p said) q answer → SaysLast (d.found s) answer q.spoken last result →
+      IsPrepared (length p.spoken.log.names) s → Leads (obeying s command) (with_answers s now) p (said_at q last) result
+  symptom_leads this same u q last now answer result says diagnosis concludes prepared =
       let kept = last_keeps (d.found s) answer q.spoken last result concludes in
       let grew_to : Grown p.spoken.log.names q.spoken.log.names = subst (λ (l : List (List ℕ)). Grown l q.spoken.log.names) says.names diagnosis.keeps.names in
       let grew_last : Grown p.spoken.log.names last.log.names = subst (λ (l : List (List ℕ)). Grown p.spoken.log.names l) (sym kept.0) grew_to in
@@ -186,14 +188,15 @@ module _ {D E : Type 0} (d : Method D E) (s : State) (command : Command) (what :
             let first : Talks (after_step (talker reader ops) (says_before (plain ops names symptom ∷ []) st)) (place p) (place (said_at p said)) (after_step (talker reader ops) st) =
             Talks-before (talker reader ops) p said (plain ops names symptom ∷ []) st (says_later (one symptom) p.spoken said (Ok u) says) (says.all names grown) in
             let second = subst (λ (o : Table). Diagnosed (d.diagnosis s) (d.found s) (situation d s) o names (talker reader o)
-            (after_step (talker reader o) (carries_on d o names s replied s.asked x)) (place (said_at p said)) (place q) now.store now.asked answer) says.ops (diagnosis.course names on reader s same) in
+            (after_step (talker reader o) (carries_on d o names s replied s.asked x)) (place (said_at p said)) (place q) now.store now.asked answer) says.ops (diagnosis.course names on reader s refl same) in
             rw (is ops names)
             (last_on (d.diagnosis s) (d.found s) (situation d s) ops names (talker reader ops) (after_step (talker reader ops) (says_before (plain ops names symptom ∷ []) st)) (place p) q last now.store now.asked
             (diagnosis.keeps.ops ∙ says.ops) on answer result
             (diagnosed_after d reader ops s _ (after_step (talker reader ops) st) (place p) (place (said_at p said)) (place q) now.store now.asked answer first second) concludes);
         ready = leads_ready (with_answers s now) last.log.names result record {
-          ready = IsReady-more (length p.spoken.log.names) (length last.log.names) (with_answers s now) (Grown-length p.spoken.log.names last.log.names grew_last) (ready_answered (length p.spoken.log.names) s now ready_before);
+          ready = IsReady-more (length p.spoken.log.names) (length last.log.names) (with_answers s now) (Grown-length p.spoken.log.names last.log.names grew_last) (ready_answered (length p.spoken.log.names) s now prepared.ready);
           replies = rw kept.0 diagnosis.replies;
+          referee = let known = prepared.referee in let l = Grown-length p.spoken.log.names last.log.names grew_last in omega (arith, known, l);
         };
       }
 

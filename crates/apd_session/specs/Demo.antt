@@ -2,6 +2,7 @@
 -- replies.
 use Rattle.std.specs.Prelude.{ℕ, List, [], ◌∷◌, ◌++◌, ◌-◌, ◌^◌, codes, min, pos, Option, None, Some, Result, Ok, Err}
 use Rattle.apd_account.specs.Account.{with_told}
+use Rattle.apd_answers.specs.Repliers.{nobody}
 use Rattle.apd_answers.specs.Dialogue.{Dialogue, Turn, asks, goes, ends}
 use Rattle.apd_answers.specs.declared.finding.Finding.{Finding}
 use Rattle.apd_answers.specs.declared.finding.Finding.TheVariants.{WrongInstance, Uncovered, Violation, Candidates}
@@ -16,8 +17,6 @@ use Rattle.apd_debug.specs.Replying.{count_after, exchanges_said}
 use Rattle.apd_demo.specs.Answered.{demonstrated}
 use Rattle.apd_divide.specs.Recorded.{tree}
 use Rattle.apd_divide.specs.Tree.{Tree}
-use Rattle.apd_load.specs.Warnings.{warnings_of}
-use Rattle.apd_load.specs.declared.Note.{Note}
 use Rattle.apd_ops.specs.Table.{Table}
 use Rattle.apd_query.specs.declared.state.LastRun.{LastRun}
 use Rattle.apd_query.specs.declared.state.State.{State}
@@ -31,7 +30,9 @@ use Rattle.apd_text.specs.declared.entry.Entry.{Entry}
 use Rattle.apd_text.specs.declared.entry.Entry.TheVariants.{Demo, Refused, Symptom}
 use Rattle.apd_text.specs.declared.entry.Refusal.{Refusal}
 use Rattle.apd_text.specs.declared.entry.Told.TheVariants.{Wrong}
-use Rattle.apd_session.specs.Steps.{after_run, found_in, opening_said, query_said}
+use Rattle.apd_session.specs.Opening.{beginning_said}
+use Rattle.apd_session.specs.Steps.{after_run, found_in, query_said}
+use Rattle.apd_session.specs.declared.opening.Start.{Start}
 
 -- the line of the query
 abbrev pub query_line : Line
@@ -65,7 +66,7 @@ found_said ops names program nodes asked (goes x) = []
 -- a dialogue, where so many questions were asked before, and what was found
 abbrev pub dialogue_said : Table → List (List ℕ) → List Clause → ℕ → ℕ → Dialogue Tree Finding → List (Utterance Entry)
 dialogue_said ops names program nodes asked x =
-    exchanges_said ops names asked x.exchanges ++ found_said ops names program nodes (count_after asked x.exchanges) x.turn
+    exchanges_said nobody ops names asked x.exchanges ++ found_said ops names program nodes (count_after asked x.exchanges) x.turn
 
 -- the head of an exit isn't true, and its diagnosis
 abbrev pub blamed_at : Table → List (List ℕ) → ℕ → State → Recorded → Result ℕ Refusal → List (Utterance Entry)
@@ -86,9 +87,9 @@ asked_said ops names nodes s (command.Query q) = query_said ops names s q ++ bla
 asked_said ops names nodes s other = []
 
 -- what is said of a program that was loaded, and then
-abbrev pub shown_said : Table → List (List ℕ) → ℕ → State → List Note → List Note → Command → List (Utterance Entry)
-shown_said ops names nodes s passed called c = opening_said ops names s.program passed called None ++ asked_said ops names nodes s c
+abbrev pub shown_said : Table → List (List ℕ) → ℕ → Start → Command → List (Utterance Entry)
+shown_said ops names nodes start c = beginning_said ops names start.beginning ++ asked_said ops names nodes start.state c
 
 -- the whole
-abbrev pub demo_said : {names : List (List ℕ)} → Reader names → Table → ℕ → State → List Note → List (Utterance Entry)
-demo_said {names} reader ops nodes s passed = shown_said ops names nodes s passed (warnings_of s.program) (command_in reader ops query_line)
+abbrev pub demo_said : {names : List (List ℕ)} → Reader names → Table → ℕ → Start → List (Utterance Entry)
+demo_said {names} reader ops nodes start = shown_said ops names nodes start (command_in reader ops query_line)

@@ -1,5 +1,5 @@
 -- What is due in a log: each diagnosis asks, gets a reply to each question, and comes to an end.
-use Rattle.std.specs.Prelude.{◌≡◌, ℕ, List, [], ◌∷◌, Option, None, Some}
+use Rattle.std.specs.Prelude.{◌≡◌, List, [], ◌∷◌, Option, None, Some}
 use Rattle.apd_text.specs.declared.entry.Entry.{Entry}
 use Rattle.apd_text.specs.declared.entry.Entry.TheVariants as entry
 use Rattle.apd_session.specs.declared.status.Status.{Status}
@@ -22,11 +22,13 @@ part_of (entry.PassedOver line pred) = Outside
 part_of (entry.Warning line pred) = Outside
 part_of (entry.Loaded clauses) = Outside
 part_of (entry.OracleLoaded statements) = Outside
+part_of (entry.ReferenceLoaded clauses) = Outside
 part_of (entry.TraceSet filter) = Outside
+part_of (entry.Known text) = Outside
 part_of (entry.Run query budget answers filter end) = Outside
 part_of (entry.Symptom what) = Begins
 part_of (entry.Question number asked) = Asks
-part_of (entry.Replied reply left) = Replies
+part_of (entry.Replied reply left by_reference) = Replies
 part_of (entry.BadReply reason) = Mistakes
 part_of (entry.Found finding line) = Concludes
 part_of (entry.AllDescend calls) = Concludes
@@ -36,6 +38,7 @@ part_of (entry.Demo nodes questions clause) = Outside
 part_of entry.UsageRefused = Outside
 part_of (entry.ProgramRefused line cause) = Outside
 part_of (entry.OracleRefused line cause) = Outside
+part_of (entry.ReferenceRefused line cause) = Outside
 part_of (entry.FileTooLong length) = Outside
 part_of entry.InputFault = Stops
 part_of entry.InputOver = Stops

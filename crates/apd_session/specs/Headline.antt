@@ -1,49 +1,40 @@
 -- What the log of a session is worth.
-use Rattle.std.specs.Prelude.{ℕ, List, [], IfSome, ⊤}
+use Rattle.std.specs.Prelude.{ℕ, List}
 use Rattle.apd_account.specs.Account.{account_with}
 use Rattle.apd_account.specs.Right.{AreRight}
 use Rattle.apd_answers.specs.Interpretation.{Interpretation}
-use Rattle.apd_load.specs.Program.{Loads, refused, loads, program_of}
+use Rattle.apd_answers.specs.Repliers.{nobody}
+use Rattle.apd_answers.specs.Store.{Store}
+use Rattle.apd_clauses.specs.declared.clause.Clause.{Clause}
+use Rattle.apd_divide.specs.declared.node.Strategy.{Strategy}
 use Rattle.apd_read.specs.Reader.{Reader}
-use Rattle.apd_session.specs.Known.{Outside}
-use Rattle.apd_session.specs.Outcome.{IsSubjectText, Meets}
-use Rattle.apd_answers.specs.Store.{Store, empty_store}
-use Rattle.apd_session.specs.Session.{FileLoad, Gives, Faults, World, prepared}
 use Rattle.apd_session.specs.Flow.{FlowsTo}
+use Rattle.apd_session.specs.Known.{Outside}
+use Rattle.apd_session.specs.Opening.{opening_of}
+use Rattle.apd_session.specs.Outcome.{Meets}
+use Rattle.apd_session.specs.declared.opening.Opening.{Opening}
+use Rattle.apd_session.specs.declared.opening.Opening.TheVariants.{Unloaded, Closed, Open}
 use Rattle.apd_session.specs.declared.status.Status.{Status}
-use Rattle.apd_session.specs.declared.preparing.Prepared.{Prepared}
-use Rattle.apd_session.specs.declared.preparing.Prepared.TheVariants.{Knows, Refuses}
 use Rattle.apd_talk.specs.Speech.{Lasting}
 use Rattle.apd_text.specs.declared.entry.Entry.{Entry}
 use Rattle.apd_text.specs.declared.log.Log.{Log}
-use Rattle.apd_words.specs.Words.{Options, options_of}
+use Rattle.apd_words.specs.Words.{options_of}
 
--- the replies that are known before the first line
-abbrev pub replies_in : Prepared → Store
-replies_in (Knows statements store) = store
-replies_in (Refuses entry st) = empty_store
+-- entries are right whatever the program, the strategy and the known replies are
+abbrev pub AreAlwaysRight : Interpretation → List Entry → Type 0
+AreAlwaysRight m entries = (program : List Clause) (strategy : Strategy) (known : Store) → AreRight m program strategy (account_with nobody known) entries
 
--- entries are right for the program that a text makes, where it makes one, and the replies that an oracle file of this text states,
--- where the words name one
-abbrev pub AreRightFor : {names : List (List ℕ)} → Interpretation → Reader names → Options → List ℕ → List Entry → Loads → Type 0
-AreRightFor m reader options known entries (refused line cause) = ⊤
-AreRightFor m reader options known entries (loads l) =
-    AreRight m l.program options.strategy (account_with (replies_in (prepared reader l.ops options.oracle (Gives known)))) entries
-
--- the bytes that a load gives; none where it fails
-abbrev pub bytes_in : FileLoad → List ℕ
-bytes_in (Gives bytes) = bytes
-bytes_in Faults = []
-
--- entries are right for the program and the replies that the texts of a world make
-abbrev pub AreRightIn : {names : List (List ℕ)} → Interpretation → List (List ℕ) → Reader names → World → List Entry → Type 0
-AreRightIn m words reader world entries = IfSome (options_of words) (λ options. (text : List ℕ) → IsSubjectText options.subject text world.program →
-    AreRightFor m reader options (bytes_in world.oracle) entries (program_of reader text))
+-- entries are right for what a session begins with: where it goes on, for its program and the replies that are known before the first
+-- line; where it ends before it hears anything, they are right whatever the program and the replies are.
+abbrev pub AreRightFor : Interpretation → List Entry → Opening → Type 0
+AreRightFor m entries (Unloaded why) = AreAlwaysRight m entries
+AreRightFor m entries (Closed ops b why) = AreAlwaysRight m entries
+AreRightFor m entries (Open ops start course) = AreRight m start.state.program start.state.strategy (account_with nobody start.state.replies) entries
 
 -- a world is met, what was said in it is right, and each diagnosis in it came to an end, unless a question stayed without a reply
 pub record MeetsRightly (m : Interpretation) {names : List (List ℕ)} (words : List (List ℕ)) (reader : Reader names) (p q : Outside) (st : Status) (log : Log) : Type 0 where
   pub meets : Meets words reader p q st log
-  pub right : AreRightIn m words reader meets.world log.entries.list
+  pub right : AreRightFor m log.entries.list (opening_of reader meets.world.files (options_of words))
   pub flows : FlowsTo st log.entries.list
 
 -- whatever names are kept later and whatever reader there is under them, a world is met rightly

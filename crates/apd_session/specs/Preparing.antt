@@ -1,24 +1,46 @@
--- What is known before the first line, by the oracle file.
-use Rattle.std.specs.Prelude.{ℕ, ◌≡◌, ◌⊎◌, List, Option}
+-- What the calls that make an opening give, and what an opening may be.
+use Rattle.std.specs.Prelude.{ℕ, ◌≡◌, List, Option, None, Some, Result, ⊤}
 use Rattle.apd_debug.specs.NamedStates.{AreReplies}
+use Rattle.apd_gen.specs.Nodes.{IsNodeCount}
 use Rattle.apd_known.specs.Files.{stated_in}
+use Rattle.apd_clauses.specs.Clauses.{tuples_of}
+use Rattle.apd_load.specs.Program.{program_of}
+use Rattle.apd_load.specs.Warnings.{NotesAreNamed, warnings_of}
+use Rattle.apd_load.specs.declared.Loaded.{Loaded}
 use Rattle.apd_ops.specs.Table.{Table}
 use Rattle.apd_read.specs.Reader.{Reader}
-use Rattle.apd_session.specs.Outcome.{IsNamedLoad}
-use Rattle.apd_base.specs.declared.limits.TheConstants.{MAX_INPUT}
-use Rattle.apd_console.specs.Lines.{InputEnd}
-use Rattle.apd_clauses.specs.declared.clause.Clause.{Clause}
-use Rattle.apd_load.specs.declared.Note.{Note}
-use Rattle.apd_query.specs.declared.state.State.{State}
-use Rattle.apd_session.specs.Session.{FileLoad, Faults, Transcript, after_prepared, prepared, prepared_by, transcript_of}
-use Rattle.apd_session.specs.Turns.{opening}
-use Rattle.apd_words.specs.Words.{Options}
+use Rattle.apd_session.specs.Opening.{opening_after, opening_of, opening_with, prepared, prepared_by, subject_text, text_in}
+use Rattle.apd_session.specs.Roles.{Role, FileLoad, Faults, AreLoads, IsFileLoad, IsNamedLoad, file_of_subject}
+use Rattle.apd_session.specs.Turns.{IsPrepared}
+use Rattle.apd_words.specs.Words.{Options, Subject}
+use Rattle.apd_session.specs.declared.opening.Beginning.{Beginning}
+use Rattle.apd_session.specs.declared.opening.Course.{Course}
+use Rattle.apd_session.specs.declared.opening.Course.TheVariants.{Hears, Plays}
+use Rattle.apd_session.specs.declared.opening.Opening.{Opening}
+use Rattle.apd_session.specs.declared.opening.Opening.TheVariants.{Unloaded, Closed, Open}
+use Rattle.apd_session.specs.declared.opening.Start.{Start}
+use Rattle.apd_session.specs.declared.opening.Stop.{Stop}
 use Rattle.apd_session.specs.declared.preparing.Prepared.{Prepared}
 use Rattle.apd_session.specs.declared.preparing.Prepared.TheVariants.{Knows, Refuses}
 use Rattle.apd_session.specs.declared.status.Status.{Status}
 use Rattle.apd_session.specs.declared.status.Status.TheVariants as status
 use Rattle.apd_talk.specs.Speech.{Lasting}
+use Rattle.apd_term.specs.Named.{AllTuplesNamed}
 use Rattle.apd_text.specs.Named.{EntryIsNamed}
+
+-- this is the text of the file of this name, or why there is none; its load may fail as is said
+pub record HasText (content : List ℕ → Option (List ℕ)) (failed : Type 0) (name : List ℕ) (x : Result (List ℕ) Stop) : Type 0 where
+  pub loading : FileLoad
+  pub is : IsFileLoad (content name) loading
+  pub faults : loading ≡ Faults → failed
+  pub so : text_in loading ≡ x
+
+-- this is the text of what is debugged, or why there is none
+pub record HasSubject (content : List ℕ → Option (List ℕ)) (failed : Type 0) (subject : Subject) (x : Result (List ℕ) Stop) : Type 0 where
+  pub loading : FileLoad
+  pub is : IsNamedLoad content (file_of_subject subject) loading
+  pub faults : loading ≡ Faults → failed
+  pub so : subject_text (λ role. loading) subject ≡ x
 
 -- this is what the text makes known, whatever names are kept later
 abbrev pub States : Table → List ℕ → List (List ℕ) → Prepared → Type 0
@@ -31,19 +53,70 @@ pub record Prepares (content : List ℕ → Option (List ℕ)) (failed : Type 0)
   pub faults : loading ≡ Faults → failed
   pub so : Lasting names (λ n. (reader : Reader n) → prepared reader ops name loading ≡ x)
 
--- the statuses of a session that ends before the first line; a fault only where a load failed
-abbrev pub IsRefusal : Type 0 → Status → Type 0
-IsRefusal failed st = ((st ≡ status.ReadFault) × failed) ⊎ ((st ≡ status.OracleText) ⊎ (st ≡ status.FileTooLong))
+-- this is what a session with a program begins with, by what its oracle file makes known
+pub record OpensWith (content : List ℕ → Option (List ℕ)) (failed : Type 0) (options : Options) (l : Loaded) (names : List (List ℕ)) (x : Opening) : Type 0 where
+  pub known : Prepared
+  pub prepares : Prepares content failed l.ops names options.oracle known
+  pub so : opening_with options l.program l.ops l.passed known ≡ x
+
+-- this is what a session begins with, by this text of what is debugged and what the load of its oracle file gives
+pub record OpensAfter (content : List ℕ → Option (List ℕ)) (failed : Type 0) (options : Options) (text : List ℕ) (names : List (List ℕ)) (x : Opening) : Type 0 where
+  pub loading : FileLoad
+  pub is : IsNamedLoad content options.oracle loading
+  pub faults : loading ≡ Faults → failed
+  pub so : Lasting names (λ n. (reader : Reader n) → opening_after reader (λ role. loading) options (program_of reader text) ≡ x)
+
+-- this is what a session begins with, by what the loads of its files give, which may fail as is said
+pub record Opens (content : List ℕ → Option (List ℕ)) (failed : Type 0) (options : Option Options) (names : List (List ℕ)) (x : Opening) : Type 0 where
+  pub files : Role → FileLoad
+  pub are : AreLoads content options files
+  pub faults : (role : Role) → files role ≡ Faults → failed
+  pub so : Lasting names (λ n. (reader : Reader n) → opening_of reader files options ≡ x)
+
+-- the statuses with which a session may end before it hears anything
+abbrev pub MayStop : Status → Type 0
+MayStop status.Usage = ⊤
+MayStop status.Program = ⊤
+MayStop status.ReadFault = ⊤
+MayStop status.OracleText = ⊤
+MayStop status.FileTooLong = ⊤
+MayStop st = ⊥
+
+-- of what stands in an opening, all names are among the first n; so they are in what was loaded, whose warnings are those of its program
+pub record IsStop (n : ℕ) (why : Stop) : Type 0 where
+  pub named : EntryIsNamed n why.said
+  pub may : MayStop why.status
+
+pub record IsBeginning (n : ℕ) (b : Beginning) : Type 0 where
+  pub passed : NotesAreNamed n b.passed
+  pub called : NotesAreNamed n b.called
+
+pub record IsStart (n : ℕ) (start : Start) : Type 0 where
+  pub beginning : IsBeginning n start.beginning
+  pub state : IsPrepared n start.state
+
+-- a tree has 1 to 10,000 nodes
+abbrev pub IsCourse : Course → Type 0
+IsCourse Hears = ⊤
+IsCourse (Plays nodes) = IsNodeCount nodes
+
+abbrev pub IsReadyOpening : ℕ → Opening → Type 0
+IsReadyOpening n (Unloaded why) = IsStop n why
+IsReadyOpening n (Closed ops b why) = IsBeginning n b × IsStop n why
+IsReadyOpening n (Open ops start course) = IsStart n start × IsCourse course
+
+pub record IsLoaded (n : ℕ) (l : Loaded) : Type 0 where
+  pub program : AllTuplesNamed n (tuples_of l.program)
+  pub passed : NotesAreNamed n l.passed
+  pub called : NotesAreNamed n l.warnings
+  pub warnings : l.warnings ≡ warnings_of l.program
 
 -- replies and entries have names that are known
-abbrev pub AreReady : ℕ → Type 0 → Prepared → Type 0
-AreReady n failed (Knows statements store) = AreReplies n store
-AreReady n failed (Refuses entry st) = EntryIsNamed n entry × IsRefusal failed st
+abbrev pub AreReady : ℕ → Prepared → Type 0
+AreReady n (Knows statements store) = AreReplies n store
+AreReady n (Refuses why) = IsStop n why
 
--- what is said with a program in this state, before the first line and to the lines of the input
-abbrev pub after_opening : {names : List (List ℕ)} → Reader names → Table → State → List Note → Option ℕ → List ℕ → InputEnd → Transcript
-after_opening {names} reader ops s passed statements input ends = transcript_of ops (opening passed statements s ops names reader MAX_INPUT input ends)
-
--- what is said with a program that is loaded, by what the load of the oracle file gives
-abbrev pub after_loading : {names : List (List ℕ)} → Reader names → Options → List Clause → Table → List Note → FileLoad → List ℕ → InputEnd → Transcript
-after_loading reader options program ops passed oracle input ends = after_prepared reader options input ends program ops passed (prepared reader ops options.oracle oracle)
+-- the status with which an oracle file ends a session, where it does
+abbrev pub refuses_with : Prepared → Option Status
+refuses_with (Knows statements store) = None
+refuses_with (Refuses why) = Some why.status

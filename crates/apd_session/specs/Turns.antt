@@ -1,5 +1,5 @@
 -- Turns of a session: what is said to the lines of the input, one by one.
-use Rattle.std.specs.Prelude.{ℕ, ◌≡◌, ◌+◌, ◌<◌, ◌≤◌, List, length, Option, Result, Ok, OnOk, MatchResult}
+use Rattle.std.specs.Prelude.{ℕ, ◌≡◌, ◌+◌, ◌<◌, ◌≤◌, List, length, Result, Ok, OnOk, MatchResult}
 use Rattle.apd_console.specs.Console.{IsKept, room_of}
 use Rattle.apd_talk.specs.Talk.{Breaks, Continues, Step, after_step, onto, replies}
 use Rattle.apd_talk.specs.declared.talk.Next.{Next}
@@ -7,15 +7,16 @@ use Rattle.apd_talk.specs.declared.talk.Next.TheVariants.{Goes}
 use Rattle.apd_talk.specs.declared.talk.Trouble.{Trouble}
 use Rattle.apd_commands.specs.declared.commands.Command.{Command}
 use Rattle.apd_debug.specs.NamedStates.{AreReplies}
-use Rattle.apd_load.specs.declared.Note.{Note}
-use Rattle.apd_load.specs.Warnings.{warnings_of}
 use Rattle.apd_ops.specs.Table.{Table}
 use Rattle.apd_read.specs.Reader.{Reader}
+use Rattle.apd_reference.specs.Referees.{names_known}
 use Rattle.apd_text.specs.declared.entry.Entry.{Entry}
 use Rattle.apd_talk.specs.Moment.{Keeps, Moment, Script, place}
 use Rattle.apd_query.specs.Running.{IsReady}
 use Rattle.apd_talk.specs.Speech.{Lasting, begun}
-use Rattle.apd_session.specs.Steps.{Situation, command_step, opening_said, ready_in, talker}
+use Rattle.apd_session.specs.Opening.{beginning_said}
+use Rattle.apd_session.specs.Steps.{Situation, command_step, ready_in, talker}
+use Rattle.apd_session.specs.declared.opening.Start.{Start}
 use Rattle.apd_query.specs.declared.state.State.{State}
 use Rattle.apd_base.specs.declared.limits.TheConstants.{MOST_NAMES}
 
@@ -32,14 +33,14 @@ abbrev pub obeying : State → Command → Script
 obeying s c = after (λ ops names. command_step ops names s c)
 
 -- it says first what there is to say of its program, and of the oracle file, where there is one
-abbrev pub opening : List Note → Option ℕ → State → Script
-opening passed statements s ops names reader room more ends =
-    onto (opening_said ops names s.program passed (warnings_of s.program) statements) (conversation s ops names reader room more ends)
+abbrev pub opening : Start → Script
+opening start ops names reader room more ends = onto (beginning_said ops names start.beginning) (conversation start.state ops names reader room more ends)
 
--- a state is ready for a query, and what it keeps are replies with names that are known
+-- a state is ready for a query, what it keeps are replies with names that are known, and so are those of whoever is asked first
 pub record IsPrepared (n : ℕ) (s : State) : Type 0 where
   pub ready : IsReady n s
   pub replies : AreReplies n s.replies
+  pub referee : names_known s.referee ≤ n
 
 -- the state is prepared, and with the bytes that may still be handed out there are fewer names than may be kept
 pub record CanConverse (s : State) (p : Moment) : Type 0 where

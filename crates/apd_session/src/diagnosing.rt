@@ -6,6 +6,7 @@ ghost use Rattle.apd_answers.specs.Questions.{Fits};
 ghost use Rattle.apd_answers.specs.Store.{with_pair};
 ghost use Rattle.apd_debug.specs.Diagnosed.{SaysEnd, SaysLast, is_said, last_entry, next_after, trouble_of};
 ghost use Rattle.apd_debug.specs.NamedStates.{loop_entry};
+ghost use Rattle.apd_debug.specs.Steps.{most_in_a_row};
 ghost use Rattle.apd_divide.specs.Exits.{IsUserExit};
 ghost use Rattle.apd_record.specs.Reading.{point_of};
 ghost use Rattle.apd_session.specs.Steps.{found_in};
@@ -181,6 +182,13 @@ fn trouble_of(end: AskEnd) -> Trouble
         | AskEnd::InputLimit
         | AskEnd::Memory => Trouble::Memory,
     }
+}
+
+/// A log has no more entries than are counted.
+pub(crate) fn has_few_entries(log: &Log)
+    ensures { length log.now.entries.list < most_in_a_row }
+{
+    let _entries = log.entries.len();
 }
 
 /// Says how a diagnosis without a finding ended, in the place that was kept.

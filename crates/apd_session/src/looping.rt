@@ -1,6 +1,6 @@
 //! The diagnosis of a run that doesn't end, with questions to the user.
 
-ghost use Rattle.std.specs.Prelude.{◌≡◌, length};
+ghost use Rattle.std.specs.Prelude.{◌≡◌, length, ◌≤◌};
 ghost use Rattle.apd_commands.specs.declared.commands.Command.TheVariants as command;
 ghost use Rattle.apd_console.specs.Console.{IsKept};
 ghost use Rattle.apd_debug.specs.NamedStates.{AreReplies};
@@ -15,8 +15,8 @@ ghost use Rattle.apd_session.specs.Steps.{by_loop};
 ghost use Rattle.apd_session.specs.Turns.{CanConverse, Leads, obeying};
 ghost use Rattle.apd_talk.specs.Moment.{moment};
 
-use crate::diagnosing::{conclude_loop, keep_symptom, refuse};
-use apd_answers::{Answers, AskEnd};
+use crate::diagnosing::{conclude_loop, has_few_entries, keep_symptom, refuse};
+use apd_answers::{Answers, AskEnd, Replier};
 use apd_base::Ids;
 use apd_clauses::Program;
 use apd_console::Console;
@@ -32,13 +32,13 @@ use apd_text::{Log, Refusal, Told};
 use std::alloc::Global;
 
 /// Diagnoses a run that was within these calls, over a dialogue.
-fn diagnose_over<S: Source, K: Sink>(
+fn diagnose_over<S: Source, K: Sink, R: Replier>(
     alloc: Global,
     history: &Record,
     calls: &Ids,
     strategy: Strategy,
     replies: &mut Answers,
-    dialogue: &mut Dialogue<S, K>,
+    dialogue: &mut Dialogue<S, K, R>,
 ) -> Result<LoopEnd, AskEnd>
     requires sound { IsKept dialogue.old.console.now }
     requires replies { AreReplies (length dialogue.old.log.now.names) replies.old }
@@ -48,7 +48,10 @@ fn diagnose_over<S: Source, K: Sink>(
     ensures source { dialogue.new.source.ghost_name ≡ dialogue.old.source.ghost_name }
     ensures sink { dialogue.new.sink.ghost_name ≡ dialogue.old.sink.ghost_name }
     ensures log { dialogue.new.log.ghost_name ≡ dialogue.old.log.ghost_name }
-    ensures diagnoses { Diagnoses by_loop (loop history.now calls.now strategy)
+    ensures replier { (dialogue.new.replier.ghost_name ≡ dialogue.old.replier.ghost_name)
+        × (dialogue.new.replier.now ≡ dialogue.old.replier.now) }
+    ensures diagnoses { Diagnoses by_loop (R.replies dialogue.old.replier.now)
+        (loop history.now calls.now strategy)
         (loop_start history.now calls.now)
         (answered replies.old dialogue.old.asked) (answered replies.new dialogue.new.asked)
         (moment S.Source K.Sink dialogue.old.console.now dialogue.old.source.now
@@ -56,17 +59,20 @@ fn diagnose_over<S: Source, K: Sink>(
         (moment S.Source K.Sink dialogue.new.console.now dialogue.new.source.now
         dialogue.new.log.now dialogue.new.sink.now) result }
 {
-    diagnose_loop(alloc, history, calls, strategy, replies, dialogue)
+    let answer = diagnose_loop(alloc, history, calls, strategy, replies, dialogue);
+    has_few_entries(dialogue.log);
+    answer
 }
 
-/// Diagnoses a run that was within these calls, with questions to the user.
-fn diagnose<S: Source, K: Sink>(
+/// Diagnoses a run that was within these calls, with questions to the user where the referee has no reply.
+fn diagnose<S: Source, K: Sink, R: Replier>(
     alloc: Global,
     history: &Record,
     calls: &Ids,
     strategy: Strategy,
     replies: &mut Answers,
     asked: &mut u64,
+    referee: &mut R,
     console: &mut Console,
     input: &mut S,
     out: &mut K,
@@ -74,16 +80,19 @@ fn diagnose<S: Source, K: Sink>(
 ) -> Result<LoopEnd, AskEnd>
     requires hear { CanHear (moment S.Source K.Sink console.old input.old log.old out.old) }
     requires sound { IsKept console.old }
+    requires referee { R.names referee.old ≤ length log.old.names }
     requires replies { AreReplies (length log.old.names) replies.old }
     requires chain { IsChain history.now calls.now }
     requires named { RecordIsNamed (length log.old.names) history.now }
-    ensures { Diagnoses by_loop (loop history.now calls.now strategy)
+    ensures referee { referee.new ≡ referee.old }
+    ensures diagnoses { Diagnoses by_loop (R.replies referee.old)
+        (loop history.now calls.now strategy)
         (loop_start history.now calls.now)
         (answered replies.old asked.old) (answered replies.new asked.new)
         (moment S.Source K.Sink console.old input.old log.old out.old)
         (moment S.Source K.Sink console.new input.new log.new out.new) result }
 {
-    let mut dialogue = Dialogue::new(alloc, *asked, console, input, out, log);
+    let mut dialogue = Dialogue::new(alloc, *asked, console, input, out, log, referee);
     let answer = diagnose_over(alloc, history, calls, strategy, replies, &mut dialogue);
     *asked = dialogue.asked;
     answer
@@ -142,6 +151,7 @@ pub(crate) fn no_end<S: Source, K: Sink>(
         state.strategy,
         &mut state.replies,
         &mut state.asked,
+        &mut state.referee,
         console,
         input,
         out,

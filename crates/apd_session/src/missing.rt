@@ -1,6 +1,6 @@
 //! The diagnosis of a missing answer, with questions to the user.
 
-ghost use Rattle.std.specs.Prelude.{◌≡◌, length};
+ghost use Rattle.std.specs.Prelude.{◌≡◌, length, ◌≤◌};
 ghost use Rattle.apd_commands.specs.declared.commands.Command.TheVariants as command;
 ghost use Rattle.apd_console.specs.Console.{IsKept};
 ghost use Rattle.apd_debug.specs.NamedStates.{AreReplies};
@@ -16,8 +16,8 @@ ghost use Rattle.apd_session.specs.Turns.{CanConverse, Leads, obeying};
 ghost use Rattle.apd_talk.specs.Moment.{moment};
 ghost use Rattle.apd_term.specs.Named.{AllTuplesNamed, IsNamed};
 
-use crate::diagnosing::{conclude, keep_missing, refuse};
-use apd_answers::{Answers, AskEnd, Finding};
+use crate::diagnosing::{conclude, has_few_entries, keep_missing, refuse};
+use apd_answers::{Answers, AskEnd, Finding, Replier};
 use apd_clauses::Program;
 use apd_console::Console;
 use apd_io::{Sink, Source};
@@ -32,14 +32,14 @@ use apd_text::{Log, Refusal};
 use std::alloc::Global;
 
 /// Diagnoses an atom that is true and that a box didn't give, over a dialogue.
-fn diagnose_over<S: Source, K: Sink>(
+fn diagnose_over<S: Source, K: Sink, R: Replier>(
     alloc: Global,
     program: &Program,
     history: &Record,
     box_no: u32,
     atom: &Flat,
     replies: &mut Answers,
-    dialogue: &mut Dialogue<S, K>,
+    dialogue: &mut Dialogue<S, K, R>,
 ) -> Result<Finding, AskEnd>
     requires sound { IsKept dialogue.old.console.now }
     requires replies { AreReplies (length dialogue.old.log.now.names) replies.old }
@@ -53,7 +53,10 @@ fn diagnose_over<S: Source, K: Sink>(
     ensures source { dialogue.new.source.ghost_name ≡ dialogue.old.source.ghost_name }
     ensures sink { dialogue.new.sink.ghost_name ≡ dialogue.old.sink.ghost_name }
     ensures log { dialogue.new.log.ghost_name ≡ dialogue.old.log.ghost_name }
-    ensures diagnoses { Diagnoses by_missing (missing (tuples_of program.now) history.now)
+    ensures replier { (dialogue.new.replier.ghost_name ≡ dialogue.old.replier.ghost_name)
+        × (dialogue.new.replier.now ≡ dialogue.old.replier.now) }
+    ensures diagnoses { Diagnoses by_missing (R.replies dialogue.old.replier.now)
+        (missing (tuples_of program.now) history.now)
         (record { box_no = box_no; goal = atom.now })
         (answered replies.old dialogue.old.asked) (answered replies.new dialogue.new.asked)
         (moment S.Source K.Sink dialogue.old.console.now dialogue.old.source.now
@@ -61,11 +64,13 @@ fn diagnose_over<S: Source, K: Sink>(
         (moment S.Source K.Sink dialogue.new.console.now dialogue.new.source.now
         dialogue.new.log.now dialogue.new.sink.now) result }
 {
-    diagnose_missing(alloc, program, history, box_no, atom, replies, dialogue)
+    let answer = diagnose_missing(alloc, program, history, box_no, atom, replies, dialogue);
+    has_few_entries(dialogue.log);
+    answer
 }
 
-/// Diagnoses an atom that is true and that a box didn't give, with questions to the user.
-fn diagnose<S: Source, K: Sink>(
+/// Diagnoses an atom that is true and that a box didn't give, with questions to the user where the referee has no reply.
+fn diagnose<S: Source, K: Sink, R: Replier>(
     alloc: Global,
     program: &Program,
     history: &Record,
@@ -73,6 +78,7 @@ fn diagnose<S: Source, K: Sink>(
     atom: &Flat,
     replies: &mut Answers,
     asked: &mut u64,
+    referee: &mut R,
     console: &mut Console,
     input: &mut S,
     out: &mut K,
@@ -80,6 +86,7 @@ fn diagnose<S: Source, K: Sink>(
 ) -> Result<Finding, AskEnd>
     requires hear { CanHear (moment S.Source K.Sink console.old input.old log.old out.old) }
     requires sound { IsKept console.old }
+    requires referee { R.names referee.old ≤ length log.old.names }
     requires replies { AreReplies (length log.old.names) replies.old }
     requires recorded { IsSound (tuples_of program.now) history.now }
     requires full { IsFull (tuples_of program.now) history.now }
@@ -87,13 +94,15 @@ fn diagnose<S: Source, K: Sink>(
         (record { box_no = box_no; goal = atom.now }) }
     requires program { AllTuplesNamed (length log.old.names) (tuples_of program.now) }
     requires named { IsNamed (length log.old.names) atom.now }
-    ensures { Diagnoses by_missing (missing (tuples_of program.now) history.now)
+    ensures referee { referee.new ≡ referee.old }
+    ensures diagnoses { Diagnoses by_missing (R.replies referee.old)
+        (missing (tuples_of program.now) history.now)
         (record { box_no = box_no; goal = atom.now })
         (answered replies.old asked.old) (answered replies.new asked.new)
         (moment S.Source K.Sink console.old input.old log.old out.old)
         (moment S.Source K.Sink console.new input.new log.new out.new) result }
 {
-    let mut dialogue = Dialogue::new(alloc, *asked, console, input, out, log);
+    let mut dialogue = Dialogue::new(alloc, *asked, console, input, out, log, referee);
     let answer = diagnose_over(
         alloc,
         program,
@@ -142,6 +151,7 @@ fn seek<S: Source, K: Sink>(
         atom,
         &mut state.replies,
         &mut state.asked,
+        &mut state.referee,
         console,
         input,
         out,

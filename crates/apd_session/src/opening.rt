@@ -1,39 +1,92 @@
-//! What a session begins with: its state, and what it says before it hears the first line.
-ghost use Rattle.std.specs.Prelude.{◌≡◌, ◌<◌, ◌≤◌, [], length};
-ghost use Rattle.apd_console.specs.Console.{fresh};
-ghost use Rattle.apd_io.specs.Outside.{Rose};
-ghost use Rattle.apd_load.specs.Warnings.{NotesAreNamed, warnings_of};
-ghost use Rattle.apd_read.specs.Reader.{Reader};
-ghost use Rattle.apd_term.specs.Growth.{GrowsBy};
-ghost use Rattle.apd_words.specs.Words.{asked_options};
-ghost use Rattle.apd_session.specs.Known.{streams};
-ghost use Rattle.apd_talk.specs.Moment.{Converses, moment};
-ghost use Rattle.apd_session.specs.Outcome.{Answers, TakesCount};
-ghost use Rattle.apd_session.specs.Session.{first_state};
-ghost use Rattle.apd_session.specs.Preparing.{after_opening};
-ghost use Rattle.apd_talk.specs.Speech.{Lasting};
-ghost use Rattle.apd_session.specs.Turns.{IsPrepared, opening};
-ghost use Rattle.apd_base.specs.declared.limits.TheConstants.{MAX_INPUT};
+//! What a session begins with, as a value: why it ends before it hears anything, or what it goes on with.
 
-use crate::notes::say_opening;
-use crate::status::{Status, status_after, status_of};
-use crate::turns::converse;
+ghost use Rattle.std.specs.Prelude.{◌≡◌, ◌+◌, ◌<◌, ◌≤◌, ℕ, length, None, Some, IfErr, IfOk};
+ghost use Rattle.apd_base.specs.declared.limits.TheConstants.{MAX_FILE, MOST_NAMES};
+ghost use Rattle.apd_io.specs.Outside.{Rose};
+ghost use Rattle.apd_session.specs.Opening.{course_of, first_state, stops_with};
+ghost use Rattle.apd_session.specs.Preparing.{HasSubject, IsCourse, IsLoaded, IsReadyOpening, IsStop, Opens, OpensAfter, OpensWith};
+ghost use Rattle.apd_term.specs.Growth.{GrowsBy};
+ghost use Rattle.apd_term.specs.StandardNames.{standard_names};
+ghost use Rattle.apd_words.specs.Words.{AreLimits, StandsAlone, asked_options, asked_subject, bytes_of, options_of};
+
+use crate::files::load_file;
+use crate::preparing::{Prepared, prepare};
+use crate::status::Status;
+use apd_answers::Answers;
+use apd_base::Text;
 use apd_clauses::Program;
-use apd_console::Console;
-use apd_io::{Sink, Source};
-use apd_load::Note;
+use apd_gen::tree_program;
+use apd_io::Files;
+use apd_load::{LoadText, Loaded, Notes, load};
+use apd_ops::Ops;
 use apd_query::State;
-use apd_talk::{Ending, Trouble};
-use apd_text::Log;
-use apd_words::Asked;
-use std::alloc::Global;
+use apd_reference::Referee;
+use apd_term::Names;
+use apd_text::Entry;
+use apd_words::{Asked, Subject, read_words};
+use std::alloc::{AllocError, Global};
+
+/// A session ends.
+#[derive(Drop)]
+pub(crate) struct Stop {
+    /// What is said last.
+    pub said: Entry,
+    /// The status: none of those with which a session ends that heard something.
+    pub status: Status,
+}
+
+/// What there is to say of a program that was loaded.
+#[derive(Drop)]
+pub(crate) struct Beginning {
+    /// How many clauses it has.
+    pub clauses: u32,
+    /// Its directives that were passed over.
+    pub passed: Notes,
+    /// The predicates that its clauses call and that have no clauses.
+    pub called: Notes,
+    /// How many statements the oracle file has, where there is one.
+    pub statements: Option<u32>,
+}
+
+/// A program that was loaded, before the first line.
+#[derive(Drop)]
+pub(crate) struct Start {
+    /// What there is to say of it.
+    pub beginning: Beginning,
+    /// The session's first state.
+    pub state: State,
+}
+
+/// How a session goes on.
+#[derive(Clone, Copy)]
+pub(crate) enum Course {
+    /// The lines of the input are heard.
+    Hears,
+    /// A tree of so many nodes, from 1 to 10,000, is demonstrated, and no line is heard.
+    Plays { nodes: u32 },
+}
 
 /// What a session begins with.
-pub(crate) fn first_state(
-    asked: Asked<'_>,
-    program: Program,
-    replies: apd_answers::Answers,
-) -> State
+#[derive(Drop)]
+pub(crate) enum Opening {
+    /// There is no program, and the session ends.
+    Unloaded(Stop),
+    /// There is a program, which has left these operators, and the session ends all the same.
+    Closed {
+        ops: Ops,
+        beginning: Beginning,
+        stop: Stop,
+    },
+    /// There is a program, which has left these operators, and the session goes on.
+    Open {
+        ops: Ops,
+        start: Start,
+        course: Course,
+    },
+}
+
+/// The first state of a session.
+fn first_state(asked: Asked<'_>, program: Program, replies: Answers) -> State
     ensures { result ≡ first_state program (asked_options asked.entry) replies }
 {
     State {
@@ -44,115 +97,182 @@ pub(crate) fn first_state(
         strategy: asked.strategy,
         last: None,
         replies,
+        referee: Referee::Nobody,
         asked: 0,
     }
 }
 
-/// Says what there is to say before the first line, and hears the lines of the input.
-fn begin<S: Source, K: Sink>(
-    alloc: Global,
-    state: &mut State,
-    passed: &[Note],
-    called: &[Note],
-    statements: Option<u32>,
-    console: &mut Console,
-    input: &mut S,
-    out: &mut K,
-    log: &mut Log,
-) -> Result<Ending, Trouble>
-    requires ready { IsPrepared (length log.old.names) state.old }
-    requires warnings { called.now ≡ warnings_of state.old.program }
-    requires passed { NotesAreNamed (length log.old.names) passed.now }
-    requires called { NotesAreNamed (length log.old.names) called.now }
-    requires few { length log.old.names ≤ 1000000000 }
-    requires start { console.old ≡ fresh }
-    ensures { Converses (opening passed.now statements state.old)
-        (moment S.Source K.Sink console.old input.old log.old out.old)
-        (moment S.Source K.Sink console.new input.new log.new out.new) result }
+/// How a session goes on with what is debugged.
+fn course_of(subject: Subject<'_>) -> Course
+    ensures { result ≡ course_of (asked_subject subject.entry) }
 {
-    say_opening(alloc, &state.program, passed, called, statements, out, log)?;
-    converse(alloc, state, console, input, out, log)
-}
-
-/// Hears the lines of the input, with these replies known.
-fn meet<S: Source, K: Sink>(
-    alloc: Global,
-    state: &mut State,
-    passed: &[Note],
-    called: &[Note],
-    statements: Option<u32>,
-    input: &mut S,
-    out: &mut K,
-    log: &mut Log,
-) -> Status
-    requires empty { log.old.entries.list ≡ [] }
-    requires ready { IsPrepared (length log.old.names) state.old }
-    requires warnings { called.now ≡ warnings_of state.old.program }
-    requires passed { NotesAreNamed (length log.old.names) passed.now }
-    requires called { NotesAreNamed (length log.old.names) called.now }
-    requires few { length log.old.names ≤ 1000000000 }
-    ensures answers { Lasting log.new.names (λ names. (reader : Reader names) →
-        Answers (after_opening reader log.old.ops state.old passed.now statements)
-        (streams S.Source K.Sink input.old out.old)
-        (streams S.Source K.Sink input.new out.new) result log.new) }
-    ensures names { GrowsBy MAX_INPUT log.old.names log.new.names }
-    ensures limit { result ≡ Status.InputLimit →
-        TakesCount MAX_INPUT (S.left input.old) (S.left input.new) }
-    ensures read { result ≡ Status.ReadFault → Rose (S.faults input.old) (S.faults input.new) }
-    ensures write { result ≡ Status.WriteFault → Rose (K.faults out.old) (K.faults out.new) }
-{
-    let Ok(mut console) = Console::new(alloc) else {
-        return Status::Memory;
-    };
-    match begin(
-        alloc,
-        state,
-        passed,
-        called,
-        statements,
-        &mut console,
-        input,
-        out,
-        log,
-    ) {
-        Ok(ending) => status_after(ending),
-        Err(trouble) => status_of(trouble),
+    match subject {
+        Subject::File(_) => Course::Hears,
+        Subject::Tree(nodes) => Course::Plays { nodes },
     }
 }
 
-/// Makes what the session begins with, and hears the lines of the input.
-pub(crate) fn start<S: Source, K: Sink>(
+/// The text of what is debugged: of its file, or of its tree, for which nothing is loaded; or why there is none. The only error is
+/// want of memory.
+fn subject_text<F: Files>(
+    alloc: Global,
+    subject: Subject<'_>,
+    files: &mut F,
+) -> Result<Result<Text, Stop>, AllocError>
+    requires course { IsCourse (course_of (asked_subject subject)) }
+    ensures has { IfOk result (HasSubject (F.content files.old)
+        (Rose (F.faults files.old) (F.faults files.new)) (asked_subject subject.entry)) }
+    ensures size { IfOk result (λ r. IfOk r (λ text. length text ≤ MAX_FILE)) }
+    ensures stop { IfOk result (λ r. IfErr r (λ why. (n : ℕ) → IsStop n why)) }
+    ensures fault { IfOk result (λ r. IfErr r (λ why. why.status ≡ Status.ReadFault →
+        Rose (F.faults files.old) (F.faults files.new))) }
+    ensures same { F.content files.new ≡ F.content files.old }
+    ensures later { F.faults files.old ≤ F.faults files.new }
+{
+    match subject {
+        Subject::File(name) => load_file(alloc, name, files),
+        Subject::Tree(nodes) => Ok(Ok(tree_program(alloc, nodes)?)),
+    }
+}
+
+/// What a session with a program begins with: the replies of its oracle file are known, where the words name one. The only error is
+/// want of memory.
+fn open_program<F: Files>(
     alloc: Global,
     asked: Asked<'_>,
-    program: Program,
-    replies: apd_answers::Answers,
-    passed: &[Note],
-    called: &[Note],
-    statements: Option<u32>,
-    input: &mut S,
-    out: &mut K,
-    log: &mut Log,
-) -> Status
-    requires empty { log.old.entries.list ≡ [] }
-    requires ready { IsPrepared (length log.old.names)
-        (first_state program (asked_options asked) replies) }
-    requires warnings { called.now ≡ warnings_of program }
-    requires passed { NotesAreNamed (length log.old.names) passed.now }
-    requires called { NotesAreNamed (length log.old.names) called.now }
-    requires few { length log.old.names ≤ 1000000000 }
-    ensures answers { Lasting log.new.names (λ names. (reader : Reader names) →
-        Answers (after_opening reader log.old.ops
-        (first_state program (asked_options asked.entry) replies) passed.now statements)
-        (streams S.Source K.Sink input.old out.old)
-        (streams S.Source K.Sink input.new out.new) result log.new) }
-    ensures names { GrowsBy MAX_INPUT log.old.names log.new.names }
-    ensures limit { result ≡ Status.InputLimit →
-        TakesCount MAX_INPUT (S.left input.old) (S.left input.new) }
-    ensures read { result ≡ Status.ReadFault → Rose (S.faults input.old) (S.faults input.new) }
-    ensures write { result ≡ Status.WriteFault → Rose (K.faults out.old) (K.faults out.new) }
+    loaded: Loaded,
+    files: &mut F,
+    names: &mut Names,
+) -> Result<Opening, AllocError>
+    requires limits { AreLimits asked.budget asked.answers }
+    requires course { IsCourse (course_of (asked_subject asked.subject)) }
+    requires loaded { IsLoaded (length names.old) loaded }
+    requires standard { length standard_names ≤ length names.old }
+    requires room { length names.old + MAX_FILE < MOST_NAMES }
+    ensures grows { GrowsBy MAX_FILE names.old names.new }
+    ensures opens { IfOk result (OpensWith (F.content files.old)
+        (Rose (F.faults files.old) (F.faults files.new))
+        (asked_options asked.entry) loaded names.new) }
+    ensures ready { IfOk result (IsReadyOpening (length names.new)) }
+    ensures fault { IfOk result (λ o. stops_with o ≡ Some Status.ReadFault →
+        Rose (F.faults files.old) (F.faults files.new)) }
 {
-    let mut state = first_state(asked, program, replies);
-    meet(
-        alloc, &mut state, passed, called, statements, input, out, log,
-    )
+    let Loaded {
+        program,
+        ops,
+        passed,
+        warnings,
+    } = loaded;
+    let clauses = program.count();
+    match prepare(alloc, asked.oracle, files, &ops, names)? {
+        Prepared::Knows {
+            statements,
+            replies,
+        } => {
+            let course = course_of(asked.subject);
+            let beginning = Beginning {
+                clauses,
+                passed,
+                called: warnings,
+                statements,
+            };
+            let state = first_state(asked, program, replies);
+            let start = Start { beginning, state };
+            Ok(Opening::Open { ops, start, course })
+        }
+        Prepared::Refuses(stop) => {
+            let beginning = Beginning {
+                clauses,
+                passed,
+                called: warnings,
+                statements: None,
+            };
+            Ok(Opening::Closed {
+                ops,
+                beginning,
+                stop,
+            })
+        }
+    }
+}
+
+/// What a session begins with, by the text of what is debugged. The only error is want of memory.
+fn open_text<F: Files>(
+    alloc: Global,
+    asked: Asked<'_>,
+    text: &Text,
+    files: &mut F,
+    names: &mut Names,
+) -> Result<Opening, AllocError>
+    requires limits { AreLimits asked.budget asked.answers }
+    requires course { IsCourse (course_of (asked_subject asked.subject)) }
+    requires size { length text.now ≤ MAX_FILE }
+    requires names { names.old ≡ standard_names }
+    ensures grows { GrowsBy (MAX_FILE + MAX_FILE) names.old names.new }
+    ensures opens { IfOk result (OpensAfter (F.content files.old)
+        (Rose (F.faults files.old) (F.faults files.new))
+        (asked_options asked.entry) text.now names.new) }
+    ensures ready { IfOk result (IsReadyOpening (length names.new)) }
+    ensures fault { IfOk result (λ o. stops_with o ≡ Some Status.ReadFault →
+        Rose (F.faults files.old) (F.faults files.new)) }
+{
+    match load(alloc, text.bytes(), names) {
+        Ok(loaded) => open_program(alloc, asked, loaded, files, names),
+        Err(LoadText::Refused { line, cause }) => Ok(Opening::Unloaded(Stop {
+            said: Entry::ProgramRefused { line, cause },
+            status: Status::Program,
+        })),
+        Err(LoadText::Memory) => Err(AllocError),
+    }
+}
+
+/// What a session begins with, by what the words ask for. The only error is want of memory.
+fn open_asked<F: Files>(
+    alloc: Global,
+    asked: Asked<'_>,
+    files: &mut F,
+    names: &mut Names,
+) -> Result<Opening, AllocError>
+    requires limits { AreLimits asked.budget asked.answers }
+    requires alone { let options = asked_options asked in
+        StandsAlone options.subject options.oracle }
+    requires names { names.old ≡ standard_names }
+    ensures grows { GrowsBy (MAX_FILE + MAX_FILE) names.old names.new }
+    ensures opens { IfOk result (Opens (F.content files.old)
+        (Rose (F.faults files.old) (F.faults files.new))
+        (Some (asked_options asked.entry)) names.new) }
+    ensures ready { IfOk result (IsReadyOpening (length names.new)) }
+    ensures fault { IfOk result (λ o. stops_with o ≡ Some Status.ReadFault →
+        Rose (F.faults files.old) (F.faults files.new)) }
+{
+    match subject_text(alloc, asked.subject, files)? {
+        Ok(text) => open_text(alloc, asked, &text, files, names),
+        Err(stop) => Ok(Opening::Unloaded(stop)),
+    }
+}
+
+/// What a session begins with: the words are read, the program is loaded, or that of a tree, and the replies of an oracle file are known,
+/// where the words name one. Nothing is said, and no byte of the input is taken. The only error is want of memory.
+pub(crate) fn open_session<F: Files>(
+    alloc: Global,
+    words: &[String],
+    files: &mut F,
+    names: &mut Names,
+) -> Result<Opening, AllocError>
+    requires names { names.old ≡ standard_names }
+    ensures grows { GrowsBy (MAX_FILE + MAX_FILE) names.old names.new }
+    ensures opens { IfOk result (Opens (F.content files.old)
+        (Rose (F.faults files.old) (F.faults files.new))
+        (options_of (bytes_of words.now)) names.new) }
+    ensures ready { IfOk result (IsReadyOpening (length names.new)) }
+    ensures fault { IfOk result (λ o. stops_with o ≡ Some Status.ReadFault →
+        Rose (F.faults files.old) (F.faults files.new)) }
+{
+    match read_words(alloc, words)? {
+        Some(asked) => open_asked(alloc, asked, files, names),
+        None => Ok(Opening::Unloaded(Stop {
+            said: Entry::UsageRefused,
+            status: Status::Usage,
+        })),
+    }
 }

@@ -1,15 +1,17 @@
-//! What is known before the first line: the replies of an oracle file.
+//! What is known before the first line: the replies of an oracle file, and the predicates that it trusts.
 
-ghost use Rattle.std.specs.Prelude.{◌≡◌, ◌+◌, ◌<◌, ◌≤◌, length, option_map, IfOk};
+ghost use Rattle.std.specs.Prelude.{◌≡◌, ◌≢◌, ◌+◌, ◌<◌, ◌≤◌, length, option_map, Some, IfOk};
 ghost use Rattle.apd_base.specs.declared.limits.TheConstants.{MAX_FILE, MOST_NAMES};
 ghost use Rattle.apd_io.specs.Outside.{Rose};
-ghost use Rattle.apd_session.specs.Preparing.{AreReady, Prepares, States};
+ghost use Rattle.apd_session.specs.Preparing.{AreReady, Prepares, States, refuses_with};
 ghost use Rattle.apd_term.specs.Growth.{GrowsBy};
 
+use crate::files::load_file;
+use crate::opening::Stop;
 use crate::status::Status;
 use apd_answers::Answers;
 use apd_base::Text;
-use apd_io::{Files, LoadFault};
+use apd_io::Files;
 use apd_known::{OracleText, Stated, oracle_file};
 use apd_ops::Ops;
 use apd_term::Names;
@@ -19,29 +21,28 @@ use std::alloc::{AllocError, Global};
 /// What is known before the first line.
 #[derive(Drop)]
 pub(crate) enum Prepared {
-    /// These replies, and how many statements the oracle file has, where there is one.
+    /// These replies and this trust, and how many statements the oracle file has, where there is one.
     Knows {
         statements: Option<u32>,
         replies: Answers,
     },
     /// Nothing: this is said, and the session ends with this status.
-    Refuses {
-        entry: Entry,
-        status: Status,
-    },
+    Refuses(Stop),
 }
 
-/// What the text of an oracle file makes known.
+/// What the text of an oracle file makes known. The only error is want of memory.
 fn state(alloc: Global, text: &Text, ops: &Ops, names: &mut Names) -> Result<Prepared, AllocError>
     requires size { length text.now ≤ MAX_FILE }
     requires room { length names.old + MAX_FILE < MOST_NAMES }
     ensures grows { GrowsBy MAX_FILE names.old names.new }
     ensures states { IfOk result (States ops.now text.now names.new) }
-    ensures ready { IfOk result (AreReady (length names.new) ⊥) }
+    ensures ready { IfOk result (AreReady (length names.new)) }
+    ensures fault { IfOk result (λ x. refuses_with x ≢ Some Status.ReadFault) }
 {
     match oracle_file(alloc, text.bytes(), ops, names) {
         Ok(
             Stated {
+                form: _,
                 answers,
                 statements,
             },
@@ -49,10 +50,10 @@ fn state(alloc: Global, text: &Text, ops: &Ops, names: &mut Names) -> Result<Pre
             statements: Some(statements),
             replies: answers,
         }),
-        Err(OracleText::Refused { line, cause }) => Ok(Prepared::Refuses {
-            entry: Entry::OracleRefused { line, cause },
+        Err(OracleText::Refused { line, cause }) => Ok(Prepared::Refuses(Stop {
+            said: Entry::OracleRefused { line, cause },
             status: Status::OracleText,
-        }),
+        })),
         Err(OracleText::Memory) => Err(AllocError),
     }
 }
@@ -70,8 +71,9 @@ pub(crate) fn prepare<F: Files>(
     ensures prepares { IfOk result (Prepares (F.content files.old)
         (Rose (F.faults files.old) (F.faults files.new)) ops.now names.new
         (option_map (λ s. s.now) oracle.entry)) }
-    ensures ready { IfOk result (AreReady (length names.new)
-        (Rose (F.faults files.old) (F.faults files.new))) }
+    ensures ready { IfOk result (AreReady (length names.new)) }
+    ensures fault { IfOk result (λ x. refuses_with x ≡ Some Status.ReadFault →
+        Rose (F.faults files.old) (F.faults files.new)) }
 {
     let Some(name) = oracle else {
         return Ok(Prepared::Knows {
@@ -79,16 +81,8 @@ pub(crate) fn prepare<F: Files>(
             replies: Answers::new(alloc),
         });
     };
-    match files.load(alloc, name) {
+    match load_file(alloc, name, files)? {
         Ok(text) => state(alloc, &text, ops, names),
-        Err(LoadFault::Failed) => Ok(Prepared::Refuses {
-            entry: Entry::InputFault,
-            status: Status::ReadFault,
-        }),
-        Err(LoadFault::TooLong(length)) => Ok(Prepared::Refuses {
-            entry: Entry::FileTooLong { length },
-            status: Status::FileTooLong,
-        }),
-        Err(LoadFault::Memory) => Err(AllocError),
+        Err(stop) => Ok(Prepared::Refuses(stop)),
     }
 }

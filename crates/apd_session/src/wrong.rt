@@ -1,6 +1,6 @@
 //! The diagnosis of a wrong answer, with questions to the user.
 
-ghost use Rattle.std.specs.Prelude.{◌≡◌, length};
+ghost use Rattle.std.specs.Prelude.{◌≡◌, ◌≤◌, length};
 ghost use Rattle.apd_commands.specs.declared.commands.Command.TheVariants as command;
 ghost use Rattle.apd_console.specs.Console.{IsKept};
 ghost use Rattle.apd_debug.specs.NamedStates.{AreReplies};
@@ -15,8 +15,8 @@ ghost use Rattle.apd_session.specs.Turns.{CanConverse, Leads, obeying};
 ghost use Rattle.apd_talk.specs.Moment.{moment};
 ghost use Rattle.apd_wrong.specs.Wrong.{wrong};
 
-use crate::diagnosing::{conclude, keep_wrong, refuse};
-use apd_answers::{Answers, AskEnd, Finding};
+use crate::diagnosing::{conclude, has_few_entries, keep_wrong, refuse};
+use apd_answers::{Answers, AskEnd, Finding, Replier};
 use apd_console::Console;
 use apd_divide::Strategy;
 use apd_io::{Sink, Source};
@@ -32,14 +32,14 @@ use apd_wrong::diagnose_wrong;
 use std::alloc::Global;
 
 /// Diagnoses an exit whose label isn't true, over a dialogue.
-fn diagnose_over<S: Source, K: Sink>(
+fn diagnose_over<S: Source, K: Sink, R: Replier>(
     alloc: Global,
     history: &Record,
     exit: PointId,
     label: &Flat,
     strategy: Strategy,
     replies: &mut Answers,
-    dialogue: &mut Dialogue<S, K>,
+    dialogue: &mut Dialogue<S, K, R>,
 ) -> Result<Finding, AskEnd>
     requires sound { IsKept dialogue.old.console.now }
     requires replies { AreReplies (length dialogue.old.log.now.names) replies.old }
@@ -50,7 +50,10 @@ fn diagnose_over<S: Source, K: Sink>(
     ensures source { dialogue.new.source.ghost_name ≡ dialogue.old.source.ghost_name }
     ensures sink { dialogue.new.sink.ghost_name ≡ dialogue.old.sink.ghost_name }
     ensures log { dialogue.new.log.ghost_name ≡ dialogue.old.log.ghost_name }
-    ensures diagnoses { Diagnoses by_wrong (wrong strategy)
+    ensures replier { (dialogue.new.replier.ghost_name ≡ dialogue.old.replier.ghost_name)
+        × (dialogue.new.replier.now ≡ dialogue.old.replier.now) }
+    ensures diagnoses { Diagnoses by_wrong (R.replies dialogue.old.replier.now)
+        (wrong strategy)
         (tree history.now exit.0 label.now)
         (answered replies.old dialogue.old.asked) (answered replies.new dialogue.new.asked)
         (moment S.Source K.Sink dialogue.old.console.now dialogue.old.source.now
@@ -58,11 +61,13 @@ fn diagnose_over<S: Source, K: Sink>(
         (moment S.Source K.Sink dialogue.new.console.now dialogue.new.source.now
         dialogue.new.log.now dialogue.new.sink.now) result }
 {
-    diagnose_wrong(alloc, history, exit, label, strategy, replies, dialogue)
+    let answer = diagnose_wrong(alloc, history, exit, label, strategy, replies, dialogue);
+    has_few_entries(dialogue.log);
+    answer
 }
 
-/// Diagnoses an exit whose label isn't true, with questions to the user.
-fn diagnose<S: Source, K: Sink>(
+/// Diagnoses an exit whose label isn't true, with questions to the user where the referee has no reply.
+fn diagnose<S: Source, K: Sink, R: Replier>(
     alloc: Global,
     history: &Record,
     exit: PointId,
@@ -70,6 +75,7 @@ fn diagnose<S: Source, K: Sink>(
     strategy: Strategy,
     replies: &mut Answers,
     asked: &mut u64,
+    referee: &mut R,
     console: &mut Console,
     input: &mut S,
     out: &mut K,
@@ -77,17 +83,20 @@ fn diagnose<S: Source, K: Sink>(
 ) -> Result<Finding, AskEnd>
     requires hear { CanHear (moment S.Source K.Sink console.old input.old log.old out.old) }
     requires sound { IsKept console.old }
+    requires referee { R.names referee.old ≤ length log.old.names }
     requires replies { AreReplies (length log.old.names) replies.old }
     requires labelled { IsLabelled history.now exit.0 label.now }
     requires symptom { SaysNo replies.old label.now }
     requires named { TreeIsNamed (length log.old.names) (tree history.now exit.0 label.now) }
-    ensures { Diagnoses by_wrong (wrong strategy)
+    ensures referee { referee.new ≡ referee.old }
+    ensures diagnoses { Diagnoses by_wrong (R.replies referee.old)
+        (wrong strategy)
         (tree history.now exit.0 label.now)
         (answered replies.old asked.old) (answered replies.new asked.new)
         (moment S.Source K.Sink console.old input.old log.old out.old)
         (moment S.Source K.Sink console.new input.new log.new out.new) result }
 {
-    let mut dialogue = Dialogue::new(alloc, *asked, console, input, out, log);
+    let mut dialogue = Dialogue::new(alloc, *asked, console, input, out, log, referee);
     let answer = diagnose_over(
         alloc,
         history,
@@ -139,6 +148,7 @@ pub(crate) fn wrong<S: Source, K: Sink>(
         state.strategy,
         &mut state.replies,
         &mut state.asked,
+        &mut state.referee,
         console,
         input,
         out,

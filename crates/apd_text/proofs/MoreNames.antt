@@ -43,7 +43,7 @@ use Rattle.apd_text.specs.Lines.{goal_text, goals_of, head_text, elements, eleme
 use Rattle.apd_text.specs.declared.entry.Refusal.{Refusal}
 use Rattle.apd_text.specs.declared.entry.Refusal.TheVariants as refusal
 use Rattle.apd_text.specs.declared.entry.Entry.{Entry}
-use Rattle.apd_text.specs.declared.entry.Entry.TheVariants.{PassedOver, Warning, Loaded, OracleLoaded, TraceSet, Run, Symptom, Question as Asks, Replied, BadReply, Found, AllDescend, Unanswered, Refused, Demo, UsageRefused, ProgramRefused, OracleRefused, FileTooLong, InputFault, InputOver}
+use Rattle.apd_text.specs.declared.entry.Entry.TheVariants.{PassedOver, Warning, Loaded, OracleLoaded, ReferenceLoaded, TraceSet, Known, Run, Symptom, Question as Asks, Replied, BadReply, Found, AllDescend, Unanswered, Refused, Demo, UsageRefused, ProgramRefused, OracleRefused, ReferenceRefused, FileTooLong, InputFault, InputOver}
 
 all_written-more : (ops : Table) (names others : List (List ℕ)) (ts : List Term) → AllNamed (length names) ts → map (goal_text ops (names ++ others)) ts ≡ map (goal_text ops names) ts
 all_written-more ops names others [] named = refl
@@ -132,15 +132,15 @@ conjunction_named : (n : ℕ) (g : Term) (gs : List Term) → NECK.0 < n → IsN
 conjunction_named n g [] neck first others = first
 conjunction_named n g (h ∷ gs) neck first others = pair_named n COMMA g (conjunction h gs) (omega (arith, neck)) first (conjunction_named n h gs neck others.0 others.1)
 
-clause_named : (n : ℕ) (head : Term) (body : List Term) → NECK.0 < n → IsNamed n head → AllNamed n body → IsNamed n (with_body head body)
+pub clause_named : (n : ℕ) (head : Term) (body : List Term) → NECK.0 < n → IsNamed n head → AllNamed n body → IsNamed n (with_body head body)
 clause_named n head [] neck first others = first
 clause_named n head (g ∷ gs) neck first others = pair_named n NECK head (conjunction g gs) neck first (conjunction_named n g gs neck others.0 others.1)
 
-list_named : (n : ℕ) (ts : List Term) → NECK.0 < n → AllNamed n ts → IsNamed n (list_term ts)
+pub list_named : (n : ℕ) (ts : List Term) → NECK.0 < n → AllNamed n ts → IsNamed n (list_term ts)
 list_named n [] neck named = (omega (arith, neck), tt)
 list_named n (t ∷ ts) neck named = pair_named n CELL t (list_term ts) (omega (arith, neck)) named.0 (list_named n ts neck named.1)
 
-neck_named : (n : ℕ) → HasStandardNames n → NECK.0 < n
+pub neck_named : (n : ℕ) → HasStandardNames n → NECK.0 < n
 neck_named n standard = omega (arith, standard, length-standard_names)
 
 atom_text-more : (ops : Table) (names others : List (List ℕ)) (a : Term) → IsNamed (length names) a → atom_text ops (names ++ others) a ≡ atom_text ops names a
@@ -205,11 +205,13 @@ text_of-more ops names others (PassedOver line pred) named = rw (text_of_name-ap
 text_of-more ops names others (Warning line pred) named = rw (text_of_name-append names others pred.name named) refl
 text_of-more ops names others (Loaded clauses) named = refl
 text_of-more ops names others (OracleLoaded statements) named = refl
+text_of-more ops names others (ReferenceLoaded clauses) named = refl
 text_of-more ops names others (TraceSet filter) named = rw (written-more ops names others (filter_term filter) 999 (filter_named (length names) filter named.0 named.1)) refl
+text_of-more ops names others (Known text) named = refl
 text_of-more ops names others (Run query budget answers filter end) named = refl
 text_of-more ops names others (Symptom what) named = rw (told_text-more ops names others what named) refl
 text_of-more ops names others (Asks number asked) named = rw (asked_text-more ops names others asked.question named.0 named.1) refl
-text_of-more ops names others (Replied reply left) named = rw (reply_text-more ops names others reply named.0 named.1) refl
+text_of-more ops names others (Replied reply left by_reference) named = rw (reply_text-more ops names others reply named.0 named.1) refl
 text_of-more ops names others (BadReply reason) named = refl
 text_of-more ops names others (Found finding line) named = rw (finding_text-more ops names others finding line named.0 named.1) refl
 text_of-more ops names others (AllDescend calls) named = refl
@@ -219,6 +221,7 @@ text_of-more ops names others (Demo nodes questions clause) named = refl
 text_of-more ops names others UsageRefused named = refl
 text_of-more ops names others (ProgramRefused line cause) named = rw (cause_text-more names others cause named) refl
 text_of-more ops names others (OracleRefused line cause) named = refl
+text_of-more ops names others (ReferenceRefused line cause) named = rw (cause_text-more names others cause named) refl
 text_of-more ops names others (FileTooLong n) named = refl
 text_of-more ops names others InputFault named = refl
 text_of-more ops names others InputOver named = refl

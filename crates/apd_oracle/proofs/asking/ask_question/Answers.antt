@@ -1,5 +1,5 @@
 use Rattle.std.proofs.Common.{◌≡◌, ap, refl}
-use Rattle.std.proofs.lemmas.Result.{IfOk-weaker, err_from_is_err_and}
+use Rattle.std.proofs.lemmas.Result.{err_from_is_err_and}
 use Rattle.apd_answers.specs.declared.question.Asked.{Asked}
 use Rattle.apd_answers.specs.declared.question.Question.{Question}
 use Rattle.apd_talk.specs.Moment.{moment}
@@ -14,7 +14,7 @@ copied asked q is = ap (λ (q : Question). record { question = q; suspects = ask
 pub returns-in_err-copy-clause-calls : goal.returns-in_err-copy-clause-calls
 returns-in_err-copy-clause-calls g c =
     let p = err_from_is_err_and c.from_residual.result c.from_residual.ensures.1 in
-    rw (p.1, p.2) (unasked c.args.asked.now c.args.count (moment g.S.Source g.K.Sink c.args.console.now c.args.source.now c.args.log.now c.args.sink.now) c.keeps_its_limits.ensures)
+    rw (p.1, p.2) (unasked (g.R.Replier.replies c.args.replier.now) c.args.by_reference.now c.args.asked.now c.args.count (moment g.S.Source g.K.Sink c.args.console.now c.args.source.now c.args.log.now c.args.sink.now) c.keeps_its_limits.ensures)
 
 pub returns-in_err-copy-clause-faults : goal.returns-in_err-copy-clause-faults
 returns-in_err-copy-clause-faults g c =
@@ -23,21 +23,21 @@ returns-in_err-copy-clause-faults g c =
 
 pub returns-in-Ok-clause-calls : goal.returns-in-Ok-clause-calls
 returns-in-Ok-clause-calls g c =
-    asked_heard c.args.count c.saturating_add.result c.saturating_add.ensures (record { question = c.in_ok-copy.field-0; suspects = c.args.asked.now.suspects }) c.args.asked.now (copied c.args.asked.now c.in_ok-copy.field-0 c.in_ok-copy.ensures)
-    (moment g.S.Source g.K.Sink c.args.console.now c.args.source.now c.args.log.now c.args.sink.now) (spoken g.K.Sink c.say_kept.new.log c.say_kept.new.out) c.keeps_its_limits.ensures c.requires.standard c.say_kept.ensures.names c.say_kept.ensures.ops c.say_kept.ensures.place tt c.in-Ok.ensures.says
-    (moment g.S.Source g.K.Sink c.hear_reply.new.console c.hear_reply.new.source c.hear_reply.new.log c.hear_reply.new.sink) c.hear_reply.result c.hear_reply.ensures.heard c.hear_reply.ensures.reply
+    asked_heard (g.R.Replier.replies c.args.replier.now) c.args.by_reference.now c.args.count c.saturating_add.result c.saturating_add.ensures (record { question = c.in_ok-copy.field-0; suspects = c.args.asked.now.suspects }) c.args.asked.now (copied c.args.asked.now c.in_ok-copy.field-0 c.in_ok-copy.ensures)
+    (moment g.S.Source g.K.Sink c.args.console.now c.args.source.now c.args.log.now c.args.sink.now) (spoken g.K.Sink c.say_kept.new.log c.say_kept.new.out) c.keeps_its_limits.ensures c.requires.hear.standard c.say_kept.ensures.names c.say_kept.ensures.ops c.say_kept.ensures.place tt c.in-Ok.ensures.says
+    (moment g.S.Source g.K.Sink c.answer_question.new.console c.answer_question.new.source c.answer_question.new.log c.answer_question.new.sink) c.answer_question.result c.answer_question.ensures.heard c.answer_question.ensures.reply
 
 pub returns-in-Ok-clause-faults : goal.returns-in-Ok-clause-faults
 returns-in-Ok-clause-faults g c =
-    asked_faults (moment g.S.Source g.K.Sink c.args.console.now c.args.source.now c.args.log.now c.args.sink.now) (spoken g.K.Sink c.say_kept.new.log c.say_kept.new.out) (moment g.S.Source g.K.Sink c.hear_reply.new.console c.hear_reply.new.source c.hear_reply.new.log c.hear_reply.new.sink) c.hear_reply.result c.in-Ok.ensures.cause c.hear_reply.ensures.heard.faults
+    asked_faults (moment g.S.Source g.K.Sink c.args.console.now c.args.source.now c.args.log.now c.args.sink.now) (spoken g.K.Sink c.say_kept.new.log c.say_kept.new.out) (moment g.S.Source g.K.Sink c.answer_question.new.console c.answer_question.new.source c.answer_question.new.log c.answer_question.new.sink) c.answer_question.result c.in-Ok.ensures.cause c.answer_question.ensures.heard.faults
 
 pub returns-in-Ok-clause-fits : goal.returns-in-Ok-clause-fits
-returns-in-Ok-clause-fits g c = IfOk-weaker c.hear_reply.result _ _ (λ r is. is.0) c.hear_reply.ensures.reply
+returns-in-Ok-clause-fits g c = c.answer_question.ensures.fits
 
 pub returns-in-Err-clause-calls : goal.returns-in-Err-clause-calls
 returns-in-Err-clause-calls g c = rw c.end_of_trouble.ensures
-    (asked_front c.args.count c.saturating_add.result c.saturating_add.ensures (record { question = c.in_ok-copy.field-0; suspects = c.args.asked.now.suspects }) c.args.asked.now (copied c.args.asked.now c.in_ok-copy.field-0 c.in_ok-copy.ensures)
-    (moment g.S.Source g.K.Sink c.args.console.now c.args.source.now c.args.log.now c.args.sink.now) (spoken g.K.Sink c.say_kept.new.log c.say_kept.new.out) c.keeps_its_limits.ensures c.requires.standard c.say_kept.ensures.names c.say_kept.ensures.ops c.say_kept.ensures.place c.in-Err.trouble c.in-Err.ensures.says)
+    (asked_front (g.R.Replier.replies c.args.replier.now) c.args.by_reference.now c.args.count c.saturating_add.result c.saturating_add.ensures (record { question = c.in_ok-copy.field-0; suspects = c.args.asked.now.suspects }) c.args.asked.now (copied c.args.asked.now c.in_ok-copy.field-0 c.in_ok-copy.ensures)
+    (moment g.S.Source g.K.Sink c.args.console.now c.args.source.now c.args.log.now c.args.sink.now) (spoken g.K.Sink c.say_kept.new.log c.say_kept.new.out) c.keeps_its_limits.ensures c.requires.hear.standard c.say_kept.ensures.names c.say_kept.ensures.ops c.say_kept.ensures.place c.in-Err.trouble c.in-Err.ensures.says)
 
 pub returns-in-Err-clause-faults : goal.returns-in-Err-clause-faults
 returns-in-Err-clause-faults g c = rw c.end_of_trouble.ensures (front_faults (moment g.S.Source g.K.Sink c.args.console.now c.args.source.now c.args.log.now c.args.sink.now) (spoken g.K.Sink c.say_kept.new.log c.say_kept.new.out) c.in-Err.trouble c.in-Err.ensures.cause)

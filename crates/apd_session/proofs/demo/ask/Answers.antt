@@ -1,6 +1,6 @@
-use Rattle.std.proofs.Common.{refl, ap, length, subst, sym, []}
+use Rattle.std.proofs.Common.{ap, length, subst, sym, []}
 use Rattle.std.proofs.lemmas.Result.{err_from_is_err_and}
-use Rattle.std.specs.Prelude.{Err, Ok}
+use Rattle.std.specs.Prelude.{Ok}
 use Rattle.apd_talk.specs.Speech.{Says, Speech, spoken}
 use Rattle.apd_talk.proofs.Speaking.{Says-as, Says-less, Says-more, Says-nothing}
 use Rattle.apd_query.specs.declared.state.State.{State}
@@ -18,7 +18,7 @@ returns-in_err-answer-in-Query g c =
 
 pub blame-requires-clause-ready : goal.blame-requires-clause-ready
 blame-requires-clause-ready g c =
-    rw c.in_ok-answer-in-Query.ensures.says.names (prepared_in (length c.args.log.now.names) c.args.state.now c.answer.new.state (ap (λ (s : State). s.replies) c.in_ok-answer-in-Query.ensures.becomes) c.requires.ready c.in_ok-answer-in-Query.ensures.ready)
+    rw c.in_ok-answer-in-Query.ensures.says.names (prepared_in (length c.args.log.now.names) c.args.state.now c.answer.new.state (ap (λ (s : State). s.replies) c.in_ok-answer-in-Query.ensures.becomes) (ap (λ (s : State). s.referee) c.in_ok-answer-in-Query.ensures.becomes) c.requires.ready c.in_ok-answer-in-Query.ensures.ready)
 
 pub returns-in-Query : goal.returns-in-Query
 returns-in-Query g c =

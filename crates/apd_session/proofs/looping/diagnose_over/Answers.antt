@@ -11,18 +11,22 @@ use Rattle.apd_session.proofs.Dialogues.{diagnoses, hears_loop}
 use Rattle.apd_session.proofs.looping.diagnose_over.Goals as goal
 
 pub returns-clause-console : goal.returns-clause-console
-returns-clause-console g c = (keeps_dialogue g.S.Source g.K.Sink (loop c.args.history.now c.args.calls.now c.args.strategy) (at c.args.replies.now (loop_start c.args.history.now c.args.calls.now) c.args.dialogue.now) c.diagnose_loop.new.answers c.diagnose_loop.new.oracle c.diagnose_loop.result c.diagnose_loop.ensures.reached).same.console
+returns-clause-console g c = (keeps_dialogue g.S.Source g.K.Sink g.R.Replier (loop c.args.history.now c.args.calls.now c.args.strategy) (at c.args.replies.now (loop_start c.args.history.now c.args.calls.now) c.args.dialogue.now) c.diagnose_loop-answer.new.answers c.diagnose_loop-answer.new.oracle c.diagnose_loop-answer.result c.diagnose_loop-answer.ensures.reached).same.console
 
 pub returns-clause-source : goal.returns-clause-source
-returns-clause-source g c = (keeps_dialogue g.S.Source g.K.Sink (loop c.args.history.now c.args.calls.now c.args.strategy) (at c.args.replies.now (loop_start c.args.history.now c.args.calls.now) c.args.dialogue.now) c.diagnose_loop.new.answers c.diagnose_loop.new.oracle c.diagnose_loop.result c.diagnose_loop.ensures.reached).same.source
+returns-clause-source g c = (keeps_dialogue g.S.Source g.K.Sink g.R.Replier (loop c.args.history.now c.args.calls.now c.args.strategy) (at c.args.replies.now (loop_start c.args.history.now c.args.calls.now) c.args.dialogue.now) c.diagnose_loop-answer.new.answers c.diagnose_loop-answer.new.oracle c.diagnose_loop-answer.result c.diagnose_loop-answer.ensures.reached).same.source
 
 pub returns-clause-sink : goal.returns-clause-sink
-returns-clause-sink g c = (keeps_dialogue g.S.Source g.K.Sink (loop c.args.history.now c.args.calls.now c.args.strategy) (at c.args.replies.now (loop_start c.args.history.now c.args.calls.now) c.args.dialogue.now) c.diagnose_loop.new.answers c.diagnose_loop.new.oracle c.diagnose_loop.result c.diagnose_loop.ensures.reached).same.sink
+returns-clause-sink g c = (keeps_dialogue g.S.Source g.K.Sink g.R.Replier (loop c.args.history.now c.args.calls.now c.args.strategy) (at c.args.replies.now (loop_start c.args.history.now c.args.calls.now) c.args.dialogue.now) c.diagnose_loop-answer.new.answers c.diagnose_loop-answer.new.oracle c.diagnose_loop-answer.result c.diagnose_loop-answer.ensures.reached).same.sink
 
 pub returns-clause-log : goal.returns-clause-log
-returns-clause-log g c = (keeps_dialogue g.S.Source g.K.Sink (loop c.args.history.now c.args.calls.now c.args.strategy) (at c.args.replies.now (loop_start c.args.history.now c.args.calls.now) c.args.dialogue.now) c.diagnose_loop.new.answers c.diagnose_loop.new.oracle c.diagnose_loop.result c.diagnose_loop.ensures.reached).same.log
+returns-clause-log g c = (keeps_dialogue g.S.Source g.K.Sink g.R.Replier (loop c.args.history.now c.args.calls.now c.args.strategy) (at c.args.replies.now (loop_start c.args.history.now c.args.calls.now) c.args.dialogue.now) c.diagnose_loop-answer.new.answers c.diagnose_loop-answer.new.oracle c.diagnose_loop-answer.result c.diagnose_loop-answer.ensures.reached).same.log
+
+pub returns-clause-replier : goal.returns-clause-replier
+returns-clause-replier g c =
+    let kept = (keeps_dialogue g.S.Source g.K.Sink g.R.Replier (loop c.args.history.now c.args.calls.now c.args.strategy) (at c.args.replies.now (loop_start c.args.history.now c.args.calls.now) c.args.dialogue.now) c.diagnose_loop-answer.new.answers c.diagnose_loop-answer.new.oracle c.diagnose_loop-answer.result c.diagnose_loop-answer.ensures.reached) in (kept.same.replier, kept.replier)
 
 pub returns-clause-diagnoses : goal.returns-clause-diagnoses
 returns-clause-diagnoses g c =
-    diagnoses by_loop hears_loop (loop c.args.history.now c.args.calls.now c.args.strategy) (IsKnownLoop c.args.history.now) (λ s. loop-keeps c.args.history.now c.args.calls.now c.args.strategy (line_found s.program) (length (chain (history_of s.last)))) g.S.Source g.K.Sink (loop_start c.args.history.now c.args.calls.now) c.args.replies.now c.diagnose_loop.new.answers c.args.dialogue.now c.diagnose_loop.new.oracle
-    c.diagnose_loop.result c.diagnose_loop.ensures.reached (record { standard = c.args.dialogue.now.standard; history = c.requires.named; state = start-named (length c.args.dialogue.now.log.now.names) c.args.history.now c.args.calls.now }) c.requires.replies c.requires.sound (loop_entry (λ f. 0) 0) (loop-keeps c.args.history.now c.args.calls.now c.args.strategy (λ f. 0) 0)
+    diagnoses by_loop hears_loop (loop c.args.history.now c.args.calls.now c.args.strategy) (IsKnownLoop c.args.history.now) (λ s. loop-keeps c.args.history.now c.args.calls.now c.args.strategy (line_found s.program) (length (chain (history_of s.last)))) g.S.Source g.K.Sink g.R.Replier (loop_start c.args.history.now c.args.calls.now) c.args.replies.now c.diagnose_loop-answer.new.answers c.args.dialogue.now c.diagnose_loop-answer.new.oracle
+    c.diagnose_loop-answer.result c.diagnose_loop-answer.ensures.reached c.has_few_entries.ensures (record { standard = c.args.dialogue.now.standard; history = c.requires.named; state = start-named (length c.args.dialogue.now.log.now.names) c.args.history.now c.args.calls.now }) c.requires.replies c.requires.sound (loop_entry (λ f. 0) 0) (loop-keeps c.args.history.now c.args.calls.now c.args.strategy (λ f. 0) 0)

@@ -69,7 +69,10 @@ conclude_loop-requires-clause-named g c =
     let calls = sym (rw c.in-Ok.is at c.in_ok-calls.ensures.chain) in
     let chained = chain_stopped c.in-Some.run'.history c.in-Some.run'.end c.in-Ok.calls calls in
     let count = ap length (run_calls c.args.state.now c.in-Some.run' c.in-Ok.calls c.in-Some.is chained.0) ∙ sym c.call_count-count.ensures in
-    rw count at (c.diagnose-answer.ensures.named c.args.state.now)
+    rw count at (c.diagnose-answer.ensures.diagnoses.named c.args.state.now)
+
+pub diagnose-answer-requires-clause-referee : goal.diagnose-answer-requires-clause-referee
+diagnose-answer-requires-clause-referee g c = rw c.in_ok-keep_symptom.ensures.says.names c.requires.ready.referee
 
 pub returns : goal.returns
 returns g c =
@@ -77,12 +80,13 @@ returns g c =
     let chained = chain_stopped c.in-Some.run'.history c.in-Some.run'.end c.in-Ok.calls calls in
     let same = run_calls c.args.state.now c.in-Some.run' c.in-Ok.calls c.in-Some.is chained.0 in
     let count = ap length same ∙ sym c.call_count-count.ensures in
-    symptom_leads by_loop c.args.state.now command.Loop (NoEnd (length c.in-Ok.calls)) (loop_start c.in-Some.run'.history c.in-Ok.calls) (λ ops names. loop_begins ops names c.args.state.now c.in-Some.run' c.in-Ok.calls c.in-Some.is calls)
+    rw c.diagnose-answer.ensures.referee
+    (symptom_leads by_loop c.args.state.now command.Loop (NoEnd (length c.in-Ok.calls)) (loop_start c.in-Some.run'.history c.in-Ok.calls) (λ ops names. loop_begins ops names c.args.state.now c.in-Some.run' c.in-Ok.calls c.in-Some.is calls)
     (moment g.S.Source g.K.Sink c.args.console.now c.args.input.now c.args.log.now c.args.out.now) (spoken g.K.Sink c.keep_symptom.new.log c.keep_symptom.new.out) c.requires.sound
     (loop c.in-Some.run'.history c.in-Ok.calls c.args.state.now.strategy) (loop_this c.args.state.now c.in-Some.run' c.in-Ok.calls c.in-Some.is chained.0)
     _ (moment g.S.Source g.K.Sink c.diagnose-answer.new.console c.diagnose-answer.new.input c.diagnose-answer.new.log c.diagnose-answer.new.out) (spoken g.K.Sink c.conclude_loop.new.log c.conclude_loop.new.out)
     (answered c.diagnose-answer.new.replies c.diagnose-answer.new.asked) c.diagnose-answer.result c.conclude_loop.result (rw c.call_count-count.ensures at c.in_ok-keep_symptom.ensures.says)
-    (rw c.in_ok-keep_symptom.ensures.replies at c.diagnose-answer.ensures) (rw (← count) at c.conclude_loop.ensures) c.requires.ready.ready
+    (rw c.in_ok-keep_symptom.ensures.replies at c.diagnose-answer.ensures.diagnoses) (rw (← count) at c.conclude_loop.ensures) c.requires.ready)
 
 pub refuse-requires-in-Err : goal.refuse-requires-in-Err
 refuse-requires-in-Err g c = rw c.in-Err.is at (c.in_ok-calls.ensures.named (length c.args.log.now.names))

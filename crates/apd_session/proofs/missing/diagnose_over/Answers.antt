@@ -11,24 +11,28 @@ use Rattle.apd_session.proofs.Dialogues.{diagnoses, hears_missing}
 use Rattle.apd_session.proofs.missing.diagnose_over.Goals as goal
 
 pub returns-clause-console : goal.returns-clause-console
-returns-clause-console g c = (keeps_dialogue g.S.Source g.K.Sink (missing (tuples_of c.args.program.now) c.args.history.now) (at c.args.replies.now (record { box_no = c.args.box_no; goal = c.args.atom.now }) c.args.dialogue.now) c.diagnose_missing.new.answers c.diagnose_missing.new.oracle c.diagnose_missing.result c.diagnose_missing.ensures.reached).same.console
+returns-clause-console g c = (keeps_dialogue g.S.Source g.K.Sink g.R.Replier (missing (tuples_of c.args.program.now) c.args.history.now) (at c.args.replies.now (record { box_no = c.args.box_no; goal = c.args.atom.now }) c.args.dialogue.now) c.diagnose_missing-answer.new.answers c.diagnose_missing-answer.new.oracle c.diagnose_missing-answer.result c.diagnose_missing-answer.ensures.reached).same.console
 
 pub returns-clause-source : goal.returns-clause-source
-returns-clause-source g c = (keeps_dialogue g.S.Source g.K.Sink (missing (tuples_of c.args.program.now) c.args.history.now) (at c.args.replies.now (record { box_no = c.args.box_no; goal = c.args.atom.now }) c.args.dialogue.now) c.diagnose_missing.new.answers c.diagnose_missing.new.oracle c.diagnose_missing.result c.diagnose_missing.ensures.reached).same.source
+returns-clause-source g c = (keeps_dialogue g.S.Source g.K.Sink g.R.Replier (missing (tuples_of c.args.program.now) c.args.history.now) (at c.args.replies.now (record { box_no = c.args.box_no; goal = c.args.atom.now }) c.args.dialogue.now) c.diagnose_missing-answer.new.answers c.diagnose_missing-answer.new.oracle c.diagnose_missing-answer.result c.diagnose_missing-answer.ensures.reached).same.source
 
 pub returns-clause-sink : goal.returns-clause-sink
-returns-clause-sink g c = (keeps_dialogue g.S.Source g.K.Sink (missing (tuples_of c.args.program.now) c.args.history.now) (at c.args.replies.now (record { box_no = c.args.box_no; goal = c.args.atom.now }) c.args.dialogue.now) c.diagnose_missing.new.answers c.diagnose_missing.new.oracle c.diagnose_missing.result c.diagnose_missing.ensures.reached).same.sink
+returns-clause-sink g c = (keeps_dialogue g.S.Source g.K.Sink g.R.Replier (missing (tuples_of c.args.program.now) c.args.history.now) (at c.args.replies.now (record { box_no = c.args.box_no; goal = c.args.atom.now }) c.args.dialogue.now) c.diagnose_missing-answer.new.answers c.diagnose_missing-answer.new.oracle c.diagnose_missing-answer.result c.diagnose_missing-answer.ensures.reached).same.sink
 
 pub returns-clause-log : goal.returns-clause-log
-returns-clause-log g c = (keeps_dialogue g.S.Source g.K.Sink (missing (tuples_of c.args.program.now) c.args.history.now) (at c.args.replies.now (record { box_no = c.args.box_no; goal = c.args.atom.now }) c.args.dialogue.now) c.diagnose_missing.new.answers c.diagnose_missing.new.oracle c.diagnose_missing.result c.diagnose_missing.ensures.reached).same.log
+returns-clause-log g c = (keeps_dialogue g.S.Source g.K.Sink g.R.Replier (missing (tuples_of c.args.program.now) c.args.history.now) (at c.args.replies.now (record { box_no = c.args.box_no; goal = c.args.atom.now }) c.args.dialogue.now) c.diagnose_missing-answer.new.answers c.diagnose_missing-answer.new.oracle c.diagnose_missing-answer.result c.diagnose_missing-answer.ensures.reached).same.log
+
+pub returns-clause-replier : goal.returns-clause-replier
+returns-clause-replier g c =
+    let kept = (keeps_dialogue g.S.Source g.K.Sink g.R.Replier (missing (tuples_of c.args.program.now) c.args.history.now) (at c.args.replies.now (record { box_no = c.args.box_no; goal = c.args.atom.now }) c.args.dialogue.now) c.diagnose_missing-answer.new.answers c.diagnose_missing-answer.new.oracle c.diagnose_missing-answer.result c.diagnose_missing-answer.ensures.reached) in (kept.same.replier, kept.replier)
 
 pub returns-clause-diagnoses : goal.returns-clause-diagnoses
 returns-clause-diagnoses g c =
-    diagnoses by_missing hears_missing (missing (tuples_of c.args.program.now) c.args.history.now) (IsKnownGoal (tuples_of c.args.program.now)) (λ s. missing-keeps (tuples_of c.args.program.now) c.args.history.now (line_found s.program)) g.S.Source g.K.Sink (record { box_no = c.args.box_no; goal = c.args.atom.now }) c.args.replies.now c.diagnose_missing.new.answers c.args.dialogue.now c.diagnose_missing.new.oracle
-    c.diagnose_missing.result c.diagnose_missing.ensures.reached (record { standard = c.args.dialogue.now.standard; program = c.requires.program; replies = c.requires.replies; goal = c.requires.named }) c.requires.replies c.requires.sound (λ f. Found f 0) (missing-keeps (tuples_of c.args.program.now) c.args.history.now (λ f. 0))
+    diagnoses by_missing hears_missing (missing (tuples_of c.args.program.now) c.args.history.now) (IsKnownGoal (tuples_of c.args.program.now)) (λ s. missing-keeps (tuples_of c.args.program.now) c.args.history.now (line_found s.program)) g.S.Source g.K.Sink g.R.Replier (record { box_no = c.args.box_no; goal = c.args.atom.now }) c.args.replies.now c.diagnose_missing-answer.new.answers c.args.dialogue.now c.diagnose_missing-answer.new.oracle
+    c.diagnose_missing-answer.result c.diagnose_missing-answer.ensures.reached c.has_few_entries.ensures (record { standard = c.args.dialogue.now.standard; program = c.requires.program; replies = c.requires.replies; goal = c.requires.named }) c.requires.replies c.requires.sound (λ f. Found f 0) (missing-keeps (tuples_of c.args.program.now) c.args.history.now (λ f. 0))
 
-pub diagnose_missing-requires-clause-symptom : goal.diagnose_missing-requires-clause-symptom
-diagnose_missing-requires-clause-symptom g c = c.requires.known.missing
+pub diagnose_missing-answer-requires-clause-symptom : goal.diagnose_missing-answer-requires-clause-symptom
+diagnose_missing-answer-requires-clause-symptom g c = c.requires.known.missing
 
-pub diagnose_missing-requires-clause-says : goal.diagnose_missing-requires-clause-says
-diagnose_missing-requires-clause-says g c = c.requires.known.says
+pub diagnose_missing-answer-requires-clause-says : goal.diagnose_missing-answer-requires-clause-says
+diagnose_missing-answer-requires-clause-says g c = c.requires.known.says

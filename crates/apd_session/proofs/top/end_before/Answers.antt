@@ -1,11 +1,15 @@
+use Rattle.apd_session.proofs.Loading.{stop_no_write}
 use Rattle.apd_session.proofs.Worlds.{said_before, front_before}
 use Rattle.apd_session.proofs.top.end_before.Goals as goal
 
 pub returns-in-Ok-clause-said : goal.returns-in-Ok-clause-said
 returns-in-Ok-clause-said g c = λ names grew.
-    said_before c.args.log.now c.say_refusal.new.log _ _ names _ c.args.passed.now c.args.called.now c.args.entry c.args.status c.requires.warnings c.requires.empty c.in-Ok.ensures.ops (c.in-Ok.ensures.all names grew)
+    said_before c.args.log.now c.say_closing.new.log _ _ names c.args.beginning.now c.args.stop c.requires.empty c.in-Ok.ensures.ops (c.in-Ok.ensures.all names grew)
+
+pub returns-in-Ok-clause-write : goal.returns-in-Ok-clause-write
+returns-in-Ok-clause-write g c = λ is. absurd (stop_no_write c.args.stop.status c.requires.stop.may is)
 
 pub returns-in-Err-clause-said : goal.returns-in-Err-clause-said
 returns-in-Err-clause-said g c = λ names grew.
     rw c.status_of.ensures
-    (front_before c.args.log.now c.say_refusal.new.log _ _ names _ c.args.passed.now c.args.called.now c.args.entry c.args.status c.in-Err.trouble c.requires.warnings c.requires.empty c.in-Err.ensures.ops (c.in-Err.ensures.front names grew))
+    (front_before c.args.log.now c.say_closing.new.log _ _ names c.args.beginning.now c.args.stop c.in-Err.trouble c.requires.empty c.in-Err.ensures.ops (c.in-Err.ensures.front names grew))

@@ -57,7 +57,8 @@ diagnose-answer-requires-clause-symptom g c =
 pub diagnose-answer-requires-clause-replies : goal.diagnose-answer-requires-clause-replies
 diagnose-answer-requires-clause-replies g c =
     let atom : Term = (point_of c.in-Some.run'.history c.in-Ok.exit.0).tuple.head in
-    rw (c.in_ok-label.ensures.says.names, c.in_ok-label.ensures.replies) (told-replies (length c.args.log.now.names) c.args.state.now.replies (Wrong atom) c.requires.ready.replies)
+    let named = head_named (length c.args.log.now.names) c.args.state.now c.in-Some.run' c.in-Ok.exit.0 c.in-Some.is c.requires.ready.ready c.in-Ok.ensures.user in
+    rw (c.in_ok-label.ensures.says.names, c.in_ok-label.ensures.replies) (told-replies (length c.args.log.now.names) c.args.state.now.replies (Wrong atom) named c.requires.ready.replies)
 
 pub diagnose-answer-requires-clause-named : goal.diagnose-answer-requires-clause-named
 diagnose-answer-requires-clause-named g c =
@@ -67,15 +68,19 @@ diagnose-answer-requires-clause-named g c =
     rw (c.in_ok-label.ensures.head, c.in_ok-label.ensures.says.names) (tree-named n c.in-Some.run'.history c.in-Ok.exit.0 atom (run_named n c.args.state.now c.in-Some.run' c.in-Some.is c.requires.ready.ready) named)
 
 pub conclude-requires-clause-named : goal.conclude-requires-clause-named
-conclude-requires-clause-named g c = c.diagnose-answer.ensures.named c.args.state.now
+conclude-requires-clause-named g c = c.diagnose-answer.ensures.diagnoses.named c.args.state.now
+
+pub diagnose-answer-requires-clause-referee : goal.diagnose-answer-requires-clause-referee
+diagnose-answer-requires-clause-referee g c = rw c.in_ok-label.ensures.says.names c.requires.ready.referee
 
 pub returns : goal.returns
 returns g c =
     let atom : Term = (point_of c.in-Some.run'.history c.in-Ok.exit.0).tuple.head in
     let exit = rw (to_z-of_z _ c.args.box_no c.ranges.box_no, to_z-of_z _ c.args.exit c.ranges.exit) at c.in-Ok.ensures.exit in
-    symptom_leads by_wrong c.args.state.now (command.Wrong c.args.box_no c.args.exit) (Wrong atom) (tree c.in-Some.run'.history c.in-Ok.exit.0 atom) (λ ops names. wrong_begins ops names c.args.state.now c.args.box_no c.args.exit c.in-Some.run' c.in-Ok.exit.0 atom c.in-Some.is exit refl)
+    rw c.diagnose-answer.ensures.referee
+    (symptom_leads by_wrong c.args.state.now (command.Wrong c.args.box_no c.args.exit) (Wrong atom) (tree c.in-Some.run'.history c.in-Ok.exit.0 atom) (λ ops names. wrong_begins ops names c.args.state.now c.args.box_no c.args.exit c.in-Some.run' c.in-Ok.exit.0 atom c.in-Some.is exit refl)
     (moment g.S.Source g.K.Sink c.args.console.now c.args.input.now c.args.log.now c.args.out.now) (spoken g.K.Sink c.keep_wrong.new.log c.keep_wrong.new.out) c.requires.sound (wrong c.args.state.now.strategy) refl
     _ (moment g.S.Source g.K.Sink c.diagnose-answer.new.console c.diagnose-answer.new.input c.diagnose-answer.new.log c.diagnose-answer.new.out) (spoken g.K.Sink c.conclude.new.log c.conclude.new.out)
     (answered c.diagnose-answer.new.replies c.diagnose-answer.new.asked) c.diagnose-answer.result c.conclude.result
     (Says-ok (one (Symptom (Wrong atom))) _ _ c.in_ok-label.label (tt {0}) c.in_ok-label.ensures.says)
-    (rw (c.in_ok-label.ensures.head, c.in_ok-label.ensures.replies) at c.diagnose-answer.ensures) c.conclude.ensures c.requires.ready.ready
+    (rw (c.in_ok-label.ensures.head, c.in_ok-label.ensures.replies) at c.diagnose-answer.ensures.diagnoses) c.conclude.ensures c.requires.ready)

@@ -2,7 +2,17 @@ use Rattle.std.proofs.Common.{refl}
 use Rattle.apd_oracle.proofs.dialogue.DialogueOracle.ask.Goals as goal
 
 pub returns-clause-step : goal.returns-clause-step
-returns-clause-step g c = (refl, refl, refl, refl, c.saturating_add-self.ensures, c.ask_question-answer.ensures.calls)
+returns-clause-step g c = (
+  refl,
+  refl,
+  refl,
+  refl,
+  refl,
+  c.ask_question-answer.ensures.same,
+  c.ask_question-answer.ensures.by,
+  c.saturating_add-self.ensures,
+  c.ask_question-answer.ensures.calls,
+)
 
 pub returns-clause-cause : goal.returns-clause-cause
 returns-clause-cause g c = record { end_is = c.end_after-self.ensures; read = c.ask_question-answer.ensures.faults.read; write = c.ask_question-answer.ensures.faults.write }

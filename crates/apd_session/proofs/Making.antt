@@ -1,0 +1,234 @@
+-- How the calls that make an opening fit together.
+use Rattle.std.proofs.Common.{◌≡◌, ℕ, ◌<◌, ◌≤◌, List, [], length, refl, ap, sym, ◌∙◌, arith, Option, Some, None, subst, true, false}
+use Rattle.std.specs.Prelude.{IfOk, Result, Ok, Err, replicate}
+use Rattle.std.proofs.lemmas.Bool.{le-leb, lt-leb}
+use Rattle.std.proofs.Math.Dec.{leb}
+use Rattle.std.proofs.lemmas.List.{length-replicate}
+use Rattle.std.specs.declared.alloc.AllocError.{AllocError}
+use Rattle.apd_answers.specs.Store.{Store, empty_store}
+use Rattle.apd_causes.specs.declared.faults.LoadCause.{LoadCause}
+use Rattle.apd_io.specs.Outside.{Rose, Tells, TellsLong}
+use Rattle.apd_load.specs.Program.{Loads, loads, refused, program_of}
+use Rattle.apd_load.specs.Warnings.{NotesAreNamed}
+use Rattle.apd_load.specs.declared.Loaded.{Loaded}
+use Rattle.apd_load.proofs.Calling.{notes_more}
+use Rattle.apd_clauses.specs.Clauses.{tuples_of}
+use Rattle.apd_clauses.specs.declared.clause.Clause.{Clause}
+use Rattle.apd_debug.specs.NamedStates.{AreReplies}
+use Rattle.apd_term.specs.Named.{AllTuplesNamed}
+use Rattle.apd_term.specs.StandardNames.{standard_names}
+use Rattle.apd_session.proofs.Turning.{all_named_more}
+use Rattle.apd_ops.specs.Table.{Table}
+use Rattle.apd_read.specs.Reader.{Reader}
+use Rattle.apd_term.specs.Growth.{Grown}
+use Rattle.apd_text.specs.declared.entry.Entry.TheVariants as entry
+use Rattle.apd_words.specs.Words.{AreLimits, InFile, OfTree, Options, StandsAlone, Subject}
+use Rattle.apd_session.specs.Opening.{course_of, first_state, opening_after, opening_by, opening_with, prepared_from, stop, stops_with, subject_text, text_in}
+use Rattle.apd_session.specs.Preparing.{HasSubject, HasText, IsCourse, IsStart, Opens, OpensAfter, OpensWith, Prepares, States}
+use Rattle.apd_session.specs.Roles.{Role, Program, KnownReplies, FileLoad, Gives, Faults, AreLoads, IsFileLoad, IsNamedLoad, file_of, file_of_subject}
+use Rattle.apd_session.specs.declared.opening.Opening.{Opening}
+use Rattle.apd_session.specs.declared.opening.Opening.TheVariants.{Unloaded}
+use Rattle.apd_session.specs.declared.opening.Beginning.{Beginning}
+use Rattle.apd_session.specs.declared.opening.Stop.{Stop}
+use Rattle.apd_session.specs.declared.preparing.Prepared.{Prepared}
+use Rattle.apd_session.specs.declared.preparing.Prepared.TheVariants.{Knows, Refuses}
+use Rattle.apd_session.specs.declared.status.Status.TheVariants as status
+
+-- some content for a file that memory did not suffice for, or that was not looked at
+any_of : (told : Option (List ℕ)) → (bytes : List ℕ) × IsFileLoad told (Gives bytes)
+any_of None = ([], tt)
+any_of (Some known) = (known, refl)
+
+any_named : (content : List ℕ → Option (List ℕ)) (name : Option (List ℕ)) → (bytes : List ℕ) × IsNamedLoad content name (Gives bytes)
+any_named content None = ([], tt)
+any_named content (Some name) = any_of (content name)
+
+abbrev any_files : (content : List ℕ → Option (List ℕ)) (options : Option Options) (role : Role) → FileLoad
+any_files content None role = Gives []
+any_files content (Some options) role = Gives (any_named content (file_of options role)).0
+
+are_any : (content : List ℕ → Option (List ℕ)) (options : Option Options) → AreLoads content options (any_files content options)
+are_any content None = tt
+are_any content (Some options) = λ role. (any_named content (file_of options role)).1
+
+none_fault : (content : List ℕ → Option (List ℕ)) (options : Option Options) (role : Role) → any_files content options role ≡ Faults → ⊥
+none_fault content None role is = absurd (cc)
+none_fault content (Some options) role is = absurd (cc)
+
+-- loads that a world may have had where nothing is known to have failed
+pub some_files : (content : List ℕ → Option (List ℕ)) (options : Option Options) → (files : Role → FileLoad) × AreLoads content options files × ((role : Role) → files role ≡ Faults → ⊥)
+some_files content options = (any_files content options, are_any content options, none_fault content options)
+
+-- the text of a file, by what its load answered
+tells_loading : (told : Option (List ℕ)) (bytes : List ℕ) → Tells told bytes → IsFileLoad told (Gives bytes)
+tells_loading None bytes tells = tt
+tells_loading (Some known) bytes tells = tells
+
+faulty_load : (told : Option (List ℕ)) → IsFileLoad told Faults
+faulty_load None = tt
+faulty_load (Some known) = tt
+
+-- a list of each length; abstract, so that no list of a million numbers is computed
+some_list : (n : ℕ) → (bytes : List ℕ) × (length bytes ≡ n)
+some_list n = (replicate n 0, length-replicate {A = ℕ} n 0)
+
+-- some content for a file that is too long
+long_of : (told : Option (List ℕ)) → TellsLong told → (bytes : List ℕ) × IsFileLoad told (Gives bytes) × (1048576 < length bytes)
+long_of None long = let some = some_list 1048577 in (some.0, tt, omega (arith, some.1))
+long_of (Some known) long = (known, refl, long)
+
+pub text_told : (content : List ℕ → Option (List ℕ)) (failed : Type 0) (name text : List ℕ) → Tells (content name) text → length text ≤ 1048576 → HasText content failed name (Ok text)
+text_told content failed name text tells bound =
+    let test : leb 1048577 (length text) ≡ false = lt-leb _ _ (omega arith) in
+    record { loading = Gives text; is = tells_loading (content name) text tells; faults = λ e. absurd (cc); so = rw test refl }
+
+pub text_failed : (content : List ℕ → Option (List ℕ)) (failed : Type 0) (name : List ℕ) → failed → HasText content failed name (Err (stop entry.InputFault status.ReadFault))
+text_failed content failed name rose = record { loading = Faults; is = faulty_load (content name); faults = λ e. rose; so = refl }
+
+pub text_long : (content : List ℕ → Option (List ℕ)) (failed : Type 0) (name : List ℕ) (n : ℕ) → TellsLong (content name) → n ≡ 1048577 → HasText content failed name (Err (stop (entry.FileTooLong n) status.FileTooLong))
+text_long content failed name n long is =
+    let some = long_of (content name) long in
+    let test : leb 1048577 (length some.0) ≡ true = le-leb _ _ (omega (arith, some.2)) in
+    record { loading = Gives some.0; is = some.1; faults = λ e. absurd (cc); so = rw (test, is) refl }
+
+pub subject_file : (content : List ℕ → Option (List ℕ)) (failed : Type 0) (name : List ℕ) (r : Result (Result (List ℕ) Stop) AllocError) → IfOk r (HasText content failed name) → IfOk r (HasSubject content failed (InFile name))
+subject_file content failed name (Ok x) h = record { loading = h.loading; is = h.is; faults = h.faults; so = h.so }
+subject_file content failed name (Err e) h = tt
+
+pub subject_tree : (content : List ℕ → Option (List ℕ)) (failed : Type 0) (nodes : ℕ) (text : List ℕ) → subject_text (λ role. Gives []) (OfTree nodes) ≡ Ok text → HasSubject content failed (OfTree nodes) (Ok text)
+subject_tree content failed nodes text is = record { loading = Gives []; is = tt; faults = λ e. absurd (cc); so = is }
+
+-- what an oracle file makes known
+pub prepares_stated : (content : List ℕ → Option (List ℕ)) (failed : Type 0) (ops : Table) (names : List (List ℕ)) (name text : List ℕ) (result : Result Prepared AllocError) → HasText content failed name (Ok text) →
+    IfOk result (States ops text names) → IfOk result (Prepares content failed ops names (Some name))
+prepares_stated content failed ops names name text (Ok x) h states = record {
+  loading = h.loading;
+  is = h.is;
+  faults = h.faults;
+  so = λ n grew reader. ap (prepared_from reader ops) h.so ∙ states n grew reader;
+}
+prepares_stated content failed ops names name text (Err e) h states = tt
+
+pub prepares_not : (content : List ℕ → Option (List ℕ)) (failed : Type 0) (ops : Table) (names : List (List ℕ)) (name : List ℕ) (why : Stop) → HasText content failed name (Err why) → Prepares content failed ops names (Some name) (Refuses why)
+prepares_not content failed ops names name why h = record {
+  loading = h.loading;
+  is = h.is;
+  faults = h.faults;
+  so = λ n grew reader. ap (prepared_from reader ops) h.so;
+}
+
+pub prepares_unnamed : (content : List ℕ → Option (List ℕ)) (failed : Type 0) (ops : Table) (names : List (List ℕ)) (store : Store) → store ≡ empty_store → Prepares content failed ops names None (Knows None store)
+prepares_unnamed content failed ops names store is = record { loading = Gives []; is = tt; faults = λ e. absurd (cc); so = λ n grew reader. rw is refl }
+
+-- what a text makes, and what is known with it
+pub opens_loaded : (content : List ℕ → Option (List ℕ)) (failed : Type 0) (options : Options) (text bytes : List ℕ) (l : Loaded) (before names : List (List ℕ)) (r : Result Opening AllocError) → IfOk r (OpensWith content failed options l names) → bytes ≡ text
+    → ((n : List (List ℕ)) → Grown before n → (reader : Reader n) → program_of reader bytes ≡ loads (record { program = l.program; ops = l.ops; passed = l.passed })) → ((n : List (List ℕ)) → Grown names n → Grown before n) → IfOk r (OpensAfter content failed options text names)
+opens_loaded content failed options text bytes l before names (Ok x) w is makes more = record {
+  loading = w.prepares.loading;
+  is = w.prepares.is;
+  faults = w.prepares.faults;
+  so = λ n grew reader.
+      ap (λ (t : List ℕ). opening_after reader (λ role. w.prepares.loading) options (program_of reader t)) (sym is)
+      ∙ ap (opening_after reader (λ role. w.prepares.loading) options) (makes n (more n grew) reader)
+      ∙ ap (opening_with options l.program l.ops l.passed) (w.prepares.so n grew reader)
+      ∙ w.so;
+}
+opens_loaded content failed options text bytes l before names (Err e) w is makes more = tt
+
+pub opens_refused : (content : List ℕ → Option (List ℕ)) (failed : Type 0) (options : Options) (text bytes : List ℕ) (line : ℕ) (cause : LoadCause) (names : List (List ℕ)) → bytes ≡ text
+    → ((n : List (List ℕ)) → Grown names n → (reader : Reader n) → program_of reader bytes ≡ refused line cause) → OpensAfter content failed options text names (Unloaded (stop (entry.ProgramRefused line cause) status.Program))
+opens_refused content failed options text bytes line cause names is makes =
+    let some = any_named content options.oracle in
+    record {
+      loading = Gives some.0;
+      is = some.1;
+      faults = λ e. absurd (cc);
+      so = λ n grew reader.
+          ap (λ (t : List ℕ). opening_after reader (λ role. Gives some.0) options (program_of reader t)) (sym is) ∙ ap (opening_after reader (λ role. Gives some.0) options) (makes n grew reader);
+    }
+
+-- loads by role
+abbrev by_role : FileLoad → FileLoad → Role → FileLoad
+by_role program replies Program = program
+by_role program replies KnownReplies = replies
+
+are_by : (content : List ℕ → Option (List ℕ)) (options : Options) (f g : FileLoad) → IsNamedLoad content (file_of_subject options.subject) f → IsNamedLoad content options.oracle g → (role : Role) → IsNamedLoad content (file_of options role) (by_role f g role)
+are_by content options f g first second Program = first
+are_by content options f g first second KnownReplies = second
+
+faults_by : (failed : Type 0) (f g : FileLoad) → (f ≡ Faults → failed) → (g ≡ Faults → failed) → (role : Role) → by_role f g role ≡ Faults → failed
+faults_by failed f g first second Program is = first is
+faults_by failed f g first second KnownReplies is = second is
+
+subject_by : (f g : FileLoad) (s : Subject) → subject_text (by_role f g) s ≡ subject_text (λ role. f) s
+subject_by f g (InFile name) = refl
+subject_by f g (OfTree nodes) = refl
+
+after_by : {names : List (List ℕ)} (reader : Reader names) (options : Options) (f g : FileLoad) (o : Loads) → opening_after reader (by_role f g) options o ≡ opening_after reader (λ role. g) options o
+after_by reader options f g (refused line cause) = refl
+after_by reader options f g (loads l) = refl
+
+-- a subject that has a text was loaded without a fault
+record Calm (content : List ℕ → Option (List ℕ)) (s : Subject) (text : List ℕ) : Type 0 where
+  loading : FileLoad
+  is : IsNamedLoad content (file_of_subject s) loading
+  calm : loading ≡ Faults → ⊥
+  so : subject_text (λ role. loading) s ≡ Ok text
+
+calm_of : (content : List ℕ → Option (List ℕ)) (failed : Type 0) (s : Subject) (text : List ℕ) → HasSubject content failed s (Ok text) → Calm content s text
+calm_of content failed (InFile name) text h = record {
+  loading = h.loading;
+  is = h.is;
+  calm = λ e. let never : text_in Faults ≡ Ok text = ap text_in (sym e) ∙ h.so in absurd (cc);
+  so = h.so;
+}
+calm_of content failed (OfTree nodes) text h = record { loading = Gives []; is = tt; calm = λ e. absurd (cc); so = h.so }
+
+pub opens_text : (content now : List ℕ → Option (List ℕ)) (before failed fails : Type 0) (options : Options) (text : List ℕ) (names : List (List ℕ)) (r : Result Opening AllocError) → HasSubject content before options.subject (Ok text) → now ≡ content → (fails → failed)
+    → IfOk r (OpensAfter now fails options text names) → IfOk r (Opens content failed (Some options) names)
+opens_text content now before failed fails options text names (Err e) h same more a = tt
+opens_text content now before failed fails options text names (Ok x) h same more a =
+    let first = calm_of content before options.subject text h in
+    let replies : IsNamedLoad content options.oracle a.loading = subst (λ (c : List ℕ → Option (List ℕ)). IsNamedLoad c options.oracle a.loading) same a.is in
+    record {
+      files = by_role first.loading a.loading;
+      are = are_by content options first.loading a.loading first.is replies;
+      faults = faults_by failed first.loading a.loading (λ e. absurd (first.calm e)) (λ e. more (a.faults e));
+      so = λ n grew reader.
+          ap (opening_by reader (by_role first.loading a.loading) options) (subject_by first.loading a.loading options.subject ∙ first.so)
+          ∙ (after_by reader options first.loading a.loading (program_of reader text) ∙ a.so n grew reader);
+    }
+
+pub opens_not : (content : List ℕ → Option (List ℕ)) (failed : Type 0) (options : Options) (names : List (List ℕ)) (why : Stop) → HasSubject content failed options.subject (Err why) → Opens content failed (Some options) names (Unloaded why)
+opens_not content failed options names why h =
+    let some = any_named content options.oracle in
+    record {
+      files = by_role h.loading (Gives some.0);
+      are = are_by content options h.loading (Gives some.0) h.is some.1;
+      faults = faults_by failed h.loading (Gives some.0) h.faults (λ e. absurd (cc));
+      so = λ n grew reader. ap (opening_by reader (by_role h.loading (Gives some.0)) options) (subject_by h.loading (Gives some.0) options.subject ∙ h.so);
+    }
+
+-- where the words break their rules
+pub opens_usage : (content : List ℕ → Option (List ℕ)) (failed : Type 0) (names : List (List ℕ)) → Opens content failed None names (Unloaded (stop entry.UsageRefused status.Usage))
+opens_usage content failed names = record { files = λ role. Gives []; are = tt; faults = λ role e. absurd (cc); so = λ n grew reader. refl }
+
+-- what an opening with a program needs
+pub start_ready : (n m : ℕ) (options : Options) (program : List Clause) (store : Store) (b : Beginning) → n ≤ m → AreLimits options.budget options.answers → length standard_names ≤ n → AllTuplesNamed n (tuples_of program) → NotesAreNamed n b.passed → NotesAreNamed n b.called → AreReplies m store
+    → IsStart m (record { beginning = b; state = first_state program options store })
+start_ready n m options program store b more limits standard named passed called replies = record {
+  beginning = record { passed = notes_more n m b.passed more passed; called = notes_more n m b.called more called };
+  state = record { ready = record { limits = limits; standard = omega (arith, standard, more); named = all_named_more n m (tuples_of program) more named; last = tt }; replies = replies; referee = omega arith };
+}
+
+pub alone_course : (s : Subject) (oracle : Option (List ℕ)) → StandsAlone s oracle → IsCourse (course_of s)
+alone_course (InFile name) oracle alone = tt
+alone_course (OfTree nodes) oracle alone = alone.0
+
+-- a fault that was counted later is counted
+pub rose_more : (a b c : ℕ) → a ≤ b → Rose b c → Rose a c
+rose_more a b c less rose = omega (arith, less, rose)
+
+pub fault_more : (r : Result Opening AllocError) (a b c : ℕ) → a ≤ b → IfOk r (λ o. stops_with o ≡ Some status.ReadFault → Rose b c) → IfOk r (λ o. stops_with o ≡ Some status.ReadFault → Rose a c)
+fault_more (Ok x) a b c less fault = λ e. rose_more a b c less (fault e)
+fault_more (Err e) a b c less fault = tt

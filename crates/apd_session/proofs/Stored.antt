@@ -1,0 +1,47 @@
+-- What is known has one text under all names that come later.
+use Rattle.std.proofs.Common.{◌≡◌, ℕ, List, [], ◌∷◌, ◌++◌, length, ap, sym, ◌∙◌, subst}
+use Rattle.std.specs.Prelude.{Result, Ok, Err}
+use Rattle.apd_answers.specs.Store.{Store}
+use Rattle.apd_debug.specs.NamedStates.{AreReplies, AreRepliesIn}
+use Rattle.apd_answers.specs.declared.store.Pair.{Pair}
+use Rattle.apd_kept.specs.Kept.{known_text}
+use Rattle.apd_kept.proofs.MoreNames.{PairsAreNamed, known_text-more}
+use Rattle.apd_ops.specs.Table.{Table}
+use Rattle.apd_session.specs.Steps.{store_said}
+use Rattle.apd_talk.specs.Speech.{Lasting, Says, Speech, Spoken, begun, one, plain}
+use Rattle.apd_talk.specs.Utterance.{Utterance, Utters, UttersFront}
+use Rattle.apd_talk.specs.declared.talk.Trouble.{Trouble}
+use Rattle.apd_text.specs.Named.{HasStandardNames}
+use Rattle.apd_text.specs.declared.entry.Entry.{Entry}
+use Rattle.apd_text.specs.declared.entry.Entry.TheVariants.{Known}
+
+-- what is said is the same under all names that come later
+says_later : {T : Type 0} (f g : Speech) (p q : Spoken) (r : Result T Trouble) → Lasting p.log.names (λ names. f p.log.ops names ≡ g p.log.ops names) → Says f p q r → Says g p q r
+says_later f g p q (Ok t) same says = record {
+  all = λ names grew. subst (λ (us : List (Utterance Entry)). Utters p.log.entries.list q.log.entries.list p.held q.held us) (same names grew) (says.all names grew);
+  front = tt;
+  names = says.names;
+  ops = says.ops;
+  cause = says.cause;
+}
+says_later f g p q (Err e) same says = record {
+  all = tt;
+  front = λ names grew. subst (λ (us : List (Utterance Entry)). UttersFront begun p.log.entries.list q.log.entries.list p.held q.held us) (same names grew) (says.front names grew);
+  names = says.names;
+  ops = says.ops;
+  cause = says.cause;
+}
+
+questions_named : (n : ℕ) (pairs : List Pair) → AreRepliesIn n pairs → PairsAreNamed n pairs
+questions_named n [] are = tt
+questions_named n (p ∷ pairs) are = ((are.0.2, are.0.1), questions_named n pairs are.1)
+
+-- the text was said
+pub store_is_said : {T : Type 0} (store : Store) (text : List ℕ) (p q : Spoken) (r : Result T Trouble) → HasStandardNames (length p.log.names) → AreReplies (length p.log.names) store → text ≡ known_text p.log.ops p.log.names store → Says (one (Known text)) p q r
+    → Says (λ ops names. store_said ops names store) p q r
+store_is_said store text p q r standard named is says =
+    let later : Lasting p.log.names (λ names. one (Known text) p.log.ops names ≡ store_said p.log.ops names store) = λ names grew.
+    let more : known_text p.log.ops names store ≡ known_text p.log.ops p.log.names store =
+    ap (λ (l : List (List ℕ)). known_text p.log.ops l store) grew.1 ∙ known_text-more p.log.ops p.log.names grew.0 store standard (questions_named (length p.log.names) store.pairs named.pairs) named.trust in
+    ap (λ (t : List ℕ). plain p.log.ops names (Known t) ∷ []) (is ∙ sym more) in
+    says_later (one (Known text)) (λ ops names. store_said ops names store) p q r later says

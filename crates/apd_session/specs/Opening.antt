@@ -1,0 +1,145 @@
+-- What a session begins with, as a value: why it ends before it hears anything, or what it goes on with. It is made of what the
+-- loads of its files give; an input has no part in it.
+-- Texts are read by a reader, which gives what the definitions of tokens and of reading have.
+use Rattle.std.specs.Prelude.{ℕ, List, [], ◌∷◌, ◌++◌, length, if◌then◌else◌, Option, None, Some, Result, Ok, Err, nat_lt}
+use Rattle.apd_answers.specs.Store.{Store, empty_store}
+use Rattle.apd_clauses.specs.declared.clause.Clause.{Clause}
+use Rattle.apd_gen.specs.Programs.{tree_text}
+use Rattle.apd_known.specs.Files.{States, stated_in}
+use Rattle.apd_known.specs.Files as oracle
+use Rattle.apd_load.specs.Program.{Loads, refused, loads, program_of}
+use Rattle.apd_load.specs.Warnings.{warnings_of}
+use Rattle.apd_load.specs.declared.Note.{Note}
+use Rattle.apd_ops.specs.Table.{Table}
+use Rattle.apd_query.specs.declared.state.State.{State}
+use Rattle.apd_read.specs.Reader.{Reader}
+use Rattle.apd_reference.specs.declared.referee.Referee.TheVariants.{Nobody}
+use Rattle.apd_talk.specs.Speech.{plain}
+use Rattle.apd_talk.specs.Utterance.{Utterance}
+use Rattle.apd_text.specs.declared.entry.Entry.{Entry}
+use Rattle.apd_text.specs.declared.entry.Entry.TheVariants.{UsageRefused, ProgramRefused, OracleRefused, FileTooLong, InputFault, Loaded, OracleLoaded}
+use Rattle.apd_words.specs.Words.{InFile, OfTree, Options, Subject}
+use Rattle.apd_session.specs.Roles.{Role, Program, KnownReplies, FileLoad, Gives, Faults, file_of}
+use Rattle.apd_session.specs.Steps.{remarks}
+use Rattle.apd_session.specs.declared.notes.Noted.TheVariants as noted
+use Rattle.apd_session.specs.declared.opening.Beginning.{Beginning}
+use Rattle.apd_session.specs.declared.opening.Course.{Course}
+use Rattle.apd_session.specs.declared.opening.Course.TheVariants.{Hears, Plays}
+use Rattle.apd_session.specs.declared.opening.Opening.{Opening}
+use Rattle.apd_session.specs.declared.opening.Opening.TheVariants.{Unloaded, Closed, Open}
+use Rattle.apd_session.specs.declared.opening.Start.{Start}
+use Rattle.apd_session.specs.declared.opening.Stop.{Stop}
+use Rattle.apd_session.specs.declared.preparing.Prepared.{Prepared}
+use Rattle.apd_session.specs.declared.preparing.Prepared.TheVariants.{Knows, Refuses}
+use Rattle.apd_session.specs.declared.status.Status.{Status}
+use Rattle.apd_session.specs.declared.status.Status.TheVariants as status
+use Rattle.apd_base.specs.declared.limits.TheConstants.{MAX_FILE, OVER_MAX_FILE}
+
+-- a session ends: what is said last, and its status
+abbrev pub stop : Entry → Status → Stop
+stop entry st = record { said = entry; status = st }
+
+-- the text of a file; or why a session ends where it can't be read or is too long
+abbrev pub text_in : FileLoad → Result (List ℕ) Stop
+text_in Faults = Err (stop InputFault status.ReadFault)
+text_in (Gives text) =
+    if nat_lt MAX_FILE (length text) then Err (stop (FileTooLong OVER_MAX_FILE) status.FileTooLong) else Ok text
+
+-- the text of what is debugged: of its file, or of its tree, for which nothing is loaded
+abbrev pub subject_text : (Role → FileLoad) → Subject → Result (List ℕ) Stop
+subject_text files (InFile name) = text_in (files Program)
+subject_text files (OfTree nodes) = Ok (tree_text nodes)
+
+-- an oracle file is refused, or its replies are known
+abbrev pub prepared_by : States → Prepared
+prepared_by (oracle.refused line cause) = Refuses (stop (OracleRefused line cause) status.OracleText)
+prepared_by (oracle.states s) = Knows (Some s.statements) s.answers
+
+-- by the text of an oracle file, where it has one
+abbrev pub prepared_from : {names : List (List ℕ)} → Reader names → Table → Result (List ℕ) Stop → Prepared
+prepared_from reader ops (Err why) = Refuses why
+prepared_from reader ops (Ok text) = prepared_by (stated_in reader ops text)
+
+-- what is known before the first line, by what the load of the oracle file gives; where the words name none, nothing is known
+abbrev pub prepared : {names : List (List ℕ)} → Reader names → Table → Option (List ℕ) → FileLoad → Prepared
+prepared reader ops None loading = Knows None empty_store
+prepared reader ops (Some name) loading = prepared_from reader ops (text_in loading)
+
+-- what there is to say of a program, and of so many statements of an oracle file, where there is one
+abbrev pub beginning_of : List Clause → List Note → Option ℕ → Beginning
+beginning_of program passed statements =
+    record { clauses = length program; passed = passed; called = warnings_of program; statements = statements }
+
+-- the first state of a session: no query was run yet, nothing was asked, these replies are known, and nobody is asked before a line is
+-- read
+abbrev pub first_state : List Clause → Options → Store → State
+first_state program options store = record {
+  program = program;
+  budget = options.budget;
+  answers = options.answers;
+  filter = options.filter;
+  strategy = options.strategy;
+  last = None;
+  replies = store;
+  referee = Nobody;
+  asked = 0;
+}
+
+-- the session goes on with a program that has left these operators: the lines of the input are heard, or a tree is demonstrated
+abbrev pub hears : Table → Start → Opening
+hears ops start = Open ops start Hears
+
+abbrev pub plays : Table → Start → ℕ → Opening
+plays ops start nodes = Open ops start (Plays nodes)
+
+-- a file is debugged by the lines of the input, and a tree is demonstrated
+abbrev pub course_of : Subject → Course
+course_of (InFile name) = Hears
+course_of (OfTree nodes) = Plays nodes
+
+-- what a session with a program begins with, by what is known before the first line
+abbrev pub opening_with : Options → List Clause → Table → List Note → Prepared → Opening
+opening_with options program ops passed (Refuses why) = Closed ops (beginning_of program passed None) why
+opening_with options program ops passed (Knows statements store) =
+    Open ops (record { beginning = beginning_of program passed statements; state = first_state program options store }) (course_of options.subject)
+
+-- by what the text of what is debugged makes
+abbrev pub opening_after : {names : List (List ℕ)} → Reader names → (Role → FileLoad) → Options → Loads → Opening
+opening_after reader files options (refused line cause) = Unloaded (stop (ProgramRefused line cause) status.Program)
+opening_after reader files options (loads l) =
+    opening_with options l.program l.ops l.passed (prepared reader l.ops (file_of options KnownReplies) (files KnownReplies))
+
+-- by that text, where there is one
+abbrev pub opening_by : {names : List (List ℕ)} → Reader names → (Role → FileLoad) → Options → Result (List ℕ) Stop → Opening
+opening_by reader files options (Err why) = Unloaded why
+opening_by reader files options (Ok text) = opening_after reader files options (program_of reader text)
+
+-- what a session begins with, by what the words ask for, where they keep their rules
+abbrev pub opening_of : {names : List (List ℕ)} → Reader names → (Role → FileLoad) → Option Options → Opening
+opening_of reader files None = Unloaded (stop UsageRefused status.Usage)
+opening_of reader files (Some options) = opening_by reader files options (subject_text files options.subject)
+
+-- the status with which a session ends before it hears anything, where it does
+abbrev pub stops_with : Opening → Option Status
+stops_with (Unloaded why) = Some why.status
+stops_with (Closed ops beginning why) = Some why.status
+stops_with (Open ops start course) = None
+
+-- the directives of a program that were passed over, the predicates that its clauses call and that have no clauses, and that it is
+-- loaded
+unfoldable pub load_said : Table → List (List ℕ) → Beginning → List (Utterance Entry)
+load_said ops names b =
+    remarks ops names noted.PassedOver b.passed ++ (remarks ops names noted.Called b.called ++ plain ops names (Loaded b.clauses) ∷ [])
+
+-- how many statements an oracle file has, where there is one
+abbrev pub known_said : Table → List (List ℕ) → Option ℕ → List (Utterance Entry)
+known_said ops names None = []
+known_said ops names (Some statements) = plain ops names (OracleLoaded statements) ∷ []
+
+-- what is said of a program that was loaded
+abbrev pub beginning_said : Table → List (List ℕ) → Beginning → List (Utterance Entry)
+beginning_said ops names b = load_said ops names b ++ known_said ops names b.statements
+
+-- that, and why the session ends there
+abbrev pub closing_said : Table → List (List ℕ) → Beginning → Entry → List (Utterance Entry)
+closing_said ops names b entry = beginning_said ops names b ++ plain ops names entry ∷ []

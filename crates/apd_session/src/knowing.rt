@@ -1,0 +1,38 @@
+//! What is known, as it is printed.
+
+ghost use Rattle.std.specs.Prelude.{◌≡◌, length, IfOk};
+ghost use Rattle.apd_debug.specs.NamedStates.{AreReplies};
+ghost use Rattle.apd_session.specs.Steps.{store_said};
+ghost use Rattle.apd_talk.specs.Speech.{Says, spoken};
+ghost use Rattle.apd_text.specs.Named.{HasStandardNames};
+
+use apd_answers::Answers;
+use apd_base::Text;
+use apd_io::Sink;
+use apd_kept::known_text;
+use apd_talk::{Next, Trouble, say};
+use apd_text::{Entry, Log};
+use std::alloc::Global;
+
+/// Says what is known, as an oracle file.
+///
+/// # Errors
+///
+/// [`Trouble::Memory`] where there was no memory, [`Trouble::WriteFault`] where a write failed.
+pub(crate) fn tell<K: Sink>(
+    alloc: Global,
+    replies: &Answers,
+    out: &mut K,
+    log: &mut Log,
+) -> Result<Next, Trouble>
+    requires standard { HasStandardNames (length log.old.names) }
+    requires named { AreReplies (length log.old.names) replies.now }
+    ensures goes { IfOk result (λ next. next ≡ Next.Goes) }
+    ensures says { Says (λ ops names. store_said ops names replies.now)
+        (spoken K.Sink log.old out.old) (spoken K.Sink log.new out.new) result }
+{
+    let mut text = Text::new(alloc);
+    known_text(alloc, replies, &log.ops, &log.names, &mut text)?;
+    say(alloc, out, log, Entry::Known { text })?;
+    Ok(Next::Goes)
+}

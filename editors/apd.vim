@@ -8,7 +8,7 @@ syntax match apdExit "^\d\+ \d\+ Exit:"
 syntax match apdRedo "^\d\+ \d\+ Redo:"
 syntax match apdFail "^\d\+ \d\+ Fail:"
 syntax match apdTyped "^> .*" contains=apdVariable
-syntax match apdTyped "^\(?-\|wrong(\|missing(\|loop\.\|trace(\|yes\|no\.\|unknown\.\|stop\.\|quit\.\).*"
+syntax match apdTyped "^\(?-\|wrong(\|missing(\|loop\.\|known\.\|trace(\|yes\|no\.\|unknown\.\|stop\.\|quit\.\).*"
 syntax match apdAnswer "^answer \d\+:"
 syntax match apdQuestion "^question \d\+: \a\+?"
 syntax match apdReply "^reply: \S\+"

@@ -1,12 +1,15 @@
 """Line editing, history and completion at the terminal, by readline."""
 from __future__ import annotations
 
+import atexit
 import os
 import re
+from contextlib import suppress
 from glob import escape, glob
 from pathlib import Path
 from typing import Callable, List, Tuple
 
+from terminal.manual import commands
 from terminal.prolog import predicates
 
 try:
@@ -14,7 +17,6 @@ try:
 except ImportError:  # a Python that was built without it: lines are typed as they are
     readline = None  # type: ignore[assignment]
 
-COMMANDS = ["?- ", "wrong(", "missing(", "loop.", "trace(all).", "trace(off).", "trace(leap([", "trace(skip(", "quit."]
 REPLIES = ["yes.", "no.", "unknown.", "yes([", "stop.", "quit."]
 HISTORY = Path.home() / ".apdi_history"
 REMEMBERED = 1000
@@ -32,13 +34,13 @@ class Completer:
     def candidates(self, line: str, begin: int) -> List[str]:
         """What the word that begins there can be completed to."""
         before, word = line[:begin], line[begin:]
-        if re.match(r"\s*(save|page)\s", before):
+        first = REPLIES if self.is_reply() else [re.split("[A-Z]", it)[0] for it in commands()]
+        words = [it[begin:] for it in self.own_words + first if it.startswith(before)]
+        if re.match(r"(save|page)\s", before):
             words = _files(word)
-        elif not before.strip():
-            words = self.own_words + (REPLIES if self.is_reply() else COMMANDS)
         elif "leap(" in before:
             words = [f"{name}/{arity}" for name, arity in self._predicates()]
-        else:
+        elif not any(words):
             words = [f"{name}(" if arity else name for name, arity in self._predicates()]
         return sorted({it for it in words if it.startswith(word)})
 
@@ -59,7 +61,7 @@ class Completer:
 
 
 def begin_editing(own_words: List[str], file: str, is_reply: Callable[[], bool]) -> None:
-    """Sets readline up, with the history of earlier conversations."""
+    """Sets readline up, with the history of earlier conversations; this one's is added to it at the end."""
     if not readline:
         return
     readline.set_completer(Completer(own_words, file, is_reply).complete)
@@ -67,20 +69,14 @@ def begin_editing(own_words: List[str], file: str, is_reply: Callable[[], bool])
     is_libedit = "libedit" in (readline.__doc__ or "")
     readline.parse_and_bind("bind ^I rl_complete" if is_libedit else "tab: complete")
     readline.set_history_length(REMEMBERED)
-    try:
+    with suppress(OSError):  # there is none yet
         readline.read_history_file(HISTORY)
-    except OSError:
-        pass  # there is none yet
+    atexit.register(_keep_history)
 
 
-def end_editing() -> None:
-    """Keeps the history for later conversations, where the home folder can be written."""
-    if not readline:
-        return
-    try:
+def _keep_history() -> None:
+    with suppress(OSError):  # the home folder can't be written
         readline.write_history_file(HISTORY)
-    except OSError:
-        pass
 
 
 def _files(front: str) -> List[str]:

@@ -4,7 +4,7 @@ from __future__ import annotations
 from typing import Dict, List, NamedTuple, Optional, Tuple
 
 from terminal import printed
-from terminal.program import Program
+from terminal.program import run_beside
 from terminal.prolog import parts, tokens
 from terminal.words import Words
 
@@ -28,12 +28,7 @@ class Goals:
         self.end = ""
         self._open: Dict[int, Box] = {}
         self._passed: List[int] = []  # the boxes that stand exited now, a box for each goal so far
-        program = Program(words.but("--oracle", trace=None), self._note)
-        try:
-            program.hear()
-            program.tell(query)
-        finally:
-            program.kill()
+        run_beside(words.having(trace=None), [query], self._note)
 
     def exit_of(self, answer: int, goal: int) -> Optional[Tuple[int, int]]:
         """The box of the goal and the number of the exit by which the answer came."""
@@ -85,17 +80,13 @@ class BodyAnswers:
         goals = parts(body)
         self.variables = list(dict.fromkeys(token.text for token in tokens(body) if token.kind == "variable"))
         self.answers: List[Dict[str, str]] = []
-        program = Program(words.but("--oracle", "--trace", answers=str(SHOWN)), self._note)
-        try:
-            program.hear()
-            for count in range(len(goals), 0, -1):
-                self.goals = ", ".join(goals[:count])
-                # A variable whose name begins with _ isn't shown in an answer.
-                program.tell(f"?- {_with_names(self.goals)}.")
-                if self.answers:
-                    break
-        finally:
-            program.kill()
+        for count in range(len(goals), 0, -1):
+            self.goals = ", ".join(goals[:count])
+            # A variable whose name begins with _ isn't shown in an answer.
+            query = f"?- {_with_names(self.goals)}."
+            run_beside(words.having(answers=str(SHOWN)), [query], self._note)
+            if self.answers:
+                break
 
     def values(self, answer: int) -> Optional[List[str]]:
         """A value for each variable of the body, or `_` for a value that the answer doesn't have."""

@@ -2,6 +2,7 @@
 from __future__ import annotations
 
 import re
+from functools import lru_cache
 from typing import List, NamedTuple
 
 from terminal.program import TOP
@@ -17,10 +18,11 @@ TEXT = re.compile(r"\\d\+/\\d\+|\b(?:X|[A-Z]{2,})\b|\\\.\\\.")
 
 
 class Row(NamedTuple):
-    """A row of a table: the spans of code in its first column, and what the row says."""
+    """A row of a table: the spans of code in its first column, what the second says, and all that the row tells."""
 
     spans: List[str]
-    says: List[str]
+    says: str
+    tells: List[str]
 
 
 def explain(line: str) -> List[str]:
@@ -29,12 +31,22 @@ def explain(line: str) -> List[str]:
     words = re.findall(r"\w+", line)
     rows = [row for row in _rows("Printed") if _shows(row, line)] or [row for row in _rows("Line") if _shows(row, line)]
     rows += [row for row in _rows("Fault", "Cause", "Error") if _name(row.spans[0]) in words]
-    return [text for row in rows for text in row.says]
+    return [text for row in rows for text in row.tells]
+
+
+def meaning(line: str) -> str:
+    """What the table of printed lines says that the line means."""
+    return next((row.says for row in _rows("Line") if _shows(row, line)), "")
 
 
 def explain_name(name: str) -> List[str]:
     """What the manual says of a fault, a refusal, a command or an option, by its name: `Cut`, `E9`, `loop`."""
-    return [text for row in _rows() if name.strip("-.") in map(_name, row.spans) for text in row.says]
+    return [text for row in _rows() if _name(name) in map(_name, row.spans) for text in row.tells]
+
+
+def commands() -> List[str]:
+    """The commands that the program reads, as the manual writes them: `wrong(B, K).`"""
+    return [span for row in _rows("Command") for span in row.spans]
 
 
 def explain_status(status: int) -> str:
@@ -49,10 +61,11 @@ def _rows(*columns: str) -> List[Row]:
         spans = SPAN.findall(cells[0])
         if spans and (not columns or head[0] in columns):
             rest = [f"  {name}: {cell}" for name, cell in zip(head[2:], cells[2:]) if cell]
-            found.append(Row(spans, [f"{cells[0]}: {cells[1]}", *rest]))
+            found.append(Row(spans, cells[1], [f"{cells[0]}: {cells[1]}", *rest]))
     return found
 
 
+@lru_cache(maxsize=None)
 def _tables() -> List[tuple]:
     """Each row of each table with the heads of its columns."""
     found, head = [], []
@@ -83,6 +96,6 @@ def _pattern(span: str) -> str:
 
 
 def _name(span: str) -> str:
-    """The first word of a span: `Impure` of `Impure(P/N)`, `E9` of `E9 not complete: B`."""
-    found = re.search(r"\w+", span)
+    """The first word of a span: `Impure` of `Impure(P/N)`, `E9` of `E9 not complete: B`, `?-` of a query."""
+    found = re.search(r"\w+|\?-", span)
     return found.group() if found else span

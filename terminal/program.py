@@ -23,6 +23,17 @@ def program_file() -> Optional[str]:
     return named if os.access(named, os.X_OK) else None
 
 
+def run_beside(words: List[str], lines: List[str], said: Callable[[str], None]) -> None:
+    """Runs a program beside that of the session: it is told the lines, and ended when all was said to them."""
+    program = Program(words, said)
+    try:
+        program.hear()
+        for line in lines:
+            program.tell(line)
+    finally:
+        program.kill()
+
+
 class Program:
     """A running apd, which hands each line that it prints to `said`.
 

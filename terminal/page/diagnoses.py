@@ -4,9 +4,10 @@ from __future__ import annotations
 import re
 from typing import Dict, List, Optional
 
+from terminal.manual import meaning
 from terminal.page.boxes import Boxes
 from terminal.page.chain import chain_shown
-from terminal.page.html import code, element, link, mark, text
+from terminal.page.html import code, element, link, mark, prose, text
 from terminal.page.judged import proof_tree
 from terminal.page.log import Asked, Diagnosis
 from terminal.page.missing import way_shown
@@ -23,7 +24,7 @@ FOUND = re.compile(
 def diagnosis_section(diagnosis: Diagnosis, boxes: Boxes, number: int, run: int) -> str:
     """The section of a diagnosis of this run; the numbers name the elements of its part and of the run's."""
     tree = proof_tree(boxes, diagnosis)
-    head = element("h2", _symptom(diagnosis)) + "".join(map(_found, diagnosis.found))
+    head = element("h2", _symptom(diagnosis)) + _findings(diagnosis.found)
     if diagnosis.asked:
         head += element("h3", "Questions") + _questions(diagnosis.asked, nodes_asked(tree, number) if tree else {})
     if diagnosis.kind == "true":
@@ -44,12 +45,21 @@ def _symptom(diagnosis: Diagnosis) -> str:
     return "Symptom: " + code(diagnosis.symptom) + " " + says
 
 
-def _found(line: str) -> str:
-    """What was found, and the clause, the goal or the call that it names."""
+def _findings(lines: List[str]) -> str:
+    """What was found: the clause, the goal or the call that each line names, and once what such a line means."""
+    found, said = [], [""]
+    for line in lines:
+        means = meaning(line)
+        found.append(_found(line, "" if means in said else means))
+        said.append(means)
+    return "".join(found)
+
+
+def _found(line: str, means: str) -> str:
     found = FOUND.fullmatch(line)
     kind = "bad" if line.startswith("bug") else "good" if line.startswith("no bug") else "open"
     says = element("p", text(found[1])) + code(found[2]) if found else element("p", text(line))
-    return element("div", says, class_=f"found {kind}")
+    return element("div", says + (element("div", prose(means), class_="aside") if means else ""), class_=f"found {kind}")
 
 
 def _questions(asked: List[Asked], nodes: Dict[int, str]) -> str:

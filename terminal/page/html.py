@@ -1,6 +1,7 @@
 """Elements of a page as text. All are closed, so that a page is well-formed XML too."""
 from __future__ import annotations
 
+import re
 from html import escape
 from typing import Optional
 
@@ -24,6 +25,11 @@ def code(term: str, class_: Optional[str] = None) -> str:
     """A term, with the texts that stand in it as lists of codes."""
     texts = "".join(element("span", text(shown), class_="text", title=codes) for codes, shown in texts_in(term))
     return element("code", text(term), class_=class_) + texts
+
+
+def prose(says: str) -> str:
+    """What a document says, in which code stands between backquotes."""
+    return re.sub("`([^`]+)`", r"<code>\1</code>", text(says))
 
 
 def short(term: str, class_: Optional[str] = None) -> str:

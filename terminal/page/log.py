@@ -28,11 +28,10 @@ class Run:
 
 @dataclass
 class Asked:
-    """A question with the reply that it got, if it got one, and with replies that were refused before."""
+    """A question with the reply that it got, if it got one."""
 
     question: printed.Question
     reply: Optional[printed.Reply] = None
-    refused: List[str] = field(default_factory=list)
 
     @property
     def said(self) -> str:
@@ -112,17 +111,15 @@ def _is_of_run(run: Run, line: str) -> bool:
 
 
 def _is_of_diagnosis(diagnosis: Diagnosis, line: str) -> bool:
-    """Adds the line to the diagnosis, if it is a part of one."""
+    """Adds the line to the diagnosis, if it is a part of one. Replies that were refused aren't kept."""
     question, reply = printed.question_in(line), printed.reply_in(line)
     waits = diagnosis.asked and not diagnosis.asked[-1].reply
     if question:
         diagnosis.asked.append(Asked(question))
     elif reply and waits:
         diagnosis.asked[-1].reply = reply
-    elif line.startswith("E15 ") and waits:
-        diagnosis.asked[-1].refused.append(line)
     elif line.startswith((*printed.DIAGNOSIS_ENDS, "candidate: ")):
         diagnosis.found.append(line)
-    else:
+    elif not (line.startswith("E15 ") and waits):
         return False
     return True

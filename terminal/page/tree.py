@@ -23,6 +23,7 @@ WHY = {
     verdicts.ASIDE: "a no elsewhere has the bug below it",
     verdicts.KNOWN: "an earlier reply says so, or a file of replies",
     verdicts.BUILT_IN: "true by arithmetic",
+    verdicts.CANDIDATE_BUG: "of the candidates at least one is wrong, where the replies are true",
 }
 LEGEND = "Not asked is what stands below a yes, and what a no further down or elsewhere set aside."
 

@@ -1,5 +1,8 @@
 #!/usr/bin/env python3
-"""A stand-in for apd that says what tests need which the program does rarely: runs without end, and want of memory."""
+"""A stand-in for apd that says what tests need which the program does rarely: runs without end, and want of memory.
+
+It refuses a file refused.pl and the word --bugdet.
+"""
 import sys
 import time
 
@@ -14,6 +17,12 @@ SAYS = {
     "quit.": ["unanswered: stopped"],
 }
 
+if "--bugdet" in sys.argv:
+    print("usage: apd ..")
+    sys.exit(2)
+if "refused.pl" in sys.argv:
+    print("program refused: line 1: Cut")
+    sys.exit(3)
 print("loaded: 3 clauses", flush=True)
 for line in sys.stdin:
     line = line.rstrip("\n")

@@ -100,6 +100,11 @@ class Pages(unittest.TestCase):
         wanted += [f"not asked insert(2,{it})" for it in ("[3,1],[3,1,2]", "[1],[1,2]", "[],[2]")]
         self.assertEqual(said, wanted)
 
+    def test_what_was_found_is_explained_once(self) -> None:
+        said = self.text(self.page(recorded("unknown")))
+        for meaning in ("at least one is wrong", "heads of candidates further below"):
+            self.assertEqual(said.count(meaning), 1, meaning)
+
     def test_a_demonstration_of_1000_nodes_and_a_deep_recursion(self) -> None:
         for log in (demonstration(1000), recursion(1000)):
             page = self.page(log)

@@ -67,6 +67,18 @@ class StandIn(unittest.TestCase):
         user.converse("apd> ?- p(X).", "apd> answer 1", "reply> y", "reply> save p.pl", "stays as it is", "reply> ")
         self.assertEqual((self.folder / "p.pl").read_text(), "p(1).\n")
 
+    def test_why_it_ended_is_said_once(self) -> None:
+        user = self.at_terminal("refused.pl")
+        user.converse("program refused: line 1: Cut", "exclude each other", "status 3", "apd> help", "answer K of goal N")
+        user.converse("apd> quit")
+        self.assertEqual(user.leave(), 3)
+        self.assertEqual(user.shown.count("status 3"), 1)
+
+    def test_a_word_that_is_wrong_is_named(self) -> None:
+        user = self.at_terminal("--bugdet", "5", "p.pl")
+        user.converse("usage: apd ..", "% --bugdet is no option")
+        self.assertEqual(user.leave(), 2)
+
     def test_colours_are_there_unless_they_are_not_wanted(self) -> None:
         for environment, wanted in (({"TERM": "xterm"}, True), ({"TERM": "xterm", "NO_COLOR": "1"}, False)):
             user = self.at_terminal("p.pl", **environment)

@@ -8,6 +8,7 @@ from terminal import manual
 from terminal.page.terms import is_instance
 from terminal.prolog import predicates, texts_in, with_full_stop
 from terminal.session import oracle_text
+from terminal.words import Words
 
 LINES = {
     "E1 syntax: Stray at byte 5": ["no reading", "can't follow"],
@@ -71,6 +72,22 @@ class Texts(unittest.TestCase):
         self.assertEqual(oracle_text("", known), "form(1).\ntrue(p(1), yes).\ntrue(q, no).\n")
         before = "% mine\nform(1).\ntrue(q, no).\n"
         self.assertEqual(oracle_text(before, known), before + "true(p(1), yes).\n")
+
+    def test_what_is_wrong_with_words(self) -> None:
+        for words, wanted in {
+            "--budget 5 --answers=1000000 --strategy top --trace p.pl --oracle f": [],
+            "--trace --demo 10000": [],
+            "-- --trace": [],
+            "": ["no program is named"],
+            "a.pl b.pl": ["a.pl and b.pl: there is one program"],
+            "--bugdet 5 p.pl": ["--bugdet is no option"],
+            "--budget=10k p.pl": ["--budget 10k: its value is a number from 1 to 1,000,000"],
+            "p.pl --answers": ["--answers has no value"],
+            "--strategy halve p.pl": ["--strategy halve: its value is divide, single or top"],
+            "--trace p.pl --trace": ["--trace stands there twice"],
+            "--demo 5 p.pl": ["--demo makes its own program, and doesn't go with p.pl"],
+        }.items():
+            self.assertEqual(Words(words.split()).faults(), wanted, words)
 
     def test_instances_by_their_texts(self) -> None:
         yes = [("app([2],[9],[2,9])", "app([2],_1,[2|_1])"), ("p([1])", "p([_1|_2])"), ("p(b * c + a)", "p(_1 + a)")]

@@ -106,7 +106,8 @@ fn parts_of(alloc: Global, term: &Flat) -> Result<Tuple, AllocError>
 pub fn clause_of(alloc: Global, term: &Flat) -> Result<Tuple, BodyFault>
     requires { size term.now ≤ MOST_SYMBOLS }
     ensures ok { IfOk result (λ c. clause_from term.now ≡ Ok c) }
-    ensures err { IfErr result (λ fault. fault ≢ BodyFault.Memory → clause_from term.now ≡ Err fault) }
+    ensures err { IfErr result (λ fault. fault ≢ BodyFault.Memory →
+        clause_from term.now ≡ Err fault) }
 {
     if begins_with(term, GRAMMAR_ARROW, 2) {
         return Err(BodyFault::Dcg);

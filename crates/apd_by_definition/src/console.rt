@@ -23,7 +23,8 @@ pub fn lines_of(alloc: Global, bytes: &[u8]) -> Result<Vec<Text>, AllocError>
 
 // Puts a byte before some lines.
 fn put_first(alloc: Global, lines: &mut Vec<Text>, byte: u8) -> Result<(), AllocError>
-    ensures { OnOk result (lines.new.items ≡ (if nat_eq byte 10 then [] ∷ lines.old.items else onto_first byte lines.old.items)) }
+    ensures { OnOk result
+        (lines.new.items ≡ (if nat_eq byte 10 then [] ∷ lines.old.items else onto_first byte lines.old.items)) }
 {
     let mut line = Text::new(alloc);
     if byte == b'\n' {

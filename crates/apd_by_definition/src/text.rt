@@ -61,7 +61,8 @@ pub fn bindings(
     vars: &[Text],
     list: &Flat,
 ) -> Result<ListOf<Text>, AllocError>
-    ensures { IfOk result (λ texts. texts ≡ bindings ops.now names.now vars.now (elements list.now)) }
+    ensures { IfOk result (λ texts. texts ≡ bindings ops.now names.now vars.now
+        (elements list.now)) }
 {
     let terms = elements(alloc, list)?;
     let values = terms.as_slice();

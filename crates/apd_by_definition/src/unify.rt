@@ -72,7 +72,8 @@ fn push_arguments(
     right: &Flat,
 ) -> Result<(), AllocError>
     requires { length (arguments left.now) ≡ length (arguments right.now) }
-    ensures { OnOk result (equations.new.items ≡ zip (arguments left.now) (arguments right.now) ++ equations.old.items) }
+    ensures { OnOk result (equations.new.items ≡ zip (arguments left.now) (arguments right.now)
+        ++ equations.old.items) }
 {
     'places: for k in (0..arity(left)).rev() {
         equations.push_front((left.arg(alloc, k)?, right.arg(alloc, k)?))?;
@@ -122,7 +123,8 @@ fn begun(alloc: Global, a: &Flat, b: &Flat) -> Result<Work, AllocError>
 /// The work with a term in place of a variable, and the pair of them found.
 fn eliminated(alloc: Global, work: &Work, v: u64, t: &Flat) -> Result<Work, AllocError>
     requires { IsFree v work.now.found }
-    ensures equations { IfOk result (λ w. w.equations.items ≡ apply_equations (term_for (single v t.now)) work.now.equations.items) }
+    ensures equations { IfOk result (λ w. w.equations.items
+        ≡ apply_equations (term_for (single v t.now)) work.now.equations.items) }
     ensures found { IfOk result (λ w. w.found ≡ extended work.now.found v t.now) }
 {
     let one = Subst::single(alloc, v, t)?;
@@ -133,8 +135,10 @@ fn eliminated(alloc: Global, work: &Work, v: u64, t: &Flat) -> Result<Work, Allo
 
 /// Solves an equation by its rule before the others; false where the rule refuses it.
 fn solves(alloc: Global, work: &mut Work, left: &Flat, right: &Flat) -> Result<bool, AllocError>
-    requires { (v : ℕ) → (t : Term) → rule_for left.now right.now ≡ Eliminate v t → IsFree v work.old.found }
-    ensures { IfOk result (λ goes. IsAfter (rule_for left.now right.now) left.now right.now work.old.equations.items work.old.found goes work.new.equations.items work.new.found) }
+    requires { (v : ℕ) → (t : Term) → rule_for left.now right.now ≡ Eliminate v t →
+        IsFree v work.old.found }
+    ensures { IfOk result
+        (λ goes. IsAfter (rule_for left.now right.now) left.now right.now work.old.equations.items work.old.found goes work.new.equations.items work.new.found) }
 {
     let rule = rule_for(alloc, left, right)?;
     match &rule {

@@ -34,7 +34,7 @@ pub(crate) struct Passed {
 }
 
 /// How many terms stand under a symbol.
-pub(crate) fn arity_of(symbol: Sym) -> usize
+pub fn arity_of(symbol: Sym) -> usize
     ensures { result ≡ arity_of symbol }
 {
     match symbol {
@@ -45,7 +45,7 @@ pub(crate) fn arity_of(symbol: Sym) -> usize
 
 /// Goes on to a waiting run where this one is done.
 #[inline(always)]
-pub(crate) fn next_run(rest: &mut Stack<Run>, here: Run) -> Option<Run>
+pub fn next_run(rest: &mut Stack<Run>, here: Run) -> Option<Run>
     ensures { GoesTo here rest.old result rest.new }
 {
     let mut next = here;

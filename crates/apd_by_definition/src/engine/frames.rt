@@ -119,7 +119,8 @@ fn owner(nodes: &[Node]) -> u32
 
 /// The next goal of a frame.
 fn goal_of(node: &Node) -> Option<&Flat>
-    ensures { MatchOption result (goal_of (frame_of node.now) ≡ None) (λ a. goal_of (frame_of node.now) ≡ Some a.now) }
+    ensures { MatchOption result (goal_of (frame_of node.now) ≡ None)
+        (λ a. goal_of (frame_of node.now) ≡ Some a.now) }
 {
     node.tuple.body.get(node.done as usize)
 }
@@ -261,7 +262,8 @@ impl FrameList {
 
     /// The innermost frame's next goal.
     pub fn goal(&self) -> Option<&Flat>
-        ensures { MatchOption result (next_goal self.now ≡ None) (λ a. next_goal self.now ≡ Some a.now) }
+        ensures { MatchOption result (next_goal self.now ≡ None)
+            (λ a. next_goal self.now ≡ Some a.now) }
     {
         match self.nodes.as_slice() {
             [] => None,

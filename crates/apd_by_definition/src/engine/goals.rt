@@ -66,7 +66,8 @@ pub(crate) fn resolved(
     requires below { IsBelow fresh frames.now }
     requires short { IsRunnable rule.now }
     requires room { fresh + 4294967297 ≤ 2 ^ 64 - 1 }
-    ensures renamed { IfOk result (AreRenamed (entering frames.now called.now rule.now clause point)) }
+    ensures renamed { IfOk result (AreRenamed
+        (entering frames.now called.now rule.now clause point)) }
     ensures below { IfOk result (λ o. IfSome o (IsBelow (fresh + 4294967297))) }
 {
     let Some(goal) = frames.goal() else {
@@ -169,7 +170,8 @@ pub(crate) fn attempted(
     called: &Called,
     point: u32,
 ) -> Result<Attempt, AllocError>
-    ensures alike { IfOk result (λ a. AreAlike (solution frames.now called.now point) (solution_in a)) }
+    ensures alike { IfOk result (λ a. AreAlike (solution frames.now called.now point)
+        (solution_in a)) }
     ensures below { IfOk result (λ a. (n : ℕ) → IsBelow n frames.now → IsAttemptBelow n a) }
 {
     let Some(goal) = frames.goal() else {

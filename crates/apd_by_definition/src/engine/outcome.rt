@@ -28,7 +28,8 @@ fn outcome_of_comparison(
     left: &Flat,
     right: &Flat,
 ) -> Result<Outcome, AllocError>
-    ensures { IfOk result (λ o. o ≡ outcome_of_comparison (compared comparison (value left.now) (value right.now))) }
+    ensures { IfOk result (λ o. o ≡ outcome_of_comparison
+        (compared comparison (value left.now) (value right.now))) }
 {
     match compare(alloc, comparison, left, right) {
         Ok(true) => Ok(Outcome::Succeeds),

@@ -21,7 +21,8 @@ pub(crate) fn port_alone(
     g: &Called,
     counts: Counts,
 ) -> Result<Option<Searched>, AllocError>
-    ensures { IfOk result (λ o. Makes o (emit (at_port port g.now) (nothing counts.boxes counts.points))) }
+    ensures { IfOk result (λ o. Makes o (emit (at_port port g.now)
+        (nothing counts.boxes counts.points))) }
 {
     let item = event(alloc, port, g)?;
     one_item(alloc, item, counts)
@@ -33,7 +34,8 @@ pub(crate) fn answer_alone(
     values: &Flat,
     counts: Counts,
 ) -> Result<Option<Searched>, AllocError>
-    ensures { IfOk result (λ o. Makes o (emit (Answer values.now) (nothing counts.boxes counts.points))) }
+    ensures { IfOk result (λ o. Makes o (emit (Answer values.now)
+        (nothing counts.boxes counts.points))) }
 {
     let copied = values.copy(alloc)?;
     one_item(alloc, Item::Answer(copied), counts)
@@ -46,7 +48,8 @@ pub(crate) fn port_before(
     g: &Called,
     rest: Option<Searched>,
 ) -> Result<Option<Searched>, AllocError>
-    ensures { IfOk result (λ o. (whole : Out) → Makes rest whole → Makes o (emit (at_port port g.now) whole)) }
+    ensures { IfOk result (λ o. (whole : Out) → Makes rest whole →
+        Makes o (emit (at_port port g.now) whole)) }
 {
     let item = event(alloc, port, g)?;
     put_before(item, rest)
@@ -59,7 +62,8 @@ pub(crate) fn port_after(
     port: Port,
     g: &Called,
 ) -> Result<Option<Searched>, AllocError>
-    ensures { IfOk result (λ o. (whole : Out) → Makes first whole → Makes o (and_then whole (λ n m. emit (at_port port g.now) (nothing n m)))) }
+    ensures { IfOk result (λ o. (whole : Out) → Makes first whole →
+        Makes o (and_then whole (λ n m. emit (at_port port g.now) (nothing n m)))) }
 {
     let item = event(alloc, port, g)?;
     put_after(first, item)
@@ -71,7 +75,8 @@ pub(crate) fn exit_around(
     g: &Called,
     rest: Option<Searched>,
 ) -> Result<Option<Searched>, AllocError>
-    ensures { IfOk result (λ o. (whole : Out) → Makes rest whole → Makes o (emit (at_port Exit g.now) (and_then whole (again g.now)))) }
+    ensures { IfOk result (λ o. (whole : Out) → Makes rest whole →
+        Makes o (emit (at_port Exit g.now) (and_then whole (again g.now)))) }
 {
     let redone = port_after(alloc, rest, Port::Redo, g)?;
     port_before(alloc, Port::Exit, g, redone)
@@ -85,7 +90,8 @@ pub(crate) fn point_before(
     rest: Option<Searched>,
 ) -> Result<Option<Searched>, AllocError>
     requires { 0 < length frames.now }
-    ensures { IfOk result (λ o. (whole : Out) → Makes rest whole → Makes o (pointed frames.now before whole)) }
+    ensures { IfOk result (λ o. (whole : Out) → Makes rest whole →
+        Makes o (pointed frames.now before whole)) }
 {
     let point = frames.point(alloc, before)?;
     put_before(Item::Made(point), rest)
@@ -99,7 +105,8 @@ pub(crate) fn success_around(
     rest: Option<Searched>,
 ) -> Result<Option<Searched>, AllocError>
     requires { 0 < length frames.now }
-    ensures { IfOk result (λ o. (whole : Out) → Makes rest whole → Makes o (around frames.now g.now whole)) }
+    ensures { IfOk result (λ o. (whole : Out) → Makes rest whole →
+        Makes o (around frames.now g.now whole)) }
 {
     let (left, _newest) = frames.exited(alloc)?;
     let passed = exit_around(alloc, &left, rest)?;
@@ -115,7 +122,8 @@ pub(crate) fn put_behind(
     rest: Searched,
 ) -> Result<(), AllocError>
     requires { 0 < length frames.now }
-    ensures { OnOk result (out_of out.new ≡ and_then (out_of out.old) (λ n m. pointed frames.now None (out_of rest))) }
+    ensures { OnOk result (out_of out.new ≡ and_then (out_of out.old)
+        (λ n m. pointed frames.now None (out_of rest))) }
 {
     let point = frames.point(alloc, None)?;
     let mut items = rest.items;

@@ -44,7 +44,8 @@ fn run_of(
     answers: u32,
 ) -> Result<PlainRun, AllocError>
     requires { 0 < answers }
-    ensures shown { IfOk result (λ r. r.shown.items ≡ shown_of (run_of items.items budget answers).passed) }
+    ensures shown { IfOk result (λ r. r.shown.items
+        ≡ shown_of (run_of items.items budget answers).passed) }
     ensures ran { IfOk result (λ r. r.ran ≡ ran_of (run_of items.items budget answers)) }
 {
     let mut shown = VecDeque::new(alloc);
@@ -91,7 +92,12 @@ pub fn plain_run(
     requires runnable { IsRunnable query.now.tuple }
     requires budget { budget ≤ MOST_SHOWN }
     requires answers { 0 < answers }
-    ensures { IfOk result (λ o. MatchOption o (IsFull (search_from (tuples_of program.now) (budget + 1) (query_frame query.now.tuple ∷ []) 0 1)) (λ r. (r.shown.items ≡ shown_of (query_run (tuples_of program.now) query.now.tuple budget answers).passed) × (r.ran ≡ ran_of (query_run (tuples_of program.now) query.now.tuple budget answers)))) }
+    ensures { IfOk result (λ o. MatchOption o
+        (IsFull (search_from (tuples_of program.now) (budget + 1)
+        (query_frame query.now.tuple ∷ []) 0 1))
+        (λ r. (r.shown.items ≡ shown_of (query_run
+        (tuples_of program.now) query.now.tuple budget answers).passed) ×
+        (r.ran ≡ ran_of (query_run (tuples_of program.now) query.now.tuple budget answers)))) }
 {
     match trace(alloc, program, &query.tuple, budget + 1)? {
         None => Ok(None),

@@ -87,7 +87,8 @@ fn search_from(
     requires open { IsOpen counts.boxes place.now.frames }
     requires below { IsBelow place.now.fresh place.now.frames }
     requires room { place.now.fresh + 4294967297 * depth ≤ 2 ^ 64 - 1 }
-    ensures { IfOk result (λ o. Makes o (search_from (tuples_of program.now) depth place.now.frames counts.boxes counts.points)) }
+    ensures { IfOk result (λ o. Makes o (search_from
+        (tuples_of program.now) depth place.now.frames counts.boxes counts.points)) }
 {
     if depth == 0 {
         return Ok(Some(no_item(alloc, counts)));
@@ -115,7 +116,8 @@ fn turn(
     requires room { place.now.fresh + 4294967297 * (depth + 1) ≤ 2 ^ 64 - 1 }
     requires boxes { counts.boxes + 1 < 2 ^ 32 }
     requires look { look.now ≡ look_of place.now.frames (counts.boxes + 1) }
-    ensures { IfOk result (λ o. Makes o (turn (search_from (tuples_of program.now) depth) (tuples_of program.now) look.now place.now.frames counts.boxes counts.points)) }
+    ensures { IfOk result (λ o. Makes o (turn (search_from (tuples_of program.now) depth)
+        (tuples_of program.now) look.now place.now.frames counts.boxes counts.points)) }
 {
     match look {
         Look::Nothing => Ok(Some(no_item(alloc, counts))),
@@ -151,7 +153,9 @@ fn settled(
     requires waits { AllWait counts.boxes place.now.frames }
     requires below { IsBelow place.now.fresh place.now.frames }
     requires room { place.now.fresh + 4294967297 * (depth + 1) ≤ 2 ^ 64 - 1 }
-    ensures { IfOk result (λ o. Makes o (settled (search_from (tuples_of program.now) depth) (clauses_for g.now.atom (tuples_of program.now)) place.now.frames g.now (solution place.now.frames g.now counts.points) counts.boxes counts.points)) }
+    ensures { IfOk result (λ o. Makes o (settled (search_from (tuples_of program.now) depth)
+        (clauses_for g.now.atom (tuples_of program.now)) place.now.frames g.now
+        (solution place.now.frames g.now counts.points) counts.boxes counts.points)) }
 {
     match attempted(alloc, &place.frames, g, counts.points)? {
         Attempt::Program => tries(alloc, program, depth, place, g, counts),
@@ -181,7 +185,8 @@ fn succeeded(
     requires open { IsOpen counts.boxes entered.now.frames }
     requires below { IsBelow entered.now.fresh entered.now.frames }
     requires room { entered.now.fresh + 4294967297 * depth ≤ 2 ^ 64 - 1 }
-    ensures { IfOk result (λ o. Makes o (succeeded (search_from (tuples_of program.now) depth) g.now entered.now.frames counts.boxes counts.points)) }
+    ensures { IfOk result (λ o. Makes o (succeeded
+        (search_from (tuples_of program.now) depth) g.now entered.now.frames counts.boxes counts.points)) }
 {
     let Some((_box_no, newest)) = entered.frames.newest() else {
         return Ok(Some(no_item(alloc, counts)));
@@ -215,7 +220,8 @@ fn hand(
     requires waits { AllWait counts.boxes place.now.frames }
     requires below { IsBelow place.now.fresh place.now.frames }
     requires room { place.now.fresh + 4294967297 * depth ≤ 2 ^ 64 - 1 }
-    ensures { IfOk result (λ o. Makes o (hand (search_from (tuples_of program.now) depth) place.now.frames exit counts.boxes counts.points)) }
+    ensures { IfOk result (λ o. Makes o (hand
+        (search_from (tuples_of program.now) depth) place.now.frames exit counts.boxes counts.points)) }
 {
     let Some((box_no, newest)) = place.frames.newest() else {
         return Ok(Some(no_item(alloc, counts)));
@@ -254,7 +260,9 @@ fn tries(
     requires waits { AllWait counts.boxes place.now.frames }
     requires below { IsBelow place.now.fresh place.now.frames }
     requires room { place.now.fresh + 4294967297 * (depth + 1) ≤ 2 ^ 64 - 1 }
-    ensures { IfOk result (λ o. Makes o (tries (search_from (tuples_of program.now) depth) place.now.frames g.now (clauses_for g.now.atom (tuples_of program.now)) counts.boxes counts.points)) }
+    ensures { IfOk result (λ o. Makes o (tries
+        (search_from (tuples_of program.now) depth) place.now.frames g.now
+        (clauses_for g.now.atom (tuples_of program.now)) counts.boxes counts.points)) }
 {
     let numbers = numbers(program, &g.atom);
     let mut out = no_item(alloc, counts);
@@ -286,8 +294,13 @@ fn tried(
     requires waits { AllWait out.old.counts.boxes place.now.frames }
     requires below { IsBelow place.now.fresh place.now.frames }
     requires room { place.now.fresh + 4294967297 * (depth + 1) ≤ 2 ^ 64 - 1 }
-    ensures advances { IfOk result (λ b. Advances (out_of out.old) (tries (search_from (tuples_of program.now) depth) place.now.frames g.now (drop at (clauses_for g.now.atom (tuples_of program.now)))) b (out_of out.new) (tries (search_from (tuples_of program.now) depth) place.now.frames g.now (drop (at + 1) (clauses_for g.now.atom (tuples_of program.now))))) }
-    ensures boxes { IfOk result (λ b. b ≡ Advance.Goes → out.old.counts.boxes ≤ out.new.counts.boxes) }
+    ensures advances { IfOk result (λ b. Advances (out_of out.old)
+        (tries (search_from (tuples_of program.now) depth) place.now.frames g.now
+        (drop at (clauses_for g.now.atom (tuples_of program.now)))) b (out_of out.new)
+        (tries (search_from (tuples_of program.now) depth) place.now.frames g.now
+        (drop (at + 1) (clauses_for g.now.atom (tuples_of program.now))))) }
+    ensures boxes { IfOk result (λ b. b ≡ Advance.Goes →
+        out.old.counts.boxes ≤ out.new.counts.boxes) }
 {
     let numbers = numbers(program, &g.atom);
     let clause = program.clause(numbers[at]);
@@ -326,8 +339,11 @@ fn begun(
     requires open { IsOpen out.old.counts.boxes entered.now.frames }
     requires below { IsBelow entered.now.fresh entered.now.frames }
     requires room { entered.now.fresh + 4294967297 * depth ≤ 2 ^ 64 - 1 }
-    ensures advances { IfOk result (λ b. (others : ℕ → ℕ → Out) → Grows others → Advances (out_of out.old) (begun (search_from (tuples_of program.now) depth) g.now others entered.now.frames) b (out_of out.new) others) }
-    ensures boxes { IfOk result (λ b. b ≡ Advance.Goes → out.old.counts.boxes ≤ out.new.counts.boxes) }
+    ensures advances { IfOk result (λ b. (others : ℕ → ℕ → Out) → Grows others →
+        Advances (out_of out.old) (begun (search_from
+        (tuples_of program.now) depth) g.now others entered.now.frames) b (out_of out.new) others) }
+    ensures boxes { IfOk result (λ b. b ≡ Advance.Goes →
+        out.old.counts.boxes ≤ out.new.counts.boxes) }
 {
     if entered.frames.is_large() {
         out.items.push_back(Item::Error(RunError::Size, g.box_no))?;
@@ -372,7 +388,9 @@ pub fn trace(
 ) -> Result<Option<VecDeque<Item>>, AllocError>
     requires runnable { IsRunnable query.now }
     requires depth { depth ≤ 1000001 }
-    ensures { IfOk result (λ o. MatchOption o (IsFull (search_from (tuples_of program.now) depth (query_frame query.now ∷ []) 0 1)) (λ items. items.items ≡ trace (tuples_of program.now) query.now depth)) }
+    ensures { IfOk result (λ o. MatchOption o
+        (IsFull (search_from (tuples_of program.now) depth (query_frame query.now ∷ []) 0 1))
+        (λ items. items.items ≡ trace (tuples_of program.now) query.now depth)) }
 {
     let _count = program.count();
     let place = Place {

@@ -58,7 +58,8 @@ pub(crate) fn put_before(item: Item, rest: Option<Searched>) -> Result<Option<Se
 
 /// The search, and then the item.
 pub(crate) fn put_after(first: Option<Searched>, item: Item) -> Result<Option<Searched>, AllocError>
-    ensures { IfOk result (λ o. (whole : Out) → Makes first whole → Makes o (and_then whole (λ n m. emit item (nothing n m)))) }
+    ensures { IfOk result (λ o. (whole : Out) → Makes first whole →
+        Makes o (and_then whole (λ n m. emit item (nothing n m)))) }
 {
     let Some(mut searched) = first else {
         return Ok(None);

@@ -70,7 +70,7 @@ first_below cells n deeds bound v vs h e =
     s.0.below
 
 -- what is left of a list that was popped
-pub left_of : (r : Option ℕ) (old new : List ℕ) (v : ℕ) (vs : List ℕ) → MatchOption r ((old ≡ []) × (new ≡ [])) (λ x. old ≡ x ∷ new) → old ≡ v ∷ vs → new ≡ vs
+pub left_of : {X : Type 0} (r : Option X) (old new : List X) (v : X) (vs : List X) → MatchOption r ((old ≡ []) × (new ≡ [])) (λ x. old ≡ x ∷ new) → old ≡ v ∷ vs → new ≡ vs
 left_of None old new v vs h e = cc
 left_of (Some x) old new v vs h e = cc
 

@@ -7,3 +7,8 @@ pub mod Tuples
 pub mod Mirrored
 pub mod Catching
 pub mod Carrying
+pub mod Naming
+pub mod Following
+pub mod Marks
+pub mod CatchingUp
+pub mod Keeping

@@ -1,5 +1,5 @@
 -- What a past is: cells that are never dropped, and what was done to variables. At each moment it is a store.
-use Rattle.std.specs.Prelude.{◌≡◌, ℕ, ◌⊎◌, Option, Some, None, List, [], ◌∷◌, ◌++◌, map, take, drop, reverse, refl}
+use Rattle.std.specs.Prelude.{◌≡◌, ℕ, ◌+◌, ◌<◌, ◌≤◌, ◌⊎◌, Option, Some, None, List, [], ◌∷◌, ◌++◌, length, map, take, drop, reverse, refl}
 use Rattle.std.specs.Coded.{Coded, code_by, coded_list, coded_option, coded×, coded⊎, coded_ℕ, coded_ℤ}
 use Rattle.std.specs.List.{flat_map}
 use Rattle.std.proofs.Common.{ℤ}
@@ -8,7 +8,7 @@ use Rattle.apd_term.specs.Spelling.{parts, whole, map-whole-parts, variable_in}
 use Rattle.apd_unify.specs.declared.heap.Note.{Note}
 use Rattle.apd_unify.specs.declared.heap.Note.TheVariants.{Loaded, Bound}
 use Rattle.apd_unify.specs.Stored.{Stored}
-use Rattle.apd_unify.specs.Store.{above, HasCells, MayBind}
+use Rattle.apd_unify.specs.Store.{above, term_at, HasCells, MayBind}
 use Rattle.apd_past.specs.declared.deeds.Deed.{Deed}
 use Rattle.apd_past.specs.Done.{deed_parts, deed_whole, map-deed_whole}
 
@@ -48,6 +48,10 @@ with_terms h symbols = record {
   deeds = h.deeds;
 }
 
+-- one more variable
+abbrev pub with_one_variable : History → History
+with_one_variable h = record { cells = h.cells; variables = h.variables + 1; deeds = h.deeds }
+
 -- one more deed
 abbrev pub with_done : History → ℕ → Option ℕ → History
 with_done h v to = record {
@@ -55,6 +59,12 @@ with_done h v to = record {
   variables = h.variables;
   deeds = h.deeds ++ record { variable = v; to = to } ∷ [];
 }
+
+-- what there was at each moment is there as it was
+pub record KeepsMoments (old new : History) : Type 0 where
+  pub moments : length old.deeds ≤ length new.deeds
+  pub cells : length old.cells ≤ length new.cells
+  pub terms : (m c : ℕ) → m ≤ length old.deeds → c < length old.cells → term_at (at_moment m new) c ≡ term_at (at_moment m old) c
 
 -- the store where the newest binding is taken back
 abbrev pub unbound : Stored → Stored

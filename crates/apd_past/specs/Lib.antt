@@ -4,3 +4,6 @@ pub mod Linked
 pub mod History
 pub mod Tuples
 pub mod Mirror
+pub mod Names
+pub mod Follows
+pub mod Live

@@ -3,7 +3,9 @@
 #![tactic(auto)]
 
 pub mod deeds;
+pub mod follow;
 pub mod laws;
+pub mod mirror;
 mod passing;
 pub mod past;
 pub mod slot;

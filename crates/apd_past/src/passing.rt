@@ -1,13 +1,12 @@
 //! A walk over the symbols of a term as it was at a moment.
 
-ghost use Rattle.std.specs.Prelude.{◌≡◌, ◌∷◌, ◌<◌, IfOk};
-ghost use Rattle.apd_term.specs.Term.{arity_of};
-ghost use Rattle.apd_unify.specs.Work.{AreRuns, PassesOn, GoesTo};
+ghost use Rattle.std.specs.Prelude.{◌∷◌, ◌<◌, IfOk};
+ghost use Rattle.apd_unify.specs.Work.{AreRuns, PassesOn};
 
 use crate::then::Then;
 use apd_term::Sym;
 use apd_unify::stack::Stack;
-use apd_unify::walk::Run;
+use apd_unify::walk::{Run, arity_of};
 use std::alloc::AllocError;
 
 /// What was passed: a symbol, and the run that the walk is in then.
@@ -15,31 +14,6 @@ use std::alloc::AllocError;
 pub struct Passed {
     pub symbol: Sym,
     pub next: Run,
-}
-
-/// How many terms stand under a symbol.
-fn arity_of(symbol: Sym) -> usize
-    ensures { result ≡ arity_of symbol }
-{
-    match symbol {
-        Sym::Fun(_, arity) => arity as usize,
-        _ => 0,
-    }
-}
-
-/// Goes on to a waiting run where this one is done.
-#[inline(always)]
-pub fn next_run(rest: &mut Stack<Run>, here: Run) -> Option<Run>
-    ensures { GoesTo here rest.old result rest.new }
-{
-    let mut next = here;
-    'done: while next.left == 0 {
-        match rest.pop() {
-            None => return None,
-            Some(waiting) => next = waiting,
-        }
-    }
-    Some(next)
 }
 
 /// Passes the first symbol of a run, behind the bindings.

@@ -5,7 +5,7 @@ ghost use Rattle.apd_term.specs.declared.term.Sym.TheVariants.{Var};
 ghost use Rattle.apd_term.specs.Term.{IsTerms};
 ghost use Rattle.apd_unify.specs.declared.heap.Binding.TheVariants.{Free, At};
 ghost use Rattle.apd_unify.specs.Store.{term_at, binding_of, bound, MayBind, IsSound};
-ghost use Rattle.apd_past.specs.History.{at_moment, present, unbound, with_done, with_terms};
+ghost use Rattle.apd_past.specs.History.{at_moment, present, unbound, with_done, with_one_variable, with_terms};
 
 use crate::deeds::Deeds;
 use crate::slot::Slot;
@@ -49,7 +49,7 @@ impl Model for Past {
 const MOST: u64 = 4_294_967_294;
 
 /// The number as it is kept; want of memory where it is too great.
-fn narrow(n: u64) -> Result<u32, AllocError>
+pub(crate) fn narrow(n: u64) -> Result<u32, AllocError>
     ensures number { IfOk result (λ k. k ≡ n) }
     ensures small { IfOk result (λ k. k < 4294967295) }
 {
@@ -100,6 +100,14 @@ impl Past {
         self.bound.len()
     }
 
+    /// The past is a sound store, at each moment.
+    pub fn is_sound(&self)
+        ensures moments { (m : ℕ) → IsSound (at_moment m self.now) }
+        ensures present { IsSound (present self.now) }
+    {
+        let _cells = &self.cells;
+    }
+
     /// The symbol at a cell.
     pub fn symbol(&self, at: usize) -> Sym
         requires { at < length self.now.cells }
@@ -118,6 +126,18 @@ impl Past {
             (λ c. binding_of (at_moment moment.0 self.now).trail v ≡ At c) }
     {
         self.deeds.to_at(v, moment.0 as usize)
+    }
+
+    /// One more variable, and its number.
+    pub fn add_variable(&mut self) -> Result<u32, AllocError>
+        ensures number { IfOk result (λ v. v ≡ self.old.variables) }
+        ensures ok { OnOk result (self.new ≡ with_one_variable self.old) }
+        ensures cells { self.new.cells ≡ self.old.cells }
+        ensures deeds { self.new.deeds ≡ self.old.deeds }
+    {
+        let number = narrow(self.deeds.variables() as u64)?;
+        self.deeds.add_variable(number as u64)?;
+        Ok(number)
     }
 
     /// Puts whole terms behind the others, and tells the cell of the first. All other cells keep

@@ -11,6 +11,7 @@ use apd_term::Sym;
 use std::marker::Model;
 
 /// A past as it was at a moment. Clauses see the store that it was then.
+#[derive(Drop)]
 pub struct Then<'a> {
     past: &'a Past,
     moment: Moment,

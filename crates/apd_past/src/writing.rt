@@ -7,13 +7,13 @@ ghost use Rattle.apd_past.specs.Tuples.{tuple_at, AreInside, IsNumbered};
 ghost use Rattle.apd_unify.specs.Ordered.{Numbers, Writes};
 ghost use Rattle.apd_unify.specs.Store.{term_at};
 
-use crate::passing::{next_run, pass};
+use crate::passing::pass;
 use crate::past::PastCell;
 use crate::then::Then;
 use apd_term::{Atoms, Flat, Sym, Tuple};
 use apd_unify::order::Order;
 use apd_unify::stack::Stack;
-use apd_unify::walk::Run;
+use apd_unify::walk::{Run, next_run};
 use std::alloc::{AllocError, Global};
 use std::marker::Model;
 

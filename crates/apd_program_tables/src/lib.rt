@@ -1,10 +1,11 @@
 //! What the calls give that tables about terms and programs are for: names, terms and lists of them, substitutions, unifiers,
-//! values and truths; clauses, queries and loads.
+//! pasts, values and truths; clauses, queries and loads.
 #![tactic(auto)]
 
 mod alike_rows;
 mod clause_rows;
 mod load_rows;
+mod past_rows;
 mod query_rows;
 mod term_rows;
 mod value_rows;
@@ -23,6 +24,8 @@ fn give_of_terms(name: &str, trial: &mut Trial) -> Option<()> {
         "tuples" => term_rows::put_tuple(trial),
         "lists" => term_rows::put_lists(trial),
         "unifiers" => term_rows::put_unified(trial),
+        "pasts" => past_rows::put_past(trial),
+        "long_pasts" => past_rows::put_long_past(trial),
         "values" => value_rows::put_value(trial),
         "deep_values" => value_rows::put_deep_value(trial),
         "truths" => value_rows::put_truth(trial),

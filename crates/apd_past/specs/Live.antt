@@ -1,0 +1,26 @@
+-- A store as its parts are read, and a past that has followed it for a part of the way.
+use Rattle.std.specs.Prelude.{◌≡◌, ℕ, ◌≤◌, length, reverse}
+use Rattle.apd_unify.specs.Stored.{Stored}
+use Rattle.apd_unify.specs.Store.{at_mark, IsSound}
+use Rattle.apd_past.specs.declared.follow.Had.{Had}
+use Rattle.apd_past.specs.declared.follow.Live.{Live}
+use Rattle.apd_past.specs.declared.mirror.Mirror.{Mirror}
+use Rattle.apd_past.specs.Follows.{Follows}
+
+-- the store that has these parts
+abbrev pub store_of : Live → Stored
+store_of l = record { cells = l.cells.now; variables = l.variables; trail = reverse l.notes.now }
+
+-- so much the store had when its trail had k notes
+pub record HasExtentAt (s : Stored) (k : ℕ) (had : Had) : Type 0 where
+  pub cells_are : had.cells ≡ length (at_mark k s).cells
+  pub variables_are : had.variables ≡ (at_mark k s).variables
+
+-- the store was the same when its trail had so many notes as one that is followed was then
+pub record MayCatchUp (m : Mirror) (s : Stored) (kept : ℕ) : Type 0 where
+  pub earlier : Stored
+  pub sound : IsSound earlier
+  pub follows : Follows m earlier
+  pub there : kept ≤ length earlier.trail
+  pub here : kept ≤ length s.trail
+  pub same : at_mark kept earlier ≡ at_mark kept s

@@ -1,11 +1,17 @@
--- A store keeps each pair once; so statements that tell its pairs in their order, up to canonical form, make such a store again.
+-- A store keeps each pair and each predicate once; so statements that tell its pairs in their order, up to canonical form, make such a store again.
 use Rattle.std.proofs.Common.{◌≡◌, ◌++◌, ◌&&◌, ◌||◌, Bool, true, false, if◌then◌else◌, List, [], ◌∷◌, refl, sym, ◌∙◌, ap, subst}
 use Rattle.apd_answers.specs.declared.question.Question.{Question}
 use Rattle.apd_answers.specs.declared.question.Reply.{Reply}
 use Rattle.apd_answers.specs.declared.store.Pair.{Pair}
 use Rattle.apd_answers.specs.Questions.{canonical_question}
 use Rattle.apd_answers.specs.Store.{same_question, same_reply, is_kept_as, is_kept_in, with_pair_in}
-use Rattle.apd_answers.specs.Once.{AreNew, AreOnce, with_pairs_in, AreSame}
+use Rattle.std.specs.Prelude.{Some, Result, Ok, Err, OnOk, OnErr}
+use Rattle.std.specs.List.{list_any}
+use Rattle.std.proofs.Common.{append_assoc}
+use Rattle.std.proofs.lemmas.List.{append-nil}
+use Rattle.apd_ports.specs.Filter.{is_predicate}
+use Rattle.apd_term.specs.declared.term.Pred.{Pred}
+use Rattle.apd_answers.specs.Once.{AreNew, AreNewPreds, AreListedOnce, AreOnce, with_pairs_in, AreSame}
 
 none_behind : (ps : List Pair) → ps ++ [] ≡ ps
 none_behind [] = refl
@@ -73,3 +79,13 @@ pub once-behind : (ps new : List Pair) (p : Pair) (form : Question) (reply : Rep
 once-behind ps new p form reply b o is f r kept unkept =
     let e : is_kept_in ps p.question p.reply ≡ false = ap (λ (z : Question). is_kept_as ps z p.reply) f ∙ ap (λ (z : Reply). is_kept_as ps form z) r ∙ sym kept ∙ unkept in
     subst AreOnce (sym is) (new-more [] ps p o e)
+
+-- a predicate behind others, which isn't listed by them
+preds-more : (before ps : List Pred) (p : Pred) → AreNewPreds before ps → list_any (is_predicate (Some p)) (before ++ ps) ≡ false → AreNewPreds before (ps ++ p ∷ [])
+preds-more before [] p n e = (subst (λ xs. list_any (is_predicate (Some p)) xs ≡ false) (append-nil before) e, tt)
+preds-more before (x ∷ ps) p n e = (n.0, preds-more (before ++ x ∷ []) ps p n.1 (subst (λ xs. list_any (is_predicate (Some p)) xs ≡ false) (sym (append_assoc before (x ∷ []) ps)) e))
+
+-- a predicate that is put behind others, which don't list it, where there is memory
+pub listed-put : {T E : Type 0} (ps new : List Pred) (p : Pred) (b : Bool) (r : Result T E) → AreListedOnce ps → OnOk r (new ≡ ps ++ p ∷ []) → OnErr r (new ≡ ps) → b ≡ list_any (is_predicate (Some p)) ps → b ≡ false → AreListedOnce new
+listed-put ps new p b (Ok x) o is same listed unlisted = subst AreListedOnce (sym is) (preds-more [] ps p o (sym listed ∙ unlisted))
+listed-put ps new p b (Err e) o is same listed unlisted = subst AreListedOnce (sym same) o

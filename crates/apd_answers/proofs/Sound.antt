@@ -1,8 +1,8 @@
 -- A finding by replies that are true of an interpretation is a bug in it.
 use Rattle.std.specs.Prelude.{IsSome}
-use Rattle.std.proofs.Common.{◌≡◌, ◌⊎◌, inl, inr, ℕ, suc, length, List, [], ◌∷◌, map, Option, Some, None, refl, sym, ◌∙◌, ap, subst}
+use Rattle.std.proofs.Common.{◌≡◌, ◌⊎◌, inl, inr, ℕ, List, [], ◌∷◌, map, Option, Some, None, refl, sym, ◌∙◌, ap, subst}
 use Rattle.std.specs.List.{AllByRecursion}
-use Rattle.apd_term.specs.Term.{Term, Terms, variable, integer, compound, none, more, list_of, apply, apply_all, variables, IsGround, IsAmong, Occurs}
+use Rattle.apd_term.specs.Term.{Term, variable, integer, compound, apply, variables, IsGround, IsAmong, Occurs}
 use Rattle.apd_term.proofs.Among.{IsAmong-piece}
 use Rattle.apd_term.specs.Canonical.{canonical}
 use Rattle.apd_term.specs.Tuple.{canonical_tuple}
@@ -25,7 +25,7 @@ use Rattle.apd_answers.specs.Interpretation.{Interpretation, Holds, HoldsBy, IsV
 use Rattle.apd_answers.specs.Store.{Store, SaysYes, SaysNo, SomeTerm, AreTruePairs}
 use Rattle.apd_answers.specs.Trust.{IsGranted, AreTrue}
 use Rattle.apd_answers.specs.Bugs.{IsBug, IsWrongInstance, IsWrongAmong, IsUncovered, IsViolation, CoversNot, earlier_atoms}
-use Rattle.apd_answers.specs.Findings.{IsByReplies, IsWrongByReplies, IsUncoveredByReplies, IsViolationByReplies, AreCandidatesByReplies, AreCandidates, SaysNoToFirst, IsHeadAmong, IsTrueBy, IsTrueWhere, Affirms, IsClosed, IsFalseBuiltin, instance_for, Apart, same, said, through, AllDescendByReplies, Descends}
+use Rattle.apd_answers.specs.Findings.{IsByReplies, IsWrongByReplies, IsUncoveredByReplies, IsViolationByReplies, AreCandidates, SaysNoToFirst, IsHeadAmong, IsTrueBy, IsTrueWhere, IsClosed, IsFalseBuiltin, instance_for, Apart, same, said, through, AllDescendByReplies, Descends}
 use Rattle.apd_term.proofs.Variants.{IsInstance_from_variants}
 use Rattle.apd_answers.proofs.Truth.{valid-ground, holds-valid, valid-instance}
 use Rattle.apd_answers.proofs.Trusted.{count-apply, granted_so}

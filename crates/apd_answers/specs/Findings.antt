@@ -1,4 +1,4 @@
--- What a diagnosis finds by replies alone.
+-- What a diagnosis finds: by the replies, what is trusted and what the record shows of it.
 use Rattle.std.specs.Prelude.{◌≡◌, ◌≤◌, ℕ, ◌⊎◌, List, [], ◌∷◌, length, map, Option, Some, None, ⊤}
 use Rattle.std.specs.List.{AllByRecursion}
 use Rattle.apd_term.specs.Term.{Term, apply, IsGround}

@@ -8,7 +8,7 @@ ghost use Rattle.apd_answers.specs.Questions.{with_values, canonical_question, F
 ghost use Rattle.apd_answers.specs.declared.question.Question.TheVariants.{True};
 ghost use Rattle.apd_answers.specs.declared.question.Reply.TheVariants.{Unknown};
 ghost use Rattle.apd_answers.specs.Fitting.{AllFit};
-ghost use Rattle.apd_answers.specs.Once.{AreOnce};
+ghost use Rattle.apd_answers.specs.Once.{AreListedOnce, AreOnce};
 ghost use Rattle.apd_answers.specs.Marks.{mark_of_form, places_from};
 ghost use Rattle.apd_answers.specs.Store.{told_of_truth, decided_in, decided, is_kept_as, is_doubted, empty_store, reply_to, with_pair, same_question, same_reply};
 ghost use Rattle.apd_answers.specs.Tellers.{IsFirstTold, IsNarrow, tellers};
@@ -216,7 +216,7 @@ impl Model for Answers {
     ghost use Rattle.apd_answers.specs.Codes.{store_code};
     ghost use Rattle.apd_answers.specs.Fitting.{AllFitIn};
     ghost use Rattle.apd_answers.specs.Marks.{IsIndexOf};
-    ghost use Rattle.apd_answers.specs.Once.{AreOnce};
+    ghost use Rattle.apd_answers.specs.Once.{AreListedOnce, AreOnce};
     ghost use Rattle.apd_answers.specs.Store.{Store};
     ghost use Rattle.apd_answers.specs.Tellers.{AreTellers};
 
@@ -227,7 +227,7 @@ impl Model for Answers {
     ghost view = { λ a. record { pairs = a.pairs.items; trusted = a.trusted } };
 
     ghost invariant = { λ a. AllFitIn a.pairs.items × IsIndexOf a.pairs.items a.places
-        × AreOnce a.pairs.items × AreTellers a.pairs.items a.tellers };
+        × AreOnce a.pairs.items × AreTellers a.pairs.items a.tellers × AreListedOnce a.trusted };
 }
 
 impl Answers {
@@ -293,6 +293,13 @@ impl Answers {
         ensures { AreOnce self.now.pairs }
     {
         let _pairs = &self.pairs;
+    }
+
+    /// Each predicate that is trusted is listed once.
+    pub fn are_trusted_once(&self)
+        ensures { AreListedOnce self.now.trusted }
+    {
+        let _trusted = &self.trusted;
     }
 
     /// How many pairs there are.

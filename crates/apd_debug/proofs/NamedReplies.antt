@@ -15,7 +15,7 @@ use Rattle.apd_term.specs.Matching.{is_instance}
 use Rattle.apd_term.specs.Term.{Term}
 use Rattle.apd_term.specs.declared.term.Pred.{Pred}
 use Rattle.apd_term.proofs.Named.{AllNamed-more, IsNamed-more, TupleIsNamed-more}
-use Rattle.apd_text.specs.FilterTerms.{PredsAreNamed}
+use Rattle.apd_known.specs.Pairs.{AllMayTrust}
 use Rattle.apd_text.specs.Named.{QuestionIsNamed, ReplyIsNamed}
 use Rattle.apd_debug.specs.NamedStates.{AreReplies, AreRepliesIn, IsNamedReply}
 
@@ -34,12 +34,12 @@ pub AreReplies-more_in : (n m : ℕ) (pairs : List Pair) → n ≤ m → AreRepl
 AreReplies-more_in n m [] less named = tt
 AreReplies-more_in n m (pair ∷ pairs) less named = ((named.0.0, ReplyIsNamed-more n m pair.reply less named.0.1, QuestionIsNamed-more n m pair.question less named.0.2), AreReplies-more_in n m pairs less named.1)
 
-preds-more : (n m : ℕ) (preds : List Pred) → n ≤ m → PredsAreNamed n preds → PredsAreNamed m preds
-preds-more n m [] less named = tt
-preds-more n m (p ∷ preds) less named = (let first = named.0 in omega (arith, first, less), preds-more n m preds less named.1)
+trust-more : (n m : ℕ) (preds : List Pred) → n ≤ m → AllMayTrust n preds → AllMayTrust m preds
+trust-more n m [] less may = tt
+trust-more n m (p ∷ preds) less may = (record { own = may.0.own; named = let first = may.0.named in omega (arith, first, less) }, trust-more n m preds less may.1)
 
 pub AreReplies-more : (n m : ℕ) (store : Store) → n ≤ m → AreReplies n store → AreReplies m store
-AreReplies-more n m store less named = record { pairs = AreReplies-more_in n m store.pairs less named.pairs; trust = preds-more n m store.trusted less named.trust }
+AreReplies-more n m store less named = record { pairs = AreReplies-more_in n m store.pairs less named.pairs; trust = trust-more n m store.trusted less named.trust }
 
 replies-append : (n : ℕ) (pairs : List Pair) (q : Question) (r : Reply) → AreRepliesIn n pairs → IsNamedReply n q r → AreRepliesIn n (pairs ++ record { question = q; reply = r } ∷ [])
 replies-append n [] q r named last = (last, tt)

@@ -14,7 +14,7 @@ use Rattle.apd_missing.specs.declared.state.Unanswered.{Unanswered}
 use Rattle.apd_record.specs.Recorded.{Recorded}
 use Rattle.apd_term.specs.Named.{AllTuplesNamed, IsNamed}
 use Rattle.apd_term.specs.declared.tuple.Tuple.{Tuple}
-use Rattle.apd_text.specs.FilterTerms.{PredsAreNamed}
+use Rattle.apd_known.specs.Pairs.{AllMayTrust}
 use Rattle.apd_text.specs.Named.{HasStandardNames, QuestionIsNamed, ReplyIsNamed}
 use Rattle.apd_text.specs.declared.entry.Entry.{Entry}
 use Rattle.apd_text.specs.declared.entry.Entry.TheVariants as entry
@@ -27,10 +27,10 @@ abbrev pub AreRepliesIn : ℕ → List Pair → Type 0
 AreRepliesIn n [] = Unit {0}
 AreRepliesIn n (pair ∷ pairs) = IsNamedReply n pair.question pair.reply × AreRepliesIn n pairs
 
--- so is each, and so are the predicates that are trusted
+-- so is each, and the predicates that are trusted are named too, and are ones that a program may define
 pub record AreReplies (n : ℕ) (store : Store) : Type 0 where
   pub pairs : AreRepliesIn n store.pairs
-  pub trust : PredsAreNamed n store.trusted
+  pub trust : AllMayTrust n store.trusted
 
 -- a state of the diagnosis of a missing answer is named, and so are the program, the replies, and the words that findings are
 -- written with

@@ -69,7 +69,8 @@ pub fn missing_answers_are_named()
 /// The diagnosis of a run that doesn't end asks about and finds what is named where its record is, in whatever lines the
 /// clauses stand and however many calls there are.
 pub fn runs_without_end_are_named()
-    ensures { (R : Recorded) (chain : List ℕ) (strategy : Strategy) (line_of : Finding → ℕ) (calls : ℕ) →
+    ensures { (R : Recorded) (chain : List ℕ) (strategy : Strategy) (line_of : Finding → ℕ)
+        (calls : ℕ) →
         KeepsNamed (loop R chain strategy) (loop_entry line_of calls) (IsKnownLoop R) }
 {}
 

@@ -41,7 +41,8 @@ pub(crate) fn answer_question<K: Sink>(
 ) -> Result<Reply, AskEnd>
     requires few { IsNodeCount nodes }
     requires standard { length standard_names ≤ length log.old.names }
-    ensures says { SaysQuestion asked.now (risen count) (reply_to nodes program.now asked.now.question)
+    ensures says { SaysQuestion asked.now (risen count)
+        (reply_to nodes program.now asked.now.question)
         (spoken K.Sink log.old sink.old) (spoken K.Sink log.new sink.new) result }
     ensures fits { IfOk result (FitsAsked asked.now) }
 {

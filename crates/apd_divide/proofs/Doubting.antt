@@ -1,6 +1,6 @@
 -- Walks over the rows of trees beside each other, into those that are open or doubted and past those that are cleared: the
 -- instances of the nodes that were judged unknown, and the first suspect that has such a label.
-use Rattle.std.proofs.Common.{◌≡◌, ℕ, suc, ◌+◌, ◌-◌, ◌<◌, ◌≤◌, ◌&&◌, ◌||◌, Bool, true, false, List, [], ◌∷◌, ◌++◌, length, get_or, drop, Option, Some, None, refl, sym, ◌∙◌, ap, subst, arith, append_assoc}
+use Rattle.std.proofs.Common.{◌≡◌, ℕ, suc, ◌+◌, ◌-◌, ◌<◌, ◌≤◌, ◌&&◌, ◌||◌, Bool, true, false, List, [], ◌∷◌, ◌++◌, length, get_or, drop, Option, Some, None, refl, sym, ◌∙◌, ap, arith, append_assoc}
 use Rattle.std.specs.Prelude.{MatchBool}
 use Rattle.std.specs.Option.{option_map}
 use Rattle.std.proofs.lemmas.List.{drop_at, drop-drop, length-append, length-drop, append-nil}
@@ -10,8 +10,8 @@ use Rattle.apd_term.specs.declared.instance.Instance.{Instance}
 use Rattle.apd_divide.specs.declared.node.Row.{Row}
 use Rattle.apd_divide.specs.declared.node.Standing.{Standing}
 use Rattle.apd_divide.specs.declared.node.Standing.TheVariants.{Open, Cleared, Doubted}
-use Rattle.apd_divide.specs.Tree.{Tree, Forest, node, bare, beside, is_open, is_suspect, label, children, doubts, doubts_by, doubts_of}
-use Rattle.apd_divide.specs.Choice.{Cut, Among, Way, at_node, in_front_of, behind, here, cut, cut_among, has_such, have_such, has_such_by, to_such}
+use Rattle.apd_divide.specs.Tree.{Tree, Forest, node, bare, beside, is_open, is_suspect, label, doubts, doubts_by, doubts_of}
+use Rattle.apd_divide.specs.Choice.{Way, at_node, in_front_of, behind, cut, cut_among, has_such, have_such, has_such_by, to_such}
 use Rattle.apd_divide.specs.Rows.{row, rows, rows_of, nodes, nodes_of, way_number, number_among}
 use Rattle.apd_divide.specs.Kept.{forest_from}
 use Rattle.apd_divide.proofs.Weights.{by_test}
@@ -32,7 +32,7 @@ abbrev pub joined : Forest → Forest → Forest
 joined bare ys = ys
 joined (beside x xs) ys = beside x (joined xs ys)
 
-rows-joined : (xs ys : Forest) → rows_of (joined xs ys) ≡ rows_of xs ++ rows_of ys
+pub rows-joined : (xs ys : Forest) → rows_of (joined xs ys) ≡ rows_of xs ++ rows_of ys
 rows-joined bare ys = refl
 rows-joined (beside x xs) ys = ap (λ r. rows x ++ r) (rows-joined xs ys) ∙ sym (append_assoc (rows x) (rows_of xs) (rows_of ys))
 

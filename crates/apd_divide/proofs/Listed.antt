@@ -1,6 +1,5 @@
 -- The first suspect that has such a label, by its place.
-use Rattle.std.proofs.Common.{◌≡◌, ℕ, suc, ◌+◌, ◌-◌, Bool, true, false, List, [], ◌∷◌, ◌++◌, get_or, length, Option, Some, None, refl, sym, ◌∙◌, ap, subst, arith}
-use Rattle.std.specs.Prelude.{IsSome}
+use Rattle.std.proofs.Common.{◌≡◌, suc, ◌+◌, Bool, false, List, [], ◌∷◌, ◌++◌, get_or, length, None, refl, sym, ◌∙◌, ap, arith}
 use Rattle.std.specs.Option.{option_map}
 use Rattle.apd_term.specs.Term.{Term}
 use Rattle.apd_term.specs.declared.term.Pred.{Pred}
@@ -8,11 +7,9 @@ use Rattle.apd_divide.specs.declared.node.Standing.TheVariants.{Open, Cleared, D
 use Rattle.apd_divide.specs.declared.node.Row.{Row}
 use Rattle.apd_term.specs.declared.instance.Instance.{Instance}
 use Rattle.apd_divide.specs.Tree.{Tree, Forest, node, bare, beside, children, clause_at, instance, doubts_of, candidates}
-use Rattle.apd_divide.specs.Choice.{Cut, Way, cut, to_such, first_such, has_such, have_such, is_listed, IsChoiceAt}
-use Rattle.apd_divide.specs.Rows.{nodes, rows_of, cut_number, way_number, number_among}
-use Rattle.apd_divide.specs.Kept.{Kept, IsKept, tree_of, cut_of, forest_from}
-use Rattle.apd_divide.proofs.Weights.{such-suspects}
-use Rattle.apd_divide.proofs.Numbers.{way_number-is, is_less}
+use Rattle.apd_divide.specs.Choice.{Way, cut, to_such, first_such, has_such, have_such, is_listed}
+use Rattle.apd_divide.specs.Rows.{nodes, rows_of, way_number, number_among}
+use Rattle.apd_divide.specs.Kept.{Kept, IsKept, tree_of, forest_from}
 use Rattle.apd_divide.proofs.Seeking.{forest-of}
 use Rattle.apd_divide.proofs.Kept.{own_row, own-clause, own-instance, at_root}
 use Rattle.apd_divide.proofs.Doubting.{is_there, cut-number, there_none, instance_is}
@@ -29,28 +26,6 @@ module _ (such : Term → Bool) where
       let f : number_among way (children x) ≡ None = ap (number_among way) (sym (forest-of part (children x) is)) ∙ e in
       let g : way_number way x ≡ None = way_below way x ∙ ap (option_map suc) f in
       there_none (cut way x) (cut-number way x ∙ ap is_there g)
-
-  some_there : (o : Option Cut) → is_there o ≡ true → IsSome o
-  some_there None e = absurd (cc)
-  some_there (Some c) e = refl
-
-  pub next_some : (k : Kept) (j n : ℕ) (part : List Row) → part ≡ rows_of (children (tree_of k)) → number_among way (forest_from part) ≡ Some j → n ≡ k.root + 1 + j → IsChoiceAt (first_such such (tree_of k)) (cut_of k n)
-  next_some k j n part is e n_is =
-      let x = tree_of k in
-      let f : number_among way (children x) ≡ Some j = ap (number_among way) (sym (forest-of part (children x) is)) ∙ e in
-      let g : way_number way x ≡ Some (suc j) = way_below way x ∙ ap (option_map suc) f in
-      let c = way_number-is way (such-suspects such) x (suc j) g in
-      let number : n - k.root ≡ suc j = omega (arith, n_is) in
-      let there : cut_of k n ≡ cut_number (suc j) x = rw (is_less k.root n (omega (arith, n_is)), number) refl in
-      let same : first_such such x ≡ cut_of k n = c.cut_is ∙ sym there in
-      (subst (λ (o : Option Cut). IsSome o) same (some_there (cut way x) (cut-number way x ∙ ap is_there g)), same)
-
-  -- what was found, and that it is there
-  pub some_not_none : (x : Tree) (o : Option Cut) → IsChoiceAt (first_such such x) o → first_such such x ≡ None → ⊥
-  some_not_none x o h e =
-      let f : o ≡ None = sym h.1 ∙ e in
-      let g : IsSome {T = Cut} None = subst (λ (p : Option Cut). IsSome p) f h.0 in
-      cc
 
 -- the root's instance, and those of the nodes that were judged unknown
 pub candidates_are : (k : Kept) (r : Row) (i : Instance) (part : List Row) (first made out : List Instance) → IsKept k → r ≡ get_or k.rows k.root r → i.clause ≡ r.clause → i.tuple ≡ r.tuple

@@ -1,5 +1,5 @@
 -- What a choice and its reply leave of the suspects.
-use Rattle.std.proofs.Common.{◌≡◌, ℕ, ◌+◌, ◌-◌, ◌*◌, ◌<◌, ◌≤◌, ◌&&◌, ◌||◌, Bool, true, false, max, List, [], ◌∷◌, ◌++◌, Option, Some, None, refl, sym, ◌∙◌, ap, subst, arith}
+use Rattle.std.proofs.Common.{◌≡◌, ℕ, ◌+◌, ◌-◌, ◌*◌, ◌<◌, ◌≤◌, ◌&&◌, Bool, true, false, max, List, [], ◌∷◌, ◌++◌, Option, Some, None, refl, sym, ◌∙◌, ap, subst, arith}
 use Rattle.std.specs.Prelude.{nat_le, ◌==◌}
 use Rattle.std.specs.Option.{option_map}
 use Rattle.std.proofs.lemmas.Bool.Decides.{nat_tests}
@@ -11,8 +11,8 @@ use Rattle.apd_divide.specs.declared.node.Verdict.{Verdict}
 use Rattle.apd_divide.specs.declared.node.Verdict.TheVariants.{True, False, Unknown}
 use Rattle.apd_divide.specs.declared.node.Strategy.{Strategy}
 use Rattle.apd_divide.specs.declared.node.Strategy.TheVariants.{Divide, Single, Top}
-use Rattle.apd_divide.specs.Tree.{Tree, Forest, node, bare, beside, standing, marked, is_open, is_suspect, label, weight, weight_by, lost_by, weights, suspects, heaviest, width, branching, branchings, children, doubts, doubts_of, IsUndoubted}
-use Rattle.apd_divide.specs.Choice.{Cut, Among, Way, at_node, in_front_of, behind, here, cut, cut_among, has_such, have_such, has_such_by, to_such, first_such, has_suspects, half, halving, stepping, top_down, way_of, choice, judged}
+use Rattle.apd_divide.specs.Tree.{Tree, Forest, node, bare, beside, standing, marked, is_suspect, label, weight, weight_by, lost_by, weights, suspects, heaviest, width, branching, branchings, doubts, doubts_of, IsUndoubted}
+use Rattle.apd_divide.specs.Choice.{Cut, Among, Way, at_node, in_front_of, behind, here, cut, cut_among, has_such, have_such, to_such, first_such, has_suspects, half, halving, stepping, top_down, way_of, choice, judged}
 
 -- the two values of a test
 pub by_test : {C : Type 0} (b : Bool) → (b ≡ true → C) → (b ≡ false → C) → C

@@ -4,8 +4,9 @@ ghost use Rattle.std.specs.Prelude.{◌≡◌, ◌≤◌, ◌<◌, ◌↔◌, �
 ghost use Rattle.apd_divide.specs.declared.node.Row.{Row};
 ghost use Rattle.apd_divide.specs.declared.node.Strategy.TheVariants.{Divide};
 ghost use Rattle.apd_divide.specs.Tree.{label, children, suspects, clause_at, instance, branching, lost_by, candidates, doubts_of};
-ghost use Rattle.apd_divide.specs.Choice.{judged, standing_for, first_such, is_listed, IsChoiceAt};
+ghost use Rattle.apd_divide.specs.Choice.{judged, standing_for, is_listed, EachIsTrue};
 ghost use Rattle.apd_divide.specs.Kept.{Kept, kept_at, IsKept, tree_of, cut_of, replaced, IsChosen, LeavesFraction, TakesItsShare, forest_from};
+ghost use Rattle.apd_divide.specs.Cleared.{cleared_below};
 ghost use Rattle.apd_divide.specs.Rows.{broadest, rows_of};
 ghost use Rattle.apd_divide.specs.Recorded.{tree};
 ghost use Rattle.apd_divide.specs.Exits.{IsLabelled};
@@ -13,7 +14,7 @@ ghost use Rattle.apd_divide.specs.Exits.{IsLabelled};
 use crate::growing::grown;
 use crate::node::{NodeId, Row, Standing, Strategy, Verdict};
 use crate::spans::set_spans;
-use crate::walk::{chosen_place, first_listed};
+use crate::walk::{chosen_place, clear_listed, first_listed};
 use apd_ports::PointId;
 use apd_record::Record;
 use apd_term::{Flat, Instance, Instances, Preds, Tuple};
@@ -75,6 +76,19 @@ fn mark(rows: &mut [Row], root: usize, node: usize, standing: Standing)
     let row = &mut rows[node];
     row.weight -= lost;
     row.standing = standing;
+}
+
+/// Judges suspects of these predicates true, the first in the order in which a node comes before those below it, until there is
+/// none.
+fn clear_below(rows: &mut [Row], root: usize, preds: &Preds)
+    requires kept { IsKept (kept_at rows.old root) }
+    requires there { root < length rows.old }
+    ensures { let k = kept_at rows.old root in
+        rows.new ≡ replaced k (cleared_below (is_listed preds.now) (tree_of k)) }
+{
+    let end = root + rows[root].span as usize;
+    clear_listed(&mut rows[root + 1..end], preds);
+    set_spans(&mut rows[root..end]);
 }
 
 /// The instance of a row.
@@ -248,17 +262,16 @@ impl Suspects {
         Ok(instances)
     }
 
-    /// The first suspect of one of these predicates, in the order in which a node comes before those below it; none exactly where
-    /// there is none.
-    pub fn next_of(&self, preds: &Preds) -> Option<NodeId>
-        ensures none { (result ≡ None) ↔ (first_such (is_listed preds.now) (tree_of self.now) ≡
-            None) }
-        ensures some { IfSome result (λ n. IsChoiceAt
-            (first_such (is_listed preds.now) (tree_of self.now)) (cut_of self.now n.0)) }
+    /// Judges suspects of these predicates true, the first in the order in which a node comes before those below it, until there
+    /// is none.
+    pub fn judge_listed(&mut self, preds: &Preds)
+        ensures judged { EachIsTrue (is_listed preds.now) (tree_of self.old) (tree_of self.new) }
+        ensures nodes { length self.new.rows ≡ length self.old.rows }
+        ensures branching { broadest self.new.rows ≡ broadest self.old.rows }
     {
-        let Some(place) = first_listed(self.below(), preds) else {
-            return None;
+        let Some(_first) = first_listed(self.below(), preds) else {
+            return;
         };
-        Some(NodeId((self.root + 1 + place) as u32))
+        clear_below(&mut self.rows, self.root, preds);
     }
 }

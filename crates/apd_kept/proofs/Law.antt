@@ -13,7 +13,8 @@ use Rattle.apd_reading_back.specs.Lines.{AreWritten, Line, ReadsInTurn, as_call,
 use Rattle.apd_reading_back.specs.Queries.{call_term, call_text}
 use Rattle.apd_reading_back.proofs.Lines.{lines_read_in_turn}
 use Rattle.apd_reading_back.proofs.Read.{standard_text}
-use Rattle.apd_term.specs.Names.{text_of_name}
+use Rattle.apd_term.specs.Growth.{Grown}
+use Rattle.apd_term.specs.Names.{HasDistinctTexts, text_of_name}
 use Rattle.apd_term.specs.StandardNames.{standard_names}
 use Rattle.apd_term.specs.Term.{Term, integer}
 use Rattle.apd_term.specs.declared.standard.TheConstants.{FORM}
@@ -23,18 +24,19 @@ use Rattle.apd_term.proofs.Ground.{apply-ground}
 use Rattle.apd_term.proofs.Variants.{canonical-canonical}
 use Rattle.apd_write.specs.NameTexts.{function_text}
 use Rattle.apd_write.specs.Writing.{in_parentheses, written}
-use Rattle.apd_answers.specs.Once.{AreSame, with_pairs_in}
+use Rattle.apd_answers.specs.Fitting.{AllFit, AllFitIn}
+use Rattle.apd_answers.specs.Once.{AreListedOnce, AreNewPreds, AreOnce, AreSame, with_pairs_in}
 use Rattle.apd_answers.specs.Store.{Store, empty_store}
 use Rattle.apd_answers.specs.Trust.{with_trust}
 use Rattle.apd_answers.specs.declared.store.Pair.{Pair}
 use Rattle.apd_answers.proofs.Once.{put-again}
-use Rattle.apd_known.specs.Pairs.{AllMayTrust, AllStatable}
+use Rattle.apd_known.specs.Pairs.{AllMayTrust, AllStatable, MayAsk}
 use Rattle.apd_known.specs.Statements.{statement_added}
 use Rattle.apd_known.specs.declared.file.Stated.{Stated}
 use Rattle.apd_known.specs.declared.statements.Form.TheVariants.{Second}
 use Rattle.apd_text.specs.Named.{HasStandardNames}
 use Rattle.apd_kept.specs.Kept.{known_text, pair_line, pair_term, statement_of, reply_term, trust_line, trust_term}
-use Rattle.apd_kept.specs.Law.{AreNewPreds, CanBeWritten, IsWritableStore, ReadsBackAs}
+use Rattle.apd_kept.specs.Law.{CanBeWritten, CanReadBack, IsWritableStore, PairIsNamed, ReadsBackAs}
 use Rattle.apd_kept.proofs.Forms.{there}
 use Rattle.apd_kept.proofs.MoreNames.{pair_named, trust_named}
 use Rattle.apd_kept.proofs.Reading.{Makes, states_in_turn}
@@ -235,3 +237,23 @@ module _ (ops : Table) (names : List (List ℕ)) (table : IsTable ops) (all : Ar
           pairs = subst (AreSame store.pairs) (sym kept) made.same;
         },
       )
+
+-- a store of replies, whose pairs fit
+pub all-statable : (n : ℕ) (pairs : List Pair) → AllFitIn pairs → AllByRecursion (λ (p : Pair). MayAsk p.question) pairs → AllByRecursion (λ (p : Pair). PairIsNamed n p) pairs → AllStatable n pairs
+all-statable n [] fits asked named = tt
+all-statable n (p ∷ ps) fits asked named =
+    (record { asked = asked.0; fits = fits.0; question_named = named.0.0; reply_named = named.0.1 }, all-statable n ps fits.1 asked.1 named.1)
+
+pub store_reads_back : (ops : Table) (names : List (List ℕ)) (store : Store) → IsTable ops → HasDistinctTexts names → Grown standard_names names → AllFit store → AreOnce store.pairs → AreListedOnce store.trusted
+    → AllByRecursion (λ (p : Pred). p.arity ≤ 255) store.trusted → CanReadBack ops names store → (s : Stated) × ReadsBackAs ops names store s
+store_reads_back ops names store table distinct standard fits once listed arities can =
+    reads_back_as ops names table (record { distinct = distinct; standard = standard }) store
+    (record {
+      pairs = all-statable (length names) store.pairs fits can.stated.asked can.named;
+      once = once;
+      trust = can.trust;
+      trust_once = listed;
+      arities = arities;
+      pair_texts = can.stated.pair_texts;
+      trust_texts = can.stated.trust_texts;
+    })

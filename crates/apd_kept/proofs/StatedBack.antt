@@ -36,13 +36,14 @@ use Rattle.apd_text.specs.ClauseTerms.{list_term, with_body}
 use Rattle.apd_known.specs.Indicators.{indicated}
 use Rattle.apd_known.specs.Pairs.{IsStatable, MayAsk, MayCover, MayTrust}
 use Rattle.apd_known.specs.Statements.{body_stated, cover_stated, is_own, is_of_own, is_own_atom, of_reply, order_stated, pair_of, reply_stated, solution_stated, statement_added, term_stated, trust_stated, truth_stated}
-use Rattle.apd_known.specs.Told.{listed, truth_told, values_told, word_told}
+use Rattle.apd_known.specs.Told.{truth_told, values_told, word_told}
+use Rattle.apd_term.specs.Listed.{listed}
 use Rattle.apd_known.specs.Truths.{is_true_if_builtin, passes}
 use Rattle.apd_known.specs.declared.statements.Form.TheVariants.{Second}
 use Rattle.apd_kept.specs.Kept.{apart_from, pair_term, reply_term, trust_term, variable_count}
 use Rattle.apd_kept.proofs.Clauses.{clause_back_from}
 use Rattle.apd_kept.proofs.Forms.{back, clause_apply, clause_back, list_ground, same_form, same_tuple_form, same_unknowns, there, three_back, two_back}
-use Rattle.apd_missing.proofs.Places.{values_ground}
+use Rattle.apd_answers.proofs.Places.{values_ground}
 
 -- the statement of a pair, stated again
 pub record IsStatedBack (p : Pair) : Type 0 where

@@ -7,4 +7,4 @@ mod statements;
 mod text;
 
 pub use laws::known_reads_back;
-pub use text::known_text;
+pub use text::{known_text, reads_back};

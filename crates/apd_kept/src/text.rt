@@ -1,6 +1,10 @@
 //! The text of what is known.
 
-ghost use Rattle.std.specs.Prelude.{◌≡◌, ◌<◌, ◌++◌, flat_map, length, slice_get, IfOk, IfSome, OnErr, OnOk};
+ghost use Rattle.std.specs.Prelude.{◌≡◌, ◌<◌, ◌≤◌, ◌++◌, flat_map, length, slice_get, IfOk, IfSome, OnErr, OnOk};
+ghost use Rattle.std.specs.List.{AllByRecursion};
+ghost use Rattle.apd_term.specs.declared.term.Pred.{Pred};
+ghost use Rattle.apd_known.specs.declared.file.Stated.{Stated};
+ghost use Rattle.apd_kept.specs.Law.{CanReadBack, ReadsBackAs};
 ghost use Rattle.apd_answers.specs.declared.store.Pair.{Pair};
 ghost use Rattle.apd_kept.specs.Kept.{known_text, line_of, pair_line, trust_line};
 
@@ -97,6 +101,38 @@ fn whole_text(
     add_trust(alloc, ops, names, answers.trusted().as_slice(), &mut text)?;
     add_pairs(alloc, ops, names, answers, &mut text)?;
     Ok(text)
+}
+
+/// The number of arguments is at most 255.
+fn has_arity(pred: Pred)
+    ensures { pred.arity ≤ 255 }
+{
+    let _arity = pred.arity;
+}
+
+/// So is each.
+fn have_arities(preds: &[Pred])
+    ensures { AllByRecursion (λ (p : Pred). p.arity ≤ 255) preds.now }
+{
+    'preds: for i in 0..preds.len() {
+        has_arity(preds[i]);
+    }
+}
+
+/// The law of reading back, at a store of replies, whose pairs fit and are kept once, and which lists each trusted predicate
+/// once: its text, read as an oracle file by the same operators, states the same trust, and the same replies up to the
+/// canonical form of their questions. It is so where a file may state each question, each predicate is one that a program may
+/// define, the names are kept, and each statement can be written: then it has no term at level 1,000.
+pub fn reads_back(answers: &Answers, ops: &Ops, names: &Names)
+    ensures { CanReadBack ops.now names.now answers.now →
+        (s : Stated) × ReadsBackAs ops.now names.now answers.now s }
+{
+    answers.are_fitting();
+    answers.are_once();
+    answers.are_trusted_once();
+    have_arities(answers.trusted().as_slice());
+    ops.has_no_clash();
+    let _count = names.count();
 }
 
 /// Adds what is known as an oracle file of the second form: a line for each predicate that is trusted, and one for each reply,

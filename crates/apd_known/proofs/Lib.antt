@@ -1,5 +1,4 @@
 pub mod Truths
-pub mod Listing
 pub mod Telling
 pub mod Stating
 pub mod Saying

@@ -13,7 +13,8 @@ use Rattle.apd_answers.specs.Questions.{Fits}
 use Rattle.apd_answers.specs.declared.question.Question.{Question}
 use Rattle.apd_answers.specs.declared.question.Reply.{Reply}
 use Rattle.apd_answers.specs.declared.question.Reply.TheVariants.{Yes, No, Values, Unknown}
-use Rattle.apd_known.specs.Told.{is_word, listed, listed_in, truth_told, values_of, values_told, word_told}
+use Rattle.apd_known.specs.Told.{is_word, truth_told, values_of, values_told, word_told}
+use Rattle.apd_term.specs.Listed.{listed, listed_in}
 
 if_some : {A : Type 0} (b : Bool) (o : Option A) (x : A) → (if b then o else None) ≡ Some x → o ≡ Some x
 if_some true o x is = is

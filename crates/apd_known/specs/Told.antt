@@ -2,25 +2,13 @@
 use Rattle.std.specs.Prelude.{◌==◌, List, [], ◌∷◌, Bool, if◌then◌else◌, Option, None, Some}
 use Rattle.std.specs.Option.{option_map}
 use Rattle.apd_term.specs.Term.{Term, Terms, variable, integer, compound, none, more, arguments, predicate_of}
-use Rattle.apd_term.specs.declared.standard.TheConstants.{CELL, NIL, YES, NO, UNKNOWN}
+use Rattle.apd_term.specs.Listed.{listed}
+use Rattle.apd_term.specs.declared.standard.TheConstants.{YES, NO, UNKNOWN}
 use Rattle.apd_term.specs.declared.term.NameId.{NameId}
 use Rattle.apd_clauses.specs.Kinds.{◌∕◌}
 use Rattle.apd_clauses.specs.Predicates.{is_pred}
 use Rattle.apd_answers.specs.declared.question.Reply.{Reply}
 use Rattle.apd_answers.specs.declared.question.Reply.TheVariants.{Yes, No, Values, Unknown}
-
--- the elements of a list that ends in []
-abbrev mutual
-  pub listed : Term → Option (List Term)
-  listed (variable v) = None
-  listed (integer i) = None
-  listed (compound f ts) = listed_in f ts
-
-  pub listed_in : NameId → Terms → Option (List Term)
-  listed_in f none = if f.0 == NIL.0 then Some [] else None
-  listed_in f (more t none) = None
-  listed_in f (more t (more u none)) = if f.0 == CELL.0 then option_map (λ ts. t ∷ ts) (listed u) else None
-  listed_in f (more t (more u (more v ts))) = None
 
 -- the term is this word
 abbrev pub is_word : Term → NameId → Bool

@@ -1,4 +1,4 @@
-//! The oracle file: replies that are known beforehand.
+//! The oracle file: replies that are known and predicates that are trusted beforehand.
 
 ghost use Rattle.std.specs.Prelude.{◌≡◌, ◌<◌, ◌≤◌, ◌+◌, length, IfOk, OnOk};
 ghost use Rattle.std.specs.Option.{ForSome};
@@ -187,7 +187,8 @@ fn state_clauses(
     requires size { length text.now ≤ MAX_FILE }
     requires tokens { HasTokens text.now tokens.now }
     ensures grows { GrowsBy (length text.now) names.old names.new }
-    ensures stated { IsStated (λ n reader. all_stated reader ops.now text.now tokens.now) names.new result }
+    ensures stated { IsStated
+        (λ n reader. all_stated reader ops.now text.now tokens.now) names.new result }
     ensures pairs { IfOk result (λ s. AllStatable (length names.new) s.answers.pairs) }
     ensures trust { IfOk result (λ s. AllMayTrust (length names.new) s.answers.trusted) }
 {

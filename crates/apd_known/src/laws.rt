@@ -8,5 +8,6 @@ ghost use Rattle.apd_known.specs.Files.{stated_in};
 /// The law of one statement list: under the same names and by the same operators all readers of texts give the same
 /// statements of a text, or the same first fault with its line.
 pub fn one_statement_list()
-    ensures { (names : List (List ℕ)) (r s : Reader names) (ops : Table) (text : List ℕ) → IsTable ops → stated_in r ops text ≡ stated_in s ops text }
+    ensures { (names : List (List ℕ)) (r s : Reader names) (ops : Table) (text : List ℕ) →
+        IsTable ops → stated_in r ops text ≡ stated_in s ops text }
 {}

@@ -1,7 +1,7 @@
-//! Replies that are known: the reply that a term is, the oracle file, and an oracle that has all its replies beforehand.
+//! Replies and trust that are known: the reply that a term is, the oracle file, and an oracle that has all its replies
+//! beforehand.
 #![tactic(auto)]
 
-mod elements;
 mod file;
 mod indicators;
 mod laws;
@@ -12,7 +12,7 @@ mod values;
 
 pub use file::{OracleText, Stated, oracle_file};
 pub use laws::one_statement_list;
-pub use scripted::Scripted;
+pub use scripted::{Scripted, fits_body};
 pub use statements::Form;
 pub use told::{truth_told, values_told, word_told};
 pub use values::{are_ground, are_true_if_builtin, unknown_count, variable_count};

@@ -9,8 +9,12 @@ use apd_answers::{Answers, AskEnd, Asked, Oracle, Question, Reply, with_values};
 use apd_term::{Atoms, Tuple};
 use std::alloc::{AllocError, Global};
 
-/// Whether values fit a body.
-fn fits_body(alloc: Global, tuple: &Tuple, values: &Atoms) -> Result<bool, AllocError>
+/// Whether values fit a body: they are ground, as many as it has variables, and make each built-in atom true.
+///
+/// # Errors
+///
+/// Where there was no memory.
+pub fn fits_body(alloc: Global, tuple: &Tuple, values: &Atoms) -> Result<bool, AllocError>
     ensures { IfOk result (λ b. b ≡ fits_body tuple.now values.now) }
 {
     if !are_ground(values) || values.len() != unknown_count(alloc, tuple)? {

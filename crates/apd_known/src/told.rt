@@ -3,8 +3,8 @@
 ghost use Rattle.std.specs.Prelude.{◌≡◌, IfOk};
 ghost use Rattle.apd_known.specs.Told.{truth_told, values_told, word_told};
 
-use crate::elements::listed;
 use apd_answers::Reply;
+use apd_term::elements::listed;
 use apd_term::standard::{NO, UNKNOWN, YES};
 use apd_term::{Flat, Pred};
 use std::alloc::{AllocError, Global};

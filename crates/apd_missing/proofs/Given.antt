@@ -29,7 +29,7 @@ use Rattle.apd_answers.proofs.Decided.{decided-yes, decided-truth}
 use Rattle.apd_answers.proofs.Tests.{both}
 use Rattle.apd_missing.specs.Missing.{Looked, is_false_builtin, is_no, is_denied, is_closed, first_open, is_undecided, first_undecided}
 use Rattle.apd_missing.proofs.Tests.{by_test, not_true}
-use Rattle.apd_missing.proofs.Places.{values_ground}
+use Rattle.apd_answers.proofs.Places.{values_ground}
 
 -- a body that has no variables, is true by the replies, and is one of an instance of the clause with this head
 pub record IsGiven (store : Store) (rule : Tuple) (goal : Term) (body : List Term) : Type 0 where

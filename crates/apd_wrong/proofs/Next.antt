@@ -10,12 +10,11 @@ use Rattle.apd_answers.specs.declared.finding.Finding.{Finding}
 use Rattle.apd_answers.specs.Questions.{FitsAsked}
 use Rattle.apd_answers.specs.Store.{Store, decided, is_doubted, with_pair}
 use Rattle.apd_answers.specs.Trust.{is_trusted}
-use Rattle.apd_answers.specs.Dialogue.{Turn, asks, goes, ends, next_turn, Exchange, Dialogue, onto, replied, dialogue}
+use Rattle.apd_answers.specs.Dialogue.{Turn, asks, goes, ends, next_turn, Exchange, replied, dialogue}
 use Rattle.apd_answers.specs.Findings.{IsByReplies}
 use Rattle.apd_answers.proofs.Dialogue.{next_turn-decided, next_turn-asks, next_turn-goes, next_turn-ends}
 use Rattle.apd_divide.specs.declared.node.Strategy.{Strategy}
 use Rattle.apd_divide.specs.declared.node.Strategy.TheVariants.{Divide}
-use Rattle.apd_divide.specs.declared.node.Verdict.{Verdict}
 use Rattle.apd_divide.specs.declared.node.Verdict.TheVariants.{True, Unknown}
 use Rattle.apd_divide.specs.Tree.{Tree, label, suspects, branching}
 use Rattle.apd_divide.specs.Choice.{Cut, way_of, choice, judged}

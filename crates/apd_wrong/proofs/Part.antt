@@ -1,6 +1,6 @@
 -- What is judged is a part of the tree as it was; and where no label of a tree is one of which it is kept that it isn't known, no
 -- node is judged unknown.
-use Rattle.std.proofs.Common.{◌≡◌, ℕ, ◌≤◌, Bool, true, false, List, [], ◌∷◌, ◌++◌, Some, refl, sym, ◌∙◌, ap, subst, arith}
+use Rattle.std.proofs.Common.{◌≡◌, Bool, true, false, List, [], ◌++◌, Some, refl, sym, ◌∙◌, ap, subst, arith}
 use Rattle.apd_term.specs.Term.{Term}
 use Rattle.apd_record.specs.Recorded.{Recorded}
 use Rattle.apd_answers.specs.declared.question.Question.{Question}
@@ -13,7 +13,7 @@ use Rattle.apd_divide.specs.declared.node.Standing.TheVariants.{Open, Cleared, D
 use Rattle.apd_divide.specs.declared.node.Strategy.{Strategy}
 use Rattle.apd_divide.specs.declared.node.Verdict.{Verdict}
 use Rattle.apd_divide.specs.declared.node.Verdict.TheVariants.{True, False, Unknown}
-use Rattle.apd_divide.specs.Tree.{Tree, Forest, node, bare, beside, label, marked, suspects, branching, doubts, doubts_of, IsUndoubted}
+use Rattle.apd_divide.specs.Tree.{Tree, Forest, node, bare, beside, label, marked, suspects, doubts, doubts_of, IsUndoubted}
 use Rattle.apd_divide.specs.Choice.{Cut, Among, Way, at_node, cut, cut_among, way_of, to_such, choice, judged}
 use Rattle.apd_divide.proofs.Weights.{stopped, down, along, found, map_some}
 use Rattle.apd_divide.proofs.Branching.{judged-branches, cut-branches}

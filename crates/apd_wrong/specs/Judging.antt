@@ -13,10 +13,12 @@ use Rattle.apd_divide.specs.Choice.{choice}
 use Rattle.apd_wrong.specs.Wrong.{wrong, first_trusted}
 use Rattle.apd_wrong.specs.Support.{IsWrongTree}
 
--- the dialogue went on, fewer suspects are left, and the tree is still one whose label isn't true by the store
+-- the dialogue went on, fewer suspects are left, none of them trusted, and the tree is still one whose label isn't true by the
+-- store
 pub record Judges {O : Type 0} (strategy : Strategy) (step : O → Call → O → Type 0) (p q : Moment Tree O) : Type 0 where
   pub goes : Goes (wrong strategy) step p q
   pub fewer : suspects q.state < suspects p.state
+  pub trusted : first_trusted q.store q.state ≡ None
   pub stays : (P : List Tuple) (R : Recorded) → IsWrongTree P R p.store p.state → IsWrongTree P R q.store q.state
 
 -- the dialogue went on, and the tree is still one whose label isn't true by the store

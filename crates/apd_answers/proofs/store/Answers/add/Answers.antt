@@ -23,4 +23,5 @@ invariant_of-self-else-is_err c =
       tellers_added c.self.inside.pairs.items c.push.new.self.items (record { question = c.in_ok-copy.field-0; reply = c.in_ok-copy-2.field-0 }) c.telling_mark-telling.result c.len-place.result
           c.self.inside.tellers c.note_both-noted.new.tellers c.note_both-noted.result c.self.invariant.3 c.in_ok-push.ensures.items c.telling_mark-telling.ensures count
           c.note_both-noted.ensures.telling c.if-is_err.ensures.negation,
+      c.self.invariant.4,
     )

@@ -1,9 +1,0 @@
-use Rattle.std.proofs.Common.{length, ◌-◌}
-use Rattle.apd_known.proofs.Listing.{Listing}
-use Rattle.apd_known.proofs.elements.listed.Given as goal
-
-abbrev pub invariant-cells : goal.invariant-cells
-invariant-cells l = Listing l.list l.symbols l.elements l.at
-
-abbrev pub decreases-cells : goal.decreases-cells
-decreases-cells l = length l.symbols - l.at

@@ -1,5 +1,5 @@
 -- The entries of a diagnosis are right: of each of the three.
-use Rattle.std.proofs.Common.{◌≡◌, ℕ, Bool, List, [], ◌∷◌, Option, Some, None, refl, ap, subst, map}
+use Rattle.std.proofs.Common.{◌≡◌, ℕ, Bool, List, [], ◌∷◌, Option, Some, None, refl, ap, subst, map, ◌∙◌}
 use Rattle.std.specs.Prelude.{length}
 use Rattle.apd_term.specs.Term.{Term}
 use Rattle.apd_term.specs.Canonical.{canonical}
@@ -25,7 +25,10 @@ use Rattle.apd_divide.specs.declared.node.Strategy.{Strategy}
 use Rattle.apd_divide.specs.Exits.{IsUserExit}
 use Rattle.apd_divide.specs.Recorded.{tree}
 use Rattle.apd_divide.specs.Tree.{Tree, suspects}
-use Rattle.apd_loop.specs.Loop.{calls_in}
+use Rattle.apd_loop.specs.Loop.{calls_in, inside}
+use Rattle.apd_loop.specs.declared.LoopEnd.{LoopEnd}
+use Rattle.apd_loop.specs.declared.LoopEnd.TheVariants.{AllDescend}
+use Rattle.apd_loop.specs.declared.LoopEnd.TheVariants as loop_ends
 use Rattle.apd_text.specs.declared.entry.Told.{Told}
 use Rattle.apd_text.specs.declared.entry.Told.TheVariants.{Wrong}
 use Rattle.apd_wrong.specs.Wrong.{wrong}
@@ -35,21 +38,25 @@ use Rattle.apd_wrong.specs.Support.{IsWrongTree}
 use Rattle.apd_wrong.proofs.Next.{comes-next}
 use Rattle.apd_wrong.proofs.Part.{part-whole}
 use Rattle.apd_wrong.proofs.Recorded.{tree-wrong}
-use Rattle.apd_account.specs.Account.{Account, with_asked, with_reply, with_told}
-use Rattle.apd_account.specs.Right.{IsAnswer, IsDescent, IsFound, IsReferred, IsTreeOfSymptom, IsUnanswered, Leaves}
+use Rattle.apd_ports.specs.declared.point.PointId.{PointId}
+use Rattle.apd_account.specs.Account.{Account, Stage, Moves, Awaits, after_turn, at_stage, with_question, with_reply, with_told}
+use Rattle.apd_account.specs.Inquiry.{Inquiry, left_of}
+use Rattle.apd_account.specs.Right.{IsAnswer, IsDescent, IsDue, IsFound, IsHeadOf, IsQuestion, IsReferred, IsTreeOfSymptom, IsUnanswered, Leaves}
 
 -- what was found by the replies
-pub found-right : (m : Interpretation) (program : List Clause) (a : Account) (f : Finding) → IsSound (tuples_of program) a.history → IsByReplies (tuples_of program) a.history a.store f
-    → IsFound m program a f
-found-right m program a f sound by = record { by_replies = by; bug = λ true. finding-sound (tuples_of program) a.history m a.store f true sound by }
+pub found-right : (m : Interpretation) (program : List Clause) (strategy : Strategy) (a : Account) (f : Finding) → IsSound (tuples_of program) a.history → IsDue program strategy a (ends (loop_ends.Found f)) → IsByReplies (tuples_of program) a.history a.store f
+    → IsFound program strategy m a f
+found-right m program strategy a f sound due by = record { due = due; by_replies = by; bug = λ true. finding-sound (tuples_of program) a.history m a.store f true sound by }
 
 -- calls of which each is below the one before
 canonical-again : (R : Recorded) (bs : List ℕ) → map canonical (calls_in R bs) ≡ calls_in R bs
 canonical-again R [] = refl
 canonical-again R (b ∷ bs) = rw (canonical-canonical (call_atom R b), canonical-again R bs) refl
 
-pub descent-right : (m : Interpretation) (a : Account) → AllDescendByReplies a.store (calls_in a.history (chain a.history)) → IsDescent m a (length (chain a.history))
-descent-right m a by = record {
+pub descent-right : (m : Interpretation) (program : List Clause) (strategy : Strategy) (a : Account) → IsDue program strategy a (ends AllDescend) → AllDescendByReplies a.store (calls_in a.history (chain a.history))
+    → IsDescent program strategy m a (length (chain a.history))
+descent-right m program strategy a due by = record {
+  due = due;
   count = refl;
   by_replies = by;
   descends = λ true. subst (Descends m) (canonical-again a.history (chain a.history)) (descent-sound m a.store true (calls_in a.history (chain a.history)) by);
@@ -63,17 +70,20 @@ module _ {D : Type 0} (strategy : Strategy) (Known : Recorded → Store → Opti
     pub known : (r : Reply) → FitsAsked asked r → Known R (with_pair store asked.question r) symptom (next r)
     pub leaves : (r : Reply) → FitsAsked asked r → Leaves strategy R store symptom asked r (left (next r))
 
-  -- a question waits that was asked last
-  pub record Waits (a : Account) (asked : Asked) (next : Reply → D) : Type 0 where
-    pub last : a.asked ≡ Some asked
-    pub asks : AsksRightly a.history a.store a.symptom asked next
+  module _ (state : D → Inquiry) where
+    -- a question that was asked rightly waits for its reply
+    pub record Waits (a : Account) (asked : Asked) (next : Reply → D) : Type 0 where
+      pub stage : a.stage ≡ Awaits asked (λ r. state (next r))
+      pub asks : AsksRightly a.history a.store a.symptom asked next
 
-  pub waits : (a : Account) (asked : Asked) (next : Reply → D) → AsksRightly a.history a.store a.symptom asked next → Waits (with_asked a asked) asked next
-  waits a asked next k = record { last = refl; asks = record { unanswered = k.unanswered; known = k.known; leaves = k.leaves } }
+    pub waits : (a : Account) (asked : Asked) (next : Reply → D) → AsksRightly a.history a.store a.symptom asked next → Waits (at_stage a (Awaits asked (λ r. state (next r)))) asked next
+    waits a asked next k = record { stage = refl; asks = record { unanswered = k.unanswered; known = k.known; leaves = k.leaves } }
 
-  -- a reply that fits is right
-  pub reply-right : (a : Account) (asked : Asked) (next : Reply → D) (r : Reply) (by_reference : Bool) → Waits a asked next → FitsAsked asked r → IsReferred (a.replies asked.question) r by_reference → IsAnswer strategy a r (left (next r)) by_reference
-  reply-right a asked next r by_reference w fits referred = record { asked = asked; last = w.last; fits = fits; referred = referred; leaves = w.asks.leaves r fits }
+    -- a reply that fits is right
+    pub reply-right : (a : Account) (asked : Asked) (next : Reply → D) (r : Reply) (by_reference : Bool) → Waits a asked next → FitsAsked asked r → IsReferred (a.replies asked.question) r by_reference → left (next r) ≡ left_of (state (next r))
+        → IsAnswer strategy a r (left (next r)) by_reference
+    reply-right a asked next r by_reference w fits referred is =
+        record { asked = asked; next = λ r. state (next r); waits = w.stage; fits = fits; referred = referred; left_is = is; leaves = w.asks.leaves r fits }
 
 -- the next turn of a known state: a question that is asked rightly, or an end
 module _ {D E : Type 0} (strategy : Strategy) (Known : Recorded → Store → Option Told → D → Type 0) (left : D → Option ℕ) (IsEnd : Recorded → Store → E → Type 0) where
@@ -82,18 +92,23 @@ module _ {D E : Type 0} (strategy : Strategy) (Known : Recorded → Store → Op
   RightTurn R store symptom (goes x) = ⊥
   RightTurn R store symptom (ends e) = IsEnd R store e
 
--- what is told after a reply to what waits
-pub replied-is : (a : Account) (asked : Asked) (r : Reply) → a.asked ≡ Some asked → with_reply a a.asked r ≡ with_reply a (Some asked) r
-replied-is a asked r e = ap (λ o. with_reply a o r) e
+-- what is told after a question of the turn that is due, and after a reply to what waits
+pub question-is : (program : List Clause) (strategy : Strategy) (a : Account) (asked : Asked) (next : Reply → Inquiry) → IsDue program strategy a (asks asked next) → with_question program strategy a a.stage ≡ at_stage a (Awaits asked next)
+question-is program strategy a asked next due =
+    ap (with_question program strategy a) due.stage ∙ ap (λ (t : Turn Inquiry LoopEnd). at_stage a (after_turn t)) due.next
+
+pub replied-is : (a : Account) (asked : Asked) (next : Reply → Inquiry) (r : Reply) → a.stage ≡ Awaits asked next → with_reply a a.stage r ≡ with_reply a (Awaits asked next) r
+replied-is a asked next r e = ap (λ (s : Stage). with_reply a s r) e
 
 -- The diagnosis of a wrong answer.
 
 -- a tree of a wrong answer that is a part of the symptom's
 pub record IsKnownTree (P : List Tuple) (R : Recorded) (store : Store) (symptom : Option Told) (x : Tree) : Type 0 where
   pub atom : Term
-  pub symptom_is : symptom ≡ Some (Wrong atom)
+  pub exit : PointId
+  pub symptom_is : symptom ≡ Some (Wrong atom exit)
   pub whole : Tree
-  pub of_symptom : IsTreeOfSymptom R atom whole
+  pub of_symptom : IsTreeOfSymptom R exit.0 atom whole
   pub wrong : IsWrongTree P R store x
   pub part : IsPartOf whole x
 
@@ -107,6 +122,7 @@ module _ (P : List Tuple) (strategy : Strategy) where
     unanswered = record { undecided = a.undecided; unreplied = λ counted. a.unreplied };
     known = λ r fits. record {
       atom = k.atom;
+      exit = k.exit;
       symptom_is = k.symptom_is;
       whole = k.whole;
       of_symptom = k.of_symptom;
@@ -137,13 +153,16 @@ module _ (P : List Tuple) (strategy : Strategy) where
       wrong_turn-by R store symptom x k (next_turn (wrong strategy) store x) (comes-next P R strategy store k.whole x k.wrong k.part)
 
 -- a symptom begins with the tree of an exit that has it as its head
-pub wrong_begins : (P : List Tuple) (R : Recorded) (store : Store) (e : ℕ) (atom : Term) → IsSound P R → (x : IsUserExit R e) → x.point.tuple.head ≡ atom
-    → IsKnownTree P R (with_told store (Wrong atom)) (Some (Wrong atom)) (tree R e atom)
-wrong_begins P R store e atom sound x h = record {
+pub wrong_begins : (P : List Tuple) (R : Recorded) (store : Store) (exit : PointId) (atom : Term) → IsSound P R → IsHeadOf R exit.0 atom
+    → IsKnownTree P R (with_told store (Wrong atom exit)) (Some (Wrong atom exit)) (tree R exit.0 atom)
+wrong_begins P R store exit atom sound x = record {
   atom = atom;
+  exit = exit;
   symptom_is = refl;
-  whole = tree R e atom;
-  of_symptom = record { number = e; exit = x; head = h; tree_is = refl };
-  wrong = tree-wrong P R (with_told store (Wrong atom)) sound e atom x (subst (λ t. IsInstance t x.point.tuple.head) h (IsInstance_from_variants x.point.tuple.head x.point.tuple.head refl)) (added-no store atom);
-  part = part-whole (tree R e atom);
+  whole = tree R exit.0 atom;
+  of_symptom = record { head = x; tree_is = refl };
+  wrong =
+      let head = x.exit.point.tuple.head in
+      tree-wrong P R (with_told store (Wrong atom exit)) sound exit.0 atom x.exit (subst (λ t. IsInstance t head) x.head (IsInstance_from_variants head head refl)) (added-no store atom);
+  part = part-whole (tree R exit.0 atom);
 }

@@ -9,21 +9,21 @@ use Rattle.apd_account.specs.Right.{IsRight, AreRight}
 
 module _ (m : Interpretation) (program : List Clause) (strategy : Strategy) where
   -- entries behind others
-  pub right-append : (a : Account) (xs ys : List Entry) → AreRight m program strategy a xs → AreRight m program strategy (after_entries program a xs) ys → AreRight m program strategy a (xs ++ ys)
+  pub right-append : (a : Account) (xs ys : List Entry) → AreRight m program strategy a xs → AreRight m program strategy (after_entries program strategy a xs) ys → AreRight m program strategy a (xs ++ ys)
   right-append a [] ys r q = q
-  right-append a (e ∷ es) ys r q = (r.0, right-append (after_entry program a e) es ys r.1 q)
+  right-append a (e ∷ es) ys r q = (r.0, right-append (after_entry program strategy a e) es ys r.1 q)
 
   pub right-front : (a : Account) (xs ys : List Entry) → AreRight m program strategy a (xs ++ ys) → AreRight m program strategy a xs
   right-front a [] ys r = tt
-  right-front a (e ∷ es) ys r = (r.0, right-front (after_entry program a e) es ys r.1)
+  right-front a (e ∷ es) ys r = (r.0, right-front (after_entry program strategy a e) es ys r.1)
 
   -- the last one in another form
   pub right-last : (change : Entry → Entry) → ((a : Account) (e : Entry) → IsRight m program strategy a e → IsRight m program strategy a (change e))
       → (a : Account) (xs : List Entry) (e : Entry) → AreRight m program strategy a (xs ++ e ∷ []) → AreRight m program strategy a (xs ++ change e ∷ [])
   right-last change h a [] e r = (h a e r.0, tt)
-  right-last change h a (x ∷ xs) e r = (r.0, right-last change h (after_entry program a x) xs e r.1)
+  right-last change h a (x ∷ xs) e r = (r.0, right-last change h (after_entry program strategy a x) xs e r.1)
 
 -- what entries tell one after another
-pub after-append : (program : List Clause) (a : Account) (xs ys : List Entry) → after_entries program a (xs ++ ys) ≡ after_entries program (after_entries program a xs) ys
-after-append program a [] ys = refl
-after-append program a (e ∷ es) ys = after-append program (after_entry program a e) es ys
+pub after-append : (program : List Clause) (strategy : Strategy) (a : Account) (xs ys : List Entry) → after_entries program strategy a (xs ++ ys) ≡ after_entries program strategy (after_entries program strategy a xs) ys
+after-append program strategy a [] ys = refl
+after-append program strategy a (e ∷ es) ys = after-append program strategy (after_entry program strategy a e) es ys

@@ -1,2 +1,4 @@
 pub mod Account
+pub mod Inquiry
 pub mod Right
+pub mod Telling

@@ -43,7 +43,7 @@ use Rattle.apd_text.specs.Lines.{goal_text, goals_of, head_text, elements, eleme
 use Rattle.apd_text.specs.declared.entry.Refusal.{Refusal}
 use Rattle.apd_text.specs.declared.entry.Refusal.TheVariants as refusal
 use Rattle.apd_text.specs.declared.entry.Entry.{Entry}
-use Rattle.apd_text.specs.declared.entry.Entry.TheVariants.{PassedOver, Warning, Loaded, OracleLoaded, ReferenceLoaded, TraceSet, Known, Run, Symptom, Question as Asks, Replied, BadReply, Found, AllDescend, Unanswered, Refused, Demo, UsageRefused, ProgramRefused, OracleRefused, ReferenceRefused, FileTooLong, InputFault, InputOver}
+use Rattle.apd_text.specs.declared.entry.Entry.TheVariants.{PassedOver, Warning, Loaded, OracleLoaded, ReferenceLoaded, TraceSet, Known, Run, Symptom, Question as Asks, Replied, BadReply, Found, AllDescend, Unanswered, Refused, Demo, UsageRefused, ProgramRefused, OracleRefused, ReferenceRefused, CheckHolds, CheckFails, FileTooLong, InputFault, InputOver}
 
 all_written-more : (ops : Table) (names others : List (List ℕ)) (ts : List Term) → AllNamed (length names) ts → map (goal_text ops (names ++ others)) ts ≡ map (goal_text ops names) ts
 all_written-more ops names others [] named = refl
@@ -154,8 +154,8 @@ clause_text-more ops names others t standard named =
 
 told_text-more : (ops : Table) (names others : List (List ℕ)) (w : Told) → ToldIsNamed (length names) w → told_text ops (names ++ others) w ≡ told_text ops names w
 unfolding told_text
-told_text-more ops names others (Wrong a) named = rw (atom_text-more ops names others a named) refl
-told_text-more ops names others (Missing a) named = rw (atom_text-more ops names others a named) refl
+told_text-more ops names others (Wrong a exit) named = rw (atom_text-more ops names others a named) refl
+told_text-more ops names others (Missing a box_no) named = rw (atom_text-more ops names others a named) refl
 told_text-more ops names others (NoEnd calls) named = refl
 
 asked_text-more : (ops : Table) (names others : List (List ℕ)) (q : Question) → HasStandardNames (length names) → QuestionIsNamed (length names) q → asked_text ops (names ++ others) q ≡ asked_text ops names q
@@ -222,6 +222,8 @@ text_of-more ops names others UsageRefused named = refl
 text_of-more ops names others (ProgramRefused line cause) named = rw (cause_text-more names others cause named) refl
 text_of-more ops names others (OracleRefused line cause) named = refl
 text_of-more ops names others (ReferenceRefused line cause) named = rw (cause_text-more names others cause named) refl
+text_of-more ops names others (CheckHolds findings) named = refl
+text_of-more ops names others (CheckFails line why) named = refl
 text_of-more ops names others (FileTooLong n) named = refl
 text_of-more ops names others InputFault named = refl
 text_of-more ops names others InputOver named = refl

@@ -20,16 +20,18 @@ use Rattle.apd_clauses.proofs.Pure.{goals_are_atoms}
 use Rattle.apd_console.specs.Lines.{lines_of}
 use Rattle.apd_text.specs.declared.entry.Entry.{Entry}
 use Rattle.apd_text.specs.declared.entry.Entry.TheVariants as entries
-use Rattle.apd_check.specs.declared.claim.Claim.{Claim}
-use Rattle.apd_check.specs.declared.claim.Claim.TheVariants.{Garbled}
-use Rattle.apd_check.specs.declared.form.Form.{Form}
-use Rattle.apd_check.specs.declared.form.Form.TheVariants.{Query as Goals, End, Symptom, Framed, Call, Candidates, Candidate, Descent, Other, Unread}
-use Rattle.apd_check.specs.Claims.{call_at, called, claim_as, claim_of, entry_for, is_text, or_garbled, query_claim, query_told, told, written}
-use Rattle.apd_check.specs.Forms.{form_in, with_newline}
-use Rattle.apd_check.specs.Parts.{after, first_made, if_some, led_by}
-use Rattle.apd_check.specs.Reading.{as_clause, reading, term_in}
+use Rattle.apd_claims.specs.declared.claim.Claim.{Claim}
+use Rattle.apd_claims.specs.declared.claim.Claim.TheVariants.{Garbled}
+use Rattle.apd_claims.specs.declared.boxes.Quote.TheVariants.{Outside}
+use Rattle.apd_claims.specs.declared.form.Calling.{Calling}
+use Rattle.apd_claims.specs.declared.form.Form.{Form}
+use Rattle.apd_claims.specs.declared.form.Form.TheVariants.{Query as Goals, End, Symptom, Framed, Call, Candidates, Candidate, Descent, Other, Unread}
+use Rattle.apd_claims.specs.Claims.{call_at, call_between, call_in, called, claim_as, claim_of, entry_for, is_prefix_name, is_text, or_garbled, query_claim, query_told, told, written}
+use Rattle.apd_claims.specs.Forms.{form_in, with_newline}
+use Rattle.apd_claims.specs.Parts.{Boxed, after, boxed_in, first_made, if_some, led_by}
+use Rattle.apd_claims.specs.Reading.{as_clause, reading, term_in}
 use Rattle.apd_check.specs.Right.{AllRunAtoms, RunsAtoms}
-use Rattle.apd_check.specs.Saying.{claim_by, goes_on, group_entry, group_text, instances_in, said_from, said_in}
+use Rattle.apd_claims.specs.Saying.{claim_by, goes_on, group_entry, group_text, instances_in, said_from, said_in}
 
 -- A query.
 
@@ -100,14 +102,24 @@ first-atoms made all bytes front (b ∷ text) = either (option_and_then (made fr
 -- Lines.
 
 module _ {names : List (List ℕ)} (reader : Reader names) (ops : Table) where
+  between-atoms : (whole : List ℕ) (c : Calling) (o : Option Boxed) → OptionRunsAtoms (option_and_then (call_between reader ops whole c) o)
+  between-atoms whole c None = tt
+  between-atoms whole c (Some p) = written-atoms ops names whole (called reader ops c p.front p.led)
+
+  call-atoms : (whole : List ℕ) (c : Calling) (text : List ℕ) → OptionRunsAtoms (call_in reader ops whole c text)
+  call-atoms whole c text = by (is_prefix_name ops names (codes "box"))
+    where
+      by : (b : Bool) → OptionRunsAtoms (if b then first_made (call_at reader ops whole c) (codes " (box ") [] text else option_and_then (call_between reader ops whole c) (boxed_in Outside text))
+      by true =
+          first-atoms (call_at reader ops whole c) (λ q rest. written-atoms ops names whole (option_and_then (called reader ops c q) (led_by (codes ") called by ") rest))) (codes " (box ") [] text
+      by false = between-atoms whole c (boxed_in Outside text)
+
   form-atoms : (in_group : Bool) (line : List ℕ) (lines : List (List ℕ)) (f : Form) → RunsAtoms (claim_by reader ops in_group line lines f)
   form-atoms in_group line lines (Goals goals) = read-atoms (reading reader ops (codes "?- " ++ as_clause goals))
   form-atoms in_group line lines (End ran) = tt
   form-atoms in_group line lines (Symptom is_true text) = symptom-atoms is_true (term_in reader ops text)
   form-atoms in_group line lines (Framed frame text) = claim_as-atoms ops names (with_newline line) (option_and_then (entry_for frame) (term_in reader ops text))
-  form-atoms in_group line lines (Call c text) =
-      or-atoms (first_made (call_at reader ops (with_newline line) c) (codes " (box ") [] text)
-      (first-atoms (call_at reader ops (with_newline line) c) (λ q rest. written-atoms ops names (with_newline line) (option_and_then (called reader ops c q) (led_by (codes ") called by ") rest))) (codes " (box ") [] text)
+  form-atoms in_group line lines (Call c text) = or-atoms (call_in reader ops (with_newline line) c text) (call-atoms (with_newline line) c text)
   form-atoms in_group line lines Candidates = claim_as-atoms ops names (group_text line lines) (option_map group_entry (instances_in reader ops [] lines))
   form-atoms true line lines Candidate = tt
   form-atoms false line lines Candidate = tt

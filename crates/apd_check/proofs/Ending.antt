@@ -12,8 +12,8 @@ use Rattle.apd_answers.specs.declared.question.Asked.{Asked}
 use Rattle.apd_answers.specs.declared.question.Reply.{Reply}
 use Rattle.apd_check.specs.Checked.{made_again}
 use Rattle.apd_check.specs.Steps.{Leads}
-use Rattle.apd_check.specs.declared.claim.Claim.TheVariants.{Ends, Replies}
-use Rattle.apd_check.specs.declared.checked.Why.TheVariants as why
+use Rattle.apd_claims.specs.declared.claim.Claim.TheVariants.{Ends, Replies}
+use Rattle.apd_text.specs.declared.check.Why.TheVariants as why
 use Rattle.apd_check.specs.declared.state.State.{State}
 
 module _ (program : List Clause) (ran : Ran) (s t : State) where

@@ -17,7 +17,7 @@ use Rattle.apd_answers.proofs.Tests.{same_question-same}
 use Rattle.apd_known.specs.Scripts.{fits_body}
 use Rattle.apd_known.specs.Truths.{is_true_if_builtin, passes}
 use Rattle.apd_known.proofs.Scripts.{scripted_fits}
-use Rattle.apd_missing.proofs.Places.{values_ground}
+use Rattle.apd_answers.proofs.Places.{values_ground}
 
 passes-by : (o : Option Builtin) (a : Term) → IsGround a → (IsSome o → IsTrueBy o (arguments a)) → passes o a ≡ true
 passes-by None a g h = refl

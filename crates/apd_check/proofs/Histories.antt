@@ -11,8 +11,8 @@ use Rattle.apd_record.specs.Sound.{IsSound}
 use Rattle.apd_record.proofs.Keeping.{sound_empty}
 use Rattle.apd_again.specs.Again.{answers_again}
 use Rattle.apd_recorded.proofs.Law.{run_sound}
-use Rattle.apd_check.specs.declared.claim.Claim.{Claim}
-use Rattle.apd_check.specs.declared.claim.Claim.TheVariants.{Runs, Ends, Tells, Asks, Replies, Finds, Descends, Nothing, Garbled}
+use Rattle.apd_claims.specs.declared.claim.Claim.{Claim}
+use Rattle.apd_claims.specs.declared.claim.Claim.TheVariants.{Runs, Ends, Tells, Asks, Replies, Finds, Descends, Nothing, Garbled}
 use Rattle.apd_check.specs.declared.state.State.{State}
 use Rattle.apd_check.specs.Checked.{after_claim, history_after}
 use Rattle.apd_check.specs.Right.{AsksAtoms, RunsAtoms}

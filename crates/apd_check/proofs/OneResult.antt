@@ -4,15 +4,15 @@ use Rattle.apd_clauses.specs.declared.clause.Clause.{Clause}
 use Rattle.apd_answers.specs.Questions.{FitsAsked}
 use Rattle.apd_answers.specs.declared.question.Asked.{Asked}
 use Rattle.apd_answers.specs.declared.question.Reply.{Reply}
-use Rattle.apd_check.specs.declared.claim.Claim.{Claim}
-use Rattle.apd_check.specs.declared.claim.Claim.TheVariants.{Runs, Ends, Tells, Asks, Replies, Finds, Descends as DescendsSo, Nothing, Garbled}
+use Rattle.apd_claims.specs.declared.claim.Claim.{Claim}
+use Rattle.apd_claims.specs.declared.claim.Claim.TheVariants.{Runs, Ends, Tells, Asks, Replies, Finds, Descends as DescendsSo, Nothing, Garbled}
 use Rattle.apd_check.specs.declared.state.State.{State}
-use Rattle.apd_check.specs.Saying.{Said}
+use Rattle.apd_claims.specs.Saying.{Said}
 use Rattle.apd_check.specs.Checked.{Decided, IsReplyTo, IsJudged, IsChecked, after_claim, found_in}
 use Rattle.apd_check.specs.declared.checked.Checked.{Checked}
 use Rattle.apd_check.specs.declared.checked.Checked.TheVariants.{Fails}
-use Rattle.apd_check.specs.declared.checked.Why.{Why}
-use Rattle.apd_check.specs.declared.checked.Why.TheVariants as why
+use Rattle.apd_text.specs.declared.check.Why.{Why}
+use Rattle.apd_text.specs.declared.check.Why.TheVariants as why
 
 one-decided : (P : Type 0) (reason : Why) (a b : Option Why) → Decided P reason a → Decided P reason b → a ≡ b
 one-decided P reason None None p q = refl

@@ -7,17 +7,17 @@ use Rattle.apd_ops.specs.Table.{Table}
 use Rattle.apd_read.specs.Reader.{Reader}
 use Rattle.apd_term.specs.Growth.{Grown}
 use Rattle.apd_talk.specs.Speech.{Lasting}
-use Rattle.apd_check.specs.declared.claim.Claim.{Claim}
-use Rattle.apd_check.specs.declared.claim.Claim.TheVariants.{Runs, Ends, Tells, Asks, Replies, Finds, Descends, Nothing, Garbled}
+use Rattle.apd_claims.specs.declared.claim.Claim.{Claim}
+use Rattle.apd_claims.specs.declared.claim.Claim.TheVariants.{Runs, Ends, Tells, Asks, Replies, Finds, Descends, Nothing, Garbled}
 use Rattle.apd_check.specs.declared.state.State.{State}
 use Rattle.apd_check.specs.declared.checked.Checked.{Checked}
 use Rattle.apd_check.specs.declared.checked.Checked.TheVariants.{Holds, Fails}
-use Rattle.apd_check.specs.declared.checked.Why.{Why}
+use Rattle.apd_text.specs.declared.check.Why.{Why}
 use Rattle.apd_check.specs.Checked.{IsChecked, IsJudged, after_claim, found_in}
-use Rattle.apd_check.specs.Saying.{claim_at, goes_on, said_from}
-use Rattle.apd_check.specs.Sayable.{IsSayable}
+use Rattle.apd_claims.specs.Saying.{claim_at, goes_on, said_from}
+use Rattle.apd_claims.specs.Sayable.{IsSayable}
 use Rattle.apd_check.specs.Steps.{IsKept, Leads}
-use Rattle.apd_check.proofs.Naming.{grown-twice}
+use Rattle.apd_claims.proofs.Naming.{grown-twice}
 
 -- What is kept stays kept.
 

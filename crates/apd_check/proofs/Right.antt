@@ -20,10 +20,10 @@ use Rattle.apd_answers.specs.declared.question.Reply.{Reply}
 use Rattle.apd_answers.specs.declared.store.Pair.{Pair}
 use Rattle.apd_answers.proofs.Sound.{finding-sound, descent-sound}
 use Rattle.apd_loop.specs.Loop.{calls_in}
-use Rattle.apd_check.specs.declared.claim.Claim.{Claim}
-use Rattle.apd_check.specs.declared.claim.Claim.TheVariants.{Runs, Ends, Tells, Asks, Replies, Finds, Descends as DescendsSo, Nothing, Garbled}
+use Rattle.apd_claims.specs.declared.claim.Claim.{Claim}
+use Rattle.apd_claims.specs.declared.claim.Claim.TheVariants.{Runs, Ends, Tells, Asks, Replies, Finds, Descends as DescendsSo, Nothing, Garbled}
 use Rattle.apd_check.specs.declared.state.State.{State}
-use Rattle.apd_check.specs.Saying.{Said, said_in}
+use Rattle.apd_claims.specs.Saying.{Said, said_in}
 use Rattle.apd_check.specs.Checked.{IsCheckOf, IsJudged, IsChecked, after_claim, after_all, first_state, known_after, found_in}
 use Rattle.apd_check.specs.Right.{AllRunAtoms, AsksAtoms, IsRight, AreRight, findings_in}
 use Rattle.apd_check.specs.declared.checked.Checked.TheVariants.{Holds, Fails}

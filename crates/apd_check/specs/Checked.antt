@@ -19,14 +19,14 @@ use Rattle.apd_answers.specs.declared.finding.Finding.{Finding}
 use Rattle.apd_answers.specs.declared.finding.Finding.TheVariants.{WrongInstance, Uncovered, Violation, Candidates}
 use Rattle.apd_known.specs.Pairs.{MayAsk}
 use Rattle.apd_loop.specs.Loop.{calls_in}
-use Rattle.apd_check.specs.Saying.{Said, said_in}
-use Rattle.apd_check.specs.declared.claim.Claim.{Claim}
-use Rattle.apd_check.specs.declared.claim.Claim.TheVariants.{Runs, Ends, Tells, Asks, Replies, Finds, Descends, Nothing, Garbled}
+use Rattle.apd_claims.specs.Saying.{Said, said_in}
+use Rattle.apd_claims.specs.declared.claim.Claim.{Claim}
+use Rattle.apd_claims.specs.declared.claim.Claim.TheVariants.{Runs, Ends, Tells, Asks, Replies, Finds, Descends, Nothing, Garbled}
 use Rattle.apd_check.specs.declared.state.State.{State}
 use Rattle.apd_check.specs.declared.checked.Checked.{Checked}
 use Rattle.apd_check.specs.declared.checked.Checked.TheVariants as checked
-use Rattle.apd_check.specs.declared.checked.Why.{Why}
-use Rattle.apd_check.specs.declared.checked.Why.TheVariants as why
+use Rattle.apd_text.specs.declared.check.Why.{Why}
+use Rattle.apd_text.specs.declared.check.Why.TheVariants as why
 
 -- nothing was run or asked yet, and this is known
 abbrev pub first_state : Store → State

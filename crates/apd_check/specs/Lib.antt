@@ -1,10 +1,3 @@
-pub mod Parts
-pub mod Forms
-pub mod Reading
-pub mod Claims
-pub mod Saying
-pub mod Sayable
 pub mod Checked
 pub mod Right
 pub mod Steps
-pub mod Texts

@@ -11,11 +11,11 @@ use Rattle.apd_answers.specs.Store.{Store}
 use Rattle.apd_answers.specs.Trust.{AreTrue}
 use Rattle.apd_answers.specs.declared.finding.Finding.{Finding}
 use Rattle.apd_loop.specs.Loop.{calls_in}
-use Rattle.apd_check.specs.declared.claim.Claim.{Claim}
-use Rattle.apd_check.specs.declared.claim.Claim.TheVariants.{Runs, Finds, Descends as DescendsSo}
+use Rattle.apd_claims.specs.declared.claim.Claim.{Claim}
+use Rattle.apd_claims.specs.declared.claim.Claim.TheVariants.{Runs, Finds, Descends as DescendsSo}
 use Rattle.apd_check.specs.declared.state.State.{State}
 use Rattle.apd_check.specs.Checked.{after_claim, found_in}
-use Rattle.apd_check.specs.Saying.{Said}
+use Rattle.apd_claims.specs.Saying.{Said}
 
 module _ (program : List Clause) (m : Interpretation) (known : Store) where
   -- a finding follows from the replies so far, and is a bug where what is known in the end is true

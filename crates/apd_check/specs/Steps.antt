@@ -4,9 +4,9 @@ use Rattle.apd_clauses.specs.Clauses.{MayRun}
 use Rattle.apd_clauses.specs.declared.clause.Clause.{Clause}
 use Rattle.apd_known.specs.Pairs.{MayAsk}
 use Rattle.apd_check.specs.Checked.{IsJudged, after_claim}
-use Rattle.apd_check.specs.declared.claim.Claim.{Claim}
+use Rattle.apd_claims.specs.declared.claim.Claim.{Claim}
 use Rattle.apd_check.specs.declared.state.State.{State}
-use Rattle.apd_check.specs.declared.checked.Why.{Why}
+use Rattle.apd_text.specs.declared.check.Why.{Why}
 
 -- the query can be run, and the question may be asked
 pub record IsKept (s : State) : Type 0 where

@@ -6,7 +6,7 @@ ghost use Rattle.apd_recorded.specs.Told.{record_of};
 ghost use Rattle.apd_trace.specs.Run.{ran_of};
 ghost use Rattle.apd_again.specs.Again.{answers_again};
 ghost use Rattle.apd_check.specs.Checked.{made_again};
-ghost use Rattle.apd_check.specs.Sayable.{IsShown};
+ghost use Rattle.apd_claims.specs.Sayable.{IsShown};
 
 use apd_base::MOST_SHOWN;
 use apd_causes::{Query, Ran, RunEnd};

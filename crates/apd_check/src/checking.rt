@@ -7,15 +7,14 @@ ghost use Rattle.apd_read.specs.Reader.{Reader};
 ghost use Rattle.apd_term.specs.Growth.{Grown};
 ghost use Rattle.apd_talk.specs.Speech.{Lasting};
 ghost use Rattle.apd_check.specs.Checked.{IsCheckOf, IsChecked, found_in};
-ghost use Rattle.apd_check.specs.Saying.{said_from};
+ghost use Rattle.apd_claims.specs.Saying.{said_from};
 ghost use Rattle.apd_check.specs.Steps.{IsKept};
+ghost use Rattle.apd_claims.specs.Texts.{KeepsFew};
 
 use crate::checked::Checked;
-use crate::claim::Claim;
-use crate::lines::first_line;
-use crate::saying::{Place, claim_at, goes_on};
 use crate::state::State;
 use apd_answers::Answers;
+use apd_claims::{Claim, Place, claim_at, first_line, goes_on};
 use apd_clauses::Program;
 use apd_ops::Ops;
 use apd_term::names::Names;
@@ -44,6 +43,7 @@ fn check_lines(
     requires size { length text.now ≤ MAX_FILE }
     requires kept { IsKept state.old }
     ensures names { Grown names.old names.new }
+    ensures few { KeepsFew names.old names.new }
     ensures checked { IfOk result (λ r. Lasting names.new (λ n. (reader : Reader n) →
         IsChecked program.now state.old 0
         (said_from reader ops.now false 1 (lines_of text.now)) r)) }
@@ -76,7 +76,8 @@ fn check_lines(
 ///
 /// # Errors
 ///
-/// Where there was no memory, or no room for as many names as the text may have; then, too, the names have only grown.
+/// Where there was no memory, or no room for as many names as the text may have, of which 9,437,184 are; then, too, the names have
+/// only grown, and up to that many stay so.
 pub fn check(
     alloc: Global,
     program: &Program,
@@ -87,6 +88,7 @@ pub fn check(
 ) -> Result<Checked, AllocError>
     requires { length text.now ≤ MAX_FILE }
     ensures names { Grown names.old names.new }
+    ensures few { KeepsFew names.old names.new }
     ensures checked { IfOk result (λ r. Lasting names.new (λ n. (reader : Reader n) →
         IsCheckOf program.now ops.now reader known text.now r)) }
 {

@@ -4,23 +4,10 @@ ghost use Rattle.std.specs.Prelude.{◌≡◌, ◌↔◌, IfOk, IsSome, IsTrue};
 ghost use Rattle.apd_answers.specs.Questions.{Fits, FitsAsked};
 ghost use Rattle.apd_answers.specs.declared.question.Reply.TheVariants.{Unknown};
 ghost use Rattle.apd_known.specs.Pairs.{MayAsk};
-ghost use Rattle.apd_known.specs.Scripts.{fits_body};
 
-use apd_answers::{Asked, Question, Reply, with_values};
-use apd_known::{are_ground, are_true_if_builtin, unknown_count};
-use apd_term::{Atoms, Tuple};
+use apd_answers::{Asked, Question, Reply};
+use apd_known::fits_body;
 use std::alloc::{AllocError, Global};
-
-/// Whether values fit a body.
-fn fits_body(alloc: Global, tuple: &Tuple, values: &Atoms) -> Result<bool, AllocError>
-    ensures { IfOk result (λ b. b ≡ fits_body tuple.now values.now) }
-{
-    if !are_ground(values) || values.len() != unknown_count(alloc, tuple)? {
-        return Ok(false);
-    }
-    let body = with_values(alloc, tuple, values)?;
-    are_true_if_builtin(alloc, &body)
-}
 
 /// Whether a reply fits a question that may be asked.
 fn fits_question(alloc: Global, question: &Question, reply: &Reply) -> Result<bool, AllocError>

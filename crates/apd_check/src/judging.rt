@@ -4,7 +4,7 @@ ghost use Rattle.std.specs.Prelude.{◌≡◌, ◌↔◌, IfOk, IsTrue};
 ghost use Rattle.apd_loop.specs.Loop.{calls_in};
 ghost use Rattle.apd_loop.specs.Turning.{HasBoxes};
 ghost use Rattle.apd_check.specs.Checked.{IsJudged, IsLineOf, IsPlaced};
-ghost use Rattle.apd_check.specs.declared.claim.Claim.TheVariants as claims;
+ghost use Rattle.apd_claims.specs.declared.claim.Claim.TheVariants as claims;
 
 use crate::checked::Why;
 use crate::state::State;

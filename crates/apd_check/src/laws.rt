@@ -8,7 +8,7 @@ ghost use Rattle.apd_clauses.specs.Clauses.{IsProgram};
 ghost use Rattle.apd_answers.specs.Store.{Store};
 ghost use Rattle.apd_check.specs.Checked.{IsCheckOf, after_all, first_state};
 ghost use Rattle.apd_check.specs.Right.{AreRight, findings_in};
-ghost use Rattle.apd_check.specs.Saying.{said_in};
+ghost use Rattle.apd_claims.specs.Saying.{said_in};
 ghost use Rattle.apd_check.specs.declared.checked.Checked.TheVariants.{Holds};
 ghost use Rattle.apd_check.specs.declared.checked.Checked as results;
 

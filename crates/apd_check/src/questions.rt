@@ -4,7 +4,7 @@ ghost use Rattle.std.specs.Prelude.{◌↔◌, IsTrue, All};
 ghost use Rattle.apd_clauses.specs.Kinds.{IsPureGoal, IsUserAtom};
 ghost use Rattle.apd_known.specs.Pairs.{MayAsk, MayCover};
 ghost use Rattle.apd_check.specs.Checked.{Decided};
-ghost use Rattle.apd_check.specs.declared.checked.Why.TheVariants as why;
+ghost use Rattle.apd_text.specs.declared.check.Why.TheVariants as why;
 
 use crate::checked::Why;
 use apd_answers::Question;

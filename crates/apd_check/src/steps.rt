@@ -3,19 +3,19 @@
 ghost use Rattle.std.specs.Prelude.{◌≡◌, ◌↔◌, IfOk, IsTrue};
 ghost use Rattle.apd_answers.specs.Questions.{Fits};
 ghost use Rattle.apd_check.specs.Checked.{after_claim, first_state};
-ghost use Rattle.apd_check.specs.Sayable.{IsSayable, IsShown};
+ghost use Rattle.apd_claims.specs.Sayable.{IsSayable, IsShown};
 ghost use Rattle.apd_check.specs.Steps.{IsKept, Leads};
-ghost use Rattle.apd_check.specs.declared.claim.Claim.TheVariants as claims;
+ghost use Rattle.apd_claims.specs.declared.claim.Claim.TheVariants as claims;
 
 use crate::again::run_again;
 use crate::checked::Why;
-use crate::claim::Claim;
 use crate::fitting::fits;
 use crate::judging::{judge_descent, judge_finding};
 use crate::questions::judge_question;
 use crate::state::State;
 use apd_answers::{Answers, Asked, Question, Reply};
 use apd_causes::{Query, Ran};
+use apd_claims::Claim;
 use apd_clauses::Program;
 use apd_record::Record;
 use std::alloc::{AllocError, Global};

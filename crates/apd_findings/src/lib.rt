@@ -1,4 +1,4 @@
-//! Whether a finding follows from replies.
+//! Whether a finding follows from replies, from trust and from what a record shows.
 #![tactic(auto)]
 
 mod affirming;

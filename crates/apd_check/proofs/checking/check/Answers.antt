@@ -1,7 +1,7 @@
 use Rattle.std.proofs.Common.{subst}
 use Rattle.std.proofs.lemmas.Result.{IfOk-weaker}
 use Rattle.apd_check.specs.Checked.{IsChecked}
-use Rattle.apd_check.specs.Saying.{said_in}
+use Rattle.apd_claims.specs.Saying.{said_in}
 use Rattle.apd_check.specs.declared.state.State.{State}
 use Rattle.apd_check.proofs.checking.check.Goals as goal
 

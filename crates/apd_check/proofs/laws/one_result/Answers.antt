@@ -1,5 +1,5 @@
 use Rattle.apd_check.specs.Checked.{first_state}
-use Rattle.apd_check.specs.Saying.{said_in}
+use Rattle.apd_claims.specs.Saying.{said_in}
 use Rattle.apd_check.proofs.OneResult.{one-checked}
 use Rattle.apd_check.proofs.laws.one_result.Goals as goal
 

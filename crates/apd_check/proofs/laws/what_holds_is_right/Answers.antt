@@ -1,7 +1,7 @@
 use Rattle.std.proofs.Common.{◌≡◌, ◌+◌, arith}
 use Rattle.apd_check.specs.Checked.{first_state}
 use Rattle.apd_check.specs.Right.{findings_in}
-use Rattle.apd_check.specs.Saying.{said_in}
+use Rattle.apd_claims.specs.Saying.{said_in}
 use Rattle.apd_check.proofs.Right.{all-counted, text-right}
 use Rattle.apd_check.proofs.laws.what_holds_is_right.Goals as goal
 

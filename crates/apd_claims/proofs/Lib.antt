@@ -1,0 +1,11 @@
+pub mod Commas
+pub mod Cutting
+pub mod Grouping
+pub mod Instances
+pub mod Naming
+pub mod Numbers
+pub mod Outside
+pub mod Places
+pub mod Placing
+pub mod ReadTexts
+pub mod Splitting

@@ -1,0 +1,7 @@
+pub mod Parts
+pub mod Forms
+pub mod Reading
+pub mod Claims
+pub mod Saying
+pub mod Sayable
+pub mod Texts

@@ -1,0 +1,21 @@
+//! What the lines of a written log say, read from their bytes.
+#![tactic(auto)]
+
+mod boxes;
+mod calls;
+mod claim;
+mod claims;
+mod ends;
+mod entries;
+mod form;
+mod forms;
+mod groups;
+mod lines;
+mod parts;
+mod reading;
+mod saying;
+
+pub use claim::Claim;
+pub use lines::{FirstLine, first_line};
+pub use reading::MOST_READ_NAMES;
+pub use saying::{Place, claim_at, goes_on};

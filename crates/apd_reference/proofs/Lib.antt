@@ -10,7 +10,6 @@ pub mod Refuted
 pub mod Model
 pub mod True
 pub mod General
-pub mod Referring
 pub mod Asked
 pub mod Replying
 pub mod Loose
@@ -18,6 +17,5 @@ pub mod NamedReplies
 pub mod Watched
 pub mod WatchedRun
 pub mod LowNames
-pub mod Listing
 pub mod Knowing
 pub mod Fitting

@@ -1,9 +1,10 @@
 -- What is replied by nobody, or by a program that is known to be right.
-use Rattle.std.specs.Prelude.{ℕ, Option}
+use Rattle.std.specs.Prelude.{ℕ, List, Option, None, Some}
 use Rattle.apd_answers.specs.Repliers.{nobody}
 use Rattle.apd_answers.specs.declared.question.Question.{Question}
 use Rattle.apd_answers.specs.declared.question.Reply.{Reply}
 use Rattle.apd_clauses.specs.Clauses.{tuples_of}
+use Rattle.apd_clauses.specs.declared.clause.Clause.{Clause}
 use Rattle.apd_reference.specs.NewNames.{after_program}
 use Rattle.apd_reference.specs.Replying.{reference_reply}
 use Rattle.apd_reference.specs.declared.referee.Referee.{Referee}
@@ -13,6 +14,11 @@ use Rattle.apd_reference.specs.declared.referee.Referee.TheVariants.{Nobody, Pro
 abbrev pub replies_of : Referee → Question → Option Reply
 replies_of Nobody = nobody
 replies_of (Program r) = reference_reply (tuples_of r.program) r.budget
+
+-- the program that is known to be right, where there is one
+abbrev pub program_of_referee : Referee → Option (List Clause)
+program_of_referee Nobody = None
+program_of_referee (Program r) = Some r.program
 
 -- so many names the replies are made of, beside those of their questions
 abbrev pub names_known : Referee → ℕ

@@ -1,6 +1,6 @@
 //! Laws of a reference program's replies.
 
-ghost use Rattle.std.specs.Prelude.{◌≡◌, ◌≢◌, ◌↔◌, ◌<◌, ◌+◌, ℕ, List, Option, Some, All, IsTrue, length};
+ghost use Rattle.std.specs.Prelude.{◌≡◌, ◌≢◌, ◌↔◌, ◌<◌, ℕ, List, Option, Some, All, IsTrue, length};
 ghost use Rattle.apd_term.specs.Named.{AllNamed, AllTuplesNamed};
 ghost use Rattle.apd_term.specs.Term.{Term};
 ghost use Rattle.apd_term.specs.Canonical.{canonical};
@@ -10,13 +10,10 @@ ghost use Rattle.apd_answers.specs.declared.question.Question.{Question};
 ghost use Rattle.apd_answers.specs.declared.question.Question.TheVariants.{Covers};
 ghost use Rattle.apd_answers.specs.declared.question.Reply.{Reply};
 ghost use Rattle.apd_answers.specs.declared.question.Reply.TheVariants.{Unknown, Values};
-ghost use Rattle.apd_answers.specs.Store.{Store};
-ghost use Rattle.apd_answers.specs.Dialogue.{Diagnosis, dialogue};
 ghost use Rattle.apd_answers.specs.Questions.{Fits, IsTrueReply};
 ghost use Rattle.apd_reference.specs.LeastModel.{HoldsLeastModel};
 ghost use Rattle.apd_reference.specs.Asking.{variables_of};
 ghost use Rattle.apd_reference.specs.Distinct.{IsListOfDistinct};
-ghost use Rattle.apd_reference.specs.Referring.{IsLeft, answered};
 ghost use Rattle.apd_reference.specs.Replying.{is_general, reference_reply};
 
 use apd_answers::Intended;
@@ -43,15 +40,4 @@ pub fn replies_are_named()
     ensures { (n : ℕ) (P : List Tuple) (budget : ℕ) (t : Tuple) (values : List Term) → 1 < n →
         All IsClause P → AllTuplesNamed n P → AllNamed n t.body →
         reference_reply P budget (Covers t) ≡ Some (Values values) → AllNamed n values }
-{}
-
-/// The dialogue in which someone answers the questions that he can, up to k times, is a dialogue with his replies; and where
-/// he can't answer what comes next, it is so for every greater number.
-pub fn who_can_answers<S, E>()
-    ensures dialogue { (replies : Question → Option Reply) (d : Diagnosis S E) (k : ℕ)
-        (store : Store) (s : S) → (given : List Reply) ×
-        (answered replies d k store s ≡ dialogue d given store s) }
-    ensures enough { (replies : Question → Option Reply) (d : Diagnosis S E) (k j : ℕ)
-        (store : Store) (s : S) → IsLeft replies d (answered replies d k store s).turn →
-        answered replies d (k + j) store s ≡ answered replies d k store s }
 {}

@@ -4,26 +4,38 @@ ghost use Rattle.std.specs.Prelude.{◌≡◌, ◌<◌, ◌≤◌, length};
 ghost use Rattle.apd_base.specs.declared.limits.TheConstants.{MOST_CLAUSES, MOST_NAMES, MOST_SHOWN};
 ghost use Rattle.apd_term.specs.Named.{AllTuplesNamed};
 ghost use Rattle.apd_clauses.specs.Clauses.{tuples_of};
-ghost use Rattle.apd_reference.specs.Ready.{IsReady};
 
 use crate::new_names::after_clauses;
 use crate::replies::reply_to;
 use apd_answers::{Question, Replier, Reply};
 use apd_clauses::Program;
 use std::alloc::{AllocError, Global};
+use std::marker::Model;
 
 /// How many names are standard.
 const STANDARD_NAMES: u64 = 132;
 
-/// A program that is known to be right. It replies by what its runs of so many ports show.
+/// A program that is known to be right. It replies by what its runs of so many ports show. Contracts see the program and the number of
+/// ports.
 #[derive(Drop)]
 pub struct Reference {
     alloc: Global,
-    pub program: Program,
-    pub budget: u32,
+    program: Program,
+    budget: u32,
     /// The number after the standard names and those of the program.
-    pub after: u64,
-    pub ghost ready: { IsReady program after budget },
+    after: u64,
+}
+
+impl Model for Reference {
+    ghost use Rattle.apd_reference.specs.Ready.{IsReady, RightProgram, right_program_code};
+
+    ghost Value = { RightProgram };
+
+    ghost coded = { right_program_code };
+
+    ghost view = { λ r. record { program = r.program; budget = r.budget } };
+
+    ghost invariant = { λ r. IsReady r.program r.after r.budget };
 }
 
 impl Reference {

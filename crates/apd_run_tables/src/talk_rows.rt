@@ -50,6 +50,10 @@ fn put_asked(given: &mut Builder, asked: &Asked<'_>) {
         given.put(" by ");
         given.put(oracle);
     }
+    if let Some(reference) = asked.reference {
+        given.put(" right ");
+        given.put(reference);
+    }
 }
 
 /// Gives what the words ask for: the most ports and answers, which ports are printed, the strategy, the program's file or

@@ -74,7 +74,7 @@ module _ (P : List Tuple) (strategy : Strategy) where
   missing_turn R store symptom s k = missing_turn-by R store symptom s (next_turn (missing P R) store s) k (missing_comes P R k.sound k.full store s k.known)
 
 pub missing_begins : (P : List Tuple) (R : Recorded) (store : Store) (b : ℕ) (a : Term) → IsSound P R → IsFull P R → AllFit store → IsMissing R b a
-    → IsKnownGoal P R (with_told store (Missing a)) (Some (Missing a)) (record { box_no = b; goal = a })
+    → IsKnownGoal P R (with_told store (Missing a b)) (Some (Missing a b)) (record { box_no = b; goal = a })
 missing_begins P R store b a sound full fit is = record { sound = sound; full = full; known = record { missing = is; says = added-yes store a; fit = fit_added store (True a) Yes fit tt } }
 
 -- The diagnosis of a run that doesn't end.

@@ -1,5 +1,5 @@
 -- A demonstration: what it says in parts, and as a session.
-use Rattle.std.proofs.Common.{◌≡◌, ℕ, List, [], ◌++◌, refl, sym, ap, ◌∙◌, subst, inl, Option, Some, None}
+use Rattle.std.proofs.Common.{◌≡◌, ℕ, List, [], refl, sym, ap, ◌∙◌, subst, inl, Option, Some, None}
 use Rattle.std.specs.Prelude.{Result, Ok, Err, pos}
 use Rattle.apd_answers.specs.Repliers.{nobody}
 use Rattle.apd_account.specs.Account.{with_told}
@@ -23,11 +23,9 @@ use Rattle.apd_talk.specs.declared.talk.Trouble.TheVariants as trouble
 use Rattle.apd_talk.proofs.Speaking.{both}
 use Rattle.apd_talk.proofs.Uttering.{UttersFront-none}
 use Rattle.apd_term.specs.Growth.{Grown}
-use Rattle.apd_term.specs.Term.{Term}
 use Rattle.apd_text.specs.declared.entry.Entry.{Entry}
 use Rattle.apd_text.specs.declared.entry.Entry.TheVariants.{Refused, Symptom}
 use Rattle.apd_text.specs.declared.entry.Refusal.{Refusal}
-use Rattle.apd_text.specs.declared.entry.Told.TheVariants.{Wrong}
 use Rattle.apd_text.specs.declared.log.Log.{Log}
 use Rattle.apd_commands.specs.Commands.{command_in}
 use Rattle.apd_commands.specs.declared.commands.Command.{Command}
@@ -37,6 +35,7 @@ use Rattle.apd_read.specs.Reader.{Reader}
 use Rattle.apd_session.specs.Demo.{asked_said, blamed, blamed_at, found_said, query_line, shown_said}
 use Rattle.apd_session.specs.Outcome.{IsFront, IsSaid, status_of, status_shown}
 use Rattle.apd_session.specs.Session.{Transcript, demonstrates}
+use Rattle.apd_session.specs.Steps.{wrong_of}
 use Rattle.apd_session.specs.declared.opening.Start.{Start}
 use Rattle.apd_session.specs.declared.status.Status.TheVariants as status
 
@@ -67,26 +66,24 @@ blamed_none ops names nodes s last = rw last refl
 pub blamed_refused : (ops : Table) (names : List (List ℕ)) (nodes : ℕ) (s : State) (run : LastRun) (r : Refusal) → s.last ≡ Some run → exit_of run.history (pos 1) (pos 1) ≡ Err r → blamed ops names nodes s s.last ≡ one (Refused r) ops names
 blamed_refused ops names nodes s run r last is = ap (blamed ops names nodes s) last ∙ ap (blamed_at ops names nodes s run.history) is
 
--- the dialogue about an exit with this atom as its head
-abbrev pub dialogue_of : ℕ → State → LastRun → ℕ → Term → Dialogue Tree Finding
-dialogue_of nodes s run e atom = demonstrated nodes s.program s.strategy (with_told s.replies (Wrong atom)) (tree run.history e atom)
+-- the dialogue about an exit
+abbrev pub dialogue_of : ℕ → State → LastRun → ℕ → Dialogue Tree Finding
+dialogue_of nodes s run e = demonstrated nodes s.program s.strategy (with_told s.replies (wrong_of run.history e)) (tree run.history e (point_of run.history e).tuple.head)
 
 -- the symptom, the questions with their replies, and what was found
-abbrev pub symptom_of : Term → Speech
-symptom_of atom = one (Symptom (Wrong atom))
+abbrev pub symptom_of : LastRun → ℕ → Speech
+symptom_of run e = one (Symptom (wrong_of run.history e))
 
-abbrev pub questions_of : ℕ → State → LastRun → ℕ → Term → Speech
-questions_of nodes s run e atom ops names = exchanges_said nobody ops names s.asked (dialogue_of nodes s run e atom).exchanges
+abbrev pub questions_of : ℕ → State → LastRun → ℕ → Speech
+questions_of nodes s run e ops names = exchanges_said nobody ops names s.asked (dialogue_of nodes s run e).exchanges
 
-abbrev pub found_of : ℕ → State → LastRun → ℕ → Term → Speech
-found_of nodes s run e atom ops names =
-    found_said ops names s.program nodes (count_after s.asked (dialogue_of nodes s run e atom).exchanges) (dialogue_of nodes s run e atom).turn
+abbrev pub found_of : ℕ → State → LastRun → ℕ → Speech
+found_of nodes s run e ops names =
+    found_said ops names s.program nodes (count_after s.asked (dialogue_of nodes s run e).exchanges) (dialogue_of nodes s run e).turn
 
-pub blamed_parts : (nodes : ℕ) (s : State) (run : LastRun) (e : ℕ) (atom : Term) → s.last ≡ Some run → exit_of run.history (pos 1) (pos 1) ≡ Ok e → (point_of run.history e).tuple.head ≡ atom
-    → (ops : Table) (names : List (List ℕ)) → both (symptom_of atom) (both (questions_of nodes s run e atom) (found_of nodes s run e atom)) ops names ≡ blamed ops names nodes s s.last
-blamed_parts nodes s run e atom last is head ops names =
-    let at : List (Utterance Entry) = symptom_of atom ops names ++ (questions_of nodes s run e atom ops names ++ found_of nodes s run e atom ops names) in
-    sym (ap (blamed ops names nodes s) last ∙ ap (blamed_at ops names nodes s run.history) is ∙ ap (λ (t : Term). symptom_of t ops names ++ (questions_of nodes s run e t ops names ++ found_of nodes s run e t ops names)) head)
+pub blamed_parts : (nodes : ℕ) (s : State) (run : LastRun) (e : ℕ) → s.last ≡ Some run → exit_of run.history (pos 1) (pos 1) ≡ Ok e
+    → (ops : Table) (names : List (List ℕ)) → both (symptom_of run e) (both (questions_of nodes s run e) (found_of nodes s run e)) ops names ≡ blamed ops names nodes s s.last
+blamed_parts nodes s run e last is ops names = sym (ap (blamed ops names nodes s) last ∙ ap (blamed_at ops names nodes s run.history) is)
 
 -- the command that was read, whatever names are kept later
 pub transcript_is : {names : List (List ℕ)} (reader : Reader names) (ops : Table) (nodes : ℕ) (start : Start) (c : Command) → c ≡ command_in reader ops query_line

@@ -16,7 +16,7 @@ use Rattle.apd_clauses.proofs.Indexing.{same_pred-true}
 use Rattle.apd_clauses.proofs.Pure.{goals_are_atoms}
 use Rattle.apd_console.specs.Lines.{Close, InputEnd, hear}
 use Rattle.apd_console.specs.declared.line.Line.{Line}
-use Rattle.apd_answers.specs.Repliers.{nobody}
+use Rattle.apd_answers.specs.Repliers.{RepliesFit, nobody}
 use Rattle.apd_answers.specs.Fitting.{AllFit}
 use Rattle.apd_answers.specs.Interpretation.{Interpretation}
 use Rattle.apd_answers.specs.Store.{Store}
@@ -33,9 +33,9 @@ use Rattle.apd_talk.specs.Utterance.{Utterance, entries_of}
 use Rattle.apd_talk.proofs.Uttering.{entries_of-append}
 use Rattle.apd_talk.specs.Speech.{plain}
 use Rattle.apd_text.specs.declared.entry.Entry.{Entry}
-use Rattle.apd_text.specs.declared.entry.Entry.TheVariants.{FileTooLong, InputFault, Loaded, OracleRefused, ProgramRefused, UsageRefused}
+use Rattle.apd_text.specs.declared.entry.Entry.TheVariants.{FileTooLong, InputFault, Loaded, OracleRefused, ProgramRefused, ReferenceLoaded, ReferenceRefused, UsageRefused}
 use Rattle.apd_text.specs.declared.entry.Refusal.TheVariants.{NotACommand}
-use Rattle.apd_account.specs.Account.{Account, after_entries, account_with}
+use Rattle.apd_account.specs.Account.{Account, Idle, after_entries, account_with}
 use Rattle.apd_account.specs.Right.{AreRight, IsRight}
 use Rattle.apd_account.proofs.Fronts.{right-append}
 use Rattle.apd_commands.specs.Filters.{filter_at, trace_asked}
@@ -49,18 +49,21 @@ use Rattle.apd_query.specs.declared.state.State.{State}
 use Rattle.apd_session.specs.Demo.{asked_said, blamed, query_line}
 use Rattle.apd_words.specs.Words.{InFile, OfTree, Options, Subject, options_of}
 use Rattle.apd_session.specs.Headline.{AreRightFor}
-use Rattle.apd_session.specs.Opening.{beginning_of, beginning_said, course_of, first_state, known_said, load_said, opening_of, opening_with}
+use Rattle.apd_session.specs.Opening.{beginning_said, course_of, first_state, further_said, known_said, load_said, opening_of, reference_said, reviewed_said}
 use Rattle.apd_session.specs.Session.{World, session_of, transcript_of}
+use Rattle.apd_reference.specs.Referees.{replies_of}
+use Rattle.apd_reference.specs.declared.referee.Referee.{Referee}
 use Rattle.apd_session.specs.declared.opening.Beginning.{Beginning}
+use Rattle.apd_session.specs.declared.opening.Reviewed.{Reviewed}
 use Rattle.apd_session.specs.declared.opening.Opening.{Opening}
 use Rattle.apd_session.specs.declared.opening.Opening.TheVariants.{Unloaded, Closed, Open}
 use Rattle.apd_session.specs.declared.opening.Stop.{Stop}
 use Rattle.apd_session.specs.declared.notes.Noted.{Noted}
-use Rattle.apd_session.proofs.Openings.{IsLastWord, opening_has}
-use Rattle.apd_session.specs.declared.preparing.Prepared.TheVariants.{Knows}
+use Rattle.apd_session.proofs.Openings.{IsLastWord, askable-fits, opening_has}
 use Rattle.apd_session.specs.Steps.{Situation, Waiting, ForCommand, ForWrong, ForMissing, ForLoop, after_run, query_said, ready_in, remarks, step_for, talker}
 use Rattle.apd_session.specs.declared.notes.Noted.TheVariants as noted
-use Rattle.apd_session.proofs.Righting.{IsMode, IsTold, Stands, IsStep, blamed-right, command-step, loop_reply-step, missing_reply-step, wrong_reply-step, closing-right}
+use Rattle.apd_session.proofs.Commanding.{blamed-right, closing-right, command-step}
+use Rattle.apd_session.proofs.Righting.{IsMode, IsTold, Stands, IsStep, loop_reply-step, missing_reply-step, wrong_reply-step}
 
 -- A query that is asked has atoms as its goals.
 
@@ -135,9 +138,22 @@ module _ (m : Interpretation) (program : List Clause) (strategy : Strategy) (nam
       subst (λ (l : List (Utterance Entry)). AreRight m program strategy a (entries_of l)) (sym (append_twice (remarks ops names noted.PassedOver b.passed) (remarks ops names noted.Called b.called) (last ∷ []) us))
       (noted-right a noted.PassedOver b.passed (remarks ops names noted.Called b.called ++ (last ∷ us)) (noted-right a noted.Called b.called (last ∷ us) (tt, r)))
 
+  reference-right : (a : Account) (reference : Option Reviewed) (us : List (Utterance Entry)) → AreRight m program strategy a (entries_of us) → AreRight m program strategy a (entries_of (reference_said ops names reference ++ us))
+  unfolding reviewed_said
+  reference-right a None us r = r
+  reference-right a (Some w) us r =
+      let last = plain ops names (ReferenceLoaded w.clauses) in
+      subst (λ (l : List (Utterance Entry)). AreRight m program strategy a (entries_of l)) (sym (append_twice (remarks ops names noted.PassedOver w.passed) (remarks ops names noted.Called w.called) (last ∷ []) us))
+      (noted-right a noted.PassedOver w.passed (remarks ops names noted.Called w.called ++ (last ∷ us)) (noted-right a noted.Called w.called (last ∷ us) (tt, r)))
+
+  further-right : (a : Account) (b : Beginning) (us : List (Utterance Entry)) → AreRight m program strategy a (entries_of us) → AreRight m program strategy a (entries_of (further_said ops names b ++ us))
+  further-right a b us r =
+      subst (λ (l : List (Utterance Entry)). AreRight m program strategy a (entries_of l)) (sym (append_assoc (known_said ops names b.statements) (reference_said ops names b.reference) us))
+      (known-right a b.statements (reference_said ops names b.reference ++ us) (reference-right a b.reference us r))
+
   beginning-right : (a : Account) (b : Beginning) (us : List (Utterance Entry)) → AreRight m program strategy a (entries_of us) → AreRight m program strategy a (entries_of (beginning_said ops names b ++ us))
   beginning-right a b us r =
-      subst (λ (l : List (Utterance Entry)). AreRight m program strategy a (entries_of l)) (sym (append_assoc (load_said ops names b) (known_said ops names b.statements) us)) (load-right a b (known_said ops names b.statements ++ us) (known-right a b.statements us r))
+      subst (λ (l : List (Utterance Entry)). AreRight m program strategy a (entries_of l)) (sym (append_assoc (load_said ops names b) (further_said ops names b) us)) (load-right a b (further_said ops names b ++ us) (further-right a b us r))
 
 module _ (m : Interpretation) (program : List Clause) (is : IsProgram program) (strategy : Strategy) (names : List (List ℕ)) (reader : Reader names) (ops : Table) where
   abbrev Right : Account → List (Utterance Entry) → Type 0
@@ -148,7 +164,7 @@ module _ (m : Interpretation) (program : List Clause) (is : IsProgram program) (
   line-step s a line h = by s.mode h.mode
     where
       by : (mode : Waiting) → IsMode m program is strategy mode a → IsStep m program is strategy a (step_for reader ops s.state mode line)
-      by ForCommand k = command-step m program is strategy ops names s.state a (command_in reader ops line) (λ q e. query_atoms reader ops line q e) h.state
+      by ForCommand k = command-step m program is strategy ops names s.state a (command_in reader ops line) (λ q e. query_atoms reader ops line q e) h.state k
       by (ForWrong asked next) k =
           wrong_reply-step m program is strategy ops names s.state a asked next (spoken_of asked (line_in reader ops line)) (λ r e. reply_fits asked (line_in reader ops line) r e) h.state k
       by (ForMissing asked next) k =
@@ -157,7 +173,7 @@ module _ (m : Interpretation) (program : List Clause) (is : IsProgram program) (
           loop_reply-step m program is strategy ops names s.state a asked next (spoken_of asked (line_in reader ops line)) (λ r e. reply_fits asked (line_in reader ops line) r e) h.state k
 
   -- what is said after what is right
-  both-right : (a : Account) (us vs : List (Utterance Entry)) → Right a us → Right (after_entries program a (entries_of us)) vs → Right a (us ++ vs)
+  both-right : (a : Account) (us vs : List (Utterance Entry)) → Right a us → Right (after_entries program strategy a (entries_of us)) vs → Right a (us ++ vs)
   both-right a us vs r q = subst (AreRight m program strategy a) (sym (entries_of-append us vs)) (right-append m program strategy a (entries_of us) (entries_of vs) r q)
 
   -- the lines of an input
@@ -165,9 +181,9 @@ module _ (m : Interpretation) (program : List Clause) (is : IsProgram program) (
   lines-right s a [] close h = closing-right m program is strategy ops names a s.mode close
   lines-right s a (line ∷ input) close h =
       let st = line-step s a line h in
-      by ((talker reader ops).step s line) st (lines-right ((talker reader ops).step s line).next (after_entries program a (entries_of ((talker reader ops).step s line).utterances)) input close st.stands)
+      by ((talker reader ops).step s line) st (lines-right ((talker reader ops).step s line).next (after_entries program strategy a (entries_of ((talker reader ops).step s line).utterances)) input close st.stands)
     where
-      by : (step : Step Entry Situation) → IsStep m program is strategy a step → Right (after_entries program a (entries_of step.utterances)) (run (talker reader ops) step.next input close).utterances
+      by : (step : Step Entry Situation) → IsStep m program is strategy a step → Right (after_entries program strategy a (entries_of step.utterances)) (run (talker reader ops) step.next input close).utterances
           → Right a (if step.quits then record { utterances = step.utterances; ending = Done } else onto step.utterances (run (talker reader ops) step.next input close)).utterances
       by step st rest = quits step.quits
         where
@@ -184,19 +200,19 @@ module _ (m : Interpretation) (program : List Clause) (is : IsProgram program) (
   before-right a b us r = beginning-right m program strategy names ops a b us r
 
   -- the query of a demonstration is run, and its answer is diagnosed
-  asked-right : (a : Account) (nodes : ℕ) (s : State) (c : Command) → ((q : Query) → c ≡ command.Query q → All IsAtom q.tuple.body) → IsTold m program is strategy s s.replies a → Right a (asked_said ops names nodes s c)
-  asked-right a nodes s (command.Query q) atoms h =
-      let st = command-step m program is strategy ops names s a (command.Query q) atoms h in
+  asked-right : (a : Account) (nodes : ℕ) (s : State) (c : Command) → ((q : Query) → c ≡ command.Query q → All IsAtom q.tuple.body) → IsTold m program is strategy s s.replies a → a.stage ≡ Idle → Right a (asked_said ops names nodes s c)
+  asked-right a nodes s (command.Query q) atoms h idle =
+      let st = command-step m program is strategy ops names s a (command.Query q) atoms h idle in
       both-right a (query_said ops names s q) (blamed ops names nodes (after_run s q) (after_run s q).last) st.right
-      (blamed-right m program is strategy ops names nodes (after_run s q) (after_entries program a (entries_of (query_said ops names s q))) (after_run s q).last st.stands.state st.stands.state.last)
-  asked-right a nodes s command.Nothing atoms h = tt
-  asked-right a nodes s command.Quit atoms h = tt
-  asked-right a nodes s (command.Refused r) atoms h = tt
-  asked-right a nodes s (command.Wrong b k) atoms h = tt
-  asked-right a nodes s (command.Missing b atom) atoms h = tt
-  asked-right a nodes s command.Loop atoms h = tt
-  asked-right a nodes s (command.Trace f) atoms h = tt
-  asked-right a nodes s command.Known atoms h = tt
+      (blamed-right m program is strategy ops names nodes (after_run s q) (after_entries program strategy a (entries_of (query_said ops names s q))) (after_run s q).last st.stands.state st.stands.mode st.stands.state.last)
+  asked-right a nodes s command.Nothing atoms h idle = tt
+  asked-right a nodes s command.Quit atoms h idle = tt
+  asked-right a nodes s (command.Refused r) atoms h idle = tt
+  asked-right a nodes s (command.Wrong b k) atoms h idle = tt
+  asked-right a nodes s (command.Missing b atom) atoms h idle = tt
+  asked-right a nodes s command.Loop atoms h idle = tt
+  asked-right a nodes s (command.Trace f) atoms h idle = tt
+  asked-right a nodes s command.Known atoms h idle = tt
 
   -- the lines of the input are heard, or the tree is demonstrated
   started-right : (input : List ℕ) (ends : InputEnd) (b : Beginning) (s : State) (a : Account) (subject : Subject) → Stands m program is strategy (ready_in s) a
@@ -205,15 +221,15 @@ module _ (m : Interpretation) (program : List Clause) (is : IsProgram program) (
       before-right a b (replies (talker reader ops) (ready_in s) 16777216 input ends).utterances (conversation-right (ready_in s) a 16777216 input ends h)
   started-right input ends b s a (OfTree nodes) h =
       let c = command_in reader ops query_line in
-      before-right a b (asked_said ops names nodes s c) (asked-right a nodes s c (λ q e. query_atoms reader ops query_line q e) h.state)
+      before-right a b (asked_said ops names nodes s c) (asked-right a nodes s c (λ q e. query_atoms reader ops query_line q e) h.state h.mode)
 
 -- Each session.
 
-pub first_stands : (m : Interpretation) (options : Options) (program : List Clause) (store : Store) (is : IsProgram program) → AllFit store
-    → Stands m program is options.strategy (ready_in (first_state program options store)) (account_with nobody store)
-first_stands m options program store is fit = record {
-  state = record { program_is = refl; strategy_is = refl; store_is = refl; fit = fit; his = λ q r is. absurd (cc); replies_is = refl; last = (refl, tt) };
-  mode = tt;
+pub first_stands : (m : Interpretation) (options : Options) (program : List Clause) (store : Store) (referee : Referee) (is : IsProgram program) → AllFit store → RepliesFit (replies_of referee)
+    → Stands m program is options.strategy (ready_in (first_state program options store referee)) (account_with (replies_of referee) store)
+first_stands m options program store referee is fit his = record {
+  state = record { program_is = refl; strategy_is = refl; store_is = refl; fit = fit; his = his; replies_is = refl; last = (refl, tt) };
+  mode = refl;
 }
 
 -- what is said last
@@ -221,6 +237,7 @@ last_word-right : (m : Interpretation) (program : List Clause) (strategy : Strat
 last_word-right m program strategy a UsageRefused last = tt
 last_word-right m program strategy a (ProgramRefused line cause) last = tt
 last_word-right m program strategy a (OracleRefused line cause) last = tt
+last_word-right m program strategy a (ReferenceRefused line cause) last = tt
 last_word-right m program strategy a (FileTooLong size) last = tt
 last_word-right m program strategy a InputFault last = tt
 last_word-right m program strategy a e last = absurd last
@@ -236,12 +253,13 @@ module _ (m : Interpretation) {names : List (List ℕ)} (reader : Reader names) 
   closed-right ops b why last = λ input ends program strategy known.
       beginning-right m program strategy names ops (account_with nobody known) b (plain ops names why.said ∷ []) (last_word-right m program strategy (account_with nobody known) why.said last, tt)
 
-  opened-right : (options : Options) (program : List Clause) (ops : Table) (passed : List Note) (statements : Option ℕ) (store : Store) → IsProgram program → AllFit store → RightOpening (opening_with options program ops passed (Knows statements store))
-  opened-right options program ops passed statements store is fit = λ input ends.
-      started-right m program is options.strategy names reader ops input ends (beginning_of program passed statements) (first_state program options store) (account_with nobody store) options.subject (first_stands m options program store is fit)
+  opened-right : (options : Options) (program : List Clause) (ops : Table) (b : Beginning) (store : Store) (referee : Referee) → IsProgram program → AllFit store → RepliesFit (replies_of referee)
+      → RightOpening (Open ops (record { beginning = b; state = first_state program options store referee }) (course_of options.subject))
+  opened-right options program ops b store referee is fit his = λ input ends.
+      started-right m program is options.strategy names reader ops input ends b (first_state program options store referee) (account_with (replies_of referee) store) options.subject (first_stands m options program store referee is fit his)
 
   -- whatever the loads of files give
   pub session-right : (words : List (List ℕ)) (world : World) → AreRightFor m (entries_of (session_of words reader world).utterances) (opening_of reader world.files (options_of words))
   session-right words world =
-      opening_has RightOpening reader world.files unloaded-right (λ options program ops passed why is table last. closed-right ops (beginning_of program passed None) why last)
-      (λ options program ops passed statements store is table fit. opened-right options program ops passed statements store is fit) words world.input world.ends
+      opening_has RightOpening reader world.files unloaded-right (λ ops b why table last. closed-right ops b why last)
+      (λ options program ops b store referee is table fit may. opened-right options program ops b store referee is fit (askable-fits referee may)) words world.input world.ends

@@ -9,6 +9,7 @@ use Rattle.apd_clauses.specs.Clauses.{IsProgram, tuples_of}
 use Rattle.apd_console.specs.Lines.{Close, AtEnd, AtFault, AtLimit, InputEnd, hear}
 use Rattle.apd_console.specs.declared.line.Line.{Line}
 use Rattle.apd_record.specs.Recorded.{Recorded, chain}
+use Rattle.apd_record.specs.Index.{id_of}
 use Rattle.apd_record.specs.Reading.{point_of}
 use Rattle.apd_answers.specs.declared.question.Asked.{Asked}
 use Rattle.apd_answers.specs.declared.question.Question.TheVariants.{True}
@@ -29,7 +30,7 @@ use Rattle.apd_demo.proofs.Falling.{Lowers, next-lowers}
 use Rattle.apd_wrong.specs.Wrong.{wrong}
 use Rattle.apd_session.specs.Demo.{asked_said, blamed, blamed_at, found_said, query_line}
 use Rattle.apd_answers.specs.Questions.{FitsAsked}
-use Rattle.apd_answers.specs.Repliers.{nobody}
+use Rattle.apd_answers.specs.Repliers.{RepliesFit, nobody}
 use Rattle.apd_divide.specs.declared.node.Strategy.{Strategy}
 use Rattle.apd_divide.specs.Recorded.{tree}
 use Rattle.apd_divide.specs.Tree.{Tree, suspects}
@@ -46,18 +47,20 @@ use Rattle.apd_oracle.specs.declared.spoken.Spoken.TheVariants as spoken
 use Rattle.apd_oracle.proofs.Fitting.{reply_fits}
 use Rattle.apd_read.specs.Reader.{Reader}
 use Rattle.apd_reference.specs.Referees.{replies_of}
+use Rattle.apd_reference.specs.declared.referee.Referee.{Referee}
 use Rattle.apd_talk.specs.Talk.{Step, onto, run, replies}
 use Rattle.apd_talk.specs.declared.talk.Ending.TheVariants.{Done}
 use Rattle.apd_talk.specs.Utterance.{Utterance, entries_of}
 use Rattle.apd_talk.proofs.Uttering.{entries_of-append}
 use Rattle.apd_talk.specs.Speech.{plain}
 use Rattle.apd_text.specs.declared.entry.Entry.{Entry}
-use Rattle.apd_text.specs.declared.entry.Entry.TheVariants.{FileTooLong, InputFault, Loaded, OracleRefused, ProgramRefused, UsageRefused}
+use Rattle.apd_text.specs.declared.entry.Entry.TheVariants.{FileTooLong, InputFault, Loaded, OracleRefused, ProgramRefused, ReferenceLoaded, ReferenceRefused, UsageRefused}
 use Rattle.apd_text.specs.declared.entry.Refusal.{Refusal}
 use Rattle.apd_text.specs.declared.entry.Told.{Told}
-use Rattle.apd_text.specs.declared.entry.Told.TheVariants.{Wrong, Missing, NoEnd}
-use Rattle.apd_account.specs.Account.{Account, after_entries, after_told, with_asked, with_reply, with_told, account_with}
-use Rattle.apd_account.proofs.Diagnosing.{IsKnownTree, RightTurn, Waits, waits, wrong_begins, wrong_left}
+use Rattle.apd_text.specs.declared.entry.Told.TheVariants.{Missing, NoEnd}
+use Rattle.apd_account.specs.Account.{Account, Awaits, after_entries, after_told, with_reply, with_told, account_with}
+use Rattle.apd_account.specs.Inquiry.{Inquiry, OfWrong, OfMissing, OfLoop}
+use Rattle.apd_account.proofs.Diagnosing.{AsksRightly, IsKnownTree, RightTurn, Waits, wrong_begins, wrong_left}
 use Rattle.apd_commands.specs.Commands.{command_in}
 use Rattle.apd_commands.specs.declared.commands.Command.{Command}
 use Rattle.apd_commands.specs.declared.commands.Command.TheVariants as command
@@ -68,23 +71,24 @@ use Rattle.apd_query.specs.declared.state.State.{State}
 use Rattle.apd_symptoms.specs.Chains.{stopped_chain}
 use Rattle.apd_symptoms.specs.Symptoms.{exit_of}
 use Rattle.apd_symptoms.specs.Unanswered.{unanswered_box}
-use Rattle.apd_session.specs.Steps.{Method, after_run, Situation, Waiting, ForCommand, ForWrong, ForMissing, ForLoop, begins, by_loop, by_missing, by_wrong, carries_on, closing_in, command_step, loop_at, loop_step, missing_at, missing_step, query_said, ready_in, refused as refuses, remark, remarks, reply_said, situation, step_for, talker, warnings_for, wrong_at, wrong_step}
+use Rattle.apd_session.specs.Steps.{Method, after_run, Situation, Waiting, ForCommand, ForWrong, ForMissing, ForLoop, begins, by_loop, by_missing, by_wrong, carries_on, closing_in, command_step, loop_at, loop_step, missing_at, missing_step, query_said, ready_in, refused as refuses, remark, remarks, reply_said, situation, step_for, talker, warnings_for, wrong_at, wrong_of, wrong_step}
 use Rattle.apd_session.specs.declared.notes.Noted.{Noted}
 use Rattle.apd_session.specs.declared.notes.Noted.TheVariants as noted
 use Rattle.apd_session.specs.Headline.{nothing_intended}
-use Rattle.apd_session.specs.Opening.{beginning_of, beginning_said, course_of, first_state, known_said, load_said}
+use Rattle.apd_session.specs.Opening.{beginning_said, course_of, first_state, further_said, known_said, load_said, reference_said, reviewed_said}
 use Rattle.apd_session.specs.Session.{World, session_of, transcript_of}
 use Rattle.apd_session.specs.declared.opening.Beginning.{Beginning}
+use Rattle.apd_session.specs.declared.opening.Reviewed.{Reviewed}
 use Rattle.apd_session.specs.declared.opening.Opening.{Opening}
 use Rattle.apd_session.specs.declared.opening.Opening.TheVariants.{Unloaded, Closed, Open}
 use Rattle.apd_session.specs.declared.opening.Stop.{Stop}
-use Rattle.apd_session.proofs.Openings.{IsLastWord, opening_has}
+use Rattle.apd_session.proofs.Openings.{askable-fits, IsLastWord, opening_has}
 use Rattle.apd_session.specs.Flow.{Due, Nothing, Move, Reply as Waits_for, due_after, Flows}
 use Rattle.apd_session.proofs.Courses.{IsKnownGoal, IsKnownLoop, IsLoopEnd, goal_left, loop_begins, missing_begins}
 use Rattle.apd_session.proofs.Exiting.{exit_of-exits}
 use Rattle.apd_session.proofs.Lacking.{box_lacks, chain_stopped, is_chain}
 use Rattle.apd_session.proofs.Findings.{first_stands, line-step}
-use Rattle.apd_session.proofs.Righting.{IsLast, IsMode, IsRightly, IsTold, Stands, loop_rightly, missing_rightly, wrong_rightly}
+use Rattle.apd_session.proofs.Righting.{IsLast, IsMode, IsRightly, IsTold, Stands, loop_rightly, missing_rightly, told_on, wrong_rightly}
 use Rattle.apd_words.specs.Words.{InFile, OfTree, Options, Subject}
 
 append-flows : (d x e : Due) (xs ys : List Entry) → Flows d xs x → Flows x ys e → Flows d (xs ++ ys) e
@@ -110,7 +114,7 @@ module _ (m : Interpretation) (program : List Clause) (is : IsProgram program) (
   refused-flows : (ops : Table) (names : List (List ℕ)) (s : State) (r : Refusal) → StepFlows Nothing (refuses ops names s r)
   refused-flows ops names s r = record { flows = (Nothing, refl, refl); quits = λ e. refl }
 
-  module _ {D E : Type 0} (d : Method D E) (Known : Recorded → Store → Option Told → D → Type 0) (left : D → Option ℕ) (IsEnd : Recorded → Store → E → Type 0) (rightly : IsRightly m program is strategy d Known left IsEnd)
+  module _ {D E : Type 0} (d : Method D E) (Known : Recorded → Store → Option Told → D → Type 0) (left : D → Option ℕ) (IsEnd : Recorded → Store → E → Type 0) (state : D → Inquiry) (end : E → LoopEnd) (rightly : IsRightly m program is strategy d Known left IsEnd state end)
       (waits_for : (asked : Asked) (next : Reply → D) → due_of (d.waits asked next) ≡ Waits_for) (closes : (s : State) (e : E) → due_after Move (d.found s e) ≡ Some Nothing) where
     turn-flows : (ops : Table) (names : List (List ℕ)) (s : State) (store : Store) (count : ℕ) (a : Account) (turn : Turn D E)
         → RightTurn strategy Known left IsEnd a.history a.store a.symptom turn → StepFlows Move (after_turn (d.diagnosis s) (d.found s) (situation d s) ops names store count turn)
@@ -120,14 +124,12 @@ module _ (m : Interpretation) (program : List Clause) (is : IsProgram program) (
 
     -- a reply is told, and then the rest
     reply_then-flows : (rest : Store → ℕ → D → Step Entry Situation) (by_reference : Bool) (ops : Table) (names : List (List ℕ)) (s : State) (store : Store) (count : ℕ) (a : Account) (asked : Asked) (next : Reply → D) (r : Reply)
-        → IsTold m program is strategy s store a → Waits strategy Known left a asked next → FitsAsked asked r
+        → IsTold m program is strategy s store a → AsksRightly strategy Known left a.history a.store a.symptom asked next → FitsAsked asked r
         → ((b : Account) → IsTold m program is strategy s (with_pair store asked.question r) b → Known b.history b.store b.symptom (next r) → StepFlows Move (rest (with_pair store asked.question r) count (next r)))
         → StepFlows Waits_for (replied_then (replies_of s.referee) (d.diagnosis s) (d.found s) (situation d s) ops names rest by_reference store count asked next r)
     reply_then-flows rest by_reference ops names s store count a asked next r h w fits goes_on =
-        let b = with_reply a (Some asked) r in
-        let told : IsTold m program is strategy s (with_pair store asked.question r) b =
-        record { program_is = h.program_is; strategy_is = h.strategy_is; store_is = ap (λ ps. with_pair ps asked.question r) h.store_is; fit = fit_added a.store asked.question r h.fit fits.0; his = h.his; replies_is = h.replies_is; last = h.last } in
-        let st = goes_on b told (w.asks.known r fits) in
+        let b = with_reply a (Awaits asked (λ reply. state (next reply))) r in
+        let st = goes_on b (told_on m program is strategy state s store a asked next r h fits) (w.known r fits) in
         record { flows = (Move, refl, st.flows); quits = st.quits }
 
     -- a turn, and the turns after it as long as there are replies without a line
@@ -145,11 +147,9 @@ module _ (m : Interpretation) (program : List Clause) (is : IsProgram program) (
             → StepFlows Move (referred_then (replies_of s.referee) (d.diagnosis s) (d.found s) (situation d s) ops names (goes_within (replies_of s.referee) (d.diagnosis s) (d.found s) (situation d s) ops names k) store count asked next o)
         by None is_none goes_on = turn-flows ops names s store count a (asks asked next) t
         by (Some r) found_so goes_on =
-            let b = with_asked a asked in
-            let told : IsTold m program is strategy s store b = record { program_is = h.program_is; strategy_is = h.strategy_is; store_is = h.store_is; fit = h.fit; his = h.his; replies_is = h.replies_is; last = h.last } in
             let kept = with_pair store asked.question r in
             let f = h.his asked.question r found_so in
-            let st = reply_then-flows (goes_within (replies_of s.referee) (d.diagnosis s) (d.found s) (situation d s) ops names k) true ops names s store (risen count) b asked next r told (waits strategy Known left a asked next t) (f.0, λ unknown. absurd (f.1 unknown)) (λ c told known. goes_on kept c (next r) told known) in
+            let st = reply_then-flows (goes_within (replies_of s.referee) (d.diagnosis s) (d.found s) (situation d s) ops names k) true ops names s store (risen count) a asked next r h t (f.0, λ unknown. absurd (f.1 unknown)) (λ c told known. goes_on kept c (next r) told known) in
             record { flows = (Waits_for, refl, st.flows); quits = st.quits }
 
     carries-flows : (ops : Table) (names : List (List ℕ)) (s : State) (store : Store) (count : ℕ) (a : Account) (x : D) → IsTold m program is strategy s store a → Known a.history a.store a.symptom x → StepFlows Move (carries_on d ops names s store count x)
@@ -163,16 +163,16 @@ module _ (m : Interpretation) (program : List Clause) (is : IsProgram program) (
         let st = carries-flows ops names s (with_told s.replies what) s.asked (after_told a what) x told k in
         record { flows = (Move, refl, st.flows); quits = st.quits }
 
-    replied-flows : (ops : Table) (names : List (List ℕ)) (s : State) (a : Account) (asked : Asked) (next : Reply → D) (r : Reply) → IsTold m program is strategy s s.replies a → Waits strategy Known left a asked next → FitsAsked asked r
+    replied-flows : (ops : Table) (names : List (List ℕ)) (s : State) (a : Account) (asked : Asked) (next : Reply → D) (r : Reply) → IsTold m program is strategy s s.replies a → AsksRightly strategy Known left a.history a.store a.symptom asked next → FitsAsked asked r
         → StepFlows Waits_for (replied (replies_of s.referee) (d.diagnosis s) (d.found s) (situation d s) ops names s.replies s.asked asked next r)
     replied-flows ops names s a asked next r h w fits =
         reply_then-flows (goes_on (replies_of s.referee) (d.diagnosis s) (d.found s) (situation d s) ops names) false ops names s s.replies s.asked a asked next r h w fits
         (λ b told known. carries-flows ops names s (with_pair s.replies asked.question r) s.asked b (next r) told known)
 
     reply-flows : (ops : Table) (names : List (List ℕ)) (s : State) (a : Account) (asked : Asked) (next : Reply → D) (said : Spoken) → ((r : Reply) → said ≡ spoken.Reply r → FitsAsked asked r)
-        → IsTold m program is strategy s s.replies a → Waits strategy Known left a asked next → StepFlows Waits_for (reply_said d ops names s asked next said)
+        → IsTold m program is strategy s s.replies a → Waits strategy Known left state a asked next → StepFlows Waits_for (reply_said d ops names s asked next said)
     reply-flows ops names s a asked next spoken.Nothing fits h w = record { flows = sym (waits_for asked next); quits = λ e. absurd (cc) }
-    reply-flows ops names s a asked next (spoken.Reply r) fits h w = replied-flows ops names s a asked next r h w (fits r refl)
+    reply-flows ops names s a asked next (spoken.Reply r) fits h w = replied-flows ops names s a asked next r h w.asks (fits r refl)
     reply-flows ops names s a asked next spoken.Stop fits h w = record { flows = (Nothing, refl, refl); quits = λ e. refl }
     reply-flows ops names s a asked next spoken.Quit fits h w = record { flows = (Nothing, refl, refl); quits = λ e. refl }
     reply-flows ops names s a asked next (spoken.Bad reason) fits h w = record { flows = (Waits_for, refl, sym (waits_for asked next)); quits = λ e. absurd (cc) }
@@ -191,8 +191,8 @@ module _ (m : Interpretation) (program : List Clause) (is : IsProgram program) (
       by (Ok n) e =
           let x = exit_of-exits a.history b k n e in
           let atom = (point_of a.history n).tuple.head in
-          begins-flows by_wrong (IsKnownTree (tuples_of program)) wrong_left (IsByReplies (tuples_of program)) (wrong_rightly m program is strategy) (λ asked next. refl) (λ s f. refl) ops names s a (Wrong atom) (tree a.history n atom) h (fit_added a.store (True atom) No h.fit tt)
-          (wrong_begins (tuples_of program) a.history a.store n atom l.1.sound x.exit x.head)
+          begins-flows by_wrong (IsKnownTree (tuples_of program)) wrong_left (IsByReplies (tuples_of program)) OfWrong loop_ends.Found (wrong_rightly m program is strategy) (λ asked next. refl) (λ s f. refl) ops names s a (wrong_of a.history n) (tree a.history n atom) h
+          (fit_added a.store (True atom) No h.fit tt) (wrong_begins (tuples_of program) a.history a.store (id_of n) atom l.1.sound (record { exit = x.exit; head = x.head }))
 
   missing-flows : (ops : Table) (names : List (List ℕ)) (s : State) (a : Account) (b : ℤ) (atom : Term) (last : Option LastRun) → IsTold m program is strategy s s.replies a → IsLast m program is strategy last a.history → StepFlows Nothing (missing_step ops names s last b atom)
   missing-flows ops names s a b atom None h l = refused-flows ops names s _
@@ -201,7 +201,7 @@ module _ (m : Interpretation) (program : List Clause) (is : IsProgram program) (
       by : (r : Result ℕ Refusal) → unanswered_box a.history b atom ≡ r → StepFlows Nothing (missing_at ops names s atom r)
       by (Err r) e = refused-flows ops names s r
       by (Ok n) e =
-          begins-flows by_missing (IsKnownGoal (tuples_of program)) goal_left (IsByReplies (tuples_of program)) (missing_rightly m program is strategy) (λ asked next. refl) (λ s f. refl) ops names s a (Missing atom) (record { box_no = n; goal = atom }) h (fit_added a.store (True atom) Yes h.fit tt)
+          begins-flows by_missing (IsKnownGoal (tuples_of program)) goal_left (IsByReplies (tuples_of program)) OfMissing loop_ends.Found (missing_rightly m program is strategy) (λ asked next. refl) (λ s f. refl) ops names s a (Missing atom n) (record { box_no = n; goal = atom }) h (fit_added a.store (True atom) Yes h.fit tt)
           (missing_begins (tuples_of program) a.history a.store n atom l.1.sound l.1.full h.fit (box_lacks a.history b n atom l.1.sound.kept e))
 
   loop-flows : (ops : Table) (names : List (List ℕ)) (s : State) (a : Account) (last : Option LastRun) → IsTold m program is strategy s s.replies a → IsLast m program is strategy last a.history → StepFlows Nothing (loop_step ops names s last)
@@ -213,7 +213,7 @@ module _ (m : Interpretation) (program : List Clause) (is : IsProgram program) (
       by (Ok calls) e =
           let c = chain_stopped a.history run.end calls e in
           subst (λ bs. StepFlows Nothing (loop_at ops names s a.history (Ok bs))) (sym c.0)
-          (begins-flows by_loop (IsKnownLoop (tuples_of program)) left_in (IsLoopEnd (tuples_of program)) (loop_rightly m program is strategy) (λ asked next. refl) loop-closes ops names s a (NoEnd (length (chain a.history))) (loop_start a.history (chain a.history)) h h.fit
+          (begins-flows by_loop (IsKnownLoop (tuples_of program)) left_in (IsLoopEnd (tuples_of program)) OfLoop (λ e. e) (loop_rightly m program is strategy) (λ asked next. refl) loop-closes ops names s a (NoEnd (length (chain a.history))) (loop_start a.history (chain a.history)) h h.fit
           (loop_begins (tuples_of program) a.history a.store (length (chain a.history)) l.1.sound (is_chain a.history l.1.sound.kept l.1.chained c.1) h.fit))
 
   -- remarks
@@ -265,17 +265,17 @@ module _ (m : Interpretation) (program : List Clause) (is : IsProgram program) (
         by : (mode : Waiting) → IsMode m program is strategy mode a → StepFlows (due_of mode) (step_for reader ops s.state mode line)
         by ForCommand k = command-flows ops names s.state a (command_in reader ops line) h.state
         by (ForWrong asked next) k =
-            reply-flows by_wrong (IsKnownTree (tuples_of program)) wrong_left (IsByReplies (tuples_of program)) (wrong_rightly m program is strategy) (λ asked next. refl) (λ s f. refl) ops names s.state a asked next (spoken_of asked (line_in reader ops line)) (λ r e. reply_fits asked (line_in reader ops line) r e) h.state k
+            reply-flows by_wrong (IsKnownTree (tuples_of program)) wrong_left (IsByReplies (tuples_of program)) OfWrong loop_ends.Found (wrong_rightly m program is strategy) (λ asked next. refl) (λ s f. refl) ops names s.state a asked next (spoken_of asked (line_in reader ops line)) (λ r e. reply_fits asked (line_in reader ops line) r e) h.state k
         by (ForMissing asked next) k =
-            reply-flows by_missing (IsKnownGoal (tuples_of program)) goal_left (IsByReplies (tuples_of program)) (missing_rightly m program is strategy) (λ asked next. refl) (λ s f. refl) ops names s.state a asked next (spoken_of asked (line_in reader ops line)) (λ r e. reply_fits asked (line_in reader ops line) r e) h.state k
+            reply-flows by_missing (IsKnownGoal (tuples_of program)) goal_left (IsByReplies (tuples_of program)) OfMissing loop_ends.Found (missing_rightly m program is strategy) (λ asked next. refl) (λ s f. refl) ops names s.state a asked next (spoken_of asked (line_in reader ops line)) (λ r e. reply_fits asked (line_in reader ops line) r e) h.state k
         by (ForLoop asked next) k =
-            reply-flows by_loop (IsKnownLoop (tuples_of program)) left_in (IsLoopEnd (tuples_of program)) (loop_rightly m program is strategy) (λ asked next. refl) loop-closes ops names s.state a asked next (spoken_of asked (line_in reader ops line)) (λ r e. reply_fits asked (line_in reader ops line) r e) h.state k
+            reply-flows by_loop (IsKnownLoop (tuples_of program)) left_in (IsLoopEnd (tuples_of program)) OfLoop (λ e. e) (loop_rightly m program is strategy) (λ asked next. refl) loop-closes ops names s.state a asked next (spoken_of asked (line_in reader ops line)) (λ r e. reply_fits asked (line_in reader ops line) r e) h.state k
 
     lines-flow : (s : Situation) (a : Account) (input : List Line) (close : Close) → Stands m program is strategy s a → Flows (due_of s.mode) (entries_of (run (talker reader ops) s input close).utterances) Nothing
     lines-flow s a [] close h = closing-flows ops names s.mode close
     lines-flow s a (line ∷ input) close h =
         let st = line-step m program is strategy names reader ops s a line h in
-        by ((talker reader ops).step s line) (line-flows s a line h) (lines-flow ((talker reader ops).step s line).next (after_entries program a (entries_of ((talker reader ops).step s line).utterances)) input close st.stands)
+        by ((talker reader ops).step s line) (line-flows s a line h) (lines-flow ((talker reader ops).step s line).next (after_entries program strategy a (entries_of ((talker reader ops).step s line).utterances)) input close st.stands)
       where
         by : (step : Step Entry Situation) → StepFlows (due_of s.mode) step → Flows (due_of step.next.mode) (entries_of (run (talker reader ops) step.next input close).utterances) Nothing
             → Flows (due_of s.mode) (entries_of (if step.quits then record { utterances = step.utterances; ending = Done } else onto step.utterances (run (talker reader ops) step.next input close)).utterances) Nothing
@@ -312,9 +312,26 @@ module _ (ops : Table) (names : List (List ℕ)) where
   known-flows None us h = h
   known-flows (Some n) us h = (Nothing, refl, h)
 
+  reference-flows : (reference : Option Reviewed) (us : List (Utterance Entry)) → Flows Nothing (entries_of us) Nothing → Flows Nothing (entries_of (reference_said ops names reference ++ us)) Nothing
+  unfolding reviewed_said
+  reference-flows None us h = h
+  reference-flows (Some r) us h =
+      let last = plain ops names (ReferenceLoaded r.clauses) in
+      subst (λ us. Flows Nothing (entries_of us) Nothing) (sym (twice (remarks ops names noted.PassedOver r.passed) (remarks ops names noted.Called r.called) (last ∷ []) us))
+      (noted-flow noted.PassedOver r.passed (remarks ops names noted.Called r.called ++ (last ∷ us))
+      (noted-flow noted.Called r.called (last ∷ us) (Nothing, refl, h)))
+    where
+      twice : (xs ys zs us : List (Utterance Entry)) → (xs ++ (ys ++ zs)) ++ us ≡ xs ++ (ys ++ (zs ++ us))
+      twice xs ys zs us = append_assoc xs (ys ++ zs) us ∙ ap (λ (l : List (Utterance Entry)). xs ++ l) (append_assoc ys zs us)
+
+  further-flows : (b : Beginning) (us : List (Utterance Entry)) → Flows Nothing (entries_of us) Nothing → Flows Nothing (entries_of (further_said ops names b ++ us)) Nothing
+  further-flows b us h =
+      subst (λ us. Flows Nothing (entries_of us) Nothing) (sym (append_assoc (known_said ops names b.statements) (reference_said ops names b.reference) us))
+      (known-flows b.statements (reference_said ops names b.reference ++ us) (reference-flows b.reference us h))
+
   beginning-flows : (b : Beginning) (us : List (Utterance Entry)) → Flows Nothing (entries_of us) Nothing → Flows Nothing (entries_of (beginning_said ops names b ++ us)) Nothing
   beginning-flows b us h =
-      subst (λ us. Flows Nothing (entries_of us) Nothing) (sym (append_assoc (load_said ops names b) (known_said ops names b.statements) us)) (load-flows b (known_said ops names b.statements ++ us) (known-flows b.statements us h))
+      subst (λ us. Flows Nothing (entries_of us) Nothing) (sym (append_assoc (load_said ops names b) (further_said ops names b) us)) (load-flows b (further_said ops names b ++ us) (further-flows b us h))
 
 -- A demonstration.
 
@@ -369,7 +386,7 @@ blamed-flows : (ops : Table) (names : List (List ℕ)) (nodes : ℕ) (s : State)
 blamed-flows ops names nodes s R (Err r) = (Nothing, refl, refl)
 blamed-flows ops names nodes s R (Ok e) =
     let atom = (point_of R e).tuple.head in
-    let store = with_told s.replies (Wrong atom) in
+    let store = with_told s.replies (wrong_of R e) in
     let x = demonstrated nodes s.program s.strategy store (tree R e atom) in (
       Move,
       refl,
@@ -399,6 +416,7 @@ last_word-flows : (e : Entry) → IsLastWord e → due_after Nothing e ≡ Some 
 last_word-flows UsageRefused last = refl
 last_word-flows (ProgramRefused line cause) last = refl
 last_word-flows (OracleRefused line cause) last = refl
+last_word-flows (ReferenceRefused line cause) last = refl
 last_word-flows (FileTooLong size) last = refl
 last_word-flows InputFault last = refl
 last_word-flows e last = absurd last
@@ -414,17 +432,17 @@ module _ {names : List (List ℕ)} (reader : Reader names) where
   closed-flows : (ops : Table) (b : Beginning) (why : Stop) → IsLastWord why.said → OpeningFlows (Closed ops b why)
   closed-flows ops b why last = λ input end. beginning-flows ops names b (plain ops names why.said ∷ []) (Nothing, last_word-flows why.said last, refl)
 
-  module _ (options : Options) (program : List Clause) (ops : Table) (store : Store) (is : IsProgram program) (fit : AllFit store) where
-    started-flows : (b : Beginning) (subject : Subject) → OpeningFlows (Open ops (record { beginning = b; state = first_state program options store }) (course_of subject))
+  module _ (options : Options) (program : List Clause) (ops : Table) (store : Store) (referee : Referee) (is : IsProgram program) (fit : AllFit store) (his : RepliesFit (replies_of referee)) where
+    started-flows : (b : Beginning) (subject : Subject) → OpeningFlows (Open ops (record { beginning = b; state = first_state program options store referee }) (course_of subject))
     started-flows b (InFile name) = λ input end.
-        beginning-flows ops names b (replies (talker reader ops) (ready_in (first_state program options store)) 16777216 input end).utterances
-        (conversation-flows nothing_intended program is options.strategy names reader ops (ready_in (first_state program options store)) (account_with nobody store) 16777216 input end (first_stands nothing_intended options program store is fit))
+        beginning-flows ops names b (replies (talker reader ops) (ready_in (first_state program options store referee)) 16777216 input end).utterances
+        (conversation-flows nothing_intended program is options.strategy names reader ops (ready_in (first_state program options store referee)) (account_with (replies_of referee) store) 16777216 input end (first_stands nothing_intended options program store referee is fit his))
     started-flows b (OfTree nodes) = λ input end.
-        let s = first_state program options store in
+        let s = first_state program options store referee in
         let c = command_in reader ops query_line in
         beginning-flows ops names b (asked_said ops names nodes s c) (shown_query-flows nothing_intended program is options.strategy ops names nodes s c)
 
 pub every-session-flows : (words names : List (List ℕ)) (reader : Reader names) (world : World) → Flows Nothing (entries_of (session_of words reader world).utterances) Nothing
 every-session-flows words names reader world =
-    opening_has (OpeningFlows reader) reader world.files (unloaded-flows reader) (λ options program ops passed why is table last. closed-flows reader ops (beginning_of program passed None) why last)
-    (λ options program ops passed statements store is table fit. started-flows reader options program ops store is fit (beginning_of program passed statements) options.subject) words world.input world.ends
+    opening_has (OpeningFlows reader) reader world.files (unloaded-flows reader) (λ ops b why table last. closed-flows reader ops b why last)
+    (λ options program ops b store referee is table fit may. started-flows reader options program ops store referee is fit (askable-fits referee may) b options.subject) words world.input world.ends

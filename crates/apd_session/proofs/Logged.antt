@@ -1,13 +1,21 @@
 -- The log of a session is right, also where not all was said.
 use Rattle.std.proofs.Common.{◌≡◌, ◌∙◌, ℕ, List, [], ◌∷◌, ◌++◌, Option, refl, sym, ap, subst, inl, inr}
 use Rattle.apd_account.specs.Account.{Account, account_with}
-use Rattle.apd_account.specs.Right.{IsRight, AreRight}
+use Rattle.std.specs.Prelude.{IfSome}
+use Rattle.apd_account.specs.Right.{IsRight, AreRight, AreTrueIfMarked}
 use Rattle.apd_account.proofs.Fronts.{right-front, right-last}
 use Rattle.apd_answers.specs.Repliers.{nobody}
 use Rattle.apd_answers.specs.Interpretation.{Interpretation}
+use Rattle.apd_answers.specs.declared.question.Question.{Question}
+use Rattle.apd_answers.specs.declared.question.Reply.{Reply}
+use Rattle.apd_clauses.specs.Clauses.{tuples_of}
 use Rattle.apd_clauses.specs.declared.clause.Clause.{Clause}
 use Rattle.apd_divide.specs.declared.node.Strategy.{Strategy}
 use Rattle.apd_read.specs.Reader.{Reader}
+use Rattle.apd_reference.specs.LeastModel.{HoldsLeastModel}
+use Rattle.apd_reference.specs.Referees.{program_of_referee, replies_of}
+use Rattle.apd_reference.specs.declared.referee.Referee.{Referee}
+use Rattle.apd_reference.specs.declared.referee.Referee.TheVariants.{Nobody, Program}
 use Rattle.apd_talk.proofs.Uttering.{entries_of-append}
 use Rattle.apd_talk.specs.Speech.{begun}
 use Rattle.apd_talk.specs.Utterance.{Utterance, UttersFront, Pushed, entries_of}
@@ -17,26 +25,28 @@ use Rattle.apd_text.specs.declared.log.Log.{Log}
 use Rattle.apd_words.specs.Words.{options_of}
 use Rattle.apd_session.proofs.Findings.{session-right}
 use Rattle.apd_session.proofs.Flowing.{every-session-flows}
+use Rattle.apd_session.proofs.Openings.{IsAskable, opening_has}
+use Rattle.apd_session.proofs.Referred.{all_true}
 use Rattle.apd_session.specs.Flow.{Due, Nothing, due_by, part_of, Flows, FlowsTo}
 use Rattle.apd_answers.specs.Store.{Store}
-use Rattle.apd_session.specs.Headline.{AreRightFor, MeetsRightly}
+use Rattle.apd_session.specs.Headline.{AreRightFor, MeetsRightly, ReferredRightly}
 use Rattle.apd_session.specs.Known.{Outside}
 use Rattle.apd_session.specs.Outcome.{IsSaid, IsWhole, Meets}
 use Rattle.apd_session.specs.Opening.{opening_of}
-use Rattle.apd_session.specs.Session.{Transcript, session_of}
+use Rattle.apd_session.specs.Session.{Transcript, World, session_of}
 use Rattle.apd_session.specs.declared.opening.Opening.{Opening}
 use Rattle.apd_session.specs.declared.opening.Opening.TheVariants.{Unloaded, Closed, Open}
 use Rattle.apd_session.specs.declared.status.Status.{Status}
 use Rattle.apd_session.specs.declared.status.Status.TheVariants as status
 
-module _ (m : Interpretation) (program : List Clause) (strategy : Strategy) (known : Store) where
+module _ (m : Interpretation) (program : List Clause) (strategy : Strategy) (his : Question → Option Reply) (known : Store) where
   -- a run whose end isn't set yet tells nothing
   begun-right : (a : Account) (e : Entry) → IsRight m program strategy a e → IsRight m program strategy a (begun e)
   begun-right a (Run q budget answers filter end) r = tt
   begun-right a e r = r
 
   abbrev Right : List Entry → Type 0
-  Right es = AreRight m program strategy (account_with nobody known) es
+  Right es = AreRight m program strategy (account_with his known) es
 
   pushed-right : (es : List Entry) (us : List (Utterance Entry)) → Pushed begun [] es us → Right (entries_of us) → Right es
   pushed-right es us (inl e) r = subst Right (sym e) r
@@ -44,12 +54,12 @@ module _ (m : Interpretation) (program : List Clause) (strategy : Strategy) (kno
       let before = p.0 in
       let last = p.1 in
       let whole : Right (entries_of before ++ last.entry ∷ []) = subst Right (entries_of-append before (last ∷ [])) (subst (λ l. Right (entries_of l)) p.2 r) in
-      subst Right (sym p.3) (right-last m program strategy begun begun-right (account_with nobody known) (entries_of before) last.entry whole)
+      subst Right (sym p.3) (right-last m program strategy begun begun-right (account_with his known) (entries_of before) last.entry whole)
 
   front-right : (log : Log) (x y : Option (List ℕ)) (us : List (Utterance Entry)) → UttersFront begun [] log.entries.list x y us → Right (entries_of us) → Right log.entries.list
   front-right log x y us f r =
       let parts : Right (entries_of f.said ++ entries_of f.unsaid) = subst Right (entries_of-append f.said f.unsaid) (subst (λ l. Right (entries_of l)) f.parts r) in
-      pushed-right log.entries.list f.said f.pushed (right-front m program strategy (account_with nobody known) (entries_of f.said) (entries_of f.unsaid) parts)
+      pushed-right log.entries.list f.said f.pushed (right-front m program strategy (account_with his known) (entries_of f.said) (entries_of f.unsaid) parts)
 
   whole-right : (st : Status) (t : Transcript) (log : Log) (x y : Option (List ℕ)) → IsWhole st t log x y → Right (entries_of t.utterances) → Right log.entries.list
   whole-right st t log x y w r = subst Right (sym w.says.logged) r
@@ -63,13 +73,14 @@ module _ (m : Interpretation) (program : List Clause) (strategy : Strategy) (kno
   said-right status.ReadFault t log x y h r = whole-right status.ReadFault t log x y h r
   said-right status.InputLimit t log x y h r = whole-right status.InputLimit t log x y h r
   said-right status.OracleText t log x y h r = whole-right status.OracleText t log x y h r
+  said-right status.ReferenceText t log x y h r = whole-right status.ReferenceText t log x y h r
   said-right status.FileTooLong t log x y h r = whole-right status.FileTooLong t log x y h r
 
 -- what was said is right for what the session began with
 said-right_for : (m : Interpretation) (st : Status) (t : Transcript) (log : Log) (x y : Option (List ℕ)) (o : Opening) → IsSaid st t log x y → AreRightFor m (entries_of t.utterances) o → AreRightFor m log.entries.list o
-said-right_for m st t log x y (Unloaded why) h r = λ program strategy known. said-right m program strategy known st t log x y h (r program strategy known)
-said-right_for m st t log x y (Closed ops b why) h r = λ program strategy known. said-right m program strategy known st t log x y h (r program strategy known)
-said-right_for m st t log x y (Open ops start course) h r = said-right m start.state.program start.state.strategy start.state.replies st t log x y h r
+said-right_for m st t log x y (Unloaded why) h r = λ program strategy known. said-right m program strategy nobody known st t log x y h (r program strategy known)
+said-right_for m st t log x y (Closed ops b why) h r = λ program strategy known. said-right m program strategy nobody known st t log x y h (r program strategy known)
+said-right_for m st t log x y (Open ops start course) h r = said-right m start.state.program start.state.strategy (replies_of start.state.referee) start.state.replies st t log x y h r
 
 -- a front of entries that fit
 front-flows : (d e : Due) (xs ys : List Entry) → Flows d (xs ++ ys) e → (x : Due) × Flows d xs x
@@ -114,13 +125,31 @@ said-flows status.Program t log x y h k = whole-flows status.Program t log x y h
 said-flows status.ReadFault t log x y h k = whole-flows status.ReadFault t log x y h k
 said-flows status.InputLimit t log x y h k = whole-flows status.InputLimit t log x y h k
 said-flows status.OracleText t log x y h k = whole-flows status.OracleText t log x y h k
+said-flows status.ReferenceText t log x y h k = whole-flows status.ReferenceText t log x y h k
 said-flows status.FileTooLong t log x y h k = whole-flows status.FileTooLong t log x y h k
+
+-- replies that are marked are true where the reference program is right
+refers_by : (m : Interpretation) (program : List Clause) (strategy : Strategy) (known : Store) (entries : List Entry) (referee : Referee) → IsAskable referee → AreRight m program strategy (account_with (replies_of referee) known) entries
+    → IfSome (program_of_referee referee) (λ right. HoldsLeastModel (tuples_of right) m → AreTrueIfMarked m program strategy (account_with (replies_of referee) known) entries)
+refers_by m program strategy known entries Nobody may right = tt
+refers_by m program strategy known entries (Program r) may right = λ least.
+    all_true m program strategy r.program r.budget may.0 may.1 least (account_with (replies_of (Program r)) known) entries refl right
+
+abbrev RefersRightly : Interpretation → Opening → Type 0
+RefersRightly m x = (entries : List Entry) → AreRightFor m entries x → ReferredRightly m entries x
+
+pub refers-rightly : (m : Interpretation) (words names : List (List ℕ)) (reader : Reader names) (world : World) → RefersRightly m (opening_of reader world.files (options_of words))
+refers-rightly m words names reader world =
+    opening_has (RefersRightly m) reader world.files (λ why last entries right. tt) (λ ops b why table last entries right. tt)
+    (λ options program ops b store referee is table fit may entries right. refers_by m program options.strategy store entries referee may right) words
 
 -- what is said in the world that is met is right, whatever is known of it
 pub meets-rightly : (m : Interpretation) (words names : List (List ℕ)) (reader : Reader names) (p q : Outside) (st : Status) (log : Log) → Meets words reader p q st log → MeetsRightly m words reader p q st log
-meets-rightly m words names reader p q st log meets = record {
-  meets = meets;
-  right =
-      said-right_for m st (session_of words reader meets.world) log p.streams.held q.streams.held (opening_of reader meets.world.files (options_of words)) meets.said (session-right m reader words meets.world);
-  flows = said-flows st (session_of words reader meets.world) log p.streams.held q.streams.held meets.said (every-session-flows words names reader meets.world);
-}
+meets-rightly m words names reader p q st log meets =
+    let right : AreRightFor m log.entries.list (opening_of reader meets.world.files (options_of words)) =
+    said-right_for m st (session_of words reader meets.world) log p.streams.held q.streams.held (opening_of reader meets.world.files (options_of words)) meets.said (session-right m reader words meets.world) in record {
+      meets = meets;
+      right = right;
+      referred = refers-rightly m words names reader meets.world log.entries.list right;
+      flows = said-flows st (session_of words reader meets.world) log p.streams.held q.streams.held meets.said (every-session-flows words names reader meets.world);
+    }

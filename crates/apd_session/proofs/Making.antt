@@ -1,6 +1,6 @@
 -- How the calls that make an opening fit together.
 use Rattle.std.proofs.Common.{◌≡◌, ℕ, ◌<◌, ◌≤◌, List, [], length, refl, ap, sym, ◌∙◌, arith, Option, Some, None, subst, true, false}
-use Rattle.std.specs.Prelude.{IfOk, Result, Ok, Err, replicate}
+use Rattle.std.specs.Prelude.{IfOk, IfSome, Result, Ok, Err, replicate}
 use Rattle.std.proofs.lemmas.Bool.{le-leb, lt-leb}
 use Rattle.std.proofs.Math.Dec.{leb}
 use Rattle.std.proofs.lemmas.List.{length-replicate}
@@ -18,20 +18,25 @@ use Rattle.apd_debug.specs.NamedStates.{AreReplies}
 use Rattle.apd_term.specs.Named.{AllTuplesNamed}
 use Rattle.apd_term.specs.StandardNames.{standard_names}
 use Rattle.apd_session.proofs.Turning.{all_named_more}
+use Rattle.apd_session.proofs.Refereeing.{refers_later}
 use Rattle.apd_ops.specs.Table.{Table}
 use Rattle.apd_read.specs.Reader.{Reader}
+use Rattle.apd_reference.specs.Referees.{names_known}
+use Rattle.apd_reference.specs.declared.referee.Referee.{Referee}
 use Rattle.apd_term.specs.Growth.{Grown}
 use Rattle.apd_text.specs.declared.entry.Entry.TheVariants as entry
 use Rattle.apd_words.specs.Words.{AreLimits, InFile, OfTree, Options, StandsAlone, Subject}
-use Rattle.apd_session.specs.Opening.{course_of, first_state, opening_after, opening_by, opening_with, prepared_from, stop, stops_with, subject_text, text_in}
-use Rattle.apd_session.specs.Preparing.{HasSubject, HasText, IsCourse, IsStart, Opens, OpensAfter, OpensWith, Prepares, States}
-use Rattle.apd_session.specs.Roles.{Role, Program, KnownReplies, FileLoad, Gives, Faults, AreLoads, IsFileLoad, IsNamedLoad, file_of, file_of_subject}
+use Rattle.apd_session.specs.Opening.{beginning_of, course_of, first_state, opening_after, opening_by, opening_with, prepared_from, referred, stop, stops_with, subject_text, text_in}
+use Rattle.apd_session.specs.Preparing.{HasSubject, HasText, IsBeginning, IsCourse, IsLoaded, IsReviewed, IsStart, Opens, OpensAfter, OpensBy, OpensKnowing, OpensWith, Prepares, Refers, States}
+use Rattle.apd_session.specs.Roles as roles
+use Rattle.apd_session.specs.Roles.{Role, KnownReplies, Reference, FileLoad, Gives, Faults, AreLoads, IsFileLoad, IsNamedLoad, file_of, file_of_subject}
 use Rattle.apd_session.specs.declared.opening.Opening.{Opening}
-use Rattle.apd_session.specs.declared.opening.Opening.TheVariants.{Unloaded}
+use Rattle.apd_session.specs.declared.opening.Opening.TheVariants.{Unloaded, Closed}
 use Rattle.apd_session.specs.declared.opening.Beginning.{Beginning}
 use Rattle.apd_session.specs.declared.opening.Stop.{Stop}
 use Rattle.apd_session.specs.declared.preparing.Prepared.{Prepared}
 use Rattle.apd_session.specs.declared.preparing.Prepared.TheVariants.{Knows, Refuses}
+use Rattle.apd_session.specs.declared.referring.Referring.{Referring}
 use Rattle.apd_session.specs.declared.status.Status.TheVariants as status
 
 -- some content for a file that memory did not suffice for, or that was not looked at
@@ -120,51 +125,113 @@ prepares_not content failed ops names name why h = record {
 pub prepares_unnamed : (content : List ℕ → Option (List ℕ)) (failed : Type 0) (ops : Table) (names : List (List ℕ)) (store : Store) → store ≡ empty_store → Prepares content failed ops names None (Knows None store)
 prepares_unnamed content failed ops names store is = record { loading = Gives []; is = tt; faults = λ e. absurd (cc); so = λ n grew reader. rw is refl }
 
--- what a text makes, and what is known with it
+-- what is known is known under names that come later, and its load may have failed before another
+pub prepares_later : (content : List ℕ → Option (List ℕ)) (failed fails : Type 0) (ops : Table) (names more : List (List ℕ)) (name : Option (List ℕ)) (x : Prepared) → (failed → fails) → ((n : List (List ℕ)) → Grown more n → Grown names n)
+    → Prepares content failed ops names name x → Prepares content fails ops more name x
+prepares_later content failed fails ops names more name x rose grows p = record { loading = p.loading; is = p.is; faults = λ e. rose (p.faults e); so = λ n grew reader. p.so n (grows n grew) reader }
+
+-- what a session begins with, where the oracle file is refused, and where its replies are known
+pub opens_refusing : (content : List ℕ → Option (List ℕ)) (failed : Type 0) (options : Options) (l : Loaded) (names : List (List ℕ)) (why : Stop) → Prepares content failed l.ops names options.oracle (Refuses why)
+    → OpensWith content failed options l names (Closed l.ops (beginning_of l.program l.passed None None) why)
+opens_refusing content failed options l names why p = record { known = Refuses why; prepares = p; opens = refl }
+
+pub opens_knowing : (content now : List ℕ → Option (List ℕ)) (before fails failed : Type 0) (options : Options) (l : Loaded) (names more : List (List ℕ)) (statements : Option ℕ) (store : Store) (r : Result Opening AllocError)
+    → Prepares content before l.ops names options.oracle (Knows statements store) → now ≡ content → (before → failed) → (fails → failed) → ((n : List (List ℕ)) → Grown more n → Grown names n)
+    → IfOk r (OpensKnowing now fails options l more (Knows statements store)) → IfOk r (OpensWith content failed options l more)
+opens_knowing content now before fails failed options l names more statements store (Ok x) p same first second grows o = record {
+  known = Knows statements store;
+  prepares = prepares_later content before failed l.ops names more options.oracle (Knows statements store) first grows p;
+  opens = record { referring = o.referring; refers = refers_later content now fails failed options.budget more options.reference o.referring same second o.refers; so = o.so };
+}
+opens_knowing content now before fails failed options l names more statements store (Err e) p same first second grows o = tt
+
+-- by who is asked before the user
+pub opens_asking : (content : List ℕ → Option (List ℕ)) (failed : Type 0) (options : Options) (l : Loaded) (names : List (List ℕ)) (statements : Option ℕ) (store : Store) (x : Referring) (o : Opening)
+    → Refers content failed options.budget names options.reference x → o ≡ opening_with options l.program l.ops l.passed (Knows statements store) x → OpensKnowing content failed options l names (Knows statements store) o
+opens_asking content failed options l names statements store x o r so = record { referring = x; refers = r; so = sym so }
+
+-- loads of the files beside the program, by role
+abbrev others_by : FileLoad → FileLoad → Role → FileLoad
+others_by replies reference roles.Program = replies
+others_by replies reference KnownReplies = replies
+others_by replies reference Reference = reference
+
+others_fault : (failed : Type 0) (f g : FileLoad) → (f ≡ Faults → failed) → (g ≡ Faults → failed) → (role : Role) → others_by f g role ≡ Faults → failed
+others_fault failed f g first second roles.Program is = first is
+others_fault failed f g first second KnownReplies is = first is
+others_fault failed f g first second Reference is = second is
+
 pub opens_loaded : (content : List ℕ → Option (List ℕ)) (failed : Type 0) (options : Options) (text bytes : List ℕ) (l : Loaded) (before names : List (List ℕ)) (r : Result Opening AllocError) → IfOk r (OpensWith content failed options l names) → bytes ≡ text
     → ((n : List (List ℕ)) → Grown before n → (reader : Reader n) → program_of reader bytes ≡ loads (record { program = l.program; ops = l.ops; passed = l.passed })) → ((n : List (List ℕ)) → Grown names n → Grown before n) → IfOk r (OpensAfter content failed options text names)
-opens_loaded content failed options text bytes l before names (Ok x) w is makes more = record {
-  loading = w.prepares.loading;
-  is = w.prepares.is;
-  faults = w.prepares.faults;
-  so = λ n grew reader.
-      ap (λ (t : List ℕ). opening_after reader (λ role. w.prepares.loading) options (program_of reader t)) (sym is)
-      ∙ ap (opening_after reader (λ role. w.prepares.loading) options) (makes n (more n grew) reader)
-      ∙ ap (opening_with options l.program l.ops l.passed) (w.prepares.so n grew reader)
-      ∙ w.so;
-}
+opens_loaded content failed options text bytes l before names (Ok x) w is makes more = by w.known w.prepares w.opens
+  where
+    by : (known : Prepared) → Prepares content failed l.ops names options.oracle known → OpensBy content failed options l names known x → OpensAfter content failed options text names x
+    by (Refuses why) p so =
+        let other = any_named content options.reference in
+        let files = others_by p.loading (Gives other.0) in
+        record {
+          files = files;
+          oracle = p.is;
+          reference = other.1;
+          faults = others_fault failed p.loading (Gives other.0) p.faults (λ e. absurd (cc));
+          so = λ n grew reader.
+              ap (λ (t : List ℕ). opening_after reader files options (program_of reader t)) (sym is)
+              ∙ ap (opening_after reader files options) (makes n (more n grew) reader)
+              ∙ ap (λ (k : Prepared). opening_with options l.program l.ops l.passed k (referred reader options.budget options.reference (Gives other.0))) (p.so n grew reader)
+              ∙ so;
+        }
+    by (Knows statements store) p o =
+        let files = others_by p.loading o.refers.loading in
+        record {
+          files = files;
+          oracle = p.is;
+          reference = o.refers.is;
+          faults = others_fault failed p.loading o.refers.loading p.faults o.refers.faults;
+          so = λ n grew reader.
+              ap (λ (t : List ℕ). opening_after reader files options (program_of reader t)) (sym is)
+              ∙ ap (opening_after reader files options) (makes n (more n grew) reader)
+              ∙ ap (λ (k : Prepared). opening_with options l.program l.ops l.passed k (referred reader options.budget options.reference o.refers.loading)) (p.so n grew reader)
+              ∙ ap (opening_with options l.program l.ops l.passed (Knows statements store)) (o.refers.so n grew reader)
+              ∙ o.so;
+        }
 opens_loaded content failed options text bytes l before names (Err e) w is makes more = tt
 
 pub opens_refused : (content : List ℕ → Option (List ℕ)) (failed : Type 0) (options : Options) (text bytes : List ℕ) (line : ℕ) (cause : LoadCause) (names : List (List ℕ)) → bytes ≡ text
     → ((n : List (List ℕ)) → Grown names n → (reader : Reader n) → program_of reader bytes ≡ refused line cause) → OpensAfter content failed options text names (Unloaded (stop (entry.ProgramRefused line cause) status.Program))
 opens_refused content failed options text bytes line cause names is makes =
     let some = any_named content options.oracle in
+    let other = any_named content options.reference in
+    let files = others_by (Gives some.0) (Gives other.0) in
     record {
-      loading = Gives some.0;
-      is = some.1;
-      faults = λ e. absurd (cc);
-      so = λ n grew reader.
-          ap (λ (t : List ℕ). opening_after reader (λ role. Gives some.0) options (program_of reader t)) (sym is) ∙ ap (opening_after reader (λ role. Gives some.0) options) (makes n grew reader);
+      files = files;
+      oracle = some.1;
+      reference = other.1;
+      faults = others_fault failed (Gives some.0) (Gives other.0) (λ e. absurd (cc)) (λ e. absurd (cc));
+      so = λ n grew reader. ap (λ (t : List ℕ). opening_after reader files options (program_of reader t)) (sym is) ∙ ap (opening_after reader files options) (makes n grew reader);
     }
 
 -- loads by role
-abbrev by_role : FileLoad → FileLoad → Role → FileLoad
-by_role program replies Program = program
-by_role program replies KnownReplies = replies
+abbrev by_role : FileLoad → (Role → FileLoad) → Role → FileLoad
+by_role program others roles.Program = program
+by_role program others KnownReplies = others KnownReplies
+by_role program others Reference = others Reference
 
-are_by : (content : List ℕ → Option (List ℕ)) (options : Options) (f g : FileLoad) → IsNamedLoad content (file_of_subject options.subject) f → IsNamedLoad content options.oracle g → (role : Role) → IsNamedLoad content (file_of options role) (by_role f g role)
-are_by content options f g first second Program = first
-are_by content options f g first second KnownReplies = second
+are_by : (content : List ℕ → Option (List ℕ)) (options : Options) (f : FileLoad) (g : Role → FileLoad) → IsNamedLoad content (file_of_subject options.subject) f → IsNamedLoad content options.oracle (g KnownReplies) → IsNamedLoad content options.reference (g Reference)
+    → (role : Role) → IsNamedLoad content (file_of options role) (by_role f g role)
+are_by content options f g first second third roles.Program = first
+are_by content options f g first second third KnownReplies = second
+are_by content options f g first second third Reference = third
 
-faults_by : (failed : Type 0) (f g : FileLoad) → (f ≡ Faults → failed) → (g ≡ Faults → failed) → (role : Role) → by_role f g role ≡ Faults → failed
-faults_by failed f g first second Program is = first is
-faults_by failed f g first second KnownReplies is = second is
+faults_by : (failed : Type 0) (f : FileLoad) (g : Role → FileLoad) → (f ≡ Faults → failed) → ((role : Role) → g role ≡ Faults → failed) → (role : Role) → by_role f g role ≡ Faults → failed
+faults_by failed f g first others roles.Program is = first is
+faults_by failed f g first others KnownReplies is = others KnownReplies is
+faults_by failed f g first others Reference is = others Reference is
 
-subject_by : (f g : FileLoad) (s : Subject) → subject_text (by_role f g) s ≡ subject_text (λ role. f) s
+subject_by : (f : FileLoad) (g : Role → FileLoad) (s : Subject) → subject_text (by_role f g) s ≡ subject_text (λ role. f) s
 subject_by f g (InFile name) = refl
 subject_by f g (OfTree nodes) = refl
 
-after_by : {names : List (List ℕ)} (reader : Reader names) (options : Options) (f g : FileLoad) (o : Loads) → opening_after reader (by_role f g) options o ≡ opening_after reader (λ role. g) options o
+after_by : {names : List (List ℕ)} (reader : Reader names) (options : Options) (f : FileLoad) (g : Role → FileLoad) (o : Loads) → opening_after reader (by_role f g) options o ≡ opening_after reader g options o
 after_by reader options f g (refused line cause) = refl
 after_by reader options f g (loads l) = refl
 
@@ -189,24 +256,27 @@ pub opens_text : (content now : List ℕ → Option (List ℕ)) (before failed f
 opens_text content now before failed fails options text names (Err e) h same more a = tt
 opens_text content now before failed fails options text names (Ok x) h same more a =
     let first = calm_of content before options.subject text h in
-    let replies : IsNamedLoad content options.oracle a.loading = subst (λ (c : List ℕ → Option (List ℕ)). IsNamedLoad c options.oracle a.loading) same a.is in
+    let replies : IsNamedLoad content options.oracle (a.files KnownReplies) = subst (λ (c : List ℕ → Option (List ℕ)). IsNamedLoad c options.oracle (a.files KnownReplies)) same a.oracle in
+    let right : IsNamedLoad content options.reference (a.files Reference) = subst (λ (c : List ℕ → Option (List ℕ)). IsNamedLoad c options.reference (a.files Reference)) same a.reference in
     record {
-      files = by_role first.loading a.loading;
-      are = are_by content options first.loading a.loading first.is replies;
-      faults = faults_by failed first.loading a.loading (λ e. absurd (first.calm e)) (λ e. more (a.faults e));
+      files = by_role first.loading a.files;
+      are = are_by content options first.loading a.files first.is replies right;
+      faults = faults_by failed first.loading a.files (λ e. absurd (first.calm e)) (λ role e. more (a.faults role e));
       so = λ n grew reader.
-          ap (opening_by reader (by_role first.loading a.loading) options) (subject_by first.loading a.loading options.subject ∙ first.so)
-          ∙ (after_by reader options first.loading a.loading (program_of reader text) ∙ a.so n grew reader);
+          ap (opening_by reader (by_role first.loading a.files) options) (subject_by first.loading a.files options.subject ∙ first.so)
+          ∙ (after_by reader options first.loading a.files (program_of reader text) ∙ a.so n grew reader);
     }
 
 pub opens_not : (content : List ℕ → Option (List ℕ)) (failed : Type 0) (options : Options) (names : List (List ℕ)) (why : Stop) → HasSubject content failed options.subject (Err why) → Opens content failed (Some options) names (Unloaded why)
 opens_not content failed options names why h =
     let some = any_named content options.oracle in
+    let other = any_named content options.reference in
+    let files = others_by (Gives some.0) (Gives other.0) in
     record {
-      files = by_role h.loading (Gives some.0);
-      are = are_by content options h.loading (Gives some.0) h.is some.1;
-      faults = faults_by failed h.loading (Gives some.0) h.faults (λ e. absurd (cc));
-      so = λ n grew reader. ap (opening_by reader (by_role h.loading (Gives some.0)) options) (subject_by h.loading (Gives some.0) options.subject ∙ h.so);
+      files = by_role h.loading files;
+      are = are_by content options h.loading files h.is some.1 other.1;
+      faults = faults_by failed h.loading files h.faults (others_fault failed (Gives some.0) (Gives other.0) (λ e. absurd (cc)) (λ e. absurd (cc)));
+      so = λ n grew reader. ap (opening_by reader (by_role h.loading files) options) (subject_by h.loading files options.subject ∙ h.so);
     }
 
 -- where the words break their rules
@@ -214,20 +284,37 @@ pub opens_usage : (content : List ℕ → Option (List ℕ)) (failed : Type 0) (
 opens_usage content failed names = record { files = λ role. Gives []; are = tt; faults = λ role e. absurd (cc); so = λ n grew reader. refl }
 
 -- what an opening with a program needs
-pub start_ready : (n m : ℕ) (options : Options) (program : List Clause) (store : Store) (b : Beginning) → n ≤ m → AreLimits options.budget options.answers → length standard_names ≤ n → AllTuplesNamed n (tuples_of program) → NotesAreNamed n b.passed → NotesAreNamed n b.called → AreReplies m store
-    → IsStart m (record { beginning = b; state = first_state program options store })
-start_ready n m options program store b more limits standard named passed called replies = record {
-  beginning = record { passed = notes_more n m b.passed more passed; called = notes_more n m b.called more called };
-  state = record { ready = record { limits = limits; standard = omega (arith, standard, more); named = all_named_more n m (tuples_of program) more named; last = tt }; replies = replies; referee = omega arith };
+pub start_ready : (n m : ℕ) (options : Options) (program : List Clause) (store : Store) (referee : Referee) (b : Beginning) → n ≤ m → AreLimits options.budget options.answers → length standard_names ≤ n → AllTuplesNamed n (tuples_of program) → NotesAreNamed n b.passed → NotesAreNamed n b.called → IfSome b.reference (IsReviewed m) → AreReplies m store → names_known referee ≤ m
+    → IsStart m (record { beginning = b; state = first_state program options store referee })
+start_ready n m options program store referee b more limits standard named passed called reference replies known = record {
+  beginning = record { passed = notes_more n m b.passed more passed; called = notes_more n m b.called more called; reference = reference };
+  state = record { ready = record { limits = limits; standard = omega (arith, standard, more); named = all_named_more n m (tuples_of program) more named; last = tt }; replies = replies; referee = known };
 }
 
-pub alone_course : (s : Subject) (oracle : Option (List ℕ)) → StandsAlone s oracle → IsCourse (course_of s)
-alone_course (InFile name) oracle alone = tt
-alone_course (OfTree nodes) oracle alone = alone.0
+-- what was loaded stays named where names are added
+pub IsLoaded-more : (n m : ℕ) (l : Loaded) → n ≤ m → IsLoaded n l → IsLoaded m l
+IsLoaded-more n m l more is = record {
+  program = all_named_more n m (tuples_of l.program) more is.program;
+  passed = notes_more n m l.passed more is.passed;
+  called = notes_more n m l.warnings more is.called;
+  warnings = is.warnings;
+}
+
+-- what is said where a session ends before it hears anything
+pub closing_ready : (n m : ℕ) (l : Loaded) (statements : Option ℕ) → n ≤ m → IsLoaded n l → IsBeginning m (beginning_of l.program l.passed statements None)
+closing_ready n m l statements more is =
+    record { passed = notes_more n m l.passed more is.passed; called = subst (NotesAreNamed m) is.warnings (notes_more n m l.warnings more is.called); reference = tt }
+
+pub alone_course : (s : Subject) (oracle reference : Option (List ℕ)) → StandsAlone s oracle reference → IsCourse (course_of s)
+alone_course (InFile name) oracle reference alone = tt
+alone_course (OfTree nodes) oracle reference alone = alone.0
 
 -- a fault that was counted later is counted
 pub rose_more : (a b c : ℕ) → a ≤ b → Rose b c → Rose a c
 rose_more a b c less rose = omega (arith, less, rose)
+
+pub rose_later : (a b c : ℕ) → b ≤ c → Rose a b → Rose a c
+rose_later a b c less rose = omega (arith, less, rose)
 
 pub fault_more : (r : Result Opening AllocError) (a b c : ℕ) → a ≤ b → IfOk r (λ o. stops_with o ≡ Some status.ReadFault → Rose b c) → IfOk r (λ o. stops_with o ≡ Some status.ReadFault → Rose a c)
 fault_more (Ok x) a b c less fault = λ e. rose_more a b c less (fault e)

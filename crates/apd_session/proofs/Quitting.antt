@@ -52,9 +52,9 @@ use Rattle.apd_term.specs.Term.{Term, arguments, predicate_of}
 use Rattle.apd_term.specs.declared.standard.TheConstants.{KNOWN, LOOP, MISSING, QUERY, QUIT, STOP, TRACE, WRONG}
 use Rattle.apd_term.specs.declared.term.Pred.{Pred}
 use Rattle.apd_text.specs.declared.entry.Refusal.{Refusal}
-use Rattle.apd_text.specs.declared.entry.Told.TheVariants.{Wrong, Missing, NoEnd}
+use Rattle.apd_text.specs.declared.entry.Told.TheVariants.{Missing, NoEnd}
 use Rattle.apd_session.specs.Causes.{is_quit}
-use Rattle.apd_session.specs.Steps.{Method, Situation, Waiting, ForCommand, ForWrong, ForMissing, ForLoop, by_loop, by_missing, by_wrong, carries_on, command_step, loop_at, loop_step, missing_at, missing_step, reply_said, situation, step_for, talker, wrong_at, wrong_step}
+use Rattle.apd_session.specs.Steps.{Method, Situation, Waiting, ForCommand, ForWrong, ForMissing, ForLoop, by_loop, by_missing, by_wrong, carries_on, command_step, loop_at, loop_step, missing_at, missing_step, reply_said, situation, step_for, talker, wrong_at, wrong_of, wrong_step}
 
 -- what the words that a term may be ask for
 query_quits : (r : Result Query BodyFault) → is_quit (query_asked r) ≡ false
@@ -105,7 +105,7 @@ module _ (ops : Table) (names : List (List ℕ)) (s : State) where
 
   -- in a command's place
   wrong_at-quits : (R : Recorded) (r : Result ℕ Refusal) → (wrong_at ops names s R r).quits ≡ false
-  wrong_at-quits R (Ok e) = goes_quits by_wrong (with_told s.replies (Wrong (point_of R e).tuple.head)) s.asked (tree R e (point_of R e).tuple.head)
+  wrong_at-quits R (Ok e) = goes_quits by_wrong (with_told s.replies (wrong_of R e)) s.asked (tree R e (point_of R e).tuple.head)
   wrong_at-quits R (Err r) = refl
 
   wrong_step-quits : (last : Option LastRun) (b k : ℤ) → (wrong_step ops names s last b k).quits ≡ false
@@ -113,7 +113,7 @@ module _ (ops : Table) (names : List (List ℕ)) (s : State) where
   wrong_step-quits (Some run) b k = wrong_at-quits run.history (exit_of run.history b k)
 
   missing_at-quits : (a : Term) (r : Result ℕ Refusal) → (missing_at ops names s a r).quits ≡ false
-  missing_at-quits a (Ok b) = goes_quits by_missing (with_told s.replies (Missing a)) s.asked (record { box_no = b; goal = a })
+  missing_at-quits a (Ok b) = goes_quits by_missing (with_told s.replies (Missing a b)) s.asked (record { box_no = b; goal = a })
   missing_at-quits a (Err r) = refl
 
   missing_step-quits : (last : Option LastRun) (b : ℤ) (a : Term) → (missing_step ops names s last b a).quits ≡ false

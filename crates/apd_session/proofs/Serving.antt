@@ -64,11 +64,11 @@ either_failed p q x fault (inl e) = inl (fault e)
 either_failed p q x fault (inr r) = inr r
 
 -- the whole
-module _ (words : List (List ℕ)) (p q : Outside) (kept : List (List ℕ)) (log : Log) (grows : GrowsBy 2097152 standard_names kept) where
+module _ (words : List (List ℕ)) (p q : Outside) (kept : List (List ℕ)) (log : Log) (grows : GrowsBy 3145728 standard_names kept) where
   pub serves : (x : Opening) (st : Status) → Opens p.content (LoadFailed p q) (options_of words) kept x → (stops_with x ≡ Some statuses.ReadFault → LoadFailed p q) → GoesOn x kept p.streams q.streams log st → IsSession words p q log st
   serves x st opens fault goes = record {
     meaning = λ names grew reader. met_so words names reader p q st log kept x opens (Grown-more kept log.names names (grew_by _ _ _ goes.names) grew) (goes.answers names grew reader);
-    names = grew_both 2097152 16777216 standard_names kept log.names grows goes.names;
+    names = grew_both 3145728 16777216 standard_names kept log.names grows goes.names;
     limit = goes.limit;
     read = λ e. either_failed p q x fault (goes.read e);
     write = goes.write;
@@ -78,7 +78,7 @@ module _ (words : List (List ℕ)) (p q : Outside) (kept : List (List ℕ)) (log
   pub serves_not : q.streams.left ≡ p.streams.left → q.streams.held ≡ p.streams.held → log.entries.list ≡ [] → log.ops ≡ standard_table → log.names ≡ kept → IsSession words p q log statuses.Memory
   serves_not stays same empty ops is = record {
     meaning = λ names grew reader. met_wanting words names reader p q log stays same empty ops;
-    names = subst (λ (l : List (List ℕ)). GrowsBy 18874368 standard_names l) (sym is) (grew_less 2097152 18874368 _ _ (omega arith) grows);
+    names = subst (λ (l : List (List ℕ)). GrowsBy 19922944 standard_names l) (sym is) (grew_less 3145728 19922944 _ _ (omega arith) grows);
     limit = λ e. absurd (cc);
     read = λ e. absurd (cc);
     write = λ e. absurd (cc);

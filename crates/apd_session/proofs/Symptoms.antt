@@ -67,7 +67,7 @@ use Rattle.apd_text.specs.declared.entry.Refusal.TheVariants.{NoRun}
 use Rattle.apd_text.specs.declared.entry.Told.{Told}
 use Rattle.apd_text.specs.declared.entry.Told.TheVariants.{Wrong, Missing, NoEnd}
 use Rattle.apd_session.specs.Diagnosing.{Answered, Diagnoses, answered}
-use Rattle.apd_session.specs.Steps.{Method, begins, by_loop, by_missing, by_wrong, carries_on, command_step, found_in, history_of, loop_at, loop_step, missing_at, missing_step, refused, situation, talker, wrong_at, wrong_step}
+use Rattle.apd_session.specs.Steps.{Method, begins, by_loop, by_missing, by_wrong, carries_on, command_step, found_in, history_of, loop_at, loop_step, missing_at, missing_step, refused, situation, talker, wrong_at, wrong_of, wrong_step}
 use Rattle.apd_session.specs.Turns.{IsPrepared, Leads, obeying}
 use Rattle.apd_session.proofs.Turning.{IsReady-more, leads_by}
 
@@ -89,8 +89,8 @@ ready_answered n s now is = record { limits = is.limits; standard = is.standard;
 
 -- a symptom leaves replies that fit
 pub told-replies : (n : ℕ) (store : Store) (what : Told) → ToldIsNamed n what → AreReplies n store → AreReplies n (with_told store what)
-told-replies n store (Wrong a) named are = with_pair-replies n store (True a) No are (tt, tt, named)
-told-replies n store (Missing a) named are = with_pair-replies n store (True a) Yes are (tt, tt, named)
+told-replies n store (Wrong a exit) named are = with_pair-replies n store (True a) No are (tt, tt, named)
+told-replies n store (Missing a box_no) named are = with_pair-replies n store (True a) Yes are (tt, tt, named)
 told-replies n store (NoEnd calls) named are = are
 
 -- the replies of a store fit its questions
@@ -283,10 +283,9 @@ module _ (ops : Table) (names : List (List ℕ)) (s : State) where
   pub wrong_refused : (b k : ℤ) (run : LastRun) (r : Refusal) → s.last ≡ Some run → exit_of run.history b k ≡ Err r → command_step ops names s (commands.Wrong b k) ≡ refused ops names s r
   wrong_refused b k run r last exit = rw (last, exit) refl
 
-  pub wrong_begins : (b k : ℤ) (run : LastRun) (e : ℕ) (a : Term) → s.last ≡ Some run → exit_of run.history b k ≡ Ok e → (point_of run.history e).tuple.head ≡ a →
-      command_step ops names s (commands.Wrong b k) ≡ begins by_wrong ops names s (Wrong a) (tree run.history e a)
-  wrong_begins b k run e a last exit head =
-      ap (λ (o : Option LastRun). wrong_step ops names s o b k) last ∙ ap (wrong_at ops names s run.history) exit ∙ ap (λ (l : Term). begins by_wrong ops names s (Wrong l) (tree run.history e l)) head
+  pub wrong_begins : (b k : ℤ) (run : LastRun) (e : ℕ) → s.last ≡ Some run → exit_of run.history b k ≡ Ok e →
+      command_step ops names s (commands.Wrong b k) ≡ begins by_wrong ops names s (wrong_of run.history e) (tree run.history e (point_of run.history e).tuple.head)
+  wrong_begins b k run e last exit = ap (λ (o : Option LastRun). wrong_step ops names s o b k) last ∙ ap (wrong_at ops names s run.history) exit
 
   pub missing_none : (b : ℤ) (a : Term) → s.last ≡ None → command_step ops names s (commands.Missing b a) ≡ refused ops names s NoRun
   missing_none b a last = rw last refl
@@ -295,7 +294,7 @@ module _ (ops : Table) (names : List (List ℕ)) (s : State) where
   missing_refused b a run r last is = rw (last, is) refl
 
   pub missing_begins : (b : ℤ) (a : Term) (run : LastRun) (n : ℕ) → s.last ≡ Some run → unanswered_box run.history b a ≡ Ok n →
-      command_step ops names s (commands.Missing b a) ≡ begins by_missing ops names s (Missing a) (record { box_no = n; goal = a })
+      command_step ops names s (commands.Missing b a) ≡ begins by_missing ops names s (Missing a n) (record { box_no = n; goal = a })
   missing_begins b a run n last is = ap (λ (o : Option LastRun). missing_step ops names s o b a) last ∙ ap (missing_at ops names s a) is
 
   pub loop_none : s.last ≡ None → command_step ops names s commands.Loop ≡ refused ops names s NoRun

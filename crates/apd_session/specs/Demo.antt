@@ -29,9 +29,8 @@ use Rattle.apd_talk.specs.Utterance.{Utterance}
 use Rattle.apd_text.specs.declared.entry.Entry.{Entry}
 use Rattle.apd_text.specs.declared.entry.Entry.TheVariants.{Demo, Refused, Symptom}
 use Rattle.apd_text.specs.declared.entry.Refusal.{Refusal}
-use Rattle.apd_text.specs.declared.entry.Told.TheVariants.{Wrong}
 use Rattle.apd_session.specs.Opening.{beginning_said}
-use Rattle.apd_session.specs.Steps.{after_run, found_in, query_said}
+use Rattle.apd_session.specs.Steps.{after_run, found_in, query_said, wrong_of}
 use Rattle.apd_session.specs.declared.opening.Start.{Start}
 
 -- the line of the query
@@ -71,9 +70,8 @@ dialogue_said ops names program nodes asked x =
 -- the head of an exit isn't true, and its diagnosis
 abbrev pub blamed_at : Table → List (List ℕ) → ℕ → State → Recorded → Result ℕ Refusal → List (Utterance Entry)
 blamed_at ops names nodes s R (Ok e) =
-    let atom = (point_of R e).tuple.head in
-    plain ops names (Symptom (Wrong atom))
-    ∷ dialogue_said ops names s.program nodes s.asked (demonstrated nodes s.program s.strategy (with_told s.replies (Wrong atom)) (tree R e atom))
+    plain ops names (Symptom (wrong_of R e))
+    ∷ dialogue_said ops names s.program nodes s.asked (demonstrated nodes s.program s.strategy (with_told s.replies (wrong_of R e)) (tree R e (point_of R e).tuple.head))
 blamed_at ops names nodes s R (Err r) = plain ops names (Refused r) ∷ []
 
 -- the first exit of the first box of the last run

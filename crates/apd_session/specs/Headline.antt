@@ -1,13 +1,16 @@
 -- What the log of a session is worth.
-use Rattle.std.specs.Prelude.{ℕ, List}
+use Rattle.std.specs.Prelude.{ℕ, List, IfSome, ⊤}
 use Rattle.apd_account.specs.Account.{account_with}
-use Rattle.apd_account.specs.Right.{AreRight}
+use Rattle.apd_account.specs.Right.{AreRight, AreTrueIfMarked}
 use Rattle.apd_answers.specs.Interpretation.{Interpretation}
 use Rattle.apd_answers.specs.Repliers.{nobody}
 use Rattle.apd_answers.specs.Store.{Store}
+use Rattle.apd_clauses.specs.Clauses.{tuples_of}
 use Rattle.apd_clauses.specs.declared.clause.Clause.{Clause}
 use Rattle.apd_divide.specs.declared.node.Strategy.{Strategy}
 use Rattle.apd_read.specs.Reader.{Reader}
+use Rattle.apd_reference.specs.LeastModel.{HoldsLeastModel}
+use Rattle.apd_reference.specs.Referees.{program_of_referee, replies_of}
 use Rattle.apd_session.specs.Flow.{FlowsTo}
 use Rattle.apd_session.specs.Known.{Outside}
 use Rattle.apd_session.specs.Opening.{opening_of}
@@ -29,12 +32,21 @@ AreAlwaysRight m entries = (program : List Clause) (strategy : Strategy) (known 
 abbrev pub AreRightFor : Interpretation → List Entry → Opening → Type 0
 AreRightFor m entries (Unloaded why) = AreAlwaysRight m entries
 AreRightFor m entries (Closed ops b why) = AreAlwaysRight m entries
-AreRightFor m entries (Open ops start course) = AreRight m start.state.program start.state.strategy (account_with nobody start.state.replies) entries
+AreRightFor m entries (Open ops start course) = AreRight m start.state.program start.state.strategy (account_with (replies_of start.state.referee) start.state.replies) entries
+
+-- where a session goes on with a reference program, each reply that is marked as its own is true of an interpretation in which what
+-- holds is that program's least model
+abbrev pub ReferredRightly : Interpretation → List Entry → Opening → Type 0
+ReferredRightly m entries (Unloaded why) = ⊤
+ReferredRightly m entries (Closed ops b why) = ⊤
+ReferredRightly m entries (Open ops start course) = IfSome (program_of_referee start.state.referee) (λ right. HoldsLeastModel (tuples_of right) m →
+    AreTrueIfMarked m start.state.program start.state.strategy (account_with (replies_of start.state.referee) start.state.replies) entries)
 
 -- a world is met, what was said in it is right, and each diagnosis in it came to an end, unless a question stayed without a reply
 pub record MeetsRightly (m : Interpretation) {names : List (List ℕ)} (words : List (List ℕ)) (reader : Reader names) (p q : Outside) (st : Status) (log : Log) : Type 0 where
   pub meets : Meets words reader p q st log
   pub right : AreRightFor m log.entries.list (opening_of reader meets.world.files (options_of words))
+  pub referred : ReferredRightly m log.entries.list (opening_of reader meets.world.files (options_of words))
   pub flows : FlowsTo st log.entries.list
 
 -- whatever names are kept later and whatever reader there is under them, a world is met rightly

@@ -3,6 +3,8 @@
 -- Texts are read by a reader, which gives what the definitions of tokens and of reading have.
 use Rattle.std.specs.Prelude.{ℕ, List, [], ◌∷◌, ◌++◌, length, if◌then◌else◌, Option, None, Some, Result, Ok, Err, nat_lt}
 use Rattle.apd_answers.specs.Store.{Store, empty_store}
+use Rattle.apd_causes.specs.declared.faults.LoadCause.{LoadCause}
+use Rattle.apd_causes.specs.declared.faults.LoadCause.TheVariants as causes
 use Rattle.apd_clauses.specs.declared.clause.Clause.{Clause}
 use Rattle.apd_gen.specs.Programs.{tree_text}
 use Rattle.apd_known.specs.Files.{States, stated_in}
@@ -13,13 +15,15 @@ use Rattle.apd_load.specs.declared.Note.{Note}
 use Rattle.apd_ops.specs.Table.{Table}
 use Rattle.apd_query.specs.declared.state.State.{State}
 use Rattle.apd_read.specs.Reader.{Reader}
-use Rattle.apd_reference.specs.declared.referee.Referee.TheVariants.{Nobody}
+use Rattle.apd_reference.specs.declared.referee.Referee.{Referee}
+use Rattle.apd_reference.specs.declared.referee.Referee.TheVariants.{Nobody, Program}
 use Rattle.apd_talk.specs.Speech.{plain}
 use Rattle.apd_talk.specs.Utterance.{Utterance}
 use Rattle.apd_text.specs.declared.entry.Entry.{Entry}
-use Rattle.apd_text.specs.declared.entry.Entry.TheVariants.{UsageRefused, ProgramRefused, OracleRefused, FileTooLong, InputFault, Loaded, OracleLoaded}
+use Rattle.apd_text.specs.declared.entry.Entry.TheVariants.{UsageRefused, ProgramRefused, OracleRefused, ReferenceRefused, FileTooLong, InputFault, Loaded, OracleLoaded, ReferenceLoaded}
 use Rattle.apd_words.specs.Words.{InFile, OfTree, Options, Subject}
-use Rattle.apd_session.specs.Roles.{Role, Program, KnownReplies, FileLoad, Gives, Faults, file_of}
+use Rattle.apd_session.specs.Roles.{Role, KnownReplies, Reference, FileLoad, Gives, Faults, file_of}
+use Rattle.apd_session.specs.Roles as roles
 use Rattle.apd_session.specs.Steps.{remarks}
 use Rattle.apd_session.specs.declared.notes.Noted.TheVariants as noted
 use Rattle.apd_session.specs.declared.opening.Beginning.{Beginning}
@@ -29,11 +33,14 @@ use Rattle.apd_session.specs.declared.opening.Opening.{Opening}
 use Rattle.apd_session.specs.declared.opening.Opening.TheVariants.{Unloaded, Closed, Open}
 use Rattle.apd_session.specs.declared.opening.Start.{Start}
 use Rattle.apd_session.specs.declared.opening.Stop.{Stop}
+use Rattle.apd_session.specs.declared.opening.Reviewed.{Reviewed}
 use Rattle.apd_session.specs.declared.preparing.Prepared.{Prepared}
 use Rattle.apd_session.specs.declared.preparing.Prepared.TheVariants.{Knows, Refuses}
+use Rattle.apd_session.specs.declared.referring.Referring.{Referring}
+use Rattle.apd_session.specs.declared.referring.Referring.TheVariants.{Asks, Stops}
 use Rattle.apd_session.specs.declared.status.Status.{Status}
 use Rattle.apd_session.specs.declared.status.Status.TheVariants as status
-use Rattle.apd_base.specs.declared.limits.TheConstants.{MAX_FILE, OVER_MAX_FILE}
+use Rattle.apd_base.specs.declared.limits.TheConstants.{MAX_FILE, MOST_CLAUSES, OVER_MAX_FILE}
 
 -- a session ends: what is said last, and its status
 abbrev pub stop : Entry → Status → Stop
@@ -47,8 +54,41 @@ text_in (Gives text) =
 
 -- the text of what is debugged: of its file, or of its tree, for which nothing is loaded
 abbrev pub subject_text : (Role → FileLoad) → Subject → Result (List ℕ) Stop
-subject_text files (InFile name) = text_in (files Program)
+subject_text files (InFile name) = text_in (files roles.Program)
 subject_text files (OfTree nodes) = Ok (tree_text nodes)
+
+-- the line of the last clause
+abbrev pub last_line : List Clause → ℕ
+last_line [] = 0
+last_line (c ∷ []) = c.line
+last_line (c ∷ (d ∷ cs)) = last_line (d ∷ cs)
+
+-- what there is to say of a reference program
+abbrev pub reviewed : List Clause → List Note → Reviewed
+reviewed program passed = record { clauses = length program; passed = passed; called = warnings_of program }
+
+-- a reference program is refused
+abbrev pub refused_reference : ℕ → LoadCause → Referring
+refused_reference line cause = Stops (stop (ReferenceRefused line cause) status.ReferenceText)
+
+-- a reference program is refused, or it is asked before the user, within so many ports. One more clause is put behind its own for each
+-- question, so it has fewer than a program may have
+abbrev pub referred_by : ℕ → Loads → Referring
+referred_by budget (refused line cause) = refused_reference line cause
+referred_by budget (loads l) =
+    if nat_lt (length l.program) MOST_CLAUSES
+    then Asks (Program (record { program = l.program; budget = budget })) (Some (reviewed l.program l.passed))
+    else refused_reference (last_line l.program) causes.ClausesOver
+
+-- by the text of its file, where it has one; its operators are its own
+abbrev pub referred_from : {names : List (List ℕ)} → Reader names → ℕ → Result (List ℕ) Stop → Referring
+referred_from reader budget (Err why) = Stops why
+referred_from reader budget (Ok text) = referred_by budget (program_of reader text)
+
+-- who is asked before the user, by what the load of the reference program's file gives; where the words name none, nobody is
+abbrev pub referred : {names : List (List ℕ)} → Reader names → ℕ → Option (List ℕ) → FileLoad → Referring
+referred reader budget None loading = Asks Nobody None
+referred reader budget (Some name) loading = referred_from reader budget (text_in loading)
 
 -- an oracle file is refused, or its replies are known
 abbrev pub prepared_by : States → Prepared
@@ -65,15 +105,15 @@ abbrev pub prepared : {names : List (List ℕ)} → Reader names → Table → O
 prepared reader ops None loading = Knows None empty_store
 prepared reader ops (Some name) loading = prepared_from reader ops (text_in loading)
 
--- what there is to say of a program, and of so many statements of an oracle file, where there is one
-abbrev pub beginning_of : List Clause → List Note → Option ℕ → Beginning
-beginning_of program passed statements =
-    record { clauses = length program; passed = passed; called = warnings_of program; statements = statements }
+-- what there is to say of a program, of so many statements of an oracle file, and of a reference program, where there is one
+abbrev pub beginning_of : List Clause → List Note → Option ℕ → Option Reviewed → Beginning
+beginning_of program passed statements reference =
+    record { clauses = length program; passed = passed; called = warnings_of program; statements = statements; reference = reference }
 
--- the first state of a session: no query was run yet, nothing was asked, these replies are known, and nobody is asked before a line is
--- read
-abbrev pub first_state : List Clause → Options → Store → State
-first_state program options store = record {
+-- the first state of a session: no query was run yet, nothing was asked, these replies are known, and this is who is asked before a line
+-- is read
+abbrev pub first_state : List Clause → Options → Store → Referee → State
+first_state program options store referee = record {
   program = program;
   budget = options.budget;
   answers = options.answers;
@@ -81,7 +121,7 @@ first_state program options store = record {
   strategy = options.strategy;
   last = None;
   replies = store;
-  referee = Nobody;
+  referee = referee;
   asked = 0;
 }
 
@@ -97,17 +137,20 @@ abbrev pub course_of : Subject → Course
 course_of (InFile name) = Hears
 course_of (OfTree nodes) = Plays nodes
 
--- what a session with a program begins with, by what is known before the first line
-abbrev pub opening_with : Options → List Clause → Table → List Note → Prepared → Opening
-opening_with options program ops passed (Refuses why) = Closed ops (beginning_of program passed None) why
-opening_with options program ops passed (Knows statements store) =
-    Open ops (record { beginning = beginning_of program passed statements; state = first_state program options store }) (course_of options.subject)
+-- what a session with a program begins with, by what is known before the first line and who is asked before the user
+abbrev pub opening_with : Options → List Clause → Table → List Note → Prepared → Referring → Opening
+opening_with options program ops passed (Refuses why) referring = Closed ops (beginning_of program passed None None) why
+opening_with options program ops passed (Knows statements store) (Stops why) = Closed ops (beginning_of program passed statements None) why
+opening_with options program ops passed (Knows statements store) (Asks referee reference) =
+    Open ops (record { beginning = beginning_of program passed statements reference; state = first_state program options store referee })
+    (course_of options.subject)
 
 -- by what the text of what is debugged makes
 abbrev pub opening_after : {names : List (List ℕ)} → Reader names → (Role → FileLoad) → Options → Loads → Opening
 opening_after reader files options (refused line cause) = Unloaded (stop (ProgramRefused line cause) status.Program)
 opening_after reader files options (loads l) =
     opening_with options l.program l.ops l.passed (prepared reader l.ops (file_of options KnownReplies) (files KnownReplies))
+    (referred reader options.budget (file_of options Reference) (files Reference))
 
 -- by that text, where there is one
 abbrev pub opening_by : {names : List (List ℕ)} → Reader names → (Role → FileLoad) → Options → Result (List ℕ) Stop → Opening
@@ -136,9 +179,23 @@ abbrev pub known_said : Table → List (List ℕ) → Option ℕ → List (Utter
 known_said ops names None = []
 known_said ops names (Some statements) = plain ops names (OracleLoaded statements) ∷ []
 
+-- the same as of a program, of a reference program
+unfoldable pub reviewed_said : Table → List (List ℕ) → Reviewed → List (Utterance Entry)
+reviewed_said ops names r =
+    remarks ops names noted.PassedOver r.passed ++ (remarks ops names noted.Called r.called ++ plain ops names (ReferenceLoaded r.clauses) ∷ [])
+
+-- of the one that there is
+abbrev pub reference_said : Table → List (List ℕ) → Option Reviewed → List (Utterance Entry)
+reference_said ops names None = []
+reference_said ops names (Some r) = reviewed_said ops names r
+
+-- what is said of the oracle file and of the reference program, where there are such
+abbrev pub further_said : Table → List (List ℕ) → Beginning → List (Utterance Entry)
+further_said ops names b = known_said ops names b.statements ++ reference_said ops names b.reference
+
 -- what is said of a program that was loaded
 abbrev pub beginning_said : Table → List (List ℕ) → Beginning → List (Utterance Entry)
-beginning_said ops names b = load_said ops names b ++ known_said ops names b.statements
+beginning_said ops names b = load_said ops names b ++ further_said ops names b
 
 -- that, and why the session ends there
 abbrev pub closing_said : Table → List (List ℕ) → Beginning → Entry → List (Utterance Entry)

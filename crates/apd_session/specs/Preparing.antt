@@ -1,5 +1,5 @@
 -- What the calls that make an opening give, and what an opening may be.
-use Rattle.std.specs.Prelude.{ℕ, ◌≡◌, List, Option, None, Some, Result, ⊤}
+use Rattle.std.specs.Prelude.{ℕ, ◌≡◌, ◌≤◌, List, Option, None, Some, IfSome, Result, ⊤}
 use Rattle.apd_debug.specs.NamedStates.{AreReplies}
 use Rattle.apd_gen.specs.Nodes.{IsNodeCount}
 use Rattle.apd_known.specs.Files.{stated_in}
@@ -9,8 +9,9 @@ use Rattle.apd_load.specs.Warnings.{NotesAreNamed, warnings_of}
 use Rattle.apd_load.specs.declared.Loaded.{Loaded}
 use Rattle.apd_ops.specs.Table.{Table}
 use Rattle.apd_read.specs.Reader.{Reader}
-use Rattle.apd_session.specs.Opening.{opening_after, opening_of, opening_with, prepared, prepared_by, subject_text, text_in}
-use Rattle.apd_session.specs.Roles.{Role, FileLoad, Faults, AreLoads, IsFileLoad, IsNamedLoad, file_of_subject}
+use Rattle.apd_reference.specs.Referees.{names_known}
+use Rattle.apd_session.specs.Opening.{beginning_of, opening_after, opening_of, opening_with, prepared, prepared_by, referred, referred_by, subject_text, text_in}
+use Rattle.apd_session.specs.Roles.{Role, KnownReplies, Reference, FileLoad, Faults, AreLoads, IsFileLoad, IsNamedLoad, file_of_subject}
 use Rattle.apd_session.specs.Turns.{IsPrepared}
 use Rattle.apd_words.specs.Words.{Options, Subject}
 use Rattle.apd_session.specs.declared.opening.Beginning.{Beginning}
@@ -20,8 +21,11 @@ use Rattle.apd_session.specs.declared.opening.Opening.{Opening}
 use Rattle.apd_session.specs.declared.opening.Opening.TheVariants.{Unloaded, Closed, Open}
 use Rattle.apd_session.specs.declared.opening.Start.{Start}
 use Rattle.apd_session.specs.declared.opening.Stop.{Stop}
+use Rattle.apd_session.specs.declared.opening.Reviewed.{Reviewed}
 use Rattle.apd_session.specs.declared.preparing.Prepared.{Prepared}
 use Rattle.apd_session.specs.declared.preparing.Prepared.TheVariants.{Knows, Refuses}
+use Rattle.apd_session.specs.declared.referring.Referring.{Referring}
+use Rattle.apd_session.specs.declared.referring.Referring.TheVariants.{Asks, Stops}
 use Rattle.apd_session.specs.declared.status.Status.{Status}
 use Rattle.apd_session.specs.declared.status.Status.TheVariants as status
 use Rattle.apd_talk.specs.Speech.{Lasting}
@@ -53,18 +57,41 @@ pub record Prepares (content : List ℕ → Option (List ℕ)) (failed : Type 0)
   pub faults : loading ≡ Faults → failed
   pub so : Lasting names (λ n. (reader : Reader n) → prepared reader ops name loading ≡ x)
 
--- this is what a session with a program begins with, by what its oracle file makes known
+-- this is who is asked by the text of a reference program, whatever names are kept later
+abbrev pub ReviewsText : ℕ → List ℕ → List (List ℕ) → Referring → Type 0
+ReviewsText budget text names x = Lasting names (λ n. (reader : Reader n) → referred_by budget (program_of reader text) ≡ x)
+
+-- this is who is asked by the reference program's file of this name, whose load may fail as is said
+pub record Refers (content : List ℕ → Option (List ℕ)) (failed : Type 0) (budget : ℕ) (names : List (List ℕ)) (name : Option (List ℕ)) (x : Referring) : Type 0 where
+  pub loading : FileLoad
+  pub is : IsNamedLoad content name loading
+  pub faults : loading ≡ Faults → failed
+  pub so : Lasting names (λ n. (reader : Reader n) → referred reader budget name loading ≡ x)
+
+-- this is what a session with a program begins with, by what is known and who is asked before the user
+pub record OpensKnowing (content : List ℕ → Option (List ℕ)) (failed : Type 0) (options : Options) (l : Loaded) (names : List (List ℕ)) (known : Prepared) (x : Opening) : Type 0 where
+  pub referring : Referring
+  pub refers : Refers content failed options.budget names options.reference referring
+  pub so : opening_with options l.program l.ops l.passed known referring ≡ x
+
+-- where an oracle file is refused, no other file is loaded
+abbrev pub OpensBy : (List ℕ → Option (List ℕ)) → Type 0 → Options → Loaded → List (List ℕ) → Prepared → Opening → Type 0
+OpensBy content failed options l names (Refuses why) x = Closed l.ops (beginning_of l.program l.passed None None) why ≡ x
+OpensBy content failed options l names (Knows statements store) x = OpensKnowing content failed options l names (Knows statements store) x
+
+-- this is what a session with a program begins with, by what its oracle file makes known and who is asked before the user
 pub record OpensWith (content : List ℕ → Option (List ℕ)) (failed : Type 0) (options : Options) (l : Loaded) (names : List (List ℕ)) (x : Opening) : Type 0 where
   pub known : Prepared
   pub prepares : Prepares content failed l.ops names options.oracle known
-  pub so : opening_with options l.program l.ops l.passed known ≡ x
+  pub opens : OpensBy content failed options l names known x
 
--- this is what a session begins with, by this text of what is debugged and what the load of its oracle file gives
+-- this is what a session begins with, by this text of what is debugged and what the loads of its other files give
 pub record OpensAfter (content : List ℕ → Option (List ℕ)) (failed : Type 0) (options : Options) (text : List ℕ) (names : List (List ℕ)) (x : Opening) : Type 0 where
-  pub loading : FileLoad
-  pub is : IsNamedLoad content options.oracle loading
-  pub faults : loading ≡ Faults → failed
-  pub so : Lasting names (λ n. (reader : Reader n) → opening_after reader (λ role. loading) options (program_of reader text) ≡ x)
+  pub files : Role → FileLoad
+  pub oracle : IsNamedLoad content options.oracle (files KnownReplies)
+  pub reference : IsNamedLoad content options.reference (files Reference)
+  pub faults : (role : Role) → files role ≡ Faults → failed
+  pub so : Lasting names (λ n. (reader : Reader n) → opening_after reader files options (program_of reader text) ≡ x)
 
 -- this is what a session begins with, by what the loads of its files give, which may fail as is said
 pub record Opens (content : List ℕ → Option (List ℕ)) (failed : Type 0) (options : Option Options) (names : List (List ℕ)) (x : Opening) : Type 0 where
@@ -80,6 +107,7 @@ MayStop status.Program = ⊤
 MayStop status.ReadFault = ⊤
 MayStop status.OracleText = ⊤
 MayStop status.FileTooLong = ⊤
+MayStop status.ReferenceText = ⊤
 MayStop st = ⊥
 
 -- of what stands in an opening, all names are among the first n; so they are in what was loaded, whose warnings are those of its program
@@ -87,9 +115,14 @@ pub record IsStop (n : ℕ) (why : Stop) : Type 0 where
   pub named : EntryIsNamed n why.said
   pub may : MayStop why.status
 
+pub record IsReviewed (n : ℕ) (r : Reviewed) : Type 0 where
+  pub passed : NotesAreNamed n r.passed
+  pub called : NotesAreNamed n r.called
+
 pub record IsBeginning (n : ℕ) (b : Beginning) : Type 0 where
   pub passed : NotesAreNamed n b.passed
   pub called : NotesAreNamed n b.called
+  pub reference : IfSome b.reference (IsReviewed n)
 
 pub record IsStart (n : ℕ) (start : Start) : Type 0 where
   pub beginning : IsBeginning n start.beginning
@@ -115,6 +148,16 @@ pub record IsLoaded (n : ℕ) (l : Loaded) : Type 0 where
 abbrev pub AreReady : ℕ → Prepared → Type 0
 AreReady n (Knows statements store) = AreReplies n store
 AreReady n (Refuses why) = IsStop n why
+
+-- whoever is asked has names that are known, and so has what there is to say of its program
+abbrev pub IsReferring : ℕ → Referring → Type 0
+IsReferring n (Asks referee reference) = (names_known referee ≤ n) × IfSome reference (IsReviewed n)
+IsReferring n (Stops why) = IsStop n why
+
+-- the status with which a reference program's file ends a session, where it does
+abbrev pub stops_referring : Referring → Option Status
+stops_referring (Asks referee reference) = None
+stops_referring (Stops why) = Some why.status
 
 -- the status with which an oracle file ends a session, where it does
 abbrev pub refuses_with : Prepared → Option Status

@@ -2,10 +2,12 @@
 use Rattle.std.specs.Prelude.{ℕ, ◌≡◌, List, Option, None, Some, IfSome, ⊤}
 use Rattle.apd_words.specs.Words.{InFile, OfTree, Options, Subject}
 
--- what a file is to a session: its program, or what is known before the first line, replies and trust
+-- what a file is to a session: its program, what is known before the first line, replies and trust, or the program that is asked
+-- before the user
 pub data Role : Type 0 where
   Program : Role
   KnownReplies : Role
+  Reference : Role
 
 -- the name of the file that is debugged; a tree has none
 abbrev pub file_of_subject : Subject → Option (List ℕ)
@@ -16,6 +18,7 @@ file_of_subject (OfTree nodes) = None
 abbrev pub file_of : Options → Role → Option (List ℕ)
 file_of options Program = file_of_subject options.subject
 file_of options KnownReplies = options.oracle
+file_of options Reference = options.reference
 
 -- what a load gives: the bytes of a file, or a fault
 pub data FileLoad : Type 0 where

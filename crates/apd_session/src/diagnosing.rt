@@ -9,7 +9,7 @@ ghost use Rattle.apd_debug.specs.NamedStates.{loop_entry};
 ghost use Rattle.apd_debug.specs.Steps.{most_in_a_row};
 ghost use Rattle.apd_divide.specs.Exits.{IsUserExit};
 ghost use Rattle.apd_record.specs.Reading.{point_of};
-ghost use Rattle.apd_session.specs.Steps.{found_in};
+ghost use Rattle.apd_session.specs.Steps.{found_in, wrong_of};
 ghost use Rattle.apd_symptoms.specs.Symptoms.{line_found};
 ghost use Rattle.apd_talk.specs.Speech.{Says, one, spoken};
 ghost use Rattle.apd_term.specs.Named.{IsNamed};
@@ -63,8 +63,8 @@ fn keep_told(alloc: Global, what: &Told, replies: &mut Answers) -> Result<(), Al
     ensures { OnOk result (replies.new ≡ with_told replies.old what.now) }
 {
     match what {
-        Told::Wrong(atom) => keep_reply(alloc, atom, &Reply::No, replies),
-        Told::Missing(atom) => keep_reply(alloc, atom, &Reply::Yes, replies),
+        Told::Wrong { atom, exit: _ } => keep_reply(alloc, atom, &Reply::No, replies),
+        Told::Missing { atom, box_no: _ } => keep_reply(alloc, atom, &Reply::Yes, replies),
         Told::NoEnd(_) => Ok(()),
     }
 }
@@ -102,20 +102,24 @@ pub(crate) fn keep_wrong<K: Sink>(
     ensures head { IfOk result (λ h. h ≡ (point_of history.now exit.0).tuple.head) }
     ensures place { OnOk result (0 < log.new.entries.spare) }
     ensures replies { OnOk result (replies.new ≡
-        with_told replies.old (Told.Wrong (point_of history.now exit.0).tuple.head)) }
-    ensures says { Says (one (Entry.Symptom (Told.Wrong (point_of history.now exit.0).tuple.head)))
+        with_told replies.old (wrong_of history.now exit.0)) }
+    ensures says { Says (one (Entry.Symptom (wrong_of history.now exit.0)))
         (spoken K.Sink log.old out.old) (spoken K.Sink log.new out.new) result }
 {
     let Tuple { head, .. } = history.tuple(exit)?;
-    let what = Told::Wrong(head.copy(alloc)?);
+    let what = Told::Wrong {
+        atom: head.copy(alloc)?,
+        exit,
+    };
     keep_symptom(alloc, what, replies, out, log)?;
     Ok(head)
 }
 
-/// Keeps such a place, and that an atom is true that the run didn't give, and says that.
+/// Keeps such a place, and that an atom is true that the box of this number didn't give, and says that.
 pub(crate) fn keep_missing<K: Sink>(
     alloc: Global,
     atom: &Flat,
+    box_no: u32,
     replies: &mut Answers,
     out: &mut K,
     log: &mut Log,
@@ -123,11 +127,14 @@ pub(crate) fn keep_missing<K: Sink>(
     requires { IsNamed (length log.old.names) atom.now }
     ensures place { OnOk result (0 < log.new.entries.spare) }
     ensures replies { OnOk result (replies.new ≡
-        with_told replies.old (Told.Missing atom.now)) }
-    ensures says { Says (one (Entry.Symptom (Told.Missing atom.now)))
+        with_told replies.old (Told.Missing atom.now box_no)) }
+    ensures says { Says (one (Entry.Symptom (Told.Missing atom.now box_no)))
         (spoken K.Sink log.old out.old) (spoken K.Sink log.new out.new) result }
 {
-    let what = Told::Missing(atom.copy(alloc)?);
+    let what = Told::Missing {
+        atom: atom.copy(alloc)?,
+        box_no,
+    };
     keep_symptom(alloc, what, replies, out, log)
 }
 

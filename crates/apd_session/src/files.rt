@@ -1,8 +1,8 @@
 //! The files that a session loads.
 
-ghost use Rattle.std.specs.Prelude.{◌≡◌, ◌≤◌, ℕ, length, IfErr, IfOk};
+ghost use Rattle.std.specs.Prelude.{◌≡◌, ◌≤◌, [], ◌∷◌, ℕ, length, IfErr, IfOk};
 ghost use Rattle.apd_base.specs.declared.limits.TheConstants.{MAX_FILE};
-ghost use Rattle.apd_io.specs.Outside.{Rose};
+ghost use Rattle.apd_io.specs.Outside.{LoadsInTurn, Rose};
 ghost use Rattle.apd_session.specs.Preparing.{HasText, IsStop};
 
 use crate::opening::Stop;
@@ -27,6 +27,7 @@ pub(crate) fn load_file<F: Files>(
         Rose (F.faults files.old) (F.faults files.new))) }
     ensures same { F.content files.new ≡ F.content files.old }
     ensures later { F.faults files.old ≤ F.faults files.new }
+    ensures loads { LoadsInTurn F.step files.old (name.now ∷ []) files.new }
 {
     match files.load(alloc, name) {
         Ok(text) => Ok(Ok(text)),

@@ -142,7 +142,7 @@ fn seek<S: Source, K: Sink>(
         Ok(found) => found,
         Err(refusal) => return refuse(alloc, refusal, out, log),
     };
-    keep_missing(alloc, atom, &mut state.replies, out, log)?;
+    keep_missing(alloc, atom, found, &mut state.replies, out, log)?;
     let answer = diagnose(
         alloc,
         &state.program,

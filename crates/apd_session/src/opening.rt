@@ -2,15 +2,22 @@
 
 ghost use Rattle.std.specs.Prelude.{◌≡◌, ◌+◌, ◌<◌, ◌≤◌, ℕ, length, None, Some, IfErr, IfOk};
 ghost use Rattle.apd_base.specs.declared.limits.TheConstants.{MAX_FILE, MOST_NAMES};
-ghost use Rattle.apd_io.specs.Outside.{Rose};
-ghost use Rattle.apd_session.specs.Opening.{course_of, first_state, stops_with};
-ghost use Rattle.apd_session.specs.Preparing.{HasSubject, IsCourse, IsLoaded, IsReadyOpening, IsStop, Opens, OpensAfter, OpensWith};
+ghost use Rattle.apd_io.specs.Outside.{LoadsInTurn, Rose};
+ghost use Rattle.apd_debug.specs.NamedStates.{AreReplies};
+ghost use Rattle.apd_load.specs.Warnings.{warnings_of};
+ghost use Rattle.apd_session.specs.Loads.{LoadsFront, files_named, further_files, named};
+ghost use Rattle.apd_session.specs.Opening.{beginning_of, course_of, first_state, stops_with};
+ghost use Rattle.apd_session.specs.Preparing.{HasSubject, IsCourse, IsLoaded, IsReadyOpening, IsStop, Opens, OpensAfter, OpensKnowing, OpensWith};
+ghost use Rattle.apd_session.specs.Roles.{file_of_subject};
+ghost use Rattle.apd_session.specs.Session.{names_of_files};
+ghost use Rattle.apd_session.specs.declared.preparing.Prepared.TheVariants.{Knows};
 ghost use Rattle.apd_term.specs.Growth.{GrowsBy};
 ghost use Rattle.apd_term.specs.StandardNames.{standard_names};
 ghost use Rattle.apd_words.specs.Words.{AreLimits, StandsAlone, asked_options, asked_subject, bytes_of, options_of};
 
 use crate::files::load_file;
 use crate::preparing::{Prepared, prepare};
+use crate::referring::{Referring, refer};
 use crate::status::Status;
 use apd_answers::Answers;
 use apd_base::Text;
@@ -35,6 +42,17 @@ pub(crate) struct Stop {
     pub status: Status,
 }
 
+/// What there is to say of a reference program that was loaded.
+#[derive(Drop)]
+pub(crate) struct Reviewed {
+    /// How many clauses it has.
+    pub clauses: u32,
+    /// Its directives that were passed over.
+    pub passed: Notes,
+    /// The predicates that its clauses call and that have no clauses.
+    pub called: Notes,
+}
+
 /// What there is to say of a program that was loaded.
 #[derive(Drop)]
 pub(crate) struct Beginning {
@@ -46,6 +64,8 @@ pub(crate) struct Beginning {
     pub called: Notes,
     /// How many statements the oracle file has, where there is one.
     pub statements: Option<u32>,
+    /// What there is to say of the reference program, where there is one.
+    pub reference: Option<Reviewed>,
 }
 
 /// A program that was loaded, before the first line.
@@ -86,8 +106,8 @@ pub(crate) enum Opening {
 }
 
 /// The first state of a session.
-fn first_state(asked: Asked<'_>, program: Program, replies: Answers) -> State
-    ensures { result ≡ first_state program (asked_options asked.entry) replies }
+fn first_state(asked: Asked<'_>, program: Program, replies: Answers, referee: Referee) -> State
+    ensures { result ≡ first_state program (asked_options asked.entry) replies referee }
 {
     State {
         program,
@@ -97,7 +117,7 @@ fn first_state(asked: Asked<'_>, program: Program, replies: Answers) -> State
         strategy: asked.strategy,
         last: None,
         replies,
-        referee: Referee::Nobody,
+        referee,
         asked: 0,
     }
 }
@@ -128,6 +148,8 @@ fn subject_text<F: Files>(
         Rose (F.faults files.old) (F.faults files.new))) }
     ensures same { F.content files.new ≡ F.content files.old }
     ensures later { F.faults files.old ≤ F.faults files.new }
+    ensures loads { LoadsInTurn F.step files.old
+        (named (file_of_subject (asked_subject subject.entry))) files.new }
 {
     match subject {
         Subject::File(name) => load_file(alloc, name, files),
@@ -135,8 +157,86 @@ fn subject_text<F: Files>(
     }
 }
 
-/// What a session with a program begins with: the replies of its oracle file are known, where the words name one. The only error is
-/// want of memory.
+/// A session with a program ends before it hears anything.
+fn close(loaded: Loaded, statements: Option<u32>, stop: Stop) -> Opening
+    requires { loaded.warnings ≡ warnings_of loaded.program }
+    ensures { result ≡ Opening.Closed loaded.ops
+        (beginning_of loaded.program loaded.passed statements None) stop }
+{
+    let Loaded {
+        program,
+        ops,
+        passed,
+        warnings,
+    } = loaded;
+    let beginning = Beginning {
+        clauses: program.count(),
+        passed,
+        called: warnings,
+        statements,
+        reference: None,
+    };
+    Opening::Closed {
+        ops,
+        beginning,
+        stop,
+    }
+}
+
+/// What a session with a program begins with, where this is known before the first line: its reference program is asked before the
+/// user, where the words name one. The only error is want of memory.
+fn open_knowing<F: Files>(
+    alloc: Global,
+    asked: Asked<'_>,
+    loaded: Loaded,
+    statements: Option<u32>,
+    replies: Answers,
+    files: &mut F,
+    names: &mut Names,
+) -> Result<Opening, AllocError>
+    requires limits { AreLimits asked.budget asked.answers }
+    requires course { IsCourse (course_of (asked_subject asked.subject)) }
+    requires loaded { IsLoaded (length names.old) loaded }
+    requires replies { AreReplies (length names.old) replies }
+    requires standard { length standard_names ≤ length names.old }
+    requires room { length names.old + MAX_FILE < MOST_NAMES }
+    ensures grows { GrowsBy MAX_FILE names.old names.new }
+    ensures opens { IfOk result (OpensKnowing (F.content files.old)
+        (Rose (F.faults files.old) (F.faults files.new))
+        (asked_options asked.entry) loaded names.new (Knows statements replies)) }
+    ensures ready { IfOk result (IsReadyOpening (length names.new)) }
+    ensures fault { IfOk result (λ o. stops_with o ≡ Some Status.ReadFault →
+        Rose (F.faults files.old) (F.faults files.new)) }
+    ensures later { F.faults files.old ≤ F.faults files.new }
+    ensures loads { LoadsFront F.step
+        (named (asked_options asked.entry).reference) files.old files.new }
+{
+    match refer(alloc, asked.reference, asked.budget, files, names)? {
+        Referring::Asks { referee, reference } => {
+            let Loaded {
+                program,
+                ops,
+                passed,
+                warnings,
+            } = loaded;
+            let beginning = Beginning {
+                clauses: program.count(),
+                passed,
+                called: warnings,
+                statements,
+                reference,
+            };
+            let course = course_of(asked.subject);
+            let state = first_state(asked, program, replies, referee);
+            let start = Start { beginning, state };
+            Ok(Opening::Open { ops, start, course })
+        }
+        Referring::Stops(stop) => Ok(close(loaded, statements, stop)),
+    }
+}
+
+/// What a session with a program begins with: the replies of its oracle file are known, and its reference program is asked before the
+/// user, where the words name them. The only error is want of memory.
 fn open_program<F: Files>(
     alloc: Global,
     asked: Asked<'_>,
@@ -148,51 +248,23 @@ fn open_program<F: Files>(
     requires course { IsCourse (course_of (asked_subject asked.subject)) }
     requires loaded { IsLoaded (length names.old) loaded }
     requires standard { length standard_names ≤ length names.old }
-    requires room { length names.old + MAX_FILE < MOST_NAMES }
-    ensures grows { GrowsBy MAX_FILE names.old names.new }
+    requires room { length names.old + (MAX_FILE + MAX_FILE) < MOST_NAMES }
+    ensures grows { GrowsBy (MAX_FILE + MAX_FILE) names.old names.new }
     ensures opens { IfOk result (OpensWith (F.content files.old)
         (Rose (F.faults files.old) (F.faults files.new))
         (asked_options asked.entry) loaded names.new) }
     ensures ready { IfOk result (IsReadyOpening (length names.new)) }
     ensures fault { IfOk result (λ o. stops_with o ≡ Some Status.ReadFault →
         Rose (F.faults files.old) (F.faults files.new)) }
+    ensures loads { LoadsFront F.step
+        (further_files (asked_options asked.entry)) files.old files.new }
 {
-    let Loaded {
-        program,
-        ops,
-        passed,
-        warnings,
-    } = loaded;
-    let clauses = program.count();
-    match prepare(alloc, asked.oracle, files, &ops, names)? {
+    match prepare(alloc, asked.oracle, files, &loaded.ops, names)? {
         Prepared::Knows {
             statements,
             replies,
-        } => {
-            let course = course_of(asked.subject);
-            let beginning = Beginning {
-                clauses,
-                passed,
-                called: warnings,
-                statements,
-            };
-            let state = first_state(asked, program, replies);
-            let start = Start { beginning, state };
-            Ok(Opening::Open { ops, start, course })
-        }
-        Prepared::Refuses(stop) => {
-            let beginning = Beginning {
-                clauses,
-                passed,
-                called: warnings,
-                statements: None,
-            };
-            Ok(Opening::Closed {
-                ops,
-                beginning,
-                stop,
-            })
-        }
+        } => open_knowing(alloc, asked, loaded, statements, replies, files, names),
+        Prepared::Refuses(stop) => Ok(close(loaded, None, stop)),
     }
 }
 
@@ -208,13 +280,15 @@ fn open_text<F: Files>(
     requires course { IsCourse (course_of (asked_subject asked.subject)) }
     requires size { length text.now ≤ MAX_FILE }
     requires names { names.old ≡ standard_names }
-    ensures grows { GrowsBy (MAX_FILE + MAX_FILE) names.old names.new }
+    ensures grows { GrowsBy names_of_files names.old names.new }
     ensures opens { IfOk result (OpensAfter (F.content files.old)
         (Rose (F.faults files.old) (F.faults files.new))
         (asked_options asked.entry) text.now names.new) }
     ensures ready { IfOk result (IsReadyOpening (length names.new)) }
     ensures fault { IfOk result (λ o. stops_with o ≡ Some Status.ReadFault →
         Rose (F.faults files.old) (F.faults files.new)) }
+    ensures loads { LoadsFront F.step
+        (further_files (asked_options asked.entry)) files.old files.new }
 {
     match load(alloc, text.bytes(), names) {
         Ok(loaded) => open_program(alloc, asked, loaded, files, names),
@@ -235,15 +309,17 @@ fn open_asked<F: Files>(
 ) -> Result<Opening, AllocError>
     requires limits { AreLimits asked.budget asked.answers }
     requires alone { let options = asked_options asked in
-        StandsAlone options.subject options.oracle }
+        StandsAlone options.subject options.oracle options.reference }
     requires names { names.old ≡ standard_names }
-    ensures grows { GrowsBy (MAX_FILE + MAX_FILE) names.old names.new }
+    ensures grows { GrowsBy names_of_files names.old names.new }
     ensures opens { IfOk result (Opens (F.content files.old)
         (Rose (F.faults files.old) (F.faults files.new))
         (Some (asked_options asked.entry)) names.new) }
     ensures ready { IfOk result (IsReadyOpening (length names.new)) }
     ensures fault { IfOk result (λ o. stops_with o ≡ Some Status.ReadFault →
         Rose (F.faults files.old) (F.faults files.new)) }
+    ensures loads { LoadsFront F.step
+        (files_named (Some (asked_options asked.entry))) files.old files.new }
 {
     match subject_text(alloc, asked.subject, files)? {
         Ok(text) => open_text(alloc, asked, &text, files, names),
@@ -251,8 +327,8 @@ fn open_asked<F: Files>(
     }
 }
 
-/// What a session begins with: the words are read, the program is loaded, or that of a tree, and the replies of an oracle file are known,
-/// where the words name one. Nothing is said, and no byte of the input is taken. The only error is want of memory.
+/// What a session begins with: the words are read, the program is loaded, or that of a tree, the replies of an oracle file are known, and
+/// a reference program is loaded, where the words name them. Nothing is said, and no byte of the input is taken. The only error is want of memory.
 pub(crate) fn open_session<F: Files>(
     alloc: Global,
     words: &[String],
@@ -260,13 +336,15 @@ pub(crate) fn open_session<F: Files>(
     names: &mut Names,
 ) -> Result<Opening, AllocError>
     requires names { names.old ≡ standard_names }
-    ensures grows { GrowsBy (MAX_FILE + MAX_FILE) names.old names.new }
+    ensures grows { GrowsBy names_of_files names.old names.new }
     ensures opens { IfOk result (Opens (F.content files.old)
         (Rose (F.faults files.old) (F.faults files.new))
         (options_of (bytes_of words.now)) names.new) }
     ensures ready { IfOk result (IsReadyOpening (length names.new)) }
     ensures fault { IfOk result (λ o. stops_with o ≡ Some Status.ReadFault →
         Rose (F.faults files.old) (F.faults files.new)) }
+    ensures loads { LoadsFront F.step
+        (files_named (options_of (bytes_of words.now))) files.old files.new }
 {
     match read_words(alloc, words)? {
         Some(asked) => open_asked(alloc, asked, files, names),

@@ -2,7 +2,8 @@
 
 ghost use Rattle.std.specs.Prelude.{◌≡◌, ◌≢◌, ◌+◌, ◌<◌, ◌≤◌, length, option_map, Some, IfOk};
 ghost use Rattle.apd_base.specs.declared.limits.TheConstants.{MAX_FILE, MOST_NAMES};
-ghost use Rattle.apd_io.specs.Outside.{Rose};
+ghost use Rattle.apd_io.specs.Outside.{LoadsInTurn, Rose};
+ghost use Rattle.apd_session.specs.Loads.{named};
 ghost use Rattle.apd_session.specs.Preparing.{AreReady, Prepares, States, refuses_with};
 ghost use Rattle.apd_term.specs.Growth.{GrowsBy};
 
@@ -74,6 +75,10 @@ pub(crate) fn prepare<F: Files>(
     ensures ready { IfOk result (AreReady (length names.new)) }
     ensures fault { IfOk result (λ x. refuses_with x ≡ Some Status.ReadFault →
         Rose (F.faults files.old) (F.faults files.new)) }
+    ensures same { F.content files.new ≡ F.content files.old }
+    ensures later { F.faults files.old ≤ F.faults files.new }
+    ensures loads { LoadsInTurn F.step files.old
+        (named (option_map (λ s. s.now) oracle.entry)) files.new }
 {
     let Some(name) = oracle else {
         return Ok(Prepared::Knows {

@@ -45,7 +45,8 @@ fn diagnose_over<S: Source, K: Sink, R: Replier>(
     requires replies { AreReplies (length dialogue.old.log.now.names) replies.old }
     requires labelled { IsLabelled history.now exit.0 label.now }
     requires symptom { SaysNo replies.old label.now }
-    requires named { TreeIsNamed (length dialogue.old.log.now.names) (tree history.now exit.0 label.now) }
+    requires named { TreeIsNamed (length dialogue.old.log.now.names)
+        (tree history.now exit.0 label.now) }
     ensures console { dialogue.new.console.ghost_name ≡ dialogue.old.console.ghost_name }
     ensures source { dialogue.new.source.ghost_name ≡ dialogue.old.source.ghost_name }
     ensures sink { dialogue.new.sink.ghost_name ≡ dialogue.old.sink.ghost_name }

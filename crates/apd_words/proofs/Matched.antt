@@ -14,19 +14,20 @@ use Rattle.apd_words.specs.declared.options.Subject as subjects
 use Rattle.apd_words.specs.Words.{Subject, asked_subject, command, filter_of, is_faultless, limit_or, options_from, options_in, options_of, strategy_or, subject_from}
 
 -- the options of what the getters give are those of the matches
-pub gathered : (found : Found) (budget answers : Option ℕ) (filter : Filter) (strategy : Option Strategy) (subject : Option Subject) (b a t s o d p : Option (List ℕ)) →
-    b ≡ first_value found (codes "budget") → a ≡ first_value found (codes "answers") → t ≡ first_value found (codes "trace") → s ≡ first_value found (codes "strategy") → o ≡ first_value found (codes "oracle") → d ≡ first_value found (codes "demo") → p ≡ first_value found (codes "program") →
-    budget ≡ limit_or 100000 b → answers ≡ limit_or 1000000 a → filter ≡ filter_of t → strategy ≡ strategy_or s → subject ≡ subject_from d o p → options_in (rows_of found) ≡ options_from budget answers filter strategy o subject
-gathered found budget answers filter strategy subject b a t s o d p is_b is_a is_t is_s is_o is_d is_p is_budget is_answers is_filter is_strategy is_subject =
+pub gathered : (found : Found) (budget answers : Option ℕ) (filter : Filter) (strategy : Option Strategy) (subject : Option Subject) (b a t s o e d p : Option (List ℕ)) →
+    b ≡ first_value found (codes "budget") → a ≡ first_value found (codes "answers") → t ≡ first_value found (codes "trace") → s ≡ first_value found (codes "strategy") → o ≡ first_value found (codes "oracle") → e ≡ first_value found (codes "reference") → d ≡ first_value found (codes "demo") → p ≡ first_value found (codes "program") →
+    budget ≡ limit_or 100000 b → answers ≡ limit_or 1000000 a → filter ≡ filter_of t → strategy ≡ strategy_or s → subject ≡ subject_from d o e p → options_in (rows_of found) ≡ options_from budget answers filter strategy o e subject
+gathered found budget answers filter strategy subject b a t s o e d p is_b is_a is_t is_s is_o is_e is_d is_p is_budget is_answers is_filter is_strategy is_subject =
     let same_budget = ap (limit_or 100000) (sym (first_value-rows found (codes "budget")) ∙ sym is_b) ∙ sym is_budget in
     let same_answers = ap (limit_or 1000000) (sym (first_value-rows found (codes "answers")) ∙ sym is_a) ∙ sym is_answers in
     let same_filter = ap filter_of (sym (first_value-rows found (codes "trace")) ∙ sym is_t) ∙ sym is_filter in
     let same_strategy = ap strategy_or (sym (first_value-rows found (codes "strategy")) ∙ sym is_s) ∙ sym is_strategy in
     let same_oracle = sym (first_value-rows found (codes "oracle")) ∙ sym is_o in
+    let same_reference = sym (first_value-rows found (codes "reference")) ∙ sym is_e in
     let same_program = sym (first_value-rows found (codes "program")) ∙ sym is_p in
     let same_demo = sym (first_value-rows found (codes "demo")) ∙ sym is_d in
-    let same_subject = (λ i. subject_from (same_demo i) (same_oracle i) (same_program i)) ∙ sym is_subject in
-    λ i. options_from (same_budget i) (same_answers i) (same_filter i) (same_strategy i) (same_oracle i) (same_subject i)
+    let same_subject = (λ i. subject_from (same_demo i) (same_oracle i) (same_reference i) (same_program i)) ∙ sym is_subject in
+    λ i. options_from (same_budget i) (same_answers i) (same_filter i) (same_strategy i) (same_oracle i) (same_reference i) (same_subject i)
 
 -- what is debugged, as it is asked for
 pub subject_is : (o : Option Subject) (asked : Option subjects.Subject) → MatchOption asked (o ≡ None) (λ s. o ≡ Some (asked_subject s)) → option_map asked_subject asked ≡ o

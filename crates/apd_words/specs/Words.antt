@@ -21,8 +21,8 @@ use Rattle.apd_base.specs.declared.limits.TheConstants.{MOST_SHOWN, USUAL_BUDGET
 abbrev pub bytes_of : {A : Type 0} → List (String A) → List (List ℕ)
 bytes_of words = map (λ w. string_bytes w) words
 
--- The command: `--budget N`, `--answers N`, `--strategy NAME`, `--oracle FILE`, `--demo N`, `--trace` and the name of a file, none of which
--- clap requires.
+-- The command: `--budget N`, `--answers N`, `--strategy NAME`, `--oracle FILE`, `--reference FILE`, `--demo N`, `--trace` and the name of
+-- a file, none of which clap requires.
 
 -- an option with one value
 abbrev pub option_rule : List ℕ → Rule
@@ -38,7 +38,7 @@ program_rule = record (new_rule (codes "program")) { action = Some Set }
 abbrev pub arguments : List Rule
 arguments =
     option_rule (codes "budget") ∷ option_rule (codes "answers") ∷ option_rule (codes "strategy") ∷ option_rule (codes "oracle") ∷
-    option_rule (codes "demo") ∷ trace_rule ∷ program_rule ∷ []
+    option_rule (codes "reference") ∷ option_rule (codes "demo") ∷ trace_rule ∷ program_rule ∷ []
 
 unfoldable pub command : App
 command = fold with_rule (new_app (codes "apd")) arguments
@@ -52,10 +52,10 @@ abbrev pub asked_subject : subjects.Subject → Subject
 asked_subject (subjects.TheVariants.File name) = InFile name.now
 asked_subject (subjects.TheVariants.Tree nodes) = OfTree nodes
 
--- a tree has 1 to 10,000 nodes, and no oracle file
-abbrev pub StandsAlone : Subject → Option (List ℕ) → Type 0
-StandsAlone (InFile name) oracle = ⊤
-StandsAlone (OfTree nodes) oracle = IsNodeCount nodes × (oracle ≡ None)
+-- a tree has 1 to 10,000 nodes, no oracle file and no reference program
+abbrev pub StandsAlone : Subject → Option (List ℕ) → Option (List ℕ) → Type 0
+StandsAlone (InFile name) oracle reference = ⊤
+StandsAlone (OfTree nodes) oracle reference = IsNodeCount nodes × (oracle ≡ None) × (reference ≡ None)
 
 -- what the words ask for
 pub record Options : Type 0 where
@@ -65,10 +65,19 @@ pub record Options : Type 0 where
   pub filter : Filter
   pub strategy : Strategy
   pub oracle : Option (List ℕ)
+  pub reference : Option (List ℕ)
 
 -- what was asked for, as options
 abbrev pub asked_options : Asked → Options
-asked_options a = record { subject = asked_subject a.subject; budget = a.budget; answers = a.answers; filter = a.filter; strategy = a.strategy; oracle = option_map (λ s. s.now) a.oracle }
+asked_options a = record {
+  subject = asked_subject a.subject;
+  budget = a.budget;
+  answers = a.answers;
+  filter = a.filter;
+  strategy = a.strategy;
+  oracle = option_map (λ s. s.now) a.oracle;
+  reference = option_map (λ s. s.now) a.reference;
+}
 
 -- limits on ports and on answers are from 1 to 1,000,000
 pub record AreLimits (ports answers : ℕ) : Type 0 where
@@ -117,28 +126,30 @@ abbrev pub tree_of : Option ℕ → Option Subject
 tree_of None = None
 tree_of (Some nodes) = Some (OfTree nodes)
 
--- what is debugged, by the values that name how many nodes a tree has, an oracle file and a program's file: exactly one of the
--- first and the last, and a tree has no oracle file
-abbrev pub subject_from : Option (List ℕ) → Option (List ℕ) → Option (List ℕ) → Option Subject
-subject_from None oracle None = None
-subject_from None oracle (Some program) = Some (InFile program)
-subject_from (Some demo) None None = tree_of (number_of MOST_NODES demo)
-subject_from (Some demo) None (Some program) = None
-subject_from (Some demo) (Some oracle) program = None
+-- what is debugged, by the values that name how many nodes a tree has, an oracle file, a reference program's file and a program's
+-- file: exactly one of the first and the last, and a tree has neither of the two others
+abbrev pub subject_from : Option (List ℕ) → Option (List ℕ) → Option (List ℕ) → Option (List ℕ) → Option Subject
+subject_from None oracle reference None = None
+subject_from None oracle reference (Some program) = Some (InFile program)
+subject_from (Some demo) None None None = tree_of (number_of MOST_NODES demo)
+subject_from (Some demo) None None (Some program) = None
+subject_from (Some demo) None (Some reference) program = None
+subject_from (Some demo) (Some oracle) reference program = None
 
 -- the options that values give, where each limit keeps its rule, the strategy is known and something is debugged
-abbrev pub options_from : Option ℕ → Option ℕ → Filter → Option Strategy → Option (List ℕ) → Option Subject → Option Options
-options_from (Some budget) (Some answers) filter (Some strategy) oracle (Some subject) =
-    Some (record { subject = subject; budget = budget; answers = answers; filter = filter; strategy = strategy; oracle = oracle })
-options_from budget answers filter strategy oracle subject = None
+abbrev pub options_from : Option ℕ → Option ℕ → Filter → Option Strategy → Option (List ℕ) → Option (List ℕ) → Option Subject → Option Options
+options_from (Some budget) (Some answers) filter (Some strategy) oracle reference (Some subject) =
+    Some (record { subject = subject; budget = budget; answers = answers; filter = filter; strategy = strategy; oracle = oracle; reference = reference })
+options_from budget answers filter strategy oracle reference subject = None
 
 -- the options that clap's matches give
 abbrev pub options_in : List Row → Option Options
 options_in rows =
     let oracle = first_of (codes "oracle") rows in
+    let reference = first_of (codes "reference") rows in
     options_from (limit_or USUAL_BUDGET (first_of (codes "budget") rows)) (limit_or MOST_SHOWN (first_of (codes "answers") rows))
-    (filter_of (first_of (codes "trace") rows)) (strategy_or (first_of (codes "strategy") rows)) oracle
-    (subject_from (first_of (codes "demo") rows) oracle (first_of (codes "program") rows))
+    (filter_of (first_of (codes "trace") rows)) (strategy_or (first_of (codes "strategy") rows)) oracle reference
+    (subject_from (first_of (codes "demo") rows) oracle reference (first_of (codes "program") rows))
 
 -- there is no fault
 abbrev pub is_faultless : Kinds → Bool

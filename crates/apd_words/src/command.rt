@@ -21,15 +21,16 @@ fn with_option<'a>(
     before: Command<'a>,
     name: &'a str,
 ) -> Result<Command<'a>, AllocError>
-    ensures { IfOk result (λ c. app_of c ≡ with_rule (app_of before.entry) (option_rule name.entry.now)) }
+    ensures { IfOk result (λ c. app_of c ≡ with_rule (app_of before.entry)
+        (option_rule name.entry.now)) }
 {
     let argument = option(alloc, name);
     let command = before.arg(argument)?;
     Ok(command)
 }
 
-/// One simple command: two limits, a strategy, the name of an oracle file, how many nodes a demonstration has, a flag and the
-/// name of a file.
+/// One simple command: two limits, a strategy, the names of an oracle file and of a reference program's file, how many nodes a
+/// demonstration has, a flag and the name of a file.
 pub(crate) fn command<'a>(alloc: Global) -> Result<Command<'a>, AllocError>
     ensures { IfOk result (λ c. app_of c ≡ command) }
 {
@@ -38,7 +39,8 @@ pub(crate) fn command<'a>(alloc: Global) -> Result<Command<'a>, AllocError>
     let answers = with_option(alloc, budget, "answers")?;
     let strategy = with_option(alloc, answers, "strategy")?;
     let oracle = with_option(alloc, strategy, "oracle")?;
-    let demo = with_option(alloc, oracle, "demo")?;
+    let reference = with_option(alloc, oracle, "reference")?;
+    let demo = with_option(alloc, reference, "demo")?;
     let flag = Arg::new(alloc, "trace")
         .long("trace")
         .action(ArgAction::SetTrue);

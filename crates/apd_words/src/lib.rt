@@ -6,5 +6,5 @@ mod laws;
 mod limits;
 mod options;
 
-pub use laws::a_tree_stands_alone;
+pub use laws::{a_tree_stands_alone, limits_keep_their_rules};
 pub use options::{Asked, Subject, read_words};

@@ -40,6 +40,8 @@ pub struct Asked<'a> {
     pub strategy: Strategy,
     /// The name of the oracle file, where one is given, which a tree has not.
     pub oracle: Option<&'a str>,
+    /// The name of the reference program's file, where one is given, which a tree has not.
+    pub reference: Option<&'a str>,
 }
 
 /// The filter that a flag's value sets.
@@ -83,19 +85,21 @@ fn tree_of<'a>(word: &str) -> Option<Subject<'a>>
     Some(Subject::Tree(nodes))
 }
 
-/// What is debugged: a tree or a file, exactly one of which is given. A tree has no oracle file.
+/// What is debugged: a tree or a file, exactly one of which is given. A tree has no oracle file and no reference program.
 fn subject_from<'a>(
     demo: Option<&'a str>,
     oracle: Option<&'a str>,
+    reference: Option<&'a str>,
     program: Option<&'a str>,
 ) -> Option<Subject<'a>>
     ensures { let subject = subject_from (option_map (λ s. s.now) demo.entry)
-        (option_map (λ s. s.now) oracle.entry) (option_map (λ s. s.now) program.entry) in
+        (option_map (λ s. s.now) oracle.entry) (option_map (λ s. s.now) reference.entry)
+        (option_map (λ s. s.now) program.entry) in
         MatchOption result (subject ≡ None) (λ s. subject ≡ Some (asked_subject s)) }
 {
-    match (demo, oracle, program) {
-        (None, _, Some(program)) => Some(Subject::File(program)),
-        (Some(demo), None, None) => tree_of(demo),
+    match (demo, oracle, reference, program) {
+        (None, _, _, Some(program)) => Some(Subject::File(program)),
+        (Some(demo), None, None, None) => tree_of(demo),
         _ => None,
     }
 }
@@ -107,12 +111,14 @@ fn options_from<'a>(
     filter: Filter,
     strategy: Option<Strategy>,
     oracle: Option<&'a str>,
+    reference: Option<&'a str>,
     subject: Option<Subject<'a>>,
 ) -> Option<Asked<'a>>
     requires budget { IfSome budget (λ n. (0 < n) × (n ≤ MOST_SHOWN)) }
     requires answers { IfSome answers (λ n. (0 < n) × (n ≤ MOST_SHOWN)) }
     ensures options { let options = options_from budget answers filter strategy
-        (option_map (λ s. s.now) oracle.entry) (option_map asked_subject subject.entry) in
+        (option_map (λ s. s.now) oracle.entry) (option_map (λ s. s.now) reference.entry)
+        (option_map asked_subject subject.entry) in
         MatchOption result (options ≡ None) (λ a. options ≡ Some (asked_options a)) }
     ensures limits { IfSome result (λ a. AreLimits a.budget a.answers) }
 {
@@ -124,6 +130,7 @@ fn options_from<'a>(
             filter,
             strategy,
             oracle,
+            reference,
         }),
         _ => None,
     }
@@ -140,10 +147,13 @@ fn options_in<'a>(matches: &ArgMatches<'a>) -> Option<Asked<'a>>
     let filter = filter_of(matches.get_str("trace"));
     let strategy = strategy_or(matches.get_str("strategy"));
     let oracle = matches.get_str("oracle");
+    let reference = matches.get_str("reference");
     let demo = matches.get_str("demo");
     let program = matches.get_str("program");
-    let subject = subject_from(demo, oracle, program);
-    options_from(budget, answers, filter, strategy, oracle, subject)
+    let subject = subject_from(demo, oracle, reference, program);
+    options_from(
+        budget, answers, filter, strategy, oracle, reference, subject,
+    )
 }
 
 /// The options that the words give, of which the first is the program's own name; none where they break their rules.

@@ -1,4 +1,4 @@
-use Rattle.std.proofs.Common.{refl, length, ℕ, [], sym, ap₂}
+use Rattle.std.proofs.Common.{length, ℕ, [], sym, ap₂}
 use Rattle.std.proofs.lemmas.Result.{err_from_is_err_and}
 use Rattle.std.specs.Prelude.{Err, Ok}
 use Rattle.apd_answers.specs.Dialogue.{Turn, ends}
@@ -32,13 +32,12 @@ keep_wrong-requires-clause-named g c =
 
 pub returns-in_err-label : goal.returns-in_err-label
 returns-in_err-label g c =
-    let atom : Term = (point_of c.in-Some.run'.history c.in-Ok.exit.0).tuple.head in
-    let first = symptom_of atom in
-    let questions = questions_of c.args.nodes c.args.state.now c.in-Some.run' c.in-Ok.exit.0 atom in
-    let found = found_of c.args.nodes c.args.state.now c.in-Some.run' c.in-Ok.exit.0 atom in
+    let first = symptom_of c.in-Some.run' c.in-Ok.exit.0 in
+    let questions = questions_of c.args.nodes c.args.state.now c.in-Some.run' c.in-Ok.exit.0 in
+    let found = found_of c.args.nodes c.args.state.now c.in-Some.run' c.in-Ok.exit.0 in
     let e = err_from_is_err_and c.from_residual.result c.from_residual.ensures.1 in
     rw (e.1, e.2)
-    (Says-as (both first (both questions found)) (λ ops names. blamed ops names c.args.nodes c.args.state.now c.args.state.now.last) _ _ (Err _) (blamed_parts c.args.nodes c.args.state.now c.in-Some.run' c.in-Ok.exit.0 atom c.in-Some.is c.in-Ok.ensures.exit refl)
+    (Says-as (both first (both questions found)) (λ ops names. blamed ops names c.args.nodes c.args.state.now c.args.state.now.last) _ _ (Err _) (blamed_parts c.args.nodes c.args.state.now c.in-Some.run' c.in-Ok.exit.0 c.in-Some.is c.in-Ok.ensures.exit)
     (Says-less first (both questions found) _ _ _ c.in_err-label.ensures.says))
 
 pub diagnose_tree-requires-clause-labelled : goal.diagnose_tree-requires-clause-labelled
@@ -59,14 +58,13 @@ diagnose_tree-requires-clause-known g c =
 
 pub returns-in_err-finding : goal.returns-in_err-finding
 returns-in_err-finding g c =
-    let atom : Term = (point_of c.in-Some.run'.history c.in-Ok.exit.0).tuple.head in
-    let first = symptom_of atom in
-    let questions = questions_of c.args.nodes c.args.state.now c.in-Some.run' c.in-Ok.exit.0 atom in
-    let found = found_of c.args.nodes c.args.state.now c.in-Some.run' c.in-Ok.exit.0 atom in
+    let first = symptom_of c.in-Some.run' c.in-Ok.exit.0 in
+    let questions = questions_of c.args.nodes c.args.state.now c.in-Some.run' c.in-Ok.exit.0 in
+    let found = found_of c.args.nodes c.args.state.now c.in-Some.run' c.in-Ok.exit.0 in
     let e = err_from_is_err_and c.from_residual-in_err-finding.result c.from_residual-in_err-finding.ensures.1 in
     let said = rw (c.in_ok-label.ensures.head, c.in_ok-label.ensures.replies) at c.in_err-finding.ensures.says in
     rw (e.1, e.2)
-    (Says-as (both first (both questions found)) (λ ops names. blamed ops names c.args.nodes c.args.state.now c.args.state.now.last) _ _ (Err _) (blamed_parts c.args.nodes c.args.state.now c.in-Some.run' c.in-Ok.exit.0 atom c.in-Some.is c.in-Ok.ensures.exit refl)
+    (Says-as (both first (both questions found)) (λ ops names. blamed ops names c.args.nodes c.args.state.now c.args.state.now.last) _ _ (Err _) (blamed_parts c.args.nodes c.args.state.now c.in-Some.run' c.in-Ok.exit.0 c.in-Some.is c.in-Ok.ensures.exit)
     (Says-more first (both questions found) _ (spoken g.K.Sink c.keep_wrong.new.log c.keep_wrong.new.out) _ _ (Err _) c.in_ok-label.ensures.says
     (Says-less questions found _ _ _ said)))
 
@@ -81,12 +79,11 @@ say_found-requires-clause-named g c = rw c.in_ok-finding.ensures.says.names c.in
 
 pub returns : goal.returns
 returns g c =
-    let atom : Term = (point_of c.in-Some.run'.history c.in-Ok.exit.0).tuple.head in
-    let first = symptom_of atom in
-    let questions = questions_of c.args.nodes c.args.state.now c.in-Some.run' c.in-Ok.exit.0 atom in
-    let found = found_of c.args.nodes c.args.state.now c.in-Some.run' c.in-Ok.exit.0 atom in
+    let first = symptom_of c.in-Some.run' c.in-Ok.exit.0 in
+    let questions = questions_of c.args.nodes c.args.state.now c.in-Some.run' c.in-Ok.exit.0 in
+    let found = found_of c.args.nodes c.args.state.now c.in-Some.run' c.in-Ok.exit.0 in
     let done = rw (c.in_ok-label.ensures.head, c.in_ok-label.ensures.replies) at c.in_ok-finding.ensures in
-    Says-as (both first (both questions found)) (λ ops names. blamed ops names c.args.nodes c.args.state.now c.args.state.now.last) _ _ c.say_found.result (blamed_parts c.args.nodes c.args.state.now c.in-Some.run' c.in-Ok.exit.0 atom c.in-Some.is c.in-Ok.ensures.exit refl)
+    Says-as (both first (both questions found)) (λ ops names. blamed ops names c.args.nodes c.args.state.now c.args.state.now.last) _ _ c.say_found.result (blamed_parts c.args.nodes c.args.state.now c.in-Some.run' c.in-Ok.exit.0 c.in-Some.is c.in-Ok.ensures.exit)
     (Says-more first (both questions found) _ (spoken g.K.Sink c.keep_wrong.new.log c.keep_wrong.new.out) _ _ c.say_found.result c.in_ok-label.ensures.says
     (Says-more questions found _ (spoken g.K.Sink c.diagnose_tree.new.log c.diagnose_tree.new.sink) _ _ c.say_found.result done.says
     (Says-as (λ ops names. found_said ops names c.args.state.now.program c.args.nodes c.diagnose_tree.new.asked (ends c.in_ok-finding.finding)) found _ _ c.say_found.result

@@ -48,12 +48,12 @@ returns-in_err-keep_missing g c =
     let found = sym (rw (to_z-of_z _ c.args.box_no c.ranges.box_no, c.in-Ok.is) at c.in_ok-found.ensures.found) in
     let e = err_from_is_err_and c.from_residual-in_err-keep_missing.result c.from_residual-in_err-keep_missing.ensures.1 in
     rw (e.1, e.2)
-    (symptom_breaks by_missing c.args.state.now (command.Missing c.args.box_no c.args.atom.now) (Missing c.args.atom.now) (record { box_no = c.in-Ok.found; goal = c.args.atom.now }) (λ ops names. missing_begins ops names c.args.state.now c.args.box_no c.args.atom.now c.in-Some.run' c.in-Ok.found c.in-Some.is found)
+    (symptom_breaks by_missing c.args.state.now (command.Missing c.args.box_no c.args.atom.now) (Missing c.args.atom.now c.in-Ok.found) (record { box_no = c.in-Ok.found; goal = c.args.atom.now }) (λ ops names. missing_begins ops names c.args.state.now c.args.box_no c.args.atom.now c.in-Some.run' c.in-Ok.found c.in-Some.is found)
     (moment g.S.Source g.K.Sink c.args.console.now c.args.input.now c.args.log.now c.args.out.now) (spoken g.K.Sink c.keep_missing.new.log c.keep_missing.new.out) c.requires.ready.sound _ _ c.in_err-keep_missing.ensures.says)
 
 pub diagnose-answer-requires-clause-replies : goal.diagnose-answer-requires-clause-replies
 diagnose-answer-requires-clause-replies g c =
-    rw (c.in_ok-keep_missing.ensures.says.names, c.in_ok-keep_missing.ensures.replies) (told-replies (length c.args.log.now.names) c.args.state.now.replies (Missing c.args.atom.now) c.requires.named c.requires.ready.ready.replies)
+    rw (c.in_ok-keep_missing.ensures.says.names, c.in_ok-keep_missing.ensures.replies) (told-replies (length c.args.log.now.names) c.args.state.now.replies (Missing c.args.atom.now c.in-Ok.found) c.requires.named c.requires.ready.ready.replies)
 
 pub diagnose-answer-requires-clause-recorded : goal.diagnose-answer-requires-clause-recorded
 diagnose-answer-requires-clause-recorded g c = (run_kept (length c.args.log.now.names) c.args.state.now c.in-Some.run' c.in-Some.is c.requires.ready.ready.ready).history.sound
@@ -88,7 +88,7 @@ pub returns : goal.returns
 returns g c =
     let found = sym (rw (to_z-of_z _ c.args.box_no c.ranges.box_no, c.in-Ok.is) at c.in_ok-found.ensures.found) in
     rw c.diagnose-answer.ensures.referee
-    (symptom_leads by_missing c.args.state.now (command.Missing c.args.box_no c.args.atom.now) (Missing c.args.atom.now) (record { box_no = c.in-Ok.found; goal = c.args.atom.now }) (λ ops names. missing_begins ops names c.args.state.now c.args.box_no c.args.atom.now c.in-Some.run' c.in-Ok.found c.in-Some.is found)
+    (symptom_leads by_missing c.args.state.now (command.Missing c.args.box_no c.args.atom.now) (Missing c.args.atom.now c.in-Ok.found) (record { box_no = c.in-Ok.found; goal = c.args.atom.now }) (λ ops names. missing_begins ops names c.args.state.now c.args.box_no c.args.atom.now c.in-Some.run' c.in-Ok.found c.in-Some.is found)
     (moment g.S.Source g.K.Sink c.args.console.now c.args.input.now c.args.log.now c.args.out.now) (spoken g.K.Sink c.keep_missing.new.log c.keep_missing.new.out) c.requires.ready.sound (missing (tuples_of c.args.state.now.program) c.in-Some.run'.history) (rw c.in-Some.is refl)
     _ (moment g.S.Source g.K.Sink c.diagnose-answer.new.console c.diagnose-answer.new.input c.diagnose-answer.new.log c.diagnose-answer.new.out) (spoken g.K.Sink c.conclude.new.log c.conclude.new.out)
     (answered c.diagnose-answer.new.replies c.diagnose-answer.new.asked) c.diagnose-answer.result c.conclude.result c.in_ok-keep_missing.ensures.says

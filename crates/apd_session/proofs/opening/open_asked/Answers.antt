@@ -3,6 +3,9 @@ use Rattle.apd_io.specs.Outside.{Rose}
 use Rattle.apd_words.specs.Words.{asked_options, asked_subject}
 use Rattle.apd_session.specs.Preparing.{HasSubject, IsStop}
 use Rattle.apd_session.proofs.Making.{fault_more, opens_not, opens_text, rose_more}
+use Rattle.apd_session.specs.Loads.{further_files, named}
+use Rattle.apd_session.specs.Roles.{file_of_subject}
+use Rattle.apd_session.proofs.FilesInTurn.{loads_first, loads_then}
 use Rattle.apd_session.proofs.opening.open_asked.Goals as goal
 
 pub returns-in-Ok-clause-opens : goal.returns-in-Ok-clause-opens
@@ -24,3 +27,13 @@ pub returns-in-Err-clause-ready : goal.returns-in-Err-clause-ready
 returns-in-Err-clause-ready g c =
     let stop : (n : ℕ) → IsStop n c.in-Err.stop = rw c.in-Err.is at c.in_ok-text.ensures.stop in
     stop (length c.args.names.now)
+
+pub returns-in-Ok-clause-loads : goal.returns-in-Ok-clause-loads
+returns-in-Ok-clause-loads g c =
+    let o = asked_options c.args.asked in
+    loads_then g.F.Files.step (named (file_of_subject o.subject)) (further_files o) c.args.files.now c.subject_text.new.files c.open_text.new.files c.subject_text.ensures.loads c.open_text.ensures.loads
+
+pub returns-in-Err-clause-loads : goal.returns-in-Err-clause-loads
+returns-in-Err-clause-loads g c =
+    let o = asked_options c.args.asked in
+    loads_first g.F.Files.step (named (file_of_subject o.subject)) (further_files o) c.args.files.now c.subject_text.new.files c.subject_text.ensures.loads

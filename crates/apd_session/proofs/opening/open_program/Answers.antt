@@ -1,23 +1,60 @@
-use Rattle.std.proofs.Common.{◌≤◌, length, None}
-use Rattle.apd_debug.specs.NamedStates.{AreReplies}
-use Rattle.apd_lines.proofs.Growing.{Grown-length}
+use Rattle.std.proofs.Common.{◌≤◌, ◌+◌, arith, length, None}
+use Rattle.apd_lines.proofs.Growing.{Grown-length, Grown-more, grows_to}
 use Rattle.apd_words.specs.Words.{asked_options}
-use Rattle.apd_session.specs.declared.opening.Beginning.{Beginning}
-use Rattle.apd_session.proofs.Loading.{IsBeginning-more, grew_by}
-use Rattle.apd_session.proofs.Making.{start_ready}
+use Rattle.apd_session.proofs.Loading.{grew_both, grew_by}
+use Rattle.apd_session.proofs.Making.{IsLoaded-more, closing_ready, fault_more, opens_knowing, opens_refusing, rose_later, rose_more}
+use Rattle.apd_session.specs.Loads.{named}
+use Rattle.apd_session.proofs.FilesInTurn.{loads_first, loads_then}
 use Rattle.apd_session.proofs.opening.open_program.Goals as goal
 
-pub returns-in-Knows-clause-ready : goal.returns-in-Knows-clause-ready
-returns-in-Knows-clause-ready g c =
+pub open_knowing-requires-clause-loaded : goal.open_knowing-requires-clause-loaded
+open_knowing-requires-clause-loaded g c = IsLoaded-more _ _ c.args.loaded (Grown-length _ _ (grew_by _ _ _ c.prepare.ensures.grows)) c.requires.loaded
+
+pub open_knowing-requires-clause-replies : goal.open_knowing-requires-clause-replies
+open_knowing-requires-clause-replies g c = rw c.in-Knows.is at c.in_ok-statements.ensures.ready
+
+pub open_knowing-requires-clause-standard : goal.open_knowing-requires-clause-standard
+open_knowing-requires-clause-standard g c =
     let more : length c.args.names.now ≤ length c.prepare.new.names = Grown-length _ _ (grew_by _ _ _ c.prepare.ensures.grows) in
-    let b : Beginning = record { clauses = c.count-clauses.result; passed = c.args.loaded.passed; called = c.args.loaded.warnings; statements = c.in-Knows.statements } in
-    let replies : AreReplies (length c.prepare.new.names) c.in-Knows.replies = rw c.in-Knows.is at c.in_ok-statements.ensures.ready in
-    let start =
-    start_ready (length c.args.names.now) (length c.prepare.new.names) (asked_options c.args.asked) c.args.loaded.program c.in-Knows.replies b more c.requires.limits c.requires.standard c.requires.loaded.program c.requires.loaded.passed c.requires.loaded.called replies in
-    rw (c.first_state-state.ensures, c.course_of-course.ensures) (start, c.requires.course)
+    omega (arith, more, c.requires.standard)
+
+pub open_knowing-requires-clause-room : goal.open_knowing-requires-clause-room
+open_knowing-requires-clause-room g c =
+    let most : length c.prepare.new.names ≤ length c.args.names.now + 1048576 = grows_to _ _ _ c.prepare.ensures.grows in
+    omega (arith, most, c.requires.room)
+
+pub returns-in-Knows-clause-grows : goal.returns-in-Knows-clause-grows
+returns-in-Knows-clause-grows g c = grew_both 1048576 1048576 c.args.names.now c.prepare.new.names c.open_knowing.new.names c.prepare.ensures.grows c.open_knowing.ensures.grows
+
+pub returns-in-Knows-clause-opens : goal.returns-in-Knows-clause-opens
+returns-in-Knows-clause-opens g c =
+    opens_knowing _ _ _ _ _ (asked_options c.args.asked) c.args.loaded c.prepare.new.names c.open_knowing.new.names c.in-Knows.statements c.in-Knows.replies c.open_knowing.result
+    (rw c.in-Knows.is at c.in_ok-statements.ensures.prepares) c.prepare.ensures.same (rose_later _ _ _ c.open_knowing.ensures.later) (rose_more _ _ _ c.prepare.ensures.later)
+    (λ n grew. Grown-more c.prepare.new.names c.open_knowing.new.names n (grew_by _ _ _ c.open_knowing.ensures.grows) grew) c.open_knowing.ensures.opens
+
+pub returns-in-Knows-clause-fault : goal.returns-in-Knows-clause-fault
+returns-in-Knows-clause-fault g c = fault_more c.open_knowing.result _ _ _ c.prepare.ensures.later c.open_knowing.ensures.fault
+
+pub returns-in-Refuses-clause-opens : goal.returns-in-Refuses-clause-opens
+returns-in-Refuses-clause-opens g c =
+    rw c.close.ensures (opens_refusing _ _ (asked_options c.args.asked) c.args.loaded c.prepare.new.names c.in-Refuses.stop (rw c.in-Refuses.is at c.in_ok-statements.ensures.prepares))
 
 pub returns-in-Refuses-clause-ready : goal.returns-in-Refuses-clause-ready
 returns-in-Refuses-clause-ready g c =
     let more : length c.args.names.now ≤ length c.prepare.new.names = Grown-length _ _ (grew_by _ _ _ c.prepare.ensures.grows) in
-    let b : Beginning = record { clauses = c.count-clauses.result; passed = c.args.loaded.passed; called = c.args.loaded.warnings; statements = None } in
-    (IsBeginning-more _ _ b more (record { passed = c.requires.loaded.passed; called = c.requires.loaded.called }), rw c.in-Refuses.is at c.in_ok-statements.ensures.ready)
+    rw c.close.ensures (closing_ready _ _ c.args.loaded None more c.requires.loaded, rw c.in-Refuses.is at c.in_ok-statements.ensures.ready)
+
+pub returns-in_err-statements-clause-loads : goal.returns-in_err-statements-clause-loads
+returns-in_err-statements-clause-loads g c =
+    let o = asked_options c.args.asked in
+    loads_first g.F.Files.step (named o.oracle) (named o.reference) c.args.files.now c.prepare.new.files c.prepare.ensures.loads
+
+pub returns-in-Knows-clause-loads : goal.returns-in-Knows-clause-loads
+returns-in-Knows-clause-loads g c =
+    let o = asked_options c.args.asked in
+    loads_then g.F.Files.step (named o.oracle) (named o.reference) c.args.files.now c.prepare.new.files c.open_knowing.new.files c.prepare.ensures.loads c.open_knowing.ensures.loads
+
+pub returns-in-Refuses-clause-loads : goal.returns-in-Refuses-clause-loads
+returns-in-Refuses-clause-loads g c =
+    let o = asked_options c.args.asked in
+    loads_first g.F.Files.step (named o.oracle) (named o.reference) c.args.files.now c.prepare.new.files c.prepare.ensures.loads

@@ -22,7 +22,7 @@ open_program-requires-clause-room g c =
 
 pub returns-in-Ok-clause-grows : goal.returns-in-Ok-clause-grows
 returns-in-Ok-clause-grows g c =
-    grew_both 1048576 1048576 c.args.names.now c.load.new.names c.open_program.new.names (grew_first _ _ _ _ c.requires.size c.bytes.ensures c.load.ensures.grows) c.open_program.ensures.grows
+    grew_both 1048576 2097152 c.args.names.now c.load.new.names c.open_program.new.names (grew_first _ _ _ _ c.requires.size c.bytes.ensures c.load.ensures.grows) c.open_program.ensures.grows
 
 pub returns-in-Ok-clause-opens : goal.returns-in-Ok-clause-opens
 returns-in-Ok-clause-opens g c =

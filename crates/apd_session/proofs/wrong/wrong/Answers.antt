@@ -12,9 +12,8 @@ use Rattle.apd_divide.specs.Recorded.{tree}
 use Rattle.apd_record.specs.Reading.{point_of}
 use Rattle.apd_term.specs.Term.{Term}
 use Rattle.apd_text.specs.declared.entry.Entry.TheVariants.{Symptom}
-use Rattle.apd_text.specs.declared.entry.Told.TheVariants.{Wrong}
 use Rattle.apd_wrong.specs.Wrong.{wrong}
-use Rattle.apd_session.specs.Steps.{by_wrong}
+use Rattle.apd_session.specs.Steps.{by_wrong, wrong_of}
 use Rattle.apd_session.proofs.Symptoms.{head_labelled, head_named, refused_leads, run_named, symptom_breaks, symptom_leads, told-replies, wrong_begins, wrong_none, wrong_refused}
 use Rattle.apd_session.proofs.wrong.wrong.Goals as goal
 
@@ -42,7 +41,7 @@ returns-in_err-label g c =
     let exit = rw (to_z-of_z _ c.args.box_no c.ranges.box_no, to_z-of_z _ c.args.exit c.ranges.exit) at c.in-Ok.ensures.exit in
     let e = err_from_is_err_and c.from_residual.result c.from_residual.ensures.1 in
     rw (e.1, e.2)
-    (symptom_breaks by_wrong c.args.state.now (command.Wrong c.args.box_no c.args.exit) (Wrong atom) (tree c.in-Some.run'.history c.in-Ok.exit.0 atom) (λ ops names. wrong_begins ops names c.args.state.now c.args.box_no c.args.exit c.in-Some.run' c.in-Ok.exit.0 atom c.in-Some.is exit refl)
+    (symptom_breaks by_wrong c.args.state.now (command.Wrong c.args.box_no c.args.exit) (wrong_of c.in-Some.run'.history c.in-Ok.exit.0) (tree c.in-Some.run'.history c.in-Ok.exit.0 atom) (λ ops names. wrong_begins ops names c.args.state.now c.args.box_no c.args.exit c.in-Some.run' c.in-Ok.exit.0 c.in-Some.is exit)
     (moment g.S.Source g.K.Sink c.args.console.now c.args.input.now c.args.log.now c.args.out.now) (spoken g.K.Sink c.keep_wrong.new.log c.keep_wrong.new.out) c.requires.sound _ _ c.in_err-label.ensures.says)
 
 pub diagnose-answer-requires-clause-labelled : goal.diagnose-answer-requires-clause-labelled
@@ -58,7 +57,7 @@ pub diagnose-answer-requires-clause-replies : goal.diagnose-answer-requires-clau
 diagnose-answer-requires-clause-replies g c =
     let atom : Term = (point_of c.in-Some.run'.history c.in-Ok.exit.0).tuple.head in
     let named = head_named (length c.args.log.now.names) c.args.state.now c.in-Some.run' c.in-Ok.exit.0 c.in-Some.is c.requires.ready.ready c.in-Ok.ensures.user in
-    rw (c.in_ok-label.ensures.says.names, c.in_ok-label.ensures.replies) (told-replies (length c.args.log.now.names) c.args.state.now.replies (Wrong atom) named c.requires.ready.replies)
+    rw (c.in_ok-label.ensures.says.names, c.in_ok-label.ensures.replies) (told-replies (length c.args.log.now.names) c.args.state.now.replies (wrong_of c.in-Some.run'.history c.in-Ok.exit.0) named c.requires.ready.replies)
 
 pub diagnose-answer-requires-clause-named : goal.diagnose-answer-requires-clause-named
 diagnose-answer-requires-clause-named g c =
@@ -78,9 +77,9 @@ returns g c =
     let atom : Term = (point_of c.in-Some.run'.history c.in-Ok.exit.0).tuple.head in
     let exit = rw (to_z-of_z _ c.args.box_no c.ranges.box_no, to_z-of_z _ c.args.exit c.ranges.exit) at c.in-Ok.ensures.exit in
     rw c.diagnose-answer.ensures.referee
-    (symptom_leads by_wrong c.args.state.now (command.Wrong c.args.box_no c.args.exit) (Wrong atom) (tree c.in-Some.run'.history c.in-Ok.exit.0 atom) (λ ops names. wrong_begins ops names c.args.state.now c.args.box_no c.args.exit c.in-Some.run' c.in-Ok.exit.0 atom c.in-Some.is exit refl)
+    (symptom_leads by_wrong c.args.state.now (command.Wrong c.args.box_no c.args.exit) (wrong_of c.in-Some.run'.history c.in-Ok.exit.0) (tree c.in-Some.run'.history c.in-Ok.exit.0 atom) (λ ops names. wrong_begins ops names c.args.state.now c.args.box_no c.args.exit c.in-Some.run' c.in-Ok.exit.0 c.in-Some.is exit)
     (moment g.S.Source g.K.Sink c.args.console.now c.args.input.now c.args.log.now c.args.out.now) (spoken g.K.Sink c.keep_wrong.new.log c.keep_wrong.new.out) c.requires.sound (wrong c.args.state.now.strategy) refl
     _ (moment g.S.Source g.K.Sink c.diagnose-answer.new.console c.diagnose-answer.new.input c.diagnose-answer.new.log c.diagnose-answer.new.out) (spoken g.K.Sink c.conclude.new.log c.conclude.new.out)
     (answered c.diagnose-answer.new.replies c.diagnose-answer.new.asked) c.diagnose-answer.result c.conclude.result
-    (Says-ok (one (Symptom (Wrong atom))) _ _ c.in_ok-label.label (tt {0}) c.in_ok-label.ensures.says)
+    (Says-ok (one (Symptom (wrong_of c.in-Some.run'.history c.in-Ok.exit.0))) _ _ c.in_ok-label.label (tt {0}) c.in_ok-label.ensures.says)
     (rw (c.in_ok-label.ensures.head, c.in_ok-label.ensures.replies) at c.diagnose-answer.ensures.diagnoses) c.conclude.ensures c.requires.ready)

@@ -12,6 +12,7 @@ returns c =
     let second = c.in_ok-answers.ensures ∙ ap₂ with_rule first refl in
     let third = c.in_ok-strategy.ensures ∙ ap₂ with_rule second refl in
     let fourth = c.in_ok-oracle.ensures ∙ ap₂ with_rule third refl in
-    let fifth = c.in_ok-demo.ensures ∙ ap₂ with_rule fourth refl in
-    let sixth = c.in_ok-trace.ensures.shape (search rules) ∙ ap₂ with_rule fifth trace in
-    c.in_ok-command.ensures.shape (search rules) ∙ ap₂ with_rule sixth program
+    let fifth = c.in_ok-reference.ensures ∙ ap₂ with_rule fourth refl in
+    let sixth = c.in_ok-demo.ensures ∙ ap₂ with_rule fifth refl in
+    let seventh = c.in_ok-trace.ensures.shape (search rules) ∙ ap₂ with_rule sixth trace in
+    c.in_ok-command.ensures.shape (search rules) ∙ ap₂ with_rule seventh program

@@ -6,9 +6,11 @@ use Rattle.apd_reference.proofs.reference.ReferenceReplier.reply.Goals as goal
 
 pub returns-clause-fits : goal.returns-clause-fits
 returns-clause-fits c =
-    replies_fit (tuples_of c.args.self.now.program) c.args.self.now.budget (program_clauses c.args.self.now.program c.count-count.ensures.program) c.args.self.now.ready.some
+    let all = program_clauses c.self.inside.program c.count-count.ensures.program in
+    rw (← c.self.view_is) (replies_fit (tuples_of c.self.inside.program) c.self.inside.budget all c.self.invariant.some)
 
 pub returns-clause-named : goal.returns-clause-named
 returns-clause-named c =
-    let all = program_clauses c.args.self.now.program c.count-count.ensures.program in
-    replies_named (tuples_of c.args.self.now.program) c.args.self.now.budget all (replies_fit (tuples_of c.args.self.now.program) c.args.self.now.budget all c.args.self.now.ready.some)
+    let all = program_clauses c.self.inside.program c.count-count.ensures.program in
+    rw (← c.self.view_is)
+    (replies_named (tuples_of c.self.inside.program) c.self.inside.budget all (replies_fit (tuples_of c.self.inside.program) c.self.inside.budget all c.self.invariant.some))

@@ -1,0 +1,16 @@
+% Anna's solution.
+report(Marks, report(Mean, Passed, Grades)) :- mean(Marks, Mean), passed(Marks, Passed), graded(Marks, Grades).
+mean(Marks, Mean) :- sum(Marks, S), count(Marks, N), Mean is S // N.
+sum([], 0).
+sum([_ - P|Marks], S) :- sum(Marks, T), S is P + T.
+count([], 0).
+count([_|Marks], N) :- count(Marks, M), N is 1 + M.
+passed([], []).
+passed([Name - P|Marks], [Name|Names]) :- P >= 50, passed(Marks, Names).
+passed([_|Marks], Names) :- passed(Marks, Names).
+graded([], []).
+graded([Name - P|Marks], [Name - G|Grades]) :- grade(P, G), graded(Marks, Grades).
+grade(P, f) :- P < 50.
+grade(P, c) :- P >= 50, P < 70.
+grade(P, b) :- P >= 70, P < 90.
+grade(P, a) :- P >= 90.

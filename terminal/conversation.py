@@ -1,125 +1,145 @@
-"""The conversation: a prompt, the user's lines, and what is done where the program ends or is ended."""
+"""The conversation: a prompt, the user's lines, apdi's own words, and what is done at an end."""
 from __future__ import annotations
 
+import re
+import shlex
+import signal
 import sys
-from typing import List, Optional
+from pathlib import Path
 
-from terminal import completion, manual
-from terminal.own_words import OwnWords
-from terminal.program import Program
-from terminal.prolog import with_full_stop
-from terminal.screen import prompt, say
-from terminal.session import Session
-from terminal.words import Words
+from terminal.completion import begin_editing
+from terminal.manual import explain, rows
+from terminal.page.page import write_page
+from terminal.printed import say
+from terminal.program import Ended
+from terminal.prolog import parts, variables, with_full_stop
+from terminal.session import Session, oracle_text
 
 SHORT = {"y": "yes", "n": "no", "u": "unknown"}
 FINE, BAD_WORDS, NO_MEMORY = 0, 2, 6  # statuses of apd
-BY_SIGNAL = 128  # what a shell adds to a signal's number
-WHAT_HELPS = [
-    "what helps: a smaller query, a smaller --budget, or more memory for the program:",
-    "a run is recorded as it goes, and its record is kept till the next query is run",
-]
-WHAT_NEXT = "again begins anew with the file as it is then; quit ends the conversation"
+OWN_WORD = re.compile(  # its first group names the method that does it
+    r"(?:(answer) +(\d+)(?: +of +goal +(\d+))?|(goals|undo|again|help)"
+    r"|(why)(?: +(\S+?))?|(save|page) +(\S.*?)) *\.?"
+)
+WHAT_NEXT = "apd has ended: again begins anew with the file as it is then, quit ends apdi too"
 
 
-class Conversation:
-    """One conversation, from the first prompt to the status with which it ends."""
+class Conversation(Session):
+    """One conversation, from the first prompt to the exit that says apd's status."""
 
-    def __init__(self, words: List[str]) -> None:
-        self.is_terminal = sys.stdin.isatty() and sys.stdout.isatty()
-        self.is_over = False
-        self.ended: Optional[Program] = None  # the program of which it was said why it ended
-        self.session = Session(Words(words))
-        self.own_words = OwnWords(self.session)
-
-    def run(self) -> int:
-        """Converses until the program or the input ends, and answers the program's status."""
-        if self.is_terminal:
-            completion.begin_editing(self.own_words.first_words(), self.session.words.file or "", self._is_reply)
-        self._look_whether_it_ended()
-        if self.is_terminal and self.session.status is None:
-            say("help lists what can be typed besides what apd reads")
-        while not self.is_over:
-            self._turn()
-        status = self.session.program.close()
-        return status if status >= 0 else BY_SIGNAL - status
-
-    def _is_reply(self) -> bool:
-        return self.session.question is not None
-
-    def _turn(self) -> None:
-        """One line of the user's. Ctrl-C gives up the line, or ends what the line began."""
-        try:
-            line = self._read().strip()
-        except EOFError:
-            self.is_over = True
-            return
-        except KeyboardInterrupt:
-            print()
-            return
-        try:
-            if not self.own_words.obey(line):
-                self._tell(line)
-            self._look_whether_it_ended()
-        except KeyboardInterrupt:
-            print()
-            say("ended by Ctrl-C")
-            if not self.session.is_waiting:
-                self._play_again()
-
-    def _read(self) -> str:
-        if self.is_terminal:
+    def converse(self) -> None:
+        """Takes line by line, until the program or the input ends, or the terminal is closed."""
+        for ending in (signal.SIGHUP, signal.SIGTERM):
+            signal.signal(ending, lambda number, _: sys.exit(128 + number))
+        begin_editing(self)
+        say("help lists what can be typed besides what apd reads")
+        self.is_lost = True  # the program, in the midst of a line; at first there is none
+        while True:
             try:
-                return input(prompt("reply> " if self._is_reply() else "apd> "))
+                self.turn()
+            except Ended:
+                self.say_why_it_ended()
+            except KeyboardInterrupt:
+                print()
             except EOFError:
                 print()
-                raise
-        sys.stdout.flush()
-        line = sys.stdin.readline()
-        if not line:
-            raise EOFError
-        return line
+                sys.exit(self.program.status)
+            except OSError as fault:
+                say(str(fault))
+                self.is_lost = False
 
-    def _tell(self, line: str) -> None:
-        """Tells the program the line, with what it may lack; a program that has ended hears nothing."""
-        if self.session.status is None:
-            self.session.tell(with_full_stop(SHORT.get(line, line) if self._is_reply() else line))
-        elif line.rstrip(".") == "quit":
-            self.is_over = True
+    def turn(self) -> None:
+        """Takes a line of the user's, or what was told before one that was ended in its midst."""
+        if self.is_lost:
+            if self.told:
+                say("begun anew and played up to the line before")
+            self.play(self.told)
+        else:
+            line = input("reply> " if self.question else "apd> ").strip()
+            self.is_lost = True
+            self.obey(line)
+        self.is_lost = False
+
+    def obey(self, line: str) -> None:
+        """Does what one of apdi's own words asks for, or tells the program the line."""
+        own = OWN_WORD.fullmatch(line)
+        if own:
+            does, *given = filter(None, own.groups())
+            getattr(self, does)(*given)
+        elif line and self.program.status is None:
+            self.tell(with_full_stop(SHORT.get(line, line) if self.question else line))
+        elif line in ("quit", "quit."):
+            sys.exit(self.program.status)
         elif line:
-            say("apd has ended", WHAT_NEXT)
-
-    def _look_whether_it_ended(self) -> None:
-        """Says once why the program ended, if it did. At a terminal the conversation goes on where that can help."""
-        status = self.session.status
-        if status is None or self.session.program is self.ended:
-            return
-        self.ended = self.session.program
-        self.is_over = status in (FINE, BAD_WORDS) or not self.is_terminal
-        if status == BAD_WORDS:
-            say(*self.session.words.faults())
-        elif status != FINE:
-            self._say_why_it_ended(status)
-
-    def _say_why_it_ended(self, status: int) -> None:
-        is_memory = status == NO_MEMORY or status < 0
-        how = f"was ended by signal {-status}, which the system sends where memory runs out"
-        if status >= 0:
-            how = f"ended with status {status}: {manual.explain_status(status)}"
-        say(*([] if is_memory else manual.explain(self.session.last)))
-        say(*(f"there is no file {it} that can be read" for it in self.session.words.unreadable()))
-        say(f"apd {how}", *(WHAT_HELPS if is_memory else []))
-        if is_memory and self.is_terminal and self.session.typed:
-            self._play_again()
-        elif self.is_terminal:
             say(WHAT_NEXT)
 
-    def _play_again(self) -> None:
-        """Begins anew and plays what was told before; another Ctrl-C leaves it at the beginning."""
-        say("the session is begun anew and played up to the line before")
-        try:
-            self.session.play(self.session.told)
-        except KeyboardInterrupt:
-            print()
-            say("begun anew without its lines")
-            self.session.play([])
+    def say_why_it_ended(self) -> None:
+        """The conversation goes on where that can help: after want of memory, and by `again`."""
+        status = self.program.status
+        if status in (FINE, BAD_WORDS):
+            say(*(self.words.faults() if status == BAD_WORDS else []))
+            sys.exit(status)
+        is_memory = status == NO_MEMORY or status < 0
+        self.is_lost = is_memory and bool(self.told)
+        say(*explain("" if is_memory else "".join(self.said[-1:])), *self.words.faults())
+        say("apd ended with " + (f"status {status}" if status > 0 else f"signal {-status}"))
+        say(*explain(str(NO_MEMORY if is_memory else status)))
+        if not self.is_lost:
+            say(WHAT_NEXT)
+
+    def answer(self, answer: str, goal: str = "") -> None:
+        """Tells that an answer isn't true, or replies to `covers?` by an answer of the body."""
+        tells = [f"wrong(1, {answer})."]
+        if self.question or len(parts(self.run)) > 1:
+            found = self.goals_seen()[1].items()
+            tells = [line for (at, of), line in found if at == answer and goal in ("", of)]
+        if len(tells) != 1:
+            say(f"{len(tells)} goals have an answer {answer}: answer K of goal N. goals shows all")
+        elif variables(tells[0]):
+            say(f"type a value for each _: {tells[0]}")
+        else:
+            say(tells[0])
+            self.tell(tells[0])
+
+    def goals(self) -> None:
+        """Shows what goals did."""
+        say(*(self.goals_seen()[0] or ["no goal was run yet"]))
+
+    def why(self, name: str = "") -> None:
+        """Explains a name, or what was said last, by the manual; a fault's place is marked."""
+        what = name or "".join(self.said[-1:])
+        place = re.fullmatch(r"E1 syntax: \w+ at byte (\d+)", what)
+        if place:
+            front = self.typed.encode("utf-8", "surrogateescape")[: int(place[1])]
+            say(self.typed, " " * len(front.decode("utf-8", "replace")) + "^")
+        say(*(explain(what) or [f"the manual has nothing of {what or 'it'}"]))
+
+    def undo(self) -> None:
+        """Takes back the last reply or symptom, and what was told behind it."""
+        for at in reversed(range(len(self.told))):
+            if self.told[at].got("reply: ", "symptom: "):
+                lines = " ".join(told.line for told in self.told[at:])
+                say(f"begun anew and played up to here, without {lines}")
+                self.play(self.told[:at])
+                return
+        say("there is no reply to take back")
+
+    def save(self, name: str) -> None:
+        """Adds what is known to an oracle file, or makes one."""
+        file, known = Path(name).expanduser(), self.known()
+        before = file.read_text("utf-8", "surrogateescape") if file.exists() else ""
+        if before and not re.match(r"(?:\s|%.*)*form\(", before):
+            say(f"{name} is no file of replies, and stays as it is")
+        else:
+            file.write_text(oracle_text(before, known), "utf-8", "surrogateescape")
+            reads = f"--oracle {shlex.quote(name)} reads them"
+            say(f"{name} has the {len(known)} statements: {reads}")
+
+    def page(self, name: str) -> None:
+        """Writes a page of the session."""
+        write_page(self, Path(name).expanduser())
+        say(f"{name} is written")
+
+    def help(self) -> None:
+        """Lists apdi's own words."""
+        say(*(text for row in rows() if row.table == "Own word" for text in row.tells))

@@ -1,66 +1,40 @@
-"""The lines that apd prints, as far as apdi reads them: docs/MANUAL.md says what each of them means."""
-from __future__ import annotations
-
+"""The lines that apd prints: how those that are read are made, and how each is shown."""
+import os
 import re
-from typing import List, NamedTuple, Optional
+import sys
 
-from terminal.prolog import parts
+from terminal.prolog import texts_in
 
-PORT = re.compile(r"(\d+) (\d+) (Call|Exit|Redo|Fail): (.*)", re.DOTALL)
-ANSWER = re.compile(r"answer (\d+): (.*)", re.DOTALL)
-QUESTION = re.compile(r"question (\d+): (true|covers|below)\? (.*?)(?: \[(\d+) suspects\])?", re.DOTALL)
-REPLY = re.compile(r"reply: (.*?)(?: \[(\d+) left\])?(?: \(reference\))?", re.DOTALL)
-SYMPTOM = re.compile(r"symptom: (not true|true|no end): (.*)", re.DOTALL)
-REFUSAL = re.compile(r"E\d+ .*", re.DOTALL)
-DIAGNOSIS_ENDS = ("bug: ", "no bug: ", "candidates: ", "unanswered: ")
-
-
-class Question(NamedTuple):
-    """A question: its number, its kind (true, covers or below), what is asked, and how many calls are suspected."""
-
-    number: int
-    kind: str
-    asked: str
-    suspects: Optional[int]
-
-
-class Reply(NamedTuple):
-    """A reply, and how many suspects it left, where that was told."""
-
-    said: str
-    left: Optional[int]
+PORT = re.compile(r"(?P<box>\d+) (?P<depth>\d+) (?P<name>Call|Exit|Redo|Fail): (?P<goal>.*)")
+ANSWER = re.compile(r"answer (?P<number>\d+): (?P<values>.*)")
+QUESTION = re.compile(r"question (\d+): (?P<kind>\w+)\? (?P<asked>.*?)(?: \[(\d+) suspects\])?")
+REPLY = re.compile(r"reply: (.*?)(?: \[(\d+) left\])?(?: \(reference\))?")
+SYMPTOM = re.compile(r"symptom: (not true|true|no end): (.*)")
+STATEMENT = re.compile(r"(?:true|covers|below|trusted)\(.*(?<!,unknown)\) \.$")
+SHADES = {  # by their codes: red, green, yellow, blue, cyan
+    "31": r"bug: |candidates?: |check fails: |end: error |\w+ refused: |\d+ \d+ Fail: ",
+    "32": r"no bug: |answer |check: |\d+ \d+ Exit: ",
+    "33": r"E\d+ |warning: |passed over: |end: budget|unanswered: |\d+ \d+ Redo: ",
+    "34": r"\d+ \d+ Call: ",
+    "36": r"question |symptom: ",
+}
+DIM = "2"
+# At a terminal, unless the user doesn't want any: https://no-color.org
+ON = sys.stdout.isatty() and not os.environ.get("NO_COLOR") and os.environ.get("TERM") != "dumb"
 
 
-def question_in(line: str) -> Optional[Question]:
-    """The question that the line asks."""
-    found = QUESTION.fullmatch(line)
-    if not found:
-        return None
-    return Question(int(found[1]), found[2], found[3], _count(found[4]))
+def show(line: str) -> None:
+    """Shows a line that apd printed, and the texts that stand in it as lists of codes."""
+    _print(line, *(shade for shade, front in SHADES.items() if re.match(front, line)))
+    if not line[:1].isdigit():
+        say(*(f"{codes} is {text}" for codes, text in texts_in(line)))
 
 
-def reply_in(line: str) -> Optional[Reply]:
-    """The reply that the line tells of."""
-    found = REPLY.fullmatch(line)
-    return Reply(found[1], _count(found[2])) if found else None
+def say(*remarks: str) -> None:
+    """Says something of apdi's own, marked as a comment is."""
+    for remark in remarks:
+        _print(f"% {remark}", DIM)
 
 
-def statements_in(line: str, question: Optional[Question]) -> List[str]:
-    """What a reply to the question, or a symptom, states, as clauses of an oracle file: none where nothing is known by
-    it, as by `unknown`, and by a run without end."""
-    reply, symptom = reply_in(line), SYMPTOM.fullmatch(line)
-    if reply and question and reply.said != "unknown":
-        what = f"({question.asked})" if question.kind == "covers" else question.asked
-        return [f"{question.kind}({what}, {reply.said})."]
-    if symptom and symptom[1] != "no end":
-        return [f"true({symptom[2]}, {'yes' if symptom[1] == 'true' else 'no'})."]
-    return []
-
-
-def goals_in(line: str) -> List[str]:
-    """The goals of the line `run: GOALS`; none, where there is no such line."""
-    return parts(line[len("run: ") :]) if line else []
-
-
-def _count(digits: Optional[str]) -> Optional[int]:
-    return None if digits is None else int(digits)
+def _print(text: str, *shade: str) -> None:
+    print(f"\033[{shade[0]}m{text}\033[0m" if ON and shade else text)

@@ -1,103 +1,81 @@
-"""What apdi knows of Prolog's texts: their tokens, where a clause ends, its goals, and lists of codes."""
+"""What apdi knows of Prolog's texts: tokens, where a clause ends, its goals, lists of codes."""
 from __future__ import annotations
 
 import re
-from typing import Iterator, List, NamedTuple, Set, Tuple
+from itertools import groupby
 
 TOKEN = re.compile(
     r"""(?P<layout> \s+ | %[^\n]* | /\*.*?\*/ )
-    | (?P<code> 0'(?: \\x[0-9a-fA-F]+\\ | \\[0-7]+\\ | \\. | '' | . ) )
-    | (?P<number> 0x[0-9a-fA-F]+ | 0o[0-7]+ | 0b[01]+ | [0-9]+ )
-    | (?P<quoted> '(?: \\. | '' | [^'\\] )*' | "(?: \\. | "" | [^"\\] )*" )
-    | (?P<variable> [A-Z_][A-Za-z0-9_]* )
-    | (?P<name> [a-z][A-Za-z0-9_]* )
+    | (?P<character> 0'(?: \\x[0-9a-fA-F]+\\ | \\[0-7]+\\ | \\. | '' | . ) )
+    | (?P<name> [a-z]\w* | '(?: \\. | '' | [^'\\] )*' )
+    | (?P<variable> [A-Z_]\w* )
     | (?P<end> \.(?= \s | % | \Z ) )
-    | (?P<graphic> [-#$&*+./:<=>?@^~\\]+ | [!;] )
-    | (?P<mark> [][(){},|] )
-    | (?P<other> . )""",
-    re.VERBOSE | re.DOTALL,
+    | (?P<graphic> [-#$&*+./:<=>?@^~\\]+ )
+    | (?P<other> \d\w* | "(?: \\. | "" | [^"\\] )*" | . )""",
+    re.VERBOSE | re.DOTALL | re.ASCII,
 )
-LATIN_END = "\u0250"
-CODES = re.compile(r"\[([0-9]+(?:,[0-9]+)+)(\|_[0-9]+)?\]")
+DEEPER = {"(": 1, "[": 1, "{": 1, ")": -1, "]": -1, "}": -1}
+CODES = re.compile(r"\[(\d+(?:,\d+)+)(\|_\d+)?\]")
+LATIN = re.compile(r"(?=.*[^\W\d_])[\t\n -~\u00a1-\u024f]*", re.DOTALL)  # with a letter among them
 
 
-class Token(NamedTuple):
-    """A token of a text, with the place where it begins."""
-
-    kind: str
-    text: str
-    at: int
+def tokens(text: str) -> list[re.Match]:
+    """The tokens of the text, without its layout and comments; `lastgroup` is the kind of one."""
+    return [token for token in TOKEN.finditer(text) if token.lastgroup != "layout"]
 
 
-def tokens(text: str) -> Iterator[Token]:
-    """The tokens of the text, without its layout and comments."""
-    for found in TOKEN.finditer(text):
-        if found.lastgroup and found.lastgroup != "layout":
-            yield Token(found.lastgroup, found.group(), found.start())
+def variables(text: str) -> list[str]:
+    """The variables of the text, each once, in the order in which they first appear."""
+    return list(dict.fromkeys(it.group() for it in tokens(text) if it.lastgroup == "variable"))
 
 
 def with_full_stop(line: str) -> str:
     """The line with the full stop that may be missing behind its last token."""
-    found = list(tokens(line))
-    if not found or found[-1].kind == "end":
+    found = tokens(line)
+    if not found or found[-1].lastgroup == "end":
         return line
-    end = found[-1].at + len(found[-1].text)
-    return line[:end] + (" ." if found[-1].kind == "graphic" else ".") + line[end:]
+    end, stop = found[-1].end(), " ." if found[-1].lastgroup == "graphic" else "."
+    return line[:end] + stop + line[end:]
 
 
-def parts(text: str, mark: str = ",") -> List[str]:
-    """The parts of the text between the marks outside brackets: the goals of a body, the values of an answer. A bracket
-    that closes none of the text ends it."""
+def parts(text: str, mark: str = ",") -> list[str]:
+    """The parts of the text between the marks outside brackets: the goals of a body, the values of
+    an answer. A bracket that closes none of the text ends it."""
     found, begin, depth = [], 0, 0
     for token in tokens(text):
-        if token.kind == "mark" and token.text in "([{":
-            depth += 1
-        elif token.kind == "mark" and token.text in ")]}":
-            depth -= 1
-            if depth < 0:
-                return [*found, text[begin : token.at].strip()]
-        elif token.text == mark and depth == 0:
-            found.append(text[begin : token.at].strip())
-            begin = token.at + len(mark)
+        depth += DEEPER.get(token.group(), 0)
+        if depth < 0 or depth == 0 and token.group() == mark:
+            found.append(text[begin : token.start()].strip())
+            begin = token.end()
+        if depth < 0:
+            return found
     return [*found, text[begin:].strip()]
 
 
-def clauses(text: str) -> Iterator[List[Token]]:
+def clauses(text: str) -> list[list[re.Match]]:
     """The tokens of each clause of the text, without the full stop."""
-    clause: List[Token] = []
-    for token in tokens(text):
-        if token.kind == "end":
-            yield clause
-            clause = []
-        else:
-            clause.append(token)
+    groups = groupby(tokens(text), lambda token: token.lastgroup == "end")
+    return [list(clause) for is_end, clause in groups if not is_end]
 
 
-def predicates(text: str) -> Set[Tuple[str, int]]:
+def predicates(text: str) -> set[tuple[str, int]]:
     """Name and arity of each clause's head, as far as it is a name with arguments."""
     found = set()
-    for clause in clauses(text):
-        if not clause or clause[0].kind not in ("name", "quoted"):
-            continue
-        name, end = clause[0].text, clause[0].at + len(clause[0].text)
-        more = 2 if any(token.text == "-->" for token in clause) else 0
-        if len(clause) > 1 and clause[1].text == "(" and clause[1].at == end:
-            rest = text[end + 1 : clause[-1].at + 1]
-            found.add((name, len(parts(rest)) + more))
-        elif len(clause) == 1 or clause[1].text in (":-", "-->"):
-            found.add((name, more))
+    for name, *rest in clauses(text):
+        marks = [token.group() for token in rest]
+        if name.lastgroup == "name" and marks[:1] in ([], ["("], [":-"], ["-->"]):
+            arguments = parts(text[rest[0].end() : rest[-1].end()]) if marks[:1] == ["("] else []
+            found.add((name.group(), len(arguments) + 2 * ("-->" in marks)))
     return found
 
 
-def texts_in(line: str) -> List[Tuple[str, str]]:
-    """The lists of codes of the line that read as a text of Latin letters, each with that text in double quotes. Of greater
-    numbers most lists are just numbers."""
-    found = []
+def texts_in(line: str) -> list[tuple[str, str]]:
+    """The lists of codes of the line that read as a text of Latin letters, each with that text in
+    double quotes. Of greater numbers most lists are just numbers."""
+    found = {}
     for codes in CODES.finditer(line):
-        characters = [chr(code) if code < 0x110000 else "\0" for code in map(int, codes.group(1).split(","))]
-        text = "".join(characters)
-        is_shown = text.replace("\n", " ").replace("\t", " ").isprintable()
-        if is_shown and any(map(str.isalpha, text)) and max(text) < LATIN_END:
+        text = "".join(chr(int(code) % 0x110000) for code in codes[1].split(","))
+        if LATIN.fullmatch(text):
             shown = text.replace("\n", "\\n").replace("\t", "\\t")
-            found.append((codes.group(), f'"{shown}"' + (codes.group(2) or "")))
-    return list(dict(found).items())
+            found[codes[0]] = f'"{shown}"' + (codes[2] or "")
+    return list(found.items())

@@ -1,4 +1,4 @@
-"""The words of apd's command line, as far as apdi has to know them.
+"""The words of apd's command line, as far as apdi has to know them: the options are the manual's.
 
     python3 -m terminal.words WORD ..
 
@@ -8,80 +8,86 @@ from __future__ import annotations
 
 import os
 import re
+import shutil
 import sys
-from typing import Dict, List, Optional
 
-NAMING = ("--oracle", "--reference", "--check")  # options that name a file
-MOST = {"--budget": 1_000_000, "--answers": 1_000_000, "--demo": 10_000}  # options with a number, which is at most this
-STRATEGIES = ("divide", "single", "top")
-VALUED = (*MOST, "--strategy", *NAMING)
+from terminal.manual import spans_of
+
+# What stands for each option's value in the manual, and `PROGRAM` for a file without an option.
+KINDS = dict(span.partition(" ")[::2] for span in spans_of("Word") if span[:2] == "--")
+KINDS.update({"": "PROGRAM", "--demo": "NODES"})
+# How values are written that name no file, and how that is said.
+VALUES = {
+    "": ("", "none"),
+    "N": (r"0*([1-9]\d{0,5}|1000000)", "a number from 1 to 1,000,000"),
+    "NODES": (r"0*([1-9]\d{0,3}|10000)", "a number from 1 to 10,000"),
+    "NAME": ("divide|single|top", "divide, single or top"),
+}
+# All that may stand beside these.
+BESIDE = {
+    "--demo": ("--budget", "--answers", "--trace", "--strategy"),
+}
 
 
 class Words:
-    """The options, and the file if one is named. A second run has others besides."""
+    """The words as pairs of an option and its value, if it has one."""
 
-    def __init__(self, words: List[str]) -> None:
-        self.given = words
-        self.options: Dict[str, Optional[str]] = {}
-        self.files: List[str] = []
-        self.repeated: List[str] = []
+    def __init__(self, words: list[str]) -> None:
+        self.pairs: list[tuple[str, str | None]] = []
         rest = iter(words)
         for word in rest:
             name, equals, value = word.partition("=")
             if word == "--":
-                self.files += rest
+                self.pairs += [("", file) for file in rest]
             elif word == "-" or not word.startswith("-"):
-                self.files.append(word)
+                self.pairs.append(("", word))
+            elif equals:
+                self.pairs.append((name, value))
             else:
-                name = name if name in VALUED else word
-                self.repeated += [name] * (name in self.options)
-                self.options[name] = None if name not in VALUED else value if equals else next(rest, "")
+                self.pairs.append((word, next(rest, None) if KINDS.get(word) else None))
+        self.file = dict(self.pairs).get("", "")  # the program's
 
-    @property
-    def file(self) -> Optional[str]:
-        """The program's file."""
-        return self.files[-1] if self.files else None
+    def put(self, name: str, value: str) -> None:
+        """Puts an option in the place of what it was."""
+        self.pairs = [(name, value), *(it for it in self.pairs if it[0] != name)]
 
-    def unreadable(self) -> List[str]:
-        """The files that are named and can't be read."""
-        named = [self.file, *(self.options.get(it) for it in NAMING)]
-        return [it for it in named if it and not (os.path.isfile(it) and os.access(it, os.R_OK))]
+    def copied(self, folder: str) -> list[str]:
+        """The words, with copies of the files as they are now: by them a run can be made again."""
+        words = []
+        for name, value in self.pairs:
+            if _names_file(name) and _is_readable(value):
+                value = shutil.copyfile(value, os.path.join(folder, name or "program"))
+            words.append(value if not name else name if value is None else f"{name}={value}")
+        return words
 
-    def having(self, **options: Optional[str]) -> List[str]:
-        """The words with these options: `having(trace=None, answers="20")`."""
-        every = {**self.options, **{f"--{name}": value for name, value in options.items()}}
-        words = [word for name, value in every.items() for word in ([name] if value is None else [name, value])]
-        return words + ([] if self.file is None else ["--", self.file])
+    def faults(self) -> list[str]:
+        """What is wrong with the words, where apd prints its usage line or `read fault` alone: the
+        first fault, since others may come of it."""
+        names = [name for name, _ in self.pairs]
+        found = [f"{name} is no option" for name in names if name not in KINDS]
+        for name, value in self.pairs:
+            written, says = VALUES.get(KINDS.get(name, ""), (".+", "the name of a file"))
+            if not re.fullmatch(written, value or ""):
+                found.append(f"{' '.join(filter(None, (name, value)))}: its value is {says}")
+        found += [f"{it or 'a program'} is there twice" for it in names if names.count(it) > 1]
+        for one in BESIDE.keys() & set(names):
+            others = [it or "a program" for it in names if it not in (one, *BESIDE[one])]
+            found += [f"{one} doesn't go with {other}" for other in others]
+        if not {"", "--demo"} & set(names):
+            found.append("no program is named")
+        lost = [file for name, file in self.pairs if _names_file(name) and not _is_readable(file)]
+        return [*found, *(f"there is no file {file} that can be read" for file in lost)][:1]
 
-    def faults(self) -> List[str]:
-        """What is wrong with the words, where apd prints its usage line and doesn't say."""
-        found = list(filter(None, (_fault(name, value) for name, value in self.options.items())))
-        found += [f"{name} stands there twice" for name in self.repeated]
-        if found:
-            return found
-        if "--demo" in self.options:
-            beside = self.files + ["--oracle"] * ("--oracle" in self.options)
-            return [f"--demo makes its own program, and doesn't go with {it}" for it in beside]
-        if len(self.files) == 1:
-            return []
-        return [f"{' and '.join(self.files)}: there is one program" if self.files else "no program is named"]
+
+def _names_file(option: str) -> bool:
+    return KINDS.get(option, "") not in VALUES
 
 
-def _fault(name: str, value: Optional[str]) -> str:
-    """What is wrong with an option, if anything."""
-    if name not in VALUED:
-        return "" if name == "--trace" else f"{name} is no option"
-    if not value:
-        return f"{name} has no value"
-    if name in MOST and not (re.fullmatch("[0-9]{1,7}", value) and 1 <= int(value) <= MOST[name]):
-        return f"{name} {value}: its value is a number from 1 to {MOST[name]:,}"
-    if name == "--strategy" and value not in STRATEGIES:
-        return f"{name} {value}: its value is {', '.join(STRATEGIES[:-1])} or {STRATEGIES[-1]}"
-    return ""
+def _is_readable(file: str | None) -> bool:
+    return bool(file) and os.path.isfile(file) and os.access(file, os.R_OK)
 
 
 if __name__ == "__main__":
-    faults = Words(sys.argv[1:]).faults()
-    for fault in faults:
+    for fault in Words(sys.argv[1:]).faults():
         print(f"apd: {fault}")
-    sys.exit(2 if faults else 0)
+        sys.exit(2)

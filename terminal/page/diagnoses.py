@@ -4,7 +4,7 @@ from __future__ import annotations
 import re
 from typing import Dict, List, Optional
 
-from terminal.manual import meaning
+from terminal.manual import rows_of
 from terminal.page.boxes import Boxes
 from terminal.page.chain import chain_shown
 from terminal.page.html import code, element, link, mark, prose, text
@@ -49,7 +49,7 @@ def _findings(lines: List[str]) -> str:
     """What was found: the clause, the goal or the call that each line names, and once what such a line means."""
     found, said = [], [""]
     for line in lines:
-        means = meaning(line)
+        means = next((row.says for row in rows_of(line)), "")
         found.append(_found(line, "" if means in said else means))
         said.append(means)
     return "".join(found)

@@ -16,6 +16,22 @@ class Port(NamedTuple):
     goal: str
 
 
+class Question(NamedTuple):
+    """A question: its number, its kind (true, covers or below), what is asked, and how many calls are suspected."""
+
+    number: int
+    kind: str
+    asked: str
+    suspects: Optional[int]
+
+
+class Reply(NamedTuple):
+    """A reply, and how many suspects it left, where that was told."""
+
+    said: str
+    left: Optional[int]
+
+
 @dataclass
 class Run:
     """A run of a query: its ports, as far as they were printed, its answers and its end."""
@@ -30,8 +46,8 @@ class Run:
 class Asked:
     """A question with the reply that it got, if it got one."""
 
-    question: printed.Question
-    reply: Optional[printed.Reply] = None
+    question: Question
+    reply: Optional[Reply] = None
 
     @property
     def said(self) -> str:
@@ -70,6 +86,7 @@ class Note:
 
 
 Part = Union[Run, Diagnosis, Note]
+FINDINGS = ("bug: ", "no bug: ", "candidates: ", "candidate: ", "unanswered: ")
 OF_APDI = ("% ", "apd> ", "reply> ")  # how lines begin in a log of a conversation that apd didn't print
 
 
@@ -100,9 +117,9 @@ def _is_of_run(run: Run, line: str) -> bool:
     port = printed.PORT.fullmatch(line)
     answer = printed.ANSWER.fullmatch(line)
     if port:
-        run.ports.append(Port(int(port[1]), int(port[2]), port[3], port[4]))
+        run.ports.append(Port(int(port["box"]), int(port["depth"]), port["name"], port["goal"]))
     elif answer:
-        run.answers.append(answer[2])
+        run.answers.append(answer["values"])
     elif line.startswith("end: "):
         run.end = line[len("end: ") :]
     else:
@@ -112,14 +129,19 @@ def _is_of_run(run: Run, line: str) -> bool:
 
 def _is_of_diagnosis(diagnosis: Diagnosis, line: str) -> bool:
     """Adds the line to the diagnosis, if it is a part of one. Replies that were refused aren't kept."""
-    question, reply = printed.question_in(line), printed.reply_in(line)
+    question, reply = printed.QUESTION.fullmatch(line), printed.REPLY.fullmatch(line)
     waits = diagnosis.asked and not diagnosis.asked[-1].reply
     if question:
-        diagnosis.asked.append(Asked(question))
+        number, kind, asked, suspects = question.groups()
+        diagnosis.asked.append(Asked(Question(int(number), kind, asked, _count(suspects))))
     elif reply and waits:
-        diagnosis.asked[-1].reply = reply
-    elif line.startswith((*printed.DIAGNOSIS_ENDS, "candidate: ")):
+        diagnosis.asked[-1].reply = Reply(reply[1], _count(reply[2]))
+    elif line.startswith(FINDINGS):
         diagnosis.found.append(line)
     elif not (line.startswith("E15 ") and waits):
         return False
     return True
+
+
+def _count(digits: Optional[str]) -> Optional[int]:
+    return None if digits is None else int(digits)

@@ -1,6 +1,8 @@
 """A page to look at, made of a log: one file of HTML that needs nothing else."""
 from __future__ import annotations
 
+import re
+import sys
 from pathlib import Path
 from typing import Iterable, List, Optional
 
@@ -10,9 +12,35 @@ from terminal.page.html import code, element, link, text
 from terminal.page.log import Diagnosis, Note, Part, Run, parts_of
 from terminal.page.runs import run_section
 from terminal.page.source import source_section
+from terminal.session import Session
 
 HERE = Path(__file__).resolve().parent
 META = '<meta charset="utf-8" /><meta name="viewport" content="width=device-width, initial-scale=1" />'
+
+USAGE = "usage: apdi --page LOG [FILE]"
+BAD_WORDS, READ_FAULT = 2, 4  # as apd says it
+
+
+def print_page(words: List[str]) -> int:
+    """Prints the page of a log, and answers the exit status."""
+    if not 1 <= len(words) <= 2:
+        print(USAGE, file=sys.stderr)
+        return BAD_WORDS
+    log, file = words[0], words[1] if len(words) == 2 else None
+    try:
+        text = sys.stdin.read() if log == "-" else Path(log).read_text(encoding="utf-8", errors="replace")
+        sys.stdout.buffer.write(page_of(text.split("\n"), file).encode("utf-8", "replace"))
+    except OSError as fault:
+        print(f"apdi: {fault.filename}: {fault.strerror}", file=sys.stderr)
+        return READ_FAULT
+    return 0
+
+
+def write_page(session: Session, file: Path) -> None:
+    """Writes the page of a session, for which it is played with its ports."""
+    lines = [told.line for told in session.told if not told.got("trace: ")]
+    log = session.beside(["trace(all).", *lines], re.compile("(?!trace: )"))
+    file.write_text(page_of(log, session.words.file), "utf-8", "replace")
 
 
 def page_of(lines: Iterable[str], file: Optional[str] = None) -> str:

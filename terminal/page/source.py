@@ -34,7 +34,7 @@ def _lines_of_clauses(source: str, begins: Set[int]) -> Set[int]:
     """All lines of the clauses that begin in these lines."""
     found: Set[int] = set()
     ends = [at for at, letter in enumerate(source) if letter == "\n"]
-    for clause in filter(None, clauses(source)):
-        first, last = (bisect(ends, token.at) + 1 for token in (clause[0], clause[-1]))
+    for clause in clauses(source):
+        first, last = (bisect(ends, token.start()) + 1 for token in (clause[0], clause[-1]))
         found |= set(range(first, last + 1)) if first in begins else set()
     return found

@@ -8,7 +8,7 @@ from __future__ import annotations
 from dataclasses import dataclass
 from typing import Dict, List, Optional, Tuple, Union
 
-from terminal.prolog import Token, tokens
+from terminal.prolog import tokens
 
 CLOSES = {"(": ")", "[": "]", "{": "}"}
 
@@ -37,23 +37,23 @@ def is_instance(term: str, pattern: str) -> bool:
 
 
 def _read(text: str) -> Items:
-    return _items(list(tokens(text))[::-1])
+    return _items([token.group() for token in tokens(text)][::-1])
 
 
-def _items(rest: List[Token]) -> Items:
+def _items(rest: List[str]) -> Items:
     """The items up to the next mark that ends a part; the tokens stand last first."""
     found: List[Union[str, Group]] = []
-    while rest and rest[-1].text not in (",", "|", ")", "]", "}"):
+    while rest and rest[-1] not in (",", "|", ")", "]", "}"):
         token = rest.pop()
-        found.append(_group(token.text, rest) if token.text in CLOSES else token.text)
+        found.append(_group(token, rest) if token in CLOSES else token)
     return tuple(found)
 
 
-def _group(bracket: str, rest: List[Token]) -> Group:
+def _group(bracket: str, rest: List[str]) -> Group:
     """The group that this bracket opens."""
     parts, tail = [_items(rest)], None
-    while rest and rest[-1].text != CLOSES[bracket]:
-        if rest.pop().text == "|":
+    while rest and rest[-1] != CLOSES[bracket]:
+        if rest.pop() == "|":
             tail = _items(rest)
         else:
             parts.append(_items(rest))

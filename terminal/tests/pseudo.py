@@ -19,7 +19,7 @@ class Terminal:
 
     def __init__(self, folder: str, words: List[str], program: str, **environment: str) -> None:
         given = {name: value for name, value in os.environ.items() if name not in ("NO_COLOR", "INPUTRC")}
-        given.update({"HOME": folder, "TERM": "dumb", "APD": program, **environment})
+        given.update({"HOME": folder, "TMPDIR": folder, "TERM": "dumb", "APD": program, **environment})
         self.shown = ""
         self.seen = 0
         self.child, self.screen = pty.fork()

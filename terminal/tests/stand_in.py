@@ -17,6 +17,14 @@ SAYS = {
     "quit.": ["unanswered: stopped"],
 }
 
+STATES = {
+    "wrong(1, 1).": "true(p(1),no) .",
+    "yes.": "true(q(1),yes) .",
+    "no.": "true(r([104,105],1),no) .",
+    "unknown.": "true(q(1),unknown) .",
+}
+known = ["form(2) ."]
+
 if "--bugdet" in sys.argv:
     print("usage: apd ..")
     sys.exit(2)
@@ -26,7 +34,8 @@ if "refused.pl" in sys.argv:
 print("loaded: 3 clauses", flush=True)
 for line in sys.stdin:
     line = line.rstrip("\n")
-    for said in SAYS.get(line, ["E3 not a command"] if line else []):
+    known += [STATES[line]] if line in STATES else []
+    for said in known if line == "known." else SAYS.get(line, ["E3 not a command"] if line else []):
         print(said, flush=True)
     if line == "?- forever.":
         time.sleep(60)

@@ -38,14 +38,16 @@ class Conversations(unittest.TestCase):
         user.converse("loaded: 5 clauses", "apd> ?- isort([2,1,3], X)", "answer 1: X = [3,1,2]", "apd> answer 1")
         user.converse("% wrong(1, 1).", "question 1: true? isort([3],[3]) [9 suspects]", "reply> y", "[6 left]")
         user.converse("reply> maybe", "E15 bad reply: not a reply", "reply> why", "is no reply to this question")
-        user.converse("reply> y", "question 3", "reply> undo", "without yes.", "question 2", "reply> n", "question 3")
+        user.converse("reply> y", "question 3", "reply> ")
+        wrong, right = "insert(X, [Y|Ys], [Y|Zs]) :- insert", "insert(X, [Y|Ys], [Y|Zs]) :- Y < X, insert"
+        file.write_text(file.read_text().replace(wrong, right))  # what is played until `again` is as it was
+        user.type("undo")
+        user.converse("without yes.", "question 2", "reply> n", "question 3")
         user.converse("reply> yes", "question 4", "reply> no", "bug: wrong instance of clause 3, line 6")
         user.converse("apd> save sort.replies", "5 statements", "apd> page sort.html", "sort.html is written", "apd> ")
         self.assertIn("clause 3, line 6", (self.folder / "sort.html").read_text())
-        wrong, right = "insert(X, [Y|Ys], [Y|Zs]) :- insert", "insert(X, [Y|Ys], [Y|Zs]) :- Y < X, insert"
-        file.write_text(file.read_text().replace(wrong, right))
         user.type("again")
-        user.converse("5 statements kept", "oracle: 5 statements", "answer 1: X = [1,2,3]", "apd> quit")
+        user.converse("oracle: 5 statements", "% ?- isort([2,1,3], X).", "answer 1: X = [1,2,3]", "apd> quit")
         self.assertEqual(user.leave(), 0)
 
     def test_the_conversation_of_the_manual(self) -> None:
@@ -59,21 +61,26 @@ class Conversations(unittest.TestCase):
 
     def test_an_answer_of_a_query_of_several_goals(self) -> None:
         user = self.at_terminal(str(BUGGY / "tree.pl"))
-        user.converse("apd> ?- tree([2,1,3], T), numbers(T, Ns).", "apd> answer 1", "the query has 2 goals")
-        user.converse("apd> goals", "goal 1, box 1: tree", "goal 2, box 15: numbers", "exit 1: numbers")
+        user.converse("apd> ?- tree([2,1,3], T), numbers(T, Ns).", "apd> answer 1", "2 goals have an answer 1")
+        user.converse("apd> goals", "1 1 Call: tree", "15 1 Call: numbers", "15 1 Exit: numbers")
         user.converse("apd> answer 1 of goal 2", "wrong(15, 1).", "question 1: true? numbers(node(leaf,2,leaf),[2])")
 
-    def test_what_contradicts_is_told(self) -> None:
-        user = self.at_terminal("--answers", "1", str(BUGGY / "isort.pl"))
-        user.converse("apd> ?- isort([2,1,3], X)", "apd> answer 1.", "question 1", "reply> y", "question 2", "reply> y", "question 3")
-        user.converse("reply> stop", "apd> ?- isort([1,3], X)", "apd> answer 1", "symptom: not true: isort([1,3],[3,1])")
-        user.converse("% this contradicts what was said before: true(isort([1,3],[3,1]), yes).", "reply> stop")
+    def test_a_reference_program_replies(self) -> None:
+        text = self.copy("isort.pl").read_text()
+        (self.folder / "right.pl").write_text(text.replace(":- insert(X, Ys", ":- Y < X, insert(X, Ys"))
+        user = self.at_terminal("--answers", "1", "--reference", "right.pl", "isort.pl")
+        user.converse("reference: 5 clauses", "apd> ?- isort([2,1,3], X).", "apd> answer 1", "[6 left] (reference)")
+        user.converse("bug: wrong instance of clause 3", "apd> save known", "5 statements", "apd> undo")
+        user.converse("without wrong(1, 1).", "apd> why --reference", "is asked before you", "apd> ")
+
+    def test_what_the_manual_has_nothing_of(self) -> None:
+        user = self.at_terminal(str(BUGGY / "isort.pl"))
         user.converse("apd> why foo", "% the manual has nothing of foo", "apd> help.", "answer K of goal N", "apd> ")
 
     def test_a_reply_to_covers_by_an_answer_of_the_program(self) -> None:
         user = self.at_terminal(str(BUGGY / "family.pl"))
         user.converse("apd> ?- grandmother(ann, dora)", "apd> missing(1, grandmother(ann, dora))", "question 1")
-        user.converse("reply> goals", "mother(ann,_1)", "answer 2: _1 = beth", "reply> answer 2", "yes([beth]).")
+        user.converse("reply> goals", "mother(ann,_1)", "answer 2: yes([beth]).", "reply> answer 2", "yes([beth]).")
         user.converse("reply: yes([beth])", "bug: uncovered goal: parent(beth,dora)", "apd> ")
 
     def test_a_program_that_is_refused_can_be_mended(self) -> None:
@@ -111,15 +118,12 @@ class Conversations(unittest.TestCase):
         user.keys("save iso" + TAB + "\n")
         user.converse("save isort.pl", "stays as it is", "apd> ")
 
-    def test_through_pipes_it_is_as_apd_with_short_replies(self) -> None:
-        typed = "?- isort([2,1,3], X)\nanswer 1\ny\nn\ny\nn\n"
-        words = [str(TOP / "apdi"), "--answers", "1", str(BUGGY / "isort.pl")]
-        ran = subprocess.run(words, input=typed, stdout=subprocess.PIPE, text=True)
-        said = [line for line in ran.stdout.split("\n") if not line.startswith("% ")]
-        self.assertEqual((said[-2][:32], ran.returncode), ("bug: wrong instance of clause 3,", 0))
-        ran = subprocess.run([str(TOP / "apdi"), "no-such-file"], input="", stdout=subprocess.PIPE, text=True)
-        self.assertEqual(ran.returncode, 4)
-        self.assertIn("there is no file no-such-file that can be read", ran.stdout)
+    def test_where_it_is_not_at_a_terminal_it_is_apd(self) -> None:
+        for words in (["--answers", "1", str(BUGGY / "isort.pl")], ["no-such-file"]):
+            typed = "?- isort([2,1,3], X).\nwrong(1, 1).\nyes.\nknown.\n"
+            runs = ([str(TOP / "apdi"), *words], [program_file() or "", *words])
+            printed = [subprocess.run(it, input=typed, stdout=subprocess.PIPE, text=True) for it in runs]
+            self.assertEqual(*((it.stdout, it.returncode) for it in printed))
 
 
 if __name__ == "__main__":

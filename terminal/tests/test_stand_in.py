@@ -1,6 +1,8 @@
 """Conversations with a stand-in for the program: Ctrl-C, want of memory, short replies, replies that are saved."""
 from __future__ import annotations
 
+import os
+import signal
 import tempfile
 import time
 import unittest
@@ -29,8 +31,8 @@ class StandIn(unittest.TestCase):
         user.converse("apd> ?- p(X)", "answer 1", "apd> wrong(1, 1)", "reply> y", "question 2", "reply> stop")
         user.converse("E3", "reply> n", "bug:", "apd> ?- forever", "run: forever")
         user.keys(CTRL_C)
-        user.converse("ended by Ctrl-C", "begun anew", "apd> save kept", "3 statements", "apd> ")
-        kept = ["form(1).", "true(p(1), no).", "true(q(1), yes).", "true(r([104,105],1), no).", ""]
+        user.converse("begun anew", "apd> save kept", "3 statements", "apd> ")
+        kept = ["form(2).", "true(p(1),no) .", "true(q(1),yes) .", "true(r([104,105],1),no) .", ""]
         self.assertEqual((self.folder / "kept").read_text().split("\n"), kept)
 
     def test_ctrl_c_at_the_prompt_gives_up_the_line(self) -> None:
@@ -43,6 +45,14 @@ class StandIn(unittest.TestCase):
         user.converse("apd> ?- p(X)", "answer 1", "apd> quit")
         self.assertEqual(user.leave(), 0)
 
+    def test_a_terminal_that_is_closed_ends_a_run_too(self) -> None:
+        (self.folder / "p.pl").write_text("p(1).\n")
+        user = self.at_terminal("p.pl")
+        user.converse("apd> ?- forever", "run: forever")
+        os.kill(user.child, signal.SIGHUP)
+        self.assertEqual(user.leave(), 128 + signal.SIGHUP)
+        self.assertEqual(list(self.folder.glob("apdi-*")), [])
+
     def test_want_of_memory_is_said_and_the_session_goes_on(self) -> None:
         user = self.at_terminal("p.pl")
         user.converse("apd> ?- p(X).", "answer 1", "apd> ?- greedy.", "run: greedy", "there was no memory", "--budget")
@@ -54,7 +64,7 @@ class StandIn(unittest.TestCase):
         user = self.at_terminal("p.pl")
         user.converse("apd> ?- p(X).", "apd> answer 1", "reply> u", "reply: unknown", '[104,105] is "hi"')
         user.converse("reply> save f", "1 statements", "reply> ")
-        self.assertEqual((self.folder / "f").read_text(), "form(1).\ntrue(p(1), no).\n")
+        self.assertEqual((self.folder / "f").read_text(), "form(2).\ntrue(p(1),no) .\n")
 
     def test_undo_takes_back_the_last_reply_and_then_the_symptom(self) -> None:
         user = self.at_terminal("p.pl")

@@ -22,6 +22,8 @@ LINES = {
     "question 1: true? p(a) [3 suspects]": ["every instance of the atom"],
     "question 2: true? p(a)": ["every instance of the atom"],
     "reply: no [2 left]": ["your reply"],
+    "reply: no [2 left] (reference)": ["the reference program's reply"],
+    "reference: 5 clauses": ["the reference program is loaded"],
     "bug: wrong instance of clause 1, line 1: q(1)": ["the head isn't"],
     "warning: no clauses for edge/2": ["a predicate that has none"],
 }
@@ -41,10 +43,9 @@ class Texts(unittest.TestCase):
         faults = set(re.findall(r"^\| `([A-Z][a-z]\w+)", text, re.MULTILINE))
         self.assertGreaterEqual(len(refusals), 15)
         self.assertGreaterEqual(len(faults), 35)
-        for name in refusals | faults | {"wrong", "loop", "--budget"}:
-            self.assertTrue(manual.explain_name(name), name)
-        for status in range(10):
-            self.assertTrue(manual.explain_status(status), status)
+        statuses = {str(status) for status in range(11)}
+        for name in refusals | faults | statuses | {"wrong", "loop", "known", "--budget", "?-"}:
+            self.assertTrue(manual.explain(name), name)
 
     def test_a_missing_full_stop_is_added_where_the_clause_ends(self) -> None:
         same = ["loop.", "", "% a comment", "?- p. % all", "?- X = a. /* so */"]
@@ -69,25 +70,30 @@ class Texts(unittest.TestCase):
 
     def test_a_file_of_replies_keeps_what_it_has(self) -> None:
         known = ["true(p(1), yes).", "true(q, no)."]
-        self.assertEqual(oracle_text("", known), "form(1).\ntrue(p(1), yes).\ntrue(q, no).\n")
+        self.assertEqual(oracle_text("", known), "form(2).\ntrue(p(1), yes).\ntrue(q, no).\n")
         before = "% mine\nform(1).\ntrue(q, no).\n"
-        self.assertEqual(oracle_text(before, known), before + "true(p(1), yes).\n")
+        after = "% mine\nform(2).\ntrue(q, no).\ntrue(p(1), yes).\n"
+        self.assertEqual(oracle_text(before, known), after)
 
     def test_what_is_wrong_with_words(self) -> None:
         for words, wanted in {
-            "--budget 5 --answers=1000000 --strategy top --trace p.pl --oracle f": [],
-            "--trace --demo 10000": [],
-            "-- --trace": [],
-            "": ["no program is named"],
-            "a.pl b.pl": ["a.pl and b.pl: there is one program"],
-            "--bugdet 5 p.pl": ["--bugdet is no option"],
-            "--budget=10k p.pl": ["--budget 10k: its value is a number from 1 to 1,000,000"],
-            "p.pl --answers": ["--answers has no value"],
-            "--strategy halve p.pl": ["--strategy halve: its value is divide, single or top"],
-            "--trace p.pl --trace": ["--trace stands there twice"],
-            "--demo 5 p.pl": ["--demo makes its own program, and doesn't go with p.pl"],
+            "--budget 5 --answers=1000000 --strategy top --trace apdi --oracle apd": "",
+            "--reference=apd apdi": "",
+            "--trace --demo 10000": "",
+            "-- --trace": "there is no file --trace that can be read",
+            "apdi --oracle terminal": "there is no file terminal that can be read",
+            "": "no program is named",
+            "a.pl b.pl": "a program is there twice",
+            "--bugdet 5 p.pl": "--bugdet is no option",
+            "--budget=10k p.pl": "--budget 10k: its value is a number from 1 to 1,000,000",
+            "--demo 10001": "--demo 10001: its value is a number from 1 to 10,000",
+            "p.pl --answers": "--answers: its value is a number from 1 to 1,000,000",
+            "--strategy halve p.pl": "--strategy halve: its value is divide, single or top",
+            "--trace p.pl --trace": "--trace is there twice",
+            "--demo 5 p.pl": "--demo doesn't go with a program",
+            "--demo 5 --reference apd": "--demo doesn't go with --reference",
         }.items():
-            self.assertEqual(Words(words.split()).faults(), wanted, words)
+            self.assertEqual("".join(Words(words.split()).faults()), wanted, words)
 
     def test_instances_by_their_texts(self) -> None:
         yes = [("app([2],[9],[2,9])", "app([2],_1,[2|_1])"), ("p([1])", "p([_1|_2])"), ("p(b * c + a)", "p(_1 + a)")]

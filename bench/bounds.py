@@ -370,6 +370,14 @@ def diagnoses(bench):
 
     bench.measured([("the first diagnosis of a run of 100,000 ports", "ms", 50)], first)
 
+    def trusted():
+        replies = bench.file("trusted.pl", "form(2).\ntrusted(q/1).\n")
+        chain = "p(0).\np(N) :- N > 0, M is N - 1, q(N), p(M).\nq(_).\n"
+        times = bench.dialogue(chain, "?- p(5000).", ["wrong(1, 1)."], words + ["--oracle", replies])
+        return [1000 * times[1]]
+
+    bench.measured([("a diagnosis of 10,000 suspects, half of them trusted: first question", "ms", 50)], trusted)
+
     def part():
         times = bench.dialogue(source, f"?- q(X), {choices}, fail.", ["wrong(1, 1)."], ["--budget", "1000000"])
         return [times[1] / times[0]]
@@ -384,6 +392,44 @@ def diagnoses(bench):
     bench.measured([("a printed port, more than one that isn't", "ns", 500)], printed)
 
 
+def references(bench):
+    count = "c(0).\nc(N) :- N > 0, M is N - 1, c(M).\n"
+    right = count + "p(_) :- c(11).\nq(_) :- c(11).\n" + "".join(f"f({i}).\n" for i in range(996))
+    source = "p(0).\np(N) :- N > 0, M is N - 1, q(N), p(M).\nq(_).\n"
+    words = ["--strategy", "single", "--answers", "1", "--budget", "1000000"]
+    told = ["?- p(1000).", "wrong(1,1)."]
+
+    def reply():
+        file = bench.file("right.pl", right)
+        mine, _, _ = bench.session(source, told + ["yes."] * 2000, words)
+        whole, _, out = bench.session(source, told, words + ["--reference", file])
+        replies = out.count("(reference)")
+        if not replies:
+            raise Cut
+        query = ["?- q(1)."] * 2000
+        bare, _, _ = bench.session(right, query, ["--budget", "1"])
+        runs, _, out = bench.session(right, query)
+        print(f"{replies} replies of a reference, {ports(out)} ports each")
+        return [1000 * ((whole - mine) / replies - (runs - bare) / len(query))]
+
+    bench.measured([("a reply of a reference of 1,000 clauses, more than its run", "ms", 0.1)], reply)
+
+    def starts():
+        lines = "".join(f"fact({i}, [a,b,c,d,e,f,g,h,i,j,k,l,m,n,o,p,q,r]).\n" for i in range(1, 19900))
+        return [bench.session("q.\n", [], ["--reference", bench.file("right.pl", lines)])[0]]
+
+    bench.measured([("a session with a reference of 1 MB starts", "s", 0.2)], starts)
+
+    def silent():
+        endless = bench.file("endless.pl", "q(X) :- q(X).\n")
+        asked = ["r(X) :- q(X).\nq(1).\n", ["?- r(1).", "wrong(1,1)."], ["--reference", endless]]
+        took, _, _ = bench.session(*asked)
+        run, _, _ = bench.session("q(X) :- q(X).\n", ["?- q(1)."])
+        return [took / run]
+
+    bench.measured([("a question without a reply of a reference, times a run of 100,000 ports", "", 2)], silent)
+
+
 def main():
     words = sys.argv[1:]
     only = ""
@@ -395,7 +441,7 @@ def main():
         words = [str(TOP / "crates" / "apd" / "out" / "apd")]
     with tempfile.TemporaryDirectory() as folder:
         bench = Bench(folder, words[0], words[1] if len(words) > 1 else None, only)
-        for part in (beside_swipl, growing, facts, tables, diagnoses):
+        for part in (beside_swipl, growing, facts, tables, diagnoses, references):
             part(bench)
     sys.exit(0 if bench.met else 1)
 

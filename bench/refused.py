@@ -70,13 +70,17 @@ true(insert(1,[3],[3,1]), no).
 
 SORTED = "?- isort([2,1,3], X).\nwrong(1, 1).\n"
 
-# What is tried: its name, the words, the program, the oracle file, and the lines.
+RIGHT = SORT.replace("[Y|Zs]) :- insert", "[Y|Zs]) :- Y < X, insert")
+
+# What is tried: its name, the words, the program, the file that the words name besides, and the lines.
 SESSIONS = [
     ("the trace of facts", "--trace p", "q(1).\nq(2).\n", "", "?- q(X).\n"),
     ("a wrong answer", "--answers 1 p", SORT, "", SORTED + "yes.\nno.\nyes.\nno.\n"),
+    ("candidates, and what is known", "--answers 1 p", SORT, "", SORTED + "yes.\nno.\nyes.\nunknown.\nknown.\n"),
     ("a missing answer", "p", "r :- s(X), t(X).\ns(X).\ns(1).\nt(2) :- fail.\n", "", "?- r.\nmissing(1, r).\nyes([1]).\n"),
     ("a run that doesn't end", "--budget 10 p", "c(N) :- M is N + 1, c(M).\n", "", "?- c(0).\nloop.\nno.\nno.\n"),
     ("an oracle file", "--answers 1 --oracle o p", SORT, REPLIES, SORTED),
+    ("a reference", "--answers 1 --reference o p", SORT, RIGHT, SORTED),
     ("a demonstration", "--demo 7", "", "", ""),
 ]
 
@@ -121,9 +125,9 @@ def way_of(ended, whole):
 
 def tried(trial, session):
     """How often a session ended in which way."""
-    name, words, program, replies, lines = session
+    name, words, program, other, lines = session
     trial.folder.joinpath("p").write_text(program)
-    trial.folder.joinpath("o").write_text(replies)
+    trial.folder.joinpath("o").write_text(other)
     whole, count = trial.run(words, lines, 0)
     ways = Counter()
     for refused in range(1, count + 1):

@@ -2,9 +2,9 @@
 from __future__ import annotations
 
 import re
+from collections import namedtuple
 from functools import lru_cache
 from os.path import commonprefix
-from typing import NamedTuple
 
 from terminal.program import TOP
 
@@ -15,13 +15,9 @@ NUMBER = re.compile(r"\b(?:\d+|[A-Z])\b")  # in a line, and what stands for it i
 FAULTS = ("Fault", "Cause", "Error", "Reason")  # tables of what a line names
 
 
-class Row(NamedTuple):
-    """A row of a table."""
-
-    table: str  # what the first column is called
-    spans: list[str]  # the code in that column
-    says: str  # the second column
-    tells: list[str]  # all columns, to be read
+# A row of a table: what the first column is called, the code in it, the second column, and all of
+# them, to be read.
+Row = namedtuple("Row", "table spans says tells")
 
 
 @lru_cache(maxsize=None)

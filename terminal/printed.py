@@ -5,20 +5,15 @@ import sys
 
 from terminal.prolog import texts_in
 
-PORT = re.compile(r"(?P<box>\d+) (?P<depth>\d+) (?P<name>Call|Exit|Redo|Fail): (?P<goal>.*)")
-ANSWER = re.compile(r"answer (?P<number>\d+): (?P<values>.*)")
 QUESTION = re.compile(r"question (\d+): (?P<kind>\w+)\? (?P<asked>.*?)(?: \[(\d+) suspects\])?")
-REPLY = re.compile(r"reply: (.*?)(?: \[(\d+) left\])?(?: \(reference\))?")
-SYMPTOM = re.compile(r"symptom: (not true|true|no end): (.*)")
-STATEMENT = re.compile(r"(?:true|covers|below|trusted)\(.*(?<!,unknown)\) \.$")
-SHADES = {  # by their codes: red, green, yellow, blue, cyan
+STATEMENT = r"(?:true|covers|below|trusted)\(.*(?<!,unknown)\) \.$"
+SHADES = {  # by their codes: red, green, yellow, blue, cyan; 2 is dim
     "31": r"bug: |candidates?: |check fails: |end: error |\w+ refused: |\d+ \d+ Fail: ",
     "32": r"no bug: |answer |check: |\d+ \d+ Exit: ",
     "33": r"E\d+ |warning: |passed over: |end: budget|unanswered: |\d+ \d+ Redo: ",
     "34": r"\d+ \d+ Call: ",
     "36": r"question |symptom: ",
 }
-DIM = "2"
 # At a terminal, unless the user doesn't want any: https://no-color.org
 ON = sys.stdout.isatty() and not os.environ.get("NO_COLOR") and os.environ.get("TERM") != "dumb"
 
@@ -33,7 +28,7 @@ def show(line: str) -> None:
 def say(*remarks: str) -> None:
     """Says something of apdi's own, marked as a comment is."""
     for remark in remarks:
-        _print(f"% {remark}", DIM)
+        _print(f"% {remark}", "2")
 
 
 def _print(text: str, *shade: str) -> None:

@@ -1,17 +1,19 @@
 """apd as a child: a line is told to it, and all that it says to the line is heard."""
 from __future__ import annotations
 
-import fcntl
 import os
-import select
-import termios
+from contextlib import suppress
 from pathlib import Path
 from subprocess import PIPE, Popen
-from typing import Callable
+from typing import Iterator
 from weakref import finalize
 
+from terminal.prolog import tokens
+
 TOP = Path(__file__).resolve().parent.parent
-PAUSE = 0.001  # seconds between two looks at the pipes
+CODING = {"encoding": "utf-8", "errors": "surrogateescape"}
+# How a clause of a full stop alone is refused, in a command's place and in a reply's.
+REFUSALS = ("E1 syntax: NoTerm at byte 0", "E15 bad reply: syntax")
 
 
 def program_file() -> str | None:
@@ -20,52 +22,27 @@ def program_file() -> str | None:
     return named if os.access(named, os.X_OK) else None
 
 
-class Ended(Exception):
-    """The program has ended."""
-
-
 class Program:
-    """A running apd, which hands each line that it prints to `said`.
+    """A running apd. It ends where nothing refers to it any more.
 
-    What there is to say to a line is printed before more of the input is taken. So an empty line,
-    to which nothing is said, is sent behind each line as soon as that is taken; when the empty
-    line is taken too, all was heard. So nothing has to be known here of what is printed.
+    What there is to say to a line is printed before more of the input is read. So a full stop is
+    told behind each line: when that is refused, all was heard that there is to say to the line. A
+    line can be refused alike itself; so where it has a token, its own is the first that is said.
     """
 
-    def __init__(self, words: list[str], said: Callable[[str], object]) -> None:
-        self.said = said
+    def __init__(self, words: list[str]) -> None:
         self.status: int | None = None  # with which it ended; below 0 by a signal
-        self.rest = b""
-        taken, given = os.pipe()
-        self.taken, self.given = open(taken, "rb", 0), open(given, "wb", 0)
         command = [program_file() or "apd", *words]
         # A session of its own, so that Ctrl-C at the terminal reaches the conversation alone.
-        self.child = Popen(command, stdin=self.taken, stdout=PIPE, start_new_session=True)
-        finalize(self, self.child.kill)  # it doesn't go on where apdi has ended
+        self.child = Popen(command, stdin=PIPE, stdout=PIPE, start_new_session=True, **CODING)
+        finalize(self, self.child.kill)
 
-    def tell(self, line: str) -> None:
-        """Tells the line, and hears all that is said to it."""
-        for told in (line, ""):
-            self.given.write(told.encode("utf-8", "surrogateescape") + b"\n")
-            while any(fcntl.ioctl(self.taken, termios.FIONREAD, bytes(4))):  # it isn't taken yet
-                self._hear(PAUSE)
-        while self._hear(0):
-            pass
-
-    def close(self) -> None:
-        """Ends the program in the midst of what it does."""
-        self.child.kill()
-        self.child.wait()
-
-    def _hear(self, pause: float) -> bool:
-        """Hands on the lines that are printed within the pause, if any."""
-        if not select.select([self.child.stdout], [], [], pause)[0]:
-            return False
-        chunk = os.read(self.child.stdout.fileno(), 65536)
-        if not chunk:
-            self.status = self.child.wait()
-            raise Ended
-        *lines, self.rest = (self.rest + chunk).split(b"\n")
-        for line in lines:
-            self.said(line.decode("utf-8", "surrogateescape"))
-        return True
+    def tell(self, line: str) -> Iterator[str]:
+        """Tells the line, and hands on what is said to it."""
+        with suppress(BrokenPipeError):  # it has ended
+            os.write(self.child.stdin.fileno(), f"{line}\n.\n".encode(**CODING))
+        for count, said in enumerate(map(str.rstrip, self.child.stdout)):
+            if said in REFUSALS and (count or not tokens(line)):
+                return
+            yield said
+        self.status = self.child.wait()

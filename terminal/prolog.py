@@ -2,7 +2,6 @@
 from __future__ import annotations
 
 import re
-from itertools import groupby
 
 TOKEN = re.compile(
     r"""(?P<layout> \s+ | %[^\n]* | /\*.*?\*/ )
@@ -39,34 +38,14 @@ def with_full_stop(line: str) -> str:
 
 
 def parts(text: str, mark: str = ",") -> list[str]:
-    """The parts of the text between the marks outside brackets: the goals of a body, the values of
-    an answer. A bracket that closes none of the text ends it."""
+    """The parts of the text between the marks outside brackets: the goals of a body, its head."""
     found, begin, depth = [], 0, 0
     for token in tokens(text):
         depth += DEEPER.get(token.group(), 0)
-        if depth < 0 or depth == 0 and token.group() == mark:
+        if depth == 0 and token.group() == mark:
             found.append(text[begin : token.start()].strip())
             begin = token.end()
-        if depth < 0:
-            return found
     return [*found, text[begin:].strip()]
-
-
-def clauses(text: str) -> list[list[re.Match]]:
-    """The tokens of each clause of the text, without the full stop."""
-    groups = groupby(tokens(text), lambda token: token.lastgroup == "end")
-    return [list(clause) for is_end, clause in groups if not is_end]
-
-
-def predicates(text: str) -> set[tuple[str, int]]:
-    """Name and arity of each clause's head, as far as it is a name with arguments."""
-    found = set()
-    for name, *rest in clauses(text):
-        marks = [token.group() for token in rest]
-        if name.lastgroup == "name" and marks[:1] in ([], ["("], [":-"], ["-->"]):
-            arguments = parts(text[rest[0].end() : rest[-1].end()]) if marks[:1] == ["("] else []
-            found.add((name.group(), len(arguments) + 2 * ("-->" in marks)))
-    return found
 
 
 def texts_in(line: str) -> list[tuple[str, str]]:

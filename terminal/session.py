@@ -2,29 +2,24 @@
 from __future__ import annotations
 
 import re
-from collections import Counter
-from contextlib import closing, suppress
+from argparse import Namespace
+from collections import Counter, namedtuple
 from pathlib import Path
 from tempfile import TemporaryDirectory
-from typing import NamedTuple
+from typing import Iterator
 
-from terminal.printed import ANSWER, PORT, QUESTION, STATEMENT, say, show
-from terminal.program import Ended, Program
-from terminal.prolog import TOKEN, parts, variables
-from terminal.words import Words
+from terminal.printed import QUESTION, STATEMENT, say, show
+from terminal.program import Program
+from terminal.prolog import parts, variables
 
-SEEN = re.compile(r"\d+ 1 |answer ")  # ports of a query's goals, whose depth is 1, and answers
+# How the first line begins that is said to a query or a filter, and to a symptom or a reply.
+RAN, REPLIED = ("run: ", "warning: ", "trace: "), ("symptom: ", "reply: ")
+# A line that was told and not refused, and what was said to it, but for ports and answers.
+Told = namedtuple("Told", "line said")
 
 
-class Told(NamedTuple):
-    """A line that was told and not refused, and what was said to it, but for ports and answers."""
-
-    line: str
-    said: list[str]
-
-    def got(self, *fronts: str) -> bool:
-        """Whether a line was said to it that begins so."""
-        return any(line.startswith(fronts) for line in self.said)
+class Ended(Exception):
+    """The program has ended."""
 
 
 class Session:
@@ -32,49 +27,62 @@ class Session:
 
     The program itself takes nothing back. So a session is begun anew and played up to a place,
     without a word, where a reply is taken back or a run was ended from outside: with copies of the
-    files, which are as they were.
+    files, as they were.
     """
 
-    def __init__(self, words: list[str]) -> None:
-        self.words = Words(words)
+    def __init__(self, options: Namespace) -> None:
+        self.options = options
         self.folder = TemporaryDirectory(prefix="apdi-")
-        self.copies = self.words.copied(self.folder.name)
-        self.program: Program | None = None
+        self.words = self.with_copies()
         self.told: list[Told] = []  # an empty line is the first: what it got comes before all
-        self.question: re.Match | None = None  # the one that waits for a reply
         self.queries: list[str] = []  # with the filters: what `again` tells
+
+    def with_copies(self) -> list[str]:
+        """The words, with copies of the files as they are now: by them a run can be made again."""
+        values = dict(vars(self.options))
+        for name, value in values.items():
+            if isinstance(value, Path):
+                values[name] = Path(self.folder.name, name)
+                values[name].write_bytes(value.read_bytes())
+        words = [f"--{name}={value}" for name, value in values.items() if value]
+        return [re.sub("^--program=|=True$", "", word) for word in words]
 
     def play(self, lines: list[Told]) -> None:
         """Begins anew and tells the lines without a word; a question that waits then is shown."""
-        if self.program:
-            self.program.close()
-        self.told, self.question, self.is_silent = [], None, bool(lines)
-        self.query = self.run = ""
-        self.program = Program(self.copies, self._heard)
+        if lines:
+            without = " ".join(told.line for told in self.told[len(lines) :])
+            say("begun anew and played up to here" + (without and f", without {without}"))
+        self.told, self.question, self.query, self.run = [], None, "", ""
+        self.program = Program(self.words)
         for line in [told.line for told in lines] or [""]:
-            self.tell(line)
-        self.is_silent = False
-        if self.question:
+            self.tell(line, is_shown=not lines)
+        if lines and self.question:
             show(self.question[0])
 
-    def tell(self, line: str) -> None:
+    def tell(self, line: str, is_shown: bool = True) -> None:
         """Tells the line; what is said to it is shown, and kept in mind."""
         self.typed, self.said = line, []
-        self.program.tell(line)
+        for said in self.program.tell(line):
+            if said.startswith("run: "):
+                self.query, self.run = line, said
+            if not re.match(r"\d|answer ", said):
+                self.said.append(said)
+            if is_shown:
+                show(said)
+        if self.program.status is not None:
+            raise Ended
         if self.said and not re.match(r"E\d", self.said[-1]):
             self.told.append(Told(line, self.said))
             self.question = QUESTION.fullmatch(self.said[-1])
 
     def again(self) -> None:
         """Begins with the files as they are now; what is known is kept, and queries are run."""
-        known = self.known()
-        if known:
-            file = Path(self.folder.name, "known")
-            file.write_text(oracle_text("", known), "utf-8", "surrogateescape")
-            self.words.put("--oracle", str(file))
         if self.told:
-            self.queries = [it.line for it in self.told if it.got("run: ", "trace: ")]
-        self.copies = self.words.copied(self.folder.name)
+            text = with_known("form(2).", self.known())
+            self.options.oracle = Path(self.folder.name, "known")
+            self.options.oracle.write_text(text, "utf-8", "surrogateescape")
+            self.queries = [line for line, said in self.told[1:] if said[0].startswith(RAN)]
+        self.words = self.with_copies()
         self.play([])
         for line in self.queries:
             say(line)
@@ -85,68 +93,42 @@ class Session:
         lines = [*(told.line for told in self.told), "stop.", "known."]
         return list(dict.fromkeys(self.beside(lines, STATEMENT)))
 
-    def beside(self, lines: list[str], kept: re.Pattern) -> list[str]:
+    def beside(self, lines: list[str], kept: str) -> list[str]:
         """What a second run of the program says to the lines, as far as it begins so."""
-        said: list[str] = []
-        program = Program(self.copies, lambda line: kept.match(line) and said.append(line))
-        with closing(program), suppress(Ended):
-            for line in lines:
-                program.tell(line)
-        return said
+        program = Program(self.words)
+        return [said for line in lines for said in program.tell(line) if re.match(kept, said)]
 
-    def goals_seen(self) -> tuple[list[str], dict[tuple[str, str], str]]:
-        """What goals did, those of the body that `covers?` asks about or the query's: lines to be
-        read, and by the numbers of an answer and a goal the line that tells of that."""
-        if self.question and self.question["kind"] == "covers":
-            return self._goals_of_body(parts(self.question["asked"], ":-")[-1])
-        return self._goals_of_query()
-
-    def _goals_of_query(self) -> tuple[list[str], dict[tuple[str, str], str]]:
-        """Ports and answers. An answer came by the exits that stand when it is shown."""
-        lines = self.beside(["trace(all).", self.query], SEEN)
-        exits, standing, tells = Counter(), [], {}
-        for line in lines:
-            port, answer = PORT.fullmatch(line), ANSWER.fullmatch(line)
-            if answer:
-                for goal, line in enumerate(standing, 1):
-                    tells[answer["number"], str(goal)] = line
-            elif port["name"] == "Redo":
+    def goals_of_query(self) -> Iterator[str]:
+        """Ports of the query's goals, whose depth is 1, and its answers, each with what tells of
+        it: it came by the exits that stand when it is shown."""
+        exits, standing = Counter(), []
+        for line in self.beside(["trace(all).", self.query], r"\d+ 1 |answer "):
+            yield line
+            box, second, third, *_ = line.split()
+            if third == "Exit:":
+                exits[box] += 1
+                standing.append(f"wrong({box}, {exits[box]}).")
+            elif third == "Redo:":
                 standing.pop()
-            elif port["name"] == "Exit":
-                exits[port["box"]] += 1
-                standing.append(f"wrong({port['box']}, {exits[port['box']]}).")
-        return lines, tells
+            elif box == "answer":
+                for goal, tells in enumerate(standing, 1):
+                    yield f"answer {second[:-1]} of goal {goal}: {tells}"
 
-    def _goals_of_body(self, body: str) -> tuple[list[str], dict[tuple[str, str], str]]:
-        """The answers of as many first goals as have one together, and replies by them, with `_`
-        for a value that is left open."""
-        goals, front, tells = parts(body), "", {}
-        while goals and not tells:
+    def goals_of_body(self) -> Iterator[str]:
+        """The answers of the body that `covers?` asks about, as replies: those of as many of its
+        first goals as have one together."""
+        body = parts(self.question["asked"], ":-")[-1]
+        goals, lines = parts(body), []
+        while goals and not lines:
             front = ", ".join(goals)
-            for answer in map(ANSWER.fullmatch, self.beside([f"?- {_named(front)}."], ANSWER)):
-                given = dict(it.partition(" = ")[::2] for it in parts(answer["values"]))
-                values = [given.get(_named(name), "_") for name in variables(body)]
-                values = ["_" if variables(value) else value for value in values]
-                tells[answer["number"], ""] = f"yes([{', '.join(values)}])."
+            query = f"?- {front}, Values = [{','.join(variables(body))}]."
+            lines = self.beside([query], "answer ")
             goals.pop()
-        lines = [f"answer {number}: {reply}" for (number, _), reply in tells.items()]
-        return [f"{len(lines)} answers of the program for {front}", *lines], tells
-
-    def _heard(self, line: str) -> None:
-        if line.startswith("run: "):
-            self.query, self.run = self.typed, line
-        if not re.match(r"\d|answer ", line):
-            self.said.append(line)
-        if not self.is_silent:
-            show(line)
+        yield f"{len(lines)} answers of the program for {front}"
+        yield from (re.sub("Values = (.*)", r"yes(\1).", line) for line in lines)
 
 
-def oracle_text(before: str, known: list[str]) -> str:
+def with_known(text: str, known: list[str]) -> str:
     """The text of an oracle file with what is known and doesn't stand there yet."""
-    lines = (before.rstrip() or "form(2).").replace("form(1)", "form(2)", 1).split("\n")
+    lines = text.rstrip().replace("form(1)", "form(2)", 1).split("\n")
     return "\n".join([*lines, *(it for it in known if it not in lines), ""])
-
-
-def _named(text: str) -> str:
-    """The text with variables `V1`, `V2`, .. for `_1`, `_2`, ..: answers don't show the others."""
-    return TOKEN.sub(lambda it: it[0].replace("_", "V") if it["variable"] else it[0], text)

@@ -1,10 +1,16 @@
 """A log as it was printed, taken apart: what was loaded, the runs with their ports, and the diagnoses."""
 from __future__ import annotations
 
+import re
 from dataclasses import dataclass, field
 from typing import Iterable, List, NamedTuple, Optional, Union
 
-from terminal import printed
+from terminal.printed import QUESTION
+
+PORT = re.compile(r"(?P<box>\d+) (?P<depth>\d+) (?P<name>Call|Exit|Redo|Fail): (?P<goal>.*)")
+ANSWER = re.compile(r"answer \d+: (?P<values>.*)")
+REPLY = re.compile(r"reply: (.*?)(?: \[(\d+) left\])?(?: \(reference\))?")
+SYMPTOM = re.compile(r"symptom: (not true|true|no end): (.*)")
 
 
 class Port(NamedTuple):
@@ -96,7 +102,7 @@ def parts_of(lines: Iterable[str]) -> List[Part]:
     run: Optional[Run] = None
     diagnosis: Optional[Diagnosis] = None
     for line in lines:
-        symptom = printed.SYMPTOM.fullmatch(line)
+        symptom = SYMPTOM.fullmatch(line)
         if line.startswith("run: "):
             run, diagnosis = Run(line[len("run: ") :]), None
             parts.append(run)
@@ -114,8 +120,8 @@ def parts_of(lines: Iterable[str]) -> List[Part]:
 
 def _is_of_run(run: Run, line: str) -> bool:
     """Adds the line to the run, if it is a part of one."""
-    port = printed.PORT.fullmatch(line)
-    answer = printed.ANSWER.fullmatch(line)
+    port = PORT.fullmatch(line)
+    answer = ANSWER.fullmatch(line)
     if port:
         run.ports.append(Port(int(port["box"]), int(port["depth"]), port["name"], port["goal"]))
     elif answer:
@@ -129,7 +135,7 @@ def _is_of_run(run: Run, line: str) -> bool:
 
 def _is_of_diagnosis(diagnosis: Diagnosis, line: str) -> bool:
     """Adds the line to the diagnosis, if it is a part of one. Replies that were refused aren't kept."""
-    question, reply = printed.QUESTION.fullmatch(line), printed.REPLY.fullmatch(line)
+    question, reply = QUESTION.fullmatch(line), REPLY.fullmatch(line)
     waits = diagnosis.asked and not diagnosis.asked[-1].reply
     if question:
         number, kind, asked, suspects = question.groups()

@@ -1,10 +1,9 @@
 """A page to look at, made of a log: one file of HTML that needs nothing else."""
 from __future__ import annotations
 
-import re
 import sys
 from pathlib import Path
-from typing import Iterable, List, Optional
+from typing import Iterable, List, Union
 
 from terminal.page.boxes import Boxes
 from terminal.page.diagnoses import diagnosis_section
@@ -38,12 +37,12 @@ def print_page(words: List[str]) -> int:
 
 def write_page(session: Session, file: Path) -> None:
     """Writes the page of a session, for which it is played with its ports."""
-    lines = [told.line for told in session.told if not told.got("trace: ")]
-    log = session.beside(["trace(all).", *lines], re.compile("(?!trace: )"))
-    file.write_text(page_of(log, session.words.file), "utf-8", "replace")
+    lines = [line for line, said in session.told if not said[0].startswith("trace: ")]
+    log = session.beside(["trace(all).", *lines], "(?!trace: )")
+    file.write_text(page_of(log, session.options.program), "utf-8", "replace")
 
 
-def page_of(lines: Iterable[str], file: Optional[str] = None) -> str:
+def page_of(lines: Iterable[str], file: Union[str, Path, None] = None) -> str:
     """The page of the log, with the clauses of the program's file where it is named."""
     parts = parts_of(lines)
     source = source_section(file, parts) if file else ""

@@ -7,7 +7,6 @@ import tempfile
 import unittest
 from pathlib import Path
 
-from terminal.completion import readline
 from terminal.manual import MANUAL
 from terminal.program import TOP, program_file
 from terminal.tests.pseudo import TAB, UP, Terminal
@@ -102,7 +101,6 @@ class Conversations(unittest.TestCase):
         user.converse("loaded: 2 clauses", "apd> ?- p(X).\n", "answer 1: X = 2", "apd> quit")
         self.assertEqual(user.leave(), 0)
 
-    @unittest.skipUnless(readline, "this Python has no readline")
     def test_completion_and_history(self) -> None:
         self.copy("isort.pl")
         user = self.at_terminal("--answers", "1", "isort.pl")
@@ -111,7 +109,7 @@ class Conversations(unittest.TestCase):
         user.converse("?- isort([1], X)", "answer 1: X = [1]", "apd> ")
         user.keys("wro" + TAB + "1, 1)\n")
         user.converse("wrong(1, 1)", "question 1", "reply> stop", "unanswered", "apd> ")
-        user.keys("trace(leap([ins" + TAB + "]))\n")
+        user.keys("trace(leap([ins" + TAB + "3]))\n")
         user.converse("trace: leap([insert / 3])", "apd> ")
         user.keys(UP + UP + UP + UP + "\n")
         user.converse("?- isort([1], X)", "3 2 Exit: insert(1,[],[1])", "answer 1", "apd> ")

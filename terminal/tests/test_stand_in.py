@@ -20,6 +20,7 @@ class StandIn(unittest.TestCase):
         folder = tempfile.TemporaryDirectory()
         self.addCleanup(folder.cleanup)
         self.folder = Path(folder.name)
+        (self.folder / "p.pl").write_text("p(1).\n")
 
     def at_terminal(self, *words: str, **environment: str) -> Terminal:
         terminal = Terminal(str(self.folder), list(words), STAND_IN, **environment)
@@ -46,7 +47,6 @@ class StandIn(unittest.TestCase):
         self.assertEqual(user.leave(), 0)
 
     def test_a_terminal_that_is_closed_ends_a_run_too(self) -> None:
-        (self.folder / "p.pl").write_text("p(1).\n")
         user = self.at_terminal("p.pl")
         user.converse("apd> ?- forever", "run: forever")
         os.kill(user.child, signal.SIGHUP)
@@ -72,22 +72,25 @@ class StandIn(unittest.TestCase):
         user.converse("reply> undo", "without wrong(1, 1).", "apd> undo", "no reply to take back", "apd> ")
 
     def test_a_file_that_holds_no_replies_is_left_as_it_is(self) -> None:
-        (self.folder / "p.pl").write_text("p(1).\n")
         user = self.at_terminal("p.pl")
         user.converse("apd> ?- p(X).", "apd> answer 1", "reply> y", "reply> save p.pl", "stays as it is", "reply> ")
         self.assertEqual((self.folder / "p.pl").read_text(), "p(1).\n")
 
     def test_why_it_ended_is_said_once(self) -> None:
+        (self.folder / "refused.pl").write_text("refused.")
         user = self.at_terminal("refused.pl")
         user.converse("program refused: line 1: Cut", "exclude each other", "status 3", "apd> help", "answer K of goal N")
         user.converse("apd> quit")
         self.assertEqual(user.leave(), 3)
         self.assertEqual(user.shown.count("status 3"), 1)
 
-    def test_a_word_that_is_wrong_is_named(self) -> None:
+    def test_a_word_that_is_wrong_is_named_and_so_is_a_file_that_is_not_there(self) -> None:
         user = self.at_terminal("--bugdet", "5", "p.pl")
-        user.converse("usage: apd ..", "% --bugdet is no option")
+        user.converse("usage: apd", "[--budget N]", "unrecognized arguments: --bugdet")
         self.assertEqual(user.leave(), 2)
+        user = self.at_terminal("--oracle", "nowhere", "p.pl")
+        user.see("apd: there is no file nowhere that can be read")
+        self.assertEqual(user.leave(), 4)
 
     def test_colours_are_there_unless_they_are_not_wanted(self) -> None:
         for environment, wanted in (({"TERM": "xterm"}, True), ({"TERM": "xterm", "NO_COLOR": "1"}, False)):

@@ -1,14 +1,17 @@
 """What is read of texts, and what is said about them: full stops, predicates, explanations, files of replies."""
 from __future__ import annotations
 
+import io
 import re
 import unittest
+from contextlib import redirect_stderr
 
 from terminal import manual
 from terminal.page.terms import is_instance
-from terminal.prolog import predicates, texts_in, with_full_stop
-from terminal.session import oracle_text
-from terminal.words import Words
+from terminal.completion import HEAD
+from terminal.prolog import parts, texts_in, with_full_stop
+from terminal.session import with_known
+from terminal.words import options_of
 
 LINES = {
     "E1 syntax: Stray at byte 5": ["no reading", "can't follow"],
@@ -61,8 +64,12 @@ class Texts(unittest.TestCase):
             self.assertEqual(with_full_stop(line), wanted)
 
     def test_the_predicates_of_a_program(self) -> None:
-        program = "p. q(a, [b, c]) :- r. % s.\n'X y'(1).\n:- op(700, xfx, ===).\nt --> [a].\nu('a, b') --> t.\nX === Y."
-        self.assertEqual(predicates(program), {("p", 0), ("q", 2), ("'X y'", 1), ("t", 2), ("u", 3)})
+        program = "p.\nq(a, [b, c]) :-\n    r. % s.\n'X y'(1).\n:- op(700, xfx, ===).\nt --> [a].\nX === Y."
+        self.assertEqual(HEAD.findall(program), ["p", "q(", "'X y'(", "t"])
+
+    def test_the_parts_of_a_body(self) -> None:
+        self.assertEqual(parts("p(a, b), [c|D], 'e, f', {g, h}"), ["p(a, b)", "[c|D]", "'e, f'", "{g, h}"])
+        self.assertEqual(parts("p :- q, r", ":-"), ["p", "q, r"])
 
     def test_lists_of_codes_that_read_as_texts(self) -> None:
         wanted = [("[104,105]", '"hi"'), ("[65,10|_3]", '"A\\n"|_3')]
@@ -70,10 +77,10 @@ class Texts(unittest.TestCase):
 
     def test_a_file_of_replies_keeps_what_it_has(self) -> None:
         known = ["true(p(1), yes).", "true(q, no)."]
-        self.assertEqual(oracle_text("", known), "form(2).\ntrue(p(1), yes).\ntrue(q, no).\n")
+        self.assertEqual(with_known("form(2).", known), "form(2).\ntrue(p(1), yes).\ntrue(q, no).\n")
         before = "% mine\nform(1).\ntrue(q, no).\n"
         after = "% mine\nform(2).\ntrue(q, no).\ntrue(p(1), yes).\n"
-        self.assertEqual(oracle_text(before, known), after)
+        self.assertEqual(with_known(before, known), after)
 
     def test_what_is_wrong_with_words(self) -> None:
         for words, wanted in {
@@ -82,18 +89,23 @@ class Texts(unittest.TestCase):
             "--trace --demo 10000": "",
             "-- --trace": "there is no file --trace that can be read",
             "apdi --oracle terminal": "there is no file terminal that can be read",
-            "": "no program is named",
-            "a.pl b.pl": "a program is there twice",
-            "--bugdet 5 p.pl": "--bugdet is no option",
-            "--budget=10k p.pl": "--budget 10k: its value is a number from 1 to 1,000,000",
-            "--demo 10001": "--demo 10001: its value is a number from 1 to 10,000",
-            "p.pl --answers": "--answers: its value is a number from 1 to 1,000,000",
-            "--strategy halve p.pl": "--strategy halve: its value is divide, single or top",
-            "--trace p.pl --trace": "--trace is there twice",
-            "--demo 5 p.pl": "--demo doesn't go with a program",
-            "--demo 5 --reference apd": "--demo doesn't go with --reference",
+            "": "one of the arguments --demo PROGRAM is required",
+            "apd apdi": "unrecognized arguments: apdi",
+            "--bugdet 5 p.pl": "unrecognized arguments: --bugdet",
+            "--budge 5 apdi": "unrecognized arguments: --budge",
+            "--budget=10k p.pl": "argument --budget: 10k is no number from 1 to 1,000,000",
+            "--demo 10001": "argument --demo: 10001 is no number from 1 to 10,000",
+            "p.pl --answers": "argument --answers: expected one argument",
+            "--strategy halve p.pl": "argument --strategy: invalid choice: 'halve'",
+            "--demo 5 p.pl": "argument PROGRAM: not allowed with argument --demo",
         }.items():
-            self.assertEqual("".join(Words(words.split()).faults()), wanted, words)
+            with self.subTest(words), redirect_stderr(io.StringIO()) as said:
+                try:
+                    options_of(words.split())
+                except SystemExit as end:
+                    self.assertIn(end.code, (2, 4))
+                self.assertIn(wanted, said.getvalue())
+                self.assertEqual(bool(wanted), bool(said.getvalue()))
 
     def test_instances_by_their_texts(self) -> None:
         yes = [("app([2],[9],[2,9])", "app([2],_1,[2|_1])"), ("p([1])", "p([_1|_2])"), ("p(b * c + a)", "p(_1 + a)")]

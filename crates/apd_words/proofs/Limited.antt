@@ -4,7 +4,7 @@ use Rattle.std.specs.Prelude.{codes, if◌then◌else◌}
 use Rattle.clap.specs.Words.{Row, fault_of, first_of, matches_of}
 use Rattle.apd_divide.specs.declared.node.Strategy.{Strategy}
 use Rattle.apd_ports.specs.declared.filter.Filter.{Filter}
-use Rattle.apd_words.specs.Words.{AreLimits, Options, Subject, command, filter_of, is_faultless, limit_or, options_from, options_in, options_of, strategy_or, subject_from}
+use Rattle.apd_words.specs.Words.{AreLimits, Options, Subject, command, filter_of, is_faultless, is_plain, limit_or, options_from, options_in, options_of, strategy_or, subject_with}
 use Rattle.apd_words.proofs.Digits.{number-bounds}
 
 limit_bounds : (usual n : ℕ) (value : Option (List ℕ)) → 1 ≤ usual → usual ≤ 1000000 → limit_or usual value ≡ Some n → (1 ≤ n) × (n ≤ 1000000)
@@ -27,11 +27,15 @@ from-limited (Some b) (Some a) filter (Some st) oracle reference (Some s) option
 
 rows-limited : (rows : List Row) (options : Options) → options_in rows ≡ Some options → AreLimits options.budget options.answers
 rows-limited rows options h =
+    let budget = first_of (codes "budget") rows in
+    let answers = first_of (codes "answers") rows in
+    let strategy = first_of (codes "strategy") rows in
+    let filter = filter_of (first_of (codes "trace") rows) in
     let oracle = first_of (codes "oracle") rows in
     let reference = first_of (codes "reference") rows in
-    from-limited (limit_or 100000 (first_of (codes "budget") rows)) (limit_or 1000000 (first_of (codes "answers") rows)) (filter_of (first_of (codes "trace") rows)) (strategy_or (first_of (codes "strategy") rows)) oracle reference
-    (subject_from (first_of (codes "demo") rows) oracle reference (first_of (codes "program") rows)) options
-    (λ n e. limit_bounds 100000 n (first_of (codes "budget") rows) (omega arith) (omega arith) e) (λ n e. limit_bounds 1000000 n (first_of (codes "answers") rows) (omega arith) (omega arith) e) h
+    from-limited (limit_or 100000 budget) (limit_or 1000000 answers) filter (strategy_or strategy) oracle reference
+    (subject_with (is_plain budget answers strategy filter) (first_of (codes "check") rows) (first_of (codes "demo") rows) oracle reference (first_of (codes "program") rows)) options
+    (λ n e. limit_bounds 100000 n budget (omega arith) (omega arith) e) (λ n e. limit_bounds 1000000 n answers (omega arith) (omega arith) e) h
 
 pub words-limited : (words : List (List ℕ)) (options : Options) → options_of words ≡ Some options → AreLimits options.budget options.answers
 unfolding options_of

@@ -1,5 +1,5 @@
 -- What the getters of clap's matches give, and when it finds a fault.
-use Rattle.std.proofs.Common.{◌≡◌, ◌∙◌, ◌⊎◌, inl, inr, ℕ, List, [], ◌∷◌, true, false, Option, None, Some, refl, sym, ap, subst, codes}
+use Rattle.std.proofs.Common.{◌≡◌, ◌∙◌, ◌⊎◌, inl, inr, ℕ, List, [], ◌∷◌, Bool, true, false, Option, None, Some, refl, sym, ap, subst, codes}
 use Rattle.std.specs.Prelude.{MatchOption, if◌then◌else◌}
 use Rattle.std.specs.Option.{option_map}
 use Rattle.clap.specs.declared.parser.matches.Found.{Found}
@@ -11,22 +11,27 @@ use Rattle.clap.specs.declared.error.kind.ErrorKind.TheVariants.{OutOfMemory}
 use Rattle.apd_ports.specs.declared.filter.Filter.{Filter}
 use Rattle.apd_divide.specs.declared.node.Strategy.{Strategy}
 use Rattle.apd_words.specs.declared.options.Subject as subjects
-use Rattle.apd_words.specs.Words.{Subject, asked_subject, command, filter_of, is_faultless, limit_or, options_from, options_in, options_of, strategy_or, subject_from}
+use Rattle.apd_words.specs.Words.{Subject, asked_subject, command, filter_of, is_faultless, is_plain, limit_or, options_from, options_in, options_of, strategy_or, subject_with}
 
 -- the options of what the getters give are those of the matches
-pub gathered : (found : Found) (budget answers : Option ℕ) (filter : Filter) (strategy : Option Strategy) (subject : Option Subject) (b a t s o e d p : Option (List ℕ)) →
-    b ≡ first_value found (codes "budget") → a ≡ first_value found (codes "answers") → t ≡ first_value found (codes "trace") → s ≡ first_value found (codes "strategy") → o ≡ first_value found (codes "oracle") → e ≡ first_value found (codes "reference") → d ≡ first_value found (codes "demo") → p ≡ first_value found (codes "program") →
-    budget ≡ limit_or 100000 b → answers ≡ limit_or 1000000 a → filter ≡ filter_of t → strategy ≡ strategy_or s → subject ≡ subject_from d o e p → options_in (rows_of found) ≡ options_from budget answers filter strategy o e subject
-gathered found budget answers filter strategy subject b a t s o e d p is_b is_a is_t is_s is_o is_e is_d is_p is_budget is_answers is_filter is_strategy is_subject =
-    let same_budget = ap (limit_or 100000) (sym (first_value-rows found (codes "budget")) ∙ sym is_b) ∙ sym is_budget in
-    let same_answers = ap (limit_or 1000000) (sym (first_value-rows found (codes "answers")) ∙ sym is_a) ∙ sym is_answers in
+pub gathered : (found : Found) (budget answers : Option ℕ) (filter : Filter) (strategy : Option Strategy) (plain : Bool) (subject : Option Subject) (b a t s o e d k p : Option (List ℕ)) →
+    b ≡ first_value found (codes "budget") → a ≡ first_value found (codes "answers") → t ≡ first_value found (codes "trace") → s ≡ first_value found (codes "strategy") → o ≡ first_value found (codes "oracle") → e ≡ first_value found (codes "reference") → d ≡ first_value found (codes "demo") → k ≡ first_value found (codes "check") → p ≡ first_value found (codes "program") →
+    budget ≡ limit_or 100000 b → answers ≡ limit_or 1000000 a → filter ≡ filter_of t → strategy ≡ strategy_or s → plain ≡ is_plain b a s filter → subject ≡ subject_with plain k d o e p → options_in (rows_of found) ≡ options_from budget answers filter strategy o e subject
+gathered found budget answers filter strategy plain subject b a t s o e d k p is_b is_a is_t is_s is_o is_e is_d is_k is_p is_budget is_answers is_filter is_strategy is_plain_so is_subject =
+    let given_budget = sym (first_value-rows found (codes "budget")) ∙ sym is_b in
+    let given_answers = sym (first_value-rows found (codes "answers")) ∙ sym is_a in
+    let given_strategy = sym (first_value-rows found (codes "strategy")) ∙ sym is_s in
+    let same_budget = ap (limit_or 100000) given_budget ∙ sym is_budget in
+    let same_answers = ap (limit_or 1000000) given_answers ∙ sym is_answers in
     let same_filter = ap filter_of (sym (first_value-rows found (codes "trace")) ∙ sym is_t) ∙ sym is_filter in
-    let same_strategy = ap strategy_or (sym (first_value-rows found (codes "strategy")) ∙ sym is_s) ∙ sym is_strategy in
+    let same_strategy = ap strategy_or given_strategy ∙ sym is_strategy in
     let same_oracle = sym (first_value-rows found (codes "oracle")) ∙ sym is_o in
     let same_reference = sym (first_value-rows found (codes "reference")) ∙ sym is_e in
     let same_program = sym (first_value-rows found (codes "program")) ∙ sym is_p in
+    let same_check = sym (first_value-rows found (codes "check")) ∙ sym is_k in
     let same_demo = sym (first_value-rows found (codes "demo")) ∙ sym is_d in
-    let same_subject = (λ i. subject_from (same_demo i) (same_oracle i) (same_reference i) (same_program i)) ∙ sym is_subject in
+    let same_plain = (λ i. is_plain (given_budget i) (given_answers i) (given_strategy i) (same_filter i)) ∙ sym is_plain_so in
+    let same_subject = (λ i. subject_with (same_plain i) (same_check i) (same_demo i) (same_oracle i) (same_reference i) (same_program i)) ∙ sym is_subject in
     λ i. options_from (same_budget i) (same_answers i) (same_filter i) (same_strategy i) (same_oracle i) (same_reference i) (same_subject i)
 
 -- what is debugged, as it is asked for

@@ -21,8 +21,8 @@ use Rattle.apd_base.specs.declared.limits.TheConstants.{MOST_SHOWN, USUAL_BUDGET
 abbrev pub bytes_of : {A : Type 0} → List (String A) → List (List ℕ)
 bytes_of words = map (λ w. string_bytes w) words
 
--- The command: `--budget N`, `--answers N`, `--strategy NAME`, `--oracle FILE`, `--reference FILE`, `--demo N`, `--trace` and the name of
--- a file, none of which clap requires.
+-- The command: `--budget N`, `--answers N`, `--strategy NAME`, `--oracle FILE`, `--reference FILE`, `--demo N`, `--check LOG`, `--trace` and
+-- the name of a file, none of which clap requires.
 
 -- an option with one value
 abbrev pub option_rule : List ℕ → Rule
@@ -38,24 +38,28 @@ program_rule = record (new_rule (codes "program")) { action = Some Set }
 abbrev pub arguments : List Rule
 arguments =
     option_rule (codes "budget") ∷ option_rule (codes "answers") ∷ option_rule (codes "strategy") ∷ option_rule (codes "oracle") ∷
-    option_rule (codes "reference") ∷ option_rule (codes "demo") ∷ trace_rule ∷ program_rule ∷ []
+    option_rule (codes "reference") ∷ option_rule (codes "demo") ∷ option_rule (codes "check") ∷ trace_rule ∷ program_rule ∷ []
 
 unfoldable pub command : App
 command = fold with_rule (new_app (codes "apd")) arguments
 
--- what is debugged: the program in the file of this name, or, as a demonstration, the program of a tree of so many nodes
+-- what is debugged: the program in the file of this name, or, as a demonstration, the program of a tree of so many nodes; or a log that
+-- was written for the program in the first file is checked, which is in the second
 pub data Subject : Type 0 where
   InFile : List ℕ → Subject
   OfTree : ℕ → Subject
+  OfLog : List ℕ → List ℕ → Subject
 
 abbrev pub asked_subject : subjects.Subject → Subject
 asked_subject (subjects.TheVariants.File name) = InFile name.now
 asked_subject (subjects.TheVariants.Tree nodes) = OfTree nodes
+asked_subject (subjects.TheVariants.Log program log) = OfLog program.now log.now
 
--- a tree has 1 to 10,000 nodes, no oracle file and no reference program
+-- a tree has 1 to 10,000 nodes, no oracle file and no reference program, and a log that is checked has no reference program
 abbrev pub StandsAlone : Subject → Option (List ℕ) → Option (List ℕ) → Type 0
 StandsAlone (InFile name) oracle reference = ⊤
 StandsAlone (OfTree nodes) oracle reference = IsNodeCount nodes × (oracle ≡ None) × (reference ≡ None)
+StandsAlone (OfLog program log) oracle reference = reference ≡ None
 
 -- what the words ask for
 pub record Options : Type 0 where
@@ -136,6 +140,24 @@ subject_from (Some demo) None None (Some program) = None
 subject_from (Some demo) None (Some reference) program = None
 subject_from (Some demo) (Some oracle) reference program = None
 
+-- neither a limit, a strategy nor ports that are printed are asked for
+abbrev pub is_plain : Option (List ℕ) → Option (List ℕ) → Option (List ℕ) → Filter → Bool
+is_plain None None None Off = true
+is_plain budget answers strategy filter = false
+
+-- a log is checked where nothing else is asked for but an oracle file, and a program's file is named
+abbrev pub log_from : Bool → List ℕ → Option (List ℕ) → Option (List ℕ) → Option (List ℕ) → Option Subject
+log_from false log demo reference program = None
+log_from true log (Some demo) reference program = None
+log_from true log None (Some reference) program = None
+log_from true log None None None = None
+log_from true log None None (Some program) = Some (OfLog program log)
+
+-- a log is checked, where one is named; else something is debugged
+abbrev pub subject_with : Bool → Option (List ℕ) → Option (List ℕ) → Option (List ℕ) → Option (List ℕ) → Option (List ℕ) → Option Subject
+subject_with plain None demo oracle reference program = subject_from demo oracle reference program
+subject_with plain (Some log) demo oracle reference program = log_from plain log demo reference program
+
 -- the options that values give, where each limit keeps its rule, the strategy is known and something is debugged
 abbrev pub options_from : Option ℕ → Option ℕ → Filter → Option Strategy → Option (List ℕ) → Option (List ℕ) → Option Subject → Option Options
 options_from (Some budget) (Some answers) filter (Some strategy) oracle reference (Some subject) =
@@ -145,11 +167,15 @@ options_from budget answers filter strategy oracle reference subject = None
 -- the options that clap's matches give
 abbrev pub options_in : List Row → Option Options
 options_in rows =
+    let budget = first_of (codes "budget") rows in
+    let answers = first_of (codes "answers") rows in
+    let strategy = first_of (codes "strategy") rows in
+    let filter = filter_of (first_of (codes "trace") rows) in
     let oracle = first_of (codes "oracle") rows in
     let reference = first_of (codes "reference") rows in
-    options_from (limit_or USUAL_BUDGET (first_of (codes "budget") rows)) (limit_or MOST_SHOWN (first_of (codes "answers") rows))
-    (filter_of (first_of (codes "trace") rows)) (strategy_or (first_of (codes "strategy") rows)) oracle reference
-    (subject_from (first_of (codes "demo") rows) oracle reference (first_of (codes "program") rows))
+    options_from (limit_or USUAL_BUDGET budget) (limit_or MOST_SHOWN answers) filter (strategy_or strategy) oracle reference
+    (subject_with (is_plain budget answers strategy filter) (first_of (codes "check") rows) (first_of (codes "demo") rows) oracle reference
+    (first_of (codes "program") rows))
 
 -- there is no fault
 abbrev pub is_faultless : Kinds → Bool

@@ -30,7 +30,7 @@ fn with_option<'a>(
 }
 
 /// One simple command: two limits, a strategy, the names of an oracle file and of a reference program's file, how many nodes a
-/// demonstration has, a flag and the name of a file.
+/// demonstration has, the name of a log's file, a flag and the name of a file.
 pub(crate) fn command<'a>(alloc: Global) -> Result<Command<'a>, AllocError>
     ensures { IfOk result (λ c. app_of c ≡ command) }
 {
@@ -41,10 +41,11 @@ pub(crate) fn command<'a>(alloc: Global) -> Result<Command<'a>, AllocError>
     let oracle = with_option(alloc, strategy, "oracle")?;
     let reference = with_option(alloc, oracle, "reference")?;
     let demo = with_option(alloc, reference, "demo")?;
+    let check = with_option(alloc, demo, "check")?;
     let flag = Arg::new(alloc, "trace")
         .long("trace")
         .action(ArgAction::SetTrue);
-    let trace = demo.arg(flag)?;
+    let trace = check.arg(flag)?;
     let file = Arg::new(alloc, "program").action(ArgAction::Set);
     let command = trace.arg(file)?;
     Ok(command)

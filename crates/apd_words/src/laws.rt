@@ -3,7 +3,8 @@
 ghost use Rattle.std.specs.Prelude.{◌≡◌, ℕ, List, Some};
 ghost use Rattle.apd_words.specs.Words.{AreLimits, Options, StandsAlone, options_of};
 
-/// Where the words ask for a demonstration, its tree has 1 to 10,000 nodes, and there is no oracle file and no reference program.
+/// Where the words ask for a demonstration, its tree has 1 to 10,000 nodes, and there is no oracle file and no reference program; and
+/// there is no reference program where they ask for the check of a log.
 pub fn a_tree_stands_alone()
     ensures { (words : List (List ℕ)) (options : Options) →
         options_of words ≡ Some options →

@@ -2,7 +2,7 @@
 
 ghost use Rattle.std.specs.Prelude.{◌≡◌, ◌<◌, ◌≤◌, IfOk, IfSome, MatchOption, Some, None, option_map};
 ghost use Rattle.clap.specs.Words.{found_of, rows_of};
-ghost use Rattle.apd_words.specs.Words.{AreLimits, asked_options, asked_subject, bytes_of, filter_of, options_from, options_in, options_of, number_of, strategy_named, strategy_or, subject_from, tree_of};
+ghost use Rattle.apd_words.specs.Words.{AreLimits, asked_options, asked_subject, bytes_of, filter_of, is_plain, log_from, options_from, options_in, options_of, number_of, strategy_named, strategy_or, subject_from, subject_with, tree_of};
 ghost use Rattle.apd_base.specs.declared.limits.TheConstants.{MOST_SHOWN};
 ghost use Rattle.apd_gen.specs.declared.nodes.TheConstants.{MOST_NODES};
 
@@ -23,6 +23,8 @@ pub enum Subject<'a> {
     File(&'a str),
     /// As a demonstration, the program of a tree of so many nodes, from 1 to 10,000.
     Tree(u32),
+    /// Nothing: the log in a file is checked, which was written for the program in another.
+    Log { program: &'a str, log: &'a str },
 }
 
 /// What the words ask for.
@@ -40,7 +42,7 @@ pub struct Asked<'a> {
     pub strategy: Strategy,
     /// The name of the oracle file, where one is given, which a tree has not.
     pub oracle: Option<&'a str>,
-    /// The name of the reference program's file, where one is given, which a tree has not.
+    /// The name of the reference program's file, where one is given, which a tree and a log have not.
     pub reference: Option<&'a str>,
 }
 
@@ -104,6 +106,61 @@ fn subject_from<'a>(
     }
 }
 
+/// Whether neither a limit, a strategy nor ports that are printed are asked for.
+fn is_plain(
+    budget: Option<&str>,
+    answers: Option<&str>,
+    strategy: Option<&str>,
+    filter: &Filter,
+) -> bool
+    ensures { result ≡ is_plain (option_map (λ s. s.now) budget.entry)
+        (option_map (λ s. s.now) answers.entry) (option_map (λ s. s.now) strategy.entry)
+        filter.now }
+{
+    match (budget, answers, strategy, filter) {
+        (None, None, None, Filter::Off) => true,
+        _ => false,
+    }
+}
+
+/// A log that is checked, where nothing else is asked for but an oracle file, and a program's file is named.
+fn log_from<'a>(
+    plain: bool,
+    log: &'a str,
+    demo: Option<&'a str>,
+    reference: Option<&'a str>,
+    program: Option<&'a str>,
+) -> Option<Subject<'a>>
+    ensures { let subject = log_from plain log.now (option_map (λ s. s.now) demo.entry)
+        (option_map (λ s. s.now) reference.entry) (option_map (λ s. s.now) program.entry) in
+        MatchOption result (subject ≡ None) (λ s. subject ≡ Some (asked_subject s)) }
+{
+    match (plain, demo, reference, program) {
+        (true, None, None, Some(program)) => Some(Subject::Log { program, log }),
+        _ => None,
+    }
+}
+
+/// A log that is checked, where one is named; else what is debugged.
+fn subject_with<'a>(
+    plain: bool,
+    check: Option<&'a str>,
+    demo: Option<&'a str>,
+    oracle: Option<&'a str>,
+    reference: Option<&'a str>,
+    program: Option<&'a str>,
+) -> Option<Subject<'a>>
+    ensures { let subject = subject_with plain (option_map (λ s. s.now) check.entry)
+        (option_map (λ s. s.now) demo.entry) (option_map (λ s. s.now) oracle.entry)
+        (option_map (λ s. s.now) reference.entry) (option_map (λ s. s.now) program.entry) in
+        MatchOption result (subject ≡ None) (λ s. subject ≡ Some (asked_subject s)) }
+{
+    match check {
+        Some(log) => log_from(plain, log, demo, reference, program),
+        None => subject_from(demo, oracle, reference, program),
+    }
+}
+
 /// The options that values give, where each limit keeps its rule, the strategy is known and something is debugged.
 fn options_from<'a>(
     budget: Option<u32>,
@@ -142,18 +199,21 @@ fn options_in<'a>(matches: &ArgMatches<'a>) -> Option<Asked<'a>>
         MatchOption result (options ≡ None) (λ a. options ≡ Some (asked_options a)) }
     ensures limits { IfSome result (λ a. AreLimits a.budget a.answers) }
 {
-    let budget = limit_or(USUAL_BUDGET, matches.get_str("budget"));
-    let answers = limit_or(MOST_SHOWN, matches.get_str("answers"));
+    let budget = matches.get_str("budget");
+    let answers = matches.get_str("answers");
     let filter = filter_of(matches.get_str("trace"));
-    let strategy = strategy_or(matches.get_str("strategy"));
+    let strategy = matches.get_str("strategy");
     let oracle = matches.get_str("oracle");
     let reference = matches.get_str("reference");
     let demo = matches.get_str("demo");
+    let check = matches.get_str("check");
     let program = matches.get_str("program");
-    let subject = subject_from(demo, oracle, reference, program);
-    options_from(
-        budget, answers, filter, strategy, oracle, reference, subject,
-    )
+    let plain = is_plain(budget, answers, strategy, &filter);
+    let subject = subject_with(plain, check, demo, oracle, reference, program);
+    let ports = limit_or(USUAL_BUDGET, budget);
+    let shown = limit_or(MOST_SHOWN, answers);
+    let chosen = strategy_or(strategy);
+    options_from(ports, shown, filter, chosen, oracle, reference, subject)
 }
 
 /// The options that the words give, of which the first is the program's own name; none where they break their rules.

@@ -14,5 +14,6 @@ returns c =
     let fourth = c.in_ok-oracle.ensures ∙ ap₂ with_rule third refl in
     let fifth = c.in_ok-reference.ensures ∙ ap₂ with_rule fourth refl in
     let sixth = c.in_ok-demo.ensures ∙ ap₂ with_rule fifth refl in
-    let seventh = c.in_ok-trace.ensures.shape (search rules) ∙ ap₂ with_rule sixth trace in
-    c.in_ok-command.ensures.shape (search rules) ∙ ap₂ with_rule seventh program
+    let seventh = c.in_ok-check.ensures ∙ ap₂ with_rule sixth refl in
+    let eighth = c.in_ok-trace.ensures.shape (search rules) ∙ ap₂ with_rule seventh trace in
+    c.in_ok-command.ensures.shape (search rules) ∙ ap₂ with_rule eighth program

@@ -1,5 +1,5 @@
 -- The entries of a diagnosis are right: of each of the three.
-use Rattle.std.proofs.Common.{◌≡◌, ℕ, Bool, List, [], ◌∷◌, Option, Some, None, refl, ap, subst, map, ◌∙◌}
+use Rattle.std.proofs.Common.{◌≡◌, ℕ, Bool, List, [], ◌∷◌, Option, Some, refl, ap, subst, map, ◌∙◌}
 use Rattle.std.specs.Prelude.{length}
 use Rattle.apd_term.specs.Term.{Term}
 use Rattle.apd_term.specs.Canonical.{canonical}
@@ -22,10 +22,9 @@ use Rattle.apd_answers.specs.Findings.{AllDescendByReplies, Descends, IsByReplie
 use Rattle.apd_answers.proofs.Decided.{added-no}
 use Rattle.apd_answers.proofs.Sound.{finding-sound, descent-sound}
 use Rattle.apd_divide.specs.declared.node.Strategy.{Strategy}
-use Rattle.apd_divide.specs.Exits.{IsUserExit}
 use Rattle.apd_divide.specs.Recorded.{tree}
 use Rattle.apd_divide.specs.Tree.{Tree, suspects}
-use Rattle.apd_loop.specs.Loop.{calls_in, inside}
+use Rattle.apd_loop.specs.Loop.{calls_in}
 use Rattle.apd_loop.specs.declared.LoopEnd.{LoopEnd}
 use Rattle.apd_loop.specs.declared.LoopEnd.TheVariants.{AllDescend}
 use Rattle.apd_loop.specs.declared.LoopEnd.TheVariants as loop_ends
@@ -39,9 +38,9 @@ use Rattle.apd_wrong.proofs.Next.{comes-next}
 use Rattle.apd_wrong.proofs.Part.{part-whole}
 use Rattle.apd_wrong.proofs.Recorded.{tree-wrong}
 use Rattle.apd_ports.specs.declared.point.PointId.{PointId}
-use Rattle.apd_account.specs.Account.{Account, Stage, Moves, Awaits, after_turn, at_stage, with_question, with_reply, with_told}
-use Rattle.apd_account.specs.Inquiry.{Inquiry, left_of}
-use Rattle.apd_account.specs.Right.{IsAnswer, IsDescent, IsDue, IsFound, IsHeadOf, IsQuestion, IsReferred, IsTreeOfSymptom, IsUnanswered, Leaves}
+use Rattle.apd_account.specs.Account.{Account, Stage, Awaits, after_turn, at_stage, with_question, with_reply, with_told}
+use Rattle.apd_account.specs.Inquiry.{Inquiry, OfWrong, left_of}
+use Rattle.apd_account.specs.Right.{IsAnswer, IsDescent, IsDue, IsFound, IsHeadOf, IsReferred, IsTreeOfSymptom, IsUnanswered, Leaves}
 
 -- what was found by the replies
 pub found-right : (m : Interpretation) (program : List Clause) (strategy : Strategy) (a : Account) (f : Finding) → IsSound (tuples_of program) a.history → IsDue program strategy a (ends (loop_ends.Found f)) → IsByReplies (tuples_of program) a.history a.store f
@@ -63,32 +62,31 @@ descent-right m program strategy a due by = record {
 }
 
 -- A diagnosis whose states are known by the record, the replies and the symptom.
-module _ {D : Type 0} (strategy : Strategy) (Known : Recorded → Store → Option Told → D → Type 0) (left : D → Option ℕ) where
+module _ {D : Type 0} (strategy : Strategy) (Known : Recorded → Store → Option Told → D → Type 0) (left : D → Option ℕ) (state : D → Inquiry) where
   -- the question has no reply yet, and each reply that fits leads to a known state, with fewer suspects where they were counted
   pub record AsksRightly (R : Recorded) (store : Store) (symptom : Option Told) (asked : Asked) (next : Reply → D) : Type 0 where
     pub unanswered : IsUnanswered store asked
     pub known : (r : Reply) → FitsAsked asked r → Known R (with_pair store asked.question r) symptom (next r)
-    pub leaves : (r : Reply) → FitsAsked asked r → Leaves strategy R store symptom asked r (left (next r))
+    pub leaves : (r : Reply) → FitsAsked asked r → Leaves strategy R store symptom asked r (state (next r))
 
-  module _ (state : D → Inquiry) where
-    -- a question that was asked rightly waits for its reply
-    pub record Waits (a : Account) (asked : Asked) (next : Reply → D) : Type 0 where
-      pub stage : a.stage ≡ Awaits asked (λ r. state (next r))
-      pub asks : AsksRightly a.history a.store a.symptom asked next
+  -- a question that was asked rightly waits for its reply
+  pub record Waits (a : Account) (asked : Asked) (next : Reply → D) : Type 0 where
+    pub stage : a.stage ≡ Awaits asked (λ r. state (next r))
+    pub asks : AsksRightly a.history a.store a.symptom asked next
 
-    pub waits : (a : Account) (asked : Asked) (next : Reply → D) → AsksRightly a.history a.store a.symptom asked next → Waits (at_stage a (Awaits asked (λ r. state (next r)))) asked next
-    waits a asked next k = record { stage = refl; asks = record { unanswered = k.unanswered; known = k.known; leaves = k.leaves } }
+  pub waits : (a : Account) (asked : Asked) (next : Reply → D) → AsksRightly a.history a.store a.symptom asked next → Waits (at_stage a (Awaits asked (λ r. state (next r)))) asked next
+  waits a asked next k = record { stage = refl; asks = record { unanswered = k.unanswered; known = k.known; leaves = k.leaves } }
 
-    -- a reply that fits is right
-    pub reply-right : (a : Account) (asked : Asked) (next : Reply → D) (r : Reply) (by_reference : Bool) → Waits a asked next → FitsAsked asked r → IsReferred (a.replies asked.question) r by_reference → left (next r) ≡ left_of (state (next r))
-        → IsAnswer strategy a r (left (next r)) by_reference
-    reply-right a asked next r by_reference w fits referred is =
-        record { asked = asked; next = λ r. state (next r); waits = w.stage; fits = fits; referred = referred; left_is = is; leaves = w.asks.leaves r fits }
+  -- a reply that fits is right
+  pub reply-right : (a : Account) (asked : Asked) (next : Reply → D) (r : Reply) (by_reference : Bool) → Waits a asked next → FitsAsked asked r → IsReferred (a.replies asked.question) r by_reference → left (next r) ≡ left_of (state (next r))
+      → IsAnswer strategy a r (left (next r)) by_reference
+  reply-right a asked next r by_reference w fits referred is =
+      record { asked = asked; next = λ r. state (next r); waits = w.stage; fits = fits; referred = referred; left_is = is; leaves = w.asks.leaves r fits }
 
 -- the next turn of a known state: a question that is asked rightly, or an end
-module _ {D E : Type 0} (strategy : Strategy) (Known : Recorded → Store → Option Told → D → Type 0) (left : D → Option ℕ) (IsEnd : Recorded → Store → E → Type 0) where
+module _ {D E : Type 0} (strategy : Strategy) (Known : Recorded → Store → Option Told → D → Type 0) (left : D → Option ℕ) (state : D → Inquiry) (IsEnd : Recorded → Store → E → Type 0) where
   abbrev pub RightTurn : Recorded → Store → Option Told → Turn D E → Type 0
-  RightTurn R store symptom (asks asked next) = AsksRightly strategy Known left R store symptom asked next
+  RightTurn R store symptom (asks asked next) = AsksRightly strategy Known left state R store symptom asked next
   RightTurn R store symptom (goes x) = ⊥
   RightTurn R store symptom (ends e) = IsEnd R store e
 
@@ -117,7 +115,7 @@ wrong_left x = Some (suspects x)
 
 module _ (P : List Tuple) (strategy : Strategy) where
   wrong_asks : (R : Recorded) (store : Store) (symptom : Option Told) (x : Tree) (asked : Asked) (next : Reply → Tree) → (k : IsKnownTree P R store symptom x) → AsksInTree P R strategy store k.whole asked next
-      → AsksRightly strategy (IsKnownTree P) wrong_left R store symptom asked next
+      → AsksRightly strategy (IsKnownTree P) wrong_left OfWrong R store symptom asked next
   wrong_asks R store symptom x asked next k a = record {
     unanswered = record { undecided = a.undecided; unreplied = λ counted. a.unreplied };
     known = λ r fits. record {
@@ -141,7 +139,7 @@ module _ (P : List Tuple) (strategy : Strategy) where
 
   -- its next turn
   abbrev pub WrongTurn : Recorded → Store → Option Told → Turn Tree Finding → Type 0
-  WrongTurn = RightTurn strategy (IsKnownTree P) wrong_left (IsByReplies P)
+  WrongTurn = RightTurn strategy (IsKnownTree P) wrong_left OfWrong (IsByReplies P)
 
   wrong_turn-by : (R : Recorded) (store : Store) (symptom : Option Told) (x : Tree) (k : IsKnownTree P R store symptom x) (turn : Turn Tree Finding) → ComesNext P R strategy store k.whole turn → WrongTurn R store symptom turn
   wrong_turn-by R store symptom x k (asks asked next) c = wrong_asks R store symptom x asked next k c

@@ -7,7 +7,7 @@ use Rattle.apd_answers.specs.Store.{Store}
 use Rattle.apd_divide.specs.declared.node.Strategy.{Strategy}
 use Rattle.apd_divide.specs.Recorded.{tree}
 use Rattle.apd_divide.specs.Tree.{Tree, suspects}
-use Rattle.apd_loop.specs.Loop.{Looping, inside, left_in, loop, loop_start}
+use Rattle.apd_loop.specs.Loop.{Looping, inside, left_in, loop, loop_start, whole_in}
 use Rattle.apd_loop.specs.declared.LoopEnd.{LoopEnd}
 use Rattle.apd_loop.specs.declared.LoopEnd.TheVariants.{Found}
 use Rattle.apd_missing.specs.Missing.{missing}
@@ -39,3 +39,9 @@ abbrev pub left_of : Inquiry → Option ℕ
 left_of (OfWrong x) = Some (suspects x)
 left_of (OfMissing s) = None
 left_of (OfLoop s) = left_in s
+
+-- the proof tree whose nodes are suspects, where a state holds one beside the symptom: a run doesn't end, and a goal isn't true
+abbrev pub whole_of : Inquiry → Option Tree
+whole_of (OfWrong x) = None
+whole_of (OfMissing s) = None
+whole_of (OfLoop s) = whole_in s

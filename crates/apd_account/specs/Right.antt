@@ -32,7 +32,7 @@ use Rattle.apd_text.specs.declared.entry.Entry.{Entry}
 use Rattle.apd_text.specs.declared.entry.Told.{Told}
 use Rattle.apd_text.specs.declared.entry.Told.TheVariants.{Wrong, Missing, NoEnd}
 use Rattle.apd_account.specs.Account.{Account, Stage, Idle, Moves, Awaits, after_entry}
-use Rattle.apd_account.specs.Inquiry.{Inquiry, left_of, next_in}
+use Rattle.apd_account.specs.Inquiry.{Inquiry, left_of, next_in, whole_of}
 use Rattle.apd_account.specs.Telling.{Telling, Runs, Begins, Asks, Replies, Finds, Clears, Breaks, Other, told_by}
 
 -- the atom is the head of this exit, one of a box of the program's
@@ -45,28 +45,33 @@ pub record IsTreeOfSymptom (R : Recorded) (number : ℕ) (atom : Term) (x : Tree
   pub head : IsHeadOf R number atom
   pub tree_is : x ≡ tree R number atom
 
--- the tree whose nodes are suspects, by the symptom and the replies: the proof tree of the wrong answer; or, where a run doesn't
--- end, one of a goal that isn't true by the replies. Where an answer is missing there are no suspects
-abbrev pub IsSuspected : Recorded → Store → Option Told → Tree → Type 0
-IsSuspected R store None x = ⊥
-IsSuspected R store (Some (Wrong atom exit)) x = IsTreeOfSymptom R exit.0 atom x
-IsSuspected R store (Some (Missing atom box_no)) x = ⊥
-IsSuspected R store (Some (NoEnd calls)) x = IsTreeOfDenied R (chain R) store x
+-- the tree that a state holds is this, the proof tree of a goal that isn't true by the replies
+pub record IsTreeHeld (R : Recorded) (store : Store) (q : Inquiry) (x : Tree) : Type 0 where
+  pub held : whole_of q ≡ Some x
+  pub of_denied : IsTreeOfDenied R (chain R) store x
 
--- of so many suspects fewer are left; under divide and query, where of no label of their tree it is kept that it isn't known, at
+-- the tree whose nodes are suspects in a state, by the symptom and the replies: the proof tree of the wrong answer; or, where a run
+-- doesn't end, the one that the state holds, of a goal that isn't true by the replies. Where an answer is missing there are no suspects
+abbrev pub IsSuspected : Recorded → Store → Option Told → Inquiry → Tree → Type 0
+IsSuspected R store None q x = ⊥
+IsSuspected R store (Some (Wrong atom exit)) q x = IsTreeOfSymptom R exit.0 atom x
+IsSuspected R store (Some (Missing atom box_no)) q x = ⊥
+IsSuspected R store (Some (NoEnd calls)) q x = IsTreeHeld R store q x
+
+-- of so many suspects fewer are left in a state; under divide and query, where of no label of their tree it is kept that it isn't known, at
 -- most (2b - 1) / (2b) of them, for each b from 1 on that is no less than the number of children of any node of the tree
-pub record LeavesFewer (strategy : Strategy) (R : Recorded) (store : Store) (symptom : Option Told) (before : ℕ) (left : Option ℕ) : Type 0 where
+pub record LeavesFewer (strategy : Strategy) (R : Recorded) (store : Store) (symptom : Option Told) (before : ℕ) (q : Inquiry) : Type 0 where
   pub after : ℕ
-  pub left_is : left ≡ Some after
+  pub left_is : left_of q ≡ Some after
   pub fewer : after < before
   pub whole : Tree
-  pub suspected : IsSuspected R store symptom whole
+  pub suspected : IsSuspected R store symptom q whole
   pub fraction : strategy ≡ Divide → HasNone (is_doubted store) whole → LeavesAtMost (branching whole) before after
 
--- what is left by a reply to what was asked, of as many suspects as it counted, if it did
-abbrev pub Leaves : Strategy → Recorded → Store → Option Told → Asked → Reply → Option ℕ → Type 0
-Leaves strategy R store symptom asked reply left =
-    IfSome asked.suspects (λ before. LeavesFewer strategy R (with_pair store asked.question reply) symptom before left)
+-- what a reply to what was asked leaves in the state that it leads to, of as many suspects as the question counted, if it did
+abbrev pub Leaves : Strategy → Recorded → Store → Option Told → Asked → Reply → Inquiry → Type 0
+Leaves strategy R store symptom asked reply q =
+    IfSome asked.suspects (λ before. LeavesFewer strategy R (with_pair store asked.question reply) symptom before q)
 
 -- a reply that is marked as given without a line is the one that there is to the question
 abbrev pub IsReferred : Option Reply → Reply → Bool → Type 0
@@ -82,7 +87,7 @@ pub record IsAnswer (strategy : Strategy) (a : Account) (reply : Reply) (left : 
   pub fits : FitsAsked asked reply
   pub referred : IsReferred (a.replies asked.question) reply by_reference
   pub left_is : left ≡ left_of (next reply)
-  pub leaves : Leaves strategy a.history a.store a.symptom asked reply left
+  pub leaves : Leaves strategy a.history a.store a.symptom asked reply (next reply)
 
 -- a reply that is marked as given without a line is true
 abbrev pub IsTrueIfGiven : Interpretation → Stage → Reply → Bool → Type 0

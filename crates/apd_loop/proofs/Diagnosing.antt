@@ -105,10 +105,10 @@ half-order s false l = (omega (arith, l), omega arith, omega (arith, l), omega (
 
 -- an earlier goal that isn't true
 pub denied-goes : {O : Type 0} (R : Recorded) (chain : List ℕ) (strategy : Strategy) (step : O → Call → O → Type 0) (p : Moment Looping O) (store : Store) (o : O) (e : Earlier)
-    → Goes (loop R chain strategy) step p (at store (denied e) o) → Goes (loop R chain strategy) step p (at store (within (tree R e.exit e.atom)) o)
+    → Goes (loop R chain strategy) step p (at store (denied e) o) → Goes (loop R chain strategy) step p (at store (within (tree R e.exit e.atom) (tree R e.exit e.atom)) o)
 denied-goes R chain strategy step p store o e g =
-    Goes-more (loop R chain strategy) step p (at store (denied e) o) (at store (within (tree R e.exit e.atom)) o) g
-    (Goes-silent (loop R chain strategy) step store (denied e) (within (tree R e.exit e.atom)) o (next_turn-goes R chain strategy store (denied e) (within (tree R e.exit e.atom)) refl))
+    Goes-more (loop R chain strategy) step p (at store (denied e) o) (at store (within (tree R e.exit e.atom) (tree R e.exit e.atom)) o) g
+    (Goes-silent (loop R chain strategy) step store (denied e) (within (tree R e.exit e.atom) (tree R e.exit e.atom)) o (next_turn-goes R chain strategy store (denied e) (within (tree R e.exit e.atom) (tree R e.exit e.atom)) refl))
 
 -- calls beside each other
 pub beside-goes : {O : Type 0} (R : Recorded) (chain : List ℕ) (strategy : Strategy) (step : O → Call → O → Type 0) (p : Moment Looping O) (store : Store) (o : O) (low high : ℕ) → high - low ≤ 1

@@ -26,7 +26,7 @@ IsQuiet (between low high) = ⊥
 IsQuiet (descending i) = ⊥
 IsQuiet (rising i es) = Unit {0}
 IsQuiet (denied e) = Unit {0}
-IsQuiet (within x) = Unit {0}
+IsQuiet (within t x) = Unit {0}
 
 abbrev QuietTurn : Turn Looping LoopEnd → Type 0
 QuietTurn (asks asked next) = (below_in asked.question ≡ 0) × ((r : Reply) → IsQuiet (next r))
@@ -40,12 +40,12 @@ quiet_by s t r h k = by (is_yes r)
     by true = h
     by false = k
 
-quiet-within : (store : Store) (x : Tree) (t o : Option Cut) → QuietTurn (inside within Found (turn_on store x t o))
-quiet-within store x (Some c) o = tt
-quiet-within store x None None = tt
-quiet-within store x None (Some c) = by (is_passed store (label c.chosen))
+quiet-within : (store : Store) (root x : Tree) (t o : Option Cut) → QuietTurn (inside (within root) Found (turn_on store x t o))
+quiet-within store root x (Some c) o = tt
+quiet-within store root x None None = tt
+quiet-within store root x None (Some c) = by (is_passed store (label c.chosen))
   where
-    by : (b : Bool) → QuietTurn (inside within Found (turn_about x c b))
+    by : (b : Bool) → QuietTurn (inside (within root) Found (turn_about x c b))
     by true = tt
     by false = (refl, λ r. tt)
 
@@ -56,7 +56,7 @@ quiet-turn R chain strategy store (descending i) q = absurd q
 quiet-turn R chain strategy store (rising i []) q = tt
 quiet-turn R chain strategy store (rising i (e ∷ es)) q = (refl, λ r. quiet_by (rising i es) (denied e) r tt tt)
 quiet-turn R chain strategy store (denied e) q = tt
-quiet-turn R chain strategy store (within x) q = quiet-within store x (first_trusted store x) (choice strategy x)
+quiet-turn R chain strategy store (within root x) q = quiet-within store root x (first_trusted store x) (choice strategy x)
 
 -- what comes next asks no such question
 quiet-settles : (store : Store) (turn : Turn Looping LoopEnd) → QuietTurn turn → Rattle.apd_loop.proofs.Driving.Settles store IsQuiet QuietTurn turn

@@ -52,6 +52,6 @@ ends-then R chain strategy step p q kept to end (Err e) g h = Breaks-more (loop 
 -- a wrong answer inside
 pub ends-inside : {O : Type 0} (R : Recorded) (chain : List ℕ) (strategy : Strategy) (step : O → Call → O → Type 0) (store kept : Store) (x : Tree) (from to : O) (result : Result Finding AskEnd)
     → MatchResult result (λ f. Reaches (wrong strategy) step (at store x from) kept to f) (λ e. Breaks (wrong strategy) step (at store x from) kept to e)
-    → Ends R chain strategy step (at store (within x) from) kept to Found result
-ends-inside R chain strategy step store kept x from to (Ok f) h = inside-reaches R chain strategy step store kept x from to f h
-ends-inside R chain strategy step store kept x from to (Err e) h = inside-breaks R chain strategy step store kept x from to e h
+    → Ends R chain strategy step (at store (within x x) from) kept to Found result
+ends-inside R chain strategy step store kept x from to (Ok f) h = inside-reaches x R chain strategy step store kept x from to f h
+ends-inside R chain strategy step store kept x from to (Err e) h = inside-breaks x R chain strategy step store kept x from to e h

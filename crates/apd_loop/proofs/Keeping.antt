@@ -160,10 +160,9 @@ goal-true R chain store kept i e es h l y = record {
     one a (inr (inr o)) = inr o
 
 -- an earlier goal isn't
-goal-denied : (P : List Tuple) (R : Recorded) (chain : List ℕ) (store : Store) (e : Earlier) → IsSound P R → IsDenied R chain store e → IsWithin P R chain store (tree R e.exit e.atom)
+goal-denied : (P : List Tuple) (R : Recorded) (chain : List ℕ) (store : Store) (e : Earlier) → IsSound P R → IsDenied R chain store e → IsWithin P R chain store (tree R e.exit e.atom) (tree R e.exit e.atom)
 goal-denied P R chain store e sound d = record {
   wrong = tree-wrong P R store sound e.exit e.atom d.solved.labelled.exit d.solved.labelled.instance d.not_true;
-  whole = tree R e.exit e.atom;
   of_denied = record { goal = e; denied = d; tree_is = refl };
   part = part-whole (tree R e.exit e.atom);
 }
@@ -228,17 +227,17 @@ denied-later R chain store kept e l d =
 tree-later : (R : Recorded) (chain : List ℕ) (store kept : Store) (x : Tree) → Later store kept → IsTreeOfDenied R chain store x → IsTreeOfDenied R chain kept x
 tree-later R chain store kept x l t = record { goal = t.goal; denied = denied-later R chain store kept t.goal l t.denied; tree_is = t.tree_is }
 
-within-later : (P : List Tuple) (R : Recorded) (chain : List ℕ) (store kept : Store) (x y : Tree) → (w : IsWithin P R chain store x) → Later store kept
-    → IsWrongTree P R kept y → IsPartOf w.whole y → IsWithin P R chain kept y
-within-later P R chain store kept x y w l t p = record { wrong = t; whole = w.whole; of_denied = tree-later R chain store kept w.whole l w.of_denied; part = p }
+within-later : (P : List Tuple) (R : Recorded) (chain : List ℕ) (store kept : Store) (root x y : Tree) → IsWithin P R chain store root x → Later store kept
+    → IsWrongTree P R kept y → IsPartOf root y → IsWithin P R chain kept root y
+within-later P R chain store kept root x y w l t p = record { wrong = t; of_denied = tree-later R chain store kept root l w.of_denied; part = p }
 
 -- what isn't passed over, although nothing decides it, isn't kept as unknown
 unpassed : (store : Store) (a : Term) → is_passed store a ≡ false → decided store (asking.True a) ≡ None → is_doubted store a ≡ false
 unpassed store a p d = sym (passed-is store a (is_doubted store a) d refl) ∙ p
 
-keeps-asked : (P : List Tuple) (R : Recorded) (chain : List ℕ) (strategy : Strategy) (store : Store) (x : Tree) (c : Cut) → choice strategy x ≡ Some c → is_passed store (label c.chosen) ≡ false
-    → AllFit store → IsWithin P R chain store x → Keeps P R chain strategy store (asks (asked_about x c) (λ r. within (judged_by c r)))
-keeps-asked P R chain strategy store x c e p fit w = (
+keeps-asked : (P : List Tuple) (R : Recorded) (chain : List ℕ) (strategy : Strategy) (store : Store) (root x : Tree) (c : Cut) → choice strategy x ≡ Some c → is_passed store (label c.chosen) ≡ false
+    → AllFit store → IsWithin P R chain store root x → Keeps P R chain strategy store (asks (asked_about x c) (λ r. within root (judged_by c r)))
+keeps-asked P R chain strategy store root x c e p fit w = (
   λ none. record {
     undecided = none;
     unreplied = λ i. unpassed store (label c.chosen) p none;
@@ -248,38 +247,39 @@ keeps-asked P R chain strategy store x c e p fit w = (
         record {
           known = record {
             fit = fit_added store (asking.True (label c.chosen)) r fit fits.0;
-            said = within-later P R chain store kept x (judged_by c r) w l (wrong-replied P R store strategy x c r e fits.0 w.wrong) (part-judged w.whole strategy x c (verdict r) e w.part);
+            said = within-later P R chain store kept root x (judged_by c r) w l (wrong-replied P R store strategy x c r e fits.0 w.wrong) (part-judged root strategy x c (verdict r) e w.part);
           };
           fewer = record {
             after = suspects (judged_by c r);
             left_is = refl;
             fewer = choice-lowers strategy x c (verdict r) e;
-            whole = w.whole;
-            of_denied = tree-later R chain store kept w.whole l w.of_denied;
-            fraction = fraction-left P R strategy store w.whole x c r w.wrong e w.part;
+            whole = root;
+            whole_is = refl;
+            of_denied = tree-later R chain store kept root l w.of_denied;
+            fraction = fraction-left P R strategy store root x c r w.wrong e w.part;
           };
           uncounted = λ n. absurd (cc);
         };
   },
-  λ r d. within-later P R chain store store x (judged_by c r) w stayed (wrong-decided P R store strategy x c r e d w.wrong) (part-judged w.whole strategy x c (verdict r) e w.part),
+  λ r d. within-later P R chain store store root x (judged_by c r) w stayed (wrong-decided P R store strategy x c r e d w.wrong) (part-judged root strategy x c (verdict r) e w.part),
 )
 
 found-kind : (x : Tree) (ds : List Instance) → IsViolationOrWrong (found_with x ds)
 found-kind x [] = tt
 found-kind x (d ∷ ds) = tt
 
-keeps-within : (P : List Tuple) (R : Recorded) (chain : List ℕ) (strategy : Strategy) (store : Store) (x : Tree) (t o : Option Cut) → first_trusted store x ≡ t → choice strategy x ≡ o
-    → AllFit store → IsWithin P R chain store x → Keeps P R chain strategy store (inside within Found (turn_on store x t o))
-keeps-within P R chain strategy store x (Some c) o f e fit w =
-    within-later P R chain store store x (judged c verdicts.True) w stayed (wrong-trusted P R store x c f w.wrong) (part-trusted w.whole store x c f w.part)
-keeps-within P R chain strategy store x None None f e fit w = (found-kind x (doubts_of (children x)), wrong-found P R store x (choice-none strategy x e) w.wrong)
-keeps-within P R chain strategy store x None (Some c) f e fit w = by (is_passed store (label c.chosen)) refl
+keeps-within : (P : List Tuple) (R : Recorded) (chain : List ℕ) (strategy : Strategy) (store : Store) (root x : Tree) (t o : Option Cut) → first_trusted store x ≡ t → choice strategy x ≡ o
+    → AllFit store → IsWithin P R chain store root x → Keeps P R chain strategy store (inside (within root) Found (turn_on store x t o))
+keeps-within P R chain strategy store root x (Some c) o f e fit w =
+    within-later P R chain store store root x (judged c verdicts.True) w stayed (wrong-trusted P R store x c f w.wrong) (part-trusted root store x c f w.part)
+keeps-within P R chain strategy store root x None None f e fit w = (found-kind x (doubts_of (children x)), wrong-found P R store x (choice-none strategy x e) w.wrong)
+keeps-within P R chain strategy store root x None (Some c) f e fit w = by (is_passed store (label c.chosen)) refl
   where
-    by : (b : Bool) → is_passed store (label c.chosen) ≡ b → Keeps P R chain strategy store (inside within Found (turn_about x c b))
+    by : (b : Bool) → is_passed store (label c.chosen) ≡ b → Keeps P R chain strategy store (inside (within root) Found (turn_about x c b))
     by true p =
-        within-later P R chain store store x (judged c verdicts.Unknown) w stayed (wrong-doubted P R store strategy x c e (passed-doubted store (label c.chosen) p) w.wrong)
-        (part-judged w.whole strategy x c verdicts.Unknown e w.part)
-    by false p = keeps-asked P R chain strategy store x c e p fit w
+        within-later P R chain store store root x (judged c verdicts.Unknown) w stayed (wrong-doubted P R store strategy x c e (passed-doubted store (label c.chosen) p) w.wrong)
+        (part-judged root strategy x c verdicts.Unknown e w.part)
+    by false p = keeps-asked P R chain strategy store root x c e p fit w
 
 -- each turn
 keeps-whole : (P : List Tuple) (R : Recorded) (chain : List ℕ) (strategy : Strategy) (store : Store) → IsChain R chain → AllFit store → Keeps P R chain strategy store (turn_in R chain strategy store whole)
@@ -336,4 +336,4 @@ turn-keeps P R chain strategy store (rising i (e ∷ es)) sound c fit h =
     (λ kept l y. goal-true R chain store kept i e es h l y)
     (λ kept l n. record { call = i; from = h.from; to = h.to; apart = apart-later store kept (call_of R chain (i + 1)) (call_of R chain i) l h.apart; before = h.before.0; solved = h.solved.0; not_true = n })
 turn-keeps P R chain strategy store (denied e) sound c fit h = goal-denied P R chain store e sound h
-turn-keeps P R chain strategy store (within x) sound c fit h = keeps-within P R chain strategy store x (first_trusted store x) (choice strategy x) refl refl fit h
+turn-keeps P R chain strategy store (within root x) sound c fit h = keeps-within P R chain strategy store root x (first_trusted store x) (choice strategy x) refl refl fit h

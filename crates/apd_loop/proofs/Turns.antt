@@ -102,79 +102,79 @@ truth_no store a (Values vs) y s e f = absurd s
 truth_no store a Unknown y s e f = absurd s
 
 -- a wrong answer inside: the dialogue is the same
-inside-settled : (store : Store) (f : Looping → Turn Looping LoopEnd) (g : Tree → Turn Tree Finding) → ((x : Tree) → f (within x) ≡ inside within Found (g x)) → (turn : Turn Tree Finding)
-    → settled store f (inside within Found turn) ≡ inside within Found (settled store g turn)
-inside-settled store f g h (asks asked next) = by (decided store asked.question)
+inside-settled : (root : Tree) (store : Store) (f : Looping → Turn Looping LoopEnd) (g : Tree → Turn Tree Finding) → ((x : Tree) → f (within root x) ≡ inside (within root) Found (g x)) → (turn : Turn Tree Finding)
+    → settled store f (inside (within root) Found turn) ≡ inside (within root) Found (settled store g turn)
+inside-settled root store f g h (asks asked next) = by (decided store asked.question)
   where
-    by : (o : Option Reply) → unless_decided f asked (λ r. within (next r)) o ≡ inside within Found (unless_decided g asked next o)
+    by : (o : Option Reply) → unless_decided f asked (λ r. within root (next r)) o ≡ inside (within root) Found (unless_decided g asked next o)
     by None = refl
     by (Some r) = h (next r)
-inside-settled store f g h (goes x) = h x
-inside-settled store f g h (ends e) = refl
+inside-settled root store f g h (goes x) = h x
+inside-settled root store f g h (ends e) = refl
 
-inside-pursued : (R : Recorded) (chain : List ℕ) (strategy : Strategy) (store : Store) (k : ℕ) (x : Tree) → pursued (loop R chain strategy) store k (within x) ≡ inside within Found (pursued (wrong strategy) store k x)
-inside-pursued R chain strategy store zero x = refl
-inside-pursued R chain strategy store (suc k) x =
-    inside-settled store (pursued (loop R chain strategy) store k) (pursued (wrong strategy) store k) (inside-pursued R chain strategy store k) ((wrong strategy).turn store x)
+inside-pursued : (root : Tree) (R : Recorded) (chain : List ℕ) (strategy : Strategy) (store : Store) (k : ℕ) (x : Tree) → pursued (loop R chain strategy) store k (within root x) ≡ inside (within root) Found (pursued (wrong strategy) store k x)
+inside-pursued root R chain strategy store zero x = refl
+inside-pursued root R chain strategy store (suc k) x =
+    inside-settled root store (pursued (loop R chain strategy) store k) (pursued (wrong strategy) store k) (inside-pursued root R chain strategy store k) ((wrong strategy).turn store x)
 
-inside-next : (R : Recorded) (chain : List ℕ) (strategy : Strategy) (store : Store) (x : Tree) → next_turn (loop R chain strategy) store (within x) ≡ inside within Found (next_turn (wrong strategy) store x)
-inside-next R chain strategy store x = inside-pursued R chain strategy store (suspects x) x
+inside-next : (root : Tree) (R : Recorded) (chain : List ℕ) (strategy : Strategy) (store : Store) (x : Tree) → next_turn (loop R chain strategy) store (within root x) ≡ inside (within root) Found (next_turn (wrong strategy) store x)
+inside-next root R chain strategy store x = inside-pursued root R chain strategy store (suspects x) x
 
-abbrev inside_dialogue : Dialogue Tree Finding → Dialogue Looping LoopEnd
-inside_dialogue d = record { exchanges = d.exchanges; store = d.store; turn = inside within Found d.turn }
+abbrev inside_dialogue : Tree → Dialogue Tree Finding → Dialogue Looping LoopEnd
+inside_dialogue root d = record { exchanges = d.exchanges; store = d.store; turn = inside (within root) Found d.turn }
 
-inside-dialogue : (R : Recorded) (chain : List ℕ) (strategy : Strategy) (replies : List Reply) (store : Store) (x : Tree) → dialogue (loop R chain strategy) replies store (within x) ≡ inside_dialogue (dialogue (wrong strategy) replies store x)
-inside-dialogue R chain strategy [] store x = ap (silent store) (inside-next R chain strategy store x)
-inside-dialogue R chain strategy (r ∷ rs) store x =
-    ap (replied (loop R chain strategy).left (dialogue (loop R chain strategy) rs) store r) (inside-next R chain strategy store x)
-    ∙ by (next_turn (wrong strategy) store x) (λ kept y. inside-dialogue R chain strategy rs kept y)
+inside-dialogue : (root : Tree) (R : Recorded) (chain : List ℕ) (strategy : Strategy) (replies : List Reply) (store : Store) (x : Tree) → dialogue (loop R chain strategy) replies store (within root x) ≡ inside_dialogue root (dialogue (wrong strategy) replies store x)
+inside-dialogue root R chain strategy [] store x = ap (silent store) (inside-next root R chain strategy store x)
+inside-dialogue root R chain strategy (r ∷ rs) store x =
+    ap (replied (loop R chain strategy).left (dialogue (loop R chain strategy) rs) store r) (inside-next root R chain strategy store x)
+    ∙ by (next_turn (wrong strategy) store x) (λ kept y. inside-dialogue root R chain strategy rs kept y)
   where
-    by : (turn : Turn Tree Finding) → ((kept : Store) (y : Tree) → dialogue (loop R chain strategy) rs kept (within y) ≡ inside_dialogue (dialogue (wrong strategy) rs kept y))
-        → replied (loop R chain strategy).left (dialogue (loop R chain strategy) rs) store r (inside within Found turn) ≡ inside_dialogue (replied (wrong strategy).left (dialogue (wrong strategy) rs) store r turn)
+    by : (turn : Turn Tree Finding) → ((kept : Store) (y : Tree) → dialogue (loop R chain strategy) rs kept (within root y) ≡ inside_dialogue root (dialogue (wrong strategy) rs kept y))
+        → replied (loop R chain strategy).left (dialogue (loop R chain strategy) rs) store r (inside (within root) Found turn) ≡ inside_dialogue root (replied (wrong strategy).left (dialogue (wrong strategy) rs) store r turn)
     by (asks asked next) h = ap (onto (record { asked = asked; reply = r; left = Some (suspects (next r)) } ∷ [])) (h (with_pair store asked.question r) (next r))
     by (goes y) h = refl
     by (ends e) h = refl
 
-abbrev inside_moment : {O : Type 0} → Moment Tree O → Moment Looping O
-inside_moment p = at p.store (within p.state) p.oracle
+abbrev inside_moment : {O : Type 0} → Tree → Moment Tree O → Moment Looping O
+inside_moment root p = at p.store (within root p.state) p.oracle
 
-inside-goes : {O : Type 0} (R : Recorded) (chain : List ℕ) (strategy : Strategy) (step : O → Call → O → Type 0) (p q : Moment Tree O) → Goes (wrong strategy) step p q → Goes (loop R chain strategy) step (inside_moment p) (inside_moment q)
-inside-goes R chain strategy step p q g = record {
+inside-goes : {O : Type 0} (root : Tree) (R : Recorded) (chain : List ℕ) (strategy : Strategy) (step : O → Call → O → Type 0) (p q : Moment Tree O) → Goes (wrong strategy) step p q → Goes (loop R chain strategy) step (inside_moment root p) (inside_moment root q)
+inside-goes root R chain strategy step p q g = record {
   replies = g.replies;
   exchanges = g.exchanges;
   fit = g.fit;
   rest = λ more.
-      inside-dialogue R chain strategy (g.replies ++ more) p.store p.state ∙ ap inside_dialogue (g.rest more)
-      ∙ ap (onto g.exchanges) (sym (inside-dialogue R chain strategy more q.store q.state));
+      inside-dialogue root R chain strategy (g.replies ++ more) p.store p.state ∙ ap (inside_dialogue root) (g.rest more)
+      ∙ ap (onto g.exchanges) (sym (inside-dialogue root R chain strategy more q.store q.state));
   calls = g.calls;
 }
 
-pub inside-reaches : {O : Type 0} (R : Recorded) (chain : List ℕ) (strategy : Strategy) (step : O → Call → O → Type 0) (store kept : Store) (x : Tree) (from to : O) (f : Finding)
-    → Reaches (wrong strategy) step (at store x from) kept to f → Reaches (loop R chain strategy) step (at store (within x) from) kept to (Found f)
-inside-reaches R chain strategy step store kept x from to f h = record {
+pub inside-reaches : {O : Type 0} (root : Tree) (R : Recorded) (chain : List ℕ) (strategy : Strategy) (step : O → Call → O → Type 0) (store kept : Store) (x : Tree) (from to : O) (f : Finding)
+    → Reaches (wrong strategy) step (at store x from) kept to f → Reaches (loop R chain strategy) step (at store (within root x) from) kept to (Found f)
+inside-reaches root R chain strategy step store kept x from to f h = record {
   replies = h.replies;
   exchanges = h.exchanges;
   fit = h.fit;
-  whole = inside-dialogue R chain strategy h.replies store x ∙ ap inside_dialogue h.whole;
+  whole = inside-dialogue root R chain strategy h.replies store x ∙ ap (inside_dialogue root) h.whole;
   calls = h.calls;
 }
 
-inside-broken : (R : Recorded) (chain : List ℕ) (strategy : Strategy) (turn : Turn Tree Finding) (before : Store) (end : AskEnd) (calls : List Call) (kept : Store) → Broken (wrong strategy).left turn before end calls kept
-    → Broken (loop R chain strategy).left (inside within Found turn) before end calls kept
-inside-broken R chain strategy turn before end _ _ (unasked m) = unasked m
-inside-broken R chain strategy turn before end _ _ (unanswered asked next e) = unanswered asked (λ r. within (next r)) (ap (inside within Found) e)
-inside-broken R chain strategy turn before end _ _ (unkept asked next r e f m) = unkept asked (λ z. within (next z)) r (ap (inside within Found) e) f m
-inside-broken R chain strategy turn before end _ _ (untold asked next r e f) = untold asked (λ z. within (next z)) r (ap (inside within Found) e) f
+inside-broken : (root : Tree) (R : Recorded) (chain : List ℕ) (strategy : Strategy) (turn : Turn Tree Finding) (before : Store) (end : AskEnd) (calls : List Call) (kept : Store) → Broken (wrong strategy).left turn before end calls kept
+    → Broken (loop R chain strategy).left (inside (within root) Found turn) before end calls kept
+inside-broken root R chain strategy turn before end _ _ (unasked m) = unasked m
+inside-broken root R chain strategy turn before end _ _ (unanswered asked next e) = unanswered asked (λ r. within root (next r)) (ap (inside (within root) Found) e)
+inside-broken root R chain strategy turn before end _ _ (unkept asked next r e f m) = unkept asked (λ z. within root (next z)) r (ap (inside (within root) Found) e) f m
+inside-broken root R chain strategy turn before end _ _ (untold asked next r e f) = untold asked (λ z. within root (next z)) r (ap (inside (within root) Found) e) f
 
-pub inside-breaks : {O : Type 0} (R : Recorded) (chain : List ℕ) (strategy : Strategy) (step : O → Call → O → Type 0) (store kept : Store) (x : Tree) (from to : O) (e : AskEnd)
-    → Breaks (wrong strategy) step (at store x from) kept to e → Breaks (loop R chain strategy) step (at store (within x) from) kept to e
-inside-breaks R chain strategy step store kept x from to e b = record {
-  last = inside_moment b.last;
-  goes = inside-goes R chain strategy step (at store x from) b.last b.goes;
+pub inside-breaks : {O : Type 0} (root : Tree) (R : Recorded) (chain : List ℕ) (strategy : Strategy) (step : O → Call → O → Type 0) (store kept : Store) (x : Tree) (from to : O) (e : AskEnd)
+    → Breaks (wrong strategy) step (at store x from) kept to e → Breaks (loop R chain strategy) step (at store (within root x) from) kept to e
+inside-breaks root R chain strategy step store kept x from to e b = record {
+  last = inside_moment root b.last;
+  goes = inside-goes root R chain strategy step (at store x from) b.last b.goes;
   calls = b.calls;
   broken =
-      subst (λ turn. Broken (loop R chain strategy).left turn b.last.store e b.calls kept) (sym (inside-next R chain strategy b.last.store b.last.state))
-      (inside-broken R chain strategy (next_turn (wrong strategy) b.last.store b.last.state) b.last.store e b.calls kept b.broken);
+      subst (λ turn. Broken (loop R chain strategy).left turn b.last.store e b.calls kept) (sym (inside-next root R chain strategy b.last.store b.last.state))
+      (inside-broken root R chain strategy (next_turn (wrong strategy) b.last.store b.last.state) b.last.store e b.calls kept b.broken);
   through = b.through;
 }
 

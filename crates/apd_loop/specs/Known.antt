@@ -66,11 +66,10 @@ pub record IsTreeOfDenied (R : Recorded) (chain : List ℕ) (store : Store) (x :
   pub tree_is : x ≡ tree R goal.exit goal.atom
 
 -- a tree of a wrong answer that is a part of such a proof tree
-pub record IsWithin (P : List Tuple) (R : Recorded) (chain : List ℕ) (store : Store) (x : Tree) : Type 0 where
+pub record IsWithin (P : List Tuple) (R : Recorded) (chain : List ℕ) (store : Store) (t x : Tree) : Type 0 where
   pub wrong : IsWrongTree P R store x
-  pub whole : Tree
-  pub of_denied : IsTreeOfDenied R chain store whole
-  pub part : IsPartOf whole x
+  pub of_denied : IsTreeOfDenied R chain store t
+  pub part : IsPartOf t x
 
 -- call `high` isn't below the earlier call `low`
 pub record IsSegment (R : Recorded) (chain : List ℕ) (store : Store) (low high : ℕ) : Type 0 where
@@ -91,7 +90,7 @@ IsSaid P R chain store (between low high) = IsSegment R chain store low high
 IsSaid P R chain store (descending i) = DescendsAfter R chain store i
 IsSaid P R chain store (rising i es) = Rises R chain store i es
 IsSaid P R chain store (denied e) = IsDenied R chain store e
-IsSaid P R chain store (within x) = IsWithin P R chain store x
+IsSaid P R chain store (within t x) = IsWithin P R chain store t x
 
 -- and its replies fit their questions
 pub record IsKnown (P : List Tuple) (R : Recorded) (chain : List ℕ) (store : Store) (s : Looping) : Type 0 where

@@ -30,14 +30,14 @@ pub record Earlier : Type 0 where
 
 -- what is known: nothing; that call `high` isn't below call `low`; that the last call is below the first, and each call after
 -- number i + 1 is below the one before; that call i + 1 isn't below call i, with the earlier goals that are left to ask about;
--- that an earlier goal isn't true; or that a proof tree is one of a wrong answer
+-- that an earlier goal isn't true; or that its proof tree is one of a wrong answer, with what is left of it
 pub data Looping : Type 0 where
   whole : Looping
   between : (low high : ℕ) → Looping
   descending : ℕ → Looping
   rising : ℕ → List Earlier → Looping
   denied : Earlier → Looping
-  within : Tree → Looping
+  within : Tree → Tree → Looping
 
 -- number i of the calls
 abbrev pub numbered : {T : Type 0} → T → List T → ℕ → T
@@ -98,12 +98,17 @@ turn_in R chain strategy store (descending (suc i)) =
 turn_in R chain strategy store (rising i []) = ends (Found (violation R chain i))
 turn_in R chain strategy store (rising i (e ∷ es)) =
     asks (record { question = asking.True e.atom; suspects = None }) (by_yes (rising i es) (denied e))
-turn_in R chain strategy store (denied e) = goes (within (tree R e.exit e.atom))
-turn_in R chain strategy store (within x) = inside within Found ((wrong strategy).turn store x)
+turn_in R chain strategy store (denied e) = goes (within (tree R e.exit e.atom) (tree R e.exit e.atom))
+turn_in R chain strategy store (within t x) = inside (within t) Found ((wrong strategy).turn store x)
 
 abbrev pub left_in : Looping → Option ℕ
-left_in (within x) = Some (suspects x)
+left_in (within t x) = Some (suspects x)
 left_in _ = None
+
+-- the proof tree whose nodes are suspects
+abbrev pub whole_in : Looping → Option Tree
+whole_in (within t x) = Some t
+whole_in _ = None
 
 -- how many turns there are about earlier goals, at most
 abbrev pub earlier_bound : Recorded → List Earlier → ℕ
@@ -121,7 +126,7 @@ bound_in R chain (between low high) = (high - low) + greatest_bound R chain low 
 bound_in R chain (descending i) = i + greatest_bound R chain 0 i + 1
 bound_in R chain (rising i es) = earlier_bound R es
 bound_in R chain (denied e) = suspects (tree R e.exit e.atom) + 1
-bound_in R chain (within x) = suspects x
+bound_in R chain (within t x) = suspects x
 
 abbrev pub loop : Recorded → List ℕ → Strategy → Diagnosis Looping LoopEnd
 loop R chain strategy = record {

@@ -18,7 +18,7 @@ use Rattle.apd_wrong.specs.Part.{HasNone}
 use Rattle.apd_wrong.specs.Next.{LeavesAtMost}
 use Rattle.apd_loop.specs.declared.LoopEnd.{LoopEnd}
 use Rattle.apd_loop.specs.declared.LoopEnd.TheVariants.{Found, AllDescend}
-use Rattle.apd_loop.specs.Loop.{Looping, left_in, calls_in}
+use Rattle.apd_loop.specs.Loop.{Looping, left_in, whole_in, calls_in}
 use Rattle.apd_loop.specs.Known.{IsKnown, IsTreeOfDenied}
 
 -- a call that isn't below its caller, or a wrong instance of a clause, or candidates for one
@@ -33,13 +33,15 @@ abbrev pub IsEndByReplies : List Tuple → Recorded → List ℕ → Store → L
 IsEndByReplies P R chain store (Found finding) = IsViolationOrWrong finding × IsByReplies P R store finding
 IsEndByReplies P R chain store AllDescend = AllDescendByReplies store (calls_in R chain)
 
--- of so many suspects fewer are left; under divide and query, where of no label of their tree it is kept that it isn't known, at most (2b - 1) / (2b) of them, for each b from 1 on that is no
--- less than the number of children of any node of the proof tree of an earlier goal that isn't true by the store
-pub record LeavesFewer (R : Recorded) (chain : List ℕ) (strategy : Strategy) (store : Store) (before : ℕ) (left : Option ℕ) : Type 0 where
+-- of so many suspects fewer are left in a state. Its tree is the proof tree of an earlier goal that isn't true by the store; under divide
+-- and query, where of no label of this tree it is kept that it isn't known, at most (2b - 1) / (2b) of them are left, for each b from 1 on
+-- that is no less than the number of children of any node of the tree
+pub record LeavesFewer (R : Recorded) (chain : List ℕ) (strategy : Strategy) (store : Store) (before : ℕ) (s : Looping) : Type 0 where
   pub after : ℕ
-  pub left_is : left ≡ Some after
+  pub left_is : left_in s ≡ Some after
   pub fewer : after < before
   pub whole : Tree
+  pub whole_is : whole_in s ≡ Some whole
   pub of_denied : IsTreeOfDenied R chain store whole
   pub fraction : strategy ≡ Divide → HasNone (is_doubted store) whole → LeavesAtMost (branching whole) before after
 
@@ -47,7 +49,7 @@ pub record LeavesFewer (R : Recorded) (chain : List ℕ) (strategy : Strategy) (
 -- where it didn't
 pub record LeavesKnown (P : List Tuple) (R : Recorded) (chain : List ℕ) (strategy : Strategy) (store : Store) (counted : Option ℕ) (s : Looping) : Type 0 where
   pub known : IsKnown P R chain store s
-  pub fewer : IfSome counted (λ before. LeavesFewer R chain strategy store before (left_in s))
+  pub fewer : IfSome counted (λ before. LeavesFewer R chain strategy store before s)
   pub uncounted : counted ≡ None → left_in s ≡ None
 
 -- the question isn't decided by the store, nor, where suspects are counted, is it kept that it isn't known; and each reply that fits leaves a known state

@@ -1,45 +1,50 @@
--- The replies of a demonstration are yes or no.
-use Rattle.std.proofs.Common.{◌≡◌, ℕ, Bool, true, false, List}
-use Rattle.std.specs.Prelude.{if◌then◌else◌}
-use Rattle.apd_answers.specs.Questions.{Fits, FitsAsked}
-use Rattle.apd_answers.specs.declared.question.Asked.{Asked}
+-- What is replied about a tree is yes or no, to whether an atom is true.
+use Rattle.std.proofs.Common.{◌≡◌, ◌≢◌, ℕ, Bool, true, false, Option, Some, None}
+use Rattle.std.specs.Prelude.{if◌then◌else◌, nat_le}
+use Rattle.apd_answers.specs.Named.{ReplyIsNamed}
+use Rattle.apd_answers.specs.Questions.{Fits}
+use Rattle.apd_answers.specs.Repliers.{RepliesAreNamed, RepliesFit}
 use Rattle.apd_answers.specs.declared.question.Question.{Question}
 use Rattle.apd_answers.specs.declared.question.Question.TheVariants as asks
+use Rattle.apd_answers.specs.declared.question.Reply.{Reply}
 use Rattle.apd_answers.specs.declared.question.Reply.TheVariants.{Yes, No, Unknown}
-use Rattle.apd_clauses.specs.declared.clause.Clause.{Clause}
-use Rattle.apd_term.specs.Term.{Term}
-use Rattle.apd_text.specs.Named.{ReplyIsNamed}
-use Rattle.apd_demo.specs.Replies.{is_right_atom, reply_to}
+use Rattle.apd_gen.specs.Nodes.{is_true_node}
+use Rattle.apd_demo.specs.Replies.{TreeNodes, node_of, reply_about, tree_reply}
 
-either_named : (n : ℕ) (b : Bool) → ReplyIsNamed n (if b then Yes else No)
-either_named n true = tt
-either_named n false = tt
+-- a property of each reply that there is
+abbrev IfGiven : (Reply → Type 0) → Option Reply → Type 0
+IfGiven P None = Unit {0}
+IfGiven P (Some r) = P r
 
-either_fits : (atom : Term) (b : Bool) → Fits (asks.True atom) (if b then Yes else No)
-either_fits atom true = tt
-either_fits atom false = tt
+given : (P : Reply → Type 0) (o : Option Reply) (r : Reply) → IfGiven P o → o ≡ Some r → P r
+given P None r h e = absurd (cc)
+given P (Some s) r h e = let same : s ≡ r = cc in rw (← same) h
 
--- they fit
-reply-fits : (nodes : ℕ) (program : List Clause) (q : Question) → Fits q (reply_to nodes program q)
-reply-fits nodes program (asks.True atom) = either_fits atom (is_right_atom nodes program atom)
-reply-fits nodes program (asks.Covers tuple) = tt
-reply-fits nodes program (asks.Below callee caller) = tt
+-- so has each where yes and no have it
+by_words : (P : Reply → Type 0) → P Yes → P No → (there right : Bool) → IfGiven P (if there then Some (if right then Yes else No) else None)
+by_words P yes_has no_has true true = yes_has
+by_words P yes_has no_has true false = no_has
+by_words P yes_has no_has false right = tt
 
-either_known : (b : Bool) → (if b then Yes else No) ≡ Unknown → ⊥
-either_known true e = cc
-either_known false e = cc
+about_has : (P : Reply → Type 0) → P Yes → P No → (n : ℕ) (o : Option ℕ) → IfGiven P (reply_about n o)
+about_has P yes_has no_has n None = tt
+about_has P yes_has no_has n (Some i) = by_words P yes_has no_has (nat_le i n) (is_true_node n i)
 
--- and none is that it isn't known
-reply-known : (nodes : ℕ) (program : List Clause) (q : Question) → reply_to nodes program q ≡ Unknown → ⊥
-reply-known nodes program (asks.True atom) e = either_known (is_right_atom nodes program atom) e
-reply-known nodes program (asks.Covers tuple) e = cc
-reply-known nodes program (asks.Below callee caller) e = cc
+abbrev FitsSo : Question → Reply → Type 0
+FitsSo q r = Fits q r × (r ≢ Unknown)
 
-pub asked-fits : (nodes : ℕ) (program : List Clause) (asked : Asked) → FitsAsked asked (reply_to nodes program asked.question)
-asked-fits nodes program asked = (reply-fits nodes program asked.question, λ e. absurd (reply-known nodes program asked.question e))
+fits_so : (t : TreeNodes) (q : Question) → IfGiven (FitsSo q) (tree_reply t q)
+fits_so t (asks.True a) = about_has (FitsSo (asks.True a)) (tt, λ e. cc) (tt, λ e. cc) t.count (node_of t a)
+fits_so t (asks.Covers tuple) = tt
+fits_so t (asks.Below callee caller) = tt
 
--- their names are known
-pub reply-named : (nodes : ℕ) (program : List Clause) (n : ℕ) (q : Question) → ReplyIsNamed n (reply_to nodes program q)
-reply-named nodes program n (asks.True atom) = either_named n (is_right_atom nodes program atom)
-reply-named nodes program n (asks.Covers tuple) = tt
-reply-named nodes program n (asks.Below callee caller) = tt
+pub tree_fits : (t : TreeNodes) → RepliesFit (tree_reply t)
+tree_fits t q r e = given (FitsSo q) (tree_reply t q) r (fits_so t q) e
+
+named_so : (t : TreeNodes) (n : ℕ) (q : Question) → IfGiven (ReplyIsNamed n) (tree_reply t q)
+named_so t n (asks.True a) = about_has (ReplyIsNamed n) tt tt t.count (node_of t a)
+named_so t n (asks.Covers tuple) = tt
+named_so t n (asks.Below callee caller) = tt
+
+pub tree_named : (t : TreeNodes) (least : ℕ) → RepliesAreNamed least (tree_reply t)
+tree_named t least n few q r named e = given (ReplyIsNamed n) (tree_reply t q) r (named_so t n q) e

@@ -1,7 +1,3 @@
-pub mod Questions
-pub mod Falling
-pub mod Answering
 pub mod Fitting
-pub mod Going
-pub mod Demonstrating
-pub mod Stepping
+pub mod Holding
+pub mod Walking

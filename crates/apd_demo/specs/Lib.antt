@@ -1,3 +1,1 @@
 pub mod Replies
-pub mod Calls
-pub mod Answered

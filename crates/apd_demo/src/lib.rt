@@ -1,10 +1,8 @@
-//! The diagnosis of a demonstration: the program replies for itself, by what is known of its tree, and nothing is read.
+//! Who replies about the program of a demonstration's tree: by which of its nodes are true.
 #![tactic(auto)]
 
-mod demo;
-mod diagnosing;
-mod replies;
-mod saying;
+pub mod laws;
+mod nodes;
+pub mod tree;
 
-pub use diagnosing::{Tree, diagnose_tree};
-pub use replies::reply_to;
+pub use tree::TreeReplier;

@@ -1,5 +1,5 @@
 -- What a call of a dialogue does.
-use Rattle.std.specs.Prelude.{ℕ, ◌≡◌, ◌+◌, ◌<◌, ◌≤◌, length, Bool, Option, None, Some, is_some, Result, Ok, Err, IfOk}
+use Rattle.std.specs.Prelude.{ℕ, ◌≡◌, ◌+◌, ◌<◌, ◌≤◌, length, Bool, Option, None, Some, Result, Ok, Err, IfOk}
 use Rattle.apd_base.specs.Counts.{Counts, risen}
 use Rattle.apd_base.specs.declared.limits.TheConstants.{MOST_NAMES}
 use Rattle.apd_answers.specs.Oracle.{Call, is_read_fault, is_write_fault}
@@ -25,7 +25,7 @@ use Rattle.apd_term.specs.StandardNames.{standard_names}
 use Rattle.apd_text.specs.Named.{QuestionIsNamed, ReplyIsNamed}
 use Rattle.apd_text.specs.declared.entry.Entry.{Entry}
 use Rattle.apd_text.specs.declared.entry.Entry.TheVariants.{Replied}
-use Rattle.apd_oracle.specs.Waiting.{Afterwards, Course, asking}
+use Rattle.apd_oracle.specs.Waiting.{Afterwards, Course, asking, marked_by}
 
 -- the names are there that a line needs: the standard ones, and with the bytes that may still be handed out fewer than may be kept
 pub record CanHear (p : Moment) : Type 0 where
@@ -124,13 +124,13 @@ module _ (replies : Question → Option Reply) where
       × (QuestionIsNamed (length p.spoken.log.names) asked.question → IfOk result (IsReply (length q.spoken.log.names) asked))
   Acts by_reference (calls.telling reply left result) number p q = HearsNothing p q × SaysReply by_reference reply left p.spoken q.spoken result
 
-  -- after a call, whether the last reply was given without a line
-  abbrev pub referred : Call → Bool → Bool
-  referred (calls.asking asked (Ok reply)) by_reference = is_some (replies asked.question)
-  referred (calls.asking asked (Err end)) by_reference = by_reference
-  referred (calls.telling reply left result) by_reference = by_reference
+  -- after a call, whether the last reply is marked, where those that are given without a line are or not
+  abbrev pub referred : Bool → Call → Bool → Bool
+  referred marked (calls.asking asked (Ok reply)) by_reference = marked_by marked (replies asked.question)
+  referred marked (calls.asking asked (Err end)) by_reference = by_reference
+  referred marked (calls.telling reply left result) by_reference = by_reference
 
-  -- from p to q such a call, where so many questions were asked before, and the last reply was given without a line or not
+  -- from p to q such a call, where so many questions were asked before, and the last reply is marked or not
   pub record Calls (call : Call) (count : ℕ) (by_reference : Bool) (p q : Moment) : Type 0 where
     pub keeps : Keeps p q
     pub keeps_place : KeepsPlace p.spoken q.spoken

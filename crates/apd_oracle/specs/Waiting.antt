@@ -1,5 +1,5 @@
 -- What the lines mean while a question waits for its reply.
-use Rattle.std.specs.Prelude.{ℕ, List, [], Option, Some, None}
+use Rattle.std.specs.Prelude.{ℕ, List, [], Bool, false, Option, Some, None}
 use Rattle.apd_answers.specs.declared.question.Asked.{Asked}
 use Rattle.apd_answers.specs.declared.question.Question.{Question}
 use Rattle.apd_answers.specs.declared.question.Reply.{Reply}
@@ -16,6 +16,20 @@ use Rattle.apd_lines.specs.Lines.{line_in}
 use Rattle.apd_oracle.specs.Replies.{spoken_of}
 use Rattle.apd_oracle.specs.declared.spoken.Spoken.{Spoken}
 use Rattle.apd_oracle.specs.declared.spoken.Spoken.TheVariants as spoken
+
+-- what someone replies without a line: the reply to each question, if he has one; and whether these are marked as a reference
+-- program's
+pub record Replies : Type 0 where
+  pub to : Question → Option Reply
+  pub marked : Bool
+
+abbrev pub replying : (Question → Option Reply) → Bool → Replies
+replying to marked = record { to = to; marked = marked }
+
+-- whether the reply that there is without a line is marked; where there is none, it isn't
+abbrev pub marked_by : Bool → Option Reply → Bool
+marked_by marked None = false
+marked_by marked (Some reply) = marked
 
 -- what comes after a question: after each reply of a line, after one that there is without a line, after the words that stop the
 -- diagnosis or end the session, and where no line is left

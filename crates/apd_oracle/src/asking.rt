@@ -97,11 +97,13 @@ fn hear_reply<S: Source, K: Sink>(
     }
 }
 
-/// Takes the reply of whoever has one without a line, or hears lines till one is a reply. Whether it was the former is noted.
+/// Takes the reply of whoever has one without a line, or hears lines till one is a reply. It is noted whether the reply is marked, which
+/// one of a line never is.
 fn answer_question<S: Source, K: Sink, R: Replier>(
     alloc: Global,
     asked: &Asked,
     replier: &mut R,
+    marked: bool,
     by_reference: &mut bool,
     console: &mut Console,
     source: &mut S,
@@ -119,11 +121,11 @@ fn answer_question<S: Source, K: Sink, R: Replier>(
     ensures fits { IfOk result (FitsAsked asked.now) }
     ensures same { replier.new ≡ replier.old }
     ensures by { by_reference.new ≡
-        referred (R.replies replier.old) (asking asked.now result) by_reference.old }
+        referred (R.replies replier.old) marked (asking asked.now result) by_reference.old }
 {
     console.keeps_its_limits();
     if let Some(given) = replier.reply(&asked.question)? {
-        *by_reference = true;
+        *by_reference = marked;
         return Ok(given);
     }
     let heard = hear_reply(alloc, asked, console, source, sink, log)?;
@@ -138,6 +140,7 @@ pub(crate) fn ask_question<S: Source, K: Sink, R: Replier>(
     count: u64,
     asked: &Asked,
     replier: &mut R,
+    marked: bool,
     by_reference: &mut bool,
     console: &mut Console,
     source: &mut S,
@@ -155,7 +158,7 @@ pub(crate) fn ask_question<S: Source, K: Sink, R: Replier>(
     ensures fits { IfOk result (FitsAsked asked.now) }
     ensures same { replier.new ≡ replier.old }
     ensures by { by_reference.new ≡
-        referred (R.replies replier.old) (asking asked.now result) by_reference.old }
+        referred (R.replies replier.old) marked (asking asked.now result) by_reference.old }
 {
     console.keeps_its_limits();
     let entry = Entry::Question {
@@ -170,6 +173,7 @@ pub(crate) fn ask_question<S: Source, K: Sink, R: Replier>(
             alloc,
             asked,
             replier,
+            marked,
             by_reference,
             console,
             source,
@@ -180,7 +184,7 @@ pub(crate) fn ask_question<S: Source, K: Sink, R: Replier>(
     }
 }
 
-/// Says a reply, which the reference program gave or not.
+/// Says a reply, which is marked as a reference program's or not.
 pub(crate) fn tell_reply<K: Sink>(
     alloc: Global,
     reply: &Reply,

@@ -28,7 +28,9 @@ pub struct Dialogue<'c, 's, 'k, 'l, 'r, S: Source, K: Sink, R: Replier> {
     pub log: &'l mut Log,
     /// Who is asked before a line is heard.
     pub replier: &'r mut R,
-    /// Whether the last reply was the replier's.
+    /// Whether his replies are marked as a reference program's.
+    pub marked: bool,
+    /// Whether the last reply is marked so.
     pub by_reference: bool,
     /// Why the last question had no reply, if that ended the dialogue.
     pub end: Option<AskEnd>,
@@ -38,7 +40,8 @@ pub struct Dialogue<'c, 's, 'k, 'l, 'r, S: Source, K: Sink, R: Replier> {
 }
 
 impl<'c, 's, 'k, 'l, 'r, S: Source, K: Sink, R: Replier> Dialogue<'c, 's, 'k, 'l, 'r, S, K, R> {
-    /// A dialogue in which so many questions were asked before, and this replier has the first word.
+    /// A dialogue in which so many questions were asked before, and this replier has the first word; his replies are marked as a reference
+    /// program's or not.
     pub fn new(
         alloc: Global,
         asked: u64,
@@ -47,6 +50,7 @@ impl<'c, 's, 'k, 'l, 'r, S: Source, K: Sink, R: Replier> Dialogue<'c, 's, 'k, 'l
         sink: &'k mut K,
         log: &'l mut Log,
         replier: &'r mut R,
+        marked: bool,
     ) -> Dialogue<'c, 's, 'k, 'l, 'r, S, K, R>
         requires fits { length log.old.names + room_of console.old < MOST_NAMES }
         requires standard { length standard_names ≤ length log.old.names }
@@ -62,6 +66,7 @@ impl<'c, 's, 'k, 'l, 'r, S: Source, K: Sink, R: Replier> Dialogue<'c, 's, 'k, 'l
             × (result.log.now ≡ log.old) }
         ensures replier { (result.replier.ghost_name ≡ replier.entry.ghost_name)
             × (result.replier.now ≡ replier.old) }
+        ensures marked { result.marked ≡ marked }
         ensures end { result.end ≡ None }
     {
         Dialogue {
@@ -72,6 +77,7 @@ impl<'c, 's, 'k, 'l, 'r, S: Source, K: Sink, R: Replier> Dialogue<'c, 's, 'k, 'l
             sink,
             log,
             replier,
+            marked,
             by_reference: false,
             end: None,
         }
@@ -94,11 +100,12 @@ impl<S: Source, K: Sink, R: Replier> Oracle for Dialogue<'_, '_, '_, '_, '_, S, 
         × (e.log.ghost_name ≡ d.log.ghost_name)
         × (e.replier.ghost_name ≡ d.replier.ghost_name)
         × (e.replier.now ≡ d.replier.now)
-        × (e.by_reference ≡ referred (R.replies d.replier.now) call d.by_reference)
+        × (e.by_reference ≡ referred (R.replies d.replier.now) d.marked call d.by_reference)
         × (e.asked ≡ counted call d.asked)
         × Calls (R.replies d.replier.now) call d.asked d.by_reference
         (moment S.Source K.Sink d.console.now d.source.now d.log.now d.sink.now)
-        (moment S.Source K.Sink e.console.now e.source.now e.log.now e.sink.now) };
+        (moment S.Source K.Sink e.console.now e.source.now e.log.now e.sink.now)
+        × (e.marked ≡ d.marked) };
 
     fn ask(&mut self, asked: &Asked) -> Result<Reply, AskEnd> {
         let count = self.asked;
@@ -108,6 +115,7 @@ impl<S: Source, K: Sink, R: Replier> Oracle for Dialogue<'_, '_, '_, '_, '_, S, 
             count,
             asked,
             self.replier,
+            self.marked,
             &mut self.by_reference,
             self.console,
             self.source,

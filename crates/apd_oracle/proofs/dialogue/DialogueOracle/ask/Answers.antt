@@ -12,6 +12,7 @@ returns-clause-step g c = (
   c.ask_question-answer.ensures.by,
   c.saturating_add-self.ensures,
   c.ask_question-answer.ensures.calls,
+  refl,
 )
 
 pub returns-clause-cause : goal.returns-clause-cause

@@ -16,6 +16,7 @@ returns-clause-step g c = (
   refl,
   told_so (g.R.Replier.replies c.args.self.now.replier.now) c.args.self.now.by_reference c.args.reply.now c.args.left c.args.self.now.asked (moment g.S.Source g.K.Sink c.args.self.now.console.now c.args.self.now.source.now c.args.self.now.log.now c.args.self.now.sink.now)
       (spoken g.K.Sink c.tell_reply-answer.new.log c.tell_reply-answer.new.sink) c.tell_reply-answer.result c.keeps_its_limits.ensures c.tell_reply-answer.ensures,
+  refl,
 )
 
 pub returns-clause-only : goal.returns-clause-only

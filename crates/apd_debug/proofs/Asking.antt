@@ -1,5 +1,5 @@
 -- A diagnosis over a dialogue.
-use Rattle.std.proofs.Common.{List, refl, ap, ◌∙◌, arith}
+use Rattle.std.proofs.Common.{refl, ◌∙◌, arith}
 use Rattle.std.specs.Prelude.{Result, Ok, Err, MatchResult}
 use Rattle.apd_answers.specs.Dialogue.{Diagnosis}
 use Rattle.apd_answers.specs.Going.{Moment as Stage, Reaches, Breaks}
@@ -46,9 +46,9 @@ module _ {S K R : Type 0} (s : Source.Ghosts S) (k : Sink.Ghosts K) (r : Replier
   conversing = record {
     moment = λ (d : Dialogue S K R s k r). moment_of s k r d;
     count = λ (d : Dialogue S K R s k r). d.asked;
-    replies = λ (d : Dialogue S K R s k r). r.replies d.replier.now;
+    replies = λ (d : Dialogue S K R s k r). record { to = r.replies d.replier.now; marked = d.marked };
     by_reference = λ (d : Dialogue S K R s k r). d.by_reference;
-    same = λ p call q is. ap r.replies is.5;
+    same = λ p call q is. rw (is.5, is.9) refl;
     refers = λ p call q is. is.6;
     counts = λ p call q is. is.7;
     calls = λ p call q is. is.8;

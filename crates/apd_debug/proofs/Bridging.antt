@@ -4,7 +4,6 @@ use Rattle.std.specs.Prelude.{Err}
 use Rattle.apd_answers.specs.Dialogue.{Diagnosis, Turn, asks, goes, ends, next_turn}
 use Rattle.apd_answers.specs.Store.{Store, with_pair}
 use Rattle.apd_answers.specs.declared.question.Asked.{Asked}
-use Rattle.apd_answers.specs.declared.question.Question.{Question}
 use Rattle.apd_answers.specs.declared.question.Reply.{Reply}
 use Rattle.apd_answers.specs.declared.oracle.AskEnd.{AskEnd}
 use Rattle.apd_answers.specs.declared.oracle.AskEnd.TheVariants as ask_ends
@@ -21,7 +20,7 @@ use Rattle.apd_ops.specs.Table.{Table}
 use Rattle.apd_base.specs.Counts.{risen}
 use Rattle.apd_oracle.specs.Dialogue.{Hears}
 use Rattle.apd_oracle.specs.Replies.{spoken_of}
-use Rattle.apd_oracle.specs.Waiting.{Afterwards, answering, asking as asked_first, turn_at, turn_of, waiting}
+use Rattle.apd_oracle.specs.Waiting.{Afterwards, Replies, answering, asking as asked_first, turn_at, turn_of, waiting}
 use Rattle.apd_oracle.specs.declared.spoken.Spoken.{Spoken}
 use Rattle.apd_oracle.specs.declared.spoken.Spoken.TheVariants as spoken
 use Rattle.apd_read.specs.Reader.{Reader}
@@ -52,7 +51,7 @@ pub before : {S : Type 0} (talker : Talker Entry S) (us : List (Utterance Entry)
 before talker us st room input over = before_by talker us st room input over st.quits refl
 
 -- a diagnosis that goes on doesn't quit
-module _ {S D E : Type 0} (replies : Question → Option Reply) (d : Diagnosis D E) (found : E → Entry) (state : Stand D → S) (ops : Table) (names : List (List ℕ)) where
+module _ {S D E : Type 0} (replies : Replies) (d : Diagnosis D E) (found : E → Entry) (state : Stand D → S) (ops : Table) (names : List (List ℕ)) where
   turn_goes_on : (store : Store) (count : ℕ) (turn : Turn D E) → (after_turn d found state ops names store count turn).quits ≡ false
   turn_goes_on store count (asks asked next) = refl
   turn_goes_on store count (goes t) = refl
@@ -62,14 +61,14 @@ module _ {S D E : Type 0} (replies : Question → Option Reply) (d : Diagnosis D
   within_goes_on zero store count turn = turn_goes_on store count turn
   within_goes_on (suc k) store count (goes t) = refl
   within_goes_on (suc k) store count (ends e) = refl
-  within_goes_on (suc k) store count (asks asked next) = by (replies asked.question) (λ r. within_goes_on k (with_pair store asked.question r) (risen count) (next_turn d (with_pair store asked.question r) (next r)))
+  within_goes_on (suc k) store count (asks asked next) = by (replies.to asked.question) (λ r. within_goes_on k (with_pair store asked.question r) (risen count) (next_turn d (with_pair store asked.question r) (next r)))
     where
       by : (o : Option Reply) → ((r : Reply) → (turn_within replies d found state ops names k (with_pair store asked.question r) (risen count) (next_turn d (with_pair store asked.question r) (next r))).quits ≡ false) →
           (referred_then replies d found state ops names (goes_within replies d found state ops names k) store count asked next o).quits ≡ false
       by None rest = refl
       by (Some r) rest = rest r
 
-module _ {S D E : Type 0} (replies : Question → Option Reply) (d : Diagnosis D E) (found : E → Entry) (state : Stand D → S) {names : List (List ℕ)} (reader : Reader names) (ops : Table) (talker : Talker Entry S)
+module _ {S D E : Type 0} (replies : Replies) (d : Diagnosis D E) (found : E → Entry) (state : Stand D → S) {names : List (List ℕ)} (reader : Reader names) (ops : Table) (talker : Talker Entry S)
     (hears : HearsReplies replies d found state reader ops talker) where
   -- what comes after a question
   abbrev later : ℕ → Store → ℕ → Asked → (Reply → D) → Afterwards
@@ -112,7 +111,7 @@ module _ {S D E : Type 0} (replies : Question → Option Reply) (d : Diagnosis D
   refers_so k store count asked next None room input over = waits_so k store count asked next room input over
   refers_so k store count asked next (Some r) room input over =
       let us : List (Utterance Entry) = plain ops names (entry.Question (risen count) asked) ∷ [] in
-      let st : Step Entry S = replied_then replies d found state ops names (goes_within replies d found state ops names k) true store (risen count) asked next r in
+      let st : Step Entry S = replied_then replies d found state ops names (goes_within replies d found state ops names k) replies.marked store (risen count) asked next r in
       before talker us st room input over
       ∙ ap (onto us) (after_means talker st room input over)
       ∙ sym (first_said us (after talker st) room input over)
@@ -120,8 +119,8 @@ module _ {S D E : Type 0} (replies : Question → Option Reply) (d : Diagnosis D
   -- a conversation that says a question is where the question is asked
   pub asks_so : (k : ℕ) (store : Store) (count : ℕ) (asked : Asked) (next : Reply → D) →
       Agree (after_step talker (turn_within replies d found state ops names (suc k) store count (asks asked next)))
-      (means (asked_first replies (risen count) asked ops names reader (later k store (risen count) asked next)))
-  asks_so k store count asked next room input over = refers_so k store count asked next (replies asked.question) room input over
+      (means (asked_first replies.to (risen count) asked ops names reader (later k store (risen count) asked next)))
+  asks_so k store count asked next room input over = refers_so k store count asked next (replies.to asked.question) room input over
 
   -- in a reply's place a step quits exactly where the line is `quit.`
   quits_by : (store : Store) (count : ℕ) (asked : Asked) (next : Reply → D) (said : Spoken) → (reply_step replies d found state ops names store count asked next said).quits ≡ is_quit said
@@ -154,7 +153,7 @@ module _ {S D E : Type 0} (d : Diagnosis D E) (found : E → Entry) (state : Sta
   Diagnosed-more f g p q r store count ask_ends.WriteFault first second = Breaks-more begun f g p q r _ first second
   Diagnosed-more f g p q r store count ask_ends.Memory first second = Breaks-more begun f g p q r _ first second
 
-module _ {S D E : Type 0} (replies : Question → Option Reply) (d : Diagnosis D E) (found : E → Entry) (state : Stand D → S) {names : List (List ℕ)} (reader : Reader names) (ops : Table) (talker : Talker Entry S) where
+module _ {S D E : Type 0} (replies : Replies) (d : Diagnosis D E) (found : E → Entry) (state : Stand D → S) {names : List (List ℕ)} (reader : Reader names) (ops : Table) (talker : Talker Entry S) where
   -- the step after a word, and what the lines behind it mean
   meant : (start : Meaning Entry) (p q : Place Entry) (st : Step Entry S) → Talks start p q (means (after talker st)) → Talks start p q (after_step talker st)
   meant start p q st talks = Talks-to start _ _ p q (λ room input over. sym (after_means talker st room input over)) talks

@@ -1,6 +1,6 @@
 -- A whole diagnosis over an oracle whose calls are parts of a conversation.
-use Rattle.std.proofs.Common.{◌≡◌, ℕ, zero, suc, ◌+◌, ◌<◌, ◌≤◌, List, [], ◌∷◌, ◌++◌, length, refl, ap, sym, ◌∙◌, subst, arith, Bool, true, false, Option, None, Some}
-use Rattle.std.specs.Prelude.{Result, Ok, Err, MatchResult, is_some}
+use Rattle.std.proofs.Common.{◌≡◌, ℕ, zero, suc, ◌+◌, ◌<◌, ◌≤◌, List, [], ◌∷◌, ◌++◌, length, refl, ap, sym, ◌∙◌, subst, arith, Bool, Option, None, Some}
+use Rattle.std.specs.Prelude.{Result, Ok, Err, MatchResult}
 use Rattle.std.proofs.lemmas.List.{append-nil}
 use Rattle.std.specs.List.{AllByRecursion}
 use Rattle.apd_answers.specs.Dialogue.{Diagnosis, Turn, asks, goes, ends, next_turn, Exchange, Dialogue, dialogue, replied as exchanged}
@@ -9,7 +9,6 @@ use Rattle.apd_answers.specs.Oracle.{Call, asking as asks_of, telling as tells, 
 use Rattle.apd_answers.specs.Questions.{FitsAsked}
 use Rattle.apd_answers.specs.Store.{Store, with_pair}
 use Rattle.apd_answers.specs.declared.question.Asked.{Asked}
-use Rattle.apd_answers.specs.declared.question.Question.{Question}
 use Rattle.apd_answers.specs.declared.question.Reply.{Reply}
 use Rattle.apd_answers.specs.declared.oracle.AskEnd.{AskEnd}
 use Rattle.apd_console.specs.Lines.{InputEnd}
@@ -19,7 +18,7 @@ use Rattle.apd_debug.specs.Hearing.{HearsReplies, afterwards}
 use Rattle.apd_debug.specs.Known.{KeepsNamed}
 use Rattle.apd_debug.specs.Replying.{counted_if, referred_count}
 use Rattle.apd_debug.specs.Stand.{Stand}
-use Rattle.apd_debug.specs.Steps.{after_turn, goes_on, goes_within, most_in_a_row, replied_then, turn_within}
+use Rattle.apd_debug.specs.Steps.{goes_within, most_in_a_row, replied_then, turn_within}
 use Rattle.apd_debug.proofs.Bridging.{asks_so, before, broke_here, ended_so, Diagnosed-as, Diagnosed-more}
 use Rattle.apd_debug.proofs.Growing.{Diagnosed-longer, Talks-longer, told_longer}
 use Rattle.apd_debug.proofs.Telling.{told_on, told_off}
@@ -28,7 +27,7 @@ use Rattle.apd_lines.proofs.Growing.{Grown-self, Grown-more, Grown-length}
 use Rattle.apd_ops.specs.Table.{Table}
 use Rattle.apd_base.specs.Counts.{risen}
 use Rattle.apd_oracle.specs.Dialogue.{Hears, HearsFrom, SaysReply, end_of_trouble}
-use Rattle.apd_oracle.specs.Waiting.{Afterwards, asking as asked_first}
+use Rattle.apd_oracle.specs.Waiting.{Afterwards, Replies, asking as asked_first, marked_by}
 use Rattle.apd_read.specs.Reader.{Reader}
 use Rattle.apd_talk.specs.Awaiting.{after, means}
 use Rattle.apd_talk.specs.Moment.{place}
@@ -136,7 +135,7 @@ module _ {D E O : Type 0} (d : Diagnosis D E) (found : E → Entry) (IsKnown : �
       let at = known_through r.replies p.store p.state p.oracle to _ r.whole r.fit r.calls known in
       found-named d found IsKnown keeps (length (names_at to)) store at.state e at.is at.known
 
-  module _ {S : Type 0} (replies : Question → Option Reply) (state : Stand D → S) {names : List (List ℕ)} (reader : Reader names) (ops : Table) (talker : Talker Entry S) (hears : HearsReplies replies d found state reader ops talker) where
+  module _ {S : Type 0} (replies : Replies) (state : Stand D → S) {names : List (List ℕ)} (reader : Reader names) (ops : Table) (talker : Talker Entry S) (hears : HearsReplies replies d found state reader ops talker) where
     -- the operators of the conversation, and who replies without a line
     abbrev IsOver : O → Type 0
     IsOver o = (ops_at o ≡ ops) × (c.replies o ≡ replies)
@@ -175,10 +174,10 @@ module _ {D E O : Type 0} (d : Diagnosis D E) (found : E → Entry) (IsKnown : �
     later k o store asked next = afterwards replies d found state reader ops talker k store (risen (c.count o)) asked next
 
     hears_at : (asked : Asked) (result : Result Reply AskEnd) (p q : O) (after_it : Afterwards) → IsOver p → step p (asks_of asked result) q → QuestionIsNamed (length (names_at p)) asked.question → Grown (names_at q) names →
-        HearsFrom (replies asked.question) (means (asked_first replies (risen (c.count p)) asked ops names reader after_it)) (place_at p) (place_at q) after_it result
+        HearsFrom (replies.to asked.question) (means (asked_first replies.to (risen (c.count p)) asked ops names reader after_it)) (place_at p) (place_at q) after_it result
     hears_at asked result p q after_it same asks_it named grew =
-        subst (λ (f : Question → Option Reply). HearsFrom (f asked.question) (means (asked_first f (risen (c.count p)) asked ops names reader after_it)) (place_at p) (place_at q) after_it result) same.1
-        (subst (λ (t : Table). HearsFrom (c.replies p asked.question) (means (asked_first (c.replies p) (risen (c.count p)) asked t names reader after_it)) (place_at p) (place_at q) after_it result) same.0
+        subst (λ (f : Replies). HearsFrom (f.to asked.question) (means (asked_first f.to (risen (c.count p)) asked ops names reader after_it)) (place_at p) (place_at q) after_it result) same.1
+        (subst (λ (t : Table). HearsFrom ((c.replies p).to asked.question) (means (asked_first (c.replies p).to (risen (c.count p)) asked t names reader after_it)) (place_at p) (place_at q) after_it result) same.0
         ((c.calls p (asks_of asked result) q asks_it).acts.0 named names grew reader after_it))
 
     same_count : (k : ℕ) (store : Store) (n m : ℕ) (turn : Turn D E) → n ≡ m →
@@ -194,23 +193,23 @@ module _ {D E O : Type 0} (d : Diagnosis D E) (found : E → Entry) (IsKnown : �
 
     -- a question and its reply
     heard_by : (o : Option Reply) (k : ℕ) (store : Store) (asked : Asked) (next : Reply → D) (r : Reply) (f : Meaning Entry) (from mid : O) → HearsFrom o f (place_at from) (place_at mid) (later k from store asked next) (Ok r) →
-        Talks f (place_at from) (place_at mid) (at_reply (left_after k o) (is_some o) from store asked next r)
+        Talks f (place_at from) (place_at mid) (at_reply (left_after k o) (marked_by replies.marked o) from store asked next r)
     heard_by None k store asked next r f from mid heard = heard
     heard_by (Some given) k store asked next r f from mid heard =
-        subst (λ (x : Reply). Talks f (place_at from) (place_at mid) (at_reply k true from store asked next x)) (sym heard.0) heard.1
+        subst (λ (x : Reply). Talks f (place_at from) (place_at mid) (at_reply k replies.marked from store asked next x)) (sym heard.0) heard.1
 
     heard : (k : ℕ) (store : Store) (asked : Asked) (next : Reply → D) (r : Reply) (from mid : O) → IsOver from → step from (asks_of asked (Ok r)) mid → QuestionIsNamed (length (names_at from)) asked.question → Grown (names_at mid) names →
-        Talks (at_turn (suc k) from store (asks asked next)) (place_at from) (place_at mid) (at_reply (left_after k (replies asked.question)) (is_some (replies asked.question)) from store asked next r)
+        Talks (at_turn (suc k) from store (asks asked next)) (place_at from) (place_at mid) (at_reply (left_after k (replies.to asked.question)) (marked_by replies.marked (replies.to asked.question)) from store asked next r)
     heard k store asked next r from mid same asks_it named grew =
         Talks-as _ _ _ (place_at from) (place_at mid) (asks_so replies d found state reader ops talker hears k store (c.count from) asked next)
-        (heard_by (replies asked.question) k store asked next r _ from mid (hears_at asked (Ok r) from mid (later k from store asked next) same asks_it named grew))
+        (heard_by (replies.to asked.question) k store asked next r _ from mid (hears_at asked (Ok r) from mid (later k from store asked next) same asks_it named grew))
 
     -- whether it was given without a line
-    given_so : (asked : Asked) (r : Reply) (from mid : O) → IsOver from → step from (asks_of asked (Ok r)) mid → c.by_reference mid ≡ is_some (replies asked.question)
-    given_so asked r from mid same asks_it = c.refers from (asks_of asked (Ok r)) mid asks_it ∙ ap (λ (f : Question → Option Reply). is_some (f asked.question)) same.1
+    given_so : (asked : Asked) (r : Reply) (from mid : O) → IsOver from → step from (asks_of asked (Ok r)) mid → c.by_reference mid ≡ marked_by replies.marked (replies.to asked.question)
+    given_so asked r from mid same asks_it = c.refers from (asks_of asked (Ok r)) mid asks_it ∙ ap (λ (f : Replies). marked_by f.marked (f.to asked.question)) same.1
 
     tells_so : (asked : Asked) (next : Reply → D) (r : Reply) (result : Result (Unit {0}) AskEnd) (from mid to : O) → IsOver from → step from (asks_of asked (Ok r)) mid → step mid (tells r (d.left (next r)) result) to →
-        SaysReply (is_some (replies asked.question)) r (d.left (next r)) (c.moment mid).spoken (c.moment to).spoken result
+        SaysReply (marked_by replies.marked (replies.to asked.question)) r (d.left (next r)) (c.moment mid).spoken (c.moment to).spoken result
     tells_so asked next r result from mid to same asks_it tells_it =
         subst (λ (by : Bool). SaysReply by r (d.left (next r)) (c.moment mid).spoken (c.moment to).spoken result) (given_so asked r from mid same asks_it) (c.calls mid (tells r (d.left (next r)) result) to tells_it).acts.1
 
@@ -224,7 +223,7 @@ module _ {D E O : Type 0} (d : Diagnosis D E) (found : E → Entry) (IsKnown : �
 
     told : (k : ℕ) (store : Store) (asked : Asked) (next : Reply → D) (r : Reply) (from mid then : O) → IsOver from → step from (asks_of asked (Ok r)) mid → step mid (tells r (d.left (next r)) (Ok tt)) then →
         QuestionIsNamed (length (names_at from)) asked.question → Grown (names_at then) names →
-        Talks (at_reply k (is_some (replies asked.question)) from store asked next r) (place_at mid) (place_at then) (at_turn k then (with_pair store asked.question r) (next_turn d (with_pair store asked.question r) (next r)))
+        Talks (at_reply k (marked_by replies.marked (replies.to asked.question)) from store asked next r) (place_at mid) (place_at then) (at_turn k then (with_pair store asked.question r) (next_turn d (with_pair store asked.question r) (next r)))
     told k store asked next r from mid then same asks_it tells_it named grew =
         let tells_call = c.calls mid (tells r (d.left (next r)) (Ok tt)) then tells_it in
         let kept : Store = with_pair store asked.question r in
@@ -232,15 +231,15 @@ module _ {D E O : Type 0} (d : Diagnosis D E) (found : E → Entry) (IsKnown : �
         let on : Meaning Entry = after_step talker (turn_within replies d found state ops names k kept (risen (c.count from)) turn) in
         let counts : c.count then ≡ risen (c.count from) = c.counts mid _ then tells_it ∙ c.counts from _ mid asks_it in
         Talks-to _ on _ (place_at mid) (place_at then) (same_count k kept (risen (c.count from)) (c.count then) turn (sym counts))
-        (told_on (is_some (replies asked.question)) r (d.left (next r)) (c.moment mid) (c.moment then) _ on names tells_call.acts.0 (tells_so asked next r (Ok tt) from mid then same asks_it tells_it) (reply_named from mid asked r asks_it named)
-        (Grown-more (names_at mid) (names_at then) names tells_call.keeps.names grew) (reply_said k (is_some (replies asked.question)) store asked next r from mid (same_ops from _ mid asks_it ∙ same.0)))
+        (told_on (marked_by replies.marked (replies.to asked.question)) r (d.left (next r)) (c.moment mid) (c.moment then) _ on names tells_call.acts.0 (tells_so asked next r (Ok tt) from mid then same asks_it tells_it) (reply_named from mid asked r asks_it named)
+        (Grown-more (names_at mid) (names_at then) names tells_call.keeps.names grew) (reply_said k (marked_by replies.marked (replies.to asked.question)) store asked next r from mid (same_ops from _ mid asks_it ∙ same.0)))
 
     one_reply : (k : ℕ) (store : Store) (asked : Asked) (next : Reply → D) (r : Reply) (from mid then : O) → IsOver from → step from (asks_of asked (Ok r)) mid → step mid (tells r (d.left (next r)) (Ok tt)) then →
         QuestionIsNamed (length (names_at from)) asked.question → Grown (names_at then) names →
-        Talks (at_turn (suc k) from store (asks asked next)) (place_at from) (place_at then) (at_turn (left_after k (replies asked.question)) then (with_pair store asked.question r) (next_turn d (with_pair store asked.question r) (next r)))
+        Talks (at_turn (suc k) from store (asks asked next)) (place_at from) (place_at then) (at_turn (left_after k (replies.to asked.question)) then (with_pair store asked.question r) (next_turn d (with_pair store asked.question r) (next r)))
     one_reply k store asked next r from mid then same asks_it tells_it named grew =
-        let j : ℕ = left_after k (replies asked.question) in
-        Talks-more _ (at_reply j (is_some (replies asked.question)) from store asked next r) _ (place_at from) (place_at mid) (place_at then)
+        let j : ℕ = left_after k (replies.to asked.question) in
+        Talks-more _ (at_reply j (marked_by replies.marked (replies.to asked.question)) from store asked next r) _ (place_at from) (place_at mid) (place_at then)
         (heard k store asked next r from mid same asks_it named (Grown-more (names_at mid) (names_at then) names (names_grew mid _ then tells_it) grew))
         (told j store asked next r from mid then same asks_it tells_it named grew)
 
@@ -265,11 +264,11 @@ module _ {D E O : Type 0} (d : Diagnosis D E) (found : E → Entry) (IsKnown : �
     follows_by r rs rest zero store from to (asks asked next) same fits went at grew few most = absurd (omega (arith, few))
     follows_by r rs rest (suc k) store from to (asks asked next) same fits (mid, asks_it, (then, tells_it, went)) at grew few most =
         let kept : Store = with_pair store asked.question r in
-        let j : ℕ = left_after k (replies asked.question) in
+        let j : ℕ = left_after k (replies.to asked.question) in
         let named = question_named from store asked next at in
         let known = known_after from mid then store asked next r at fits.0 asks_it (names_grew mid _ then tells_it) in
         let grown : Grown (names_at then) names = Grown-more (names_at then) (names_at to) names (grown_through _ then to went) grew in
-        let less = still_few (replies asked.question) k (referred_count replies (dialogue d rs kept (next r)).exchanges) few most in
+        let less = still_few (replies.to asked.question) k (referred_count replies (dialogue d rs kept (next r)).exchanges) few most in
         let more = rest j kept (next r) then to (stays_over mid _ then tells_it (stays_over from _ mid asks_it same)) fits.1 went known grew less.0 less.1 in (
           more.0,
           Talks-more _ (at_turn j then kept (next_turn d kept (next r))) _ (place_at from) (place_at then) (place_at to) (one_reply k store asked next r from mid then same asks_it tells_it named grown) more.1,
@@ -299,7 +298,7 @@ module _ {D E O : Type 0} (d : Diagnosis D E) (found : E → Entry) (IsKnown : �
         let known = known_after from mid then store asked next r at fits.0 asks_it (names_grew mid _ then tells_it) in
         let grown : Grown (names_at mid) names = Grown-more (names_at mid) (names_at then) names (names_grew mid _ then tells_it) (Grown-more (names_at then) (names_at to) names (grown_through _ then to went) grew) in
         let first : size_at from ≤ size_at mid = Talks-longer _ _ (place_at from) (place_at mid) (heard zero store asked next r from mid same asks_it named grown) in
-        let second : size_at mid < size_at then = told_longer (is_some (replies asked.question)) r (d.left (next r)) (c.moment mid).spoken (c.moment then).spoken (tells_so asked next r (Ok tt) from mid then same asks_it tells_it) (reply_named from mid asked r asks_it named) in
+        let second : size_at mid < size_at then = told_longer (marked_by replies.marked (replies.to asked.question)) r (d.left (next r)) (c.moment mid).spoken (c.moment then).spoken (tells_so asked next r (Ok tt) from mid then same asks_it tells_it) (reply_named from mid asked r asks_it named) in
         let more = rest kept (next r) then to (stays_over mid _ then tells_it (stays_over from _ mid asks_it same)) fits.1 went known grew in
         omega (arith, first, second, more)
 
@@ -313,7 +312,7 @@ module _ {D E O : Type 0} (d : Diagnosis D E) (found : E → Entry) (IsKnown : �
 
     few_referred : (es : List Exchange) → referred_count replies es ≤ length es
     few_referred [] = omega arith
-    few_referred (e ∷ es) = few_by (replies e.asked.question) (referred_count replies es) (length es) (few_referred es)
+    few_referred (e ∷ es) = few_by (replies.to e.asked.question) (referred_count replies es) (length es) (few_referred es)
 
     -- so there are fewer replies without a line than a log may have entries
     talks_through : (given : List Reply) (store : Store) (s : D) (from to : O) (x : Dialogue D E) → dialogue d given store s ≡ x → IsOver from → AllFit x.exchanges → GoesThrough step from (calls_of x.exchanges) to →
@@ -338,10 +337,10 @@ module _ {D E O : Type 0} (d : Diagnosis D E) (found : E → Entry) (IsKnown : �
     -- a reply that isn't told to its end
     told_front : (k : ℕ) (store : Store) (asked : Asked) (next : Reply → D) (r : Reply) (from mid to : O) (end : AskEnd) (kept : Store) (count : ℕ) → IsOver from → step from (asks_of asked (Ok r)) mid →
         step mid (tells r (d.left (next r)) (Err end)) to → QuestionIsNamed (length (names_at from)) asked.question → Grown (names_at to) names →
-        Diagnosed d found state ops names talker (at_reply k (is_some (replies asked.question)) from store asked next r) (place_at mid) (place_at to) kept count (Err end)
+        Diagnosed d found state ops names talker (at_reply k (marked_by replies.marked (replies.to asked.question)) from store asked next r) (place_at mid) (place_at to) kept count (Err end)
     told_front k store asked next r from mid to end kept count same asks_it tells_it named grew =
         let tells_call = c.calls mid (tells r (d.left (next r)) (Err end)) to tells_it in
-        let by : Bool = is_some (replies asked.question) in
+        let by : Bool = marked_by replies.marked (replies.to asked.question) in
         let on : Meaning Entry = after_step talker (on_within k (with_pair store asked.question r) (risen (c.count from)) (next r)) in
         let broke = told_off by r (d.left (next r)) (c.moment mid) (c.moment to) (at_reply k by from store asked next r) on names end tells_call.acts.0 (tells_so asked next r (Err end) from mid to same asks_it tells_it) (reply_named from mid asked r asks_it named)
         (Grown-more (names_at mid) (names_at to) names tells_call.keeps.names grew) (reply_said k by store asked next r from mid (same_ops from _ mid asks_it ∙ same.0)) in
@@ -365,7 +364,7 @@ module _ {D E O : Type 0} (d : Diagnosis D E) (found : E → Entry) (IsKnown : �
     broken_so k store kept turn end calls from to same at grew (unanswered asked next is) (last, asks_it, here) =
         let named = asked-named d found IsKnown keeps (length (names_at from)) store at.state asked next (at.is ∙ is) at.known in
         let question = subst (λ o. step from (asks_of asked (Err end)) o) here asks_it in
-        let hears_it = no_reply (replies asked.question) _ (place_at from) (place_at to) (later k from store asked next) end (hears_at asked (Err end) from to (later k from store asked next) same question named grew) in
+        let hears_it = no_reply (replies.to asked.question) _ (place_at from) (place_at to) (later k from store asked next) end (hears_at asked (Err end) from to (later k from store asked next) same question named grew) in
         let ended = Diagnosed-as d found state ops names talker _ _ (place_at from) (place_at to) store (risen (c.count from)) end (asks_so replies d found state reader ops talker hears k store (c.count from) asked next)
         (ended_so replies d found state reader ops talker k _ (place_at from) (place_at to) store (risen (c.count from)) asked next end hears_it) in
         by_turn (suc k) from to store store turn (asks asked next) end is
@@ -378,9 +377,9 @@ module _ {D E O : Type 0} (d : Diagnosis D E) (found : E → Entry) (IsKnown : �
     broken_so k store kept turn end calls from to same at grew (untold asked next r is fits) (mid, asks_it, (last, tells_it, here)) =
         let named = asked-named d found IsKnown keeps (length (names_at from)) store at.state asked next (at.is ∙ is) at.known in
         let reply = subst (λ o. step mid (tells r (d.left (next r)) (Err end)) o) here tells_it in
-        let j : ℕ = left_after k (replies asked.question) in
+        let j : ℕ = left_after k (replies.to asked.question) in
         by_turn (suc k) from to store kept turn (asks asked next) end is
-        (Diagnosed-more d found state ops names talker _ (at_reply j (is_some (replies asked.question)) from store asked next r) (place_at from) (place_at mid) (place_at to) kept (c.count to) end
+        (Diagnosed-more d found state ops names talker _ (at_reply j (marked_by replies.marked (replies.to asked.question)) from store asked next r) (place_at from) (place_at mid) (place_at to) kept (c.count to) end
         (heard k store asked next r from mid same asks_it named (Grown-more (names_at mid) (names_at to) names (names_grew mid _ to reply) grew))
         (told_front j store asked next r from mid to end kept (c.count to) same asks_it reply named grew))
 

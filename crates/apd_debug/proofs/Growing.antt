@@ -1,5 +1,5 @@
 -- A part of a conversation makes the log no shorter.
-use Rattle.std.proofs.Common.{◌≡◌, ℕ, ◌+◌, ◌<◌, ◌≤◌, List, [], ◌∷◌, ◌++◌, length, ap, ◌∙◌, arith, length-append, Bool, Option, inl, inr, ◌⊎◌}
+use Rattle.std.proofs.Common.{◌≡◌, ℕ, ◌+◌, ◌<◌, ◌≤◌, List, [], ◌∷◌, ◌++◌, length, ap, ◌∙◌, arith, length-append, Bool, Option, inl, inr}
 use Rattle.std.specs.Prelude.{Result, Ok, Err}
 use Rattle.apd_answers.specs.Dialogue.{Diagnosis}
 use Rattle.apd_answers.specs.Store.{Store}

@@ -1,10 +1,11 @@
 -- The next turn of a diagnosis is that of a state that is known.
-use Rattle.std.proofs.Common.{◌≡◌, ℕ, zero, suc, List, Option, Some, None, refl, ◌∙◌}
+use Rattle.std.proofs.Common.{◌≡◌, ℕ, zero, suc, Option, Some, None, refl, ◌∙◌}
 use Rattle.apd_answers.specs.declared.question.Asked.{Asked}
 use Rattle.apd_answers.specs.declared.question.Reply.{Reply}
 use Rattle.apd_answers.specs.Store.{Store, decided, with_pair}
 use Rattle.apd_answers.specs.Dialogue.{Diagnosis, Turn, asks, goes, ends, unless_decided, settled, pursued, next_turn}
 use Rattle.apd_answers.specs.Questions.{FitsAsked}
+use Rattle.apd_known.specs.Pairs.{MayAsk}
 use Rattle.apd_text.specs.declared.entry.Entry.{Entry}
 use Rattle.apd_text.specs.Named.{EntryIsNamed, QuestionIsNamed, ReplyIsNamed}
 use Rattle.apd_debug.specs.Known.{KeepsNamed}
@@ -31,10 +32,14 @@ module _ {D E : Type 0} (d : Diagnosis D E) (found : E → Entry) (IsKnown : ℕ
   pub next_turn-known : (n : ℕ) (store : Store) (s : D) → IsKnown n store s → IsKnownTurn n store (next_turn d store s)
   next_turn-known n store s known = pursued-known n store (d.bound store s) s known
 
-  -- of a state that is known the next turn asks about and finds what is named
+  -- of a state that is known the next turn asks about and finds what is named, and asks what may be asked
   pub asked-named : (n : ℕ) (store : Store) (s : D) (asked : Asked) (next : Reply → D) → next_turn d store s ≡ asks asked next → IsKnown n store s → QuestionIsNamed n asked.question
   asked-named n store s asked next is known =
       let t = next_turn-known n store s known in keeps.question n store t.0 asked next (t.1 ∙ is) t.2
+
+  pub asked-may : (n : ℕ) (store : Store) (s : D) (asked : Asked) (next : Reply → D) → next_turn d store s ≡ asks asked next → IsKnown n store s → MayAsk asked.question
+  asked-may n store s asked next is known =
+      let t = next_turn-known n store s known in keeps.may_ask n store t.0 asked next (t.1 ∙ is) t.2
 
   pub found-named : (n : ℕ) (store : Store) (s : D) (e : E) → next_turn d store s ≡ ends e → IsKnown n store s → EntryIsNamed n (found e)
   found-named n store s e is known =

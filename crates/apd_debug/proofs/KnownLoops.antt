@@ -1,13 +1,13 @@
 -- The diagnosis of a run that doesn't end asks about and finds calls, goals before them, and instances of proof trees.
-use Rattle.std.proofs.Common.{ℕ, zero, suc, ◌+◌, ◌-◌, ◌≤◌, List, [], ◌∷◌, Bool, true, false, Option, Some, None, arith, subst, take}
+use Rattle.std.proofs.Common.{◌≡◌, ℕ, zero, suc, ◌+◌, ◌-◌, ◌≤◌, List, [], ◌∷◌, Bool, true, false, Option, Some, None, arith, subst, take}
 use Rattle.std.specs.Option.{unwrap_or}
 use Rattle.std.specs.Prelude.{◌/◌, if◌then◌else◌, length, map, nat_le, slice_get}
 use Rattle.apd_answers.specs.Bugs.{earlier_atoms}
 use Rattle.apd_answers.specs.Dialogue.{Turn, asks, goes, ends}
 use Rattle.apd_answers.specs.declared.finding.Finding.{Finding}
+use Rattle.apd_answers.specs.declared.question.Asked.{Asked}
 use Rattle.apd_answers.specs.declared.question.Reply.{Reply}
 use Rattle.apd_answers.specs.Store.{Store}
-use Rattle.apd_divide.specs.Recorded.{tree}
 use Rattle.apd_divide.specs.Tree.{Tree}
 use Rattle.apd_divide.specs.declared.node.Strategy.{Strategy}
 use Rattle.apd_loop.specs.Loop.{Earlier, Looping, whole, between, descending, rising, denied, within, below, by_yes, call_of, earlier_from, earlier_goals, equal_from, inside, is_yes, loop, loop_start, numbered, repeated_or, start_from, turn_in}
@@ -24,10 +24,11 @@ use Rattle.apd_term.proofs.Named.{IsNamed-canonical, IsNamed-more, TupleIsNamed-
 use Rattle.apd_text.specs.Named.{EntryIsNamed, FindingIsNamed, HasStandardNames, QuestionIsNamed}
 use Rattle.apd_wrong.specs.Wrong.{wrong}
 use Rattle.apd_debug.specs.Known.{KeepsNamed}
-use Rattle.apd_debug.specs.NamedStates.{AllEarlierNamed, IsKnownLoop, LoopingIsNamed, loop_entry}
+use Rattle.apd_debug.specs.NamedStates.{AllEarlierNamed, IsKnownLoop, LoopingIsNamed, MayGoOn, loop_entry}
 use Rattle.apd_debug.specs.NamedTrees.{AllBoxesNamed, AllPointsNamed, RecordIsNamed}
 use Rattle.apd_debug.proofs.KnownTrees.{TurnIsNamed as TreeTurnIsNamed, turn-named as tree_turn-named}
 use Rattle.apd_debug.proofs.NamedTrees.{TreeIsNamed-more, point_of-named, tree-named}
+use Rattle.apd_debug.proofs.OwnLoops.{TurnIsOwn, turn-own}
 
 -- the calls of a record
 or_no_row-named : (n : ℕ) (bs : List BoxRow) (i : ℕ) → AllBoxesNamed n bs → IsNamed n (unwrap_or (slice_get bs i) no_row).atom
@@ -80,10 +81,10 @@ by_yes-named n s t r first second = by (is_yes r)
     by true = first
     by false = second
 
-inside-named : (n : ℕ) (turn : Turn Tree Finding) → TreeTurnIsNamed n turn → TurnIsNamed n (inside within loop_ends.Found turn)
-inside-named n (asks asked next) named = (named.0, λ r. named.1 r)
-inside-named n (goes t) named = named
-inside-named n (ends f) named = named
+inside-named : (n : ℕ) (root : Tree) (turn : Turn Tree Finding) → TreeTurnIsNamed n turn → TurnIsNamed n (inside (within root) loop_ends.Found turn)
+inside-named n root (asks asked next) named = (named.0, λ r. named.1 r)
+inside-named n root (goes t) named = named
+inside-named n root (ends f) named = named
 
 between-named : (n : ℕ) (R : Recorded) (chain : List ℕ) (low high : ℕ) (b : Bool) → RecordIsNamed n R
     → TurnIsNamed n (if b then goes (rising low (earlier_goals R chain low)) else (let middle = low + (high - low) / 2 in asks (below R chain middle low) (by_yes (between middle high) (between low middle))))
@@ -105,7 +106,7 @@ turn_in-named n R chain strategy store (rising i []) named state = (call_of-name
 turn_in-named n R chain strategy store (rising i (e ∷ es)) named state =
     (state.0, λ r. by_yes-named n (rising i es) (denied e) r state.1 state.0)
 turn_in-named n R chain strategy store (denied e) named state = tree-named n R e.exit e.atom named state
-turn_in-named n R chain strategy store (within x) named state = inside-named n ((wrong strategy).turn store x) (tree_turn-named n strategy store x state)
+turn_in-named n R chain strategy store (within root x) named state = inside-named n root ((wrong strategy).turn store x) (tree_turn-named n strategy store x state)
 
 -- the state in which the diagnosis starts
 repeated-named : (n j : ℕ) (o : Option ℕ) (rest : Looping) → LoopingIsNamed n rest → LoopingIsNamed n (repeated_or j o rest)
@@ -129,7 +130,7 @@ looping-more n m (between low high) less named = tt
 looping-more n m (descending i) less named = tt
 looping-more n m (rising i es) less named = all_earlier-more n m es less named
 looping-more n m (denied e) less named = IsNamed-more n m e.atom less named
-looping-more n m (within x) less named = TreeIsNamed-more n m x less named
+looping-more n m (within root x) less named = TreeIsNamed-more n m x less named
 
 boxes-more : (n m : ℕ) (bs : List BoxRow) → n ≤ m → AllBoxesNamed n bs → AllBoxesNamed m bs
 boxes-more n m [] less named = tt
@@ -143,22 +144,34 @@ entry-named : (n : ℕ) (line_of : Finding → ℕ) (calls : ℕ) (e : LoopEnd) 
 entry-named n line_of calls (loop_ends.Found f) standard named = (standard, named)
 entry-named n line_of calls loop_ends.AllDescend standard named = tt
 
-turn-named : (R : Recorded) (chain : List ℕ) (strategy : Strategy) (n : ℕ) (store : Store) (s : Looping) → IsKnownLoop R n store s → TurnIsNamed n ((loop R chain strategy).turn store s)
-turn-named R chain strategy n store s known = turn_in-named n R chain strategy store s known.history known.state
+module _ (R : Recorded) (chain : List ℕ) (strategy : Strategy) (n : ℕ) (store : Store) (s : Looping) (turn : Turn Looping LoopEnd) (is : (loop R chain strategy).turn store s ≡ turn) (known : IsKnownLoop R chain n store s) where
+  named_so : TurnIsNamed n turn
+  named_so = subst (TurnIsNamed n) is (turn_in-named n R chain strategy store s known.history known.state)
 
-same_record : (R : Recorded) (n : ℕ) (store others : Store) (s t : Looping) → IsKnownLoop R n store s → LoopingIsNamed n t → IsKnownLoop R n others t
-same_record R n store others s t known named = record { standard = known.standard; history = known.history; state = named }
+  own_so : TurnIsOwn R chain turn
+  own_so = subst (TurnIsOwn R chain) is (turn-own R chain known.calls strategy store s known.going)
 
-pub loop-keeps : (R : Recorded) (chain : List ℕ) (strategy : Strategy) (line_of : Finding → ℕ) (calls : ℕ) → KeepsNamed (loop R chain strategy) (loop_entry line_of calls) (IsKnownLoop R)
-loop-keeps R chain strategy line_of calls = record {
-  more = λ n m store s less known. record {
-    standard = let standard = known.standard in omega (arith, less, standard);
-    history = record { boxes = boxes-more n m R.boxes less known.history.boxes; points = points-more n m R.points less known.history.points };
-    state = looping-more n m s less known.state;
-  };
-  question = λ n store s asked next is known. (subst (TurnIsNamed n) is (turn-named R chain strategy n store s known)).0;
-  kept = λ n store s asked next r is o known. same_record R n store store s (next r) known ((subst (TurnIsNamed n) is (turn-named R chain strategy n store s known)).1 r);
-  replied = λ n store s asked next r is fits named known. same_record R n store _ s (next r) known ((subst (TurnIsNamed n) is (turn-named R chain strategy n store s known)).1 r);
-  going = λ n store s t is known. same_record R n store store s t known (subst (TurnIsNamed n) is (turn-named R chain strategy n store s known));
-  finding = λ n store s e is known. entry-named n line_of calls e known.standard (subst (TurnIsNamed n) is (turn-named R chain strategy n store s known));
-}
+same_record : (R : Recorded) (chain : List ℕ) (n : ℕ) (store others : Store) (s t : Looping) → IsKnownLoop R chain n store s → LoopingIsNamed n t → MayGoOn R chain t → IsKnownLoop R chain n others t
+same_record R chain n store others s t known named may = record { standard = known.standard; history = known.history; calls = known.calls; state = named; going = may }
+
+module _ (R : Recorded) (chain : List ℕ) (strategy : Strategy) where
+  answered : (n : ℕ) (store others : Store) (s : Looping) (asked : Asked) (next : Reply → Looping) (r : Reply) → (loop R chain strategy).turn store s ≡ asks asked next → IsKnownLoop R chain n store s → IsKnownLoop R chain n others (next r)
+  answered n store others s asked next r is known =
+      same_record R chain n store others s (next r) known ((named_so R chain strategy n store s (asks asked next) is known).1 r) ((own_so R chain strategy n store s (asks asked next) is known).1 r)
+
+  pub loop-keeps : (line_of : Finding → ℕ) (calls : ℕ) → KeepsNamed (loop R chain strategy) (loop_entry line_of calls) (IsKnownLoop R chain)
+  loop-keeps line_of calls = record {
+    more = λ n m store s less known. record {
+      standard = let standard = known.standard in omega (arith, less, standard);
+      history = record { boxes = boxes-more n m R.boxes less known.history.boxes; points = points-more n m R.points less known.history.points };
+      calls = known.calls;
+      state = looping-more n m s less known.state;
+      going = known.going;
+    };
+    question = λ n store s asked next is known. (named_so R chain strategy n store s (asks asked next) is known).0;
+    may_ask = λ n store s asked next is known. (own_so R chain strategy n store s (asks asked next) is known).0;
+    kept = λ n store s asked next r is o known. answered n store store s asked next r is known;
+    replied = λ n store s asked next r is fits named known. answered n store _ s asked next r is known;
+    going = λ n store s t is known. same_record R chain n store store s t known (named_so R chain strategy n store s (goes t) is known) (own_so R chain strategy n store s (goes t) is known);
+    finding = λ n store s e is known. entry-named n line_of calls e known.standard (named_so R chain strategy n store s (ends e) is known);
+  }

@@ -1,9 +1,14 @@
+pub mod Pure
 pub mod NamedTrees
 pub mod Known
 pub mod KnownTrees
 pub mod NamedReplies
+pub mod Followed
+pub mod OwnGoals
 pub mod KnownGoals
+pub mod OwnLoops
 pub mod KnownLoops
+pub mod OwnRecords
 pub mod Kept
 pub mod Bridging
 pub mod Telling

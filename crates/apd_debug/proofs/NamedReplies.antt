@@ -4,6 +4,7 @@ use Rattle.std.specs.Bool.{then_some}
 use Rattle.std.specs.List.{list_any}
 use Rattle.std.specs.Option.{option_or}
 use Rattle.std.specs.Prelude.{if◌then◌else◌}
+use Rattle.apd_answers.specs.Fitting.{AllFit, AllFitIn}
 use Rattle.apd_answers.specs.Questions.{canonical_question, with_values}
 use Rattle.apd_answers.specs.Store.{Store, decided, decided_in, is_kept, same_question, told, told_of_truth, with_pair}
 use Rattle.apd_answers.specs.declared.question.Question.{Question}
@@ -15,9 +16,9 @@ use Rattle.apd_term.specs.Matching.{is_instance}
 use Rattle.apd_term.specs.Term.{Term}
 use Rattle.apd_term.specs.declared.term.Pred.{Pred}
 use Rattle.apd_term.proofs.Named.{AllNamed-more, IsNamed-more, TupleIsNamed-more}
-use Rattle.apd_known.specs.Pairs.{AllMayTrust}
+use Rattle.apd_known.specs.Pairs.{AllMayTrust, AllStatable, IsStatable}
 use Rattle.apd_text.specs.Named.{QuestionIsNamed, ReplyIsNamed}
-use Rattle.apd_debug.specs.NamedStates.{AreReplies, AreRepliesIn, IsNamedReply}
+use Rattle.apd_debug.specs.NamedStates.{AreReplies}
 
 pub ReplyIsNamed-more : (n m : ℕ) (r : Reply) → n ≤ m → ReplyIsNamed n r → ReplyIsNamed m r
 ReplyIsNamed-more n m Yes less named = tt
@@ -30,27 +31,38 @@ QuestionIsNamed-more n m (True a) less named = IsNamed-more n m a less named
 QuestionIsNamed-more n m (Covers t) less named = TupleIsNamed-more n m t less named
 QuestionIsNamed-more n m (Below q p) less named = (IsNamed-more n m q less named.0, IsNamed-more n m p less named.1)
 
-pub AreReplies-more_in : (n m : ℕ) (pairs : List Pair) → n ≤ m → AreRepliesIn n pairs → AreRepliesIn m pairs
-AreReplies-more_in n m [] less named = tt
-AreReplies-more_in n m (pair ∷ pairs) less named = ((named.0.0, ReplyIsNamed-more n m pair.reply less named.0.1, QuestionIsNamed-more n m pair.question less named.0.2), AreReplies-more_in n m pairs less named.1)
+statable-more : (n m : ℕ) (p : Pair) → n ≤ m → IsStatable n p → IsStatable m p
+statable-more n m p less is = record { asked = is.asked; fits = is.fits; question_named = QuestionIsNamed-more n m p.question less is.question_named; reply_named = ReplyIsNamed-more n m p.reply less is.reply_named }
+
+pairs-more : (n m : ℕ) (pairs : List Pair) → n ≤ m → AllStatable n pairs → AllStatable m pairs
+pairs-more n m [] less are = tt
+pairs-more n m (p ∷ pairs) less are = (statable-more n m p less are.0, pairs-more n m pairs less are.1)
 
 trust-more : (n m : ℕ) (preds : List Pred) → n ≤ m → AllMayTrust n preds → AllMayTrust m preds
 trust-more n m [] less may = tt
 trust-more n m (p ∷ preds) less may = (record { own = may.0.own; named = let first = may.0.named in omega (arith, first, less) }, trust-more n m preds less may.1)
 
 pub AreReplies-more : (n m : ℕ) (store : Store) → n ≤ m → AreReplies n store → AreReplies m store
-AreReplies-more n m store less named = record { pairs = AreReplies-more_in n m store.pairs less named.pairs; trust = trust-more n m store.trusted less named.trust }
+AreReplies-more n m store less are = record { pairs = pairs-more n m store.pairs less are.pairs; trust = trust-more n m store.trusted less are.trust }
 
-replies-append : (n : ℕ) (pairs : List Pair) (q : Question) (r : Reply) → AreRepliesIn n pairs → IsNamedReply n q r → AreRepliesIn n (pairs ++ record { question = q; reply = r } ∷ [])
-replies-append n [] q r named last = (last, tt)
-replies-append n (pair ∷ pairs) q r named last = (named.0, replies-append n pairs q r named.1 last)
+replies-append : (n : ℕ) (pairs : List Pair) (p : Pair) → AllStatable n pairs → IsStatable n p → AllStatable n (pairs ++ p ∷ [])
+replies-append n [] p are last = (last, tt)
+replies-append n (q ∷ pairs) p are last = (are.0, replies-append n pairs p are.1 last)
 
-pub with_pair-replies : (n : ℕ) (store : Store) (q : Question) (r : Reply) → AreReplies n store → IsNamedReply n q r → AreReplies n (with_pair store q r)
-with_pair-replies n store q r named last = record { pairs = by (is_kept store q r); trust = named.trust }
+pub with_pair-replies : (n : ℕ) (store : Store) (q : Question) (r : Reply) → AreReplies n store → IsStatable n (record { question = q; reply = r }) → AreReplies n (with_pair store q r)
+with_pair-replies n store q r are last = record { pairs = by (is_kept store q r); trust = are.trust }
   where
-    by : (b : Bool) → AreRepliesIn n (if b then store.pairs else store.pairs ++ record { question = q; reply = r } ∷ [])
-    by true = named.pairs
-    by false = replies-append n store.pairs q r named.pairs last
+    by : (b : Bool) → AllStatable n (if b then store.pairs else store.pairs ++ record { question = q; reply = r } ∷ [])
+    by true = are.pairs
+    by false = replies-append n store.pairs (record { question = q; reply = r }) are.pairs last
+
+-- the replies of a store fit its questions
+all_fit_in : (n : ℕ) (pairs : List Pair) → AllStatable n pairs → AllFitIn pairs
+all_fit_in n [] are = tt
+all_fit_in n (p ∷ pairs) are = (are.0.fits, all_fit_in n pairs are.1)
+
+pub all_fit : (n : ℕ) (store : Store) → AreReplies n store → AllFit store
+all_fit n store are = all_fit_in n store.pairs are.pairs
 
 abbrev MayReply : ℕ → Option Reply → Type 0
 MayReply n None = Unit {0}
@@ -83,9 +95,9 @@ told-named n pair (True a) named = truth-named n pair.question pair.reply a
 told-named n pair (Covers t) named = then_some-named n (same_question (canonical_question pair.question) (canonical_question (Covers t))) pair.reply named
 told-named n pair (Below q p) named = then_some-named n (same_question (canonical_question pair.question) (canonical_question (Below q p))) pair.reply named
 
-may_decide : (n : ℕ) (pairs : List Pair) (q : Question) → AreRepliesIn n pairs → MayReply n (decided_in pairs q)
+may_decide : (n : ℕ) (pairs : List Pair) (q : Question) → AllStatable n pairs → MayReply n (decided_in pairs q)
 may_decide n [] q named = tt
-may_decide n (pair ∷ pairs) q named = or-named n (told pair q) (decided_in pairs q) (told-named n pair q named.0.1) (may_decide n pairs q named.1)
+may_decide n (pair ∷ pairs) q named = or-named n (told pair q) (decided_in pairs q) (told-named n pair q named.0.reply_named) (may_decide n pairs q named.1)
 
 pub decided-named : (n : ℕ) (store : Store) (q : Question) (r : Reply) → decided store q ≡ Some r → AreReplies n store → ReplyIsNamed n r
 decided-named n store q r is named = subst (MayReply n) is (may_decide n store.pairs q named.pairs)

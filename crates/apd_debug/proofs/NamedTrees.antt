@@ -32,7 +32,11 @@ use Rattle.apd_divide.specs.Tree.{Tree, Forest, node, bare, beside, marked, doub
 use Rattle.apd_divide.specs.Choice.{Cut, Among, Way, at_node, cut, cut_among, judged}
 use Rattle.apd_divide.specs.Recorded.{renamed_apart, instance_with, nodes_for, tree_in, tree}
 use Rattle.apd_divide.proofs.Weights.{stopped, down, along, found, map_some}
-use Rattle.apd_debug.specs.NamedTrees.{TreeIsNamed, ForestIsNamed, InstancesAreNamed, AllPointsNamed, AllBoxesNamed, RecordIsNamed}
+use Rattle.apd_debug.specs.NamedTrees.{HoldsInTree, HoldsInForest, TreeIsNamed, InstancesAreNamed, AllPointsNamed, AllBoxesNamed, RecordIsNamed}
+
+-- the instances of nodes beside each other are named
+abbrev pub ForestIsNamed : ℕ → Forest → Type 0
+ForestIsNamed n ts = HoldsInForest (TupleIsNamed n) ts
 
 -- among more names
 
@@ -44,36 +48,37 @@ mutual
   ForestIsNamed-more n m bare less named = tt
   ForestIsNamed-more n m (beside x xs) less named = (TreeIsNamed-more n m x less named.0, ForestIsNamed-more n m xs less named.1)
 
--- what a cut leaves
+-- what a cut leaves of what holds in a tree
 
-marked-named : (n : ℕ) (v : Standing) (x : Tree) → TreeIsNamed n x → TreeIsNamed n (marked v x)
-marked-named n v (node s c t ts) named = named
+module _ (Q : Tuple → Type 0) where
+  marked-holds : (v : Standing) (x : Tree) → HoldsInTree Q x → HoldsInTree Q (marked v x)
+  marked-holds v (node s c t ts) holds = holds
 
-abbrev pub CutIsNamed : ℕ → Cut → Type 0
-CutIsNamed n c = TreeIsNamed n c.chosen × ((v : Standing) → TreeIsNamed n (c.rest v))
+  abbrev pub HoldsInCut : Cut → Type 0
+  HoldsInCut c = HoldsInTree Q c.chosen × ((v : Standing) → HoldsInTree Q (c.rest v))
 
-abbrev AmongIsNamed : ℕ → Among → Type 0
-AmongIsNamed n a = TreeIsNamed n a.chosen × ((v : Standing) → ForestIsNamed n (a.rest v))
+  abbrev HoldsAmong : Among → Type 0
+  HoldsAmong a = HoldsInTree Q a.chosen × ((v : Standing) → HoldsInForest Q (a.rest v))
 
-mutual
-  pub cut-named : (n : ℕ) (way : Way) (x : Tree) (c : Cut) → cut way x ≡ Some c → TreeIsNamed n x → CutIsNamed n c
-  cut-named n way (node s k t ts) c e named =
-      let m = map_some (at_node (node s k t)) (cut_among way ts) c e in
-      let a = cut_among-named n way ts m.0 m.1 named.1 in
-      subst (CutIsNamed n) m.2 (a.0, λ v. (named.0, a.1 v))
+  mutual
+    pub cut-holds : (way : Way) (x : Tree) (c : Cut) → cut way x ≡ Some c → HoldsInTree Q x → HoldsInCut c
+    cut-holds way (node s k t ts) c e holds =
+        let m = map_some (at_node (node s k t)) (cut_among way ts) c e in
+        let a = cut_among-holds way ts m.0 m.1 holds.1 in
+        subst HoldsInCut m.2 (a.0, λ v. (holds.0, a.1 v))
 
-  cut_among-named : (n : ℕ) (way : Way) (ts : Forest) (a : Among) → cut_among way ts ≡ Some a → ForestIsNamed n ts → AmongIsNamed n a
-  cut_among-named n way bare a e named = absurd (cc)
-  cut_among-named n way (beside x xs) a e named = elim (found way x xs a e) [
-    | stopped t s f ↦ subst (AmongIsNamed n) f (named.0, λ v. (marked-named n v x named.0, named.1))
-    | down t s c g f ↦ let k = cut-named n way x c g named.0 in subst (AmongIsNamed n) f (k.0, λ v. (k.1 v, named.1))
-    | along t b g f ↦ let k = cut_among-named n way xs b g named.1 in subst (AmongIsNamed n) f (k.0, λ v. (named.0, k.1 v))
-  ]
+    cut_among-holds : (way : Way) (ts : Forest) (a : Among) → cut_among way ts ≡ Some a → HoldsInForest Q ts → HoldsAmong a
+    cut_among-holds way bare a e holds = absurd (cc)
+    cut_among-holds way (beside x xs) a e holds = elim (found way x xs a e) [
+      | stopped t s f ↦ subst HoldsAmong f (holds.0, λ v. (marked-holds v x holds.0, holds.1))
+      | down t s c g f ↦ let k = cut-holds way x c g holds.0 in subst HoldsAmong f (k.0, λ v. (k.1 v, holds.1))
+      | along t b g f ↦ let k = cut_among-holds way xs b g holds.1 in subst HoldsAmong f (k.0, λ v. (holds.0, k.1 v))
+    ]
 
-pub judged-named : (n : ℕ) (c : Cut) (value : Verdict) → CutIsNamed n c → TreeIsNamed n (judged c value)
-judged-named n c verdicts.True named = named.1 Cleared
-judged-named n c verdicts.False named = named.0
-judged-named n c verdicts.Unknown named = named.1 Doubted
+  pub judged-holds : (c : Cut) (value : Verdict) → HoldsInCut c → HoldsInTree Q (judged c value)
+  judged-holds c verdicts.True holds = holds.1 Cleared
+  judged-holds c verdicts.False holds = holds.0
+  judged-holds c verdicts.Unknown holds = holds.1 Doubted
 
 -- the instances of the nodes that are judged unknown
 append-named : (n : ℕ) (is js : List Instance) → InstancesAreNamed n is → InstancesAreNamed n js → InstancesAreNamed n (is ++ js)

@@ -1,10 +1,8 @@
 -- The replies that there are without a line, and lines that are replies, make the dialogue with these replies.
-use Rattle.std.proofs.Common.{◌≡◌, ℕ, zero, suc, ◌<◌, ◌≤◌, List, [], ◌∷◌, ◌++◌, refl, ap, sym, ◌∙◌, subst, arith, append_assoc, Bool, true, false, Option, None, Some}
-use Rattle.std.specs.Prelude.{is_some}
-use Rattle.apd_answers.specs.Dialogue.{Diagnosis, Dialogue, Exchange, Turn, asks, goes, ends, next_turn, dialogue, replied as exchanged}
+use Rattle.std.proofs.Common.{◌≡◌, ℕ, zero, suc, ◌<◌, ◌≤◌, List, [], ◌∷◌, ◌++◌, refl, ap, ◌∙◌, arith, append_assoc, Bool, true, false, Option, None, Some}
+use Rattle.apd_answers.specs.Dialogue.{Diagnosis, Dialogue, Turn, asks, goes, ends, next_turn, dialogue, replied as exchanged}
 use Rattle.apd_answers.specs.Store.{Store, with_pair}
 use Rattle.apd_answers.specs.declared.question.Asked.{Asked}
-use Rattle.apd_answers.specs.declared.question.Question.{Question}
 use Rattle.apd_answers.specs.declared.question.Reply.{Reply}
 use Rattle.apd_base.specs.Counts.{risen}
 use Rattle.apd_console.specs.Lines.{Close}
@@ -18,6 +16,7 @@ use Rattle.apd_ops.specs.Table.{Table}
 use Rattle.apd_oracle.specs.Replies.{spoken_of}
 use Rattle.apd_oracle.specs.declared.spoken.Spoken.{Spoken}
 use Rattle.apd_oracle.specs.declared.spoken.Spoken.TheVariants as spoken
+use Rattle.apd_oracle.specs.Waiting.{Replies, marked_by}
 use Rattle.apd_read.specs.Reader.{Reader}
 use Rattle.apd_talk.specs.Awaiting.{after}
 use Rattle.apd_talk.specs.Speech.{plain}
@@ -32,7 +31,7 @@ before_by : {S : Type 0} (talker : Talker Entry S) (us : List (Utterance Entry))
 before_by talker us st lines close true is = rw is refl
 before_by talker us st lines close false is = rw (is, append_assoc us st.utterances (run talker st.next lines close).utterances) refl
 
-module _ {S D E : Type 0} (replies : Question → Option Reply) (d : Diagnosis D E) (found : E → Entry) (state : Stand D → S) {names : List (List ℕ)} (reader : Reader names) (ops : Table) (talker : Talker Entry S)
+module _ {S D E : Type 0} (replies : Replies) (d : Diagnosis D E) (found : E → Entry) (state : Stand D → S) {names : List (List ℕ)} (reader : Reader names) (ops : Table) (talker : Talker Entry S)
     (hears : HearsReplies replies d found state reader ops talker) where
   -- what the lines mean at a turn, where the question waits
   abbrev at_turn : Store → ℕ → Turn D E → List Line → Close → Said Entry
@@ -97,22 +96,22 @@ module _ {S D E : Type 0} (replies : Question → Option Reply) (d : Diagnosis D
   said_by r rs rest k store count (goes t) lines few most left say = nothing_said k store count (goes t) lines left say
   said_by r rs rest k store count (ends e) lines few most left say = nothing_said k store count (ends e) lines left say
   said_by r rs rest zero store count (asks asked next) lines few most left say = λ more close. absurd (omega (arith, few))
-  said_by r rs rest (suc k) store count (asks asked next) lines few most left say = λ more close. by (replies asked.question) lines few say more close
+  said_by r rs rest (suc k) store count (asks asked next) lines few most left say = λ more close. by (replies.to asked.question) lines few say more close
     where
       by : (o : Option Reply) (lines : List Line) → counted_if o (referred_count replies (after_reply rs store asked next r).exchanges) < suc k →
           SaysReply reader ops (λ ls. SayReplies replies reader ops ls (after_reply rs store asked next r).exchanges) lines (record { asked = asked; reply = r; left = d.left (next r) }) o → (more : List Line) (close : Close) →
           after talker (referred_then replies d found state ops names (goes_within replies d found state ops names k) store count asked next o) (lines ++ more) close
-          ≡ onto (question count asked) (onto (told next r (is_some o)) (at_end (risen count) (after_reply rs store asked next r) more close))
+          ≡ onto (question count asked) (onto (told next r (marked_by replies.marked o)) (at_end (risen count) (after_reply rs store asked next r) more close))
       by None [] few say more close = absurd say
       by None (line ∷ lines) few say more close =
           ap (onto (question count asked)) (one_reply store (risen count) asked next r line (lines ++ more) close say.0)
           ∙ ap (λ (said : Said Entry). onto (question count asked) (onto (told next r false) said)) (rest most_in_a_row (with_pair store asked.question r) (next r) (risen count) lines (omega (arith, few, most)) (omega arith) left say.1 more close)
       by (Some given) lines few say more close =
-          let st = replied_then replies d found state ops names (goes_within replies d found state ops names k) true store (risen count) asked next given in
+          let st = replied_then replies d found state ops names (goes_within replies d found state ops names k) replies.marked store (risen count) asked next given in
           before_by talker (question count asked) st (lines ++ more) close st.quits refl
-          ∙ ap (λ (g : Reply). onto (question count asked) (after talker (replied_then replies d found state ops names (goes_within replies d found state ops names k) true store (risen count) asked next g) (lines ++ more) close)) say.0
-          ∙ ap (onto (question count asked)) (reply_then k true store (risen count) asked next r (lines ++ more) close)
-          ∙ ap (λ (said : Said Entry). onto (question count asked) (onto (told next r true) said)) (rest k (with_pair store asked.question r) (next r) (risen count) lines (omega (arith, few)) (omega (arith, most)) left say.1 more close)
+          ∙ ap (λ (g : Reply). onto (question count asked) (after talker (replied_then replies d found state ops names (goes_within replies d found state ops names k) replies.marked store (risen count) asked next g) (lines ++ more) close)) say.0
+          ∙ ap (onto (question count asked)) (reply_then k replies.marked store (risen count) asked next r (lines ++ more) close)
+          ∙ ap (λ (said : Said Entry). onto (question count asked) (onto (told next r replies.marked) said)) (rest k (with_pair store asked.question r) (next r) (risen count) lines (omega (arith, few)) (omega (arith, most)) left say.1 more close)
 
   are_said_within : (given : List Reply) → AreSaid given
   are_said_within [] k store s count lines few most left say = nothing_said k store count (next_turn d store s) lines left say

@@ -26,8 +26,8 @@ module _ {S K R : Type 0} (s : Source.Ghosts S) (k : Sink.Ghosts K) (r : Replier
   abbrev pub dialogue_step : Dialogue S K R s k r → Call → Dialogue S K R s k r → Type 0
   dialogue_step d call e =
       (e.console.ghost_name ≡ d.console.ghost_name) × (e.source.ghost_name ≡ d.source.ghost_name) × (e.sink.ghost_name ≡ d.sink.ghost_name) × (e.log.ghost_name ≡ d.log.ghost_name)
-      × (e.replier.ghost_name ≡ d.replier.ghost_name) × (e.replier.now ≡ d.replier.now) × (e.by_reference ≡ referred (r.replies d.replier.now) call d.by_reference)
-      × (e.asked ≡ counted call d.asked) × Calls (r.replies d.replier.now) call d.asked d.by_reference (moment_of d) (moment_of e)
+      × (e.replier.ghost_name ≡ d.replier.ghost_name) × (e.replier.now ≡ d.replier.now) × (e.by_reference ≡ referred (r.replies d.replier.now) d.marked call d.by_reference)
+      × (e.asked ≡ counted call d.asked) × Calls (r.replies d.replier.now) call d.asked d.by_reference (moment_of d) (moment_of e) × (e.marked ≡ d.marked)
 
   -- what a whole diagnosis keeps of a dialogue
   pub record KeepsDialogue (d e : Dialogue S K R s k r) : Type 0 where

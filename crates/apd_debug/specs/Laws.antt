@@ -1,11 +1,10 @@
 -- What holds of every conversation in which a diagnosis goes on.
-use Rattle.std.specs.Prelude.{◌≡◌, ℕ, ◌<◌, List, ◌++◌, length, Option, Result, Ok, MatchResult}
+use Rattle.std.specs.Prelude.{◌≡◌, ℕ, ◌<◌, List, ◌++◌, length, Result, Ok, MatchResult}
 use Rattle.apd_answers.specs.Dialogue.{Diagnosis, dialogue}
 use Rattle.apd_answers.specs.Going.{Moment as Stage, Reaches, Breaks}
 use Rattle.apd_answers.specs.Oracle.{Call}
 use Rattle.apd_answers.specs.declared.oracle.AskEnd.{AskEnd}
 use Rattle.apd_answers.specs.declared.question.Asked.{Asked}
-use Rattle.apd_answers.specs.declared.question.Question.{Question}
 use Rattle.apd_answers.specs.declared.question.Reply.{Reply}
 use Rattle.apd_answers.specs.Store.{Store}
 use Rattle.apd_console.specs.Lines.{Close}
@@ -19,7 +18,7 @@ use Rattle.apd_debug.specs.Steps.{after_turn, goes_on, most_in_a_row}
 use Rattle.apd_lines.specs.Lines.{line_in}
 use Rattle.apd_ops.specs.Table.{Table}
 use Rattle.apd_oracle.specs.Replies.{spoken_of}
-use Rattle.apd_oracle.specs.Waiting.{turn_at}
+use Rattle.apd_oracle.specs.Waiting.{Replies, turn_at}
 use Rattle.apd_read.specs.Reader.{Reader}
 use Rattle.apd_talk.specs.Awaiting.{Awaits, after}
 use Rattle.apd_talk.specs.Moment.{place}
@@ -31,7 +30,7 @@ use Rattle.apd_text.specs.declared.entry.Entry.{Entry}
 -- a conversation in which a diagnosis goes on: what is replied without a line, the entry of what is found, the state of the
 -- conversation where the diagnosis stands so, and a talker that hears replies where a question waits
 pub record Debugging (S D E : Type 0) : Type 0 where
-  pub replies : Question → Option Reply
+  pub replies : Replies
   pub diagnosis : Diagnosis D E
   pub found : E → Entry
   pub state : Stand D → S

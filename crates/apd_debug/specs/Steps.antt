@@ -3,12 +3,12 @@ use Rattle.std.specs.Prelude.{ℕ, zero, suc, ◌^◌, List, [], ◌∷◌, ◌+
 use Rattle.apd_answers.specs.Dialogue.{Diagnosis, Turn, asks, goes, ends, next_turn}
 use Rattle.apd_answers.specs.Store.{Store, with_pair}
 use Rattle.apd_answers.specs.declared.question.Asked.{Asked}
-use Rattle.apd_answers.specs.declared.question.Question.{Question}
 use Rattle.apd_answers.specs.declared.question.Reply.{Reply}
 use Rattle.apd_base.specs.Counts.{risen}
 use Rattle.apd_console.specs.Lines.{Close, AtEnd, AtFault, AtLimit}
 use Rattle.apd_debug.specs.Stand.{Stand, ready, asking}
 use Rattle.apd_ops.specs.Table.{Table}
+use Rattle.apd_oracle.specs.Waiting.{Replies}
 use Rattle.apd_oracle.specs.declared.spoken.Spoken.{Spoken}
 use Rattle.apd_oracle.specs.declared.spoken.Spoken.TheVariants as spoken
 use Rattle.apd_talk.specs.Speech.{plain}
@@ -48,7 +48,7 @@ unfoldable pub most_in_a_row : ℕ
 most_in_a_row = 2 ^ 64
 
 -- the same by what someone replies without a line
-module _ {S D E : Type 0} (replies : Question → Option Reply) (d : Diagnosis D E) (found : E → Entry) (state : Stand D → S) (ops : Table) (names : List (List ℕ)) where
+module _ {S D E : Type 0} (replies : Replies) (d : Diagnosis D E) (found : E → Entry) (state : Stand D → S) (ops : Table) (names : List (List ℕ)) where
   -- a reply is kept and said, with how many suspects it leaves, and then the rest
   abbrev pub replied_then : (Store → ℕ → D → Step Entry S) → Bool → Store → ℕ → Asked → (Reply → D) → Reply → Step Entry S
   replied_then rest by_reference store count asked next r =
@@ -57,10 +57,10 @@ module _ {S D E : Type 0} (replies : Question → Option Reply) (d : Diagnosis D
   -- a question is said, and gets this reply; where there is none, it waits
   abbrev pub referred_then : (Store → ℕ → D → Step Entry S) → Store → ℕ → Asked → (Reply → D) → Option Reply → Step Entry S
   referred_then rest store count asked next None = after_turn d found state ops names store count (asks asked next)
-  referred_then rest store count asked next (Some r) = says_before (plain ops names (entry.Question (risen count) asked) ∷ []) (replied_then rest true store (risen count) asked next r)
+  referred_then rest store count asked next (Some r) = says_before (plain ops names (entry.Question (risen count) asked) ∷ []) (replied_then rest replies.marked store (risen count) asked next r)
 
   abbrev pub turn_then : (Store → ℕ → D → Step Entry S) → Store → ℕ → Turn D E → Step Entry S
-  turn_then rest store count (asks asked next) = referred_then rest store count asked next (replies asked.question)
+  turn_then rest store count (asks asked next) = referred_then rest store count asked next (replies.to asked.question)
   turn_then rest store count (goes s) = after_turn d found state ops names store count (goes s)
   turn_then rest store count (ends e) = after_turn d found state ops names store count (ends e)
 

@@ -8,7 +8,7 @@ use Rattle.std.proofs.lemmas.Fmt.{decimal_digit}
 use Rattle.std.proofs.lemmas.Str.{IsUtf8-from_ascii}
 use Rattle.std.proofs.lemmas.Str.Ascii.{IsAscii-cons, IsAscii-nil}
 use Rattle.apd_ops.specs.Table.{IsTable, Table}
-use Rattle.apd_reading_back.specs.Law.{AreNames}
+use Rattle.apd_reading_back.specs.Law.{AreNames, IsInRange}
 use Rattle.apd_reading_back.specs.Lines.{AreWritten, Line, ReadsInTurn, as_call, as_clause, lines_text}
 use Rattle.apd_reading_back.specs.Queries.{call_term, call_text}
 use Rattle.apd_reading_back.proofs.Lines.{lines_read_in_turn}
@@ -24,19 +24,18 @@ use Rattle.apd_term.proofs.Ground.{apply-ground}
 use Rattle.apd_term.proofs.Variants.{canonical-canonical}
 use Rattle.apd_write.specs.NameTexts.{function_text}
 use Rattle.apd_write.specs.Writing.{in_parentheses, written}
-use Rattle.apd_answers.specs.Fitting.{AllFit, AllFitIn}
 use Rattle.apd_answers.specs.Once.{AreListedOnce, AreNewPreds, AreOnce, AreSame, with_pairs_in}
 use Rattle.apd_answers.specs.Store.{Store, empty_store}
 use Rattle.apd_answers.specs.Trust.{with_trust}
 use Rattle.apd_answers.specs.declared.store.Pair.{Pair}
 use Rattle.apd_answers.proofs.Once.{put-again}
-use Rattle.apd_known.specs.Pairs.{AllMayTrust, AllStatable, MayAsk}
+use Rattle.apd_known.specs.Pairs.{AllMayTrust, AllStatable}
 use Rattle.apd_known.specs.Statements.{statement_added}
 use Rattle.apd_known.specs.declared.file.Stated.{Stated}
 use Rattle.apd_known.specs.declared.statements.Form.TheVariants.{Second}
 use Rattle.apd_text.specs.Named.{HasStandardNames}
 use Rattle.apd_kept.specs.Kept.{known_text, pair_line, pair_term, statement_of, reply_term, trust_line, trust_term}
-use Rattle.apd_kept.specs.Law.{CanBeWritten, CanReadBack, IsWritableStore, PairIsNamed, ReadsBackAs}
+use Rattle.apd_kept.specs.Law.{CanBeWritten, CanReadBack, IsPlain, IsWritableStore, ReadsBackAs}
 use Rattle.apd_kept.proofs.Forms.{there}
 use Rattle.apd_kept.proofs.MoreNames.{pair_named, trust_named}
 use Rattle.apd_kept.proofs.Reading.{Makes, states_in_turn}
@@ -238,22 +237,28 @@ module _ (ops : Table) (names : List (List ℕ)) (table : IsTable ops) (all : Ar
         },
       )
 
--- a store of replies, whose pairs fit
-pub all-statable : (n : ℕ) (pairs : List Pair) → AllFitIn pairs → AllByRecursion (λ (p : Pair). MayAsk p.question) pairs → AllByRecursion (λ (p : Pair). PairIsNamed n p) pairs → AllStatable n pairs
-all-statable n [] fits asked named = tt
-all-statable n (p ∷ ps) fits asked named =
-    (record { asked = asked.0; fits = fits.0; question_named = named.0.0; reply_named = named.0.1 }, all-statable n ps fits.1 asked.1 named.1)
+-- A store whose statements are plain, and have the numbers of symbols.
+pairs_written-by : (ops : Table) (names : List (List ℕ)) (pairs : List Pair) → AllByRecursion (λ p. IsPlain ops names (pair_term p)) pairs → AllByRecursion (λ p. IsInRange (pair_term p)) pairs → AllByRecursion (λ p. CanBeWritten ops names (pair_term p)) pairs
+pairs_written-by ops names [] plain ranges = tt
+pairs_written-by ops names (p ∷ ps) plain ranges = (record { utf8 = plain.0.utf8; in_range = ranges.0; shallow = plain.0.shallow }, pairs_written-by ops names ps plain.1 ranges.1)
 
-pub store_reads_back : (ops : Table) (names : List (List ℕ)) (store : Store) → IsTable ops → HasDistinctTexts names → Grown standard_names names → AllFit store → AreOnce store.pairs → AreListedOnce store.trusted
-    → AllByRecursion (λ (p : Pred). p.arity ≤ 255) store.trusted → CanReadBack ops names store → (s : Stated) × ReadsBackAs ops names store s
-store_reads_back ops names store table distinct standard fits once listed arities can =
+trust_range : (p : Pred) → p.arity ≤ 255 → IsInRange (trust_term p)
+trust_range p few = (omega arith, ((omega arith, ((omega arith, tt), (omega (arith, few), tt))), tt))
+
+trusts_written-by : (ops : Table) (names : List (List ℕ)) (preds : List Pred) → AllByRecursion (λ p. IsPlain ops names (trust_term p)) preds → Few preds → AllByRecursion (λ p. CanBeWritten ops names (trust_term p)) preds
+trusts_written-by ops names [] plain few = tt
+trusts_written-by ops names (p ∷ ps) plain few = (record { utf8 = plain.0.utf8; in_range = trust_range p few.0; shallow = plain.0.shallow }, trusts_written-by ops names ps plain.1 few.1)
+
+pub store_reads_back : (ops : Table) (names : List (List ℕ)) (store : Store) → IsTable ops → HasDistinctTexts names → Grown standard_names names → AreOnce store.pairs → AreListedOnce store.trusted
+    → AllByRecursion (λ (p : Pred). p.arity ≤ 255) store.trusted → AllByRecursion (λ p. IsInRange (pair_term p)) store.pairs → CanReadBack ops names store → (s : Stated) × ReadsBackAs ops names store s
+store_reads_back ops names store table distinct standard once listed arities ranges can =
     reads_back_as ops names table (record { distinct = distinct; standard = standard }) store
     (record {
-      pairs = all-statable (length names) store.pairs fits can.stated.asked can.named;
+      pairs = can.pairs;
       once = once;
       trust = can.trust;
       trust_once = listed;
       arities = arities;
-      pair_texts = can.stated.pair_texts;
-      trust_texts = can.stated.trust_texts;
+      pair_texts = pairs_written-by ops names store.pairs can.plain.pairs ranges;
+      trust_texts = trusts_written-by ops names store.trusted can.plain.trust arities;
     })

@@ -4,3 +4,4 @@ pub mod Clauses
 pub mod StatedBack
 pub mod Reading
 pub mod Law
+pub mod Spelled

@@ -3,8 +3,9 @@
 #![tactic(auto)]
 
 mod laws;
+mod ranges;
 mod statements;
 mod text;
 
 pub use laws::known_reads_back;
-pub use text::{known_text, reads_back};
+pub use text::known_text;

@@ -6,8 +6,10 @@ ghost use Rattle.apd_term.specs.declared.term.Pred.{Pred};
 ghost use Rattle.apd_known.specs.declared.file.Stated.{Stated};
 ghost use Rattle.apd_kept.specs.Law.{CanReadBack, ReadsBackAs};
 ghost use Rattle.apd_answers.specs.declared.store.Pair.{Pair};
-ghost use Rattle.apd_kept.specs.Kept.{known_text, line_of, pair_line, trust_line};
+ghost use Rattle.apd_kept.specs.Kept.{known_text, line_of, pair_line, pair_term, trust_line};
+ghost use Rattle.apd_reading_back.specs.Law.{IsInRange};
 
+use crate::ranges::is_in_range;
 use crate::statements::{pair_term, trust_term};
 use apd_answers::Answers;
 use apd_base::Text;
@@ -35,7 +37,7 @@ fn trust_line(alloc: Global, ops: &Ops, names: &Names, pred: Pred) -> Result<Tex
     line_of(alloc, ops, names, &statement)
 }
 
-/// The line of the reply at a place, counted from 0.
+/// The line of the reply at a place, counted from 0; the numbers of its statement are those of symbols.
 fn pair_line(
     alloc: Global,
     ops: &Ops,
@@ -44,10 +46,13 @@ fn pair_line(
     i: usize,
 ) -> Result<Text, AllocError>
     requires { i < length answers.now.pairs }
-    ensures { IfOk result (λ t. IfSome (slice_get answers.now.pairs i)
+    ensures line { IfOk result (λ t. IfSome (slice_get answers.now.pairs i)
         (λ (p : Pair). t ≡ pair_line ops.now names.now p)) }
+    ensures range { OnOk result (IfSome (slice_get answers.now.pairs i)
+        (λ (p : Pair). IsInRange (pair_term p))) }
 {
     let statement = pair_term(alloc, answers.question(i), answers.reply(i))?;
+    is_in_range(&statement);
     line_of(alloc, ops, names, &statement)
 }
 
@@ -69,7 +74,7 @@ fn add_trust(
     Ok(())
 }
 
-/// Adds the lines of replies.
+/// Adds the lines of replies; the numbers of their statements are those of symbols.
 fn add_pairs(
     alloc: Global,
     ops: &Ops,
@@ -77,8 +82,10 @@ fn add_pairs(
     answers: &Answers,
     out: &mut Text,
 ) -> Result<(), AllocError>
-    ensures { OnOk result
+    ensures lines { OnOk result
         (out.new ≡ out.old ++ flat_map (pair_line ops.now names.now) answers.now.pairs) }
+    ensures range { OnOk result
+        (AllByRecursion (λ (p : Pair). IsInRange (pair_term p)) answers.now.pairs) }
 {
     'pairs: for i in 0..answers.len() {
         let line = pair_line(alloc, ops, names, answers, i)?;
@@ -87,7 +94,7 @@ fn add_pairs(
     Ok(())
 }
 
-/// The text by itself.
+/// The text by itself; the numbers of the replies' statements are those of symbols.
 #[tactic(auto, unfolding(crate::specs::Kept::known_text))]
 fn whole_text(
     alloc: Global,
@@ -95,7 +102,9 @@ fn whole_text(
     ops: &Ops,
     names: &Names,
 ) -> Result<Text, AllocError>
-    ensures { IfOk result (λ t. t ≡ known_text ops.now names.now answers.now) }
+    ensures text { IfOk result (λ t. t ≡ known_text ops.now names.now answers.now) }
+    ensures range { OnOk result
+        (AllByRecursion (λ (p : Pair). IsInRange (pair_term p)) answers.now.pairs) }
 {
     let mut text = Text::copy_of(alloc, b"form(2) .\n")?;
     add_trust(alloc, ops, names, answers.trusted().as_slice(), &mut text)?;
@@ -119,15 +128,12 @@ fn have_arities(preds: &[Pred])
     }
 }
 
-/// The law of reading back, at a store of replies, whose pairs fit and are kept once, and which lists each trusted predicate
-/// once: its text, read as an oracle file by the same operators, states the same trust, and the same replies up to the
-/// canonical form of their questions. It is so where a file may state each question, each predicate is one that a program may
-/// define, the names are kept, and each statement can be written: then it has no term at level 1,000.
-pub fn reads_back(answers: &Answers, ops: &Ops, names: &Names)
-    ensures { CanReadBack ops.now names.now answers.now →
+/// The text reads back, where the numbers of the replies' statements are those of symbols.
+fn reads_back(answers: &Answers, ops: &Ops, names: &Names)
+    ensures { AllByRecursion (λ (p : Pair). IsInRange (pair_term p)) answers.now.pairs →
+        CanReadBack ops.now names.now answers.now →
         (s : Stated) × ReadsBackAs ops.now names.now answers.now s }
 {
-    answers.are_fitting();
     answers.are_once();
     answers.are_trusted_once();
     have_arities(answers.trusted().as_slice());
@@ -137,6 +143,10 @@ pub fn reads_back(answers: &Answers, ops: &Ops, names: &Names)
 
 /// Adds what is known as an oracle file of the second form: a line for each predicate that is trusted, and one for each reply,
 /// in the order in which they came. The terms are written by the operators. After want of memory the text is as before.
+///
+/// What was added, read as an oracle file by the same operators, states the same trust, and the same replies up to the
+/// canonical form of their questions, where a file may state each, the names are kept and are UTF-8, and no statement's text
+/// has a term at level 1,000.
 pub fn known_text(
     alloc: Global,
     answers: &Answers,
@@ -146,7 +156,10 @@ pub fn known_text(
 ) -> Result<(), AllocError>
     ensures text { OnOk result (out.new ≡ out.old ++ known_text ops.now names.now answers.now) }
     ensures same { OnErr result (out.new ≡ out.old) }
+    ensures back { OnOk result (CanReadBack ops.now names.now answers.now →
+        (s : Stated) × ReadsBackAs ops.now names.now answers.now s) }
 {
     let text = whole_text(alloc, answers, ops, names)?;
+    reads_back(answers, ops, names);
     out.extend(text.bytes())
 }

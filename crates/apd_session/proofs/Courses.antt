@@ -2,6 +2,7 @@
 use Rattle.std.proofs.Common.{◌≡◌, ℕ, List, Option, Some, None, refl}
 use Rattle.std.specs.Prelude.{IfSome, IsSome}
 use Rattle.apd_account.specs.Account.{with_told}
+use Rattle.apd_account.specs.Inquiry.{OfLoop, OfMissing}
 use Rattle.apd_account.specs.Right.{Leaves}
 use Rattle.apd_account.proofs.Diagnosing.{AsksRightly, RightTurn}
 use Rattle.apd_answers.specs.Dialogue.{Turn, asks, goes, ends, next_turn}
@@ -55,10 +56,10 @@ uncounted (Some n) e i = cc
 
 module _ (P : List Tuple) (strategy : Strategy) where
   abbrev pub MissingTurn : Recorded → Store → Option Told → Turn Unanswered Finding → Type 0
-  MissingTurn = RightTurn strategy (IsKnownGoal P) goal_left (IsByReplies P)
+  MissingTurn = RightTurn strategy (IsKnownGoal P) goal_left OfMissing (IsByReplies P)
 
   missing_asks : (R : Recorded) (store : Store) (symptom : Option Told) (s : Unanswered) (asked : Asked) (next : Reply → Unanswered) → IsKnownGoal P R store symptom s → missing_next.AsksOfGoal R store asked next
-      → AsksRightly strategy (IsKnownGoal P) goal_left R store symptom asked next
+      → AsksRightly strategy (IsKnownGoal P) goal_left OfMissing R store symptom asked next
   missing_asks R store symptom s asked next k a = record {
     unanswered = record { undecided = a.undecided; unreplied = λ counted. absurd (uncounted asked.suspects a.alone counted) };
     known = λ r fits. record { sound = k.sound; full = k.full; known = a.known r fits };
@@ -92,27 +93,27 @@ IsLoopEnd P R store loop_ends.AllDescend = AllDescendByReplies store (calls_in R
 
 module _ (P : List Tuple) (strategy : Strategy) where
   abbrev pub LoopTurn : Recorded → Store → Option Told → Turn Looping LoopEnd → Type 0
-  LoopTurn = RightTurn strategy (IsKnownLoop P) left_in (IsLoopEnd P)
+  LoopTurn = RightTurn strategy (IsKnownLoop P) left_in OfLoop (IsLoopEnd P)
 
   -- the suspects that a reply leaves
-  loop_leaves : (R : Recorded) (store : Store) (symptom : Option Told) (n : ℕ) (asked : Asked) (r : Reply) (counted left : Option ℕ) → symptom ≡ Some (NoEnd n) → asked.suspects ≡ counted
-      → IfSome counted (λ before. loop_next.LeavesFewer R (chain R) strategy (with_pair store asked.question r) before left) → Leaves strategy R store symptom asked r left
-  loop_leaves R store symptom n asked r None left is counts l = rw counts tt
-  loop_leaves R store symptom n asked r (Some before) left is counts l = rw (counts, is) (record {
+  loop_leaves : (R : Recorded) (store : Store) (symptom : Option Told) (n : ℕ) (asked : Asked) (r : Reply) (counted : Option ℕ) (s : Looping) → symptom ≡ Some (NoEnd n) → asked.suspects ≡ counted
+      → IfSome counted (λ before. loop_next.LeavesFewer R (chain R) strategy (with_pair store asked.question r) before s) → Leaves strategy R store symptom asked r (OfLoop s)
+  loop_leaves R store symptom n asked r None s is counts l = rw counts tt
+  loop_leaves R store symptom n asked r (Some before) s is counts l = rw (counts, is) (record {
     after = l.after;
     left_is = l.left_is;
     fewer = l.fewer;
     whole = l.whole;
-    suspected = l.of_denied;
+    suspected = record { held = l.whole_is; of_denied = l.of_denied };
     fraction = l.fraction;
   })
 
   loop_asks : (R : Recorded) (store : Store) (symptom : Option Told) (s : Looping) (asked : Asked) (next : Reply → Looping) → IsKnownLoop P R store symptom s → loop_next.AsksInLoop P R (chain R) strategy store asked next
-      → AsksRightly strategy (IsKnownLoop P) left_in R store symptom asked next
+      → AsksRightly strategy (IsKnownLoop P) left_in OfLoop R store symptom asked next
   loop_asks R store symptom s asked next k a = record {
     unanswered = record { undecided = a.undecided; unreplied = a.unreplied };
     known = λ r fits. record { calls = k.calls; symptom_is = k.symptom_is; sound = k.sound; chained = k.chained; known = (a.left r fits).known };
-    leaves = λ r fits. loop_leaves R store symptom k.calls asked r asked.suspects (left_in (next r)) k.symptom_is refl (a.left r fits).fewer;
+    leaves = λ r fits. loop_leaves R store symptom k.calls asked r asked.suspects (next r) k.symptom_is refl (a.left r fits).fewer;
   }
 
   loop_end : (R : Recorded) (store : Store) (e : LoopEnd) → loop_next.IsEndByReplies P R (chain R) store e → IsLoopEnd P R store e

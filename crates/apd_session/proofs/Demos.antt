@@ -1,117 +1,213 @@
--- A demonstration: what it says in parts, and as a session.
-use Rattle.std.proofs.Common.{◌≡◌, ℕ, List, [], refl, sym, ap, ◌∙◌, subst, inl, Option, Some, None}
-use Rattle.std.specs.Prelude.{Result, Ok, Err, pos}
-use Rattle.apd_answers.specs.Repliers.{nobody}
-use Rattle.apd_account.specs.Account.{with_told}
-use Rattle.apd_answers.specs.Dialogue.{Dialogue}
+-- A demonstration: the lines that are known were heard, and it says what it came to.
+use Rattle.std.proofs.Common.{◌≡◌, ◌≤◌, inl, inr, ℕ, zero, suc, ◌+◌, ◌<◌, true, false, List, [], ◌∷◌, drop, length, refl, sym, ap, ◌∙◌, subst, Option, Some, None, arith}
+use Rattle.std.specs.Prelude.{◌-◌, Result, Ok, Err, IfSome, map, slice_get, slice_index_or}
 use Rattle.apd_answers.specs.declared.finding.Finding.{Finding}
-use Rattle.apd_debug.specs.Replying.{count_after, exchanges_said}
-use Rattle.apd_demo.specs.Answered.{demonstrated}
-use Rattle.apd_divide.specs.Recorded.{tree}
-use Rattle.apd_divide.specs.Tree.{Tree}
+use Rattle.apd_answers.specs.declared.question.Asked.{Asked}
+use Rattle.apd_console.specs.Lines.{InputEnd, Ended}
+use Rattle.apd_io.specs.Outside.{Rose}
+use Rattle.apd_lines.proofs.Growing.{Grown-self}
 use Rattle.apd_ops.specs.Table.{Table}
+use Rattle.apd_query.specs.Running.{IsRunOf}
 use Rattle.apd_query.specs.declared.state.LastRun.{LastRun}
 use Rattle.apd_query.specs.declared.state.State.{State}
-use Rattle.apd_record.specs.Reading.{point_of}
-use Rattle.apd_symptoms.specs.Symptoms.{exit_of}
-use Rattle.apd_io.specs.Outside.{Rose}
-use Rattle.apd_session.proofs.Loading.{broken_no_limit, broken_no_read}
-use Rattle.apd_talk.specs.Speech.{HasWriteCause, Says, Speech, Spoken, begun, one}
-use Rattle.apd_talk.specs.Utterance.{Utterance, Utters, UttersFront}
+use Rattle.apd_read.specs.Reader.{Reader}
+use Rattle.apd_read.proofs.Every.{every_reader}
+use Rattle.apd_talk.specs.Outcome.{IsGiven}
+use Rattle.apd_talk.specs.Speech.{HasWriteCause, Lasting, Says, Spoken, begun, plain}
+use Rattle.apd_talk.specs.Utterance.{Utterance, Utters, UttersFront, entries_of}
 use Rattle.apd_talk.specs.declared.talk.Trouble.{Trouble}
 use Rattle.apd_talk.specs.declared.talk.Trouble.TheVariants as trouble
-use Rattle.apd_talk.proofs.Speaking.{both}
-use Rattle.apd_talk.proofs.Uttering.{UttersFront-none}
+use Rattle.apd_talk.proofs.Uttering.{Utters-more, UttersFront-less, UttersFront-more, UttersFront-none}
 use Rattle.apd_term.specs.Growth.{Grown}
+use Rattle.apd_text.specs.Named.{EntryIsNamed}
 use Rattle.apd_text.specs.declared.entry.Entry.{Entry}
-use Rattle.apd_text.specs.declared.entry.Entry.TheVariants.{Refused, Symptom}
-use Rattle.apd_text.specs.declared.entry.Refusal.{Refusal}
+use Rattle.apd_text.specs.declared.entry.Entry.TheVariants.{Found, Question}
 use Rattle.apd_text.specs.declared.log.Log.{Log}
-use Rattle.apd_commands.specs.Commands.{command_in}
-use Rattle.apd_commands.specs.declared.commands.Command.{Command}
-use Rattle.apd_commands.specs.declared.commands.Command.TheVariants as command
-use Rattle.apd_causes.specs.declared.run.Query.{Query}
-use Rattle.apd_read.specs.Reader.{Reader}
-use Rattle.apd_session.specs.Demo.{asked_said, blamed, blamed_at, found_said, query_line, shown_said}
-use Rattle.apd_session.specs.Outcome.{IsFront, IsSaid, status_of, status_shown}
-use Rattle.apd_session.specs.Session.{Transcript, demonstrates}
-use Rattle.apd_session.specs.Steps.{wrong_of}
+use Rattle.apd_session.specs.Causes.{Comes}
+use Rattle.apd_session.specs.Demo.{asks_tree, demo_entry, demo_lines, is_done, outcome_after, outcome_of, questions_in, with_question, with_tree}
+use Rattle.apd_session.specs.Known.{Streams}
+use Rattle.apd_session.specs.Opening.{hears}
+use Rattle.apd_session.specs.Outcome.{GoesOn, IsSaid, IsWhole, status_shown}
+use Rattle.apd_session.specs.Preparing.{IsStart}
+use Rattle.apd_session.specs.Turns.{IsPrepared}
+use Rattle.apd_session.specs.Session.{Transcript, demonstrates, hears_lines, with_outcome}
 use Rattle.apd_session.specs.declared.opening.Start.{Start}
-use Rattle.apd_session.specs.declared.status.Status.TheVariants as status
+use Rattle.apd_session.specs.declared.status.Status.{Status}
+use Rattle.apd_session.specs.declared.status.Status.TheVariants as statuses
+use Rattle.apd_session.proofs.Statuses.{comes, shows_done}
+use Rattle.apd_session.proofs.Worlds.{given_is, said_front}
 
-front_said : (t : Trouble) (told : Transcript) (log : Log) (x y : Option (List ℕ)) → log.ops ≡ told.ops → IsFront told log x y → IsSaid (status_of t) told log x y
-front_said trouble.WriteFault told log x y left front = (front, left)
-front_said trouble.Memory told log x y left front = (front, inl left)
+-- no read of the lines fails
+none_rose : (a b : ℕ) → a ≡ 0 → b ≡ 0 → Rose a b → ⊥
+none_rose a b first second rose = omega (arith, first, second, rose)
 
--- what was said from an empty log is what was to be said, or its front
-pub shown_so : (result : Result (Unit {0}) Trouble) (speech : Speech) (told : Transcript) (p q : Spoken) (names : List (List ℕ)) → Says speech p q result → p.log.entries.list ≡ [] → Grown p.log.names names → told.status ≡ status.Done → told.ops ≡ p.log.ops
-    → speech p.log.ops names ≡ told.utterances → IsSaid (status_shown result) told q.log p.held q.held
-shown_so (Ok t) speech told p q names says empty grew done ops same = record {
-  status_is = done;
-  ops_are = says.ops ∙ sym ops;
-  says = subst (λ (us : List (Utterance Entry)). Utters [] q.log.entries.list p.held q.held us) same (subst (λ (l : List Entry). Utters l q.log.entries.list p.held q.held (speech p.log.ops names)) empty (says.all names grew));
-}
-shown_so (Err t) speech told p q names says empty grew done ops same =
-    front_said t told q.log p.held q.held (says.ops ∙ sym ops)
-    (subst (λ (us : List (Utterance Entry)). UttersFront begun [] q.log.entries.list p.held q.held us) same (subst (λ (l : List Entry). UttersFront begun l q.log.entries.list p.held q.held (speech p.log.ops names)) empty (says.front names grew)))
+-- the lines that are known were heard, and no others
+pub heard_known : (ops : Table) (start : Start) (before : List (List ℕ)) (p q : Streams) (log : Log) (st : Status) → p.left ≡ Some demo_lines → p.read_faults ≡ 0 → q.read_faults ≡ 0 → GoesOn (hears ops start) before p q log st
+    → (names : List (List ℕ)) → Grown log.names names → (reader : Reader names) → IsSaid st (hears_lines reader ops start demo_lines Ended) log p.held q.held
+heard_known ops start before p q log st known first second goes names grew reader =
+    let some = (goes.answers names grew reader).0 in
+    let given : IsGiven (Some demo_lines) some.input some.ends = subst (λ (o : Option (List ℕ)). IsGiven o some.input some.ends) known some.given in
+    let is = given_is demo_lines some.input some.ends given (λ e. none_rose p.read_faults q.read_faults first second (some.fails e)) in
+    subst (λ (ends : InputEnd). IsSaid st (hears_lines reader ops start demo_lines ends) log p.held q.held) is.1
+    (subst (λ (input : List ℕ). IsSaid st (hears_lines reader ops start input some.ends) log p.held q.held) is.0 some.holds)
+
+-- what is said of it last, behind these entries
+abbrev behind_all : List (List ℕ) → ℕ → Table → List Entry → List (Utterance Entry)
+behind_all names nodes ops es = map (plain ops names) (outcome_of nodes es)
+
+-- what it came to is said behind what was said to its end
+pub outcome_said : (names : List (List ℕ)) (nodes : ℕ) (t : Transcript) (p q : Spoken) (x : Option (List ℕ)) (result : Result (Unit {0}) Trouble) → IsWhole statuses.Done t p.log x p.held
+    → Says (λ ops ns. map (plain ops ns) (outcome_of nodes p.log.entries.list)) p q result → Grown q.log.names names → IsSaid (status_shown result) (with_outcome names nodes t) q.log x q.held
+outcome_said names nodes t p q x result whole says grew = by result says
+  where
+    grown : q.log.names ≡ p.log.names → Grown p.log.names names
+    grown same = subst (λ (l : List (List ℕ)). Grown l names) same grew
+
+    same_rest : behind_all names nodes p.log.ops p.log.entries.list ≡ behind_all names nodes t.ops (entries_of t.utterances)
+    same_rest = ap (λ (ops : Table). behind_all names nodes ops p.log.entries.list) whole.ops_are ∙ ap (behind_all names nodes t.ops) whole.says.logged
+
+    by : (r : Result (Unit {0}) Trouble) → Says (λ ops ns. map (plain ops ns) (outcome_of nodes p.log.entries.list)) p q r → IsSaid (status_shown r) (with_outcome names nodes t) q.log x q.held
+    by (Ok u) s = record {
+      status_is = whole.status_is;
+      ops_are = s.ops ∙ whole.ops_are;
+      says =
+          Utters-more [] p.log.entries.list q.log.entries.list x p.held q.held t.utterances (behind_all names nodes t.ops (entries_of t.utterances)) whole.says
+          (subst (λ (us : List (Utterance Entry)). Utters p.log.entries.list q.log.entries.list p.held q.held us) same_rest (s.all names (grown s.names)));
+    }
+    by (Err e) s =
+        said_front e (with_outcome names nodes t) q.log x q.held (s.ops ∙ whole.ops_are)
+        (UttersFront-more begun [] p.log.entries.list q.log.entries.list x p.held q.held t.utterances (behind_all names nodes t.ops (entries_of t.utterances)) whole.says
+        (subst (λ (us : List (Utterance Entry)). UttersFront begun p.log.entries.list q.log.entries.list p.held q.held us) same_rest (s.front names (grown s.names))))
+
+-- where it broke off, its front was said
+pub outcome_unsaid : (names : List (List ℕ)) (nodes : ℕ) (t : Transcript) (st : Status) (log : Log) (x y : Option (List ℕ)) → t.status ≡ statuses.Done → is_done st ≡ false → IsSaid st t log x y → IsSaid st (with_outcome names nodes t) log x y
+outcome_unsaid names nodes t statuses.WriteFault log x y done is said = (UttersFront-less begun [] log.entries.list x y t.utterances (map (plain t.ops names) (outcome_of nodes (entries_of t.utterances))) said.0, said.1)
+outcome_unsaid names nodes t statuses.Memory log x y done is said = (UttersFront-less begun [] log.entries.list x y t.utterances (map (plain t.ops names) (outcome_of nodes (entries_of t.utterances))) said.0, said.1)
+outcome_unsaid names nodes t statuses.Done log x y done is said = absurd (cc)
+outcome_unsaid names nodes t statuses.Usage log x y done is said = absurd (let e : statuses.Done ≡ statuses.Usage = sym done ∙ said.status_is in cc)
+outcome_unsaid names nodes t statuses.Program log x y done is said = absurd (let e : statuses.Done ≡ statuses.Program = sym done ∙ said.status_is in cc)
+outcome_unsaid names nodes t statuses.ReadFault log x y done is said = absurd (let e : statuses.Done ≡ statuses.ReadFault = sym done ∙ said.status_is in cc)
+outcome_unsaid names nodes t statuses.InputLimit log x y done is said = absurd (let e : statuses.Done ≡ statuses.InputLimit = sym done ∙ said.status_is in cc)
+outcome_unsaid names nodes t statuses.OracleText log x y done is said = absurd (let e : statuses.Done ≡ statuses.OracleText = sym done ∙ said.status_is in cc)
+outcome_unsaid names nodes t statuses.ReferenceText log x y done is said = absurd (let e : statuses.Done ≡ statuses.ReferenceText = sym done ∙ said.status_is in cc)
+outcome_unsaid names nodes t statuses.CheckFailed log x y done is said = absurd (let e : statuses.Done ≡ statuses.CheckFailed = sym done ∙ said.status_is in cc)
+outcome_unsaid names nodes t statuses.FileTooLong log x y done is said = absurd (let e : statuses.Done ≡ statuses.FileTooLong = sym done ∙ said.status_is in cc)
+
+-- it came to its end
+pub whole_done : (st : Status) (t : Transcript) (log : Log) (x y : Option (List ℕ)) → is_done st ≡ true → IsSaid st t log x y → IsWhole statuses.Done t log x y
+whole_done statuses.Done t log x y is said = said
+whole_done statuses.WriteFault t log x y is said = absurd (cc)
+whole_done statuses.Memory t log x y is said = absurd (cc)
+whole_done statuses.Usage t log x y is said = absurd (cc)
+whole_done statuses.Program t log x y is said = absurd (cc)
+whole_done statuses.ReadFault t log x y is said = absurd (cc)
+whole_done statuses.InputLimit t log x y is said = absurd (cc)
+whole_done statuses.OracleText t log x y is said = absurd (cc)
+whole_done statuses.ReferenceText t log x y is said = absurd (cc)
+whole_done statuses.CheckFailed t log x y is said = absurd (cc)
+whole_done statuses.FileTooLong t log x y is said = absurd (cc)
+
+-- nothing that is read fails, and the lines are few
+done_only : (st : Status) → Comes st statuses.Done → (st ≡ statuses.InputLimit → ⊥) × (st ≡ statuses.ReadFault → ⊥)
+done_only st (inl is) = (λ e. let f : statuses.InputLimit ≡ statuses.Done = sym e ∙ is in cc, λ e. let f : statuses.ReadFault ≡ statuses.Done = sym e ∙ is in cc)
+done_only st (inr (inl is)) = (λ e. let f : statuses.InputLimit ≡ statuses.WriteFault = sym e ∙ is in cc, λ e. let f : statuses.ReadFault ≡ statuses.WriteFault = sym e ∙ is in cc)
+done_only st (inr (inr is)) = (λ e. let f : statuses.InputLimit ≡ statuses.Memory = sym e ∙ is in cc, λ e. let f : statuses.ReadFault ≡ statuses.Memory = sym e ∙ is in cc)
+
+pub shown_ends : (ops : Table) (start : Start) (nodes : ℕ) (p q : Streams) (log : Log) (st : Status) → Lasting log.names (λ n. (reader : Reader n) → IsSaid st (demonstrates reader ops nodes start) log p.held q.held) → (st ≡ statuses.InputLimit → ⊥) × (st ≡ statuses.ReadFault → ⊥)
+shown_ends ops start nodes p q log st said =
+    let some : Reader log.names = every_reader log.names in
+    let due = shows_done log.names some ops nodes (with_tree nodes start) in
+    done_only st (subst (λ (d : Status). Comes st d) due (comes st (demonstrates some ops nodes start) log p.held q.held (said log.names (Grown-self log.names) some)))
+
+-- the entry at a place
+pub entry_is : {X : Type 0} (xs : List X) (i : ℕ) (x : X) → i < length xs → x ≡ slice_index_or xs i x → slice_get xs i ≡ Some x
+entry_is [] i x there is = absurd (omega (arith, there))
+entry_is (y ∷ ys) zero x there is = ap Some (sym is)
+entry_is (y ∷ ys) (suc i) x there is = entry_is ys i x (omega (arith, there)) is
+
+-- one entry further on
+pub drop_there : {X : Type 0} (xs : List X) (i : ℕ) (x : X) → slice_get xs i ≡ Some x → drop i xs ≡ x ∷ drop (suc i) xs
+drop_there [] i x e = cc
+drop_there (y ∷ xs) zero x e = let same : y ≡ x = cc in ap (λ z. z ∷ xs) same
+drop_there (y ∷ xs) (suc i) x e = drop_there xs i x e
+
+-- the last entry
+pub last_entry : (es : List Entry) (i : ℕ) (e : Entry) → i ≡ length es → (i ≡ 0 → ⊥) → e ≡ slice_index_or es (i - 1) e → slice_get es (length es - 1) ≡ Some e
+last_entry es zero e all some is = absurd (some refl)
+last_entry es (suc j) e all some is = subst (λ (n : ℕ). slice_get es (n - 1) ≡ Some e) all (entry_is es (suc j - 1) e (omega (arith, all)) is)
+
+-- where the last entry tells what was found, and where it doesn't
+pub outcome_none : (nodes : ℕ) (es : List Entry) → length es ≡ 0 → [] ≡ outcome_of nodes es
+outcome_none nodes [] none = refl
+outcome_none nodes (e ∷ es) none = absurd (omega (arith, none))
+
+pub outcome_found : (nodes : ℕ) (es : List Entry) (e : Entry) (f : Finding) (line : ℕ) → slice_get es (length es - 1) ≡ Some e → e ≡ Found f line → demo_entry nodes (questions_in es) f ∷ [] ≡ outcome_of nodes es
+outcome_found nodes es e f line last found = sym (ap (outcome_after nodes (questions_in es)) (last ∙ ap Some found))
+
+not_found : (nodes count : ℕ) (e : Entry) → ((f : Finding) (line : ℕ) → e ≡ Found f line → ⊥) → [] ≡ outcome_after nodes count (Some e)
+not_found nodes count (Found f line) other = absurd (other f line refl)
+not_found nodes count e other = refl
+
+pub outcome_other : (nodes : ℕ) (es : List Entry) (e : Entry) → slice_get es (length es - 1) ≡ Some e → ((f : Finding) (line : ℕ) → e ≡ Found f line → ⊥) → [] ≡ outcome_of nodes es
+outcome_other nodes es e last other = not_found nodes (questions_in es) e other ∙ sym (ap (outcome_after nodes (questions_in es)) last)
+
+-- what it came to has no names
+after_named : (n nodes count : ℕ) (last : Option Entry) (e : Entry) → e ∷ [] ≡ outcome_after nodes count last → EntryIsNamed n e
+after_named n nodes count None e is = absurd (cc)
+after_named n nodes count (Some x) e is = by x is
+  where
+    by : (x : Entry) → e ∷ [] ≡ outcome_after nodes count (Some x) → EntryIsNamed n e
+    by (Found f line) same = let demo : e ≡ demo_entry nodes count f = cc in rw demo tt
+    by x same = absurd (cc)
+
+pub outcome_named : (n nodes : ℕ) (es : List Entry) (e : Entry) → e ∷ [] ≡ outcome_of nodes es → EntryIsNamed n e
+outcome_named n nodes es e is = after_named n nodes (questions_in es) (slice_get es (length es - 1)) e is
+
+-- one question more, or none
+one_counted : (e : Entry) (n m : ℕ) → with_question e n + m ≡ n + with_question e m
+one_counted (Question number asked) n m = omega arith
+one_counted e n m = refl
+
+pub counted_more : (es : List Entry) (i n : ℕ) (e : Entry) → slice_get es i ≡ Some e → n + questions_in (drop i es) ≡ questions_in es → with_question e n + questions_in (drop (i + 1) es) ≡ questions_in es
+counted_more es i n e at told =
+    let one : i + 1 ≡ suc i = omega arith in
+    rw one (one_counted e n (questions_in (drop (suc i) es)) ∙ ap (λ (l : List Entry). n + questions_in l) (sym (drop_there es i e at)) ∙ told)
+
+pub counted_few : (e : Entry) (n i : ℕ) → n ≤ i → with_question e n ≤ i + 1
+counted_few (Question number asked) n i few = omega (arith, few)
+counted_few e n i few = omega (arith, few)
+
+-- no question, whatever else the entry is
+pub not_counted : (e : Entry) (n : ℕ) → ((number : ℕ) (asked : Asked) → e ≡ Question number asked → ⊥) → with_question e n ≡ n
+not_counted (Question number asked) n other = absurd (other number asked refl)
+not_counted e n other = refl
 
 -- memory ran out before anything was said
-pub none_shown : (told : Transcript) (log : Log) (x : Option (List ℕ)) → log.entries.list ≡ [] → log.ops ≡ told.ops → IsSaid status.Memory told log x x
+pub none_shown : (told : Transcript) (log : Log) (x : Option (List ℕ)) → log.entries.list ≡ [] → log.ops ≡ told.ops → IsSaid statuses.Memory told log x x
 none_shown told log x empty ops = (UttersFront-none begun [] log.entries.list x told.utterances empty, inl ops)
 
--- what is said of the last run, by what its first exit is
-pub blamed_none : (ops : Table) (names : List (List ℕ)) (nodes : ℕ) (s : State) → s.last ≡ None → blamed ops names nodes s s.last ≡ []
-blamed_none ops names nodes s last = rw last refl
-
-pub blamed_refused : (ops : Table) (names : List (List ℕ)) (nodes : ℕ) (s : State) (run : LastRun) (r : Refusal) → s.last ≡ Some run → exit_of run.history (pos 1) (pos 1) ≡ Err r → blamed ops names nodes s s.last ≡ one (Refused r) ops names
-blamed_refused ops names nodes s run r last is = ap (blamed ops names nodes s) last ∙ ap (blamed_at ops names nodes s run.history) is
-
--- the dialogue about an exit
-abbrev pub dialogue_of : ℕ → State → LastRun → ℕ → Dialogue Tree Finding
-dialogue_of nodes s run e = demonstrated nodes s.program s.strategy (with_told s.replies (wrong_of run.history e)) (tree run.history e (point_of run.history e).tuple.head)
-
--- the symptom, the questions with their replies, and what was found
-abbrev pub symptom_of : LastRun → ℕ → Speech
-symptom_of run e = one (Symptom (wrong_of run.history e))
-
-abbrev pub questions_of : ℕ → State → LastRun → ℕ → Speech
-questions_of nodes s run e ops names = exchanges_said nobody ops names s.asked (dialogue_of nodes s run e).exchanges
-
-abbrev pub found_of : ℕ → State → LastRun → ℕ → Speech
-found_of nodes s run e ops names =
-    found_said ops names s.program nodes (count_after s.asked (dialogue_of nodes s run e).exchanges) (dialogue_of nodes s run e).turn
-
-pub blamed_parts : (nodes : ℕ) (s : State) (run : LastRun) (e : ℕ) → s.last ≡ Some run → exit_of run.history (pos 1) (pos 1) ≡ Ok e
-    → (ops : Table) (names : List (List ℕ)) → both (symptom_of run e) (both (questions_of nodes s run e) (found_of nodes s run e)) ops names ≡ blamed ops names nodes s s.last
-blamed_parts nodes s run e last is ops names = sym (ap (blamed ops names nodes s) last ∙ ap (blamed_at ops names nodes s run.history) is)
-
--- the command that was read, whatever names are kept later
-pub transcript_is : {names : List (List ℕ)} (reader : Reader names) (ops : Table) (nodes : ℕ) (start : Start) (c : Command) → c ≡ command_in reader ops query_line
-    → shown_said ops names nodes start c ≡ (demonstrates reader ops nodes start).utterances
-transcript_is {names} reader ops nodes start c is = ap (λ (d : Command). shown_said ops names nodes start d) is
-
--- a command that is no query asks nothing
-pub asked_none : (ops : Table) (names : List (List ℕ)) (nodes : ℕ) (s : State) (c : Command) → ((q : Query) → c ≡ command.Query q → ⊥) → asked_said ops names nodes s c ≡ []
-asked_none ops names nodes s (command.Query q) other = absurd (other q refl)
-asked_none ops names nodes s command.Nothing other = refl
-asked_none ops names nodes s command.Quit other = refl
-asked_none ops names nodes s (command.Refused r) other = refl
-asked_none ops names nodes s (command.Wrong b k) other = refl
-asked_none ops names nodes s (command.Missing b a) other = refl
-asked_none ops names nodes s command.Loop other = refl
-asked_none ops names nodes s (command.Trace f) other = refl
-asked_none ops names nodes s command.Known other = refl
-
--- nothing is read, and a write fault is counted
-pub shown_no_limit : (r : Result (Unit {0}) Trouble) → status_shown r ≡ status.InputLimit → ⊥
-shown_no_limit (Ok t) is = cc
-shown_no_limit (Err t) is = broken_no_limit t is
-
-pub shown_no_read : (r : Result (Unit {0}) Trouble) → status_shown r ≡ status.ReadFault → ⊥
-shown_no_read (Ok t) is = cc
-shown_no_read (Err t) is = broken_no_read t is
-
-pub shown_rose : (r : Result (Unit {0}) Trouble) (before now : ℕ) → HasWriteCause before now r → status_shown r ≡ status.WriteFault → Rose before now
+-- a write fault is counted
+pub shown_rose : (r : Result (Unit {0}) Trouble) (before now : ℕ) → HasWriteCause before now r → status_shown r ≡ statuses.WriteFault → Rose before now
 shown_rose (Ok t) before now cause is = absurd (cc)
 shown_rose (Err trouble.WriteFault) before now cause is = cause.0
 shown_rose (Err trouble.Memory) before now cause is = absurd (cc)
+
+-- where the tree is asked first, the session may begin too
+last_asks : (n nodes : ℕ) (s : State) (last : Option LastRun) → IfSome last (IsRunOf n s) → IfSome last (IsRunOf n (asks_tree nodes s))
+last_asks n nodes s None kept = tt
+last_asks n nodes s (Some run) kept = record {
+  runnable = kept.runnable;
+  named = kept.named;
+  history = record { is = kept.history.is; sound = kept.history.sound; full = kept.history.full };
+  end = kept.end;
+}
+
+prepared_asks : (n nodes : ℕ) (s : State) → IsPrepared n s → IsPrepared n (asks_tree nodes s)
+prepared_asks n nodes s is = record {
+  ready = record { limits = is.ready.limits; standard = is.ready.standard; named = is.ready.named; last = last_asks n nodes s s.last is.ready.last };
+  replies = is.replies;
+  referee = omega arith;
+}
+
+pub tree_start : (n nodes : ℕ) (start : Start) → IsStart n start → IsStart n (with_tree nodes start)
+tree_start n nodes start is = record { beginning = is.beginning; state = prepared_asks n nodes start.state is.state }

@@ -21,16 +21,16 @@ use Rattle.apd_ops.specs.Table.{Table}
 use Rattle.apd_oracle.specs.declared.dialogue.Dialogue.{Dialogue}
 use Rattle.apd_query.specs.declared.state.State.{State}
 use Rattle.apd_read.specs.Reader.{Reader}
-use Rattle.apd_reference.specs.Referees.{replies_of}
+use Rattle.apd_oracle.specs.Waiting.{replying}
 use Rattle.apd_term.specs.Growth.{Grown}
 use Rattle.apd_text.specs.Named.{EntryIsNamed}
 use Rattle.apd_text.specs.declared.entry.Entry.{Entry}
 use Rattle.apd_session.specs.Diagnosing.{Diagnoses, IsDiagnosed, answered}
-use Rattle.apd_session.specs.Steps.{Method, by_loop, by_missing, by_wrong, situation, talker}
+use Rattle.apd_session.specs.Steps.{Method, by_loop, by_missing, by_wrong, first_word, situation, talker}
 
 -- where a question of a diagnosis waits, the session hears a line as a reply to it
 abbrev pub HearsFor : {D E : Type 0} → Method D E → Type 0
-HearsFor d = (names : List (List ℕ)) (reader : Reader names) (ops : Table) (s : State) → HearsReplies (replies_of s.referee) (d.diagnosis s) (d.found s) (situation d s) reader ops (talker reader ops)
+HearsFor d = (names : List (List ℕ)) (reader : Reader names) (ops : Table) (s : State) → HearsReplies (first_word s.referee) (d.diagnosis s) (d.found s) (situation d s) reader ops (talker reader ops)
 
 pub hears_wrong : HearsFor by_wrong
 hears_wrong names reader ops s = record { steps = λ store count asked next line. refl; closes = λ store count asked next close. refl }
@@ -52,15 +52,15 @@ module _ {D E : Type 0} (d : Method D E) (hears : HearsFor d) (this : Diagnosis 
   found_named t (Err end) broke known = tt
 
   -- in a state in which the diagnosis is this one
-  is_diagnosed : (result : Result E AskEnd) → Went this result → length to.log.now.entries.list < most_in_a_row → IsKnown (length from.log.now.names) store x → (names : List (List ℕ)) (reader : Reader names) → Grown to.log.now.names names → (t : State) → replies_of t.referee ≡ r.replies from.replier.now → d.diagnosis t ≡ this →
+  is_diagnosed : (result : Result E AskEnd) → Went this result → length to.log.now.entries.list < most_in_a_row → IsKnown (length from.log.now.names) store x → (names : List (List ℕ)) (reader : Reader names) → Grown to.log.now.names names → (t : State) → first_word t.referee ≡ replying (r.replies from.replier.now) from.marked → d.diagnosis t ≡ this →
       IsDiagnosed d reader t x (answered store from.asked) (answered pairs_now to.asked) (moment_of s k r from) (moment_of s k r to) result
   is_diagnosed result went few known names reader grew t his same =
       diagnosed_so (d.diagnosis t) (d.found t) IsKnown (subst (λ (z : Diagnosis D E). KeepsNamed z (d.found t) IsKnown) (sym same) (keeps t)) (dialogue_step s k r) (conversing s k r)
-      (replies_of t.referee) (situation d t) reader from.log.now.ops (talker reader from.log.now.ops) (hears names reader from.log.now.ops t) (at store x from) pairs_now to result
+      (first_word t.referee) (situation d t) reader from.log.now.ops (talker reader from.log.now.ops) (hears names reader from.log.now.ops t) (at store x from) pairs_now to result
       (subst (λ (z : Diagnosis D E). Went z result) (sym same) went) refl (sym his) few known grew
 
   pub diagnoses : (result : Result E AskEnd) → Went this result → length to.log.now.entries.list < most_in_a_row → IsKnown (length from.log.now.names) store x → AreReplies (length from.log.now.names) store → IsKept from.console.now → (entry : E → Entry) → KeepsNamed this entry IsKnown →
-      Diagnoses d (r.replies from.replier.now) this x (answered store from.asked) (answered pairs_now to.asked) (moment_of s k r from) (moment_of s k r to) result
+      Diagnoses d (replying (r.replies from.replier.now) from.marked) this x (answered store from.asked) (answered pairs_now to.asked) (moment_of s k r from) (moment_of s k r to) result
   diagnoses result went few known replies sound entry keeps_entry =
       let kept = keeps_dialogue s k r this (at store x from) pairs_now to result went in
       record {

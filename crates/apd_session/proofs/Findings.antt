@@ -1,5 +1,5 @@
 -- What a session says is right: by its lines, and then for the whole.
-use Rattle.std.proofs.Common.{◌≡◌, ℕ, Bool, true, false, List, [], ◌∷◌, ◌++◌, Option, Some, None, Result, Ok, Err, refl, sym, ◌∙◌, ap, subst, append_assoc}
+use Rattle.std.proofs.Common.{◌≡◌, ℕ, Bool, true, false, List, [], ◌∷◌, ◌++◌, Option, Some, None, Result, Ok, Err, refl, sym, ◌∙◌, ap, subst, append_assoc, length}
 use Rattle.std.specs.Prelude.{All, if◌then◌else◌, slice_get, ℤ}
 use Rattle.apd_causes.specs.declared.faults.BodyFault.{BodyFault}
 use Rattle.apd_causes.specs.declared.reading.Read.{Read}
@@ -14,7 +14,7 @@ use Rattle.apd_clauses.specs.Queries.{query_from}
 use Rattle.apd_clauses.proofs.Asked.{query_is_pure}
 use Rattle.apd_clauses.proofs.Indexing.{same_pred-true}
 use Rattle.apd_clauses.proofs.Pure.{goals_are_atoms}
-use Rattle.apd_console.specs.Lines.{Close, InputEnd, hear}
+use Rattle.apd_console.specs.Lines.{Close, InputEnd, hear, Ended}
 use Rattle.apd_console.specs.declared.line.Line.{Line}
 use Rattle.apd_answers.specs.Repliers.{RepliesFit, nobody}
 use Rattle.apd_answers.specs.Fitting.{AllFit}
@@ -33,9 +33,9 @@ use Rattle.apd_talk.specs.Utterance.{Utterance, entries_of}
 use Rattle.apd_talk.proofs.Uttering.{entries_of-append}
 use Rattle.apd_talk.specs.Speech.{plain}
 use Rattle.apd_text.specs.declared.entry.Entry.{Entry}
-use Rattle.apd_text.specs.declared.entry.Entry.TheVariants.{FileTooLong, InputFault, Loaded, OracleRefused, ProgramRefused, ReferenceLoaded, ReferenceRefused, UsageRefused}
+use Rattle.apd_text.specs.declared.entry.Entry.TheVariants.{CheckFails, CheckHolds, FileTooLong, InputFault, Loaded, OracleRefused, ProgramRefused, ReferenceLoaded, ReferenceRefused, UsageRefused, Found}
 use Rattle.apd_text.specs.declared.entry.Refusal.TheVariants.{NotACommand}
-use Rattle.apd_account.specs.Account.{Account, Idle, after_entries, account_with}
+use Rattle.apd_account.specs.Account.{Account, after_entries, account_with}
 use Rattle.apd_account.specs.Right.{AreRight, IsRight}
 use Rattle.apd_account.proofs.Fronts.{right-append}
 use Rattle.apd_commands.specs.Filters.{filter_at, trace_asked}
@@ -44,13 +44,18 @@ use Rattle.apd_commands.specs.Commands.{command_in, command_of, integer_at, miss
 use Rattle.apd_commands.specs.declared.commands.Command.TheVariants as command
 use Rattle.apd_oracle.specs.Replies.{spoken_of}
 use Rattle.apd_oracle.proofs.Fitting.{reply_fits}
-use Rattle.apd_commands.specs.declared.commands.Command.{Command}
 use Rattle.apd_query.specs.declared.state.State.{State}
-use Rattle.apd_session.specs.Demo.{asked_said, blamed, query_line}
-use Rattle.apd_words.specs.Words.{InFile, OfTree, Options, Subject, options_of}
+use Rattle.apd_session.specs.Demo.{asks_tree, demo_lines, outcome_after, outcome_of, questions_in}
+use Rattle.apd_demo.specs.Replies.{nodes_in}
+use Rattle.apd_demo.proofs.Fitting.{tree_fits}
+use Rattle.std.specs.Prelude.{◌-◌, map}
+use Rattle.apd_words.specs.Words.{Options, options_of}
 use Rattle.apd_session.specs.Headline.{AreRightFor}
-use Rattle.apd_session.specs.Opening.{beginning_said, course_of, first_state, further_said, known_said, load_said, opening_of, reference_said, reviewed_said}
-use Rattle.apd_session.specs.Session.{World, session_of, transcript_of}
+use Rattle.apd_session.specs.Opening.{beginning_said, first_state, further_said, known_said, load_said, opening_of, reference_said, reviewed_said}
+use Rattle.apd_check.specs.declared.checked.Checked.{Checked}
+use Rattle.apd_session.specs.declared.opening.Course.{Course}
+use Rattle.apd_session.specs.declared.opening.Course.TheVariants.{Hears, Plays, Checks}
+use Rattle.apd_session.specs.Session.{World, session_of, transcript_of, verdict_stop, hears_lines}
 use Rattle.apd_reference.specs.Referees.{replies_of}
 use Rattle.apd_reference.specs.declared.referee.Referee.{Referee}
 use Rattle.apd_session.specs.declared.opening.Beginning.{Beginning}
@@ -59,11 +64,11 @@ use Rattle.apd_session.specs.declared.opening.Opening.{Opening}
 use Rattle.apd_session.specs.declared.opening.Opening.TheVariants.{Unloaded, Closed, Open}
 use Rattle.apd_session.specs.declared.opening.Stop.{Stop}
 use Rattle.apd_session.specs.declared.notes.Noted.{Noted}
-use Rattle.apd_session.proofs.Openings.{IsLastWord, askable-fits, opening_has}
-use Rattle.apd_session.specs.Steps.{Situation, Waiting, ForCommand, ForWrong, ForMissing, ForLoop, after_run, query_said, ready_in, remarks, step_for, talker}
+use Rattle.apd_session.proofs.Openings.{IsLastWord, askable-fits, opening_has, verdict-last}
+use Rattle.apd_session.specs.Steps.{Situation, Waiting, ForCommand, ForWrong, ForMissing, ForLoop, ready_in, remarks, step_for, talker}
 use Rattle.apd_session.specs.declared.notes.Noted.TheVariants as noted
-use Rattle.apd_session.proofs.Commanding.{blamed-right, closing-right, command-step}
-use Rattle.apd_session.proofs.Righting.{IsMode, IsTold, Stands, IsStep, loop_reply-step, missing_reply-step, wrong_reply-step}
+use Rattle.apd_session.proofs.Commanding.{closing-right, command-step}
+use Rattle.apd_session.proofs.Righting.{IsMode, Stands, IsStep, loop_reply-step, missing_reply-step, wrong_reply-step}
 
 -- A query that is asked has atoms as its goals.
 
@@ -155,6 +160,33 @@ module _ (m : Interpretation) (program : List Clause) (strategy : Strategy) (nam
   beginning-right a b us r =
       subst (λ (l : List (Utterance Entry)). AreRight m program strategy a (entries_of l)) (sym (append_assoc (load_said ops names b) (further_said ops names b) us)) (load-right a b (further_said ops names b ++ us) (further-right a b us r))
 
+-- what is said last
+last_word-right : (m : Interpretation) (program : List Clause) (strategy : Strategy) (a : Account) (e : Entry) → IsLastWord e → IsRight m program strategy a e
+last_word-right m program strategy a UsageRefused last = tt
+last_word-right m program strategy a (ProgramRefused line cause) last = tt
+last_word-right m program strategy a (OracleRefused line cause) last = tt
+last_word-right m program strategy a (ReferenceRefused line cause) last = tt
+last_word-right m program strategy a (CheckHolds findings) last = tt
+last_word-right m program strategy a (CheckFails line why) last = tt
+last_word-right m program strategy a (FileTooLong size) last = tt
+last_word-right m program strategy a InputFault last = tt
+last_word-right m program strategy a e last = absurd last
+
+-- a tree is asked first, whose replies aren't marked
+pub tree_stands : (m : Interpretation) (program : List Clause) (is : IsProgram program) (strategy : Strategy) (nodes : ℕ) (s : State) (a : Account) → Stands m program is strategy (ready_in s) a → Stands m program is strategy (ready_in (asks_tree nodes s)) a
+tree_stands m program is strategy nodes s a h = record {
+  state = record {
+    program_is = h.state.program_is;
+    strategy_is = h.state.strategy_is;
+    store_is = h.state.store_is;
+    fit = h.state.fit;
+    his = tree_fits (nodes_in nodes s.program);
+    marks = λ e. absurd (cc);
+    last = h.state.last;
+  };
+  mode = h.mode;
+}
+
 module _ (m : Interpretation) (program : List Clause) (is : IsProgram program) (strategy : Strategy) (names : List (List ℕ)) (reader : Reader names) (ops : Table) where
   abbrev Right : Account → List (Utterance Entry) → Type 0
   Right a us = AreRight m program strategy a (entries_of us)
@@ -199,67 +231,59 @@ module _ (m : Interpretation) (program : List Clause) (is : IsProgram program) (
   before-right : (a : Account) (b : Beginning) (us : List (Utterance Entry)) → Right a us → Right a (beginning_said ops names b ++ us)
   before-right a b us r = beginning-right m program strategy names ops a b us r
 
-  -- the query of a demonstration is run, and its answer is diagnosed
-  asked-right : (a : Account) (nodes : ℕ) (s : State) (c : Command) → ((q : Query) → c ≡ command.Query q → All IsAtom q.tuple.body) → IsTold m program is strategy s s.replies a → a.stage ≡ Idle → Right a (asked_said ops names nodes s c)
-  asked-right a nodes s (command.Query q) atoms h idle =
-      let st = command-step m program is strategy ops names s a (command.Query q) atoms h idle in
-      both-right a (query_said ops names s q) (blamed ops names nodes (after_run s q) (after_run s q).last) st.right
-      (blamed-right m program is strategy ops names nodes (after_run s q) (after_entries program strategy a (entries_of (query_said ops names s q))) (after_run s q).last st.stands.state st.stands.mode st.stands.state.last)
-  asked-right a nodes s command.Nothing atoms h idle = tt
-  asked-right a nodes s command.Quit atoms h idle = tt
-  asked-right a nodes s (command.Refused r) atoms h idle = tt
-  asked-right a nodes s (command.Wrong b k) atoms h idle = tt
-  asked-right a nodes s (command.Missing b atom) atoms h idle = tt
-  asked-right a nodes s command.Loop atoms h idle = tt
-  asked-right a nodes s (command.Trace f) atoms h idle = tt
-  asked-right a nodes s command.Known atoms h idle = tt
+  -- the lines of an input are heard
+  heard-right : (input : List ℕ) (ends : InputEnd) (b : Beginning) (s : State) (a : Account) → Stands m program is strategy (ready_in s) a → Right a (hears_lines reader ops (record { beginning = b; state = s }) input ends).utterances
+  heard-right input ends b s a h =
+      before-right a b (replies (talker reader ops) (ready_in s) 16777216 input ends).utterances (conversation-right (ready_in s) a 16777216 input ends h)
+
+  -- what a demonstration came to
+  outcome-right : (a : Account) (nodes count : ℕ) (last : Option Entry) → Right a (map (plain ops names) (outcome_after nodes count last))
+  outcome-right a nodes count None = tt
+  outcome-right a nodes count (Some e) = by e
+    where
+      by : (e : Entry) → Right a (map (plain ops names) (outcome_after nodes count (Some e)))
+      by (Found f line) = (tt, tt)
+      by e = tt
 
   -- the lines of the input are heard, or the tree is demonstrated
-  started-right : (input : List ℕ) (ends : InputEnd) (b : Beginning) (s : State) (a : Account) (subject : Subject) → Stands m program is strategy (ready_in s) a
-      → Right a (transcript_of reader (Open ops (record { beginning = b; state = s }) (course_of subject)) input ends).utterances
-  started-right input ends b s a (InFile name) h =
-      before-right a b (replies (talker reader ops) (ready_in s) 16777216 input ends).utterances (conversation-right (ready_in s) a 16777216 input ends h)
-  started-right input ends b s a (OfTree nodes) h =
-      let c = command_in reader ops query_line in
-      before-right a b (asked_said ops names nodes s c) (asked-right a nodes s c (λ q e. query_atoms reader ops query_line q e) h.state h.mode)
+  started-right : (verdict : Checked) (input : List ℕ) (ends : InputEnd) (b : Beginning) (s : State) (a : Account) (course : Course) → Stands m program is strategy (ready_in s) a
+      → Right a (transcript_of reader (Open ops (record { beginning = b; state = s }) course) verdict input ends).utterances
+  started-right verdict input ends b s a Hears h = heard-right input ends b s a h
+  started-right verdict input ends b s a (Plays nodes) h =
+      let us = (hears_lines reader ops (record { beginning = b; state = asks_tree nodes s }) demo_lines Ended).utterances in
+      let es = entries_of us in
+      both-right a us (map (plain ops names) (outcome_of nodes es)) (heard-right demo_lines Ended b (asks_tree nodes s) a (tree_stands m program is strategy nodes s a h))
+      (outcome-right (after_entries program strategy a es) nodes (questions_in es) (slice_get es (length es - 1)))
+  started-right verdict input ends b s a (Checks text) h =
+      before-right a b (plain ops names (verdict_stop verdict).said ∷ []) (last_word-right m program strategy a (verdict_stop verdict).said (verdict-last verdict), tt)
 
 -- Each session.
 
 pub first_stands : (m : Interpretation) (options : Options) (program : List Clause) (store : Store) (referee : Referee) (is : IsProgram program) → AllFit store → RepliesFit (replies_of referee)
     → Stands m program is options.strategy (ready_in (first_state program options store referee)) (account_with (replies_of referee) store)
 first_stands m options program store referee is fit his = record {
-  state = record { program_is = refl; strategy_is = refl; store_is = refl; fit = fit; his = his; replies_is = refl; last = (refl, tt) };
+  state = record { program_is = refl; strategy_is = refl; store_is = refl; fit = fit; his = his; marks = λ e. refl; last = (refl, tt) };
   mode = refl;
 }
 
--- what is said last
-last_word-right : (m : Interpretation) (program : List Clause) (strategy : Strategy) (a : Account) (e : Entry) → IsLastWord e → IsRight m program strategy a e
-last_word-right m program strategy a UsageRefused last = tt
-last_word-right m program strategy a (ProgramRefused line cause) last = tt
-last_word-right m program strategy a (OracleRefused line cause) last = tt
-last_word-right m program strategy a (ReferenceRefused line cause) last = tt
-last_word-right m program strategy a (FileTooLong size) last = tt
-last_word-right m program strategy a InputFault last = tt
-last_word-right m program strategy a e last = absurd last
-
 module _ (m : Interpretation) {names : List (List ℕ)} (reader : Reader names) where
   abbrev RightOpening : Opening → Type 0
-  RightOpening x = (input : List ℕ) (ends : InputEnd) → AreRightFor m (entries_of (transcript_of reader x input ends).utterances) x
+  RightOpening x = (verdict : Checked) (input : List ℕ) (ends : InputEnd) → AreRightFor m (entries_of (transcript_of reader x verdict input ends).utterances) x
 
   unloaded-right : (why : Stop) → IsLastWord why.said → RightOpening (Unloaded why)
-  unloaded-right why last = λ input ends program strategy known. (last_word-right m program strategy (account_with nobody known) why.said last, tt)
+  unloaded-right why last = λ verdict input ends program strategy known. (last_word-right m program strategy (account_with nobody known) why.said last, tt)
 
   closed-right : (ops : Table) (b : Beginning) (why : Stop) → IsLastWord why.said → RightOpening (Closed ops b why)
-  closed-right ops b why last = λ input ends program strategy known.
+  closed-right ops b why last = λ verdict input ends program strategy known.
       beginning-right m program strategy names ops (account_with nobody known) b (plain ops names why.said ∷ []) (last_word-right m program strategy (account_with nobody known) why.said last, tt)
 
-  opened-right : (options : Options) (program : List Clause) (ops : Table) (b : Beginning) (store : Store) (referee : Referee) → IsProgram program → AllFit store → RepliesFit (replies_of referee)
-      → RightOpening (Open ops (record { beginning = b; state = first_state program options store referee }) (course_of options.subject))
-  opened-right options program ops b store referee is fit his = λ input ends.
-      started-right m program is options.strategy names reader ops input ends b (first_state program options store referee) (account_with (replies_of referee) store) options.subject (first_stands m options program store referee is fit his)
+  opened-right : (options : Options) (program : List Clause) (ops : Table) (b : Beginning) (store : Store) (referee : Referee) (course : Course) → IsProgram program → AllFit store → RepliesFit (replies_of referee)
+      → RightOpening (Open ops (record { beginning = b; state = first_state program options store referee }) course)
+  opened-right options program ops b store referee course is fit his = λ verdict input ends.
+      started-right m program is options.strategy names reader ops verdict input ends b (first_state program options store referee) (account_with (replies_of referee) store) course (first_stands m options program store referee is fit his)
 
   -- whatever the loads of files give
   pub session-right : (words : List (List ℕ)) (world : World) → AreRightFor m (entries_of (session_of words reader world).utterances) (opening_of reader world.files (options_of words))
   session-right words world =
       opening_has RightOpening reader world.files unloaded-right (λ ops b why table last. closed-right ops b why last)
-      (λ options program ops b store referee is table fit may. opened-right options program ops b store referee is fit (askable-fits referee may)) words world.input world.ends
+      (λ options program ops b store referee course is table fit may. opened-right options program ops b store referee course is fit (askable-fits referee may)) words world.verdict world.input world.ends

@@ -1,12 +1,13 @@
 -- Each diagnosis of a session comes to an end, unless a question stays without a reply.
-use Rattle.std.proofs.Common.{◌≡◌, ◌≤◌, zero, suc, arith, ℕ, ℤ, Bool, true, false, List, [], ◌∷◌, ◌++◌, length, Option, Some, None, Result, Ok, Err, refl, sym, ◌∙◌, ap, subst, append_assoc}
-use Rattle.std.specs.Prelude.{if◌then◌else◌, pos}
+use Rattle.apd_session.specs.Demo.{asks_tree, demo_lines, outcome_after, outcome_of, questions_in}
+use Rattle.std.proofs.Common.{◌≡◌, zero, suc, ℕ, ℤ, Bool, true, false, List, [], ◌∷◌, ◌++◌, length, Option, Some, None, Result, Ok, Err, refl, sym, ◌∙◌, ap, subst, append_assoc}
+use Rattle.std.specs.Prelude.{if◌then◌else◌, ◌-◌, map, slice_get}
 use Rattle.apd_answers.specs.Interpretation.{Interpretation}
 use Rattle.apd_term.specs.Term.{Term}
 use Rattle.apd_causes.specs.declared.run.Query.{Query}
 use Rattle.apd_clauses.specs.declared.clause.Clause.{Clause}
 use Rattle.apd_clauses.specs.Clauses.{IsProgram, tuples_of}
-use Rattle.apd_console.specs.Lines.{Close, AtEnd, AtFault, AtLimit, InputEnd, hear}
+use Rattle.apd_console.specs.Lines.{Close, AtEnd, AtFault, AtLimit, InputEnd, hear, Ended}
 use Rattle.apd_console.specs.declared.line.Line.{Line}
 use Rattle.apd_record.specs.Recorded.{Recorded, chain}
 use Rattle.apd_record.specs.Index.{id_of}
@@ -19,21 +20,12 @@ use Rattle.apd_answers.specs.Findings.{IsByReplies}
 use Rattle.apd_answers.specs.Fitting.{AllFit}
 use Rattle.apd_answers.proofs.Fitted.{fit_added}
 use Rattle.apd_answers.specs.Store.{Store, with_pair}
-use Rattle.apd_answers.specs.declared.finding.Finding.{Finding}
-use Rattle.apd_answers.specs.Dialogue.{Dialogue, Exchange, Turn, asks, goes, ends, dialogue, next_turn, replied as exchanged, silent}
-use Rattle.apd_answers.specs.declared.question.Question.{Question}
+use Rattle.apd_answers.specs.Dialogue.{Turn, asks, goes, ends, next_turn}
 use Rattle.apd_base.specs.Counts.{risen}
-use Rattle.apd_debug.specs.Replying.{count_after, exchanges_said}
-use Rattle.apd_demo.specs.Answered.{answered_by, demonstrated, replies_by, reply_at}
-use Rattle.apd_demo.specs.Replies.{reply_to}
-use Rattle.apd_demo.proofs.Falling.{Lowers, next-lowers}
-use Rattle.apd_wrong.specs.Wrong.{wrong}
-use Rattle.apd_session.specs.Demo.{asked_said, blamed, blamed_at, found_said, query_line}
 use Rattle.apd_answers.specs.Questions.{FitsAsked}
-use Rattle.apd_answers.specs.Repliers.{RepliesFit, nobody}
+use Rattle.apd_answers.specs.Repliers.{RepliesFit}
 use Rattle.apd_divide.specs.declared.node.Strategy.{Strategy}
 use Rattle.apd_divide.specs.Recorded.{tree}
-use Rattle.apd_divide.specs.Tree.{Tree, suspects}
 use Rattle.apd_loop.specs.Loop.{left_in, loop_start}
 use Rattle.apd_loop.specs.declared.LoopEnd.{LoopEnd}
 use Rattle.apd_loop.specs.declared.LoopEnd.TheVariants as loop_ends
@@ -46,7 +38,7 @@ use Rattle.apd_oracle.specs.declared.spoken.Spoken.{Spoken}
 use Rattle.apd_oracle.specs.declared.spoken.Spoken.TheVariants as spoken
 use Rattle.apd_oracle.proofs.Fitting.{reply_fits}
 use Rattle.apd_read.specs.Reader.{Reader}
-use Rattle.apd_reference.specs.Referees.{replies_of}
+use Rattle.apd_reference.specs.Referees.{replies_of, is_marked}
 use Rattle.apd_reference.specs.declared.referee.Referee.{Referee}
 use Rattle.apd_talk.specs.Talk.{Step, onto, run, replies}
 use Rattle.apd_talk.specs.declared.talk.Ending.TheVariants.{Done}
@@ -54,7 +46,7 @@ use Rattle.apd_talk.specs.Utterance.{Utterance, entries_of}
 use Rattle.apd_talk.proofs.Uttering.{entries_of-append}
 use Rattle.apd_talk.specs.Speech.{plain}
 use Rattle.apd_text.specs.declared.entry.Entry.{Entry}
-use Rattle.apd_text.specs.declared.entry.Entry.TheVariants.{FileTooLong, InputFault, Loaded, OracleRefused, ProgramRefused, ReferenceLoaded, ReferenceRefused, UsageRefused}
+use Rattle.apd_text.specs.declared.entry.Entry.TheVariants.{CheckFails, CheckHolds, FileTooLong, InputFault, Loaded, OracleRefused, ProgramRefused, ReferenceLoaded, ReferenceRefused, UsageRefused, Found}
 use Rattle.apd_text.specs.declared.entry.Refusal.{Refusal}
 use Rattle.apd_text.specs.declared.entry.Told.{Told}
 use Rattle.apd_text.specs.declared.entry.Told.TheVariants.{Missing, NoEnd}
@@ -71,25 +63,28 @@ use Rattle.apd_query.specs.declared.state.State.{State}
 use Rattle.apd_symptoms.specs.Chains.{stopped_chain}
 use Rattle.apd_symptoms.specs.Symptoms.{exit_of}
 use Rattle.apd_symptoms.specs.Unanswered.{unanswered_box}
-use Rattle.apd_session.specs.Steps.{Method, after_run, Situation, Waiting, ForCommand, ForWrong, ForMissing, ForLoop, begins, by_loop, by_missing, by_wrong, carries_on, closing_in, command_step, loop_at, loop_step, missing_at, missing_step, query_said, ready_in, refused as refuses, remark, remarks, reply_said, situation, step_for, talker, warnings_for, wrong_at, wrong_of, wrong_step}
+use Rattle.apd_session.specs.Steps.{Method, Situation, Waiting, ForCommand, ForWrong, ForMissing, ForLoop, begins, by_loop, by_missing, by_wrong, carries_on, closing_in, command_step, loop_at, loop_step, missing_at, missing_step, query_said, ready_in, refused as refuses, remark, remarks, reply_said, situation, step_for, talker, warnings_for, wrong_at, wrong_of, wrong_step, first_word}
 use Rattle.apd_session.specs.declared.notes.Noted.{Noted}
 use Rattle.apd_session.specs.declared.notes.Noted.TheVariants as noted
 use Rattle.apd_session.specs.Headline.{nothing_intended}
-use Rattle.apd_session.specs.Opening.{beginning_said, course_of, first_state, further_said, known_said, load_said, reference_said, reviewed_said}
-use Rattle.apd_session.specs.Session.{World, session_of, transcript_of}
+use Rattle.apd_session.specs.Opening.{beginning_said, first_state, further_said, known_said, load_said, reference_said, reviewed_said}
+use Rattle.apd_session.specs.Session.{World, session_of, transcript_of, verdict_stop, hears_lines}
 use Rattle.apd_session.specs.declared.opening.Beginning.{Beginning}
 use Rattle.apd_session.specs.declared.opening.Reviewed.{Reviewed}
 use Rattle.apd_session.specs.declared.opening.Opening.{Opening}
 use Rattle.apd_session.specs.declared.opening.Opening.TheVariants.{Unloaded, Closed, Open}
 use Rattle.apd_session.specs.declared.opening.Stop.{Stop}
-use Rattle.apd_session.proofs.Openings.{askable-fits, IsLastWord, opening_has}
+use Rattle.apd_check.specs.declared.checked.Checked.{Checked}
+use Rattle.apd_session.specs.declared.opening.Course.{Course}
+use Rattle.apd_session.specs.declared.opening.Course.TheVariants.{Hears, Plays, Checks}
+use Rattle.apd_session.proofs.Openings.{askable-fits, IsLastWord, opening_has, verdict-last}
 use Rattle.apd_session.specs.Flow.{Due, Nothing, Move, Reply as Waits_for, due_after, Flows}
 use Rattle.apd_session.proofs.Courses.{IsKnownGoal, IsKnownLoop, IsLoopEnd, goal_left, loop_begins, missing_begins}
 use Rattle.apd_session.proofs.Exiting.{exit_of-exits}
 use Rattle.apd_session.proofs.Lacking.{box_lacks, chain_stopped, is_chain}
-use Rattle.apd_session.proofs.Findings.{first_stands, line-step}
+use Rattle.apd_session.proofs.Findings.{first_stands, line-step, tree_stands}
 use Rattle.apd_session.proofs.Righting.{IsLast, IsMode, IsRightly, IsTold, Stands, loop_rightly, missing_rightly, told_on, wrong_rightly}
-use Rattle.apd_words.specs.Words.{InFile, OfTree, Options, Subject}
+use Rattle.apd_words.specs.Words.{Options}
 
 append-flows : (d x e : Due) (xs ys : List Entry) → Flows d xs x → Flows x ys e → Flows d (xs ++ ys) e
 append-flows d x e [] ys h k = subst (λ y. Flows y ys e) (sym h) k
@@ -117,16 +112,16 @@ module _ (m : Interpretation) (program : List Clause) (is : IsProgram program) (
   module _ {D E : Type 0} (d : Method D E) (Known : Recorded → Store → Option Told → D → Type 0) (left : D → Option ℕ) (IsEnd : Recorded → Store → E → Type 0) (state : D → Inquiry) (end : E → LoopEnd) (rightly : IsRightly m program is strategy d Known left IsEnd state end)
       (waits_for : (asked : Asked) (next : Reply → D) → due_of (d.waits asked next) ≡ Waits_for) (closes : (s : State) (e : E) → due_after Move (d.found s e) ≡ Some Nothing) where
     turn-flows : (ops : Table) (names : List (List ℕ)) (s : State) (store : Store) (count : ℕ) (a : Account) (turn : Turn D E)
-        → RightTurn strategy Known left IsEnd a.history a.store a.symptom turn → StepFlows Move (after_turn (d.diagnosis s) (d.found s) (situation d s) ops names store count turn)
+        → RightTurn strategy Known left state IsEnd a.history a.store a.symptom turn → StepFlows Move (after_turn (d.diagnosis s) (d.found s) (situation d s) ops names store count turn)
     turn-flows ops names s store count a (asks asked next) k = record { flows = (Waits_for, refl, sym (waits_for asked next)); quits = λ e. absurd (cc) }
     turn-flows ops names s store count a (goes y) k = absurd k
     turn-flows ops names s store count a (ends e) k = record { flows = (Nothing, closes s e, refl); quits = λ e. refl }
 
     -- a reply is told, and then the rest
     reply_then-flows : (rest : Store → ℕ → D → Step Entry Situation) (by_reference : Bool) (ops : Table) (names : List (List ℕ)) (s : State) (store : Store) (count : ℕ) (a : Account) (asked : Asked) (next : Reply → D) (r : Reply)
-        → IsTold m program is strategy s store a → AsksRightly strategy Known left a.history a.store a.symptom asked next → FitsAsked asked r
+        → IsTold m program is strategy s store a → AsksRightly strategy Known left state a.history a.store a.symptom asked next → FitsAsked asked r
         → ((b : Account) → IsTold m program is strategy s (with_pair store asked.question r) b → Known b.history b.store b.symptom (next r) → StepFlows Move (rest (with_pair store asked.question r) count (next r)))
-        → StepFlows Waits_for (replied_then (replies_of s.referee) (d.diagnosis s) (d.found s) (situation d s) ops names rest by_reference store count asked next r)
+        → StepFlows Waits_for (replied_then (first_word s.referee) (d.diagnosis s) (d.found s) (situation d s) ops names rest by_reference store count asked next r)
     reply_then-flows rest by_reference ops names s store count a asked next r h w fits goes_on =
         let b = with_reply a (Awaits asked (λ reply. state (next reply))) r in
         let st = goes_on b (told_on m program is strategy state s store a asked next r h fits) (w.known r fits) in
@@ -134,7 +129,7 @@ module _ (m : Interpretation) (program : List Clause) (is : IsProgram program) (
 
     -- a turn, and the turns after it as long as there are replies without a line
     within-flows : (k : ℕ) (ops : Table) (names : List (List ℕ)) (s : State) (store : Store) (count : ℕ) (a : Account) (turn : Turn D E) → IsTold m program is strategy s store a
-        → RightTurn strategy Known left IsEnd a.history a.store a.symptom turn → StepFlows Move (turn_within (replies_of s.referee) (d.diagnosis s) (d.found s) (situation d s) ops names k store count turn)
+        → RightTurn strategy Known left state IsEnd a.history a.store a.symptom turn → StepFlows Move (turn_within (first_word s.referee) (d.diagnosis s) (d.found s) (situation d s) ops names k store count turn)
     within-flows zero ops names s store count a turn h t = turn-flows ops names s store count a turn t
     within-flows (suc k) ops names s store count a (goes y) h t = absurd t
     within-flows (suc k) ops names s store count a (ends e) h t = turn-flows ops names s store count a (ends e) t
@@ -143,13 +138,13 @@ module _ (m : Interpretation) (program : List Clause) (is : IsProgram program) (
         (λ kept b x told known. within-flows k ops names s kept (risen count) b (next_turn (d.diagnosis s) kept x) told (rightly.turns s kept b x told known))
       where
         by : (o : Option Reply) → replies_of s.referee asked.question ≡ o
-            → ((kept : Store) (b : Account) (x : D) → IsTold m program is strategy s kept b → Known b.history b.store b.symptom x → StepFlows Move (goes_within (replies_of s.referee) (d.diagnosis s) (d.found s) (situation d s) ops names k kept (risen count) x))
-            → StepFlows Move (referred_then (replies_of s.referee) (d.diagnosis s) (d.found s) (situation d s) ops names (goes_within (replies_of s.referee) (d.diagnosis s) (d.found s) (situation d s) ops names k) store count asked next o)
+            → ((kept : Store) (b : Account) (x : D) → IsTold m program is strategy s kept b → Known b.history b.store b.symptom x → StepFlows Move (goes_within (first_word s.referee) (d.diagnosis s) (d.found s) (situation d s) ops names k kept (risen count) x))
+            → StepFlows Move (referred_then (first_word s.referee) (d.diagnosis s) (d.found s) (situation d s) ops names (goes_within (first_word s.referee) (d.diagnosis s) (d.found s) (situation d s) ops names k) store count asked next o)
         by None is_none goes_on = turn-flows ops names s store count a (asks asked next) t
         by (Some r) found_so goes_on =
             let kept = with_pair store asked.question r in
             let f = h.his asked.question r found_so in
-            let st = reply_then-flows (goes_within (replies_of s.referee) (d.diagnosis s) (d.found s) (situation d s) ops names k) true ops names s store (risen count) a asked next r h t (f.0, λ unknown. absurd (f.1 unknown)) (λ c told known. goes_on kept c (next r) told known) in
+            let st = reply_then-flows (goes_within (first_word s.referee) (d.diagnosis s) (d.found s) (situation d s) ops names k) (is_marked s.referee) ops names s store (risen count) a asked next r h t (f.0, λ unknown. absurd (f.1 unknown)) (λ c told known. goes_on kept c (next r) told known) in
             record { flows = (Waits_for, refl, st.flows); quits = st.quits }
 
     carries-flows : (ops : Table) (names : List (List ℕ)) (s : State) (store : Store) (count : ℕ) (a : Account) (x : D) → IsTold m program is strategy s store a → Known a.history a.store a.symptom x → StepFlows Move (carries_on d ops names s store count x)
@@ -159,14 +154,14 @@ module _ (m : Interpretation) (program : List Clause) (is : IsProgram program) (
         → StepFlows Nothing (begins d ops names s what x)
     begins-flows ops names s a what x h fit k =
         let told : IsTold m program is strategy s (with_told s.replies what) (after_told a what) =
-        record { program_is = h.program_is; strategy_is = h.strategy_is; store_is = ap (λ ps. with_told ps what) h.store_is; fit = fit; his = h.his; replies_is = h.replies_is; last = h.last } in
+        record { program_is = h.program_is; strategy_is = h.strategy_is; store_is = ap (λ ps. with_told ps what) h.store_is; fit = fit; his = h.his; marks = h.marks; last = h.last } in
         let st = carries-flows ops names s (with_told s.replies what) s.asked (after_told a what) x told k in
         record { flows = (Move, refl, st.flows); quits = st.quits }
 
-    replied-flows : (ops : Table) (names : List (List ℕ)) (s : State) (a : Account) (asked : Asked) (next : Reply → D) (r : Reply) → IsTold m program is strategy s s.replies a → AsksRightly strategy Known left a.history a.store a.symptom asked next → FitsAsked asked r
-        → StepFlows Waits_for (replied (replies_of s.referee) (d.diagnosis s) (d.found s) (situation d s) ops names s.replies s.asked asked next r)
+    replied-flows : (ops : Table) (names : List (List ℕ)) (s : State) (a : Account) (asked : Asked) (next : Reply → D) (r : Reply) → IsTold m program is strategy s s.replies a → AsksRightly strategy Known left state a.history a.store a.symptom asked next → FitsAsked asked r
+        → StepFlows Waits_for (replied (first_word s.referee) (d.diagnosis s) (d.found s) (situation d s) ops names s.replies s.asked asked next r)
     replied-flows ops names s a asked next r h w fits =
-        reply_then-flows (goes_on (replies_of s.referee) (d.diagnosis s) (d.found s) (situation d s) ops names) false ops names s s.replies s.asked a asked next r h w fits
+        reply_then-flows (goes_on (first_word s.referee) (d.diagnosis s) (d.found s) (situation d s) ops names) false ops names s s.replies s.asked a asked next r h w fits
         (λ b told known. carries-flows ops names s (with_pair s.replies asked.question r) s.asked b (next r) told known)
 
     reply-flows : (ops : Table) (names : List (List ℕ)) (s : State) (a : Account) (asked : Asked) (next : Reply → D) (said : Spoken) → ((r : Reply) → said ≡ spoken.Reply r → FitsAsked asked r)
@@ -333,83 +328,14 @@ module _ (ops : Table) (names : List (List ℕ)) where
   beginning-flows b us h =
       subst (λ us. Flows Nothing (entries_of us) Nothing) (sym (append_assoc (load_said ops names b) (further_said ops names b) us)) (load-flows b (further_said ops names b ++ us) (further-flows b us h))
 
--- A demonstration.
-
-abbrev HasEnded : Turn Tree Finding → Type 0
-HasEnded turn = (f : Finding) × (turn ≡ ends f)
-
-module _ (reply : Question → Reply) (strategy : Strategy) where
-  -- what is replied to a turn, and then
-  abbrev whole_at : ℕ → Store → Turn Tree Finding → Dialogue Tree Finding
-  whole_at k store (asks asked next) = exchanged (wrong strategy).left (λ ps y. answered_by reply (wrong strategy) k ps y) store (reply asked.question) (asks asked next)
-  whole_at k store (goes y) = silent store (goes y)
-  whole_at k store (ends f) = silent store (ends f)
-
-  turn_is : (k : ℕ) (store : Store) (x : Tree) (turn : Turn Tree Finding) → next_turn (wrong strategy) store x ≡ turn → answered_by reply (wrong strategy) (suc k) store x ≡ whole_at k store turn
-  turn_is k store x turn is = ap (λ (t : Turn Tree Finding). dialogue (wrong strategy) (reply_at reply (replies_by reply (wrong strategy) k) store t) store x) is ∙ by turn is
-    where
-      by : (t : Turn Tree Finding) → next_turn (wrong strategy) store x ≡ t → dialogue (wrong strategy) (reply_at reply (replies_by reply (wrong strategy) k) store t) store x ≡ whole_at k store t
-      by (asks asked next) e =
-          let r = reply asked.question in
-          ap (exchanged (wrong strategy).left (dialogue (wrong strategy) (replies_by reply (wrong strategy) k (with_pair store asked.question r) (next r))) store r) e
-      by (goes y) e = ap (silent store) e
-      by (ends f) e = ap (silent store) e
-
-  none-ends : (store : Store) (x : Tree) (turn : Turn Tree Finding) (n : ℕ) → Lowers n turn → n ≤ 0 → HasEnded turn
-  none-ends store x (asks asked next) n lowers few = absurd (let less = lowers (reply asked.question) in omega (arith, less, few))
-  none-ends store x (goes y) n lowers few = absurd lowers
-  none-ends store x (ends f) n lowers few = (f, refl)
-
-  answered-ends : (k : ℕ) (store : Store) (x : Tree) → suspects x ≤ k → HasEnded (answered_by reply (wrong strategy) k store x).turn
-  answered-ends zero store x few = none-ends store x (next_turn (wrong strategy) store x) (suspects x) (next-lowers strategy store x) few
-  answered-ends (suc k) store x few =
-      let turn = next_turn (wrong strategy) store x in
-      subst (λ (d : Dialogue Tree Finding). HasEnded d.turn) (sym (turn_is k store x turn refl)) (by turn (next-lowers strategy store x) (answered-ends k))
-    where
-      by : (turn : Turn Tree Finding) → Lowers (suspects x) turn → ((ps : Store) (y : Tree) → suspects y ≤ k → HasEnded (answered_by reply (wrong strategy) k ps y).turn) → HasEnded (whole_at k store turn).turn
-      by (asks asked next) lowers rest =
-          let less = lowers (reply asked.question) in
-          rest (with_pair store asked.question (reply asked.question)) (next (reply asked.question)) (omega (arith, less, few))
-      by (goes y) lowers rest = absurd lowers
-      by (ends f) lowers rest = (f, refl)
-
-exchanges-flow : (ops : Table) (names : List (List ℕ)) (count : ℕ) (es : List Exchange) (us : List (Utterance Entry)) → Flows Move (entries_of us) Nothing → Flows Move (entries_of (exchanges_said nobody ops names count es ++ us)) Nothing
-exchanges-flow ops names count [] us h = h
-exchanges-flow ops names count (e ∷ es) us h = (Waits_for, refl, (Move, refl, exchanges-flow ops names (risen count) es us h))
-
-found-flows : (ops : Table) (names : List (List ℕ)) (program : List Clause) (nodes count : ℕ) (turn : Turn Tree Finding) → HasEnded turn → Flows Move (entries_of (found_said ops names program nodes count turn)) Nothing
-found-flows ops names program nodes count (asks asked next) h = absurd (let e = h.1 in cc)
-found-flows ops names program nodes count (goes y) h = absurd (let e = h.1 in cc)
-found-flows ops names program nodes count (ends f) h = (Nothing, refl, (Nothing, refl, refl))
-
-blamed-flows : (ops : Table) (names : List (List ℕ)) (nodes : ℕ) (s : State) (R : Recorded) (r : Result ℕ Refusal) → Flows Nothing (entries_of (blamed_at ops names nodes s R r)) Nothing
-blamed-flows ops names nodes s R (Err r) = (Nothing, refl, refl)
-blamed-flows ops names nodes s R (Ok e) =
-    let atom = (point_of R e).tuple.head in
-    let store = with_told s.replies (wrong_of R e) in
-    let x = demonstrated nodes s.program s.strategy store (tree R e atom) in (
-      Move,
-      refl,
-      exchanges-flow ops names s.asked x.exchanges (found_said ops names s.program nodes (count_after s.asked x.exchanges) x.turn)
-          (found-flows ops names s.program nodes (count_after s.asked x.exchanges) x.turn (answered-ends (reply_to nodes s.program) s.strategy (suspects (tree R e atom)) store (tree R e atom) (omega arith))),
-    )
-
-last-flows : (ops : Table) (names : List (List ℕ)) (nodes : ℕ) (s : State) (last : Option LastRun) → Flows Nothing (entries_of (blamed ops names nodes s last)) Nothing
-last-flows ops names nodes s None = refl
-last-flows ops names nodes s (Some run) = blamed-flows ops names nodes s run.history (exit_of run.history (pos 1) (pos 1))
-
-module _ (m : Interpretation) (program : List Clause) (is : IsProgram program) (strategy : Strategy) where
-  shown_query-flows : (ops : Table) (names : List (List ℕ)) (nodes : ℕ) (s : State) (c : Command) → Flows Nothing (entries_of (asked_said ops names nodes s c)) Nothing
-  shown_query-flows ops names nodes s (command.Query q) =
-      said-flows Nothing Nothing Nothing (query_said ops names s q) (blamed ops names nodes (after_run s q) (after_run s q).last) (query-flows m program is strategy ops names s q).flows (last-flows ops names nodes (after_run s q) (after_run s q).last)
-  shown_query-flows ops names nodes s command.Nothing = refl
-  shown_query-flows ops names nodes s command.Quit = refl
-  shown_query-flows ops names nodes s (command.Refused r) = refl
-  shown_query-flows ops names nodes s (command.Wrong b k) = refl
-  shown_query-flows ops names nodes s (command.Missing b a) = refl
-  shown_query-flows ops names nodes s command.Loop = refl
-  shown_query-flows ops names nodes s (command.Trace f) = refl
-  shown_query-flows ops names nodes s command.Known = refl
+-- what a demonstration came to
+outcome-flows : (ops : Table) (names : List (List ℕ)) (nodes count : ℕ) (last : Option Entry) → Flows Nothing (entries_of (map (plain ops names) (outcome_after nodes count last))) Nothing
+outcome-flows ops names nodes count None = refl
+outcome-flows ops names nodes count (Some e) = by e
+  where
+    by : (e : Entry) → Flows Nothing (entries_of (map (plain ops names) (outcome_after nodes count (Some e)))) Nothing
+    by (Found f line) = (Nothing, refl, refl)
+    by e = refl
 
 -- what is said last
 last_word-flows : (e : Entry) → IsLastWord e → due_after Nothing e ≡ Some Nothing
@@ -417,6 +343,8 @@ last_word-flows UsageRefused last = refl
 last_word-flows (ProgramRefused line cause) last = refl
 last_word-flows (OracleRefused line cause) last = refl
 last_word-flows (ReferenceRefused line cause) last = refl
+last_word-flows (CheckHolds findings) last = refl
+last_word-flows (CheckFails line why) last = refl
 last_word-flows (FileTooLong size) last = refl
 last_word-flows InputFault last = refl
 last_word-flows e last = absurd last
@@ -424,25 +352,35 @@ last_word-flows e last = absurd last
 -- Each session.
 module _ {names : List (List ℕ)} (reader : Reader names) where
   abbrev OpeningFlows : Opening → Type 0
-  OpeningFlows x = (input : List ℕ) (end : InputEnd) → Flows Nothing (entries_of (transcript_of reader x input end).utterances) Nothing
+  OpeningFlows x = (verdict : Checked) (input : List ℕ) (end : InputEnd) → Flows Nothing (entries_of (transcript_of reader x verdict input end).utterances) Nothing
 
   unloaded-flows : (why : Stop) → IsLastWord why.said → OpeningFlows (Unloaded why)
-  unloaded-flows why last = λ input end. (Nothing, last_word-flows why.said last, refl)
+  unloaded-flows why last = λ verdict input end. (Nothing, last_word-flows why.said last, refl)
 
   closed-flows : (ops : Table) (b : Beginning) (why : Stop) → IsLastWord why.said → OpeningFlows (Closed ops b why)
-  closed-flows ops b why last = λ input end. beginning-flows ops names b (plain ops names why.said ∷ []) (Nothing, last_word-flows why.said last, refl)
+  closed-flows ops b why last = λ verdict input end. beginning-flows ops names b (plain ops names why.said ∷ []) (Nothing, last_word-flows why.said last, refl)
 
   module _ (options : Options) (program : List Clause) (ops : Table) (store : Store) (referee : Referee) (is : IsProgram program) (fit : AllFit store) (his : RepliesFit (replies_of referee)) where
-    started-flows : (b : Beginning) (subject : Subject) → OpeningFlows (Open ops (record { beginning = b; state = first_state program options store referee }) (course_of subject))
-    started-flows b (InFile name) = λ input end.
-        beginning-flows ops names b (replies (talker reader ops) (ready_in (first_state program options store referee)) 16777216 input end).utterances
-        (conversation-flows nothing_intended program is options.strategy names reader ops (ready_in (first_state program options store referee)) (account_with (replies_of referee) store) 16777216 input end (first_stands nothing_intended options program store referee is fit his))
-    started-flows b (OfTree nodes) = λ input end.
+    -- the lines of an input are heard
+    heard-flows : (b : Beginning) (s : State) (a : Account) (input : List ℕ) (end : InputEnd) → Stands nothing_intended program is options.strategy (ready_in s) a
+        → Flows Nothing (entries_of (hears_lines reader ops (record { beginning = b; state = s }) input end).utterances) Nothing
+    heard-flows b s a input end h =
+        beginning-flows ops names b (replies (talker reader ops) (ready_in s) 16777216 input end).utterances
+        (conversation-flows nothing_intended program is options.strategy names reader ops (ready_in s) a 16777216 input end h)
+
+    started-flows : (b : Beginning) (course : Course) → OpeningFlows (Open ops (record { beginning = b; state = first_state program options store referee }) course)
+    started-flows b Hears = λ verdict input end. heard-flows b (first_state program options store referee) (account_with (replies_of referee) store) input end (first_stands nothing_intended options program store referee is fit his)
+    started-flows b (Plays nodes) = λ verdict input end.
         let s = first_state program options store referee in
-        let c = command_in reader ops query_line in
-        beginning-flows ops names b (asked_said ops names nodes s c) (shown_query-flows nothing_intended program is options.strategy ops names nodes s c)
+        let a = account_with (replies_of referee) store in
+        let us = (hears_lines reader ops (record { beginning = b; state = asks_tree nodes s }) demo_lines Ended).utterances in
+        let es = entries_of us in
+        said-flows Nothing Nothing Nothing us (map (plain ops names) (outcome_of nodes es))
+        (heard-flows b (asks_tree nodes s) a demo_lines Ended (tree_stands nothing_intended program is options.strategy nodes s a (first_stands nothing_intended options program store referee is fit his)))
+        (outcome-flows ops names nodes (questions_in es) (slice_get es (length es - 1)))
+    started-flows b (Checks text) = λ verdict input end. closed-flows ops b (verdict_stop verdict) (verdict-last verdict) verdict input end
 
 pub every-session-flows : (words names : List (List ℕ)) (reader : Reader names) (world : World) → Flows Nothing (entries_of (session_of words reader world).utterances) Nothing
 every-session-flows words names reader world =
     opening_has (OpeningFlows reader) reader world.files (unloaded-flows reader) (λ ops b why table last. closed-flows reader ops b why last)
-    (λ options program ops b store referee is table fit may. started-flows reader options program ops store referee is fit (askable-fits referee may) b options.subject) words world.input world.ends
+    (λ options program ops b store referee course is table fit may. started-flows reader options program ops store referee is fit (askable-fits referee may) b course) words world.verdict world.input world.ends

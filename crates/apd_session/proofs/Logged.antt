@@ -1,5 +1,5 @@
 -- The log of a session is right, also where not all was said.
-use Rattle.std.proofs.Common.{◌≡◌, ◌∙◌, ℕ, List, [], ◌∷◌, ◌++◌, Option, refl, sym, ap, subst, inl, inr}
+use Rattle.std.proofs.Common.{◌≡◌, ◌⊎◌, ◌+◌, arith, ◌∙◌, ℕ, List, [], ◌∷◌, ◌++◌, Option, refl, sym, ap, subst, inl, inr}
 use Rattle.apd_account.specs.Account.{Account, account_with}
 use Rattle.std.specs.Prelude.{IfSome}
 use Rattle.apd_account.specs.Right.{IsRight, AreRight, AreTrueIfMarked}
@@ -8,14 +8,20 @@ use Rattle.apd_answers.specs.Repliers.{nobody}
 use Rattle.apd_answers.specs.Interpretation.{Interpretation}
 use Rattle.apd_answers.specs.declared.question.Question.{Question}
 use Rattle.apd_answers.specs.declared.question.Reply.{Reply}
-use Rattle.apd_clauses.specs.Clauses.{tuples_of}
+use Rattle.apd_check.proofs.Right.{all-counted, text-right}
+use Rattle.apd_check.specs.Checked.{IsCheckOf, first_state as at_first}
+use Rattle.apd_check.specs.Right.{findings_in}
+use Rattle.apd_check.specs.declared.checked.Checked.{Checked}
+use Rattle.apd_check.specs.declared.checked.Checked.TheVariants.{Holds, Fails}
+use Rattle.apd_claims.specs.Saying.{said_in}
+use Rattle.apd_clauses.specs.Clauses.{IsProgram, tuples_of}
 use Rattle.apd_clauses.specs.declared.clause.Clause.{Clause}
 use Rattle.apd_divide.specs.declared.node.Strategy.{Strategy}
 use Rattle.apd_read.specs.Reader.{Reader}
 use Rattle.apd_reference.specs.LeastModel.{HoldsLeastModel}
 use Rattle.apd_reference.specs.Referees.{program_of_referee, replies_of}
 use Rattle.apd_reference.specs.declared.referee.Referee.{Referee}
-use Rattle.apd_reference.specs.declared.referee.Referee.TheVariants.{Nobody, Program}
+use Rattle.apd_reference.specs.declared.referee.Referee.TheVariants.{Nobody, Program, Tree}
 use Rattle.apd_talk.proofs.Uttering.{entries_of-append}
 use Rattle.apd_talk.specs.Speech.{begun}
 use Rattle.apd_talk.specs.Utterance.{Utterance, UttersFront, Pushed, entries_of}
@@ -29,11 +35,15 @@ use Rattle.apd_session.proofs.Openings.{IsAskable, opening_has}
 use Rattle.apd_session.proofs.Referred.{all_true}
 use Rattle.apd_session.specs.Flow.{Due, Nothing, due_by, part_of, Flows, FlowsTo}
 use Rattle.apd_answers.specs.Store.{Store}
-use Rattle.apd_session.specs.Headline.{AreRightFor, MeetsRightly, ReferredRightly}
+use Rattle.apd_session.specs.Headline.{AreRightFor, ChecksRightly, HoldsRightly, MeetsRightly, ReferredRightly}
 use Rattle.apd_session.specs.Known.{Outside}
-use Rattle.apd_session.specs.Outcome.{IsSaid, IsWhole, Meets}
-use Rattle.apd_session.specs.Opening.{opening_of}
-use Rattle.apd_session.specs.Session.{Transcript, World, session_of}
+use Rattle.apd_session.specs.Outcome.{IsSaid, IsWhole, Meets, SaysNothing}
+use Rattle.apd_session.specs.Opening.{first_state, opening_of}
+use Rattle.apd_session.specs.Session.{IsVerdict, Transcript, World, session_of}
+use Rattle.apd_ops.specs.Table.{Table}
+use Rattle.apd_session.specs.declared.opening.Course.{Course}
+use Rattle.apd_session.specs.declared.opening.Course.TheVariants.{Hears, Plays, Checks}
+use Rattle.apd_session.specs.declared.opening.Start.{Start}
 use Rattle.apd_session.specs.declared.opening.Opening.{Opening}
 use Rattle.apd_session.specs.declared.opening.Opening.TheVariants.{Unloaded, Closed, Open}
 use Rattle.apd_session.specs.declared.status.Status.{Status}
@@ -74,6 +84,7 @@ module _ (m : Interpretation) (program : List Clause) (strategy : Strategy) (his
   said-right status.InputLimit t log x y h r = whole-right status.InputLimit t log x y h r
   said-right status.OracleText t log x y h r = whole-right status.OracleText t log x y h r
   said-right status.ReferenceText t log x y h r = whole-right status.ReferenceText t log x y h r
+  said-right status.CheckFailed t log x y h r = whole-right status.CheckFailed t log x y h r
   said-right status.FileTooLong t log x y h r = whole-right status.FileTooLong t log x y h r
 
 -- what was said is right for what the session began with
@@ -126,12 +137,14 @@ said-flows status.ReadFault t log x y h k = whole-flows status.ReadFault t log x
 said-flows status.InputLimit t log x y h k = whole-flows status.InputLimit t log x y h k
 said-flows status.OracleText t log x y h k = whole-flows status.OracleText t log x y h k
 said-flows status.ReferenceText t log x y h k = whole-flows status.ReferenceText t log x y h k
+said-flows status.CheckFailed t log x y h k = whole-flows status.CheckFailed t log x y h k
 said-flows status.FileTooLong t log x y h k = whole-flows status.FileTooLong t log x y h k
 
 -- replies that are marked are true where the reference program is right
 refers_by : (m : Interpretation) (program : List Clause) (strategy : Strategy) (known : Store) (entries : List Entry) (referee : Referee) → IsAskable referee → AreRight m program strategy (account_with (replies_of referee) known) entries
     → IfSome (program_of_referee referee) (λ right. HoldsLeastModel (tuples_of right) m → AreTrueIfMarked m program strategy (account_with (replies_of referee) known) entries)
 refers_by m program strategy known entries Nobody may right = tt
+refers_by m program strategy known entries (Tree t) may right = absurd may
 refers_by m program strategy known entries (Program r) may right = λ least.
     all_true m program strategy r.program r.budget may.0 may.1 least (account_with (replies_of (Program r)) known) entries refl right
 
@@ -141,7 +154,33 @@ RefersRightly m x = (entries : List Entry) → AreRightFor m entries x → Refer
 pub refers-rightly : (m : Interpretation) (words names : List (List ℕ)) (reader : Reader names) (world : World) → RefersRightly m (opening_of reader world.files (options_of words))
 refers-rightly m words names reader world =
     opening_has (RefersRightly m) reader world.files (λ why last entries right. tt) (λ ops b why table last entries right. tt)
-    (λ options program ops b store referee is table fit may entries right. refers_by m program options.strategy store entries referee may right) words
+    (λ options program ops b store referee course is table fit may entries right. refers_by m program options.strategy store entries referee may right) words
+
+-- findings of a log that holds are right
+abbrev pub VerdictIsRight : Interpretation → {names : List (List ℕ)} → Reader names → Opening → Type 0
+VerdictIsRight m reader x = (verdict : Checked) → IsVerdict reader x verdict → ChecksRightly m reader x verdict
+
+holds_rightly : (m : Interpretation) {names : List (List ℕ)} (reader : Reader names) (program : List Clause) (ops : Table) (known : Store) (text : List ℕ) → IsProgram program → (verdict : Checked)
+    → IsCheckOf program ops reader known text verdict → HoldsRightly m program known (said_in reader ops text) verdict
+holds_rightly m {names} reader program ops known text is (Holds total) checked = record {
+  right = text-right program m is ops names reader known text total checked;
+  count = let e : total ≡ 0 + findings_in (said_in reader ops text) = all-counted program (at_first known) 0 total (said_in reader ops text) checked in omega (arith, e);
+}
+holds_rightly m reader program ops known text is (Fails line why) checked = tt
+
+checks_rightly : (m : Interpretation) {names : List (List ℕ)} (reader : Reader names) (ops : Table) (start : Start) (course : Course) → IsProgram start.state.program → VerdictIsRight m reader (Open ops start course)
+checks_rightly m reader ops start Hears is = λ verdict checked. tt
+checks_rightly m reader ops start (Plays nodes) is = λ verdict checked. tt
+checks_rightly m reader ops start (Checks text) is = holds_rightly m reader start.state.program ops start.state.replies text is
+
+verdict-right : (m : Interpretation) (words names : List (List ℕ)) (reader : Reader names) (world : World) → VerdictIsRight m reader (opening_of reader world.files (options_of words))
+verdict-right m words names reader world =
+    opening_has (VerdictIsRight m reader) reader world.files (λ why last verdict checked. tt) (λ ops b why table last verdict checked. tt)
+    (λ options program ops b store referee course is table fit may. checks_rightly m reader ops (record { beginning = b; state = first_state program options store referee }) course is) words
+
+judged-right : (m : Interpretation) {names : List (List ℕ)} (reader : Reader names) (x : Opening) (verdict : Checked) (nothing : Type 0) → VerdictIsRight m reader x → nothing ⊎ IsVerdict reader x verdict → nothing ⊎ ChecksRightly m reader x verdict
+judged-right m reader x verdict nothing right (inl none) = inl none
+judged-right m reader x verdict nothing right (inr is) = inr (right verdict is)
 
 -- what is said in the world that is met is right, whatever is known of it
 pub meets-rightly : (m : Interpretation) (words names : List (List ℕ)) (reader : Reader names) (p q : Outside) (st : Status) (log : Log) → Meets words reader p q st log → MeetsRightly m words reader p q st log
@@ -151,5 +190,6 @@ meets-rightly m words names reader p q st log meets =
       meets = meets;
       right = right;
       referred = refers-rightly m words names reader meets.world log.entries.list right;
+      checked = judged-right m reader (opening_of reader meets.world.files (options_of words)) meets.world.verdict (SaysNothing st log) (verdict-right m words names reader meets.world) meets.judged;
       flows = said-flows st (session_of words reader meets.world) log p.streams.held q.streams.held meets.said (every-session-flows words names reader meets.world);
     }

@@ -25,18 +25,23 @@ use Rattle.apd_reference.specs.Referees.{names_known}
 use Rattle.apd_reference.specs.declared.referee.Referee.{Referee}
 use Rattle.apd_term.specs.Growth.{Grown}
 use Rattle.apd_text.specs.declared.entry.Entry.TheVariants as entry
-use Rattle.apd_words.specs.Words.{AreLimits, InFile, OfTree, Options, StandsAlone, Subject}
-use Rattle.apd_session.specs.Opening.{beginning_of, course_of, first_state, opening_after, opening_by, opening_with, prepared_from, referred, stop, stops_with, subject_text, text_in}
-use Rattle.apd_session.specs.Preparing.{HasSubject, HasText, IsBeginning, IsCourse, IsLoaded, IsReviewed, IsStart, Opens, OpensAfter, OpensBy, OpensKnowing, OpensWith, Prepares, Refers, States}
+use Rattle.apd_words.specs.Words.{AreLimits, InFile, OfLog, OfTree, Options, StandsAlone, Subject}
+use Rattle.apd_session.specs.Opening.{beginning_of, course_of, course_with, first_state, goes_on, opening_after, opening_by, opening_with, prepared_from, referred, stop, stops_with, subject_text, text_in}
+use Rattle.apd_session.specs.Preparing.{Follows, HasSubject, HasText, IsBeginning, IsLoaded, IsPursued, IsReadyOpening, IsReviewed, IsStart, IsSubject, Opens, OpensAfter, OpensBy, OpensKnowing, OpensWith, Prepares, Pursues, Refers, States, stops_pursued}
 use Rattle.apd_session.specs.Roles as roles
-use Rattle.apd_session.specs.Roles.{Role, KnownReplies, Reference, FileLoad, Gives, Faults, AreLoads, IsFileLoad, IsNamedLoad, file_of, file_of_subject}
+use Rattle.apd_session.specs.Roles.{Role, KnownReplies, Reference, FileLoad, Gives, Faults, AreLoads, IsFileLoad, IsNamedLoad, file_of, file_of_subject, log_of_subject}
+use Rattle.apd_session.specs.declared.opening.Course.{Course}
+use Rattle.apd_session.specs.declared.opening.Course.TheVariants.{Hears, Plays}
 use Rattle.apd_session.specs.declared.opening.Opening.{Opening}
 use Rattle.apd_session.specs.declared.opening.Opening.TheVariants.{Unloaded, Closed}
 use Rattle.apd_session.specs.declared.opening.Beginning.{Beginning}
+use Rattle.apd_session.specs.declared.opening.Start.{Start}
 use Rattle.apd_session.specs.declared.opening.Stop.{Stop}
 use Rattle.apd_session.specs.declared.preparing.Prepared.{Prepared}
 use Rattle.apd_session.specs.declared.preparing.Prepared.TheVariants.{Knows, Refuses}
+use Rattle.apd_session.specs.declared.opening.Reviewed.{Reviewed}
 use Rattle.apd_session.specs.declared.referring.Referring.{Referring}
+use Rattle.apd_session.specs.declared.referring.Referring.TheVariants.{Asks}
 use Rattle.apd_session.specs.declared.status.Status.TheVariants as status
 
 -- some content for a file that memory did not suffice for, or that was not looked at
@@ -103,6 +108,34 @@ subject_file content failed name (Err e) h = tt
 pub subject_tree : (content : List ℕ → Option (List ℕ)) (failed : Type 0) (nodes : ℕ) (text : List ℕ) → subject_text (λ role. Gives []) (OfTree nodes) ≡ Ok text → HasSubject content failed (OfTree nodes) (Ok text)
 subject_tree content failed nodes text is = record { loading = Gives []; is = tt; faults = λ e. absurd (cc); so = is }
 
+pub subject_logged : (content : List ℕ → Option (List ℕ)) (failed : Type 0) (program log : List ℕ) (r : Result (Result (List ℕ) Stop) AllocError) → IfOk r (HasText content failed program) → IfOk r (HasSubject content failed (OfLog program log))
+subject_logged content failed program log (Ok x) h = record { loading = h.loading; is = h.is; faults = h.faults; so = h.so }
+subject_logged content failed program log (Err e) h = tt
+
+-- how a session goes on
+pub pursues_file : (content : List ℕ → Option (List ℕ)) (failed : Type 0) (name : List ℕ) → Pursues content failed (InFile name) (Ok Hears)
+pursues_file content failed name = record { loading = Gives []; is = tt; faults = λ e. absurd (cc); so = refl }
+
+pub pursues_tree : (content : List ℕ → Option (List ℕ)) (failed : Type 0) (nodes : ℕ) → Pursues content failed (OfTree nodes) (Ok (Plays nodes))
+pursues_tree content failed nodes = record { loading = Gives []; is = tt; faults = λ e. absurd (cc); so = refl }
+
+pub pursues_log : (content : List ℕ → Option (List ℕ)) (failed : Type 0) (program log : List ℕ) (x : Result (List ℕ) Stop) → HasText content failed log x → Pursues content failed (OfLog program log) (course_with x)
+pursues_log content failed program log x h = record { loading = h.loading; is = h.is; faults = h.faults; so = ap course_with h.so }
+
+-- where no log is loaded
+pub pursues_any : (content : List ℕ → Option (List ℕ)) (failed : Type 0) (subject : Subject) → (x : Result Course Stop) × Pursues content failed subject x
+pursues_any content failed subject =
+    let some = any_named content (log_of_subject subject) in
+    (course_of (Gives some.0) subject, record { loading = Gives some.0; is = some.1; faults = λ e. absurd (cc); so = refl })
+
+pub pursues_later : (content now : List ℕ → Option (List ℕ)) (failed fails : Type 0) (subject : Subject) (x : Result Course Stop) → now ≡ content → (failed → fails) → Pursues now failed subject x → Pursues content fails subject x
+pursues_later content now failed fails subject x same rose r = record {
+  loading = r.loading;
+  is = subst (λ (c : List ℕ → Option (List ℕ)). IsNamedLoad c (log_of_subject subject) r.loading) same r.is;
+  faults = λ e. rose (r.faults e);
+  so = r.so;
+}
+
 -- what an oracle file makes known
 pub prepares_stated : (content : List ℕ → Option (List ℕ)) (failed : Type 0) (ops : Table) (names : List (List ℕ)) (name text : List ℕ) (result : Result Prepared AllocError) → HasText content failed name (Ok text) →
     IfOk result (States ops text names) → IfOk result (Prepares content failed ops names (Some name))
@@ -141,25 +174,40 @@ pub opens_knowing : (content now : List ℕ → Option (List ℕ)) (before fails
 opens_knowing content now before fails failed options l names more statements store (Ok x) p same first second grows o = record {
   known = Knows statements store;
   prepares = prepares_later content before failed l.ops names more options.oracle (Knows statements store) first grows p;
-  opens = record { referring = o.referring; refers = refers_later content now fails failed options.budget more options.reference o.referring same second o.refers; so = o.so };
+  opens = record { referring = o.referring; refers = refers_later content now fails failed options.budget more options.reference o.referring same second o.refers; course = o.course; pursues = pursues_later content now fails failed options.subject o.course same second o.pursues; so = o.so };
 }
 opens_knowing content now before fails failed options l names more statements store (Err e) p same first second grows o = tt
 
 -- by who is asked before the user
-pub opens_asking : (content : List ℕ → Option (List ℕ)) (failed : Type 0) (options : Options) (l : Loaded) (names : List (List ℕ)) (statements : Option ℕ) (store : Store) (x : Referring) (o : Opening)
-    → Refers content failed options.budget names options.reference x → o ≡ opening_with options l.program l.ops l.passed (Knows statements store) x → OpensKnowing content failed options l names (Knows statements store) o
-opens_asking content failed options l names statements store x o r so = record { referring = x; refers = r; so = sym so }
+pub opens_asking : (content : List ℕ → Option (List ℕ)) (failed : Type 0) (options : Options) (l : Loaded) (names : List (List ℕ)) (statements : Option ℕ) (store : Store) (x : Referring) (course : Result Course Stop) (o : Opening)
+    → Refers content failed options.budget names options.reference x → Pursues content failed options.subject course → o ≡ opening_with options l.program l.ops l.passed (Knows statements store) x course → OpensKnowing content failed options l names (Knows statements store) o
+opens_asking content failed options l names statements store x course o r u so = record { referring = x; refers = r; course = course; pursues = u; so = sym so }
+
+-- and goes on from here with what is debugged
+pub opens_following : (content now : List ℕ → Option (List ℕ)) (failed fails : Type 0) (options : Options) (l : Loaded) (names : List (List ℕ)) (statements : Option ℕ) (store : Store) (referee : Referee) (reference : Option Reviewed) (start : Start) (r : Result Opening AllocError)
+    → Refers content failed options.budget names options.reference (Asks referee reference) → start ≡ record { beginning = beginning_of l.program l.passed statements reference; state = first_state l.program options store referee }
+    → now ≡ content → (fails → failed) → IfOk r (Follows now fails options.subject l.ops start) → IfOk r (OpensKnowing content failed options l names (Knows statements store))
+opens_following content now failed fails options l names statements store referee reference start (Err e) refers is same rose f = tt
+opens_following content now failed fails options l names statements store referee reference start (Ok x) refers is same rose f = record {
+  referring = Asks referee reference;
+  refers = refers;
+  course = f.course;
+  pursues = pursues_later content now fails failed options.subject f.course same rose f.pursues;
+  so = ap (λ (s : Start). goes_on l.ops s f.course) (sym is) ∙ f.so;
+}
 
 -- loads of the files beside the program, by role
-abbrev others_by : FileLoad → FileLoad → Role → FileLoad
-others_by replies reference roles.Program = replies
-others_by replies reference KnownReplies = replies
-others_by replies reference Reference = reference
+abbrev others_by : FileLoad → FileLoad → FileLoad → Role → FileLoad
+others_by replies reference log roles.Program = replies
+others_by replies reference log KnownReplies = replies
+others_by replies reference log Reference = reference
+others_by replies reference log roles.Log = log
 
-others_fault : (failed : Type 0) (f g : FileLoad) → (f ≡ Faults → failed) → (g ≡ Faults → failed) → (role : Role) → others_by f g role ≡ Faults → failed
-others_fault failed f g first second roles.Program is = first is
-others_fault failed f g first second KnownReplies is = first is
-others_fault failed f g first second Reference is = second is
+others_fault : (failed : Type 0) (f g h : FileLoad) → (f ≡ Faults → failed) → (g ≡ Faults → failed) → (h ≡ Faults → failed) → (role : Role) → others_by f g h role ≡ Faults → failed
+others_fault failed f g h first second third roles.Program is = first is
+others_fault failed f g h first second third KnownReplies is = first is
+others_fault failed f g h first second third Reference is = second is
+others_fault failed f g h first second third roles.Log is = third is
 
 pub opens_loaded : (content : List ℕ → Option (List ℕ)) (failed : Type 0) (options : Options) (text bytes : List ℕ) (l : Loaded) (before names : List (List ℕ)) (r : Result Opening AllocError) → IfOk r (OpensWith content failed options l names) → bytes ≡ text
     → ((n : List (List ℕ)) → Grown before n → (reader : Reader n) → program_of reader bytes ≡ loads (record { program = l.program; ops = l.ops; passed = l.passed })) → ((n : List (List ℕ)) → Grown names n → Grown before n) → IfOk r (OpensAfter content failed options text names)
@@ -168,30 +216,34 @@ opens_loaded content failed options text bytes l before names (Ok x) w is makes 
     by : (known : Prepared) → Prepares content failed l.ops names options.oracle known → OpensBy content failed options l names known x → OpensAfter content failed options text names x
     by (Refuses why) p so =
         let other = any_named content options.reference in
-        let files = others_by p.loading (Gives other.0) in
+        let last = any_named content (log_of_subject options.subject) in
+        let files = others_by p.loading (Gives other.0) (Gives last.0) in
         record {
           files = files;
           oracle = p.is;
           reference = other.1;
-          faults = others_fault failed p.loading (Gives other.0) p.faults (λ e. absurd (cc));
+          log = last.1;
+          faults = others_fault failed p.loading (Gives other.0) (Gives last.0) p.faults (λ e. absurd (cc)) (λ e. absurd (cc));
           so = λ n grew reader.
               ap (λ (t : List ℕ). opening_after reader files options (program_of reader t)) (sym is)
               ∙ ap (opening_after reader files options) (makes n (more n grew) reader)
-              ∙ ap (λ (k : Prepared). opening_with options l.program l.ops l.passed k (referred reader options.budget options.reference (Gives other.0))) (p.so n grew reader)
+              ∙ ap (λ (k : Prepared). opening_with options l.program l.ops l.passed k (referred reader options.budget options.reference (Gives other.0)) (course_of (Gives last.0) options.subject)) (p.so n grew reader)
               ∙ so;
         }
     by (Knows statements store) p o =
-        let files = others_by p.loading o.refers.loading in
+        let files = others_by p.loading o.refers.loading o.pursues.loading in
         record {
           files = files;
           oracle = p.is;
           reference = o.refers.is;
-          faults = others_fault failed p.loading o.refers.loading p.faults o.refers.faults;
+          log = o.pursues.is;
+          faults = others_fault failed p.loading o.refers.loading o.pursues.loading p.faults o.refers.faults o.pursues.faults;
           so = λ n grew reader.
               ap (λ (t : List ℕ). opening_after reader files options (program_of reader t)) (sym is)
               ∙ ap (opening_after reader files options) (makes n (more n grew) reader)
-              ∙ ap (λ (k : Prepared). opening_with options l.program l.ops l.passed k (referred reader options.budget options.reference o.refers.loading)) (p.so n grew reader)
-              ∙ ap (opening_with options l.program l.ops l.passed (Knows statements store)) (o.refers.so n grew reader)
+              ∙ ap (λ (k : Prepared). opening_with options l.program l.ops l.passed k (referred reader options.budget options.reference o.refers.loading) (course_of o.pursues.loading options.subject)) (p.so n grew reader)
+              ∙ ap (λ (x : Referring). opening_with options l.program l.ops l.passed (Knows statements store) x (course_of o.pursues.loading options.subject)) (o.refers.so n grew reader)
+              ∙ ap (opening_with options l.program l.ops l.passed (Knows statements store) o.referring) o.pursues.so
               ∙ o.so;
         }
 opens_loaded content failed options text bytes l before names (Err e) w is makes more = tt
@@ -201,12 +253,14 @@ pub opens_refused : (content : List ℕ → Option (List ℕ)) (failed : Type 0)
 opens_refused content failed options text bytes line cause names is makes =
     let some = any_named content options.oracle in
     let other = any_named content options.reference in
-    let files = others_by (Gives some.0) (Gives other.0) in
+    let last = any_named content (log_of_subject options.subject) in
+    let files = others_by (Gives some.0) (Gives other.0) (Gives last.0) in
     record {
       files = files;
       oracle = some.1;
       reference = other.1;
-      faults = others_fault failed (Gives some.0) (Gives other.0) (λ e. absurd (cc)) (λ e. absurd (cc));
+      log = last.1;
+      faults = others_fault failed (Gives some.0) (Gives other.0) (Gives last.0) (λ e. absurd (cc)) (λ e. absurd (cc)) (λ e. absurd (cc));
       so = λ n grew reader. ap (λ (t : List ℕ). opening_after reader files options (program_of reader t)) (sym is) ∙ ap (opening_after reader files options) (makes n grew reader);
     }
 
@@ -215,21 +269,25 @@ abbrev by_role : FileLoad → (Role → FileLoad) → Role → FileLoad
 by_role program others roles.Program = program
 by_role program others KnownReplies = others KnownReplies
 by_role program others Reference = others Reference
+by_role program others roles.Log = others roles.Log
 
-are_by : (content : List ℕ → Option (List ℕ)) (options : Options) (f : FileLoad) (g : Role → FileLoad) → IsNamedLoad content (file_of_subject options.subject) f → IsNamedLoad content options.oracle (g KnownReplies) → IsNamedLoad content options.reference (g Reference)
+are_by : (content : List ℕ → Option (List ℕ)) (options : Options) (f : FileLoad) (g : Role → FileLoad) → IsNamedLoad content (file_of_subject options.subject) f → IsNamedLoad content options.oracle (g KnownReplies) → IsNamedLoad content options.reference (g Reference) → IsNamedLoad content (log_of_subject options.subject) (g roles.Log)
     → (role : Role) → IsNamedLoad content (file_of options role) (by_role f g role)
-are_by content options f g first second third roles.Program = first
-are_by content options f g first second third KnownReplies = second
-are_by content options f g first second third Reference = third
+are_by content options f g first second third last roles.Program = first
+are_by content options f g first second third last KnownReplies = second
+are_by content options f g first second third last Reference = third
+are_by content options f g first second third last roles.Log = last
 
 faults_by : (failed : Type 0) (f : FileLoad) (g : Role → FileLoad) → (f ≡ Faults → failed) → ((role : Role) → g role ≡ Faults → failed) → (role : Role) → by_role f g role ≡ Faults → failed
 faults_by failed f g first others roles.Program is = first is
 faults_by failed f g first others KnownReplies is = others KnownReplies is
 faults_by failed f g first others Reference is = others Reference is
+faults_by failed f g first others roles.Log is = others roles.Log is
 
 subject_by : (f : FileLoad) (g : Role → FileLoad) (s : Subject) → subject_text (by_role f g) s ≡ subject_text (λ role. f) s
 subject_by f g (InFile name) = refl
 subject_by f g (OfTree nodes) = refl
+subject_by f g (OfLog program log) = refl
 
 after_by : {names : List (List ℕ)} (reader : Reader names) (options : Options) (f : FileLoad) (g : Role → FileLoad) (o : Loads) → opening_after reader (by_role f g) options o ≡ opening_after reader g options o
 after_by reader options f g (refused line cause) = refl
@@ -250,6 +308,12 @@ calm_of content failed (InFile name) text h = record {
   so = h.so;
 }
 calm_of content failed (OfTree nodes) text h = record { loading = Gives []; is = tt; calm = λ e. absurd (cc); so = h.so }
+calm_of content failed (OfLog program log) text h = record {
+  loading = h.loading;
+  is = h.is;
+  calm = λ e. let never : text_in Faults ≡ Ok text = ap text_in (sym e) ∙ h.so in absurd (cc);
+  so = h.so;
+}
 
 pub opens_text : (content now : List ℕ → Option (List ℕ)) (before failed fails : Type 0) (options : Options) (text : List ℕ) (names : List (List ℕ)) (r : Result Opening AllocError) → HasSubject content before options.subject (Ok text) → now ≡ content → (fails → failed)
     → IfOk r (OpensAfter now fails options text names) → IfOk r (Opens content failed (Some options) names)
@@ -258,9 +322,10 @@ opens_text content now before failed fails options text names (Ok x) h same more
     let first = calm_of content before options.subject text h in
     let replies : IsNamedLoad content options.oracle (a.files KnownReplies) = subst (λ (c : List ℕ → Option (List ℕ)). IsNamedLoad c options.oracle (a.files KnownReplies)) same a.oracle in
     let right : IsNamedLoad content options.reference (a.files Reference) = subst (λ (c : List ℕ → Option (List ℕ)). IsNamedLoad c options.reference (a.files Reference)) same a.reference in
+    let last : IsNamedLoad content (log_of_subject options.subject) (a.files roles.Log) = subst (λ (c : List ℕ → Option (List ℕ)). IsNamedLoad c (log_of_subject options.subject) (a.files roles.Log)) same a.log in
     record {
       files = by_role first.loading a.files;
-      are = are_by content options first.loading a.files first.is replies right;
+      are = are_by content options first.loading a.files first.is replies right last;
       faults = faults_by failed first.loading a.files (λ e. absurd (first.calm e)) (λ role e. more (a.faults role e));
       so = λ n grew reader.
           ap (opening_by reader (by_role first.loading a.files) options) (subject_by first.loading a.files options.subject ∙ first.so)
@@ -271,11 +336,12 @@ pub opens_not : (content : List ℕ → Option (List ℕ)) (failed : Type 0) (op
 opens_not content failed options names why h =
     let some = any_named content options.oracle in
     let other = any_named content options.reference in
-    let files = others_by (Gives some.0) (Gives other.0) in
+    let last = any_named content (log_of_subject options.subject) in
+    let files = others_by (Gives some.0) (Gives other.0) (Gives last.0) in
     record {
       files = by_role h.loading files;
-      are = are_by content options h.loading files h.is some.1 other.1;
-      faults = faults_by failed h.loading files h.faults (others_fault failed (Gives some.0) (Gives other.0) (λ e. absurd (cc)) (λ e. absurd (cc)));
+      are = are_by content options h.loading files h.is some.1 other.1 last.1;
+      faults = faults_by failed h.loading files h.faults (others_fault failed (Gives some.0) (Gives other.0) (Gives last.0) (λ e. absurd (cc)) (λ e. absurd (cc)) (λ e. absurd (cc)));
       so = λ n grew reader. ap (opening_by reader (by_role h.loading files) options) (subject_by h.loading files options.subject ∙ h.so);
     }
 
@@ -300,14 +366,24 @@ IsLoaded-more n m l more is = record {
   warnings = is.warnings;
 }
 
+-- how a session goes on
+pub goes_ready : (n : ℕ) (ops : Table) (start : Start) (x : Result Course Stop) → IsStart n start → IsPursued x → IsReadyOpening n (goes_on ops start x)
+goes_ready n ops start (Ok course) ready is = (ready, is)
+goes_ready n ops start (Err why) ready is = (ready.beginning, is n)
+
+pub goes_fault : (ops : Table) (start : Start) (x : Result Course Stop) (fault : Type 0) → (stops_pursued x ≡ Some status.ReadFault → fault) → stops_with (goes_on ops start x) ≡ Some status.ReadFault → fault
+goes_fault ops start (Ok course) fault is e = absurd (cc)
+goes_fault ops start (Err why) fault is e = is e
+
 -- what is said where a session ends before it hears anything
 pub closing_ready : (n m : ℕ) (l : Loaded) (statements : Option ℕ) → n ≤ m → IsLoaded n l → IsBeginning m (beginning_of l.program l.passed statements None)
 closing_ready n m l statements more is =
     record { passed = notes_more n m l.passed more is.passed; called = subst (NotesAreNamed m) is.warnings (notes_more n m l.warnings more is.called); reference = tt }
 
-pub alone_course : (s : Subject) (oracle reference : Option (List ℕ)) → StandsAlone s oracle reference → IsCourse (course_of s)
-alone_course (InFile name) oracle reference alone = tt
-alone_course (OfTree nodes) oracle reference alone = alone.0
+pub alone_subject : (s : Subject) (oracle reference : Option (List ℕ)) → StandsAlone s oracle reference → IsSubject s
+alone_subject (InFile name) oracle reference alone = tt
+alone_subject (OfTree nodes) oracle reference alone = alone.0
+alone_subject (OfLog program log) oracle reference alone = tt
 
 -- a fault that was counted later is counted
 pub rose_more : (a b c : ℕ) → a ≤ b → Rose b c → Rose a c

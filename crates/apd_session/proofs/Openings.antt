@@ -24,16 +24,20 @@ use Rattle.apd_recorded.proofs.Recording.{program_clauses}
 use Rattle.apd_reference.proofs.Fitting.{replies_fit}
 use Rattle.apd_reference.specs.Referees.{replies_of}
 use Rattle.apd_reference.specs.declared.referee.Referee.{Referee}
-use Rattle.apd_reference.specs.declared.referee.Referee.TheVariants.{Nobody, Program}
+use Rattle.apd_reference.specs.declared.referee.Referee.TheVariants.{Nobody, Program, Tree}
 use Rattle.apd_text.specs.declared.entry.Entry.{Entry}
-use Rattle.apd_text.specs.declared.entry.Entry.TheVariants.{UsageRefused, ProgramRefused, OracleRefused, ReferenceRefused, FileTooLong, InputFault}
+use Rattle.apd_text.specs.declared.entry.Entry.TheVariants.{UsageRefused, ProgramRefused, OracleRefused, ReferenceRefused, CheckHolds, CheckFails, FileTooLong, InputFault}
 use Rattle.apd_words.proofs.Alone.{words-alone}
 use Rattle.apd_words.proofs.Limited.{words-limited}
-use Rattle.apd_words.specs.Words.{AreLimits, InFile, OfTree, Options, StandsAlone, Subject, options_of}
-use Rattle.apd_session.specs.Opening.{beginning_of, course_of, first_state, last_line, opening_after, opening_by, opening_of, opening_with, prepared, prepared_by, prepared_from, referred, referred_by, referred_from, refused_reference, reviewed, stop, subject_text, text_in}
+use Rattle.apd_words.specs.Words.{AreLimits, InFile, OfLog, OfTree, Options, StandsAlone, Subject, options_of}
+use Rattle.apd_session.specs.Opening.{beginning_of, course_of, course_with, first_state, goes_on, last_line, opening_after, opening_by, opening_of, opening_with, prepared, prepared_by, prepared_from, referred, referred_by, referred_from, refused_reference, reviewed, stop, subject_text, text_in}
 use Rattle.apd_session.specs.Roles as roles
-use Rattle.apd_session.specs.Roles.{Role, KnownReplies, Reference, FileLoad, Gives, Faults, file_of, file_of_subject}
+use Rattle.apd_session.specs.Roles.{Role, KnownReplies, Reference, FileLoad, Gives, Faults, file_of, file_of_subject, log_of_subject}
+use Rattle.apd_check.specs.declared.checked.Checked.{Checked}
+use Rattle.apd_check.specs.declared.checked.Checked.TheVariants.{Holds, Fails}
+use Rattle.apd_session.specs.Session.{verdict_stop}
 use Rattle.apd_session.specs.declared.opening.Beginning.{Beginning}
+use Rattle.apd_session.specs.declared.opening.Course.{Course}
 use Rattle.apd_session.specs.declared.opening.Opening.{Opening}
 use Rattle.apd_session.specs.declared.opening.Opening.TheVariants.{Unloaded, Closed, Open}
 use Rattle.apd_session.specs.declared.opening.Stop.{Stop}
@@ -43,24 +47,28 @@ use Rattle.apd_session.specs.declared.referring.Referring.{Referring}
 use Rattle.apd_session.specs.declared.referring.Referring.TheVariants.{Asks, Stops}
 use Rattle.apd_session.specs.declared.status.Status.TheVariants as status
 
--- what may be said last where a session ends before it hears anything
+-- what may be said last where a session hears nothing
 abbrev pub IsLastWord : Entry → Type 0
 IsLastWord UsageRefused = Unit {0}
 IsLastWord (ProgramRefused line cause) = Unit {0}
 IsLastWord (OracleRefused line cause) = Unit {0}
 IsLastWord (ReferenceRefused line cause) = Unit {0}
+IsLastWord (CheckHolds findings) = Unit {0}
+IsLastWord (CheckFails line why) = Unit {0}
 IsLastWord (FileTooLong size) = Unit {0}
 IsLastWord InputFault = Unit {0}
 IsLastWord e = ⊥
 
--- a reference program has clauses, and may be asked within some ports
+-- a reference program has clauses, and may be asked within some ports; a session doesn't begin with a tree
 abbrev pub IsAskable : Referee → Type 0
 IsAskable Nobody = Unit {0}
 IsAskable (Program r) = All IsClause (tuples_of r.program) × (0 < r.budget)
+IsAskable (Tree t) = ⊥
 
 pub askable-fits : (referee : Referee) → IsAskable referee → RepliesFit (replies_of referee)
 askable-fits Nobody is = λ q r e. absurd (cc)
 askable-fits (Program r) (are, some) = replies_fit (tuples_of r.program) r.budget are some
+askable-fits (Tree t) is = absurd is
 
 -- whoever is asked may be; or there is a last word
 abbrev pub IsFitting : Referring → Type 0
@@ -85,34 +93,65 @@ referred-fits {names} reader budget (Some name) (Gives text) some = by (nat_lt 1
     by true long = tt
     by false short = referred_by-fits budget (program_of reader text) some (loaded_is_program names reader text (ltb-false 1048576 (length text) short))
 
+pub verdict-last : (verdict : Checked) → IsLastWord (verdict_stop verdict).said
+verdict-last (Holds total) = tt
+verdict-last (Fails line why) = tt
+
+-- a session goes on so, or there is a last word
+abbrev pub IsGoing : Result Course Stop → Type 0
+IsGoing (Ok course) = Unit {0}
+IsGoing (Err why) = IsLastWord why.said
+
+log-going : (loading : FileLoad) → IsGoing (course_with (text_in loading))
+log-going Faults = tt
+log-going (Gives text) = by (nat_lt 1048576 (length text))
+  where
+    by : (b : Bool) → IsGoing (course_with (if b then Err (stop (FileTooLong 1048577) status.FileTooLong) else Ok text))
+    by true = tt
+    by false = tt
+
+course-going : (loading : FileLoad) (s : Subject) → IsGoing (course_of loading s)
+course-going loading (InFile name) = tt
+course-going loading (OfTree nodes) = tt
+course-going loading (OfLog program log) = log-going loading
+
 -- what holds of each thing that a session may begin with holds of what it begins with
 module _ (P : Opening → Type 0) {names : List (List ℕ)} (reader : Reader names) (files : Role → FileLoad)
     (unloaded : (why : Stop) → IsLastWord why.said → P (Unloaded why))
     (closed : (ops : Table) (b : Beginning) (why : Stop) → IsTable ops → IsLastWord why.said → P (Closed ops b why))
-    (opened : (options : Options) (program : List Clause) (ops : Table) (b : Beginning) (store : Store) (referee : Referee) → IsProgram program → IsTable ops → AllFit store → IsAskable referee
-    → P (Open ops (record { beginning = b; state = first_state program options store referee }) (course_of options.subject))) where
+    (opened : (options : Options) (program : List Clause) (ops : Table) (b : Beginning) (store : Store) (referee : Referee) (course : Course) → IsProgram program → IsTable ops → AllFit store → IsAskable referee
+    → P (Open ops (record { beginning = b; state = first_state program options store referee }) course)) where
   -- by who is asked before the user
   module _ (options : Options) (some : 0 < options.budget) (program : List Clause) (ops : Table) (passed : List Note) (is : IsProgram program) (table : IsTable ops) where
     abbrev asked : Referring
     asked = referred reader options.budget options.reference (files Reference)
 
-    knows_has : (statements : Option ℕ) (store : Store) → AllFit store → (x : Referring) → IsFitting x → P (opening_with options program ops passed (Knows statements store) x)
-    knows_has statements store fit (Asks referee reference) his = opened options program ops (beginning_of program passed statements reference) store referee is table fit his
+    abbrev course : Result Course Stop
+    course = course_of (files roles.Log) options.subject
+
+    goes_has : (b : Beginning) (store : Store) (referee : Referee) → AllFit store → IsAskable referee → (x : Result Course Stop) → IsGoing x
+        → P (goes_on ops (record { beginning = b; state = first_state program options store referee }) x)
+    goes_has b store referee fit his (Ok going) tell = opened options program ops b store referee going is table fit his
+    goes_has b store referee fit his (Err why) tell = closed ops b why table tell
+
+    knows_has : (statements : Option ℕ) (store : Store) → AllFit store → (x : Referring) → IsFitting x → P (opening_with options program ops passed (Knows statements store) x course)
+    knows_has statements store fit (Asks referee reference) his =
+        goes_has (beginning_of program passed statements reference) store referee fit his course (course-going (files roles.Log) options.subject)
     knows_has statements store fit (Stops why) last = closed ops (beginning_of program passed statements None) why table last
 
-    opens_has : (statements : Option ℕ) (store : Store) → AllFit store → P (opening_with options program ops passed (Knows statements store) asked)
+    opens_has : (statements : Option ℕ) (store : Store) → AllFit store → P (opening_with options program ops passed (Knows statements store) asked course)
     opens_has statements store fit = knows_has statements store fit asked (referred-fits reader options.budget options.reference (files Reference) some)
 
-    stated_has : (w : States) → FitsIn w → P (opening_with options program ops passed (prepared_by w) asked)
+    stated_has : (w : States) → FitsIn w → P (opening_with options program ops passed (prepared_by w) asked course)
     stated_has (oracle.refused line cause) fit = closed ops (beginning_of program passed None None) (stop (OracleRefused line cause) status.OracleText) table tt
     stated_has (oracle.states s) fit = opens_has (Some s.statements) s.answers fit
 
-    prepared_has : (name : Option (List ℕ)) (loading : FileLoad) → P (opening_with options program ops passed (prepared reader ops name loading) asked)
+    prepared_has : (name : Option (List ℕ)) (loading : FileLoad) → P (opening_with options program ops passed (prepared reader ops name loading) asked course)
     prepared_has None loading = opens_has None empty_store tt
     prepared_has (Some name) Faults = closed ops (beginning_of program passed None None) (stop InputFault status.ReadFault) table tt
     prepared_has (Some name) (Gives known) = by (nat_lt 1048576 (length known))
       where
-        by : (b : Bool) → P (opening_with options program ops passed (prepared_from reader ops (if b then Err (stop (FileTooLong 1048577) status.FileTooLong) else Ok known)) asked)
+        by : (b : Bool) → P (opening_with options program ops passed (prepared_from reader ops (if b then Err (stop (FileTooLong 1048577) status.FileTooLong) else Ok known)) asked course)
         by true = closed ops (beginning_of program passed None None) (stop (FileTooLong 1048577) status.FileTooLong) table tt
         by false = stated_has (stated_in reader ops known) (stated_fit reader ops known)
 
@@ -134,6 +173,7 @@ module _ (P : Opening → Type 0) {names : List (List ℕ)} (reader : Reader nam
   subject_has : (options : Options) → 0 < options.budget → (s : Subject) → StandsAlone s options.oracle options.reference → P (opening_by reader files options (subject_text files s))
   subject_has options some (InFile name) alone = file_has options some (files roles.Program)
   subject_has options some (OfTree nodes) alone = let size = tree-short nodes alone.0.1 in text_has options some (tree_text nodes) (omega (arith, size))
+  subject_has options some (OfLog program log) alone = file_has options some (files roles.Program)
 
   options_has : (o : Option Options) → IfSome o (λ options. StandsAlone options.subject options.oracle options.reference × AreLimits options.budget options.answers) → P (opening_of reader files o)
   options_has None alone = unloaded (stop UsageRefused status.Usage) tt
@@ -152,6 +192,12 @@ module _ {names : List (List ℕ)} (reader : Reader names) (files others : Role 
   text_same : (s : Subject) → IfSome (file_of_subject s) (λ name. files roles.Program ≡ others roles.Program) → subject_text files s ≡ subject_text others s
   text_same (InFile name) is = ap text_in is
   text_same (OfTree nodes) is = refl
+  text_same (OfLog program log) is = ap text_in is
+
+  course_same : (s : Subject) → IfSome (log_of_subject s) (λ name. files roles.Log ≡ others roles.Log) → course_of (files roles.Log) s ≡ course_of (others roles.Log) s
+  course_same (InFile name) is = refl
+  course_same (OfTree nodes) is = refl
+  course_same (OfLog program log) is = ap (λ (f : FileLoad). course_with (text_in f)) is
 
   prepared_same : (ops : Table) (name : Option (List ℕ)) (x y : FileLoad) → IfSome name (λ n. x ≡ y) → prepared reader ops name x ≡ prepared reader ops name y
   prepared_same ops None x y is = refl
@@ -164,9 +210,12 @@ module _ {names : List (List ℕ)} (reader : Reader names) (files others : Role 
   after_same : (o : Loads) → opening_after reader files options o ≡ opening_after reader others options o
   after_same (refused line cause) = refl
   after_same (loads l) =
-      ap (λ (x : Prepared). opening_with options l.program l.ops l.passed x (referred reader options.budget options.reference (files Reference)))
+      ap (λ (x : Prepared). opening_with options l.program l.ops l.passed x (referred reader options.budget options.reference (files Reference)) (course_of (files roles.Log) options.subject))
       (prepared_same l.ops options.oracle (files KnownReplies) (others KnownReplies) (same KnownReplies))
-      ∙ ap (opening_with options l.program l.ops l.passed (prepared reader l.ops options.oracle (others KnownReplies))) (referred_same options.reference (files Reference) (others Reference) (same Reference))
+      ∙ ap (λ (x : Referring). opening_with options l.program l.ops l.passed (prepared reader l.ops options.oracle (others KnownReplies)) x (course_of (files roles.Log) options.subject))
+      (referred_same options.reference (files Reference) (others Reference) (same Reference))
+      ∙ ap (opening_with options l.program l.ops l.passed (prepared reader l.ops options.oracle (others KnownReplies)) (referred reader options.budget options.reference (others Reference)))
+      (course_same options.subject (same roles.Log))
 
   by_same : (x : Result (List ℕ) Stop) → opening_by reader files options x ≡ opening_by reader others options x
   by_same (Err why) = refl

@@ -26,7 +26,6 @@ use Rattle.apd_commands.specs.declared.commands.Command.TheVariants as command
 use Rattle.apd_console.specs.declared.line.Line.{Line}
 use Rattle.apd_debug.specs.Steps.{most_in_a_row}
 use Rattle.apd_debug.proofs.Bridging.{within_goes_on}
-use Rattle.apd_reference.specs.Referees.{replies_of}
 use Rattle.apd_divide.specs.Recorded.{tree}
 use Rattle.apd_record.specs.Reading.{point_of}
 use Rattle.apd_term.specs.declared.tuple.Tuple.{Tuple}
@@ -54,7 +53,7 @@ use Rattle.apd_term.specs.declared.term.Pred.{Pred}
 use Rattle.apd_text.specs.declared.entry.Refusal.{Refusal}
 use Rattle.apd_text.specs.declared.entry.Told.TheVariants.{Missing, NoEnd}
 use Rattle.apd_session.specs.Causes.{is_quit}
-use Rattle.apd_session.specs.Steps.{Method, Situation, Waiting, ForCommand, ForWrong, ForMissing, ForLoop, by_loop, by_missing, by_wrong, carries_on, command_step, loop_at, loop_step, missing_at, missing_step, reply_said, situation, step_for, talker, wrong_at, wrong_of, wrong_step}
+use Rattle.apd_session.specs.Steps.{Method, Situation, Waiting, ForCommand, ForWrong, ForMissing, ForLoop, by_loop, by_missing, by_wrong, carries_on, command_step, first_word, loop_at, loop_step, missing_at, missing_step, reply_said, situation, step_for, talker, wrong_at, wrong_of, wrong_step}
 
 -- what the words that a term may be ask for
 query_quits : (r : Result Query BodyFault) → is_quit (query_asked r) ≡ false
@@ -101,7 +100,7 @@ stops_not (Some p) is = stop_by p (p.name.0 == STOP.0) refl is
 module _ (ops : Table) (names : List (List ℕ)) (s : State) where
   -- a diagnosis that goes on
   goes_quits : {D E : Type 0} (d : Method D E) (store : Store) (count : ℕ) (x : D) → (carries_on d ops names s store count x).quits ≡ false
-  goes_quits d store count x = within_goes_on (replies_of s.referee) (d.diagnosis s) (d.found s) (situation d s) ops names most_in_a_row store count (next_turn (d.diagnosis s) store x)
+  goes_quits d store count x = within_goes_on (first_word s.referee) (d.diagnosis s) (d.found s) (situation d s) ops names most_in_a_row store count (next_turn (d.diagnosis s) store x)
 
   -- in a command's place
   wrong_at-quits : (R : Recorded) (r : Result ℕ Refusal) → (wrong_at ops names s R r).quits ≡ false

@@ -27,7 +27,7 @@ use Rattle.apd_loop.specs.declared.LoopEnd.{LoopEnd}
 use Rattle.apd_loop.specs.declared.LoopEnd.TheVariants as loop_ends
 use Rattle.apd_missing.specs.declared.state.Unanswered.{Unanswered}
 use Rattle.apd_ops.specs.Table.{Table}
-use Rattle.apd_reference.specs.Referees.{replies_of}
+use Rattle.apd_reference.specs.Referees.{replies_of, is_marked}
 use Rattle.apd_talk.specs.Talk.{Step}
 use Rattle.apd_talk.specs.Utterance.{entries_of}
 use Rattle.apd_text.specs.declared.entry.Entry.{Entry}
@@ -43,7 +43,7 @@ use Rattle.apd_oracle.specs.declared.spoken.Spoken.TheVariants as spoken
 use Rattle.apd_query.specs.declared.state.LastRun.{LastRun}
 use Rattle.apd_query.specs.declared.state.State.{State}
 use Rattle.apd_text.specs.declared.entry.Told.{Told}
-use Rattle.apd_session.specs.Steps.{Method, Situation, Waiting, ForCommand, ForWrong, ForMissing, ForLoop, begins, by_loop, by_missing, by_wrong, carries_on, history_of, mode_of, ready_in, refused, reply_said, situation}
+use Rattle.apd_session.specs.Steps.{Method, Situation, Waiting, ForCommand, ForWrong, ForMissing, ForLoop, begins, by_loop, by_missing, by_wrong, carries_on, history_of, mode_of, ready_in, refused, reply_said, situation, first_word}
 use Rattle.apd_session.proofs.Courses.{IsKnownGoal, IsKnownLoop, IsLoopEnd, goal_left, loop_turn, missing_turn}
 
 module _ (m : Interpretation) (program : List Clause) (is : IsProgram program) (strategy : Strategy) where
@@ -69,7 +69,7 @@ module _ (m : Interpretation) (program : List Clause) (is : IsProgram program) (
     pub store_is : store ≡ a.store
     pub fit : AllFit a.store
     pub his : RepliesFit (replies_of s.referee)
-    pub replies_is : replies_of s.referee ≡ a.replies
+    pub marks : is_marked s.referee ≡ true → replies_of s.referee ≡ a.replies
     pub last : IsLast s.last a.history
 
   -- what is known where a question of a diagnosis waits
@@ -98,7 +98,7 @@ module _ (m : Interpretation) (program : List Clause) (is : IsProgram program) (
 
   -- it is so at another stage too
   pub told_there : (s : State) (store : Store) (a : Account) (stage : Stage) → IsTold s store a → IsTold s store (at_stage a stage)
-  told_there s store a stage h = record { program_is = h.program_is; strategy_is = h.strategy_is; store_is = h.store_is; fit = h.fit; his = h.his; replies_is = h.replies_is; last = h.last }
+  told_there s store a stage h = record { program_is = h.program_is; strategy_is = h.strategy_is; store_is = h.store_is; fit = h.fit; his = h.his; marks = h.marks; last = h.last }
 
   -- and after a reply
   pub told_on : {D : Type 0} (state : D → Inquiry) (s : State) (store : Store) (a : Account) (asked : Asked) (next : Reply → D) (r : Reply) → IsTold s store a → FitsAsked asked r
@@ -109,7 +109,7 @@ module _ (m : Interpretation) (program : List Clause) (is : IsProgram program) (
     store_is = ap (λ ps. with_pair ps asked.question r) h.store_is;
     fit = fit_added a.store asked.question r h.fit fits.0;
     his = h.his;
-    replies_is = h.replies_is;
+    marks = h.marks;
     last = h.last;
   }
 
@@ -122,7 +122,7 @@ module _ (m : Interpretation) (program : List Clause) (is : IsProgram program) (
     pub ends : (s : State) (store : Store) (a : Account) (e : E) → IsTold s store a → IsDue program strategy a (ends (end e)) → IsEnd a.history a.store e → IsRight m program strategy a (d.found s e)
     pub closes : (s : State) (a : Account) (e : E) → after_entry program strategy a (d.found s e) ≡ at_stage a Idle
     pub turns : (s : State) (store : Store) (a : Account) (x : D) → IsTold s store a → Known a.history a.store a.symptom x →
-        RightTurn strategy Known left IsEnd a.history a.store a.symptom (next_turn (d.diagnosis s) store x)
+        RightTurn strategy Known left state IsEnd a.history a.store a.symptom (next_turn (d.diagnosis s) store x)
 
   module _ {D E : Type 0} (d : Method D E) (Known : Recorded → Store → Option Told → D → Type 0) (left : D → Option ℕ) (IsEnd : Recorded → Store → E → Type 0) (state : D → Inquiry) (end : E → LoopEnd)
       (rightly : IsRightly d Known left IsEnd state end) where
@@ -140,13 +140,13 @@ module _ (m : Interpretation) (program : List Clause) (is : IsProgram program) (
     -- the state where a diagnosis stands
     told_at : (s : State) (store : Store) (count : ℕ) (mode : Mode D) (a : Account) → IsTold s store a → IsMode (mode_of d mode) a → Stands (situation d s (record { store = store; asked = count; mode = mode })) a
     told_at s store count mode a h k = record {
-      state = record { program_is = h.program_is; strategy_is = h.strategy_is; store_is = h.store_is; fit = h.fit; his = h.his; replies_is = h.replies_is; last = h.last };
+      state = record { program_is = h.program_is; strategy_is = h.strategy_is; store_is = h.store_is; fit = h.fit; his = h.his; marks = h.marks; last = h.last };
       mode = k;
     }
 
     -- the turn of a diagnosis
     turn-step : (ops : Table) (names : List (List ℕ)) (s : State) (store : Store) (count : ℕ) (a : Account) (turn : Turn D E) → IsTold s store a → Due a turn
-        → RightTurn strategy Known left IsEnd a.history a.store a.symptom turn → IsStep a (after_turn (d.diagnosis s) (d.found s) (situation d s) ops names store count turn)
+        → RightTurn strategy Known left state IsEnd a.history a.store a.symptom turn → IsStep a (after_turn (d.diagnosis s) (d.found s) (situation d s) ops names store count turn)
     turn-step ops names s store count a (asks asked next) h due k =
         let b = waiting a asked next in
         let there = told_at s store (risen count) (Asking asked next) b (told_there s store a b.stage h) (rightly.waits b asked next (waits strategy Known left state a asked next k)) in
@@ -168,7 +168,7 @@ module _ (m : Interpretation) (program : List Clause) (is : IsProgram program) (
     reply_then-step : (rest : Store → ℕ → D → Step Entry Situation) (by_reference : Bool) (ops : Table) (names : List (List ℕ)) (s : State) (store : Store) (count : ℕ) (a : Account) (asked : Asked) (next : Reply → D) (r : Reply) → IsTold s store a
         → Waits strategy Known left state a asked next → FitsAsked asked r → IsReferred (a.replies asked.question) r by_reference
         → GoesOn rest s (with_pair store asked.question r) count (next r)
-        → IsStep a (replied_then (replies_of s.referee) (d.diagnosis s) (d.found s) (situation d s) ops names rest by_reference store count asked next r)
+        → IsStep a (replied_then (first_word s.referee) (d.diagnosis s) (d.found s) (situation d s) ops names rest by_reference store count asked next r)
     reply_then-step rest by_reference ops names s store count a asked next r h w fits referred goes_on =
         let b = with_reply a (Awaits asked (λ reply. state (next reply))) r in
         let st = goes_on b (told_on state s store a asked next r h fits) refl (w.asks.known r fits) in
@@ -184,9 +184,14 @@ module _ (m : Interpretation) (program : List Clause) (is : IsProgram program) (
     his_fits : (s : State) (store : Store) (a : Account) (asked : Asked) (r : Reply) → IsTold s store a → replies_of s.referee asked.question ≡ Some r → FitsAsked asked r
     his_fits s store a asked r h is = let f = h.his asked.question r is in (f.0, λ unknown. absurd (f.1 unknown))
 
+    -- where it is marked, it is the one that the account has
+    marked_so : (s : State) (a : Account) (asked : Asked) (r : Reply) → replies_of s.referee asked.question ≡ Some r → (b : Bool) → (b ≡ true → replies_of s.referee ≡ a.replies) → IsReferred (a.replies asked.question) r b
+    marked_so s a asked r is false marks = tt
+    marked_so s a asked r is true marks = ap (λ (f : Question → Option Reply). f asked.question) (sym (marks refl)) ∙ is
+
     -- a turn, and the turns after it as long as there are such replies
     within-step : (k : ℕ) (ops : Table) (names : List (List ℕ)) (s : State) (store : Store) (count : ℕ) (a : Account) (turn : Turn D E) → IsTold s store a → Due a turn
-        → RightTurn strategy Known left IsEnd a.history a.store a.symptom turn → IsStep a (turn_within (replies_of s.referee) (d.diagnosis s) (d.found s) (situation d s) ops names k store count turn)
+        → RightTurn strategy Known left state IsEnd a.history a.store a.symptom turn → IsStep a (turn_within (first_word s.referee) (d.diagnosis s) (d.found s) (situation d s) ops names k store count turn)
     within-step zero ops names s store count a turn h due t = turn-step ops names s store count a turn h due t
     within-step (suc k) ops names s store count a (goes y) h due t = absurd t
     within-step (suc k) ops names s store count a (ends e) h due t = turn-step ops names s store count a (ends e) h due t
@@ -195,14 +200,14 @@ module _ (m : Interpretation) (program : List Clause) (is : IsProgram program) (
         (λ kept b x told stage known. within-step k ops names s kept (risen count) b (next_turn (d.diagnosis s) kept x) told (due_at s kept b x told stage) (rightly.turns s kept b x told known))
       where
         by : (o : Option Reply) → replies_of s.referee asked.question ≡ o
-            → ((kept : Store) (b : Account) (x : D) → IsTold s kept b → b.stage ≡ Moves (state x) → Known b.history b.store b.symptom x → IsStep b (goes_within (replies_of s.referee) (d.diagnosis s) (d.found s) (situation d s) ops names k kept (risen count) x))
-            → IsStep a (referred_then (replies_of s.referee) (d.diagnosis s) (d.found s) (situation d s) ops names (goes_within (replies_of s.referee) (d.diagnosis s) (d.found s) (situation d s) ops names k) store count asked next o)
+            → ((kept : Store) (b : Account) (x : D) → IsTold s kept b → b.stage ≡ Moves (state x) → Known b.history b.store b.symptom x → IsStep b (goes_within (first_word s.referee) (d.diagnosis s) (d.found s) (situation d s) ops names k kept (risen count) x))
+            → IsStep a (referred_then (first_word s.referee) (d.diagnosis s) (d.found s) (situation d s) ops names (goes_within (first_word s.referee) (d.diagnosis s) (d.found s) (situation d s) ops names k) store count asked next o)
         by None is goes_on = turn-step ops names s store count a (asks asked next) h due t
         by (Some r) is goes_on =
             let b = waiting a asked next in
-            let rest = goes_within (replies_of s.referee) (d.diagnosis s) (d.found s) (situation d s) ops names k in
-            let after = replied_then (replies_of s.referee) (d.diagnosis s) (d.found s) (situation d s) ops names rest true store (risen count) asked next r in
-            let st = reply_then-step rest true ops names s store (risen count) b asked next r (told_there s store a b.stage h) (waits strategy Known left state a asked next t) (his_fits s store a asked r h is) (ap (λ (f : Question → Option Reply). f asked.question) (sym h.replies_is) ∙ is)
+            let rest = goes_within (first_word s.referee) (d.diagnosis s) (d.found s) (situation d s) ops names k in
+            let after = replied_then (first_word s.referee) (d.diagnosis s) (d.found s) (situation d s) ops names rest (is_marked s.referee) store (risen count) asked next r in
+            let st = reply_then-step rest (is_marked s.referee) ops names s store (risen count) b asked next r (told_there s store a b.stage h) (waits strategy Known left state a asked next t) (his_fits s store a asked r h is) (marked_so s a asked r is (is_marked s.referee) (λ e. h.marks e))
             (λ c told stage known. goes_on (with_pair store asked.question r) c (next r) told stage known) in
             let e = sym (question-is program strategy a asked (λ reply. state (next reply)) due) in
             record {
@@ -218,15 +223,15 @@ module _ (m : Interpretation) (program : List Clause) (is : IsProgram program) (
         → Known a.history (with_told a.store what) (Some what) x → IsStep a (begins d ops names s what x)
     begins-step ops names s a what x h idle of_run begun fit k =
         let told : IsTold s (with_told s.replies what) (after_told a what) =
-        record { program_is = h.program_is; strategy_is = h.strategy_is; store_is = ap (λ ps. with_told ps what) h.store_is; fit = fit; his = h.his; replies_is = h.replies_is; last = h.last } in
+        record { program_is = h.program_is; strategy_is = h.strategy_is; store_is = ap (λ ps. with_told ps what) h.store_is; fit = fit; his = h.his; marks = h.marks; last = h.last } in
         let st = carries_on-step ops names s (with_told s.replies what) s.asked (after_told a what) x told (ap Moves begun) k in
         record { right = (record { idle = idle; of_run = of_run }, st.right); stands = st.stands }
 
     -- a reply of a line is told, and the diagnosis goes on
     replied-step : (ops : Table) (names : List (List ℕ)) (s : State) (a : Account) (asked : Asked) (next : Reply → D) (r : Reply) → IsTold s s.replies a → Waits strategy Known left state a asked next → FitsAsked asked r
-        → IsStep a (replied (replies_of s.referee) (d.diagnosis s) (d.found s) (situation d s) ops names s.replies s.asked asked next r)
+        → IsStep a (replied (first_word s.referee) (d.diagnosis s) (d.found s) (situation d s) ops names s.replies s.asked asked next r)
     replied-step ops names s a asked next r h w fits =
-        reply_then-step (goes_on (replies_of s.referee) (d.diagnosis s) (d.found s) (situation d s) ops names) false ops names s s.replies s.asked a asked next r h w fits tt
+        reply_then-step (goes_on (first_word s.referee) (d.diagnosis s) (d.found s) (situation d s) ops names) false ops names s s.replies s.asked a asked next r h w fits tt
         (λ b told stage known. carries_on-step ops names s (with_pair s.replies asked.question r) s.asked b (next r) told stage known)
 
     -- a line in a reply's place

@@ -1,14 +1,13 @@
 -- What is known has one text under all names that come later.
 use Rattle.std.proofs.Common.{◌≡◌, ℕ, List, [], ◌∷◌, length, ap, sym, ◌∙◌, subst}
 use Rattle.std.specs.Prelude.{Result, Ok, Err}
-use Rattle.std.specs.List.{AllByRecursion}
 use Rattle.apd_answers.specs.Store.{Store}
-use Rattle.apd_debug.specs.NamedStates.{AreReplies, AreRepliesIn}
+use Rattle.apd_debug.specs.NamedStates.{AreReplies}
 use Rattle.apd_answers.specs.declared.store.Pair.{Pair}
 use Rattle.apd_kept.specs.Kept.{known_text}
-use Rattle.apd_kept.specs.Law.{CanBeStated, CanReadBack, PairIsNamed}
+use Rattle.apd_kept.specs.Law.{CanReadBack, HasPlainStatements}
 use Rattle.apd_kept.proofs.MoreNames.{PairsAreNamed, known_text-more}
-use Rattle.apd_known.specs.Pairs.{AllMayTrust}
+use Rattle.apd_known.specs.Pairs.{AllMayTrust, AllStatable}
 use Rattle.apd_ops.specs.Table.{Table}
 use Rattle.apd_session.specs.Steps.{store_said}
 use Rattle.apd_talk.specs.Speech.{Lasting, Says, Speech, Spoken, begun, one, plain}
@@ -37,22 +36,18 @@ says_later f g p q (Err e) same says = record {
   cause = says.cause;
 }
 
-questions_named : (n : ℕ) (pairs : List Pair) → AreRepliesIn n pairs → PairsAreNamed n pairs
+questions_named : (n : ℕ) (pairs : List Pair) → AllStatable n pairs → PairsAreNamed n pairs
 questions_named n [] are = tt
-questions_named n (p ∷ pairs) are = ((are.0.2, are.0.1), questions_named n pairs are.1)
+questions_named n (p ∷ pairs) are = ((are.0.question_named, are.0.reply_named), questions_named n pairs are.1)
 
 -- predicates that may be trusted are named
 trust_named : (n : ℕ) (preds : List Pred) → AllMayTrust n preds → PredsAreNamed n preds
 trust_named n [] may = tt
 trust_named n (p ∷ ps) may = (may.0.named, trust_named n ps may.1)
 
--- what a session keeps reads back, where it can be stated
-each_named : (n : ℕ) (pairs : List Pair) → AreRepliesIn n pairs → AllByRecursion (λ (p : Pair). PairIsNamed n p) pairs
-each_named n [] are = tt
-each_named n (p ∷ pairs) are = ((are.0.2, are.0.1), each_named n pairs are.1)
-
-pub can_read_back : (ops : Table) (names : List (List ℕ)) (store : Store) → AreReplies (length names) store → CanBeStated ops names store → CanReadBack ops names store
-can_read_back ops names store are can = record { stated = can; named = each_named (length names) store.pairs are.pairs; trust = are.trust }
+-- what a session keeps reads back, where each of its statements is plain
+pub can_read_back : (ops : Table) (names : List (List ℕ)) (store : Store) → AreReplies (length names) store → HasPlainStatements ops names store → CanReadBack ops names store
+can_read_back ops names store are plain = record { pairs = are.pairs; trust = are.trust; plain = plain }
 
 -- the text was said
 pub store_is_said : {T : Type 0} (store : Store) (text : List ℕ) (p q : Spoken) (r : Result T Trouble) → HasStandardNames (length p.log.names) → AreReplies (length p.log.names) store → text ≡ known_text p.log.ops p.log.names store → Says (one (Known text)) p q r

@@ -5,22 +5,21 @@ use Rattle.apd_account.specs.Account.{with_told}
 use Rattle.apd_answers.specs.Dialogue.{Diagnosis}
 use Rattle.apd_answers.specs.declared.finding.Finding.{Finding}
 use Rattle.apd_answers.specs.declared.oracle.AskEnd.{AskEnd}
-use Rattle.apd_answers.specs.declared.store.Pair.{Pair}
 use Rattle.apd_answers.specs.Store.{Store}
 use Rattle.apd_clauses.specs.Clauses.{IsProgram, tuples_of}
+use Rattle.apd_clauses.specs.Kinds.{IsUserAtom}
 use Rattle.apd_clauses.proofs.Pure.{goals_are_atoms}
 use Rattle.apd_record.specs.Chain.{EachOwnsNext}
-use Rattle.apd_recorded.proofs.Law.{run_owns_next}
+use Rattle.apd_recorded.proofs.Law.{query_first, run_owns_next}
 use Rattle.apd_recorded.proofs.Recording.{program_clauses}
 use Rattle.apd_clauses.specs.declared.clause.Clause.{Clause}
 use Rattle.apd_commands.specs.declared.commands.Command.{Command}
 use Rattle.apd_commands.specs.declared.commands.Command.TheVariants as commands
 use Rattle.apd_console.specs.Console.{IsKept}
 use Rattle.apd_debug.specs.Diagnosed.{Diagnosed, SaysEnd, SaysEndIf, SaysLast, is_said, last_entry, next_after, trouble_of}
-use Rattle.apd_answers.specs.Fitting.{AllFit, AllFitIn}
 use Rattle.apd_answers.specs.declared.question.Question.TheVariants.{True}
 use Rattle.apd_answers.specs.declared.question.Reply.TheVariants.{No, Yes}
-use Rattle.apd_debug.specs.NamedStates.{AreReplies, AreRepliesIn, loop_entry}
+use Rattle.apd_debug.specs.NamedStates.{AreReplies, loop_entry}
 use Rattle.apd_debug.proofs.NamedReplies.{with_pair-replies}
 use Rattle.apd_debug.specs.NamedTrees.{AllPointsNamed, RecordIsNamed}
 use Rattle.apd_debug.specs.Stand.{ready}
@@ -38,9 +37,8 @@ use Rattle.apd_query.specs.Runs.{run_for}
 use Rattle.apd_query.specs.declared.state.LastRun.{LastRun}
 use Rattle.apd_query.specs.declared.state.State.{State}
 use Rattle.apd_read.specs.Reader.{Reader}
-use Rattle.apd_reference.specs.Referees.{replies_of}
 use Rattle.apd_record.specs.Reading.{point_of}
-use Rattle.apd_record.specs.Recorded.{Recorded, chain, point_at}
+use Rattle.apd_record.specs.Recorded.{Recorded, chain, point_at, query_point}
 use Rattle.apd_loop.specs.Loop.{loop, loop_start}
 use Rattle.apd_loop.specs.declared.LoopEnd.TheVariants as loop_ends
 use Rattle.apd_symptoms.specs.Chains.{stopped_chain}
@@ -67,7 +65,7 @@ use Rattle.apd_text.specs.declared.entry.Refusal.TheVariants.{NoRun}
 use Rattle.apd_text.specs.declared.entry.Told.{Told}
 use Rattle.apd_text.specs.declared.entry.Told.TheVariants.{Wrong, Missing, NoEnd}
 use Rattle.apd_session.specs.Diagnosing.{Answered, Diagnoses, answered}
-use Rattle.apd_session.specs.Steps.{Method, begins, by_loop, by_missing, by_wrong, carries_on, command_step, found_in, history_of, loop_at, loop_step, missing_at, missing_step, refused, situation, talker, wrong_at, wrong_of, wrong_step}
+use Rattle.apd_session.specs.Steps.{Method, begins, by_loop, by_missing, by_wrong, carries_on, command_step, first_word, found_in, history_of, loop_at, loop_step, missing_at, missing_step, refused, situation, talker, wrong_at, wrong_of, wrong_step}
 use Rattle.apd_session.specs.Turns.{IsPrepared, Leads, obeying}
 use Rattle.apd_session.proofs.Turning.{IsReady-more, leads_by}
 
@@ -87,19 +85,17 @@ last_answered n s now (Some run) is = record {
 pub ready_answered : (n : ℕ) (s : State) (now : Answered) → IsReady n s → IsReady n (with_answers s now)
 ready_answered n s now is = record { limits = is.limits; standard = is.standard; named = is.named; last = last_answered n s now s.last is.last }
 
--- a symptom leaves replies that fit
-pub told-replies : (n : ℕ) (store : Store) (what : Told) → ToldIsNamed n what → AreReplies n store → AreReplies n (with_told store what)
-told-replies n store (Wrong a exit) named are = with_pair-replies n store (True a) No are (tt, tt, named)
-told-replies n store (Missing a box_no) named are = with_pair-replies n store (True a) Yes are (tt, tt, named)
-told-replies n store (NoEnd calls) named are = are
+-- whether the atom of a symptom is true may be asked
+abbrev pub MayBeTold : Told → Type 0
+MayBeTold (Wrong a exit) = IsUserAtom a
+MayBeTold (Missing a box_no) = IsUserAtom a
+MayBeTold (NoEnd calls) = Unit {0}
 
--- the replies of a store fit its questions
-all_fit_in : (n : ℕ) (pairs : List Pair) → AreRepliesIn n pairs → AllFitIn pairs
-all_fit_in n [] are = tt
-all_fit_in n (pair ∷ pairs) are = (are.0.0, all_fit_in n pairs are.1)
-
-pub all_fit : (n : ℕ) (store : Store) → AreReplies n store → AllFit store
-all_fit n store are = all_fit_in n store.pairs are.pairs
+-- such a symptom leaves replies that fit
+pub told-replies : (n : ℕ) (store : Store) (what : Told) → ToldIsNamed n what → MayBeTold what → AreReplies n store → AreReplies n (with_told store what)
+told-replies n store (Wrong a exit) named may are = with_pair-replies n store (True a) No are (record { asked = may; fits = tt; question_named = named; reply_named = tt })
+told-replies n store (Missing a box_no) named may are = with_pair-replies n store (True a) Yes are (record { asked = may; fits = tt; question_named = named; reply_named = tt })
+told-replies n store (NoEnd calls) named may are = are
 
 -- the names of the last run are known
 pub run_named : (n : ℕ) (s : State) (run : LastRun) → s.last ≡ Some run → IsReady n s → RecordIsNamed n run.history
@@ -164,7 +160,7 @@ module _ {D E : Type 0} (d : Method D E) (s : State) (command : Command) (what :
 
   -- it was said, and so was what the diagnosis came to
   pub symptom_leads : (this : Diagnosis D E) → d.diagnosis s ≡ this → (u : Unit {0}) (q : Moment) (last : Spoken) (now : Answered) (answer : Result E AskEnd) (result : Result Next Trouble) → Says (one symptom) p.spoken said (Ok u) →
-      Diagnoses d (replies_of s.referee) this x (answered replied s.asked) now (said_at p said) q answer → SaysLast (d.found s) answer q.spoken last result →
+      Diagnoses d (first_word s.referee) this x (answered replied s.asked) now (said_at p said) q answer → SaysLast (d.found s) answer q.spoken last result →
       IsPrepared (length p.spoken.log.names) s → Leads (obeying s command) (with_answers s now) p (said_at q last) result
   symptom_leads this same u q last now answer result says diagnosis concludes prepared =
       let kept = last_keeps (d.found s) answer q.spoken last result concludes in
@@ -253,6 +249,13 @@ run_owned n s run is ready program =
     let kept = run_kept n s run is ready in
     rw kept.history.is
     (run_owns_next (tuples_of s.program) (program_clauses s.program program) run.query.tuple (goals_are_atoms run.query.tuple.body kept.runnable.body.goals) s.budget s.answers)
+
+-- its record begins with its query
+pub run_begins : (n : ℕ) (s : State) (run : LastRun) → s.last ≡ Some run → IsReady n s → point_at run.history 0 ≡ Some (query_point run.query.tuple)
+unfolding run_for
+run_begins n s run is ready =
+    let kept = run_kept n s run is ready in
+    rw kept.history.is (query_first (tuples_of s.program) run.query.tuple s.budget s.answers ready.limits.some_ports)
 
 -- and its calls are those of the record of the last run
 pub run_calls : (s : State) (run : LastRun) (calls : List ℕ) → s.last ≡ Some run → calls ≡ chain run.history → chain (history_of s.last) ≡ calls

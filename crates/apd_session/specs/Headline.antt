@@ -1,5 +1,10 @@
 -- What the log of a session is worth.
-use Rattle.std.specs.Prelude.{ℕ, List, IfSome, ⊤}
+use Rattle.std.specs.Prelude.{ℕ, ◌≡◌, ◌⊎◌, List, IfSome, ⊤}
+use Rattle.apd_check.specs.Checked.{after_all, first_state}
+use Rattle.apd_check.specs.Right.{AreRight as AllRight, findings_in}
+use Rattle.apd_check.specs.declared.checked.Checked.{Checked}
+use Rattle.apd_check.specs.declared.checked.Checked.TheVariants.{Holds, Fails}
+use Rattle.apd_claims.specs.Saying.{Said, said_in}
 use Rattle.apd_account.specs.Account.{account_with}
 use Rattle.apd_account.specs.Right.{AreRight, AreTrueIfMarked}
 use Rattle.apd_answers.specs.Interpretation.{Interpretation}
@@ -14,7 +19,8 @@ use Rattle.apd_reference.specs.Referees.{program_of_referee, replies_of}
 use Rattle.apd_session.specs.Flow.{FlowsTo}
 use Rattle.apd_session.specs.Known.{Outside}
 use Rattle.apd_session.specs.Opening.{opening_of}
-use Rattle.apd_session.specs.Outcome.{Meets}
+use Rattle.apd_session.specs.Outcome.{Meets, SaysNothing}
+use Rattle.apd_session.specs.declared.opening.Course.TheVariants.{Hears, Plays, Checks}
 use Rattle.apd_session.specs.declared.opening.Opening.{Opening}
 use Rattle.apd_session.specs.declared.opening.Opening.TheVariants.{Unloaded, Closed, Open}
 use Rattle.apd_session.specs.declared.status.Status.{Status}
@@ -42,11 +48,31 @@ ReferredRightly m entries (Closed ops b why) = ⊤
 ReferredRightly m entries (Open ops start course) = IfSome (program_of_referee start.state.referee) (λ right. HoldsLeastModel (tuples_of right) m →
     AreTrueIfMarked m start.state.program start.state.strategy (account_with (replies_of start.state.referee) start.state.replies) entries)
 
--- a world is met, what was said in it is right, and each diagnosis in it came to an end, unless a question stayed without a reply
+-- of a log that says this, so many findings are said; each follows from the replies before it, and where all replies of the log, those
+-- known before and the trust are true of the interpretation, it is a bug, candidates that contain one, or calls that all descend
+pub record AreFindings (m : Interpretation) (program : List Clause) (known : Store) (said : List Said) (total : ℕ) : Type 0 where
+  pub right : AllRight program m (after_all program (first_state known) said).known (first_state known) said
+  pub count : total ≡ findings_in said
+
+abbrev pub HoldsRightly : Interpretation → List Clause → Store → List Said → Checked → Type 0
+HoldsRightly m program known said (Holds total) = AreFindings m program known said total
+HoldsRightly m program known said (Fails line why) = ⊤
+
+-- where a log is checked and holds, its findings are right
+abbrev pub ChecksRightly : Interpretation → {names : List (List ℕ)} → Reader names → Opening → Checked → Type 0
+ChecksRightly m reader (Unloaded why) verdict = ⊤
+ChecksRightly m reader (Closed ops b why) verdict = ⊤
+ChecksRightly m reader (Open ops start Hears) verdict = ⊤
+ChecksRightly m reader (Open ops start (Plays nodes)) verdict = ⊤
+ChecksRightly m reader (Open ops start (Checks text)) verdict = HoldsRightly m start.state.program start.state.replies (said_in reader ops text) verdict
+
+-- a world is met, what was said in it is right, also of a log that is checked, and each diagnosis in it came to an end, unless a question
+-- stayed without a reply
 pub record MeetsRightly (m : Interpretation) {names : List (List ℕ)} (words : List (List ℕ)) (reader : Reader names) (p q : Outside) (st : Status) (log : Log) : Type 0 where
   pub meets : Meets words reader p q st log
   pub right : AreRightFor m log.entries.list (opening_of reader meets.world.files (options_of words))
   pub referred : ReferredRightly m log.entries.list (opening_of reader meets.world.files (options_of words))
+  pub checked : SaysNothing st log ⊎ ChecksRightly m reader (opening_of reader meets.world.files (options_of words)) meets.world.verdict
   pub flows : FlowsTo st log.entries.list
 
 -- whatever names are kept later and whatever reader there is under them, a world is met rightly

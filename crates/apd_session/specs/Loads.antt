@@ -2,16 +2,16 @@
 use Rattle.std.specs.Prelude.{ℕ, List, [], ◌∷◌, ◌++◌, take, Option, None, Some}
 use Rattle.apd_io.specs.Outside.{LoadsInTurn}
 use Rattle.apd_words.specs.Words.{Options}
-use Rattle.apd_session.specs.Roles.{KnownReplies, Program, Reference, file_of}
+use Rattle.apd_session.specs.Roles.{KnownReplies, Log, Program, Reference, file_of}
 
 -- the one name, where there is one
 abbrev pub named : Option (List ℕ) → List (List ℕ)
 named None = []
 named (Some name) = name ∷ []
 
--- behind the program's file, those that options name: that of known replies, and the reference program's
+-- behind the program's file, those that options name: that of known replies, the reference program's, and that of a log
 abbrev pub further_files : Options → List (List ℕ)
-further_files o = named (file_of o KnownReplies) ++ named (file_of o Reference)
+further_files o = named (file_of o KnownReplies) ++ (named (file_of o Reference) ++ named (file_of o Log))
 
 -- the files that the words name, in the order in which they are loaded
 abbrev pub files_named : Option Options → List (List ℕ)

@@ -21,14 +21,14 @@ use Rattle.apd_talk.specs.Speech.{plain}
 use Rattle.apd_talk.specs.Utterance.{Utterance}
 use Rattle.apd_text.specs.declared.entry.Entry.{Entry}
 use Rattle.apd_text.specs.declared.entry.Entry.TheVariants.{UsageRefused, ProgramRefused, OracleRefused, ReferenceRefused, FileTooLong, InputFault, Loaded, OracleLoaded, ReferenceLoaded}
-use Rattle.apd_words.specs.Words.{InFile, OfTree, Options, Subject}
+use Rattle.apd_words.specs.Words.{InFile, OfLog, OfTree, Options, Subject}
 use Rattle.apd_session.specs.Roles.{Role, KnownReplies, Reference, FileLoad, Gives, Faults, file_of}
 use Rattle.apd_session.specs.Roles as roles
 use Rattle.apd_session.specs.Steps.{remarks}
 use Rattle.apd_session.specs.declared.notes.Noted.TheVariants as noted
 use Rattle.apd_session.specs.declared.opening.Beginning.{Beginning}
 use Rattle.apd_session.specs.declared.opening.Course.{Course}
-use Rattle.apd_session.specs.declared.opening.Course.TheVariants.{Hears, Plays}
+use Rattle.apd_session.specs.declared.opening.Course.TheVariants.{Hears, Plays, Checks}
 use Rattle.apd_session.specs.declared.opening.Opening.{Opening}
 use Rattle.apd_session.specs.declared.opening.Opening.TheVariants.{Unloaded, Closed, Open}
 use Rattle.apd_session.specs.declared.opening.Start.{Start}
@@ -56,6 +56,7 @@ text_in (Gives text) =
 abbrev pub subject_text : (Role → FileLoad) → Subject → Result (List ℕ) Stop
 subject_text files (InFile name) = text_in (files roles.Program)
 subject_text files (OfTree nodes) = Ok (tree_text nodes)
+subject_text files (OfLog program log) = text_in (files roles.Program)
 
 -- the line of the last clause
 abbrev pub last_line : List Clause → ℕ
@@ -125,32 +126,46 @@ first_state program options store referee = record {
   asked = 0;
 }
 
--- the session goes on with a program that has left these operators: the lines of the input are heard, or a tree is demonstrated
+-- the session goes on with a program that has left these operators: the lines of the input are heard, a tree is demonstrated, or the
+-- text of a log is checked
 abbrev pub hears : Table → Start → Opening
 hears ops start = Open ops start Hears
 
 abbrev pub plays : Table → Start → ℕ → Opening
 plays ops start nodes = Open ops start (Plays nodes)
 
--- a file is debugged by the lines of the input, and a tree is demonstrated
-abbrev pub course_of : Subject → Course
-course_of (InFile name) = Hears
-course_of (OfTree nodes) = Plays nodes
+abbrev pub checks : Table → Start → List ℕ → Opening
+checks ops start text = Open ops start (Checks text)
 
--- what a session with a program begins with, by what is known before the first line and who is asked before the user
-abbrev pub opening_with : Options → List Clause → Table → List Note → Prepared → Referring → Opening
-opening_with options program ops passed (Refuses why) referring = Closed ops (beginning_of program passed None None) why
-opening_with options program ops passed (Knows statements store) (Stops why) = Closed ops (beginning_of program passed statements None) why
-opening_with options program ops passed (Knows statements store) (Asks referee reference) =
-    Open ops (record { beginning = beginning_of program passed statements reference; state = first_state program options store referee })
-    (course_of options.subject)
+-- a log is checked, where it has a text
+abbrev pub course_with : Result (List ℕ) Stop → Result Course Stop
+course_with (Err why) = Err why
+course_with (Ok text) = Ok (Checks text)
+
+-- a file is debugged by the lines of the input, a tree is demonstrated, and a log is checked, by what the load of its file gives
+abbrev pub course_of : FileLoad → Subject → Result Course Stop
+course_of loading (InFile name) = Ok Hears
+course_of loading (OfTree nodes) = Ok (Plays nodes)
+course_of loading (OfLog program log) = course_with (text_in loading)
+
+-- the session goes on so; or it ends before it hears anything
+abbrev pub goes_on : Table → Start → Result Course Stop → Opening
+goes_on ops start (Ok course) = Open ops start course
+goes_on ops start (Err why) = Closed ops start.beginning why
+
+-- what a session with a program begins with, by what is known before the first line, who is asked before the user and how it goes on
+abbrev pub opening_with : Options → List Clause → Table → List Note → Prepared → Referring → Result Course Stop → Opening
+opening_with options program ops passed (Refuses why) referring course = Closed ops (beginning_of program passed None None) why
+opening_with options program ops passed (Knows statements store) (Stops why) course = Closed ops (beginning_of program passed statements None) why
+opening_with options program ops passed (Knows statements store) (Asks referee reference) course =
+    goes_on ops (record { beginning = beginning_of program passed statements reference; state = first_state program options store referee }) course
 
 -- by what the text of what is debugged makes
 abbrev pub opening_after : {names : List (List ℕ)} → Reader names → (Role → FileLoad) → Options → Loads → Opening
 opening_after reader files options (refused line cause) = Unloaded (stop (ProgramRefused line cause) status.Program)
 opening_after reader files options (loads l) =
     opening_with options l.program l.ops l.passed (prepared reader l.ops (file_of options KnownReplies) (files KnownReplies))
-    (referred reader options.budget (file_of options Reference) (files Reference))
+    (referred reader options.budget (file_of options Reference) (files Reference)) (course_of (files roles.Log) options.subject)
 
 -- by that text, where there is one
 abbrev pub opening_by : {names : List (List ℕ)} → Reader names → (Role → FileLoad) → Options → Result (List ℕ) Stop → Opening

@@ -1,5 +1,6 @@
 -- What the calls that make an opening give, and what an opening may be.
-use Rattle.std.specs.Prelude.{ℕ, ◌≡◌, ◌≤◌, List, Option, None, Some, IfSome, Result, ⊤}
+use Rattle.std.specs.Prelude.{ℕ, ◌≡◌, ◌≤◌, List, length, Option, None, Some, IfSome, Result, Ok, Err, ⊤}
+use Rattle.apd_base.specs.declared.limits.TheConstants.{MAX_FILE}
 use Rattle.apd_debug.specs.NamedStates.{AreReplies}
 use Rattle.apd_gen.specs.Nodes.{IsNodeCount}
 use Rattle.apd_known.specs.Files.{stated_in}
@@ -10,13 +11,14 @@ use Rattle.apd_load.specs.declared.Loaded.{Loaded}
 use Rattle.apd_ops.specs.Table.{Table}
 use Rattle.apd_read.specs.Reader.{Reader}
 use Rattle.apd_reference.specs.Referees.{names_known}
-use Rattle.apd_session.specs.Opening.{beginning_of, opening_after, opening_of, opening_with, prepared, prepared_by, referred, referred_by, subject_text, text_in}
-use Rattle.apd_session.specs.Roles.{Role, KnownReplies, Reference, FileLoad, Faults, AreLoads, IsFileLoad, IsNamedLoad, file_of_subject}
+use Rattle.apd_session.specs.Opening.{beginning_of, course_of, goes_on, opening_after, opening_of, opening_with, prepared, prepared_by, referred, referred_by, subject_text, text_in}
+use Rattle.apd_session.specs.Roles.{Role, KnownReplies, Reference, FileLoad, Faults, AreLoads, IsFileLoad, IsNamedLoad, file_of_subject, log_of_subject}
+use Rattle.apd_session.specs.Roles as roles
 use Rattle.apd_session.specs.Turns.{IsPrepared}
-use Rattle.apd_words.specs.Words.{Options, Subject}
+use Rattle.apd_words.specs.Words.{InFile, OfLog, OfTree, Options, Subject}
 use Rattle.apd_session.specs.declared.opening.Beginning.{Beginning}
 use Rattle.apd_session.specs.declared.opening.Course.{Course}
-use Rattle.apd_session.specs.declared.opening.Course.TheVariants.{Hears, Plays}
+use Rattle.apd_session.specs.declared.opening.Course.TheVariants.{Hears, Plays, Checks}
 use Rattle.apd_session.specs.declared.opening.Opening.{Opening}
 use Rattle.apd_session.specs.declared.opening.Opening.TheVariants.{Unloaded, Closed, Open}
 use Rattle.apd_session.specs.declared.opening.Start.{Start}
@@ -68,11 +70,26 @@ pub record Refers (content : List ℕ → Option (List ℕ)) (failed : Type 0) (
   pub faults : loading ≡ Faults → failed
   pub so : Lasting names (λ n. (reader : Reader n) → referred reader budget name loading ≡ x)
 
--- this is what a session with a program begins with, by what is known and who is asked before the user
+-- this is how a session goes on with what is debugged, where a log may be loaded, whose load may fail as is said
+pub record Pursues (content : List ℕ → Option (List ℕ)) (failed : Type 0) (subject : Subject) (x : Result Course Stop) : Type 0 where
+  pub loading : FileLoad
+  pub is : IsNamedLoad content (log_of_subject subject) loading
+  pub faults : loading ≡ Faults → failed
+  pub so : course_of loading subject ≡ x
+
+-- this is what a session with a program begins with that goes on from here with what is debugged, or ends
+pub record Follows (content : List ℕ → Option (List ℕ)) (failed : Type 0) (subject : Subject) (ops : Table) (start : Start) (x : Opening) : Type 0 where
+  pub course : Result Course Stop
+  pub pursues : Pursues content failed subject course
+  pub so : goes_on ops start course ≡ x
+
+-- this is what a session with a program begins with, by what is known, who is asked before the user and how it goes on
 pub record OpensKnowing (content : List ℕ → Option (List ℕ)) (failed : Type 0) (options : Options) (l : Loaded) (names : List (List ℕ)) (known : Prepared) (x : Opening) : Type 0 where
   pub referring : Referring
   pub refers : Refers content failed options.budget names options.reference referring
-  pub so : opening_with options l.program l.ops l.passed known referring ≡ x
+  pub course : Result Course Stop
+  pub pursues : Pursues content failed options.subject course
+  pub so : opening_with options l.program l.ops l.passed known referring course ≡ x
 
 -- where an oracle file is refused, no other file is loaded
 abbrev pub OpensBy : (List ℕ → Option (List ℕ)) → Type 0 → Options → Loaded → List (List ℕ) → Prepared → Opening → Type 0
@@ -90,6 +107,7 @@ pub record OpensAfter (content : List ℕ → Option (List ℕ)) (failed : Type 
   pub files : Role → FileLoad
   pub oracle : IsNamedLoad content options.oracle (files KnownReplies)
   pub reference : IsNamedLoad content options.reference (files Reference)
+  pub log : IsNamedLoad content (log_of_subject options.subject) (files roles.Log)
   pub faults : (role : Role) → files role ≡ Faults → failed
   pub so : Lasting names (λ n. (reader : Reader n) → opening_after reader files options (program_of reader text) ≡ x)
 
@@ -100,14 +118,16 @@ pub record Opens (content : List ℕ → Option (List ℕ)) (failed : Type 0) (o
   pub faults : (role : Role) → files role ≡ Faults → failed
   pub so : Lasting names (λ n. (reader : Reader n) → opening_of reader files options ≡ x)
 
--- the statuses with which a session may end before it hears anything
+-- the statuses with which a session may end that hears nothing and demonstrates nothing
 abbrev pub MayStop : Status → Type 0
+MayStop status.Done = ⊤
 MayStop status.Usage = ⊤
 MayStop status.Program = ⊤
 MayStop status.ReadFault = ⊤
 MayStop status.OracleText = ⊤
 MayStop status.FileTooLong = ⊤
 MayStop status.ReferenceText = ⊤
+MayStop status.CheckFailed = ⊤
 MayStop st = ⊥
 
 -- of what stands in an opening, all names are among the first n; so they are in what was loaded, whose warnings are those of its program
@@ -129,9 +149,16 @@ pub record IsStart (n : ℕ) (start : Start) : Type 0 where
   pub state : IsPrepared n start.state
 
 -- a tree has 1 to 10,000 nodes
+abbrev pub IsSubject : Subject → Type 0
+IsSubject (InFile name) = ⊤
+IsSubject (OfTree nodes) = IsNodeCount nodes
+IsSubject (OfLog program log) = ⊤
+
+-- and the text of a log is short enough
 abbrev pub IsCourse : Course → Type 0
 IsCourse Hears = ⊤
 IsCourse (Plays nodes) = IsNodeCount nodes
+IsCourse (Checks text) = length text ≤ MAX_FILE
 
 abbrev pub IsReadyOpening : ℕ → Opening → Type 0
 IsReadyOpening n (Unloaded why) = IsStop n why
@@ -153,6 +180,16 @@ AreReady n (Refuses why) = IsStop n why
 abbrev pub IsReferring : ℕ → Referring → Type 0
 IsReferring n (Asks referee reference) = (names_known referee ≤ n) × IfSome reference (IsReviewed n)
 IsReferring n (Stops why) = IsStop n why
+
+-- how a session goes on, or why it ends
+abbrev pub IsPursued : Result Course Stop → Type 0
+IsPursued (Ok course) = IsCourse course
+IsPursued (Err why) = (n : ℕ) → IsStop n why
+
+-- the status with which a log's file ends a session, where it does
+abbrev pub stops_pursued : Result Course Stop → Option Status
+stops_pursued (Ok course) = None
+stops_pursued (Err why) = Some why.status
 
 -- the status with which a reference program's file ends a session, where it does
 abbrev pub stops_referring : Referring → Option Status

@@ -1,24 +1,33 @@
 -- The files that a session loads, each by its role.
 use Rattle.std.specs.Prelude.{ℕ, ◌≡◌, List, Option, None, Some, IfSome, ⊤}
-use Rattle.apd_words.specs.Words.{InFile, OfTree, Options, Subject}
+use Rattle.apd_words.specs.Words.{InFile, OfLog, OfTree, Options, Subject}
 
--- what a file is to a session: its program, what is known before the first line, replies and trust, or the program that is asked
--- before the user
+-- what a file is to a session: its program, what is known before the first line, replies and trust, the program that is asked before
+-- the user, or a log that is checked
 pub data Role : Type 0 where
   Program : Role
   KnownReplies : Role
   Reference : Role
+  Log : Role
 
 -- the name of the file that is debugged; a tree has none
 abbrev pub file_of_subject : Subject → Option (List ℕ)
 file_of_subject (InFile name) = Some name
 file_of_subject (OfTree nodes) = None
+file_of_subject (OfLog program log) = Some program
+
+-- the name of the log's file, where one is checked
+abbrev pub log_of_subject : Subject → Option (List ℕ)
+log_of_subject (InFile name) = None
+log_of_subject (OfTree nodes) = None
+log_of_subject (OfLog program log) = Some log
 
 -- the name of the file of this role, where the words give one
 abbrev pub file_of : Options → Role → Option (List ℕ)
 file_of options Program = file_of_subject options.subject
 file_of options KnownReplies = options.oracle
 file_of options Reference = options.reference
+file_of options Log = log_of_subject options.subject
 
 -- what a load gives: the bytes of a file, or a fault
 pub data FileLoad : Type 0 where

@@ -1,42 +1,34 @@
-//! A demonstration: the query of a tree's program is run, and its answer is diagnosed with the program's own replies.
+//! A demonstration: a session over lines that are known, in which the tree has the first word.
 
-ghost use Rattle.std.specs.Prelude.{◌≡◌, ◌<◌, ◌≤◌, [], length, IfOk};
-ghost use Rattle.apd_answers.specs.Dialogue.{ends};
-ghost use Rattle.apd_commands.specs.Obeying.{CanObey};
-ghost use Rattle.apd_base.specs.declared.limits.TheConstants.{MAX_LINE};
+ghost use Rattle.std.specs.Prelude.{◌≡◌, ◌<◌, ◌≤◌, [], length, map, option_to_list, IfOk, OnOk};
 ghost use Rattle.apd_gen.specs.Nodes.{IsNodeCount};
+ghost use Rattle.apd_io.specs.Outside.{Rose};
 ghost use Rattle.apd_read.specs.Reader.{Reader};
-ghost use Rattle.apd_session.specs.Demo.{asked_said, blamed, clause_found, first_clause, found_said, query_line, shown_said, within_32_bits};
+ghost use Rattle.apd_base.specs.declared.limits.TheConstants.{MAX_INPUT};
+ghost use Rattle.apd_session.specs.Demo.{clause_found, demo_lines, first_clause, is_done, outcome_of, questions_in, with_question, with_tree, within_32_bits};
 ghost use Rattle.apd_session.specs.Outcome.{IsSaid, status_shown};
 ghost use Rattle.apd_session.specs.Preparing.{IsStart};
-ghost use Rattle.apd_session.specs.Session.{demonstrates};
-ghost use Rattle.apd_session.specs.Turns.{IsPrepared};
-ghost use Rattle.apd_talk.specs.Speech.{HasWriteCause, Lasting, Says, spoken};
+ghost use Rattle.apd_session.specs.Session.{demonstrates, shows};
+ghost use Rattle.apd_talk.specs.Speech.{Lasting, Says, plain, spoken};
 ghost use Rattle.apd_term.specs.Growth.{GrowsBy};
-ghost use Rattle.apd_term.specs.StandardNames.{standard_names};
-ghost use Rattle.apd_text.specs.Named.{FindingIsNamed};
 
-use crate::diagnosing::keep_wrong;
-use crate::notes::say_beginning;
+use crate::hearing::hear;
+use crate::known_lines::KnownLines;
 use crate::opening::Start;
 use crate::status::{Status, status_of};
-use crate::turns::answer;
 use apd_answers::Finding;
 use apd_base::Text;
-use apd_clauses::Program;
-use apd_commands::{Command, read_command};
-use apd_console::Line;
-use apd_demo::{Tree, diagnose_tree};
+use apd_demo::TreeReplier;
 use apd_io::Sink;
-use apd_query::State;
-use apd_symptoms::{exit_of, line_found};
-use apd_talk::{Trouble, say, say_last};
+use apd_reference::Referee;
+use apd_talk::{Trouble, say};
 use apd_term::Instance;
-use apd_text::{Entry, Log};
+use apd_text::{Entries, Entry, Log};
 use std::alloc::{AllocError, Global};
+use std::mem::replace;
 
-/// The query of a demonstration.
-const QUERY: &[u8] = b"?- n1.";
+/// The lines of a demonstration: its query, and that its first answer is wrong.
+const LINES: &[u8] = b"?- n1.\nwrong(1, 1).\n";
 
 /// The number of the first candidate's clause; 0 where there is none.
 fn first_clause(candidates: &[Instance]) -> u32
@@ -60,7 +52,7 @@ fn clause_found(finding: &Finding) -> u32
 }
 
 /// The count as far as 32 bits go.
-fn within_32_bits(count: u64) -> u32
+fn within_32_bits(count: usize) -> u32
     ensures { result ≡ within_32_bits count }
 {
     match u32::try_from(count) {
@@ -69,155 +61,156 @@ fn within_32_bits(count: u64) -> u32
     }
 }
 
-/// Says what was found, in the place that was kept, and what the demonstration came to.
-fn say_found<K: Sink>(
-    alloc: Global,
-    nodes: u32,
-    questions: u64,
-    program: &Program,
-    finding: Finding,
-    out: &mut K,
-    log: &mut Log,
-) -> Result<(), Trouble>
-    requires place { 0 < log.old.entries.spare }
-    requires standard { length standard_names ≤ length log.old.names }
-    requires named { FindingIsNamed (length log.old.names) finding }
-    ensures { Says (λ ops names. found_said ops names program.now nodes questions (ends finding))
-        (spoken K.Sink log.old out.old) (spoken K.Sink log.new out.new) result }
+/// One more where the entry is a question.
+fn with_question(entry: &Entry, count: usize) -> usize
+    requires { count < usize.MAX }
+    ensures { result ≡ with_question entry.now count }
 {
-    let clause = clause_found(&finding);
-    let line = line_found(program, &finding);
-    say_last(alloc, out, log, Entry::Found { finding, line })?;
-    let questions = within_32_bits(questions);
-    let entry = Entry::Demo {
-        nodes,
-        questions,
-        clause,
-    };
-    say(alloc, out, log, entry)
-}
-
-/// Diagnoses the first exit of the first box, which isn't true.
-fn blame<K: Sink>(
-    alloc: Global,
-    nodes: u32,
-    state: &mut State,
-    out: &mut K,
-    log: &mut Log,
-) -> Result<(), Trouble>
-    requires few { IsNodeCount nodes }
-    requires ready { IsPrepared (length log.old.names) state.old }
-    ensures { Says (λ ops names. blamed ops names nodes state.old state.old.last)
-        (spoken K.Sink log.old out.old) (spoken K.Sink log.new out.new) result }
-{
-    let Some(run) = &state.last else {
-        return Ok(());
-    };
-    let history = &run.history;
-    let exit = match exit_of(history, 1, 1) {
-        Ok(exit) => exit,
-        Err(refusal) => return say(alloc, out, log, Entry::Refused { refusal }),
-    };
-    let label = keep_wrong(alloc, history, exit, &mut state.replies, out, log)?;
-    let tree = Tree {
-        nodes,
-        program: &state.program,
-    };
-    let finding = diagnose_tree(
-        alloc,
-        tree,
-        history,
-        exit,
-        &label,
-        state.strategy,
-        &mut state.replies,
-        &mut state.asked,
-        out,
-        log,
-    )?;
-    say_found(alloc, nodes, state.asked, &state.program, finding, out, log)
-}
-
-/// Runs the query that a command asks for, and diagnoses its answer.
-fn ask<K: Sink>(
-    alloc: Global,
-    nodes: u32,
-    state: &mut State,
-    command: Command,
-    out: &mut K,
-    log: &mut Log,
-) -> Result<(), Trouble>
-    requires few { IsNodeCount nodes }
-    requires ready { IsPrepared (length log.old.names) state.old }
-    requires can { CanObey (length log.old.names) command }
-    ensures { Says (λ ops names. asked_said ops names nodes state.old command)
-        (spoken K.Sink log.old out.old) (spoken K.Sink log.new out.new) result }
-{
-    match command {
-        Command::Query(query) => {
-            answer(alloc, state, query, out, log)?;
-            blame(alloc, nodes, state, out, log)
-        }
-        _ => Ok(()),
+    match entry {
+        Entry::Question { .. } => count + 1,
+        _ => count,
     }
 }
 
-/// Says what there is to say of the program, runs its query, and diagnoses its answer.
-fn demonstrate<K: Sink>(
+/// How many of the entries are questions.
+fn questions_in(entries: &Entries) -> usize
+    ensures { result ≡ questions_in entries.now.list }
+{
+    let mut count = 0;
+    'entries: for i in 0..entries.len() {
+        count = with_question(entries.entry(i), count);
+    }
+    count
+}
+
+/// What a demonstration came to, where the last entry tells what was found.
+fn outcome_of(nodes: u32, entries: &Entries) -> Option<Entry>
+    ensures { option_to_list result ≡ outcome_of nodes entries.now.list }
+{
+    let count = entries.len();
+    if count == 0 {
+        return None;
+    }
+    match entries.entry(count - 1) {
+        Entry::Found { finding, .. } => Some(Entry::Demo {
+            nodes,
+            questions: within_32_bits(questions_in(entries)),
+            clause: clause_found(finding),
+        }),
+        _ => None,
+    }
+}
+
+/// Says what a demonstration came to, where the last entry tells what was found.
+fn say_outcome<K: Sink>(
     alloc: Global,
     nodes: u32,
-    start: &mut Start,
-    command: Command,
     out: &mut K,
     log: &mut Log,
 ) -> Result<(), Trouble>
-    requires few { IsNodeCount nodes }
-    requires ready { IsStart (length log.old.names) start.old }
-    requires can { CanObey (length log.old.names) command }
-    ensures { Says (λ ops names. shown_said ops names nodes start.old command)
+    ensures { Says (λ ops names. map (plain ops names) (outcome_of nodes log.old.entries.list))
         (spoken K.Sink log.old out.old) (spoken K.Sink log.new out.new) result }
 {
-    say_beginning(alloc, &start.beginning, out, log)?;
-    ask(alloc, nodes, &mut start.state, command, out, log)
+    match outcome_of(nodes, &log.entries) {
+        Some(entry) => say(alloc, out, log, entry),
+        None => Ok(()),
+    }
 }
 
-/// The line of the query.
-fn query_line(alloc: Global) -> Result<Line, AllocError>
-    ensures { IfOk result (λ l. l ≡ query_line) }
+/// Puts the tree of so many nodes in the place of whoever is asked before the user.
+fn ask_tree(alloc: Global, nodes: u32, start: &mut Start) -> Result<(), AllocError>
+    requires { IsNodeCount nodes }
+    ensures { OnOk result (start.new ≡ with_tree nodes start.old) }
 {
-    let text = Text::copy_of(alloc, QUERY)?;
-    Ok(Line::Text(text))
+    let tree = TreeReplier::new(alloc, nodes, &start.state.program)?;
+    drop(replace(&mut start.state.referee, Referee::Tree(tree)));
+    Ok(())
 }
 
-/// Reads the query by the operators of the log, and demonstrates a diagnosis of the program of a tree.
+/// The lines of a demonstration, as a source.
+fn demo_lines(alloc: Global) -> Result<KnownLines, AllocError>
+    ensures { IfOk result (λ l. l ≡ demo_lines) }
+{
+    Ok(KnownLines::new(Text::copy_of(alloc, LINES)?))
+}
+
+/// Puts the tree in the place of whoever is asked before the user, and gives the lines of its demonstration.
+fn prepare_demo(alloc: Global, nodes: u32, start: &mut Start) -> Result<KnownLines, AllocError>
+    requires { IsNodeCount nodes }
+    ensures tree { OnOk result (start.new ≡ with_tree nodes start.old) }
+    ensures lines { IfOk result (λ l. l ≡ demo_lines) }
+{
+    ask_tree(alloc, nodes, start)?;
+    let lines = demo_lines(alloc)?;
+    Ok(lines)
+}
+
+/// Whether a session came to its end.
+fn is_done(status: Status) -> bool
+    ensures { result ≡ is_done status }
+{
+    match status {
+        Status::Done => true,
+        _ => false,
+    }
+}
+
+/// Hears the lines of a demonstration, and says what it came to where they were heard.
+fn show<K: Sink>(
+    alloc: Global,
+    nodes: u32,
+    start: &mut Start,
+    lines: &mut KnownLines,
+    out: &mut K,
+    log: &mut Log,
+) -> Status
+    requires empty { log.old.entries.list ≡ [] }
+    requires ready { IsStart (length log.old.names) start.old }
+    requires few { length log.old.names ≤ 1000000000 }
+    requires lines { lines.old ≡ demo_lines }
+    ensures said { Lasting log.new.names (λ names. (reader : Reader names) →
+        IsSaid result (shows reader log.old.ops nodes start.old)
+        log.new (K.held out.old) (K.held out.new)) }
+    ensures names { GrowsBy MAX_INPUT log.old.names log.new.names }
+    ensures write { result ≡ Status.WriteFault → Rose (K.faults out.old) (K.faults out.new) }
+{
+    let heard = hear(alloc, start, lines, out, log);
+    if is_done(heard) {
+        return status_shown(say_outcome(alloc, nodes, out, log));
+    }
+    heard
+}
+
+/// The status of a demonstration that said what it came to, or didn't.
+fn status_shown(shown: Result<(), Trouble>) -> Status
+    ensures { result ≡ status_shown shown }
+{
+    match shown {
+        Ok(()) => Status::Done,
+        Err(trouble) => status_of(trouble),
+    }
+}
+
+/// Demonstrates a diagnosis of the program of a tree, by the operators of the log.
 pub(crate) fn play<K: Sink>(
     alloc: Global,
     nodes: u32,
     start: &mut Start,
     out: &mut K,
     log: &mut Log,
-) -> Result<(), Trouble>
-    requires few { IsNodeCount nodes }
+) -> Status
+    requires nodes { IsNodeCount nodes }
     requires empty { log.old.entries.list ≡ [] }
     requires ready { IsStart (length log.old.names) start.old }
-    requires room { length log.old.names ≤ 100000000 }
+    requires few { length log.old.names ≤ 1000000000 }
     ensures said { Lasting log.new.names (λ names. (reader : Reader names) →
-        IsSaid (status_shown result) (demonstrates reader log.old.ops nodes start.old)
+        IsSaid result (demonstrates reader log.old.ops nodes start.old)
         log.new (K.held out.old) (K.held out.new)) }
-    ensures names { GrowsBy MAX_LINE log.old.names log.new.names }
-    ensures cause { HasWriteCause (K.faults out.old) (K.faults out.new) result }
+    ensures names { GrowsBy MAX_INPUT log.old.names log.new.names }
+    ensures write { result ≡ Status.WriteFault → Rose (K.faults out.old) (K.faults out.new) }
 {
-    let line = query_line(alloc)?;
-    let command = read_command(alloc, &log.ops, &mut log.names, &line)?;
-    demonstrate(alloc, nodes, start, command, out, log)
-}
-
-/// The status after a demonstration.
-pub(crate) fn status_shown(shown: Result<(), Trouble>) -> Status
-    ensures { result ≡ status_shown shown }
-{
-    match shown {
-        Ok(()) => Status::Done,
-        Err(trouble) => status_of(trouble),
+    match prepare_demo(alloc, nodes, start) {
+        Ok(mut lines) => show(alloc, nodes, start, &mut lines, out, log),
+        Err(AllocError) => Status::Memory,
     }
 }

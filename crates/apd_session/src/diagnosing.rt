@@ -4,6 +4,7 @@ ghost use Rattle.std.specs.Prelude.{◌≡◌, ◌<◌, ℕ, length, OnOk, IfOk}
 ghost use Rattle.apd_account.specs.Account.{with_told};
 ghost use Rattle.apd_answers.specs.Questions.{Fits};
 ghost use Rattle.apd_answers.specs.Store.{with_pair};
+ghost use Rattle.apd_clauses.specs.Clauses.{IsProgram};
 ghost use Rattle.apd_debug.specs.Diagnosed.{SaysEnd, SaysLast, is_said, last_entry, next_after, trouble_of};
 ghost use Rattle.apd_debug.specs.NamedStates.{loop_entry};
 ghost use Rattle.apd_debug.specs.Steps.{most_in_a_row};
@@ -189,6 +190,13 @@ fn trouble_of(end: AskEnd) -> Trouble
         | AskEnd::InputLimit
         | AskEnd::Memory => Trouble::Memory,
     }
+}
+
+/// The clauses are those of a program.
+pub(crate) fn is_program(program: &Program)
+    ensures { IsProgram program.now }
+{
+    let _clauses = program.count();
 }
 
 /// A log has no more entries than are counted.

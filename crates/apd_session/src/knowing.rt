@@ -1,8 +1,8 @@
 //! What is known, as it is printed.
 
-ghost use Rattle.std.specs.Prelude.{◌≡◌, length, IfOk};
+ghost use Rattle.std.specs.Prelude.{◌≡◌, length, IfOk, OnOk};
 ghost use Rattle.apd_debug.specs.NamedStates.{AreReplies};
-ghost use Rattle.apd_kept.specs.Law.{CanBeStated, ReadsBackAs};
+ghost use Rattle.apd_kept.specs.Law.{HasPlainStatements, ReadsBackAs};
 ghost use Rattle.apd_known.specs.declared.file.Stated.{Stated};
 ghost use Rattle.apd_session.specs.Steps.{store_said};
 ghost use Rattle.apd_talk.specs.Speech.{Says, spoken};
@@ -11,7 +11,7 @@ ghost use Rattle.apd_text.specs.Named.{HasStandardNames};
 use apd_answers::Answers;
 use apd_base::Text;
 use apd_io::Sink;
-use apd_kept::{known_text, reads_back};
+use apd_kept::known_text;
 use apd_talk::{Next, Trouble, say};
 use apd_text::{Entry, Log};
 use std::alloc::Global;
@@ -19,7 +19,7 @@ use std::alloc::Global;
 /// Says what is known, as an oracle file.
 ///
 /// That file, read by the operators of the session, states the same trust, and the same replies up to the canonical form of their
-/// questions, where a file may state each question and each statement can be written.
+/// questions, where no statement's text has a term at level 1,000 and its names are UTF-8, as each text is that is read.
 ///
 /// # Errors
 ///
@@ -33,13 +33,12 @@ pub(crate) fn tell<K: Sink>(
     requires standard { HasStandardNames (length log.old.names) }
     requires named { AreReplies (length log.old.names) replies.now }
     ensures goes { IfOk result (λ next. next ≡ Next.Goes) }
-    ensures back { CanBeStated log.old.ops log.old.names replies.now →
-        (s : Stated) × ReadsBackAs log.old.ops log.old.names replies.now s }
+    ensures back { OnOk result (HasPlainStatements log.old.ops log.old.names replies.now →
+        (s : Stated) × ReadsBackAs log.old.ops log.old.names replies.now s) }
     ensures says { Says (λ ops names. store_said ops names replies.now)
         (spoken K.Sink log.old out.old) (spoken K.Sink log.new out.new) result }
 {
     let mut text = Text::new(alloc);
-    reads_back(replies, &log.ops, &log.names);
     known_text(alloc, replies, &log.ops, &log.names, &mut text)?;
     say(alloc, out, log, Entry::Known { text })?;
     Ok(Next::Goes)

@@ -3,22 +3,22 @@
 ghost use Rattle.std.specs.Prelude.{◌≡◌, length, ◌≤◌};
 ghost use Rattle.apd_commands.specs.declared.commands.Command.TheVariants as command;
 ghost use Rattle.apd_console.specs.Console.{IsKept};
-ghost use Rattle.apd_debug.specs.NamedStates.{AreReplies};
+ghost use Rattle.apd_debug.specs.NamedStates.{AreReplies, IsOwnChain, MayGoOn};
 ghost use Rattle.apd_debug.specs.NamedTrees.{RecordIsNamed};
-ghost use Rattle.apd_clauses.specs.Clauses.{IsProgram};
 ghost use Rattle.apd_loop.specs.Known.{IsChain};
 ghost use Rattle.apd_record.specs.Recorded.{chain};
 ghost use Rattle.apd_loop.specs.Loop.{loop, loop_start};
 ghost use Rattle.apd_oracle.specs.Dialogue.{CanHear};
+ghost use Rattle.apd_oracle.specs.Waiting.{replying};
+ghost use Rattle.apd_reference.specs.Referees.{names_known};
 ghost use Rattle.apd_session.specs.Diagnosing.{Diagnoses, answered};
-ghost use Rattle.apd_session.specs.Steps.{by_loop};
+ghost use Rattle.apd_session.specs.Steps.{by_loop, first_word};
 ghost use Rattle.apd_session.specs.Turns.{CanConverse, Leads, obeying};
 ghost use Rattle.apd_talk.specs.Moment.{moment};
 
-use crate::diagnosing::{conclude_loop, has_few_entries, keep_symptom, refuse};
+use crate::diagnosing::{conclude_loop, has_few_entries, is_program, keep_symptom, refuse};
 use apd_answers::{Answers, AskEnd, Replier};
 use apd_base::Ids;
-use apd_clauses::Program;
 use apd_console::Console;
 use apd_divide::Strategy;
 use apd_io::{Sink, Source};
@@ -26,6 +26,7 @@ use apd_loop::{LoopEnd, diagnose_loop};
 use apd_oracle::Dialogue;
 use apd_query::State;
 use apd_record::Record;
+use apd_reference::Referee;
 use apd_symptoms::stopped_chain;
 use apd_talk::{Next, Trouble};
 use apd_text::{Log, Refusal, Told};
@@ -43,6 +44,8 @@ fn diagnose_over<S: Source, K: Sink, R: Replier>(
     requires sound { IsKept dialogue.old.console.now }
     requires replies { AreReplies (length dialogue.old.log.now.names) replies.old }
     requires chain { IsChain history.now calls.now }
+    requires own { IsOwnChain history.now calls.now }
+    requires start { MayGoOn history.now calls.now (loop_start history.now calls.now) }
     requires named { RecordIsNamed (length dialogue.old.log.now.names) history.now }
     ensures console { dialogue.new.console.ghost_name ≡ dialogue.old.console.ghost_name }
     ensures source { dialogue.new.source.ghost_name ≡ dialogue.old.source.ghost_name }
@@ -50,7 +53,8 @@ fn diagnose_over<S: Source, K: Sink, R: Replier>(
     ensures log { dialogue.new.log.ghost_name ≡ dialogue.old.log.ghost_name }
     ensures replier { (dialogue.new.replier.ghost_name ≡ dialogue.old.replier.ghost_name)
         × (dialogue.new.replier.now ≡ dialogue.old.replier.now) }
-    ensures diagnoses { Diagnoses by_loop (R.replies dialogue.old.replier.now)
+    ensures diagnoses { Diagnoses by_loop
+        (replying (R.replies dialogue.old.replier.now) dialogue.old.marked)
         (loop history.now calls.now strategy)
         (loop_start history.now calls.now)
         (answered replies.old dialogue.old.asked) (answered replies.new dialogue.new.asked)
@@ -65,14 +69,14 @@ fn diagnose_over<S: Source, K: Sink, R: Replier>(
 }
 
 /// Diagnoses a run that was within these calls, with questions to the user where the referee has no reply.
-fn diagnose<S: Source, K: Sink, R: Replier>(
+fn diagnose<S: Source, K: Sink>(
     alloc: Global,
     history: &Record,
     calls: &Ids,
     strategy: Strategy,
     replies: &mut Answers,
     asked: &mut u64,
-    referee: &mut R,
+    referee: &mut Referee,
     console: &mut Console,
     input: &mut S,
     out: &mut K,
@@ -80,19 +84,22 @@ fn diagnose<S: Source, K: Sink, R: Replier>(
 ) -> Result<LoopEnd, AskEnd>
     requires hear { CanHear (moment S.Source K.Sink console.old input.old log.old out.old) }
     requires sound { IsKept console.old }
-    requires referee { R.names referee.old ≤ length log.old.names }
+    requires referee { names_known referee.old ≤ length log.old.names }
     requires replies { AreReplies (length log.old.names) replies.old }
     requires chain { IsChain history.now calls.now }
+    requires own { IsOwnChain history.now calls.now }
+    requires start { MayGoOn history.now calls.now (loop_start history.now calls.now) }
     requires named { RecordIsNamed (length log.old.names) history.now }
     ensures referee { referee.new ≡ referee.old }
-    ensures diagnoses { Diagnoses by_loop (R.replies referee.old)
+    ensures diagnoses { Diagnoses by_loop (first_word referee.old)
         (loop history.now calls.now strategy)
         (loop_start history.now calls.now)
         (answered replies.old asked.old) (answered replies.new asked.new)
         (moment S.Source K.Sink console.old input.old log.old out.old)
         (moment S.Source K.Sink console.new input.new log.new out.new) result }
 {
-    let mut dialogue = Dialogue::new(alloc, *asked, console, input, out, log, referee);
+    let marked = referee.is_marked();
+    let mut dialogue = Dialogue::new(alloc, *asked, console, input, out, log, referee, marked);
     let answer = diagnose_over(alloc, history, calls, strategy, replies, &mut dialogue);
     *asked = dialogue.asked;
     answer
@@ -105,13 +112,6 @@ fn call_count(history: &Record, calls: &Ids) -> u32
 {
     let _boxes = history.boxes();
     calls.len() as u32
-}
-
-/// The clauses are those of a program.
-fn is_program(program: &Program)
-    ensures { IsProgram program.now }
-{
-    let _clauses = program.count();
 }
 
 /// Does what `loop` says.

@@ -10,13 +10,15 @@ ghost use Rattle.apd_missing.specs.Missing.{missing};
 ghost use Rattle.apd_record.specs.Full.{IsFull};
 ghost use Rattle.apd_record.specs.Sound.{IsSound};
 ghost use Rattle.apd_oracle.specs.Dialogue.{CanHear};
+ghost use Rattle.apd_oracle.specs.Waiting.{replying};
+ghost use Rattle.apd_reference.specs.Referees.{names_known};
 ghost use Rattle.apd_session.specs.Diagnosing.{Diagnoses, answered};
-ghost use Rattle.apd_session.specs.Steps.{by_missing};
+ghost use Rattle.apd_session.specs.Steps.{by_missing, first_word};
 ghost use Rattle.apd_session.specs.Turns.{CanConverse, Leads, obeying};
 ghost use Rattle.apd_talk.specs.Moment.{moment};
 ghost use Rattle.apd_term.specs.Named.{AllTuplesNamed, IsNamed};
 
-use crate::diagnosing::{conclude, has_few_entries, keep_missing, refuse};
+use crate::diagnosing::{conclude, has_few_entries, is_program, keep_missing, refuse};
 use apd_answers::{Answers, AskEnd, Finding, Replier};
 use apd_clauses::Program;
 use apd_console::Console;
@@ -25,6 +27,7 @@ use apd_missing::diagnose_missing;
 use apd_oracle::Dialogue;
 use apd_query::State;
 use apd_record::Record;
+use apd_reference::Referee;
 use apd_symptoms::unanswered_box;
 use apd_talk::{Next, Trouble};
 use apd_term::Flat;
@@ -55,7 +58,8 @@ fn diagnose_over<S: Source, K: Sink, R: Replier>(
     ensures log { dialogue.new.log.ghost_name ≡ dialogue.old.log.ghost_name }
     ensures replier { (dialogue.new.replier.ghost_name ≡ dialogue.old.replier.ghost_name)
         × (dialogue.new.replier.now ≡ dialogue.old.replier.now) }
-    ensures diagnoses { Diagnoses by_missing (R.replies dialogue.old.replier.now)
+    ensures diagnoses { Diagnoses by_missing
+        (replying (R.replies dialogue.old.replier.now) dialogue.old.marked)
         (missing (tuples_of program.now) history.now)
         (record { box_no = box_no; goal = atom.now })
         (answered replies.old dialogue.old.asked) (answered replies.new dialogue.new.asked)
@@ -64,13 +68,14 @@ fn diagnose_over<S: Source, K: Sink, R: Replier>(
         (moment S.Source K.Sink dialogue.new.console.now dialogue.new.source.now
         dialogue.new.log.now dialogue.new.sink.now) result }
 {
+    is_program(program);
     let answer = diagnose_missing(alloc, program, history, box_no, atom, replies, dialogue);
     has_few_entries(dialogue.log);
     answer
 }
 
 /// Diagnoses an atom that is true and that a box didn't give, with questions to the user where the referee has no reply.
-fn diagnose<S: Source, K: Sink, R: Replier>(
+fn diagnose<S: Source, K: Sink>(
     alloc: Global,
     program: &Program,
     history: &Record,
@@ -78,7 +83,7 @@ fn diagnose<S: Source, K: Sink, R: Replier>(
     atom: &Flat,
     replies: &mut Answers,
     asked: &mut u64,
-    referee: &mut R,
+    referee: &mut Referee,
     console: &mut Console,
     input: &mut S,
     out: &mut K,
@@ -86,7 +91,7 @@ fn diagnose<S: Source, K: Sink, R: Replier>(
 ) -> Result<Finding, AskEnd>
     requires hear { CanHear (moment S.Source K.Sink console.old input.old log.old out.old) }
     requires sound { IsKept console.old }
-    requires referee { R.names referee.old ≤ length log.old.names }
+    requires referee { names_known referee.old ≤ length log.old.names }
     requires replies { AreReplies (length log.old.names) replies.old }
     requires recorded { IsSound (tuples_of program.now) history.now }
     requires full { IsFull (tuples_of program.now) history.now }
@@ -95,14 +100,15 @@ fn diagnose<S: Source, K: Sink, R: Replier>(
     requires program { AllTuplesNamed (length log.old.names) (tuples_of program.now) }
     requires named { IsNamed (length log.old.names) atom.now }
     ensures referee { referee.new ≡ referee.old }
-    ensures diagnoses { Diagnoses by_missing (R.replies referee.old)
+    ensures diagnoses { Diagnoses by_missing (first_word referee.old)
         (missing (tuples_of program.now) history.now)
         (record { box_no = box_no; goal = atom.now })
         (answered replies.old asked.old) (answered replies.new asked.new)
         (moment S.Source K.Sink console.old input.old log.old out.old)
         (moment S.Source K.Sink console.new input.new log.new out.new) result }
 {
-    let mut dialogue = Dialogue::new(alloc, *asked, console, input, out, log, referee);
+    let marked = referee.is_marked();
+    let mut dialogue = Dialogue::new(alloc, *asked, console, input, out, log, referee, marked);
     let answer = diagnose_over(
         alloc,
         program,
@@ -142,6 +148,7 @@ fn seek<S: Source, K: Sink>(
         Ok(found) => found,
         Err(refusal) => return refuse(alloc, refusal, out, log),
     };
+    is_program(&state.program);
     keep_missing(alloc, atom, found, &mut state.replies, out, log)?;
     let answer = diagnose(
         alloc,

@@ -1,14 +1,14 @@
 //! What a session begins with, as a value: why it ends before it hears anything, or what it goes on with.
 
-ghost use Rattle.std.specs.Prelude.{◌≡◌, ◌+◌, ◌<◌, ◌≤◌, ℕ, length, None, Some, IfErr, IfOk};
+ghost use Rattle.std.specs.Prelude.{◌≡◌, ◌+◌, ◌++◌, ◌<◌, ◌≤◌, ℕ, length, None, Some, IfErr, IfOk};
 ghost use Rattle.apd_base.specs.declared.limits.TheConstants.{MAX_FILE, MOST_NAMES};
 ghost use Rattle.apd_io.specs.Outside.{LoadsInTurn, Rose};
 ghost use Rattle.apd_debug.specs.NamedStates.{AreReplies};
 ghost use Rattle.apd_load.specs.Warnings.{warnings_of};
 ghost use Rattle.apd_session.specs.Loads.{LoadsFront, files_named, further_files, named};
-ghost use Rattle.apd_session.specs.Opening.{beginning_of, course_of, first_state, stops_with};
-ghost use Rattle.apd_session.specs.Preparing.{HasSubject, IsCourse, IsLoaded, IsReadyOpening, IsStop, Opens, OpensAfter, OpensKnowing, OpensWith};
-ghost use Rattle.apd_session.specs.Roles.{file_of_subject};
+ghost use Rattle.apd_session.specs.Opening.{beginning_of, first_state, stops_with};
+ghost use Rattle.apd_session.specs.Preparing.{HasSubject, IsLoaded, IsReadyOpening, IsStop, IsSubject, Opens, OpensAfter, OpensKnowing, OpensWith};
+ghost use Rattle.apd_session.specs.Roles.{file_of_subject, log_of_subject};
 ghost use Rattle.apd_session.specs.Session.{names_of_files};
 ghost use Rattle.apd_session.specs.declared.preparing.Prepared.TheVariants.{Knows};
 ghost use Rattle.apd_term.specs.Growth.{GrowsBy};
@@ -17,6 +17,7 @@ ghost use Rattle.apd_words.specs.Words.{AreLimits, StandsAlone, asked_options, a
 
 use crate::files::load_file;
 use crate::preparing::{Prepared, prepare};
+use crate::pursuing::follow;
 use crate::referring::{Referring, refer};
 use crate::status::Status;
 use apd_answers::Answers;
@@ -78,12 +79,14 @@ pub(crate) struct Start {
 }
 
 /// How a session goes on.
-#[derive(Clone, Copy)]
+#[derive(Drop)]
 pub(crate) enum Course {
     /// The lines of the input are heard.
     Hears,
     /// A tree of so many nodes, from 1 to 10,000, is demonstrated, and no line is heard.
     Plays { nodes: u32 },
+    /// The log with this text is checked, and no line is heard.
+    Checks { log: Text },
 }
 
 /// What a session begins with.
@@ -122,16 +125,6 @@ fn first_state(asked: Asked<'_>, program: Program, replies: Answers, referee: Re
     }
 }
 
-/// How a session goes on with what is debugged.
-fn course_of(subject: Subject<'_>) -> Course
-    ensures { result ≡ course_of (asked_subject subject.entry) }
-{
-    match subject {
-        Subject::File(_) => Course::Hears,
-        Subject::Tree(nodes) => Course::Plays { nodes },
-    }
-}
-
 /// The text of what is debugged: of its file, or of its tree, for which nothing is loaded; or why there is none. The only error is
 /// want of memory.
 fn subject_text<F: Files>(
@@ -139,7 +132,7 @@ fn subject_text<F: Files>(
     subject: Subject<'_>,
     files: &mut F,
 ) -> Result<Result<Text, Stop>, AllocError>
-    requires course { IsCourse (course_of (asked_subject subject)) }
+    requires subject { IsSubject (asked_subject subject) }
     ensures has { IfOk result (HasSubject (F.content files.old)
         (Rose (F.faults files.old) (F.faults files.new)) (asked_subject subject.entry)) }
     ensures size { IfOk result (λ r. IfOk r (λ text. length text ≤ MAX_FILE)) }
@@ -154,6 +147,7 @@ fn subject_text<F: Files>(
     match subject {
         Subject::File(name) => load_file(alloc, name, files),
         Subject::Tree(nodes) => Ok(Ok(tree_program(alloc, nodes)?)),
+        Subject::Log { program, log: _ } => load_file(alloc, program, files),
     }
 }
 
@@ -184,7 +178,7 @@ fn close(loaded: Loaded, statements: Option<u32>, stop: Stop) -> Opening
 }
 
 /// What a session with a program begins with, where this is known before the first line: its reference program is asked before the
-/// user, where the words name one. The only error is want of memory.
+/// user, and a log is checked, where the words name them. The only error is want of memory.
 fn open_knowing<F: Files>(
     alloc: Global,
     asked: Asked<'_>,
@@ -195,7 +189,7 @@ fn open_knowing<F: Files>(
     names: &mut Names,
 ) -> Result<Opening, AllocError>
     requires limits { AreLimits asked.budget asked.answers }
-    requires course { IsCourse (course_of (asked_subject asked.subject)) }
+    requires subject { IsSubject (asked_subject asked.subject) }
     requires loaded { IsLoaded (length names.old) loaded }
     requires replies { AreReplies (length names.old) replies }
     requires standard { length standard_names ≤ length names.old }
@@ -208,8 +202,8 @@ fn open_knowing<F: Files>(
     ensures fault { IfOk result (λ o. stops_with o ≡ Some Status.ReadFault →
         Rose (F.faults files.old) (F.faults files.new)) }
     ensures later { F.faults files.old ≤ F.faults files.new }
-    ensures loads { LoadsFront F.step
-        (named (asked_options asked.entry).reference) files.old files.new }
+    ensures loads { let o = asked_options asked.entry in LoadsFront F.step
+        (named o.reference ++ named (log_of_subject o.subject)) files.old files.new }
 {
     match refer(alloc, asked.reference, asked.budget, files, names)? {
         Referring::Asks { referee, reference } => {
@@ -226,10 +220,10 @@ fn open_knowing<F: Files>(
                 statements,
                 reference,
             };
-            let course = course_of(asked.subject);
+            let subject = asked.subject;
             let state = first_state(asked, program, replies, referee);
             let start = Start { beginning, state };
-            Ok(Opening::Open { ops, start, course })
+            follow(alloc, subject, ops, start, files)
         }
         Referring::Stops(stop) => Ok(close(loaded, statements, stop)),
     }
@@ -245,7 +239,7 @@ fn open_program<F: Files>(
     names: &mut Names,
 ) -> Result<Opening, AllocError>
     requires limits { AreLimits asked.budget asked.answers }
-    requires course { IsCourse (course_of (asked_subject asked.subject)) }
+    requires subject { IsSubject (asked_subject asked.subject) }
     requires loaded { IsLoaded (length names.old) loaded }
     requires standard { length standard_names ≤ length names.old }
     requires room { length names.old + (MAX_FILE + MAX_FILE) < MOST_NAMES }
@@ -277,7 +271,7 @@ fn open_text<F: Files>(
     names: &mut Names,
 ) -> Result<Opening, AllocError>
     requires limits { AreLimits asked.budget asked.answers }
-    requires course { IsCourse (course_of (asked_subject asked.subject)) }
+    requires subject { IsSubject (asked_subject asked.subject) }
     requires size { length text.now ≤ MAX_FILE }
     requires names { names.old ≡ standard_names }
     ensures grows { GrowsBy names_of_files names.old names.new }
@@ -327,8 +321,9 @@ fn open_asked<F: Files>(
     }
 }
 
-/// What a session begins with: the words are read, the program is loaded, or that of a tree, the replies of an oracle file are known, and
-/// a reference program is loaded, where the words name them. Nothing is said, and no byte of the input is taken. The only error is want of memory.
+/// What a session begins with: the words are read, the program is loaded, or that of a tree, the replies of an oracle file are known, a
+/// reference program is loaded, and the text of a log that is checked, where the words name them. Nothing is said, and no byte of the
+/// input is taken. The only error is want of memory.
 pub(crate) fn open_session<F: Files>(
     alloc: Global,
     words: &[String],

@@ -128,6 +128,7 @@ pub(crate) fn refer<F: Files>(
     ensures ready { IfOk result (IsReferring (length names.new)) }
     ensures fault { IfOk result (λ x. stops_referring x ≡ Some Status.ReadFault →
         Rose (F.faults files.old) (F.faults files.new)) }
+    ensures same { F.content files.new ≡ F.content files.old }
     ensures later { F.faults files.old ≤ F.faults files.new }
     ensures loads { LoadsInTurn F.step files.old
         (named (option_map (λ s. s.now) reference.entry)) files.new }

@@ -5,17 +5,19 @@ ghost use Rattle.apd_commands.specs.declared.commands.Command.TheVariants as com
 ghost use Rattle.apd_console.specs.Console.{IsKept};
 ghost use Rattle.apd_debug.specs.NamedStates.{AreReplies};
 ghost use Rattle.apd_answers.specs.Store.{SaysNo};
-ghost use Rattle.apd_debug.specs.NamedTrees.{TreeIsNamed};
+ghost use Rattle.apd_debug.specs.NamedTrees.{HasOwnLabels, TreeIsNamed};
 ghost use Rattle.apd_divide.specs.Exits.{IsLabelled};
 ghost use Rattle.apd_divide.specs.Recorded.{tree};
 ghost use Rattle.apd_oracle.specs.Dialogue.{CanHear};
+ghost use Rattle.apd_oracle.specs.Waiting.{replying};
+ghost use Rattle.apd_reference.specs.Referees.{names_known};
 ghost use Rattle.apd_session.specs.Diagnosing.{Diagnoses, answered};
-ghost use Rattle.apd_session.specs.Steps.{by_wrong};
+ghost use Rattle.apd_session.specs.Steps.{by_wrong, first_word};
 ghost use Rattle.apd_session.specs.Turns.{CanConverse, Leads, obeying};
 ghost use Rattle.apd_talk.specs.Moment.{moment};
 ghost use Rattle.apd_wrong.specs.Wrong.{wrong};
 
-use crate::diagnosing::{conclude, has_few_entries, keep_wrong, refuse};
+use crate::diagnosing::{conclude, has_few_entries, is_program, keep_wrong, refuse};
 use apd_answers::{Answers, AskEnd, Finding, Replier};
 use apd_console::Console;
 use apd_divide::Strategy;
@@ -24,6 +26,7 @@ use apd_oracle::Dialogue;
 use apd_ports::PointId;
 use apd_query::State;
 use apd_record::Record;
+use apd_reference::Referee;
 use apd_symptoms::exit_of;
 use apd_talk::{Next, Trouble};
 use apd_term::Flat;
@@ -45,6 +48,7 @@ fn diagnose_over<S: Source, K: Sink, R: Replier>(
     requires replies { AreReplies (length dialogue.old.log.now.names) replies.old }
     requires labelled { IsLabelled history.now exit.0 label.now }
     requires symptom { SaysNo replies.old label.now }
+    requires own { HasOwnLabels (tree history.now exit.0 label.now) }
     requires named { TreeIsNamed (length dialogue.old.log.now.names)
         (tree history.now exit.0 label.now) }
     ensures console { dialogue.new.console.ghost_name ≡ dialogue.old.console.ghost_name }
@@ -53,7 +57,8 @@ fn diagnose_over<S: Source, K: Sink, R: Replier>(
     ensures log { dialogue.new.log.ghost_name ≡ dialogue.old.log.ghost_name }
     ensures replier { (dialogue.new.replier.ghost_name ≡ dialogue.old.replier.ghost_name)
         × (dialogue.new.replier.now ≡ dialogue.old.replier.now) }
-    ensures diagnoses { Diagnoses by_wrong (R.replies dialogue.old.replier.now)
+    ensures diagnoses { Diagnoses by_wrong
+        (replying (R.replies dialogue.old.replier.now) dialogue.old.marked)
         (wrong strategy)
         (tree history.now exit.0 label.now)
         (answered replies.old dialogue.old.asked) (answered replies.new dialogue.new.asked)
@@ -68,7 +73,7 @@ fn diagnose_over<S: Source, K: Sink, R: Replier>(
 }
 
 /// Diagnoses an exit whose label isn't true, with questions to the user where the referee has no reply.
-fn diagnose<S: Source, K: Sink, R: Replier>(
+fn diagnose<S: Source, K: Sink>(
     alloc: Global,
     history: &Record,
     exit: PointId,
@@ -76,7 +81,7 @@ fn diagnose<S: Source, K: Sink, R: Replier>(
     strategy: Strategy,
     replies: &mut Answers,
     asked: &mut u64,
-    referee: &mut R,
+    referee: &mut Referee,
     console: &mut Console,
     input: &mut S,
     out: &mut K,
@@ -84,20 +89,22 @@ fn diagnose<S: Source, K: Sink, R: Replier>(
 ) -> Result<Finding, AskEnd>
     requires hear { CanHear (moment S.Source K.Sink console.old input.old log.old out.old) }
     requires sound { IsKept console.old }
-    requires referee { R.names referee.old ≤ length log.old.names }
+    requires referee { names_known referee.old ≤ length log.old.names }
     requires replies { AreReplies (length log.old.names) replies.old }
     requires labelled { IsLabelled history.now exit.0 label.now }
     requires symptom { SaysNo replies.old label.now }
+    requires own { HasOwnLabels (tree history.now exit.0 label.now) }
     requires named { TreeIsNamed (length log.old.names) (tree history.now exit.0 label.now) }
     ensures referee { referee.new ≡ referee.old }
-    ensures diagnoses { Diagnoses by_wrong (R.replies referee.old)
+    ensures diagnoses { Diagnoses by_wrong (first_word referee.old)
         (wrong strategy)
         (tree history.now exit.0 label.now)
         (answered replies.old asked.old) (answered replies.new asked.new)
         (moment S.Source K.Sink console.old input.old log.old out.old)
         (moment S.Source K.Sink console.new input.new log.new out.new) result }
 {
-    let mut dialogue = Dialogue::new(alloc, *asked, console, input, out, log, referee);
+    let marked = referee.is_marked();
+    let mut dialogue = Dialogue::new(alloc, *asked, console, input, out, log, referee, marked);
     let answer = diagnose_over(
         alloc,
         history,
@@ -140,6 +147,7 @@ pub(crate) fn wrong<S: Source, K: Sink>(
         Ok(exit) => exit,
         Err(refusal) => return refuse(alloc, refusal, out, log),
     };
+    is_program(&state.program);
     let label = keep_wrong(alloc, history, exit, &mut state.replies, out, log)?;
     let answer = diagnose(
         alloc,

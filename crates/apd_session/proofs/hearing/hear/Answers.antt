@@ -1,6 +1,7 @@
 use Rattle.std.proofs.Common.{◌∙◌, sym, refl, List, ℕ, inl, inr}
 use Rattle.apd_read.specs.Reader.{Reader}
 use Rattle.apd_read.proofs.Every.{every_reader}
+use Rattle.apd_check.specs.declared.checked.Checked.TheVariants.{Holds}
 use Rattle.apd_session.specs.Known.{streams}
 use Rattle.apd_session.specs.Opening.{hears}
 use Rattle.apd_session.specs.Session.{transcript_of}
@@ -12,18 +13,22 @@ use Rattle.apd_lines.proofs.Growing.{Grown-self}
 use Rattle.apd_session.proofs.Worlds.{unread_front}
 use Rattle.apd_session.proofs.hearing.hear.Goals as goal
 
-pub returns-in_default : goal.returns-in_default
-returns-in_default g c = record {
+pub returns-in_default-clause-goes : goal.returns-in_default-clause-goes
+returns-in_default-clause-goes g c = record {
+  verdict = Holds 0;
+  judged = λ names grew reader. inr tt;
   answers = λ names grew reader.
-      unread_front (streams g.S.Source g.K.Sink c.args.input.now c.args.out.now) (streams g.S.Source g.K.Sink c.args.input.now c.args.out.now) (transcript_of reader (hears c.args.log.now.ops c.args.start.now)) c.args.log.now refl refl c.requires.empty (λ input ends. inl refl);
+      unread_front (streams g.S.Source g.K.Sink c.args.input.now c.args.out.now) (streams g.S.Source g.K.Sink c.args.input.now c.args.out.now) (transcript_of reader (hears c.args.log.now.ops c.args.start.now) (Holds 0)) c.args.log.now refl refl c.requires.empty (λ input ends. inl refl);
   names = grows_none 16777216 _ _ refl;
   limit = λ is. absurd (cc);
   read = λ is. absurd (cc);
   write = λ is. absurd (cc);
 }
 
-pub returns-in-Ok-begin : goal.returns-in-Ok-begin
-returns-in-Ok-begin g c = record {
+pub returns-in-Ok-begin-clause-goes : goal.returns-in-Ok-begin-clause-goes
+returns-in-Ok-begin-clause-goes g c = record {
+  verdict = Holds 0;
+  judged = λ names grew reader. inr tt;
   answers = λ names grew reader.
       rw c.status_after.ensures
       (opened_ended names reader c.args.start.now (moment g.S.Source g.K.Sink c.in-Ok.console c.args.input.now c.args.log.now c.args.out.now)
@@ -43,8 +48,10 @@ returns-in-Ok-begin g c = record {
   write = λ is. absurd (ended_no_write c.in-Ok-begin.ending (sym c.status_after.ensures ∙ is));
 }
 
-pub returns : goal.returns
-returns g c = record {
+pub returns-clause-goes : goal.returns-clause-goes
+returns-clause-goes g c = record {
+  verdict = Holds 0;
+  judged = λ names grew reader. inr tt;
   answers = λ names grew reader.
       rw c.status_of.ensures
       (opened_broken names reader c.args.start.now (moment g.S.Source g.K.Sink c.in-Ok.console c.args.input.now c.args.log.now c.args.out.now)
@@ -58,3 +65,13 @@ returns g c = record {
       let breaks = c.in-Err.ensures.course c.begin.new.log.names (Grown-self c.begin.new.log.names) some in
       breaks.write_rose (broken_write c.in-Err.trouble (sym c.status_of.ensures ∙ is));
 }
+
+pub returns-in-Ok-begin-clause-later : goal.returns-in-Ok-begin-clause-later
+returns-in-Ok-begin-clause-later g c =
+    let some : Reader c.begin.new.log.names = every_reader c.begin.new.log.names in
+    (c.in-Ok-begin.ensures.course c.begin.new.log.names (Grown-self c.begin.new.log.names) some).later.writes
+
+pub returns-clause-later : goal.returns-clause-later
+returns-clause-later g c =
+    let some : Reader c.begin.new.log.names = every_reader c.begin.new.log.names in
+    (c.in-Err.ensures.course c.begin.new.log.names (Grown-self c.begin.new.log.names) some).later.writes

@@ -6,14 +6,8 @@ use Rattle.apd_talk.proofs.Speaking.{Says-err, Says-none, Says-ok}
 use Rattle.apd_session.proofs.Stored.{can_read_back, store_is_said}
 use Rattle.apd_session.proofs.knowing.tell.Goals as goal
 
-pub returns-in_err-known_text-clause-back : goal.returns-in_err-known_text-clause-back
-returns-in_err-known_text-clause-back g c = λ can. c.reads_back.ensures (can_read_back c.args.log.now.ops c.args.log.now.names c.args.replies.now c.requires.named can)
-
-pub returns-in_err-say-clause-back : goal.returns-in_err-say-clause-back
-returns-in_err-say-clause-back g c = λ can. c.reads_back.ensures (can_read_back c.args.log.now.ops c.args.log.now.names c.args.replies.now c.requires.named can)
-
 pub returns-clause-back : goal.returns-clause-back
-returns-clause-back g c = λ can. c.reads_back.ensures (can_read_back c.args.log.now.ops c.args.log.now.names c.args.replies.now c.requires.named can)
+returns-clause-back g c = λ plain. c.in_ok-known_text.ensures.back (can_read_back c.args.log.now.ops c.args.log.now.names c.args.replies.now c.requires.named plain)
 
 pub returns-in_err-known_text-clause-says : goal.returns-in_err-known_text-clause-says
 returns-in_err-known_text-clause-says g c =

@@ -12,4 +12,4 @@ returns-clause-diagnoses g c =
     let out_is = c.out-1.given.1 (sym (c.diagnose_over-answer.ensures.sink ∙ c.new-dialogue.ensures.sink.0)) in
     let log_is = c.log-1.given.1 (sym (c.diagnose_over-answer.ensures.log ∙ c.new-dialogue.ensures.log.0)) in
     let made = c.new-dialogue.ensures in
-    rw (console_is, input_is, out_is, log_is, ← made.asked, ← made.console.1, ← made.source.1, ← made.sink.1, ← made.log.1, ← made.replier.1) c.diagnose_over-answer.ensures.diagnoses
+    rw (console_is, input_is, out_is, log_is, ← (made.marked ∙ c.is_marked-marked.ensures), ← made.asked, ← made.console.1, ← made.source.1, ← made.sink.1, ← made.log.1, ← made.replier.1) c.diagnose_over-answer.ensures.diagnoses

@@ -28,5 +28,5 @@ returns-clause-replier g c =
 
 pub returns-clause-diagnoses : goal.returns-clause-diagnoses
 returns-clause-diagnoses g c =
-    diagnoses by_loop hears_loop (loop c.args.history.now c.args.calls.now c.args.strategy) (IsKnownLoop c.args.history.now) (λ s. loop-keeps c.args.history.now c.args.calls.now c.args.strategy (line_found s.program) (length (chain (history_of s.last)))) g.S.Source g.K.Sink g.R.Replier (loop_start c.args.history.now c.args.calls.now) c.args.replies.now c.diagnose_loop-answer.new.answers c.args.dialogue.now c.diagnose_loop-answer.new.oracle
-    c.diagnose_loop-answer.result c.diagnose_loop-answer.ensures.reached c.has_few_entries.ensures (record { standard = c.args.dialogue.now.standard; history = c.requires.named; state = start-named (length c.args.dialogue.now.log.now.names) c.args.history.now c.args.calls.now }) c.requires.replies c.requires.sound (loop_entry (λ f. 0) 0) (loop-keeps c.args.history.now c.args.calls.now c.args.strategy (λ f. 0) 0)
+    diagnoses by_loop hears_loop (loop c.args.history.now c.args.calls.now c.args.strategy) (IsKnownLoop c.args.history.now c.args.calls.now) (λ s. loop-keeps c.args.history.now c.args.calls.now c.args.strategy (line_found s.program) (length (chain (history_of s.last)))) g.S.Source g.K.Sink g.R.Replier (loop_start c.args.history.now c.args.calls.now) c.args.replies.now c.diagnose_loop-answer.new.answers c.args.dialogue.now c.diagnose_loop-answer.new.oracle
+    c.diagnose_loop-answer.result c.diagnose_loop-answer.ensures.reached c.has_few_entries.ensures (record { standard = c.args.dialogue.now.standard; history = c.requires.named; calls = c.requires.own; state = start-named (length c.args.dialogue.now.log.now.names) c.args.history.now c.args.calls.now; going = c.requires.start }) c.requires.replies c.requires.sound (loop_entry (λ f. 0) 0) (loop-keeps c.args.history.now c.args.calls.now c.args.strategy (λ f. 0) 0)

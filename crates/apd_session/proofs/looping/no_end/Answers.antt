@@ -1,4 +1,4 @@
-use Rattle.std.proofs.Common.{◌∙◌, ap, refl, sym, length}
+use Rattle.std.proofs.Common.{◌∙◌, ℕ, ap, refl, sym, length}
 use Rattle.std.proofs.lemmas.Result.{err_from_is_err_and}
 use Rattle.apd_commands.specs.declared.commands.Command.TheVariants as command
 use Rattle.apd_session.specs.Diagnosing.{answered}
@@ -8,11 +8,14 @@ use Rattle.apd_talk.proofs.Speaking.{Says-none}
 use Rattle.apd_talk.specs.Moment.{Moment, moment}
 use Rattle.apd_talk.specs.Speech.{spoken}
 use Rattle.apd_talk.specs.declared.talk.Next.{Next}
+use Rattle.apd_clauses.specs.Clauses.{tuples_of}
+use Rattle.apd_debug.proofs.OwnRecords.{own_chain, start-own}
 use Rattle.apd_loop.specs.Loop.{loop, loop_start}
+use Rattle.apd_recorded.proofs.Recording.{program_clauses}
 use Rattle.apd_text.specs.declared.entry.Told.TheVariants.{NoEnd}
 use Rattle.apd_session.specs.Steps.{by_loop}
 use Rattle.apd_session.proofs.Lacking.{chain_stopped}
-use Rattle.apd_session.proofs.Symptoms.{loop_begins, loop_none, loop_refused, loop_this, refused_leads, run_calls, run_named, run_owned, symptom_breaks, symptom_leads}
+use Rattle.apd_session.proofs.Symptoms.{loop_begins, loop_none, loop_refused, loop_this, refused_leads, run_begins, run_calls, run_kept, run_named, run_owned, symptom_breaks, symptom_leads}
 use Rattle.apd_session.proofs.looping.no_end.Goals as goal
 
 pub returns-in_default : goal.returns-in_default
@@ -54,6 +57,22 @@ diagnose-answer-requires-clause-chain g c =
     let calls = sym (rw c.in-Ok.is at c.in_ok-calls.ensures.chain) in
     let chained = chain_stopped c.in-Some.run'.history c.in-Some.run'.end c.in-Ok.calls calls in
     rw chained.0 (record { several = chained.1; owned = run_owned (length c.args.log.now.names) c.args.state.now c.in-Some.run' c.in-Some.is c.requires.ready.ready c.is_program.ensures })
+
+pub diagnose-answer-requires-clause-own : goal.diagnose-answer-requires-clause-own
+diagnose-answer-requires-clause-own g c =
+    let calls = sym (rw c.in-Ok.is at c.in_ok-calls.ensures.chain) in
+    let n : ℕ = length c.args.log.now.names in
+    let chained = chain_stopped c.in-Some.run'.history c.in-Some.run'.end c.in-Ok.calls calls in
+    let run = run_kept n c.args.state.now c.in-Some.run' c.in-Some.is c.requires.ready.ready in
+    rw chained.0
+    (own_chain (tuples_of c.args.state.now.program) (program_clauses c.args.state.now.program c.is_program.ensures) c.in-Some.run'.history run.history.sound c.in-Some.run'.query.tuple run.runnable.body.goals
+    (run_begins n c.args.state.now c.in-Some.run' c.in-Some.is c.requires.ready.ready)
+    (record { several = chained.1; owned = run_owned n c.args.state.now c.in-Some.run' c.in-Some.is c.requires.ready.ready c.is_program.ensures }))
+
+pub diagnose-answer-requires-clause-start : goal.diagnose-answer-requires-clause-start
+diagnose-answer-requires-clause-start g c =
+    let run = run_kept (length c.args.log.now.names) c.args.state.now c.in-Some.run' c.in-Some.is c.requires.ready.ready in
+    start-own (tuples_of c.args.state.now.program) (program_clauses c.args.state.now.program c.is_program.ensures) c.in-Some.run'.history run.history.sound c.in-Ok.calls
 
 pub diagnose-answer-requires-clause-named : goal.diagnose-answer-requires-clause-named
 diagnose-answer-requires-clause-named g c = rw c.in_ok-keep_symptom.ensures.says.names (run_named (length c.args.log.now.names) c.args.state.now c.in-Some.run' c.in-Some.is c.requires.ready.ready)

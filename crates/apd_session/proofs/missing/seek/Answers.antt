@@ -1,4 +1,4 @@
-use Rattle.std.proofs.Common.{refl, sym, length}
+use Rattle.std.proofs.Common.{ℕ, ap, refl, sym, length}
 use Rattle.std.proofs.lemmas.Int.{to_z-of_z}
 use Rattle.std.proofs.lemmas.Result.{err_from_is_err_and}
 use Rattle.apd_commands.specs.declared.commands.Command.TheVariants as command
@@ -14,11 +14,15 @@ use Rattle.apd_answers.specs.declared.question.Question.TheVariants.{True}
 use Rattle.apd_answers.specs.declared.question.Reply.TheVariants.{Yes}
 use Rattle.apd_answers.proofs.Fitted.{fit_added}
 use Rattle.apd_clauses.specs.Clauses.{tuples_of}
+use Rattle.apd_debug.proofs.NamedReplies.{all_fit}
+use Rattle.apd_debug.proofs.OwnRecords.{call-own}
 use Rattle.apd_missing.specs.Missing.{missing}
+use Rattle.apd_record.specs.Recorded.{is_none}
+use Rattle.apd_recorded.proofs.Recording.{program_clauses}
 use Rattle.apd_text.specs.declared.entry.Told.TheVariants.{Missing}
 use Rattle.apd_session.specs.Steps.{by_missing}
 use Rattle.apd_session.proofs.Lacking.{box_lacks}
-use Rattle.apd_session.proofs.Symptoms.{all_fit, missing_begins, missing_none, missing_refused, refused_leads, run_kept, symptom_breaks, symptom_leads, told-replies}
+use Rattle.apd_session.proofs.Symptoms.{missing_begins, missing_none, missing_refused, refused_leads, run_begins, run_kept, symptom_breaks, symptom_leads, told-replies}
 use Rattle.apd_session.proofs.missing.seek.Goals as goal
 
 pub returns-in_default : goal.returns-in_default
@@ -53,7 +57,13 @@ returns-in_err-keep_missing g c =
 
 pub diagnose-answer-requires-clause-replies : goal.diagnose-answer-requires-clause-replies
 diagnose-answer-requires-clause-replies g c =
-    rw (c.in_ok-keep_missing.ensures.says.names, c.in_ok-keep_missing.ensures.replies) (told-replies (length c.args.log.now.names) c.args.state.now.replies (Missing c.args.atom.now c.in-Ok.found) c.requires.named c.requires.ready.ready.replies)
+    let found = sym (rw (to_z-of_z _ c.args.box_no c.ranges.box_no, c.in-Ok.is) at c.in_ok-found.ensures.found) in
+    let n : ℕ = length c.args.log.now.names in
+    let run = run_kept n c.args.state.now c.in-Some.run' c.in-Some.is c.requires.ready.ready.ready in
+    let lacks = box_lacks c.in-Some.run'.history c.args.box_no c.in-Ok.found c.args.atom.now run.history.sound.kept found in
+    let own = call-own (tuples_of c.args.state.now.program) (program_clauses c.args.state.now.program c.is_program.ensures) c.in-Some.run'.history run.history.sound c.in-Some.run'.query.tuple run.runnable.body.goals
+    (run_begins n c.args.state.now c.in-Some.run' c.in-Some.is c.requires.ready.ready.ready) c.in-Ok.found lacks.row c.args.atom.now lacks.there lacks.instance (ap is_none lacks.of_program) in
+    rw (c.in_ok-keep_missing.ensures.says.names, c.in_ok-keep_missing.ensures.replies) (told-replies n c.args.state.now.replies (Missing c.args.atom.now c.in-Ok.found) c.requires.named own c.requires.ready.ready.replies)
 
 pub diagnose-answer-requires-clause-recorded : goal.diagnose-answer-requires-clause-recorded
 diagnose-answer-requires-clause-recorded g c = (run_kept (length c.args.log.now.names) c.args.state.now c.in-Some.run' c.in-Some.is c.requires.ready.ready.ready).history.sound

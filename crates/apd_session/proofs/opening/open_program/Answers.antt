@@ -1,9 +1,10 @@
-use Rattle.std.proofs.Common.{◌≤◌, ◌+◌, arith, length, None}
+use Rattle.std.proofs.Common.{◌≤◌, ◌+◌, ◌++◌, arith, length, None}
 use Rattle.apd_lines.proofs.Growing.{Grown-length, Grown-more, grows_to}
 use Rattle.apd_words.specs.Words.{asked_options}
 use Rattle.apd_session.proofs.Loading.{grew_both, grew_by}
 use Rattle.apd_session.proofs.Making.{IsLoaded-more, closing_ready, fault_more, opens_knowing, opens_refusing, rose_later, rose_more}
 use Rattle.apd_session.specs.Loads.{named}
+use Rattle.apd_session.specs.Roles.{log_of_subject}
 use Rattle.apd_session.proofs.FilesInTurn.{loads_first, loads_then}
 use Rattle.apd_session.proofs.opening.open_program.Goals as goal
 
@@ -47,14 +48,14 @@ returns-in-Refuses-clause-ready g c =
 pub returns-in_err-statements-clause-loads : goal.returns-in_err-statements-clause-loads
 returns-in_err-statements-clause-loads g c =
     let o = asked_options c.args.asked in
-    loads_first g.F.Files.step (named o.oracle) (named o.reference) c.args.files.now c.prepare.new.files c.prepare.ensures.loads
+    loads_first g.F.Files.step (named o.oracle) (named o.reference ++ named (log_of_subject o.subject)) c.args.files.now c.prepare.new.files c.prepare.ensures.loads
 
 pub returns-in-Knows-clause-loads : goal.returns-in-Knows-clause-loads
 returns-in-Knows-clause-loads g c =
     let o = asked_options c.args.asked in
-    loads_then g.F.Files.step (named o.oracle) (named o.reference) c.args.files.now c.prepare.new.files c.open_knowing.new.files c.prepare.ensures.loads c.open_knowing.ensures.loads
+    loads_then g.F.Files.step (named o.oracle) (named o.reference ++ named (log_of_subject o.subject)) c.args.files.now c.prepare.new.files c.open_knowing.new.files c.prepare.ensures.loads c.open_knowing.ensures.loads
 
 pub returns-in-Refuses-clause-loads : goal.returns-in-Refuses-clause-loads
 returns-in-Refuses-clause-loads g c =
     let o = asked_options c.args.asked in
-    loads_first g.F.Files.step (named o.oracle) (named o.reference) c.args.files.now c.prepare.new.files c.prepare.ensures.loads
+    loads_first g.F.Files.step (named o.oracle) (named o.reference ++ named (log_of_subject o.subject)) c.args.files.now c.prepare.new.files c.prepare.ensures.loads

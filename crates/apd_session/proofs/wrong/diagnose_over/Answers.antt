@@ -29,4 +29,4 @@ returns-clause-replier g c =
 pub returns-clause-diagnoses : goal.returns-clause-diagnoses
 returns-clause-diagnoses g c =
     diagnoses by_wrong hears_wrong (wrong c.args.strategy) IsKnownTree (λ s. wrong-keeps c.args.strategy (line_found s.program)) g.S.Source g.K.Sink g.R.Replier (tree c.args.history.now c.args.exit.0 c.args.label.now) c.args.replies.now c.diagnose_wrong-answer.new.answers c.args.dialogue.now c.diagnose_wrong-answer.new.oracle
-    c.diagnose_wrong-answer.result c.diagnose_wrong-answer.ensures.reached c.has_few_entries.ensures (c.args.dialogue.now.standard, c.requires.named) c.requires.replies c.requires.sound (λ f. Found f 0) (wrong-keeps c.args.strategy (λ f. 0))
+    c.diagnose_wrong-answer.result c.diagnose_wrong-answer.ensures.reached c.has_few_entries.ensures (record { standard = c.args.dialogue.now.standard; named = c.requires.named; own = c.requires.own }) c.requires.replies c.requires.sound (λ f. Found f 0) (wrong-keeps c.args.strategy (λ f. 0))

@@ -7,14 +7,17 @@ use Rattle.apd_talk.proofs.Speaking.{Says-ok}
 use Rattle.apd_talk.specs.Moment.{moment}
 use Rattle.apd_talk.specs.Speech.{one, spoken}
 use Rattle.apd_answers.proofs.Decided.{added-no}
+use Rattle.apd_clauses.specs.Clauses.{tuples_of}
 use Rattle.apd_debug.proofs.NamedTrees.{tree-named}
+use Rattle.apd_debug.proofs.OwnRecords.{label-own, tree-own}
 use Rattle.apd_divide.specs.Recorded.{tree}
 use Rattle.apd_record.specs.Reading.{point_of}
+use Rattle.apd_recorded.proofs.Recording.{program_clauses}
 use Rattle.apd_term.specs.Term.{Term}
 use Rattle.apd_text.specs.declared.entry.Entry.TheVariants.{Symptom}
 use Rattle.apd_wrong.specs.Wrong.{wrong}
 use Rattle.apd_session.specs.Steps.{by_wrong, wrong_of}
-use Rattle.apd_session.proofs.Symptoms.{head_labelled, head_named, refused_leads, run_named, symptom_breaks, symptom_leads, told-replies, wrong_begins, wrong_none, wrong_refused}
+use Rattle.apd_session.proofs.Symptoms.{head_labelled, head_named, refused_leads, run_kept, run_named, symptom_breaks, symptom_leads, told-replies, wrong_begins, wrong_none, wrong_refused}
 use Rattle.apd_session.proofs.wrong.wrong.Goals as goal
 
 pub returns-in_default : goal.returns-in_default
@@ -55,9 +58,20 @@ diagnose-answer-requires-clause-symptom g c =
 
 pub diagnose-answer-requires-clause-replies : goal.diagnose-answer-requires-clause-replies
 diagnose-answer-requires-clause-replies g c =
-    let atom : Term = (point_of c.in-Some.run'.history c.in-Ok.exit.0).tuple.head in
-    let named = head_named (length c.args.log.now.names) c.args.state.now c.in-Some.run' c.in-Ok.exit.0 c.in-Some.is c.requires.ready.ready c.in-Ok.ensures.user in
-    rw (c.in_ok-label.ensures.says.names, c.in_ok-label.ensures.replies) (told-replies (length c.args.log.now.names) c.args.state.now.replies (wrong_of c.in-Some.run'.history c.in-Ok.exit.0) named c.requires.ready.replies)
+    let R = c.in-Some.run'.history in
+    let e : ℕ = c.in-Ok.exit.0 in
+    let n : ℕ = length c.args.log.now.names in
+    let named = head_named n c.args.state.now c.in-Some.run' e c.in-Some.is c.requires.ready.ready c.in-Ok.ensures.user in
+    let own = label-own (tuples_of c.args.state.now.program) (program_clauses c.args.state.now.program c.is_program.ensures) R (run_kept n c.args.state.now c.in-Some.run' c.in-Some.is c.requires.ready.ready).history.sound e (point_of R e).tuple.head (head_labelled R e c.in-Ok.ensures.user) in
+    rw (c.in_ok-label.ensures.says.names, c.in_ok-label.ensures.replies) (told-replies n c.args.state.now.replies (wrong_of R e) named own c.requires.ready.replies)
+
+pub diagnose-answer-requires-clause-own : goal.diagnose-answer-requires-clause-own
+diagnose-answer-requires-clause-own g c =
+    let R = c.in-Some.run'.history in
+    let e : ℕ = c.in-Ok.exit.0 in
+    let n : ℕ = length c.args.log.now.names in
+    rw c.in_ok-label.ensures.head
+    (tree-own (tuples_of c.args.state.now.program) (program_clauses c.args.state.now.program c.is_program.ensures) R (run_kept n c.args.state.now c.in-Some.run' c.in-Some.is c.requires.ready.ready).history.sound e (point_of R e).tuple.head (head_labelled R e c.in-Ok.ensures.user))
 
 pub diagnose-answer-requires-clause-named : goal.diagnose-answer-requires-clause-named
 diagnose-answer-requires-clause-named g c =

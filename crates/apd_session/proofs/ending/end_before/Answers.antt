@@ -1,6 +1,6 @@
 use Rattle.apd_session.proofs.Loading.{stop_no_write}
 use Rattle.apd_session.proofs.Worlds.{said_before, front_before}
-use Rattle.apd_session.proofs.top.end_before.Goals as goal
+use Rattle.apd_session.proofs.ending.end_before.Goals as goal
 
 pub returns-in-Ok-clause-said : goal.returns-in-Ok-clause-said
 returns-in-Ok-clause-said g c = λ names grew.

@@ -45,6 +45,11 @@ fn put_asked(given: &mut Builder, asked: &Asked<'_>) {
             given.put("tree ");
             given.put_shown(&nodes);
         }
+        Subject::Log { program, log } => {
+            given.put(program);
+            given.put(" logged ");
+            given.put(log);
+        }
     }
     if let Some(oracle) = asked.oracle {
         given.put(" by ");
@@ -57,7 +62,7 @@ fn put_asked(given: &mut Builder, asked: &Asked<'_>) {
 }
 
 /// Gives what the words ask for: the most ports and answers, which ports are printed, the strategy, the program's file or
-/// how many nodes the tree has, and the oracle file where there is one.
+/// how many nodes the tree has, and a log, an oracle file and a reference program where there are such.
 pub fn put_words(trial: &mut Trial) -> Option<()> {
     let words = words_of(trial.alloc, trial.row.text(0)).ok()?;
     match read_words(trial.alloc, words.as_slice()).ok()? {

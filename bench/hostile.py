@@ -1,0 +1,191 @@
+#!/usr/bin/env python3
+"""Times the check of hostile logs: bench/hostile.py [--size BYTES] [--only WORD] [PROGRAM].
+
+Each log has at most so many bytes, 1,048,576 where none are told, which is the most that a check takes. Each is checked, and so
+is what is left of it where only its runs stay. It is met where the first takes at most a second more of the processor than the
+second, and ends with a verdict. A check that takes longer than a minute is cut off. Without PROGRAM the one that ./apd builds is
+run. It ends with 1 where a log isn't met.
+"""
+import argparse
+import os
+import random
+import resource
+import subprocess
+import sys
+import tempfile
+from pathlib import Path
+
+TOP = Path(__file__).resolve().parent.parent
+LONGEST = 60
+MOST_BESIDE = 1.0
+
+SAME = "p(X) :- p(X).\nq(1).\n"
+OPEN = "p(X) :- p(Y).\n"
+COUNT = "n(X) :- Y is X + 1, n(Y).\n"
+BOX = ":- op(200, fy, box).\n" + SAME
+BOX_CALLED = ":- op(200, fy, box).\n:- op(300, xfy, called).\n" + SAME
+MANY = "".join(f"p({n}, X) :- q(X).\n" for n in range(20000))
+
+CALL = "bug: call not below its caller: clause 1, line 1, goal 1: "
+APART = "bug: call not below its caller: clause 1, line 1, goal 2: n(1) (box 3) called by n(0) (box 1)\n"
+
+
+def asked(question, reply):
+    return f"question 1: {question}\nreply: {reply}\n"
+
+
+def below(low, high, reply="yes"):
+    return asked(f"below? {low}, {high}", reply)
+
+
+def signs(number):
+    """An atom whose mark in a store is that of each other that is made so."""
+    return "q(" + ",".join("-1" if number >> bit & 1 else "1" for bit in range(16)) + ")"
+
+
+class Logs:
+    """Logs with a title, each with the program that it was written for. The room of one is so many bytes."""
+
+    def __init__(self, room):
+        self.room, self.draw = room, random.Random(5)
+
+    def filled(self, front, part, share=1.0):
+        """What stands in front, and as many parts as fill this share of the room: a text, or what a number makes."""
+        parts, left, number = [front], int(self.room * share) - len(front), 0
+        while True:
+            text = part if isinstance(part, str) else part(number)
+            left -= len(text)
+            if left < 0:
+                return "".join(parts)
+            parts.append(text)
+            number += 1
+
+    def line(self):
+        kinds = ["bug: ", "run: ", "end: ", "question ", "reply: ", "candidate: ", "x"]
+        letters = "".join(chr(self.draw.randrange(32, 127)) for _ in range(self.draw.randrange(60)))
+        return self.draw.choice(kinds) + letters + "\n"
+
+    def run(self):
+        """A run of about as many ports as there is room for bytes."""
+        ports = min(self.room, 1000000) // 2 * 2
+        return f"run: p(a)\nend: budget, {ports} ports, 0 answers\n", f"no bug: all {ports} calls descend\n"
+
+    def texts(self):
+        """Lines that are long, or wrong, or hard to part."""
+        yield "a call with many callers", SAME, self.filled(CALL, " (box 1) called by ", 0.9) + " (box 1)"
+        yield "a call with many boxes", SAME, self.filled(CALL + "a", " (box ", 0.9) + " (box 1)"
+        yield "a call of quotes", SAME, self.filled(CALL, "'", 0.9) + " (box 1) called by a (box 1)"
+        yield "newlines", SAME, self.filled("", "\n")
+        yield "a group of candidates", SAME, self.filled("candidates: 1\n", "candidate: clause 1: p(a)\n")
+        yield "groups without candidates", SAME, self.filled("", "candidates: 0\n")
+        yield "parentheses", SAME, self.filled("question 1: true? ", "f(")
+        yield "any bytes", SAME, self.filled("", lambda n: chr(self.draw.randrange(256)))
+        yield "a list", SAME, self.filled("question 1: true? p([a", ",a", 0.9) + "])\n"
+        yield "a string", SAME, self.filled('question 1: true? p("', "a", 0.9) + '")\n'
+        yield "brackets behind a reply", SAME, self.filled("reply: yes", " [1 left]")
+        yield "references behind a reply", SAME, self.filled("reply: yes", " (reference)")
+        yield "callers within quotes", SAME, self.filled(CALL + "p('", " (box 1) called by ", 0.9) + "') (box 2) called by p(a) (box 1)"
+        yield "lines by chance", SAME, self.filled("", lambda n: self.line())
+        yield "callers of operators", SAME, self.filled(CALL, "- (box 1) called by ", 0.9) + "a (box 1)"
+        yield "escapes", SAME, self.filled(CALL + "'", "\\x", 0.9) + " (box 1) called by p (box 1)"
+        yield "boxes where box is an operator", BOX, self.filled(CALL + "a", " (box ", 0.9) + " (box 1)"
+        yield "callers where box is an operator", BOX, self.filled(CALL, "- (box 1) called by ", 0.9) + "a (box 1)"
+        yield "callers where both are operators", BOX_CALLED, self.filled(CALL, "- (box 1) called by ", 0.9) + "] (box 1)"
+
+    def replies(self):
+        """Many replies."""
+        yield "questions", SAME, self.filled("", lambda n: asked(f"true? q({n})", "yes"))
+        yield "symptoms", SAME, self.filled("", lambda n: f"symptom: true: q({n})\n")
+        yield "one symptom again and again", SAME, self.filled("", "symptom: true: q(1)\n")
+        yield "symptoms with one mark", SAME, self.filled("", lambda n: f"symptom: true: {signs(n)}\n")
+
+    def findings(self):
+        """Many findings, of many replies."""
+        symptoms = self.filled("", lambda n: f"symptom: true: q({n + 2})\n", 0.5)
+        nested = self.filled("", lambda n: f"symptom: true: q(f({n}))\n", 0.5)
+        denied = self.filled("", lambda n: f"symptom: not true: q({n + 2})\n", 0.5) + "symptom: true: q(_1)\n"
+        last, last_nested = symptoms.count("\n") + 1, nested.count("\n") - 1
+        yield "an uncovered goal again and again", SAME, self.filled("symptom: true: q(2)\n", "bug: uncovered goal: q(2)\n")
+        yield "an uncovered goal by the last of many symptoms", SAME, self.filled(symptoms, f"bug: uncovered goal: q({last})\n")
+        yield "the same with one name", SAME, self.filled(nested, f"bug: uncovered goal: q(f({last_nested}))\n")
+        yield "an uncovered goal behind denials", SAME, self.filled(denied, "bug: uncovered goal: q(2)\n")
+        front = "symptom: true: p(_1,_2)\n"
+        yield "uncovered goals among 20,000 clauses", MANY, self.filled(front, lambda n: f"bug: uncovered goal: p({n + 20000},a)\n")
+        yield "candidates of which each needs the last", OPEN, self.group()
+
+    def group(self):
+        lines = self.filled("", lambda n: f"candidate: clause 1: p({n}) :- p(last)\n", 0.9) + "candidate: clause 1: p(last) :- p(0)\n"
+        count = lines.count("\n")
+        return f"symptom: not true: p(0)\nsymptom: true: p(0)\ncandidates: {count}\n{lines}"
+
+    def chains(self):
+        """Calls that are below others."""
+        run, descends = self.run()
+        same = below("p(a)", "p(a)")
+        others = self.filled("", lambda n: below(f"q({n})", "q(a)"), 0.5)
+        yield "a chain that descends, again and again", SAME, self.filled(run + same, descends)
+        yield "a chain that descends by the last reply", SAME, run + others + same + descends
+        yield "a chain that was said not to descend", SAME, run + below("p(a)", "p(a)", "no") + others + same + descends
+        pairs = self.filled("", lambda n: below(f"n({n + 1})", f"n({n})"), 0.9)
+        calls = pairs.count("reply")
+        long_run = f"run: n(0)\nend: budget, {3 * calls + 1} ports, 0 answers\n"
+        yield "a long chain that descends", COUNT, long_run + pairs + f"no bug: all {calls + 1} calls descend\n"
+        run = "run: n(0)\nend: budget, 10 ports, 0 answers\n"
+        steps = self.filled("", lambda n: below(f"z({n})", f"z({n + 1})"), 0.5)
+        count = steps.count("reply")
+        ends = below("n(1)", f"z({count})", "no")
+        up = run + below("n(0)", "z(0)") + steps + ends
+        down = run + "".join(below(f"z({n})", f"z({n + 1})") for n in reversed(range(count))) + below("n(0)", "z(0)") + ends
+        yield "a call apart by many replies, in their order", COUNT, up + APART
+        yield "a call apart by many replies, against their order", COUNT, down + APART
+        yield "a call apart by many replies, again and again", COUNT, self.filled(up, APART)
+
+    def all(self):
+        for found in (self.texts, self.replies, self.findings, self.chains):
+            yield from found()
+
+
+def limited():
+    resource.setrlimit(resource.RLIMIT_CPU, (LONGEST, LONGEST))
+
+
+def timed(program, folder, source, log):
+    """The processor seconds of a check, and what it says."""
+    (folder / "p").write_text(source, encoding="utf-8")
+    (folder / "log").write_bytes(log.encode("latin1"))
+    with open(folder / "said", "wb") as said:
+        ran = subprocess.Popen([program, "--check", folder / "log", folder / "p"], stdout=said, preexec_fn=limited)
+        _, status, used = os.wait4(ran.pid, 0)
+    ran.returncode = os.waitstatus_to_exitcode(status)
+    last = (folder / "said").read_text(encoding="latin1").split("\n")[-2:][0]
+    if ran.returncode not in (0, 11):
+        last = "cut off" if ran.returncode < 0 else f"status {ran.returncode}"
+    return used.ru_utime + used.ru_stime, last
+
+
+def runs_of(log):
+    return "".join(line + "\n" for line in log.split("\n") if line.startswith(("run: ", "end: ")) and len(line) < 1000)
+
+
+def main():
+    words = argparse.ArgumentParser(description="Times the check of hostile logs.")
+    words.add_argument("--size", type=int, default=1 << 20)
+    words.add_argument("--only", default="")
+    words.add_argument("program", nargs="?", default=TOP / "crates/apd/out/apd")
+    given = words.parse_args()
+    program, missed = Path(given.program).resolve(), 0
+    with tempfile.TemporaryDirectory(prefix="apd-hostile-") as name:
+        for title, source, log in Logs(given.size).all():
+            if given.only not in title:
+                continue
+            seconds, said = timed(program, Path(name), source, log)
+            runs = timed(program, Path(name), source, runs_of(log))[0]
+            is_met = seconds <= runs + MOST_BESIDE and not said.startswith(("cut", "status"))
+            missed += not is_met
+            print(f"{title}: {seconds:.2f} s, its runs {runs:.2f} s: {said}" + ("" if is_met else " (not met)"), flush=True)
+    print(f"{missed} not met")
+    return 1 if missed else 0
+
+
+if __name__ == "__main__":
+    sys.exit(main())

@@ -11,10 +11,10 @@ _apd() {
     case $before in
     --strategy) mapfile -t COMPREPLY < <(compgen -W "divide single top" -- "$word") ;;
     --budget | --answers | --demo) COMPREPLY=() ;;
-    --oracle | --reference) mapfile -t COMPREPLY < <(compgen -f -- "$word") ;;
+    --oracle | --reference | --check) mapfile -t COMPREPLY < <(compgen -f -- "$word") ;;
     *)
         case $word in
-        -*) mapfile -t COMPREPLY < <(compgen -W "--budget --answers --trace --strategy --oracle --reference --demo${apdi:+ --page}" -- "$word") ;;
+        -*) mapfile -t COMPREPLY < <(compgen -W "--budget --answers --trace --strategy --oracle --reference --demo --check${apdi:+ --page}" -- "$word") ;;
         *) mapfile -t COMPREPLY < <(compgen -f -X '!*.pl' -- "$word"; compgen -d -- "$word") ;;
         esac
         ;;

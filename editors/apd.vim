@@ -15,9 +15,9 @@ syntax match apdReply "^reply: \S\+"
 syntax match apdSymptom "^symptom: .*" contains=apdVariable
 syntax match apdFinding "^\(bug\|no bug\|candidates\|candidate\|unanswered\):.*" contains=apdVariable
 syntax match apdCount "\[\d\+ \(suspects\|left\)\]"
-syntax match apdWhole "^\(passed over\|warning\|loaded\|oracle\|reference\|run\|end\|trace\|demo\):"
+syntax match apdWhole "^\(passed over\|warning\|loaded\|oracle\|reference\|run\|end\|trace\|demo\|check\):"
 syntax match apdRefusal "^E\d\+ .*"
-syntax match apdRefusal "^\(program refused\|oracle refused\|reference refused\|usage\):.*\|^\(read fault\|input limit\|file too long\).*"
+syntax match apdRefusal "^\(program refused\|oracle refused\|reference refused\|usage\|check fails\):.*\|^\(read fault\|input limit\|file too long\).*"
 highlight default link apdVariable Identifier
 highlight default link apdCall Statement
 highlight default link apdExit String

@@ -1,0 +1,5 @@
+pub mod Alike
+pub mod Findings
+pub mod Queries
+pub mod Good
+pub mod Saying

@@ -1,0 +1,4 @@
+pub mod Claims
+pub mod Says
+pub mod Texts
+pub mod Uttered

@@ -246,7 +246,7 @@ module _ (m : Interpretation) (program : List Clause) (is : IsProgram program) (
       by e = tt
 
   -- the lines of the input are heard, or the tree is demonstrated
-  started-right : (verdict : Checked) (input : List ℕ) (ends : InputEnd) (b : Beginning) (s : State) (a : Account) (course : Course) → Stands m program is strategy (ready_in s) a
+  pub started-right : (verdict : Checked) (input : List ℕ) (ends : InputEnd) (b : Beginning) (s : State) (a : Account) (course : Course) → Stands m program is strategy (ready_in s) a
       → Right a (transcript_of reader (Open ops (record { beginning = b; state = s }) course) verdict input ends).utterances
   started-right verdict input ends b s a Hears h = heard-right input ends b s a h
   started-right verdict input ends b s a (Plays nodes) h =

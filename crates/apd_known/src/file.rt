@@ -1,6 +1,6 @@
 //! The oracle file: replies that are known and predicates that are trusted beforehand.
 
-ghost use Rattle.std.specs.Prelude.{◌≡◌, ◌<◌, ◌≤◌, ◌+◌, length, IfOk, OnOk};
+ghost use Rattle.std.specs.Prelude.{◌≡◌, ◌<◌, ◌≤◌, ◌+◌, length, IfOk, OnOk, IsUtf8};
 ghost use Rattle.std.specs.Option.{ForSome};
 ghost use Rattle.apd_base.specs.declared.limits.TheConstants.{MAX_FILE, MOST_NAMES};
 ghost use Rattle.apd_term.specs.Growth.{GrowsBy};
@@ -185,6 +185,7 @@ fn state_clauses(
 ) -> Result<Stated, OracleText>
     requires room { length names.old + length text.now < MOST_NAMES }
     requires size { length text.now ≤ MAX_FILE }
+    requires utf8 { IsUtf8 text.now }
     requires tokens { HasTokens text.now tokens.now }
     ensures grows { GrowsBy (length text.now) names.old names.new }
     ensures stated { IsStated

@@ -10,7 +10,7 @@ mod pieces;
 mod places;
 mod words;
 
-ghost use Rattle.std.specs.Prelude.{◌≤◌, length};
+ghost use Rattle.std.specs.Prelude.{◌≤◌, length, IsUtf8};
 ghost use Rattle.apd_token.specs.Grammar.{HasTokens};
 ghost use Rattle.apd_base.specs.declared.limits.TheConstants.{MAX_FILE};
 
@@ -178,6 +178,7 @@ pub fn plain_read(
     tokens: &Tokens,
 ) -> Result<Flat, ReadFault>
     requires small { length text.now ≤ MAX_FILE }
+    requires utf8 { IsUtf8 text.now }
     requires tokens { HasTokens text.now tokens.now }
 {
     let words = words(alloc, names, text, tokens)?;

@@ -6,7 +6,7 @@ mod grammar;
 mod op_terms;
 mod stop;
 
-ghost use Rattle.std.specs.Prelude.{◌≡◌, ◌≤◌, IfOk, length};
+ghost use Rattle.std.specs.Prelude.{◌≡◌, ◌≤◌, IfOk, length, IsUtf8};
 ghost use Rattle.apd_term.specs.Term.{arguments};
 ghost use Rattle.apd_token.specs.Grammar.{HasTokens};
 ghost use Rattle.apd_base.specs.declared.limits.TheConstants.{MAX_FILE};
@@ -235,6 +235,7 @@ fn step(
     at: usize,
 ) -> Result<usize, LoadText>
     requires size { length text.now ≤ MAX_FILE }
+    requires utf8 { IsUtf8 text.now }
     requires tokens { HasTokens text.now tokens.now }
 {
     if at >= tokens.len() || names.count() > 1_000_000 {
@@ -262,7 +263,8 @@ fn step(
 /// The tokens of a text.
 fn tokens_of(alloc: Global, text: &[u8], lines: &[u32]) -> Result<Tokens, LoadText>
     requires size { length text.now ≤ MAX_FILE }
-    ensures { IfOk result (λ tokens. HasTokens text.now tokens) }
+    ensures utf8 { IfOk result (λ _. IsUtf8 text.now) }
+    ensures tokens { IfOk result (λ tokens. HasTokens text.now tokens) }
 {
     match tokens(alloc, text) {
         Ok(tokens) => Ok(tokens),
@@ -283,6 +285,7 @@ fn add_all(
     lines: &[u32],
 ) -> Result<(), LoadText>
     requires size { length text.now ≤ MAX_FILE }
+    requires utf8 { IsUtf8 text.now }
     requires tokens { HasTokens text.now tokens.now }
 {
     let mut at = 0;
@@ -304,6 +307,7 @@ fn made_of(
     lines: &[u32],
 ) -> Result<Plain, LoadText>
     requires size { length text.now ≤ MAX_FILE }
+    requires utf8 { IsUtf8 text.now }
     requires tokens { HasTokens text.now tokens.now }
 {
     let mut made = at_first(alloc)?;

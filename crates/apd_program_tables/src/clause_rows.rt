@@ -167,7 +167,7 @@ pub fn put_filled(trial: &mut Trial) -> Option<()> {
 
 /// Gives what the predicates of a name are, with no argument and with 1 to 9.
 pub fn put_kinds(trial: &mut Trial) -> Option<()> {
-    let name = trial.scene.name(trial.row.bytes(0)).ok()?;
+    let name = trial.scene.name(trial.row.text(0)).ok()?;
     for arity in 0..=MOST_ARGUMENTS {
         trial.given.put(if arity == 0 { "" } else { " " });
         trial.given.put_debug(&kind_of(Pred { name, arity }));

@@ -18,8 +18,8 @@ const SECOND: u64 = 2;
 
 /// Gives the number of a name, before and after it is given again, how many names there are, and its text.
 pub fn put_name(trial: &mut Trial) -> Option<()> {
-    let first = trial.scene.name(trial.row.bytes(0)).ok()?;
-    let id = trial.scene.name(trial.row.bytes(0)).ok()?;
+    let first = trial.scene.name(trial.row.text(0)).ok()?;
+    let id = trial.scene.name(trial.row.text(0)).ok()?;
     let names = &trial.scene.names;
     let numbers = format!(in trial.alloc; "{} {} of {}: ", first.0, id.0, names.count());
     trial.given.put_made(numbers);

@@ -1,6 +1,6 @@
 //! The tokens of a clause by what they stand for.
 
-ghost use Rattle.std.specs.Prelude.{◌≡◌, ◌+◌, ◌-◌, ◌<◌, ◌≤◌, length, slice_range, IfOk, drop, ℕ, List};
+ghost use Rattle.std.specs.Prelude.{◌≡◌, ◌+◌, ◌-◌, ◌<◌, ◌≤◌, length, slice_range, IfOk, drop, ℕ, List, IsUtf8};
 ghost use Rattle.apd_token.specs.Grammar.{IsTokenOf, HasTokens, HasText, ContentOf};
 ghost use Rattle.apd_term.specs.Growth.{GrowsBy};
 ghost use Rattle.apd_read.specs.Lexemes.{IsNameOf, IsSort, AreLexemes, to_end, ends_clause, EndsLast, SortIsNamed, LexemesAreNamed};
@@ -25,6 +25,7 @@ pub(crate) struct Clause {
 /// The name that a token's characters are.
 fn named(alloc: Global, names: &mut Names, text: &[u8], token: &Token) -> Result<NameId, AllocError>
     requires small { length text.now ≤ MAX_FILE }
+    requires utf8 { IsUtf8 text.now }
     requires token { IsTokenOf text.now token.now }
     requires kind { HasText token.now.kind }
     requires room { length names.old < MOST_NAMES }
@@ -49,6 +50,7 @@ fn sort_of(
     vars: &mut Variables,
 ) -> Result<Sort, AllocError>
     requires small { length text.now ≤ MAX_FILE }
+    requires utf8 { IsUtf8 text.now }
     requires token { IsTokenOf text.now token.now }
     requires room { length names.old < MOST_NAMES }
     requires few { length vars.old.texts < MOST_NAMES }
@@ -102,6 +104,7 @@ pub(crate) fn lexemes(
     at: usize,
 ) -> Result<Clause, AllocError>
     requires small { length text.now ≤ MAX_FILE }
+    requires utf8 { IsUtf8 text.now }
     requires tokens { HasTokens text.now tokens.now }
     requires few { length tokens.now ≤ MAX_FILE }
     requires within { at ≤ length tokens.now }

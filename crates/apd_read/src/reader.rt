@@ -1,6 +1,6 @@
 //! The reading of a clause.
 
-ghost use Rattle.std.specs.Prelude.{◌≡◌, ◌+◌, ◌-◌, ◌*◌, ◌<◌, ◌≤◌, ℕ, length, List, ◌++◌, Some, IfOk, IfErr, slice_get, Result, ◌↔◌};
+ghost use Rattle.std.specs.Prelude.{◌≡◌, ◌+◌, ◌-◌, ◌*◌, ◌<◌, ◌≤◌, ℕ, length, List, ◌++◌, Some, IfOk, IfErr, slice_get, Result, ◌↔◌, IsUtf8};
 ghost use Rattle.apd_term.specs.Term.{size, Occurs};
 ghost use Rattle.apd_term.specs.Growth.{GrowsBy};
 ghost use Rattle.apd_term.specs.Named.{IsNamed};
@@ -125,6 +125,7 @@ pub fn read_clause(
     at: usize,
 ) -> Result<Read, ReadFault>
     requires small { length text.now ≤ MAX_FILE }
+    requires utf8 { IsUtf8 text.now }
     requires tokens { HasTokens text.now tokens.now }
     requires within { at < length tokens.now }
     requires room { (t : Token) → slice_get tokens.now at ≡ Some t →

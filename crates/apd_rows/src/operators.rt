@@ -50,7 +50,7 @@ impl Scene {
         let Some((priority, kind, text)) = definition_of(line) else {
             return Err(OpFault::BadPriority);
         };
-        let name = self.name(text.as_bytes())?;
+        let name = self.name(text)?;
         self.ops.define(priority, kind, name)
     }
 }

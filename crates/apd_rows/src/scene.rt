@@ -39,10 +39,10 @@ impl Scene {
     }
 
     /// The name of a text. An error also where there are too many names.
-    pub fn name(&mut self, text: &[u8]) -> Result<NameId, AllocError> {
+    pub fn name(&mut self, text: &str) -> Result<NameId, AllocError> {
         if self.names.count() > MOST_ROW_NAMES {
             return Err(AllocError);
         }
-        self.names.intern(text)
+        self.names.intern(text.as_bytes())
     }
 }

@@ -1,5 +1,5 @@
 -- Names are numbered by their place in a list of texts, each of which stands in it once.
-use Rattle.std.specs.Prelude.{ℕ, Bool, List, [], ◌∷◌, ◌++◌, if◌then◌else◌, nat_eq, slice_index_or}
+use Rattle.std.specs.Prelude.{ℕ, Bool, List, [], ◌∷◌, ◌++◌, if◌then◌else◌, nat_eq, slice_index_or, All, IsUtf8}
 use Rattle.std.specs.List.{list_any, position_or_len, IsDistinct}
 use Rattle.std.specs.Cmp.Lexicographic.{pointwise}
 use Rattle.apd_term.specs.declared.term.NameId.{NameId}
@@ -27,3 +27,7 @@ with_name names text = if is_name names text then names else names ++ text ∷ [
 -- no text stands among the names twice
 abbrev pub HasDistinctTexts : List (List ℕ) → Type 0
 HasDistinctTexts names = IsDistinct same_text names
+
+-- each text is UTF-8
+abbrev pub HasUtf8Texts : List (List ℕ) → Type 0
+HasUtf8Texts names = All IsUtf8 names

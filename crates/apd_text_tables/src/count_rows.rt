@@ -1,6 +1,6 @@
 //! How much a text reads as: for a table, and for the measurement of times.
 
-ghost use Rattle.std.specs.Prelude.{◌≤◌, ◌<◌, length};
+ghost use Rattle.std.specs.Prelude.{◌≤◌, ◌<◌, length, IsUtf8};
 ghost use Rattle.apd_token.specs.Grammar.{HasTokens};
 ghost use Rattle.apd_base.specs.declared.limits.TheConstants.{MAX_FILE};
 
@@ -43,6 +43,7 @@ fn read_at(
     at: usize,
 ) -> Result<Read, ReadFault>
     requires small { length text.now ≤ MAX_FILE }
+    requires utf8 { IsUtf8 text.now }
     requires tokens { HasTokens text.now tokens.now }
     requires within { at < length tokens.now }
 {
@@ -56,6 +57,7 @@ fn read_at(
 /// Counts the clauses of the tokens, up to the first fault.
 fn count_clauses(alloc: Global, text: &[u8], tokens: &Tokens) -> Result<Counts, AllocError>
     requires small { length text.now ≤ MAX_FILE }
+    requires utf8 { IsUtf8 text.now }
     requires tokens { HasTokens text.now tokens.now }
 {
     let mut counts = Counts::default();

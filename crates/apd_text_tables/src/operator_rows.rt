@@ -50,7 +50,7 @@ fn put_meanings_of(given: &mut Builder, ops: &Ops, name: NameId) {
 /// Gives what the row's name means.
 pub fn put_meanings(trial: &mut Trial) -> Option<()> {
     trial.change()?;
-    let name = trial.scene.name(trial.row.bytes(1)).ok()?;
+    let name = trial.scene.name(trial.row.text(1)).ok()?;
     put_meanings_of(&mut trial.given, &trial.scene.ops, name);
     Some(())
 }
@@ -67,9 +67,7 @@ fn put_said(given: &mut Builder, said: Result<(), OpFault>) {
 /// Makes a definition, and adds what is said of it and what its name means afterwards.
 fn put_definition(given: &mut Builder, scene: &mut Scene, line: &str) -> Option<()> {
     put_said(given, scene.define(line));
-    let name = scene
-        .name(line.splitn(3, ' ').last().unwrap_or("").as_bytes())
-        .ok()?;
+    let name = scene.name(line.splitn(3, ' ').last().unwrap_or("")).ok()?;
     put_meanings_of(given, &scene.ops, name);
     given.put("; ");
     Some(())

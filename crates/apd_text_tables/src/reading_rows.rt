@@ -1,6 +1,6 @@
 //! What `read_clause` gives, beside the plain reader.
 
-ghost use Rattle.std.specs.Prelude.{◌≤◌, length};
+ghost use Rattle.std.specs.Prelude.{◌≤◌, length, IsUtf8};
 ghost use Rattle.apd_token.specs.Grammar.{HasTokens};
 ghost use Rattle.apd_base.specs.declared.limits.TheConstants.{MAX_FILE};
 
@@ -33,6 +33,7 @@ fn same_reading(read: Result<Read, ReadFault>, plain: Result<Flat, ReadFault>) -
 /// Whether the two readings of a text that is divided into tokens give the same term or the same fault.
 fn clauses_alike(alloc: Global, scene: &mut Scene, text: &[u8], tokens: &Tokens) -> bool
     requires small { length text.now ≤ MAX_FILE }
+    requires utf8 { IsUtf8 text.now }
     requires tokens { HasTokens text.now tokens.now }
 {
     let Scene { names, ops } = scene;

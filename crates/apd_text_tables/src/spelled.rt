@@ -10,7 +10,7 @@ const MOST_ARGUMENTS: usize = 255;
 
 /// A name before so many arguments.
 pub fn function(scene: &mut Scene, name: &str, arity: u8) -> Option<Sym> {
-    let name = scene.name(name.as_bytes()).ok()?;
+    let name = scene.name(name).ok()?;
     Some(Sym::Fun(name, arity))
 }
 

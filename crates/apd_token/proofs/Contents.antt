@@ -170,7 +170,7 @@ quoted_item at k (b ∷ bs) after f h =
     record { quote = b; rest = bs; spelled = refl; is_quote = class_quote b e; form = subst (λ (c : Class). FormOf c at (Item k) b bs after) e f }
 
 -- an item stops at its closing quote
-closes : (at place : ℕ) (k : Kind) (q : ℕ) (stop after : List ℕ) → StopOf at place (Item k) q stop after → (stop ≡ q ∷ []) × (k ≡ quoted_kind q)
+pub closes : (at place : ℕ) (k : Kind) (q : ℕ) (stop after : List ℕ) → StopOf at place (Item k) q stop after → (stop ≡ q ∷ []) × (k ≡ quoted_kind q)
 closes at place k q [] after s = let h = s.1 in absurd cc
 closes at place k q (c ∷ more) after s = elim s.1 [
   | inl close ↦ ((λ i. close.0 i ∷ s.0 i), (let h = close.2 in cc))

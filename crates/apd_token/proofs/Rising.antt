@@ -1,5 +1,5 @@
 -- Before each token stand at least as many bytes as tokens.
-use Rattle.std.proofs.Common.{◌≡◌, ℕ, ◌+◌, ◌<◌, ◌≤◌, Bool, true, List, [], ◌∷◌, ◌++◌, length, get_or, zero, suc, Option, Some, ap, sym, ◌∙◌, subst, arith}
+use Rattle.std.proofs.Common.{◌≡◌, ℕ, ◌+◌, ◌≤◌, Bool, true, List, [], ◌∷◌, ◌++◌, length, zero, suc, Some, ap, sym, subst, arith}
 use Rattle.std.specs.List.{slice_get}
 use Rattle.apd_token.specs.declared.items.Token.{Token}
 use Rattle.apd_token.specs.declared.found.Found.{Found}

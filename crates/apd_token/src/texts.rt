@@ -1,6 +1,6 @@
 //! The characters that an item stands for.
 
-ghost use Rattle.std.specs.Prelude.{◌≡◌, ℕ, ◌<◌, ◌≤◌, List, ◌++◌, length, slice_range, IfOk, OnOk};
+ghost use Rattle.std.specs.Prelude.{◌≡◌, ℕ, ◌<◌, ◌≤◌, List, ◌++◌, length, slice_range, IfOk, OnOk, IsUtf8};
 ghost use Rattle.apd_token.specs.Grammar.{IsTokenOf, HasText, ContentOf};
 ghost use Rattle.apd_token.specs.Scan.{value_of, Unquotes};
 ghost use Rattle.apd_token.specs.declared.items.Kind.{Kind};
@@ -51,13 +51,14 @@ fn part(alloc: Global, text: &[u8], start: usize, end: usize) -> Result<Text, Al
 /// The characters that a name, a variable or a quoted item of the text stands for, in UTF-8.
 ///
 /// A name or a variable stands for its own bytes. Between quotes a doubled quote stands for one, an
-/// escape for its character, and each other byte for itself.
+/// escape for its character, and each other byte for itself. So they are UTF-8 where the text is.
 pub fn content(alloc: Global, text: &[u8], token: &Token) -> Result<Text, AllocError>
     requires small { length text.now ≤ MAX_FILE }
     requires token { IsTokenOf text.now token.now }
     requires kind { HasText token.now.kind }
-    ensures { IfOk result (λ v. ContentOf token.now.kind
+    ensures stands { IfOk result (λ v. ContentOf token.now.kind
         (slice_range text.now token.now.start token.now.end) v) }
+    ensures utf8 { IsUtf8 text.now → IfOk result (λ v. IsUtf8 v) }
 {
     let start = token.start as usize;
     let end = token.end as usize;

@@ -1,6 +1,6 @@
 //! The tokens of a clause with what they stand for.
 
-ghost use Rattle.std.specs.Prelude.{◌≤◌, length};
+ghost use Rattle.std.specs.Prelude.{◌≤◌, length, IsUtf8};
 ghost use Rattle.apd_token.specs.Grammar.{HasText, HasTokens, IsTokenOf};
 ghost use Rattle.apd_base.specs.declared.limits.TheConstants.{MAX_FILE};
 
@@ -70,7 +70,9 @@ fn number(vars: &mut Vec<Text>, text: Text) -> Result<u64, AllocError> {
 }
 
 /// The name of a text, and the atom that it is. An error also where there are too many names.
-fn name_meant(alloc: Global, names: &mut Names, text: &[u8]) -> Result<Meaning, AllocError> {
+fn name_meant(alloc: Global, names: &mut Names, text: &[u8]) -> Result<Meaning, AllocError>
+    requires { IsUtf8 text.now }
+{
     if names.count() > MOST_TEXT_NAMES {
         return Err(AllocError);
     }
@@ -85,6 +87,7 @@ fn name_of(
     token: &Token,
 ) -> Result<Meaning, AllocError>
     requires small { length text.now ≤ MAX_FILE }
+    requires utf8 { IsUtf8 text.now }
     requires token { IsTokenOf text.now token.now }
     requires kind { HasText token.now.kind }
 {
@@ -125,6 +128,7 @@ fn meaning(
     vars: &mut Vec<Text>,
 ) -> Result<Meaning, AllocError>
     requires small { length text.now ≤ MAX_FILE }
+    requires utf8 { IsUtf8 text.now }
     requires token { IsTokenOf text.now token.now }
 {
     match token.kind {
@@ -145,6 +149,7 @@ fn word_of(
     vars: &mut Vec<Text>,
 ) -> Result<Word, AllocError>
     requires small { length text.now ≤ MAX_FILE }
+    requires utf8 { IsUtf8 text.now }
     requires token { IsTokenOf text.now token.now }
 {
     let (name, term) = meaning(alloc, names, text, token, vars)?;
@@ -165,6 +170,7 @@ pub fn words(
     tokens: &Tokens,
 ) -> Result<Vec<Word>, AllocError>
     requires small { length text.now ≤ MAX_FILE }
+    requires utf8 { IsUtf8 text.now }
     requires tokens { HasTokens text.now tokens.now }
 {
     let mut words = Vec::new(alloc);

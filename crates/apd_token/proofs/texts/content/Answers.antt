@@ -3,6 +3,7 @@ use Rattle.std.specs.List.{slice_range}
 use Rattle.apd_token.specs.Grammar.{ContentOf}
 use Rattle.apd_token.specs.declared.items.Kind.{Kind}
 use Rattle.apd_token.proofs.Contents.{in_text, quoted_content, codes_content}
+use Rattle.apd_token.proofs.Utf8Contents.{content_utf8}
 use Rattle.apd_token.proofs.texts.content.Goals as goal
 
 pub unquoted-requires : goal.unquoted-requires
@@ -11,8 +12,8 @@ unquoted-requires c = let t = in_text _ _ c.requires.token in omega (arith, t.or
 pub part-requires : goal.part-requires
 part-requires c = let t = in_text _ _ c.requires.token in record { order = omega (arith, t.order); within = t.within }
 
-pub returns-in_ok-value-in-Quoted : goal.returns-in_ok-value-in-Quoted
-returns-in_ok-value-in-Quoted c =
+pub returns-in_ok-value-in-Quoted-clause-stands : goal.returns-in_ok-value-in-Quoted-clause-stands
+returns-in_ok-value-in-Quoted-clause-stands c =
     let text = c.args.text.now in
     let token = c.args.token.now in
     let value = c.in_ok-value-in-Quoted.value in
@@ -22,8 +23,8 @@ returns-in_ok-value-in-Quoted c =
       | inr is ↦ subst (λ (k : Kind). ContentOf k bytes value) (sym is) (codes_content text token value c.requires.token is c.in_ok-value-in-Quoted.ensures)
     ]
 
-pub returns-in_ok-value-in-Name : goal.returns-in_ok-value-in-Name
-returns-in_ok-value-in-Name c =
+pub returns-in_ok-value-in-Name-clause-stands : goal.returns-in_ok-value-in-Name-clause-stands
+returns-in_ok-value-in-Name-clause-stands c =
     let text = c.args.text.now in
     let token = c.args.token.now in
     let value = c.in_ok-value-in-Name.value in
@@ -32,3 +33,11 @@ returns-in_ok-value-in-Name c =
       | inl is ↦ subst (λ (k : Kind). ContentOf k bytes value) (sym is) c.in_ok-value-in-Name.ensures
       | inr is ↦ subst (λ (k : Kind). ContentOf k bytes value) (sym is) c.in_ok-value-in-Name.ensures
     ]
+
+pub returns-in_ok-value-in-Quoted-clause-utf8 : goal.returns-in_ok-value-in-Quoted-clause-utf8
+returns-in_ok-value-in-Quoted-clause-utf8 c = λ u.
+    content_utf8 c.args.text.now c.args.token.now c.in_ok-value-in-Quoted.value u c.requires.token c.requires.kind (returns-in_ok-value-in-Quoted-clause-stands c)
+
+pub returns-in_ok-value-in-Name-clause-utf8 : goal.returns-in_ok-value-in-Name-clause-utf8
+returns-in_ok-value-in-Name-clause-utf8 c = λ u.
+    content_utf8 c.args.text.now c.args.token.now c.in_ok-value-in-Name.value u c.requires.token c.requires.kind (returns-in_ok-value-in-Name-clause-stands c)

@@ -1,12 +1,10 @@
 -- The text of a store is an oracle file that states what the store keeps.
 use Rattle.std.proofs.Common.{◌≡◌, ℕ, ◌+◌, ◌≤◌, Bool, List, [], ◌∷◌, ◌++◌, length, map, Option, None, Some, refl, sym, ◌∙◌, ap, subst, arith, append_assoc, length-append}
-use Rattle.std.specs.Prelude.{IsUtf8, codes, flat_map, if◌then◌else◌, pos}
+use Rattle.std.specs.Prelude.{codes, flat_map, if◌then◌else◌, pos}
 use Rattle.std.specs.List.{AllByRecursion}
 use Rattle.std.proofs.lemmas.List.{append-nil}
 use Rattle.std.proofs.lemmas.List.Concat.{flat_map-append}
 use Rattle.std.proofs.lemmas.Fmt.{decimal_digit}
-use Rattle.std.proofs.lemmas.Str.{IsUtf8-from_ascii}
-use Rattle.std.proofs.lemmas.Str.Ascii.{IsAscii-cons, IsAscii-nil}
 use Rattle.apd_ops.specs.Table.{IsTable, Table}
 use Rattle.apd_reading_back.specs.Law.{AreNames, IsInRange}
 use Rattle.apd_reading_back.specs.Lines.{AreWritten, Line, ReadsInTurn, as_call, as_clause, lines_text}
@@ -14,7 +12,7 @@ use Rattle.apd_reading_back.specs.Queries.{call_term, call_text}
 use Rattle.apd_reading_back.proofs.Lines.{lines_read_in_turn}
 use Rattle.apd_reading_back.proofs.Read.{standard_text}
 use Rattle.apd_term.specs.Growth.{Grown}
-use Rattle.apd_term.specs.Names.{HasDistinctTexts, text_of_name}
+use Rattle.apd_term.specs.Names.{HasDistinctTexts, HasUtf8Texts, text_of_name}
 use Rattle.apd_term.specs.StandardNames.{standard_names}
 use Rattle.apd_term.specs.Term.{Term, integer}
 use Rattle.apd_term.specs.declared.standard.TheConstants.{FORM}
@@ -35,7 +33,7 @@ use Rattle.apd_known.specs.declared.file.Stated.{Stated}
 use Rattle.apd_known.specs.declared.statements.Form.TheVariants.{Second}
 use Rattle.apd_text.specs.Named.{HasStandardNames}
 use Rattle.apd_kept.specs.Kept.{known_text, pair_line, pair_term, statement_of, reply_term, trust_line, trust_term}
-use Rattle.apd_kept.specs.Law.{CanBeWritten, CanReadBack, IsPlain, IsWritableStore, ReadsBackAs}
+use Rattle.apd_kept.specs.Law.{CanBeWritten, CanReadBack, IsShallow, IsWritableStore, ReadsBackAs}
 use Rattle.apd_kept.proofs.Forms.{there}
 use Rattle.apd_kept.proofs.MoreNames.{pair_named, trust_named}
 use Rattle.apd_kept.proofs.Reading.{Makes, states_in_turn}
@@ -157,21 +155,20 @@ module _ (ops : Table) (names : List (List ℕ)) (table : IsTable ops) (all : Ar
       ∙ sym (append_assoc (codes "form(2) .\n") trust pairs)
 
   -- each can be written
-  trust_written : (preds : List Pred) → AllMayTrust (length names) preds → AllByRecursion (λ p. CanBeWritten ops names (trust_term p)) preds → AreWritten ops names (trust_lines preds)
+  trust_written : (preds : List Pred) → AllMayTrust (length names) preds → AllByRecursion (λ p. CanBeWritten ops (trust_term p)) preds → AreWritten ops names (trust_lines preds)
   trust_written [] may can = tt
   trust_written (p ∷ ps) may can = (
     as_clause (trust_term p)
-        (record { named = trust_named (length names) p standard may.0.named; utf8 = can.0.utf8; canonical = apply-ground (there (trust_term p)) (trust_term p) refl; in_range = can.0.in_range; shallow = can.0.shallow }),
+        (record { named = trust_named (length names) p standard may.0.named; canonical = apply-ground (there (trust_term p)) (trust_term p) refl; in_range = can.0.in_range; shallow = can.0.shallow }),
     trust_written ps may.1 can.1,
   )
 
-  pairs_written : (pairs : List Pair) → AllStatable (length names) pairs → AllByRecursion (λ p. CanBeWritten ops names (pair_term p)) pairs → AreWritten ops names (pair_lines pairs)
+  pairs_written : (pairs : List Pair) → AllStatable (length names) pairs → AllByRecursion (λ p. CanBeWritten ops (pair_term p)) pairs → AreWritten ops names (pair_lines pairs)
   pairs_written [] may can = tt
   pairs_written (p ∷ ps) may can = (
     as_clause (pair_term p)
         (record {
           named = pair_named (length names) p standard may.0.question_named may.0.reply_named;
-          utf8 = can.0.utf8;
           canonical = canonical-canonical (statement_of p.question (reply_term p.reply));
           in_range = can.0.in_range;
           shallow = can.0.shallow;
@@ -183,14 +180,9 @@ module _ (ops : Table) (names : List (List ℕ)) (table : IsTable ops) (all : Ar
   both_written [] ms v w = w
   both_written (l ∷ ls) ms v w = (v.0, both_written ls ms v.1 w)
 
-  form_utf8 : IsUtf8 (text_of_name names FORM)
-  form_utf8 =
-      let ascii = IsAscii-cons 102 (111 ∷ 114 ∷ 109 ∷ []) (omega arith) (IsAscii-cons 111 (114 ∷ 109 ∷ []) (omega arith) (IsAscii-cons 114 (109 ∷ []) (omega arith) (IsAscii-cons 109 [] (omega arith) IsAscii-nil))) in
-      subst IsUtf8 (sym form_name) (IsUtf8-from_ascii (codes "form") ascii)
-
   lines_written : (store : Store) → IsWritableStore ops names store → AreWritten ops names (lines_of store)
   lines_written store can = (
-    as_call FORM form_term (let many = standard in omega (arith, many, length-standard_names)) form_utf8 (record { named = tt; utf8 = tt; canonical = refl; in_range = omega arith }) (omega arith),
+    as_call FORM form_term (let many = standard in omega (arith, many, length-standard_names)) (record { named = tt; canonical = refl; in_range = omega arith }) (omega arith),
     both_written (trust_lines store.trusted) (pair_lines store.pairs) (trust_written store.trusted can.trust can.trust_texts) (pairs_written store.pairs can.pairs can.pair_texts),
   )
 
@@ -237,28 +229,28 @@ module _ (ops : Table) (names : List (List ℕ)) (table : IsTable ops) (all : Ar
         },
       )
 
--- A store whose statements are plain, and have the numbers of symbols.
-pairs_written-by : (ops : Table) (names : List (List ℕ)) (pairs : List Pair) → AllByRecursion (λ p. IsPlain ops names (pair_term p)) pairs → AllByRecursion (λ p. IsInRange (pair_term p)) pairs → AllByRecursion (λ p. CanBeWritten ops names (pair_term p)) pairs
-pairs_written-by ops names [] plain ranges = tt
-pairs_written-by ops names (p ∷ ps) plain ranges = (record { utf8 = plain.0.utf8; in_range = ranges.0; shallow = plain.0.shallow }, pairs_written-by ops names ps plain.1 ranges.1)
+-- A store whose statements are shallow, and have the numbers of symbols.
+pairs_written-by : (ops : Table) (pairs : List Pair) → AllByRecursion (λ p. IsShallow ops (pair_term p)) pairs → AllByRecursion (λ p. IsInRange (pair_term p)) pairs → AllByRecursion (λ p. CanBeWritten ops (pair_term p)) pairs
+pairs_written-by ops [] shallow ranges = tt
+pairs_written-by ops (p ∷ ps) shallow ranges = (record { in_range = ranges.0; shallow = shallow.0 }, pairs_written-by ops ps shallow.1 ranges.1)
 
 trust_range : (p : Pred) → p.arity ≤ 255 → IsInRange (trust_term p)
 trust_range p few = (omega arith, ((omega arith, ((omega arith, tt), (omega (arith, few), tt))), tt))
 
-trusts_written-by : (ops : Table) (names : List (List ℕ)) (preds : List Pred) → AllByRecursion (λ p. IsPlain ops names (trust_term p)) preds → Few preds → AllByRecursion (λ p. CanBeWritten ops names (trust_term p)) preds
-trusts_written-by ops names [] plain few = tt
-trusts_written-by ops names (p ∷ ps) plain few = (record { utf8 = plain.0.utf8; in_range = trust_range p few.0; shallow = plain.0.shallow }, trusts_written-by ops names ps plain.1 few.1)
+trusts_written-by : (ops : Table) (preds : List Pred) → AllByRecursion (λ p. IsShallow ops (trust_term p)) preds → Few preds → AllByRecursion (λ p. CanBeWritten ops (trust_term p)) preds
+trusts_written-by ops [] shallow few = tt
+trusts_written-by ops (p ∷ ps) shallow few = (record { in_range = trust_range p few.0; shallow = shallow.0 }, trusts_written-by ops ps shallow.1 few.1)
 
-pub store_reads_back : (ops : Table) (names : List (List ℕ)) (store : Store) → IsTable ops → HasDistinctTexts names → Grown standard_names names → AreOnce store.pairs → AreListedOnce store.trusted
+pub store_reads_back : (ops : Table) (names : List (List ℕ)) (store : Store) → IsTable ops → HasDistinctTexts names → Grown standard_names names → HasUtf8Texts names → AreOnce store.pairs → AreListedOnce store.trusted
     → AllByRecursion (λ (p : Pred). p.arity ≤ 255) store.trusted → AllByRecursion (λ p. IsInRange (pair_term p)) store.pairs → CanReadBack ops names store → (s : Stated) × ReadsBackAs ops names store s
-store_reads_back ops names store table distinct standard once listed arities ranges can =
-    reads_back_as ops names table (record { distinct = distinct; standard = standard }) store
+store_reads_back ops names store table distinct standard utf8 once listed arities ranges can =
+    reads_back_as ops names table (record { distinct = distinct; standard = standard; utf8 = utf8 }) store
     (record {
       pairs = can.pairs;
       once = once;
       trust = can.trust;
       trust_once = listed;
       arities = arities;
-      pair_texts = pairs_written-by ops names store.pairs can.plain.pairs ranges;
-      trust_texts = trusts_written-by ops names store.trusted can.plain.trust arities;
+      pair_texts = pairs_written-by ops store.pairs can.shallow.pairs ranges;
+      trust_texts = trusts_written-by ops store.trusted can.shallow.trust arities;
     })

@@ -3,7 +3,7 @@ use Rattle.std.specs.Prelude.{◌≡◌, ℕ, ◌<◌, ◌≤◌, ◌++◌, List
 use Rattle.std.specs.List.{AllByRecursion}
 use Rattle.apd_ops.specs.Table.{Table}
 use Rattle.apd_read.specs.Reader.{Reader}
-use Rattle.apd_reading_back.specs.Law.{HasUtf8Names, IsInRange}
+use Rattle.apd_reading_back.specs.Law.{IsInRange}
 use Rattle.apd_reading_back.specs.Levels.{levels}
 use Rattle.apd_term.specs.Term.{Term}
 use Rattle.apd_term.specs.declared.term.Pred.{Pred}
@@ -14,9 +14,8 @@ use Rattle.apd_known.specs.Pairs.{AllMayTrust, AllStatable}
 use Rattle.apd_known.specs.declared.file.Stated.{Stated}
 use Rattle.apd_kept.specs.Kept.{known_text, pair_term, trust_term}
 
--- the text of a statement has no term at level 1,000; its names are UTF-8, and its numbers are those of symbols
-pub record CanBeWritten (ops : Table) (names : List (List ℕ)) (t : Term) : Type 0 where
-  pub utf8 : HasUtf8Names names t
+-- the text of a statement has no term at level 1,000, and its numbers are those of symbols
+pub record CanBeWritten (ops : Table) (t : Term) : Type 0 where
   pub in_range : IsInRange t
   pub shallow : levels ops t 1200 < 1000
 
@@ -27,24 +26,23 @@ pub record IsWritableStore (ops : Table) (names : List (List ℕ)) (store : Stor
   pub trust : AllMayTrust (length names) store.trusted
   pub trust_once : AreListedOnce store.trusted
   pub arities : AllByRecursion (λ (p : Pred). p.arity ≤ 255) store.trusted
-  pub pair_texts : AllByRecursion (λ p. CanBeWritten ops names (pair_term p)) store.pairs
-  pub trust_texts : AllByRecursion (λ p. CanBeWritten ops names (trust_term p)) store.trusted
+  pub pair_texts : AllByRecursion (λ p. CanBeWritten ops (pair_term p)) store.pairs
+  pub trust_texts : AllByRecursion (λ p. CanBeWritten ops (trust_term p)) store.trusted
 
--- the statement's names are UTF-8, and its text has no term at level 1,000
-pub record IsPlain (ops : Table) (names : List (List ℕ)) (t : Term) : Type 0 where
-  pub utf8 : HasUtf8Names names t
-  pub shallow : levels ops t 1200 < 1000
+-- the statement's text has no term at level 1,000
+abbrev pub IsShallow : Table → Term → Type 0
+IsShallow ops t = levels ops t 1200 < 1000
 
 -- each statement of the store is so
-pub record HasPlainStatements (ops : Table) (names : List (List ℕ)) (store : Store) : Type 0 where
-  pub pairs : AllByRecursion (λ p. IsPlain ops names (pair_term p)) store.pairs
-  pub trust : AllByRecursion (λ p. IsPlain ops names (trust_term p)) store.trusted
+pub record HasShallowStatements (ops : Table) (store : Store) : Type 0 where
+  pub pairs : AllByRecursion (λ p. IsShallow ops (pair_term p)) store.pairs
+  pub trust : AllByRecursion (λ p. IsShallow ops (trust_term p)) store.trusted
 
 -- and its pairs and predicates may be stated, and their names are kept
 pub record CanReadBack (ops : Table) (names : List (List ℕ)) (store : Store) : Type 0 where
   pub pairs : AllStatable (length names) store.pairs
   pub trust : AllMayTrust (length names) store.trusted
-  pub plain : HasPlainStatements ops names store
+  pub shallow : HasShallowStatements ops store
 
 -- its text states the same trust, and the same pairs up to their canonical form, whatever names come later
 pub record ReadsBackAs (ops : Table) (names : List (List ℕ)) (store : Store) (stated : Stated) : Type 0 where

@@ -10,8 +10,8 @@ ghost use Rattle.apd_reading_back.specs.Law.{AreNames};
 /// The law of reading back. The text of what is known states, as an oracle file read by the same operators, the same trust and
 /// the same replies to the same questions up to their canonical form, whatever names come later.
 ///
-/// Each pair and each predicate may be stated and is kept once, and each statement can be written: its names are kept and are
-/// UTF-8, its numbers are those of symbols, and its text has no term at level 1,000.
+/// Each pair and each predicate may be stated and is kept once, and each statement can be written: its names are kept, its
+/// numbers are those of symbols, and its text has no term at level 1,000.
 pub fn known_reads_back()
     ensures { (ops : Table) (names : List (List ℕ)) (store : Store) →
         IsTable ops → AreNames names → IsWritableStore ops names store →

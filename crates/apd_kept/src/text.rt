@@ -145,8 +145,8 @@ fn reads_back(answers: &Answers, ops: &Ops, names: &Names)
 /// in the order in which they came. The terms are written by the operators. After want of memory the text is as before.
 ///
 /// What was added, read as an oracle file by the same operators, states the same trust, and the same replies up to the
-/// canonical form of their questions, where a file may state each, the names are kept and are UTF-8, and no statement's text
-/// has a term at level 1,000.
+/// canonical form of their questions, where a file may state each, the names are kept, and no statement's text has a term at
+/// level 1,000.
 pub fn known_text(
     alloc: Global,
     answers: &Answers,

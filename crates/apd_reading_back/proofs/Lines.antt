@@ -217,8 +217,8 @@ module _ (ops : Table) (names : List (List ℕ)) (table : IsTable ops) (kept : A
 
 line_laid : (ops : Table) (names : List (List ℕ)) (l : Line) → IsTable ops → AreNames names → IsWritten ops names l → IsLaid ops names l.text l.term
 line_laid ops names l table all (as_clause t r) =
-    term_laid ops names table (kept_names names all) t 1200 (omega arith) (record { named = r.named; utf8 = r.utf8; canonical = r.canonical; in_range = r.in_range }) r.shallow
-line_laid ops names l table all (as_call f t k u w n) = call_laid ops names f t table all (record { kept = k; utf8 = u }) w n
+    term_laid ops names table (kept_names names all) t 1200 (omega arith) (record { named = r.named; canonical = r.canonical; in_range = r.in_range }) r.shallow
+line_laid ops names l table all (as_call f t k w n) = call_laid ops names f t table all k w n
 
 -- lines that are written read as their terms in turn
 pub lines_read_in_turn : (ops : Table) (names : List (List ℕ)) (ls : List Line) → IsTable ops → AreNames names → AreWritten ops names ls → ReadsInTurn ops names (lines_text ls) (map (λ (l : Line). l.term) ls)

@@ -11,8 +11,7 @@ ghost use Rattle.apd_ops.specs.Table.{Table, IsTable};
 ghost use Rattle.apd_token.specs.declared.items.Token.{Token};
 ghost use Rattle.apd_token.specs.Grammar.{HasTokens};
 ghost use Rattle.apd_read.specs.Reader.{IsRead};
-ghost use Rattle.std.specs.Prelude.{◌≡◌, ℕ, ◌+◌, ◌≤◌, ◌<◌, List, ◌++◌, codes, length, map, IsUtf8, Result, Ok};
-ghost use Rattle.apd_term.specs.Names.{text_of_name};
+ghost use Rattle.std.specs.Prelude.{◌≡◌, ℕ, ◌+◌, ◌≤◌, ◌<◌, List, ◌++◌, codes, length, map, Result, Ok};
 ghost use Rattle.apd_term.specs.declared.term.NameId.{NameId};
 ghost use Rattle.apd_reading_back.specs.Law.{AreNames, IsReadable, IsWritable, item_text, clause_text, ReadsAs, ReadsBack, IsTermRead};
 ghost use Rattle.apd_reading_back.specs.Levels.{levels};
@@ -22,8 +21,8 @@ ghost use Rattle.apd_reading_back.specs.Queries.{AreReadable, IsAskable, call_te
 /// The law of reading back. The text of a term as a clause, by a table of operators, has tokens,
 /// which read by the same table as the term, and as nothing else.
 ///
-/// The term is canonical, its names are kept and are UTF-8, its numbers are those of symbols, and its
-/// text has no term at level 1,000. Names may come later.
+/// The term is canonical, its names are kept, its numbers are those of symbols, and its text has no
+/// term at level 1,000. Names may come later.
 pub fn reading_back()
     ensures reads { (ops : Table) (names : List (List ℕ)) (t : Term) →
         IsTable ops → AreNames names → IsReadable ops names t → ReadsBack ops names t }
@@ -47,8 +46,8 @@ pub fn items_and_queries_read_back()
         IsTable ops → AreNames names → AreReadable ops names goal goals →
         ReadsAs ops names (goals_text ops names goal goals ++ codes " .") (conjoined goal goals) }
     ensures calls { (ops : Table) (names : List (List ℕ)) (f : NameId) (t : Term) →
-        IsTable ops → AreNames names → f.0 < length names → IsUtf8 (text_of_name names f) →
-        IsWritable names t → levels ops t 999 + 1 < 1000 →
+        IsTable ops → AreNames names → f.0 < length names → IsWritable names t →
+        levels ops t 999 + 1 < 1000 →
         ReadsAs ops names (call_text ops names f t ++ codes " .") (call_term f t) }
     ensures only { (ops : Table) (names : List (List ℕ)) (text : List ℕ) (t : Term) →
         IsTable ops → (back : ReadsAs ops names text t) →

@@ -12,3 +12,4 @@ pub mod Writing
 pub mod Bounds
 pub mod Valued
 pub mod Settled
+pub mod Framed

@@ -5,3 +5,4 @@ pub mod Values
 pub mod Links
 pub mod Instances
 pub mod Linked
+pub mod Framed

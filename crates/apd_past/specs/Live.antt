@@ -1,15 +1,10 @@
--- A store as its parts are read, and a past that has followed it for a part of the way.
-use Rattle.std.specs.Prelude.{◌≡◌, ℕ, ◌≤◌, length, reverse}
+-- A past that has followed a store for a part of the way.
+use Rattle.std.specs.Prelude.{◌≡◌, ℕ, ◌≤◌, length}
 use Rattle.apd_unify.specs.Stored.{Stored}
 use Rattle.apd_unify.specs.Store.{at_mark, IsSound}
 use Rattle.apd_past.specs.declared.follow.Had.{Had}
-use Rattle.apd_past.specs.declared.follow.Live.{Live}
 use Rattle.apd_past.specs.declared.mirror.Mirror.{Mirror}
 use Rattle.apd_past.specs.Follows.{Follows}
-
--- the store that has these parts
-abbrev pub store_of : Live → Stored
-store_of l = record { cells = l.cells.now; variables = l.variables; trail = reverse l.notes.now }
 
 -- so much the store had when its trail had k notes
 pub record HasExtentAt (s : Stored) (k : ℕ) (had : Had) : Type 0 where

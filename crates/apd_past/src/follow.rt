@@ -3,22 +3,16 @@
 ghost use Rattle.std.specs.Prelude.{◌≡◌, ℕ, ◌+◌, ◌<◌, ◌≤◌, length, drop, take, OnOk};
 ghost use Rattle.apd_unify.specs.Stored.{Stored};
 ghost use Rattle.apd_unify.specs.Store.{at_mark, IsSound};
+ghost use Rattle.apd_unify.specs.Live.{store_of};
 ghost use Rattle.apd_past.specs.Follows.{Follows};
 ghost use Rattle.apd_past.specs.History.{KeepsMoments};
-ghost use Rattle.apd_past.specs.Live.{store_of, HasExtentAt, MayCatchUp};
+ghost use Rattle.apd_past.specs.Live.{HasExtentAt, MayCatchUp};
 
 use crate::mirror::Mirror;
 use apd_term::Sym;
 use apd_unify::heap::Note;
+use apd_unify::live::Live;
 use std::alloc::AllocError;
-
-/// What a store has: its cells, the notes of its trail, the oldest first, and how many variables.
-#[derive(Clone, Copy)]
-pub struct Live<'a> {
-    pub cells: &'a [Sym],
-    pub notes: &'a [Note],
-    pub variables: usize,
-}
 
 /// How many cells and variables a store had at a place of its trail.
 #[derive(Clone, Copy)]

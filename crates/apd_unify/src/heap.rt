@@ -7,9 +7,11 @@ ghost use Rattle.apd_term.specs.declared.term.Sym.TheVariants.{Var};
 ghost use Rattle.apd_unify.specs.Flat.{compound_in};
 ghost use Rattle.apd_unify.specs.Known.{HasExtent};
 ghost use Rattle.apd_unify.specs.Heap.{IsVariable};
+ghost use Rattle.apd_unify.specs.Live.{store_of};
 ghost use Rattle.apd_unify.specs.Store.{term_at, written, symbol_at, MayBind, bound, loaded, before_note, at_mark, IsSound, IsEnd, IsTwin};
 
 use crate::known::{Extent, Known, above_all, forget_above, forget_since, known_at, make_place};
+use crate::live::Live;
 use crate::stack::Stack;
 use crate::symbols::append;
 use apd_term::term::term_end;
@@ -155,6 +157,18 @@ impl Heap {
         ensures store { IsSound self.now }
     {
         self.bindings.len()
+    }
+
+    /// Its parts, to be read.
+    pub fn live(&self) -> Live<'_>
+        ensures parts { store_of result ≡ self.now }
+        ensures store { IsSound self.now }
+    {
+        Live {
+            cells: self.cells.as_slice(),
+            notes: self.trail.as_slice(),
+            variables: self.bindings.len(),
+        }
     }
 
     /// The symbol at a cell.

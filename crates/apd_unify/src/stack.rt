@@ -62,6 +62,13 @@ impl<T> Stack<T> {
         self.oldest_first.get(place)
     }
 
+    /// All, the oldest first.
+    pub fn as_slice(&self) -> &[T]
+        ensures { result.now ≡ reverse self.now }
+    {
+        self.oldest_first.as_slice()
+    }
+
     pub fn len(&self) -> usize
         ensures { result ≡ length self.now }
     {

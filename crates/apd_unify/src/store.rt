@@ -6,15 +6,17 @@ ghost use Rattle.apd_term.specs.Term.{arguments, Occurs, size};
 ghost use Rattle.apd_term.specs.Canonical.{shifted};
 ghost use Rattle.apd_unify.specs.Arguments.{HasOne, HasTwo};
 ghost use Rattle.apd_unify.specs.First.{AreApart, key_of};
+ghost use Rattle.apd_unify.specs.Live.{store_of};
 ghost use Rattle.apd_unify.specs.Numbered.{IsNumbered};
 ghost use Rattle.apd_unify.specs.Ordered.{Numbers};
 ghost use Rattle.apd_unify.specs.Step.{first_symbol};
-ghost use Rattle.apd_unify.specs.Store.{term_at, under_bindings, loaded, at_mark, Keeps, IsUnification, SizeWithin};
+ghost use Rattle.apd_unify.specs.Store.{term_at, under_bindings, loaded, at_mark, Keeps, IsSound, IsUnification, SizeWithin};
 
 use crate::arguments::{only_argument, two_arguments};
 use crate::counting::keep_sizes;
 use crate::first::{are_clashing, first_symbol, key_at, key_of};
 use crate::heap::Heap;
+use crate::live::Live;
 use crate::reading::{resolved, size_within};
 use crate::scratch::{Scratch, numbered_within};
 use crate::stack::Stack;
@@ -113,6 +115,14 @@ impl Store {
         ensures numbered { IsNumbered self.now }
     {
         self.heap.variables()
+    }
+
+    /// Its parts, to be read.
+    pub fn live(&self) -> Live<'_>
+        ensures parts { store_of result ≡ self.now }
+        ensures sound { IsSound self.now }
+    {
+        self.heap.live()
     }
 
     /// Whether the first arguments of the term at a cell and of another begin so differently that

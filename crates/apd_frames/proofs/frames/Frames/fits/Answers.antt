@@ -1,19 +1,7 @@
-use Rattle.std.proofs.Common.{◌∙◌, sym, ap}
-use Rattle.std.proofs.lemmas.Result.{IfOk-weaker}
-use Rattle.apd_frames.specs.Kept.{fits}
-use Rattle.apd_frames.specs.Links.{link_of}
-use Rattle.apd_frames.proofs.Current.{innermost_some, innermost_none}
+use Rattle.std.proofs.Common.{◌≡◌, subst}
+use Rattle.std.specs.Prelude.{IfOk}
+use Rattle.apd_frames.specs.Kept.{Kept, fits}
 use Rattle.apd_frames.proofs.frames.Frames.fits.Goals as goal
 
-pub is_within-requires : goal.is_within-requires
-is_within-requires c = (innermost_some c.self.inside.store c.self.inside.links c.self.inside.innermost c.self.inside.branches c.args.self.now (link_of c.in-Some.link) c.self.view_is c.self.invariant c.in-Some.ensures).inside
-
-pub returns-in-Some : goal.returns-in-Some
-returns-in-Some c =
-    IfOk-weaker c.is_within.result _ _
-    (λ b is. is ∙ ap fits (sym (innermost_some c.self.inside.store c.self.inside.links c.self.inside.innermost c.self.inside.branches c.args.self.now (link_of c.in-Some.link) c.self.view_is c.self.invariant c.in-Some.ensures).is))
-    c.is_within.ensures
-
-pub returns-in-None : goal.returns-in-None
-returns-in-None c =
-    sym (ap fits (innermost_none c.self.inside.store c.self.inside.links c.self.inside.innermost c.self.inside.branches c.args.self.now c.self.view_is c.in-None.ensures))
+pub returns : goal.returns
+returns c = subst (λ (k : Kept). IfOk c.fits.result (λ b. b ≡ fits k.current)) c.self.view_is c.fits.ensures

@@ -1,9 +1,12 @@
-use Rattle.apd_frames.proofs.Moving.{forgets, forgets_framed}
+use Rattle.std.proofs.Common.{◌<◌, ◌∙◌, ap, drop, length, subst, sym}
+use Rattle.apd_frames.specs.Kept.{Kept}
 use Rattle.apd_frames.proofs.frames.Frames.forget.Goals as goal
 
-pub invariant_of-self : goal.invariant_of-self
-invariant_of-self c = forgets_framed c.self.inside.store c.self.inside.links c.self.inside.innermost c.self.inside.branches c.pop.new.self c.pop.result c.self.invariant c.pop.ensures
+pub forget-requires-clause-some : goal.forget-requires-clause-some
+forget-requires-clause-some c = subst (λ (k : Kept). 0 < length k.saved) (sym c.self.view_is) c.requires
 
 pub returns : goal.returns
-returns c =
-    forgets c.self.inside.store c.self.inside.links c.self.inside.innermost c.self.inside.branches c.pop.new.self c.args.self.now c.pop.result c.self.view_is c.self.invariant c.requires c.pop.ensures
+returns c = c.forget.ensures.forgotten ∙ ap (λ (k : Kept). record { current = k.current; saved = drop 1 k.saved }) c.self.view_is
+
+pub invariant_of-self : goal.invariant_of-self
+invariant_of-self c = c.forget.ensures.framed

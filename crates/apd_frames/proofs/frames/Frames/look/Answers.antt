@@ -1,24 +1,18 @@
-use Rattle.std.proofs.Common.{◌∙◌, sym, ap}
-use Rattle.std.proofs.lemmas.Result.{IfOk-weaker}
+use Rattle.std.proofs.Common.{◌≡◌, ◌∙◌, subst, sym}
+use Rattle.std.specs.Prelude.{IfOk}
 use Rattle.apd_trace.specs.Frames.{look_of}
-use Rattle.apd_frames.specs.Links.{link_of}
-use Rattle.apd_frames.proofs.Current.{innermost_some, innermost_none, may_call}
+use Rattle.apd_frames.specs.Kept.{Kept, MayCall}
+use Rattle.apd_frames.proofs.Framed.{same_framed, same_frames}
 use Rattle.apd_frames.proofs.frames.Frames.look.Goals as goal
 
-pub returns-in-None-clause-look : goal.returns-in-None-clause-look
-returns-in-None-clause-look c = ap (λ F. look_of F c.args.box_no) (sym (innermost_none c.self.inside.store c.self.inside.links c.self.inside.innermost c.self.inside.branches c.args.self.now c.self.view_is c.in-None.ensures))
-
-pub look-requires-clause-inside : goal.look-requires-clause-inside
-look-requires-clause-inside c = (innermost_some c.self.inside.store c.self.inside.links c.self.inside.innermost c.self.inside.branches c.args.self.now (link_of c.in-Some.link) c.self.view_is c.self.invariant c.in-Some.ensures).inside
-
 pub look-requires-clause-deep : goal.look-requires-clause-deep
-look-requires-clause-deep c =
-    may_call c.self.inside.store c.self.inside.links (link_of c.in-Some.link) c.args.self.now
-    (innermost_some c.self.inside.store c.self.inside.links c.self.inside.innermost c.self.inside.branches c.args.self.now (link_of c.in-Some.link) c.self.view_is c.self.invariant c.in-Some.ensures)
-    c.requires
+look-requires-clause-deep c = subst (λ (k : Kept). MayCall k.current) (sym c.self.view_is) c.requires
 
-pub returns-in-Some-clause-look : goal.returns-in-Some-clause-look
-returns-in-Some-clause-look c =
-    IfOk-weaker c.look.result _ _
-    (λ l e. e ∙ ap (λ F. look_of F c.args.box_no) (sym (innermost_some c.self.inside.store c.self.inside.links c.self.inside.innermost c.self.inside.branches c.args.self.now (link_of c.in-Some.link) c.self.view_is c.self.invariant c.in-Some.ensures).is))
-    c.look.ensures
+pub returns-clause-look : goal.returns-clause-look
+returns-clause-look c = subst (λ (k : Kept). IfOk c.look.result (λ l. l ≡ look_of k.current c.args.box_no)) c.self.view_is c.look.ensures.look
+
+pub returns-clause-kept : goal.returns-clause-kept
+returns-clause-kept c = same_frames c.self.inside.linked c.look.new.self c.look.ensures.same ∙ c.self.view_is
+
+pub invariant_of-self : goal.invariant_of-self
+invariant_of-self c = same_framed c.self.inside.linked c.look.new.self c.look.ensures.same c.self.invariant

@@ -1,10 +1,12 @@
-use Rattle.apd_frames.proofs.Moving.{saves, saves_framed}
+use Rattle.std.proofs.Common.{◌≡◌, ◌∷◌, subst}
+use Rattle.std.specs.Prelude.{OnOk}
+use Rattle.apd_frames.specs.Framed.{frames_of}
+use Rattle.apd_frames.specs.Kept.{Kept}
 use Rattle.apd_frames.proofs.frames.Frames.save.Goals as goal
-
-pub invariant_of-self-2 : goal.invariant_of-self-2
-invariant_of-self-2 c =
-    saves_framed c.self.inside.store c.self.inside.links c.self.inside.innermost c.self.inside.branches c.push.new.self c.here-branch.result c.self.invariant c.here-branch.ensures c.in_ok-push.ensures.ok
 
 pub returns : goal.returns
 returns c =
-    saves c.self.inside.store c.self.inside.links c.self.inside.innermost c.self.inside.branches c.push.new.self c.args.self.now c.here-branch.result c.self.view_is c.self.invariant c.here-branch.ensures c.in_ok-push.ensures.ok
+    subst (λ (k : Kept). OnOk c.save.result (frames_of c.save.new.self ≡ record { current = k.current; saved = k.current ∷ k.saved })) c.self.view_is c.save.ensures.saved
+
+pub invariant_of-self : goal.invariant_of-self
+invariant_of-self c = c.save.ensures.framed

@@ -1,0 +1,114 @@
+use Rattle.std.proofs.Common.{length, refl, sym, subst}
+use Rattle.std.specs.Bool.{OnTrue}
+use Rattle.apd_term.specs.Term.{variable}
+use Rattle.apd_unify.specs.First.{AreApart}
+use Rattle.apd_unify.specs.Store.{term_at, Keeps}
+use Rattle.apd_unify.specs.Stored.{Stored}
+use Rattle.apd_unify.proofs.Rounding.{Keeps-self}
+use Rattle.apd_trace.specs.declared.frame.Called.{Called}
+use Rattle.apd_trace.specs.Frames.{entering}
+use Rattle.apd_frames.specs.Kept.{HasEntered}
+use Rattle.apd_frames.specs.Links.{Instance, instance_of, link_of}
+use Rattle.apd_frames.specs.Instances.{IsInstantiated}
+use Rattle.apd_frames.specs.Linked.{IsFramed}
+use Rattle.apd_frames.specs.Framed.{frames_of}
+use Rattle.apd_frames.proofs.Branching.{framed_kept}
+use Rattle.apd_frames.proofs.Current.{may_call_any, view_of}
+use Rattle.apd_frames.proofs.Instancing.{undone, no_instance, instance_there}
+use Rattle.apd_frames.proofs.Moving.{enters_no, enters_back, enters_so, entered_framed}
+use Rattle.apd_frames.proofs.linked.Linked.enter.Goals as goal
+
+pub differs-requires : goal.differs-requires
+differs-requires c = c.in-Some.ensures.0 (length c.args.self.now.store.cells) c.requires.framed.placed
+
+pub returns-then-differs-clause-enters : goal.returns-then-differs-clause-enters
+returns-then-differs-clause-enters c = λ g calls.
+    enters_no c.args.self.now.store c.args.self.now.links c.args.self.now.innermost c.args.self.now.branches (frames_of c.args.self.now) refl c.requires.framed g c.args.rule.now c.args.clause c.args.point
+    c.in-Some.goal c.in-Some.ensures
+    (subst (λ b. OnTrue b (AreApart (term_at c.args.self.now.store c.in-Some.goal.0) c.args.rule.now.head)) c.if-differs.true c.differs.ensures)
+
+pub instantiate-requires-clause-goal : goal.instantiate-requires-clause-goal
+instantiate-requires-clause-goal c = c.in-Some.ensures.0 (length c.args.self.now.store.cells) c.requires.framed.placed
+
+pub returns-in_err-head-clause-framed : goal.returns-in_err-head-clause-framed
+returns-in_err-head-clause-framed c =
+    framed_kept c.args.self.now.store c.instantiate.new.store c.args.self.now.links c.args.self.now.innermost c.args.self.now.branches c.instantiate.ensures.kept c.instantiate.ensures.cells c.requires.framed
+
+pub returns-in_default-2-clause-enters : goal.returns-in_default-2-clause-enters
+returns-in_default-2-clause-enters c = λ g calls.
+    enters_back c.args.self.now.store c.args.self.now.links c.args.self.now.innermost c.args.self.now.branches (frames_of c.args.self.now) refl c.requires.framed g c.args.rule.now c.args.clause c.args.point
+    c.in-Some.goal c.in_ok-head.ensures.answer.variant c.undo.new.self c.in-Some.ensures c.instantiate.ensures.numbered c.in_ok-head.ensures.answer.renamed
+    (no_instance c.instantiate.new.goals.items c.in_ok-head.field-0 c.args.self.now.store c.instantiate.new.store c.in-Some.goal.0 c.in_ok-head.ensures.answer.variant c.in_default-2.not-Some c.in_ok-head.ensures.answer.is)
+    (undone c.args.self.now.store c.instantiate.new.store c.undo.new.self c.mark-mark.result.0 c.instantiate.ensures.kept c.mark-mark.ensures c.undo.ensures)
+
+pub goal_depth-depth-requires : goal.goal_depth-depth-requires
+goal_depth-depth-requires c = λ s.
+    may_call_any c.args.self.now.links c.args.self.now.innermost c.args.self.now.store s c.requires.deep
+
+pub returns-in_err-self-clause-framed : goal.returns-in_err-self-clause-framed
+returns-in_err-self-clause-framed c =
+    subst (λ ls. IsFramed c.instantiate.new.store ls c.args.self.now.innermost c.args.self.now.branches) (sym c.in_err-self.ensures.err)
+    (framed_kept c.args.self.now.store c.instantiate.new.store c.args.self.now.links c.args.self.now.innermost c.args.self.now.branches c.instantiate.ensures.kept c.instantiate.ensures.cells c.requires.framed)
+
+pub keep_innermost-requires : goal.keep_innermost-requires
+keep_innermost-requires c =
+    let i : Instance = instance_of c.in-Some-2.head c.as_slice-goals.result.now in
+    let inst : IsInstantiated i c.args.self.now.store c.instantiate.new.store c.in-Some.goal.0 c.in_ok-head.ensures.answer.variant =
+    instance_there c.instantiate.new.goals.items c.as_slice-goals.result.now c.in_ok-head.field-0 c.in-Some-2.head c.args.self.now.store c.instantiate.new.store c.in-Some.goal.0 c.in_ok-head.ensures.answer.variant
+    c.as_slice-goals.ensures.value c.in-Some-2.is c.in_ok-head.ensures.answer.is in
+    let g : Called = record { box_no = c.args.box_no; caller = 0; depth = c.goal_depth-depth.result; atom = variable 0 } in
+    (entered_framed c.args.self.now.store c.args.self.now.links c.args.self.now.innermost c.args.self.now.branches (frames_of c.args.self.now) refl c.requires.framed g c.args.rule.now c.args.clause c.args.point c.instantiate.new.store c.instantiate.ensures.kept c.instantiate.ensures.cells
+    (link_of c.entered-link.result) i c.push.new.self c.in_ok-self.field-0 inst.inside (c.entered-link.ensures g (record { box = refl; deep = refl }))
+    c.in_ok-self.ensures.ok c.in_ok-self.ensures.number).placed
+
+pub returns-in_err-keep_innermost-clause-framed : goal.returns-in_err-keep_innermost-clause-framed
+returns-in_err-keep_innermost-clause-framed c =
+    let i : Instance = instance_of c.in-Some-2.head c.as_slice-goals.result.now in
+    let inst : IsInstantiated i c.args.self.now.store c.instantiate.new.store c.in-Some.goal.0 c.in_ok-head.ensures.answer.variant =
+    instance_there c.instantiate.new.goals.items c.as_slice-goals.result.now c.in_ok-head.field-0 c.in-Some-2.head c.args.self.now.store c.instantiate.new.store c.in-Some.goal.0 c.in_ok-head.ensures.answer.variant
+    c.as_slice-goals.ensures.value c.in-Some-2.is c.in_ok-head.ensures.answer.is in
+    let g : Called = record { box_no = c.args.box_no; caller = 0; depth = c.goal_depth-depth.result; atom = variable 0 } in
+    subst (λ s. IsFramed s c.push.new.self c.in_ok-self.field-0 c.args.self.now.branches) (sym c.keep_innermost.ensures)
+    (entered_framed c.args.self.now.store c.args.self.now.links c.args.self.now.innermost c.args.self.now.branches (frames_of c.args.self.now) refl c.requires.framed g c.args.rule.now c.args.clause c.args.point c.instantiate.new.store c.instantiate.ensures.kept c.instantiate.ensures.cells
+    (link_of c.entered-link.result) i c.push.new.self c.in_ok-self.field-0 inst.inside (c.entered-link.ensures g (record { box = refl; deep = refl }))
+    c.in_ok-self.ensures.ok c.in_ok-self.ensures.number)
+
+pub returns-clause-framed : goal.returns-clause-framed
+returns-clause-framed c =
+    let i : Instance = instance_of c.in-Some-2.head c.as_slice-goals.result.now in
+    let inst : IsInstantiated i c.args.self.now.store c.instantiate.new.store c.in-Some.goal.0 c.in_ok-head.ensures.answer.variant =
+    instance_there c.instantiate.new.goals.items c.as_slice-goals.result.now c.in_ok-head.field-0 c.in-Some-2.head c.args.self.now.store c.instantiate.new.store c.in-Some.goal.0 c.in_ok-head.ensures.answer.variant
+    c.as_slice-goals.ensures.value c.in-Some-2.is c.in_ok-head.ensures.answer.is in
+    let g : Called = record { box_no = c.args.box_no; caller = 0; depth = c.goal_depth-depth.result; atom = variable 0 } in
+    subst (λ s. IsFramed s c.push.new.self c.in_ok-self.field-0 c.args.self.now.branches) (sym c.keep_innermost.ensures)
+    (entered_framed c.args.self.now.store c.args.self.now.links c.args.self.now.innermost c.args.self.now.branches (frames_of c.args.self.now) refl c.requires.framed g c.args.rule.now c.args.clause c.args.point c.instantiate.new.store c.instantiate.ensures.kept c.instantiate.ensures.cells
+    (link_of c.entered-link.result) i c.push.new.self c.in_ok-self.field-0 inst.inside (c.entered-link.ensures g (record { box = refl; deep = refl }))
+    c.in_ok-self.ensures.ok c.in_ok-self.ensures.number)
+
+pub returns-clause-enters : goal.returns-clause-enters
+returns-clause-enters c = λ g calls.
+    let i : Instance = instance_of c.in-Some-2.head c.as_slice-goals.result.now in
+    let inst : IsInstantiated i c.args.self.now.store c.instantiate.new.store c.in-Some.goal.0 c.in_ok-head.ensures.answer.variant =
+    instance_there c.instantiate.new.goals.items c.as_slice-goals.result.now c.in_ok-head.field-0 c.in-Some-2.head c.args.self.now.store c.instantiate.new.store c.in-Some.goal.0 c.in_ok-head.ensures.answer.variant
+    c.as_slice-goals.ensures.value c.in-Some-2.is c.in_ok-head.ensures.answer.is in
+    subst
+    (λ s. HasEntered (entering (frames_of c.args.self.now).current g c.args.rule.now c.args.clause c.args.point) (frames_of c.args.self.now)
+    (view_of s c.push.new.self c.in_ok-self.field-0 c.args.self.now.branches))
+    (sym c.keep_innermost.ensures)
+    (enters_so c.args.self.now.store c.args.self.now.links c.args.self.now.innermost c.args.self.now.branches (frames_of c.args.self.now) refl c.requires.framed g c.args.rule.now c.args.clause c.args.point c.instantiate.new.store c.instantiate.ensures.kept c.instantiate.ensures.cells
+    c.in-Some.goal i c.in_ok-head.ensures.answer.variant (link_of c.entered-link.result) c.push.new.self c.in_ok-self.field-0
+    c.in-Some.ensures c.instantiate.ensures.numbered c.in_ok-head.ensures.answer.renamed inst
+    (c.entered-link.ensures g (c.goal_depth-depth.ensures c.args.self.now.store c.args.box_no g calls))
+    c.in_ok-self.ensures.ok c.in_ok-self.ensures.number)
+
+pub returns-in_default-clause-store : goal.returns-in_default-clause-store
+returns-in_default-clause-store c = Keeps-self c.args.self.now.store
+
+pub returns-then-differs-clause-store : goal.returns-then-differs-clause-store
+returns-then-differs-clause-store c = Keeps-self c.args.self.now.store
+
+pub returns-in_default-2-clause-store : goal.returns-in_default-2-clause-store
+returns-in_default-2-clause-store c =
+    subst (λ (s : Stored). Keeps c.args.self.now.store s)
+    (sym (undone c.args.self.now.store c.instantiate.new.store c.undo.new.self c.mark-mark.result.0 c.instantiate.ensures.kept c.mark-mark.ensures c.undo.ensures))
+    (Keeps-self c.args.self.now.store)

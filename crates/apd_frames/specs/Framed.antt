@@ -1,0 +1,33 @@
+-- The frames that links over a store are, and what is kept of the store.
+use Rattle.std.specs.Prelude.{◌≡◌, ℕ, ◌≤◌, [], length}
+use Rattle.apd_unify.specs.Store.{Keeps, at_mark}
+use Rattle.apd_frames.specs.declared.linked.Linked.{Linked}
+use Rattle.apd_frames.specs.Kept.{Kept}
+use Rattle.apd_frames.specs.Linked.{frames_at, saved_of, IsFramed}
+
+-- the frames from the innermost link outwards, and those at each branch
+abbrev pub frames_of : Linked → Kept
+frames_of l = record { current = frames_at l.store l.links l.innermost; saved = saved_of l.store l.links l.branches }
+
+-- the links and branches are right
+abbrev pub AreFramed : Linked → Type 0
+AreFramed l = IsFramed l.store l.links l.innermost l.branches
+
+-- the store, the links and the branches are what they were
+pub record IsSame (old new : Linked) : Type 0 where
+  pub store : new.store ≡ old.store
+  pub links : new.links ≡ old.links
+  pub innermost : new.innermost ≡ old.innermost
+  pub branches : new.branches ≡ old.branches
+
+-- the store had nothing when its trail had no note
+abbrev pub BeginsEmpty : Linked → Type 0
+BeginsEmpty l = at_mark 0 l.store ≡ record { cells = []; variables = 0; trail = [] }
+
+-- the store is what it was when its trail was as long
+abbrev pub KeepsStore : Linked → Linked → Type 0
+KeepsStore old new = Keeps old.store new.store
+
+-- the store is what it was at an earlier mark
+abbrev pub GoesBack : Linked → Linked → Type 0
+GoesBack old new = (k : ℕ) × (k ≤ length old.store.trail) × (new.store ≡ at_mark k old.store)

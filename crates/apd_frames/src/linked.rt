@@ -1,0 +1,389 @@
+//! Frames as links over a store, and the branches that a search may come back to.
+
+ghost use Rattle.std.specs.Prelude.{◌≡◌, ℕ, ◌∷◌, [], ◌<◌, length, drop, Some, OnOk, IfOk};
+ghost use Rattle.apd_term.specs.Tuple.{canonical_tuple};
+ghost use Rattle.apd_clauses.specs.Clauses.{IsRunnable};
+ghost use Rattle.apd_trace.specs.Frames.{entering, look_of, handed_all, outer, query_frame};
+ghost use Rattle.apd_trace.specs.BuiltIn.{solution};
+ghost use Rattle.apd_trace.specs.Renaming.{AreAlike};
+ghost use Rattle.apd_frames.specs.Kept.{Calls, Enters, IsIn, IsKey, MayCall, Takes, Points, ahead_of, exit_in, fits, newest_of};
+ghost use Rattle.apd_trace.specs.declared.frame.Called.{Called};
+ghost use Rattle.apd_term.specs.Term.{predicate_of};
+ghost use Rattle.apd_frames.specs.Links.{link_of, instance_of};
+ghost use Rattle.apd_frames.specs.Linked.{entered_link, ArePlaced, IsBranchAt};
+ghost use Rattle.apd_frames.specs.Framed.{frames_of, AreFramed, BeginsEmpty, GoesBack, IsSame, KeepsStore};
+ghost use Rattle.apd_frames.specs.Solves.{solution_as, Keeps};
+
+use crate::ahead::Ahead;
+use crate::builtin::Solved;
+use crate::instance::{canonical_within, instantiate, is_within, keep_sizes, load_all};
+use crate::links::{Branch, LinkRef, Links};
+use crate::reading::{ahead, goal_depth, left, look, next_goal};
+use crate::settling::{predicate_at, settle};
+use apd_ports::BUILTIN;
+use apd_term::tuple::canonical_tuple;
+use apd_term::{Pred, Sym, Tuple};
+use apd_trace::{Called, Look, Point, Step};
+use apd_unify::scratch::Scratch;
+use apd_unify::stack::Stack;
+use apd_unify::store::{Cell, Store};
+use std::alloc::{AllocError, Global};
+
+/// Links over a store, and the branches. Clauses see all parts; what frames they are is `frames_of` them.
+#[derive(Drop)]
+pub struct Linked {
+    pub store: Store,
+    pub links: Links,
+    pub innermost: usize,
+    pub branches: Stack<Branch>,
+    scratch: Scratch,
+    /// The goals of the clause that was entered last, kept from clause to clause for its memory.
+    goals: Vec<Cell>,
+}
+
+/// The branch at a store and its links.
+fn here(store: &Store, links: &Links, innermost: usize) -> Branch
+    ensures { IsBranchAt store.now links.now innermost result }
+{
+    Branch {
+        mark: store.mark(),
+        links: links.len(),
+        innermost,
+    }
+}
+
+/// The link of a clause that is entered for the goal of this box, or of a built-in goal that succeeds.
+fn entered<'a>(
+    box_no: u32,
+    depth: u32,
+    clause: u32,
+    head: Cell,
+    goals: &'a [Cell],
+    point: u32,
+    around: usize,
+) -> LinkRef<'a>
+    ensures { (g : Called) → IsIn box_no depth g →
+        link_of result ≡ entered_link g clause (instance_of head goals.now) point around }
+{
+    LinkRef {
+        box_no,
+        depth,
+        clause,
+        head,
+        goals,
+        done: 0,
+        point,
+        around,
+    }
+}
+
+/// Keeps the sizes of long terms in the instance of the link with this number, for [`Linked::fits`] to know.
+fn keep_innermost(store: &mut Store, links: &Links, number: usize) -> Result<(), AllocError>
+    requires { ArePlaced (length store.old.cells) links.now }
+    ensures { store.new ≡ store.old }
+{
+    match links.get(number) {
+        None => Ok(()),
+        Some(link) => keep_sizes(store, &link),
+    }
+}
+
+impl Linked {
+    /// The frame of a query.
+    pub fn open(alloc: Global, query: &Tuple) -> Result<Linked, AllocError>
+        requires { IsRunnable query.now }
+        ensures framed { IfOk result AreFramed }
+        ensures kept { IfOk result (λ l. frames_of l ≡ record {
+          current = query_frame
+              (canonical_tuple query.now) ∷ [];
+          saved = [];
+        }) }
+        ensures begun { IfOk result BeginsEmpty }
+    {
+        let tuple = canonical_tuple(alloc, query)?;
+        let mut store = Store::new(alloc);
+        let head = store.load(&tuple.head, 0)?;
+        let mut goals = Vec::new(alloc);
+        load_all(&mut store, &mut goals, tuple.body.as_slice(), 0)?;
+        let mut links = Links::new(alloc);
+        links.push(&LinkRef {
+            box_no: 0,
+            depth: 0,
+            clause: 0,
+            head,
+            goals: goals.as_slice(),
+            done: 0,
+            point: 0,
+            around: 0,
+        })?;
+        Ok(Linked {
+            store,
+            links,
+            innermost: 1,
+            branches: Stack::new(alloc),
+            scratch: Scratch::new(alloc),
+            goals,
+        })
+    }
+
+    /// What the innermost frame does next, if the next box has this number.
+    pub fn look(&mut self, box_no: u32) -> Result<Look, AllocError>
+        requires framed { AreFramed self.old }
+        requires deep { MayCall (frames_of self.old).current }
+        ensures look { IfOk result (λ l. l ≡ look_of (frames_of self.old).current box_no) }
+        ensures same { IsSame self.old self.new }
+    {
+        match self.links.get(self.innermost) {
+            None => Ok(Look::Nothing),
+            Some(link) => look(&self.store, &self.links, &mut self.scratch, &link, box_no),
+        }
+    }
+
+    /// What the innermost frame does next, without its terms: none is written.
+    pub fn ahead(&self) -> Ahead
+        requires { AreFramed self.now }
+        ensures { (n : ℕ) → result ≡ ahead_of (look_of (frames_of self.now).current n) }
+    {
+        match self.links.get(self.innermost) {
+            None => Ahead::Nothing,
+            Some(link) => ahead(&link),
+        }
+    }
+
+    /// The innermost frame's head in its box, and its newest point.
+    pub fn exited(&mut self) -> Result<(Called, u32), AllocError>
+        requires framed { AreFramed self.old }
+        requires some { 0 < length (frames_of self.old).current }
+        ensures exit { IfOk result (λ e. Some e ≡ exit_in (frames_of self.old).current) }
+        ensures same { IsSame self.old self.new }
+    {
+        match self.links.get(self.innermost) {
+            None => unreachable!(),
+            Some(link) => {
+                let called = left(&self.store, &self.links, &mut self.scratch, &link)?;
+                Ok((called, link.point))
+            }
+        }
+    }
+
+    /// The innermost frame's box and newest point.
+    pub fn newest(&self) -> Option<(u32, u32)>
+        requires { AreFramed self.now }
+        ensures { result ≡ newest_of (frames_of self.now).current }
+    {
+        match self.links.get(self.innermost) {
+            None => None,
+            Some(link) => Some((link.box_no, link.point)),
+        }
+    }
+
+    /// The innermost frame as a point; none exactly where its instance is too large.
+    pub fn point(
+        &mut self,
+        alloc: Global,
+        before: Option<Step>,
+    ) -> Result<Option<Point>, AllocError>
+        requires framed { AreFramed self.old }
+        requires some { 0 < length (frames_of self.old).current }
+        ensures point { IfOk result (λ p. Points p (frames_of self.old).current before) }
+        ensures same { IsSame self.old self.new }
+    {
+        match self.links.get(self.innermost) {
+            None => unreachable!(),
+            Some(link) => {
+                let within = canonical_within(&self.store, &mut self.scratch, alloc, &link)?;
+                let Some(tuple) = within else {
+                    return Ok(None);
+                };
+                Ok(Some(Point {
+                    owner: link.box_no,
+                    clause: link.clause,
+                    done: link.done,
+                    tuple,
+                    before,
+                }))
+            }
+        }
+    }
+
+    /// Whether the innermost frame's instance is small enough for a point. No term is written.
+    pub fn fits(&self) -> Result<bool, AllocError>
+        requires { AreFramed self.now }
+        ensures { IfOk result (λ b. b ≡ fits (frames_of self.now).current) }
+    {
+        match self.links.get(self.innermost) {
+            None => Ok(true),
+            Some(link) => is_within(&self.store, &link),
+        }
+    }
+
+    /// The predicate of the innermost frame's next goal; none where it calls none.
+    pub fn predicate(&self) -> Option<Pred>
+        requires { AreFramed self.now }
+        ensures { (n : ℕ) (g : Called) → Calls (frames_of self.now).current n g →
+            result ≡ predicate_of g.atom }
+    {
+        let goal = next_goal(&self.links, self.innermost)?;
+        predicate_at(&self.store, goal)
+    }
+
+    /// What the first argument of the innermost frame's next goal begins with; a variable where
+    /// nothing is known of it.
+    pub fn key(&self) -> Sym
+        requires { AreFramed self.now }
+        ensures { IsKey result (frames_of self.now).current }
+    {
+        match next_goal(&self.links, self.innermost) {
+            Some(goal) => self.store.key(goal),
+            None => Sym::Var(0),
+        }
+    }
+
+    /// Enters a clause for the innermost frame's next goal, called in this box, where it can.
+    pub fn enter(
+        &mut self,
+        alloc: Global,
+        box_no: u32,
+        clause: u32,
+        rule: &Tuple,
+        point: u32,
+    ) -> Result<bool, AllocError>
+        requires framed { AreFramed self.old }
+        requires deep { MayCall (frames_of self.old).current }
+        requires runnable { IsRunnable rule.now }
+        ensures framed { AreFramed self.new }
+        ensures enters { IfOk result (λ b. (g : Called) →
+            Calls (frames_of self.old).current box_no g →
+            Enters (entering (frames_of self.old).current g rule.now clause point)
+            b (frames_of self.old) (frames_of self.new)) }
+        ensures store { KeepsStore self.old self.new }
+    {
+        let Some(goal) = next_goal(&self.links, self.innermost) else {
+            return Ok(false);
+        };
+        if self.store.differs(goal, &rule.head) {
+            return Ok(false);
+        }
+        let mark = self.store.mark();
+        let Some(head) = instantiate(&mut self.store, &mut self.goals, alloc, goal, rule)? else {
+            self.store.undo(mark);
+            return Ok(false);
+        };
+        let depth = goal_depth(&self.links, self.innermost);
+        let goals = self.goals.as_slice();
+        let link = entered(box_no, depth, clause, head, goals, point, self.innermost);
+        self.innermost = self.links.push(&link)?;
+        keep_innermost(&mut self.store, &self.links, self.innermost)?;
+        Ok(true)
+    }
+
+    /// Solves the innermost frame's next goal, called in this box, if it is built in.
+    pub fn solve(&mut self, alloc: Global, box_no: u32, point: u32) -> Result<Solved, AllocError>
+        requires framed { AreFramed self.old }
+        requires deep { MayCall (frames_of self.old).current }
+        ensures framed { AreFramed self.new }
+        ensures alike { IfOk result (λ r. (g : Called) →
+            Calls (frames_of self.old).current box_no g →
+            AreAlike (solution (frames_of self.old).current g point)
+            (solution_as r (frames_of self.new).current)) }
+        ensures kept { IfOk result (λ r. Keeps r (frames_of self.old) (frames_of self.new)) }
+        ensures store { KeepsStore self.old self.new }
+    {
+        let Some(goal) = next_goal(&self.links, self.innermost) else {
+            return Ok(Solved::Program);
+        };
+        let solved = settle(&mut self.store, alloc, goal)?;
+        if solved != Solved::Entered {
+            return Ok(solved);
+        }
+        let depth = goal_depth(&self.links, self.innermost);
+        let link = entered(box_no, depth, BUILTIN, goal, &[], point, self.innermost);
+        self.innermost = self.links.push(&link)?;
+        keep_innermost(&mut self.store, &self.links, self.innermost)?;
+        Ok(solved)
+    }
+
+    /// Leaves the innermost frame.
+    pub fn leave(&mut self)
+        requires { AreFramed self.old }
+        ensures framed { AreFramed self.new }
+        ensures left { frames_of self.new ≡ record {
+          current = outer (frames_of self.old).current;
+          saved = (frames_of self.old).saved;
+        } }
+        ensures store { self.new.store ≡ self.old.store }
+    {
+        match self.links.get(self.innermost) {
+            None => {}
+            Some(link) => self.innermost = link.around,
+        }
+    }
+
+    /// The innermost frame takes over an exit.
+    pub fn take_over(&mut self, point: u32) -> Result<(), AllocError>
+        requires framed { AreFramed self.old }
+        requires takes { Takes (frames_of self.old).current }
+        ensures framed { AreFramed self.new }
+        ensures taken { OnOk result (frames_of self.new ≡ record {
+          current = handed_all (frames_of self.old).current point;
+          saved = (frames_of self.old).saved;
+        }) }
+        ensures store { self.new.store ≡ self.old.store }
+    {
+        let Some(number) = self.links.push_handed(self.innermost, point)? else {
+            return Ok(());
+        };
+        self.innermost = number;
+        keep_innermost(&mut self.store, &self.links, self.innermost)?;
+        Ok(())
+    }
+
+    /// Saves the frames for a choice.
+    pub fn save(&mut self) -> Result<(), AllocError>
+        requires { AreFramed self.old }
+        ensures framed { AreFramed self.new }
+        ensures saved { OnOk result (frames_of self.new ≡ record {
+          current = (frames_of self.old).current;
+          saved = (frames_of self.old).current ∷ (frames_of self.old).saved;
+        }) }
+        ensures store { self.new.store ≡ self.old.store }
+    {
+        let branch = here(&self.store, &self.links, self.innermost);
+        self.branches.push(branch)?;
+        Ok(())
+    }
+
+    /// Goes back to the frames as they were at the newest choice. They stay saved.
+    pub fn restore(&mut self)
+        requires framed { AreFramed self.old }
+        requires some { 0 < length (frames_of self.old).saved }
+        ensures framed { AreFramed self.new }
+        ensures current { (frames_of self.old).saved
+            ≡ (frames_of self.new).current ∷ drop 1 (frames_of self.old).saved }
+        ensures saved { (frames_of self.new).saved ≡ (frames_of self.old).saved }
+        ensures store { GoesBack self.old self.new }
+    {
+        match self.branches.top() {
+            None => unreachable!(),
+            Some(branch) => {
+                self.store.undo(branch.mark);
+                self.links.keep(branch.links);
+                self.innermost = branch.innermost;
+            }
+        }
+    }
+
+    /// Gives up the frames that were saved at the newest choice.
+    pub fn forget(&mut self)
+        requires framed { AreFramed self.old }
+        requires some { 0 < length (frames_of self.old).saved }
+        ensures framed { AreFramed self.new }
+        ensures forgotten { frames_of self.new ≡ record {
+          current = (frames_of self.old).current;
+          saved = drop 1 (frames_of self.old).saved;
+        } }
+        ensures store { self.new.store ≡ self.old.store }
+    {
+        let _ = self.branches.pop();
+    }
+}

@@ -1,0 +1,2 @@
+mod Tying
+mod Keeping

@@ -1,0 +1,57 @@
+-- Frames, and tuples that were kept of them.
+use Rattle.std.specs.Prelude.{◌≡◌, ℕ, Option, Some, None, true, false, List, [], ◌∷◌, ◌++◌, length, refl}
+use Rattle.std.specs.Coded.{Coded, code_by, coded_list, coded×}
+use Rattle.apd_term.specs.Term.{Term}
+use Rattle.apd_term.specs.Canonical.{canonical}
+use Rattle.apd_term.specs.Tuple.{canonical_tuple}
+use Rattle.apd_term.specs.declared.tuple.Tuple.{Tuple}
+use Rattle.apd_clauses.specs.Codes.{tuple_code}
+use Rattle.apd_tuples.specs.declared.spots.Numbered.{Numbered}
+use Rattle.apd_trace.specs.Frames.{next_goal}
+use Rattle.apd_trace.specs.declared.frame.Frame.{Frame}
+use Rattle.apd_frames.specs.Codes.{frame_code}
+use Rattle.apd_frames.specs.Kept.{Kept, is_large_of}
+
+-- the current frames, those saved at earlier choices, and the tuples that were kept, the oldest first
+pub record Followed : Type 0 where
+  pub current : List Frame
+  pub saved : List (List Frame)
+  pub tuples : List Tuple
+
+-- without the tuples
+abbrev pub kept_of : Followed → Kept
+kept_of f = record { current = f.current; saved = f.saved }
+
+abbrev pub followed_code : Coded Followed
+followed_code =
+    code_by
+    (List Frame × (List (List Frame) × List Tuple))
+    (coded× (coded_list frame_code) (coded× (coded_list (coded_list frame_code)) (coded_list tuple_code)))
+    (λ f. (f.current, (f.saved, f.tuples)))
+    (λ p. record { current = p.0; saved = p.1.0; tuples = p.1.1 })
+    (λ _. refl)
+
+-- the innermost frame's tuple stands behind the others, in canonical form, with this number and so many goals
+pub record IsKept (n : Numbered) (F : List Frame) (old new : List Tuple) : Type 0 where
+  pub frame : Frame
+  pub around : List Frame
+  pub is : F ≡ frame ∷ around
+  pub more : new ≡ old ++ canonical_tuple frame.tuple ∷ []
+  pub number : n.number ≡ length old
+  pub goals : n.goals ≡ length frame.tuple.body
+
+-- the next goal stands alone behind the others, in canonical form
+pub record IsGoalKept (F : List Frame) (old new : List Tuple) : Type 0 where
+  pub goal : Term
+  pub is : next_goal F ≡ Some goal
+  pub more : new ≡ old ++ record { head = canonical goal; body = [] } ∷ []
+
+-- the innermost frame's tuple was kept behind the others, or it is too large and nothing changed
+abbrev pub KeepsInstance : Option Numbered → List Frame → List Tuple → List Tuple → Type 0
+KeepsInstance None F old new = (is_large_of F ≡ true) × (new ≡ old)
+KeepsInstance (Some n) F old new = (is_large_of F ≡ false) × IsKept n F old new
+
+-- the next goal was kept alone behind the others and has number n, or there is none and nothing changed
+abbrev pub KeepsGoal : Option ℕ → List Frame → List Tuple → List Tuple → Type 0
+KeepsGoal None F old new = (next_goal F ≡ None) × (new ≡ old)
+KeepsGoal (Some n) F old new = (n ≡ length old) × IsGoalKept F old new

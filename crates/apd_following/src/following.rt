@@ -1,0 +1,300 @@
+//! Frames that a past follows.
+//!
+//! A tuple is kept by its places and the moment, in time that doesn't depend on its terms, and can
+//! be read as it was then.
+
+ghost use Rattle.std.specs.Prelude.{◌≡◌, ℕ, ◌∷◌, ◌++◌, [], ◌<◌, length, drop, Some, OnOk, OnErr, IfOk};
+ghost use Rattle.apd_term.specs.Tuple.{canonical_tuple};
+ghost use Rattle.apd_clauses.specs.Clauses.{IsRunnable};
+ghost use Rattle.apd_trace.specs.Frames.{entering, look_of, handed_all, outer, query_frame};
+ghost use Rattle.apd_trace.specs.BuiltIn.{solution};
+ghost use Rattle.apd_trace.specs.Renaming.{AreAlike};
+ghost use Rattle.apd_frames.specs.Kept.{Calls, Enters, IsKey, MayCall, Takes, ahead_of, exit_in, fits, newest_of};
+ghost use Rattle.apd_trace.specs.declared.frame.Called.{Called};
+ghost use Rattle.apd_term.specs.Term.{predicate_of};
+ghost use Rattle.apd_frames.specs.Solves.{solution_as, Keeps};
+ghost use Rattle.apd_following.specs.Tied.{IsTied};
+ghost use Rattle.apd_tuples.specs.Spots.{HavePlaces};
+ghost use Rattle.apd_tuples.specs.Tuples.{kept_tuples, tuple_of, AreThere};
+ghost use Rattle.apd_following.specs.Followed.{KeepsGoal, KeepsInstance, kept_of};
+
+use crate::tie::Tie;
+use apd_frames::ahead::Ahead;
+use apd_frames::builtin::Solved;
+use apd_frames::linked::Linked;
+use apd_frames::reading::next_goal;
+use apd_term::{Pred, Sym, Tuple};
+use apd_trace::{Called, Look};
+use apd_tuples::spots::{Numbered, Spots};
+use apd_tuples::tuples::KeptTuples;
+use apd_unify::store::{Cell, Store};
+use std::alloc::{AllocError, Global};
+use std::marker::Model;
+
+/// Frames, and the tuples that were kept of them.
+#[derive(Drop)]
+pub struct Following {
+    linked: Linked,
+    tie: Tie,
+    spots: Spots,
+}
+
+impl Model for Following {
+    ghost use Rattle.apd_frames.specs.Framed.{frames_of, AreFramed};
+    ghost use Rattle.apd_following.specs.Followed.{Followed, followed_code};
+    ghost use Rattle.apd_following.specs.Tied.{IsTied};
+    ghost use Rattle.apd_tuples.specs.Tuples.{kept_tuples, AreThere};
+
+    ghost Value = { Followed };
+
+    ghost coded = { followed_code };
+
+    ghost view = { λ f. record { current = (frames_of f.linked).current; saved = (frames_of f.linked).saved; tuples = kept_tuples f.tie.mirror.past f.spots } };
+
+    ghost invariant = { λ f. AreFramed f.linked × IsTied f.tie f.linked.store × AreThere f.tie.mirror.past f.spots };
+}
+
+/// Keeps the tuple at a head's cell and at goals' cells of the store that is followed, and tells its
+/// number and how many goals it has.
+fn keep_at(
+    tie: &mut Tie,
+    spots: &mut Spots,
+    store: &Store,
+    head: Cell,
+    goals: &[Cell],
+) -> Result<Numbered, AllocError>
+    requires tied { IsTied tie.old store.now }
+    requires there { AreThere tie.old.mirror.past spots.old }
+    requires head { head.0 < length store.now.cells }
+    requires goals { HavePlaces (length store.now.cells) goals.now }
+    ensures tied { IsTied tie.new store.now }
+    ensures there { AreThere tie.new.mirror.past spots.new }
+    ensures number { IfOk result (λ n. n.number ≡ length spots.old) }
+    ensures count { IfOk result (λ n. n.goals ≡ length goals.now) }
+    ensures ok { OnOk result (kept_tuples tie.new.mirror.past spots.new
+        ≡ kept_tuples tie.old.mirror.past spots.old
+        ++ canonical_tuple (tuple_of store.now head goals.now) ∷ []) }
+    ensures err { OnErr result (kept_tuples tie.new.mirror.past spots.new
+        ≡ kept_tuples tie.old.mirror.past spots.old) }
+{
+    tie.catch_up(store)?;
+    let moment = tie.mirror.past.moment();
+    let numbered = spots.push(tie.mirror.places.as_slice(), head, goals, moment)?;
+    Ok(numbered)
+}
+
+impl Following {
+    /// The frame of a query. No tuple is kept.
+    pub fn open(alloc: Global, query: &Tuple) -> Result<Following, AllocError>
+        requires { IsRunnable query.now }
+        ensures { IfOk result (λ f. f ≡ record {
+          current = query_frame
+              (canonical_tuple query.now) ∷ [];
+          saved = [];
+          tuples = [];
+        }) }
+    {
+        let linked = Linked::open(alloc, query)?;
+        Ok(Following {
+            linked,
+            tie: Tie::new(alloc),
+            spots: Spots::new(alloc),
+        })
+    }
+
+    /// What the innermost frame does next, if the next box has this number.
+    pub fn look(&mut self, box_no: u32) -> Result<Look, AllocError>
+        requires { MayCall self.old.current }
+        ensures look { IfOk result (λ l. l ≡ look_of self.old.current box_no) }
+        ensures kept { self.new ≡ self.old }
+    {
+        self.linked.look(box_no)
+    }
+
+    /// What the innermost frame does next, without its terms: none is written.
+    pub fn ahead(&self) -> Ahead
+        ensures { (n : ℕ) → result ≡ ahead_of (look_of self.now.current n) }
+    {
+        self.linked.ahead()
+    }
+
+    /// The innermost frame's head in its box, and its newest point.
+    pub fn exited(&mut self) -> Result<(Called, u32), AllocError>
+        requires { 0 < length self.old.current }
+        ensures exit { IfOk result (λ e. Some e ≡ exit_in self.old.current) }
+        ensures kept { self.new ≡ self.old }
+    {
+        self.linked.exited()
+    }
+
+    /// The innermost frame's box and newest point.
+    pub fn newest(&self) -> Option<(u32, u32)>
+        ensures { result ≡ newest_of self.now.current }
+    {
+        self.linked.newest()
+    }
+
+    /// Whether the innermost frame's instance is small enough for a point. No term is written.
+    pub fn fits(&self) -> Result<bool, AllocError>
+        ensures { IfOk result (λ b. b ≡ fits self.now.current) }
+    {
+        self.linked.fits()
+    }
+
+    /// The predicate of the innermost frame's next goal; none where it calls none.
+    pub fn predicate(&self) -> Option<Pred>
+        ensures { (n : ℕ) (g : Called) → Calls self.now.current n g →
+            result ≡ predicate_of g.atom }
+    {
+        self.linked.predicate()
+    }
+
+    /// What the first argument of the innermost frame's next goal begins with; a variable where
+    /// nothing is known of it.
+    pub fn key(&self) -> Sym
+        ensures { IsKey result self.now.current }
+    {
+        self.linked.key()
+    }
+
+    /// Enters a clause for the innermost frame's next goal, called in this box, where it can.
+    pub fn enter(
+        &mut self,
+        alloc: Global,
+        box_no: u32,
+        clause: u32,
+        rule: &Tuple,
+        point: u32,
+    ) -> Result<bool, AllocError>
+        requires deep { MayCall self.old.current }
+        requires runnable { IsRunnable rule.now }
+        ensures enters { IfOk result (λ b. (g : Called) →
+            Calls self.old.current box_no g →
+            Enters (entering self.old.current g rule.now clause point)
+            b (kept_of self.old) (kept_of self.new)) }
+        ensures tuples { self.new.tuples ≡ self.old.tuples }
+    {
+        self.linked.enter(alloc, box_no, clause, rule, point)
+    }
+
+    /// Solves the innermost frame's next goal, called in this box, if it is built in.
+    pub fn solve(&mut self, alloc: Global, box_no: u32, point: u32) -> Result<Solved, AllocError>
+        requires { MayCall self.old.current }
+        ensures alike { IfOk result (λ r. (g : Called) →
+            Calls self.old.current box_no g →
+            AreAlike (solution self.old.current g point)
+            (solution_as r self.new.current)) }
+        ensures kept { IfOk result (λ r. Keeps r (kept_of self.old) (kept_of self.new)) }
+        ensures tuples { self.new.tuples ≡ self.old.tuples }
+    {
+        self.linked.solve(alloc, box_no, point)
+    }
+
+    /// Leaves the innermost frame.
+    pub fn leave(&mut self)
+        ensures { self.new ≡ record {
+          current = outer self.old.current;
+          saved = self.old.saved;
+          tuples = self.old.tuples;
+        } }
+    {
+        self.linked.leave();
+    }
+
+    /// The innermost frame takes over an exit.
+    pub fn take_over(&mut self, point: u32) -> Result<(), AllocError>
+        requires { Takes self.old.current }
+        ensures taken { OnOk result (self.new ≡ record {
+          current = handed_all self.old.current point;
+          saved = self.old.saved;
+          tuples = self.old.tuples;
+        }) }
+        ensures tuples { self.new.tuples ≡ self.old.tuples }
+    {
+        self.linked.take_over(point)
+    }
+
+    /// Saves the frames for a choice.
+    pub fn save(&mut self) -> Result<(), AllocError>
+        ensures saved { OnOk result (self.new ≡ record {
+          current = self.old.current;
+          saved = self.old.current ∷ self.old.saved;
+          tuples = self.old.tuples;
+        }) }
+        ensures tuples { self.new.tuples ≡ self.old.tuples }
+    {
+        self.linked.save()
+    }
+
+    /// Goes back to the frames as they were at the newest choice. They stay saved.
+    pub fn restore(&mut self)
+        requires { 0 < length self.old.saved }
+        ensures current { self.old.saved
+            ≡ self.new.current ∷ drop 1 self.old.saved }
+        ensures saved { self.new.saved ≡ self.old.saved }
+        ensures tuples { self.new.tuples ≡ self.old.tuples }
+    {
+        self.linked.restore();
+        self.tie.go_back(&self.linked.store);
+    }
+
+    /// Gives up the frames that were saved at the newest choice.
+    pub fn forget(&mut self)
+        requires { 0 < length self.old.saved }
+        ensures { self.new ≡ record {
+          current = self.old.current;
+          saved = drop 1 self.old.saved;
+          tuples = self.old.tuples;
+        } }
+    {
+        self.linked.forget();
+    }
+
+    /// Keeps the innermost frame's instance, and tells its number and how many goals it has; none
+    /// exactly where it is too large.
+    pub fn keep(&mut self) -> Result<Option<Numbered>, AllocError>
+        requires { 0 < length self.old.current }
+        ensures frames { kept_of self.new ≡ kept_of self.old }
+        ensures kept { IfOk result
+            (λ o. KeepsInstance o self.old.current self.old.tuples self.new.tuples) }
+        ensures err { OnErr result (self.new.tuples ≡ self.old.tuples) }
+    {
+        if !self.linked.fits()? {
+            return Ok(None);
+        }
+        match self.linked.links.get(self.linked.innermost) {
+            None => unreachable!(),
+            Some(link) => {
+                let (tie, spots) = (&mut self.tie, &mut self.spots);
+                let numbered = keep_at(tie, spots, &self.linked.store, link.head, link.goals)?;
+                Ok(Some(numbered))
+            }
+        }
+    }
+
+    /// Keeps the innermost frame's next goal alone, and tells its number; none where it calls none.
+    pub fn keep_goal(&mut self) -> Result<Option<u32>, AllocError>
+        ensures frames { kept_of self.new ≡ kept_of self.old }
+        ensures kept { IfOk result
+            (λ o. KeepsGoal o self.old.current self.old.tuples self.new.tuples) }
+        ensures err { OnErr result (self.new.tuples ≡ self.old.tuples) }
+    {
+        match next_goal(&self.linked.links, self.linked.innermost) {
+            None => Ok(None),
+            Some(goal) => {
+                let (tie, spots) = (&mut self.tie, &mut self.spots);
+                let numbered = keep_at(tie, spots, &self.linked.store, goal, &[])?;
+                Ok(Some(numbered.number))
+            }
+        }
+    }
+
+    /// The tuples that were kept. The frames are given up.
+    pub fn into_kept(self) -> KeptTuples
+        ensures { result ≡ self.tuples }
+    {
+        let Following { linked, tie, spots } = self;
+        drop(linked);
+        KeptTuples::new(tie.into_past(), spots)
+    }
+}

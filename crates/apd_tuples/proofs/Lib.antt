@@ -1,0 +1,2 @@
+pub mod Spanning
+pub mod Standing

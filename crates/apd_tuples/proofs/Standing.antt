@@ -1,0 +1,103 @@
+-- Tuples that stand in a past: what stays of them, and one more.
+use Rattle.std.proofs.Common.{◌≡◌, ℕ, ◌<◌, ◌≤◌, List, [], ◌∷◌, ◌++◌, length, map, inl, inr, zero, suc, Some, None, refl, sym, ◌∙◌, ap, subst, arith}
+use Rattle.std.specs.Option.{option_map}
+use Rattle.std.specs.Prelude.{slice_get}
+use Rattle.std.proofs.lemmas.List.{map-append}
+use Rattle.std.proofs.lemmas.Option.{slice_get-map}
+use Rattle.apd_term.specs.Term.{IsAmong}
+use Rattle.apd_term.specs.Tuple.{canonical_tuple}
+use Rattle.apd_term.specs.declared.tuple.Tuple.{Tuple}
+use Rattle.apd_unify.specs.declared.store.Cell.{Cell}
+use Rattle.apd_unify.specs.Stored.{Stored}
+use Rattle.apd_unify.specs.Store.{term_at, IsSound}
+use Rattle.apd_past.specs.declared.mirror.Mirror.{Mirror}
+use Rattle.apd_past.specs.declared.past.PastCell.{PastCell}
+use Rattle.apd_past.specs.Follows.{Follows}
+use Rattle.apd_past.specs.History.{History, KeepsMoments, at_moment, present}
+use Rattle.apd_past.specs.Mirror.{place, places_of}
+use Rattle.apd_past.specs.Tuples.{AreInside, tuple_at}
+use Rattle.apd_past.proofs.Keeping.{tuple_kept}
+use Rattle.apd_past.proofs.Mirrored.{tuple_there}
+use Rattle.apd_tuples.specs.Spots.{HavePlaces, Place, place_of_cell, placed, placed_all}
+use Rattle.apd_tuples.specs.Tuples.{kept_tuple, kept_tuples, tuple_of, AreThere, IsThere}
+
+inside_more : (n m : ℕ) (cs : List PastCell) → n ≤ m → AreInside n cs → AreInside m cs
+inside_more n m [] le h = tt
+inside_more n m (c ∷ cs) le h = (omega (arith, h.0, le), inside_more n m cs le h.1)
+
+pub tuples_same : (old new : History) (ps : List Place) → KeepsMoments old new → AreThere old ps → kept_tuples new ps ≡ kept_tuples old ps
+tuples_same old new [] k h = refl
+tuples_same old new (p ∷ ps) k h =
+    ap (λ t. canonical_tuple t ∷ kept_tuples new ps) (tuple_kept old new p.moment p.head.0 p.goals k h.0.moment h.0.head h.0.goals)
+    ∙ ap (λ ts. kept_tuple old p ∷ ts) (tuples_same old new ps k h.1)
+
+pub there_more : (old new : History) (ps : List Place) → KeepsMoments old new → AreThere old ps → AreThere new ps
+there_more old new [] k h = tt
+there_more old new (p ∷ ps) k h = (
+  record {
+    moment = omega (arith, h.0.moment, k.moments);
+    head = omega (arith, h.0.head, k.cells);
+    goals = inside_more (length old.cells) (length new.cells) p.goals k.cells h.0.goals;
+  },
+  there_more old new ps k h.1,
+)
+
+there_push : (h : History) (ps : List Place) (p : Place) → AreThere h ps → IsThere h p → AreThere h (ps ++ p ∷ [])
+there_push h [] p a i = (i, tt)
+there_push h (q ∷ ps) p a i = (a.0, there_push h ps p a.1 i)
+
+pub there_get : (h : History) (ps : List Place) (i : ℕ) (p : Place) → AreThere h ps → slice_get ps i ≡ Some p → IsThere h p
+there_get h [] i p a e = cc
+there_get h (q ∷ ps) zero p a e = let is : q ≡ p = cc in subst (IsThere h) is a.0
+there_get h (q ∷ ps) (suc i) p a e = there_get h ps i p a.1 e
+
+placed_as : (places : List PastCell) (cs : List Cell) → placed_all places cs ≡ places_of places (map (λ (c : Cell). c.0) cs)
+placed_as places [] = refl
+placed_as places (c ∷ cs) = ap (λ ps. place_of_cell places c ∷ ps) (placed_as places cs)
+
+terms_as : (s : Stored) (cs : List Cell) → map (term_at s) (map (λ (c : Cell). c.0) cs) ≡ map (λ (c : Cell). term_at s c.0) cs
+terms_as s [] = refl
+terms_as s (c ∷ cs) = ap (λ ts. term_at s c.0 ∷ ts) (terms_as s cs)
+
+among_inside : (n : ℕ) (cs : List Cell) (c : ℕ) → HavePlaces n cs → IsAmong (map (λ (c : Cell). c.0) cs) c → c < n
+among_inside n [] c h o = absurd o
+among_inside n (d ∷ cs) c h (inl e) = subst (λ x. x < n) e h.0
+among_inside n (d ∷ cs) c h (inr o) = among_inside n cs c h.1 o
+
+-- a store stands in a past at present
+module _ (m : Mirror) (s : Stored) (f : Follows m s) (sound : IsSound s) (head : Cell) (goals : List Cell) (inside : head.0 < length s.cells)
+    (all : HavePlaces (length s.cells) goals) (k : ℕ) (now : k ≡ length m.past.deeds) (here : at_moment k m.past ≡ present m.past) where
+  placed_inside : (cs : List Cell) → HavePlaces (length s.cells) cs → AreInside (length m.past.cells) (placed_all m.places.items cs)
+  placed_inside [] h = tt
+  placed_inside (c ∷ cs) h = (f.stands.inside c.0 h.0, placed_inside cs h.1)
+
+  placed_there : IsThere m.past (placed m.places.items head goals k)
+  placed_there = record { moment = omega (arith, now); head = f.stands.inside head.0 inside; goals = placed_inside goals all }
+
+  placed_tuple : kept_tuple m.past (placed m.places.items head goals k) ≡ canonical_tuple (tuple_of s head goals)
+  placed_tuple =
+      ap (λ (z : Stored). canonical_tuple (tuple_at z (place m.places.items head.0) (placed_all m.places.items goals))) here
+      ∙ ap (λ ps. canonical_tuple (tuple_at (present m.past) (place m.places.items head.0) ps)) (placed_as m.places.items goals)
+      ∙ tuple_there s (present m.past) m.places.items m.names.items head.0 (map (λ (c : Cell). c.0) goals) sound f.stands inside (λ c o. among_inside (length s.cells) goals c all o)
+      ∙ ap (λ ts. canonical_tuple (record { head = term_at s head.0; body = ts })) (terms_as s goals)
+
+  -- one more tuple is kept
+  pub one_there : (old : History) (ps qs : List Place) → KeepsMoments old m.past → AreThere old ps → qs ≡ ps ++ placed m.places.items head goals k ∷ [] → AreThere m.past qs
+  one_there old ps qs moments h e = subst (AreThere m.past) (sym e) (there_push m.past ps (placed m.places.items head goals k) (there_more old m.past ps moments h) placed_there)
+
+  pub one_kept : (old : History) (ps qs : List Place) → KeepsMoments old m.past → AreThere old ps → qs ≡ ps ++ placed m.places.items head goals k ∷ []
+      → kept_tuples m.past qs ≡ kept_tuples old ps ++ canonical_tuple (tuple_of s head goals) ∷ []
+  one_kept old ps qs moments h e =
+      ap (kept_tuples m.past) e
+      ∙ map-append (kept_tuple m.past) ps (placed m.places.items head goals k ∷ [])
+      ∙ ap (λ ts. ts ++ kept_tuple m.past (placed m.places.items head goals k) ∷ []) (tuples_same old m.past ps moments h)
+      ∙ ap (λ t. kept_tuples old ps ++ t ∷ []) placed_tuple
+
+-- a kept tuple by its number
+pub got_none : (h : History) (ps : List Place) (i : ℕ) (now : List Tuple) → kept_tuples h ps ≡ now → slice_get ps i ≡ None → None ≡ slice_get now i
+got_none h ps i now view e =
+    sym (ap (λ ts. slice_get ts i) (sym view) ∙ slice_get-map (kept_tuple h) ps i ∙ ap (option_map (kept_tuple h)) e)
+
+pub got_some : (h : History) (ps : List Place) (i : ℕ) (now : List Tuple) (p : Place) (t : Tuple) → kept_tuples h ps ≡ now → slice_get ps i ≡ Some p → t ≡ kept_tuple h p → Some t ≡ slice_get now i
+got_some h ps i now p t view e is =
+    ap (λ x. Some x) is ∙ sym (ap (λ ts. slice_get ts i) (sym view) ∙ slice_get-map (kept_tuple h) ps i ∙ ap (option_map (kept_tuple h)) e)

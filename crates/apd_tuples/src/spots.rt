@@ -1,0 +1,175 @@
+//! Where kept tuples are in a past.
+
+ghost use Rattle.std.specs.Prelude.{◌≡◌, ◌∷◌, [], ◌++◌, ◌<◌, length, slice_get, None, Some, IfOk, OnOk, OnErr, MatchOption};
+ghost use Rattle.apd_tuples.specs.Spots.{HasMore, HavePlaces, IsSpanned, place_of_cell, placed, placed_all, spot_at, spot_in};
+
+use apd_past::past::{Moment, PastCell};
+use apd_unify::store::Cell;
+use std::alloc::{AllocError, Global};
+use std::marker::Model;
+
+/// Where a tuple's head and goals are, and the moment at which it was kept.
+#[derive(Clone, Copy)]
+pub struct Spot<'a> {
+    pub head: PastCell,
+    pub goals: &'a [PastCell],
+    pub moment: Moment,
+}
+
+/// The number of a kept tuple, and how many goals it has.
+#[derive(Clone, Copy)]
+pub struct Numbered {
+    pub number: u32,
+    pub goals: u32,
+}
+
+/// A spot as it is kept: its goals stand among those of all.
+#[derive(Clone, Copy)]
+pub struct Row {
+    pub head: PastCell,
+    pub moment: Moment,
+    pub from: u32,
+    pub to: u32,
+}
+
+/// The spots of tuples. Clauses see their list, the oldest first.
+#[derive(Drop)]
+pub struct Spots {
+    rows: Vec<Row>,
+    goals: Vec<PastCell>,
+}
+
+impl Model for Spots {
+    ghost use Rattle.std.specs.Prelude.{List, length};
+    ghost use Rattle.apd_tuples.specs.Spots.{Place, spots_in, AreSpanned};
+
+    ghost Value = { List Place };
+
+    ghost view = { λ s. spots_in s.goals.items s.rows.items };
+
+    ghost invariant = { λ s. AreSpanned (length s.goals.items) s.rows.items };
+}
+
+/// The greatest number that is kept.
+const MOST: usize = 4_294_967_295;
+
+/// The number as it is kept; want of memory where it is too great.
+fn narrow(n: usize) -> Result<u32, AllocError>
+    ensures { IfOk result (λ k. k ≡ n) }
+{
+    if n > MOST {
+        return Err(AllocError);
+    }
+    Ok(n as u32)
+}
+
+/// The place of a cell.
+fn place_of(places: &[PastCell], cell: Cell) -> PastCell
+    requires { cell.0 < length places.now }
+    ensures { result ≡ place_of_cell places.now cell }
+{
+    places[cell.0]
+}
+
+/// Puts the places of cells behind the others.
+fn put_places(
+    there: &mut Vec<PastCell>,
+    places: &[PastCell],
+    cells: &[Cell],
+) -> Result<(), AllocError>
+    requires { HavePlaces (length places.now) cells.now }
+    ensures ok { OnOk result
+        (there.new.items ≡ there.old.items ++ placed_all places.now cells.now) }
+    ensures more { HasMore there.old.items there.new.items }
+{
+    'cells: for cell in cells {
+        there.push(place_of(places, *cell))?;
+    }
+    Ok(())
+}
+
+/// The row with this number, counted from 0.
+fn row_at(rows: &[Row], number: usize) -> Option<Row>
+    ensures { result ≡ slice_get rows.now number }
+{
+    match rows.get(number) {
+        None => None,
+        Some(row) => Some(*row),
+    }
+}
+
+/// The spot that is kept as a row.
+fn spot_in<'a>(goals: &'a [PastCell], row: Row) -> Spot<'a>
+    requires { IsSpanned (length goals.now) row }
+    ensures { spot_at result ≡ spot_in goals.now row }
+{
+    Spot {
+        head: row.head,
+        goals: &goals[row.from as usize..row.to as usize],
+        moment: row.moment,
+    }
+}
+
+impl Spots {
+    /// No spot.
+    pub fn new(alloc: Global) -> Spots
+        ensures { result ≡ [] }
+    {
+        Spots {
+            rows: Vec::new(alloc),
+            goals: Vec::new(alloc),
+        }
+    }
+
+    /// How many there are.
+    pub fn len(&self) -> usize
+        ensures { result ≡ length self.now }
+    {
+        self.rows.len()
+    }
+
+    /// That with this number, counted from 0 at the oldest.
+    pub fn get(&self, number: usize) -> Option<Spot<'_>>
+        ensures { MatchOption result
+            (slice_get self.now number ≡ None)
+            (λ s. slice_get self.now number ≡ Some (spot_at s)) }
+    {
+        match row_at(self.rows.as_slice(), number) {
+            None => None,
+            Some(row) => Some(spot_in(self.goals.as_slice(), row)),
+        }
+    }
+
+    /// Puts the spot of the terms at a head's cell and at goals' cells behind the others, and tells its
+    /// number and how many goals it has. The cells stand at these places.
+    pub fn push(
+        &mut self,
+        places: &[PastCell],
+        head: Cell,
+        goals: &[Cell],
+        moment: Moment,
+    ) -> Result<Numbered, AllocError>
+        requires head { head.0 < length places.now }
+        requires goals { HavePlaces (length places.now) goals.now }
+        ensures ok { OnOk result
+            (self.new ≡ self.old ++ placed places.now head goals.now moment.0 ∷ []) }
+        ensures number { IfOk result (λ n. n.number ≡ length self.old) }
+        ensures count { IfOk result (λ n. n.goals ≡ length goals.now) }
+        ensures err { OnErr result (self.new ≡ self.old) }
+    {
+        let number = narrow(self.rows.len())?;
+        let from = narrow(self.goals.len())?;
+        put_places(&mut self.goals, places, goals)?;
+        let to = narrow(self.goals.len())?;
+        self.rows.push(Row {
+            head: place_of(places, head),
+            moment,
+            from,
+            to,
+        })?;
+        Ok(Numbered {
+            number,
+            goals: to - from,
+        })
+    }
+}

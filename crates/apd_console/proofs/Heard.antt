@@ -1,7 +1,8 @@
 -- How long the lines are that are heard.
-use Rattle.std.proofs.Common.{◌≡◌, ℕ, ◌≤◌, List, [], ◌∷◌, ◌++◌, length, take, map, ap, refl, subst, arith, Bool, true, false, Option}
+use Rattle.std.proofs.Common.{◌≡◌, ℕ, ◌≤◌, List, [], ◌∷◌, ◌++◌, length, take, map, ap, refl, subst, arith, Bool, true, false}
 use Rattle.std.proofs.lemmas.Bool.{leb-false}
 use Rattle.std.proofs.Math.Dec.{leb}
+use Rattle.apd_io.specs.Outside.{Left}
 use Rattle.apd_console.specs.Console.{Kept, HearsLine, CanFollow, room_of}
 use Rattle.apd_console.specs.Lines.{Ended, Heard, hear, lines_of, whole_lines_of, seen}
 use Rattle.apd_console.specs.declared.line.Line.{Line}
@@ -29,6 +30,6 @@ can_end_there true = (refl, refl)
 can_end_there false = tt
 
 -- a line that is handed out and isn't too long is as long as lines may be
-pub line_short : (k l : Kept) (x y : Option (List ℕ)) (text : List ℕ) → HearsLine k l x y (Text text) → length text ≤ 65536
+pub line_short : (k l : Kept) (x y : Left) (text : List ℕ) → HearsLine k l x y (Text text) → length text ≤ 65536
 line_short k l x y text hears =
     heard_short (room_of k) (hears.heard ++ []) text _ (leb (room_of k) (length (hears.heard ++ []))) refl (ap (λ (h : Heard). h.lines) (hears.first [] Ended (can_end_there l.ended)))

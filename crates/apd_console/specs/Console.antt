@@ -1,6 +1,7 @@
 -- What a console does with the bytes of a source.
-use Rattle.std.specs.Prelude.{ℕ, ◌≡◌, ◌+◌, ◌-◌, ◌<◌, ◌≤◌, List, [], ◌++◌, length, Bool, true, false, Option, ⊤}
-use Rattle.apd_io.specs.Outside.{Takes, IsOver}
+use Rattle.std.specs.Prelude.{ℕ, ◌≡◌, ◌+◌, ◌-◌, ◌<◌, ◌≤◌, List, [], ◌++◌, length, Bool, true, false, if◌then◌else◌, ⊤}
+use Rattle.apd_io.specs.Outside.{IsOver, Takes}
+pub use Rattle.apd_io.specs.Outside.{Left}
 use Rattle.apd_console.specs.declared.line.Line.{Line}
 use Rattle.apd_console.specs.declared.line.Line.TheVariants.{Text}
 use Rattle.apd_console.specs.declared.line.LineEnd.{LineEnd}
@@ -35,8 +36,12 @@ abbrev pub CanFollow : Bool → List ℕ → InputEnd → Type 0
 CanFollow true more ends = (more ≡ []) × (ends ≡ lines.Ended)
 CanFollow false more ends = ⊤
 
+-- each read of the source gave a byte, but the one, if any, by which the console knows that the input has ended
+abbrev pub IsOnTime : Kept → Left → Type 0
+IsOnTime k left = left.late ≤ (if k.ended then 1 else 0)
+
 -- some bytes were taken from the source, and these were handed out
-pub record Hands (before after : Kept) (left now : Option (List ℕ)) (heard : List ℕ) : Type 0 where
+pub record Hands (before after : Kept) (left now : Left) (heard : List ℕ) : Type 0 where
   pub got : List ℕ
   pub consumes : Takes left now got
   pub joins : before.kept ++ got ≡ heard ++ after.kept
@@ -45,9 +50,10 @@ pub record Hands (before after : Kept) (left now : Option (List ℕ)) (heard : L
   pub over : (before.ended ≡ true → IsOver left) → after.ended ≡ true → IsOver now
 
 -- whatever follows, this is the first line that is heard
-pub record HearsLine (before after : Kept) (left now : Option (List ℕ)) (line : Line) : Type 0 where
+pub record HearsLine (before after : Kept) (left now : Left) (line : Line) : Type 0 where
   pub heard : List ℕ
   pub hands : Hands before after left now heard
+  pub on_time : IsOnTime before left → IsOnTime after now
   pub goes_on : room_of after < room_of before
   pub fits : (text : List ℕ) → line ≡ Text text → length text + room_of after ≤ room_of before
   pub first : (more : List ℕ) (ends : InputEnd) → CanFollow after.ended more ends →
@@ -60,10 +66,11 @@ HearsNone room ReadFault after heard = (after.ended ≡ false) × (after.kept �
 HearsNone room InputLimit after heard = (more : List ℕ) (ends : InputEnd) → hear room (heard ++ more) ends ≡ record { lines = []; close = AtLimit }
 HearsNone room Memory after heard = ⊤
 
--- whatever follows, no line is heard first but this end
-pub record HearsEnd (before after : Kept) (left now : Option (List ℕ)) (end : LineEnd) : Type 0 where
+-- whatever follows, no line is heard first but this end; no read is behind one that gave no byte
+pub record HearsEnd (before after : Kept) (left now : Left) (end : LineEnd) : Type 0 where
   pub heard : List ℕ
   pub hands : Hands before after left now heard
+  pub on_time : IsOnTime before left → now.late ≤ 1
   pub shrinks : room_of after ≤ room_of before
   pub is : HearsNone (room_of before) end after heard
 

@@ -1,8 +1,9 @@
 -- A line while its bytes come in.
-use Rattle.std.specs.Prelude.{ℕ, ◌≡◌, ◌+◌, ◌<◌, ◌≤◌, List, [], ◌∷◌, ◌++◌, length, take, drop, Bool, true, false, if◌then◌else◌, Option}
+use Rattle.std.specs.Prelude.{ℕ, ◌≡◌, ◌+◌, ◌<◌, ◌≤◌, List, [], ◌∷◌, ◌++◌, length, take, drop, Bool, true, false, if◌then◌else◌}
+use Rattle.apd_io.specs.Outside.{Left}
 use Rattle.apd_console.specs.declared.draft.Draft.{Draft}
 use Rattle.apd_console.specs.Lines.{NoNewline}
-use Rattle.apd_console.specs.Console.{Kept, Hands}
+use Rattle.apd_console.specs.Console.{Hands, IsOnTime, Kept}
 use Rattle.apd_base.specs.declared.limits.TheConstants.{MAX_LINE}
 
 -- the bytes of the line so far are these, or are known to be too many
@@ -30,8 +31,9 @@ pub record TakesPart (before after : Kept) (old new : Draft) (whole : Bool) : Ty
   pub draft : (raw : List ℕ) → Drafts old.text old.long raw → Drafts new.text new.long (raw ++ piece)
 
 -- in the middle of a line
-pub record Drafted (before now : Kept) (left left_now : Option (List ℕ)) (draft : Draft) : Type 0 where
+pub record Drafted (before now : Kept) (left left_now : Left) (draft : Draft) : Type 0 where
   pub raw : List ℕ
   pub hands : Hands before now left left_now raw
+  pub on_time : IsOnTime before left → IsOnTime now left_now
   pub none : NoNewline raw
   pub drafts : Drafts draft.text draft.long raw

@@ -1,9 +1,9 @@
 //! Lines from a source, and bytes to a sink.
 
 ghost use Rattle.std.specs.Prelude.{◌≡◌, ◌≢◌, ◌==◌, ◌≤◌, ◌<◌, ◌++◌, List, ℕ, [], ◌∷◌, drop, take, length, true, false, nat_eq, IfOk, IfErr, OnOk, OnErr, IsErrOf, MatchResult, MatchOption};
-ghost use Rattle.apd_io.specs.Outside.{Counts, Takes, Adds, IsOver};
+ghost use Rattle.apd_io.specs.Outside.{Adds, Counts, IsOver, Loses, late_after, taken_after};
 ghost use Rattle.apd_console.specs.Lines.{HasNewline, NoNewline};
-ghost use Rattle.apd_console.specs.Console.{Kept, IsKept, fresh, Hands, HearsLine, HearsEnd, is_read_fault};
+ghost use Rattle.apd_console.specs.Console.{Kept, IsKept, IsOnTime, fresh, Hands, HearsLine, HearsEnd, is_read_fault};
 ghost use Rattle.apd_console.specs.Draft.{IsFirstNewline, TakesPart};
 ghost use Rattle.apd_console.specs.Print.{AddsFront};
 ghost use Rattle.apd_base.specs.declared.limits.TheConstants.{MAX_INPUT};
@@ -128,6 +128,9 @@ impl Console {
     #[tactic(auto, using(crate::proofs::Bytes::Hands_same))]
     fn more<S: Source>(&mut self, source: &mut S) -> Result<bool, LineEnd>
         ensures hands { Hands self.old self.new (S.left source.old) (S.left source.new) [] }
+        ensures on_time { OnOk result (IsOnTime self.old (S.left source.old) →
+            IsOnTime self.new (S.left source.new)) }
+        ensures late { IsOnTime self.old (S.left source.old) → (S.left source.new).late ≤ 1 }
         ensures some { result ≡ Ok true → 0 < length self.new.kept }
         ensures waits { 0 < length self.old.kept →
             (source.new ≡ source.old) × (self.new ≡ self.old) }
@@ -151,6 +154,9 @@ impl Console {
     fn fill<S: Source>(&mut self, source: &mut S) -> Result<(), LineEnd>
         requires { self.old.kept ≡ [] }
         ensures hands { Hands self.old self.new (S.left source.old) (S.left source.new) [] }
+        ensures on_time { OnOk result (IsOnTime self.old (S.left source.old) →
+            IsOnTime self.new (S.left source.new)) }
+        ensures late { IsOnTime self.old (S.left source.old) → (S.left source.new).late ≤ 1 }
         ensures ok { OnOk result (self.new.ended ≡ nat_eq (length self.new.kept) 0) }
         ensures err { OnErr result (self.new ≡ self.old) }
         ensures limit { IsErrOf result LineEnd.InputLimit → self.old.taken ≡ MAX_INPUT }
@@ -248,10 +254,13 @@ fn read_some<S: Source>(source: &mut S, chunk: &mut [u8], want: usize) -> Result
     requires room { want ≤ length chunk.old }
     ensures len { length chunk.new ≡ length chunk.old }
     ensures bound { IfOk result (λ n. n ≤ want) }
-    ensures bytes { IfOk result (λ n. Takes (S.left source.old) (S.left source.new)
+    ensures within { IfOk result (λ n. n ≤ length chunk.new) }
+    ensures bytes { IfOk result (λ n. Loses (S.left source.old).bytes (S.left source.new).bytes
         (take n chunk.new)) }
     ensures end { IfOk result (λ n. n ≡ 0 → IsOver (S.left source.old)) }
-    ensures kept { OnErr result (S.left source.new ≡ S.left source.old) }
+    ensures kept { OnErr result ((S.left source.new).bytes ≡ (S.left source.old).bytes) }
+    ensures taken { (S.left source.new).taken ≡ taken_after result (S.left source.old).taken }
+    ensures late { (S.left source.new).late ≡ late_after result (S.left source.old).late }
     ensures cause { Counts (λ _. true) (S.faults source.old) (S.faults source.new) result }
 {
     match source.read(&mut chunk[..want]) {

@@ -2,9 +2,10 @@
 use Rattle.std.specs.Prelude.{ℕ, List, [], ◌∷◌, Option, None, Some, is_none, Bool, false, ◌||◌, if◌then◌else◌, nat_eq, Result, Ok, Err, ◌≡◌, ◌<◌, length, take, slice_get, IfSome}
 use Rattle.std.specs.List.{list_any}
 use Rattle.std.specs.Str.{bytes_eq}
-use Rattle.apd_io.specs.Outside.{risen, is_load_fault}
+use Rattle.apd_io.specs.Outside.{Left, risen, is_load_fault, late_after, taken_after}
 use Rattle.apd_io.specs.declared.fault.LoadFault.{LoadFault}
 use Rattle.apd_io.specs.declared.calls.Calls.{Calls}
+use Rattle.apd_io.specs.declared.tally.Tally.{Tally}
 use Rattle.apd_io.specs.declared.mem_files.MemFile.{MemFile}
 
 -- is the next call one of those that fail?
@@ -19,11 +20,24 @@ called calls failed = record { failing = calls.failing; made = risen calls.made;
 abbrev pub uncalled : List ℕ → Calls
 uncalled failing = record { failing = failing; made = 0; faults = 0 }
 
--- a source: the bytes that are left, how many one read gives at most, and its calls
+-- what was given after a read with this answer
+abbrev pub tally_after : {E : Type 0} → Result ℕ E → Tally → Tally
+tally_after result tally = record { taken = taken_after result tally.taken; late = late_after result tally.late }
+
+-- before the first read
+abbrev pub untaken : Tally
+untaken = record { taken = 0; late = 0 }
+
+-- a source of which this is left, and which gave so much
+abbrev pub left_with : Option (List ℕ) → Tally → Left
+left_with bytes tally = record { bytes = bytes; taken = tally.taken; late = tally.late }
+
+-- a source: the bytes that are left, how many one read gives at most, its calls, and what it gave
 pub record Feed : Type 0 where
   pub left : List ℕ
   pub most : ℕ
   pub calls : Calls
+  pub tally : Tally
 
 -- a sink: the bytes that it holds, how many it can hold, how many one write takes at most, and its calls
 pub record Store : Type 0 where

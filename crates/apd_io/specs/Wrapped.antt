@@ -3,11 +3,18 @@
 use Rattle.std.specs.Prelude.{ℕ, ◌≡◌, ◌⊎◌, List, Option, length, take}
 use Rattle.std.specs.Io.KnownBytes.{Appends, Consumes}
 use Rattle.apd_io.specs.Outside.{risen}
+use Rattle.apd_io.specs.declared.tally.Tally.{Tally}
 
--- a writer or a reader: the bytes that it holds or has left, where it tells them, and how many calls failed
-pub record Wrapped : Type 0 where
+-- a writer: the bytes that it holds, where it tells them, and how many writes failed
+pub record Written : Type 0 where
   pub bytes : Option (List ℕ)
   pub faults : ℕ
+
+-- a reader: the bytes that it has left, where it tells them, how many reads failed, and what it gave
+pub record Drawn : Type 0 where
+  pub bytes : Option (List ℕ)
+  pub faults : ℕ
+  pub tally : Tally
 
 -- files: how many loads failed
 pub record Loads : Type 0 where

@@ -26,8 +26,8 @@ pub trait Files {
     ///
     /// # Errors
     ///
-    /// [`LoadFault::Failed`] where it isn't there or can't be read: the count of faults rose.
-    /// [`LoadFault::TooLong`] with 1,048,577 exactly where the call doesn't fail and the content
+    /// [`LoadFault::Failed`] where it isn't there or can't be read: the count of faults rose
+    /// by one. [`LoadFault::TooLong`] with 1,048,577 exactly where the call doesn't fail and the content
     /// is longer than [`MAX_FILE`] bytes. [`LoadFault::Memory`] where memory ran out.
     fn load(&mut self, alloc: Global, name: &str) -> Result<Text, LoadFault>
         ensures whole { IfOk result (λ text. Tells (content self.old name.now) text) }

@@ -2,7 +2,8 @@
 //!
 //! Each of the three traits counts its faults, and tells its content where that is known: over
 //! memory it is, over the operating system it isn't. An error is answered only where the count
-//! rose in that call. A count stops at the greatest `u64`, where a further fault leaves it.
+//! rose by one in that call. A source also counts the bytes that it gave, and the reads from the
+//! first on that gave none. A count stops at the greatest `u64`, where a further fault leaves it.
 #![tactic(auto)]
 
 mod calls;
@@ -16,6 +17,7 @@ mod sink;
 mod source;
 mod std_sink;
 mod std_source;
+mod tally;
 
 pub use apd_base::MAX_FILE;
 pub use disk_files::DiskFiles;
@@ -28,3 +30,4 @@ pub use sink::Sink;
 pub use source::Source;
 pub use std_sink::StdSink;
 pub use std_source::StdSource;
+pub use tally::Tally;

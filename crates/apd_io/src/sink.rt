@@ -15,11 +15,12 @@ pub trait Sink {
     /// How many writes have failed.
     ghost faults: { Self → ℕ };
 
-    /// Appends at least the first of `bytes`, which aren't none, and answers how many.
+    /// Appends at least the first of `bytes`, which aren't none, and answers how many: each write puts a
+    /// byte or more, or fails.
     ///
     /// # Errors
     ///
-    /// [`Failed`] where the write failed or took nothing: the count of faults rose, and nothing
+    /// [`Failed`] where the write failed or took nothing: the count of faults rose by one, and nothing
     /// was appended.
     fn write(&mut self, bytes: &[u8]) -> Result<usize, Failed>
         requires { 0 < length bytes.now }

@@ -23,9 +23,9 @@ pub struct StdSink<W: Write + Drop> {
 }
 
 impl<W: Write + Drop> Model for StdSink<W> {
-    ghost use Rattle.apd_io.specs.Wrapped.{Wrapped};
+    ghost use Rattle.apd_io.specs.Wrapped.{Written};
 
-    ghost Value = { Wrapped };
+    ghost Value = { Written };
 
     ghost view = { λ s. record { bytes = W.contents s.writer; faults = s.faults } };
 }

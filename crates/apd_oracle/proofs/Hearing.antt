@@ -1,7 +1,8 @@
 -- What one line does while a question waits.
-use Rattle.std.proofs.Common.{◌≡◌, ℕ, ◌≤◌, List, [], refl, ap, sym, ◌∙◌, subst, arith, Option, None, Some}
+use Rattle.std.proofs.Common.{◌≡◌, ℕ, ◌≤◌, List, [], refl, ap, sym, ◌∙◌, subst, arith, Bool, true, false, Option, None, Some}
 use Rattle.std.specs.Prelude.{Result, Ok, Err}
-use Rattle.apd_base.specs.Counts.{Counted, Rose}
+use Rattle.apd_base.specs.Counts.{Counted}
+use Rattle.apd_io.specs.Outside.{Counted as CountedOnce, Left}
 use Rattle.apd_answers.specs.Oracle.{is_read_fault, is_write_fault}
 use Rattle.apd_answers.specs.declared.oracle.AskEnd.{AskEnd}
 use Rattle.apd_answers.specs.declared.oracle.AskEnd.TheVariants as ends
@@ -25,8 +26,6 @@ use Rattle.apd_talk.specs.Talk.{Meaning, Place, Talks, Breaks}
 use Rattle.apd_talk.specs.declared.talk.Trouble.{Trouble}
 use Rattle.apd_talk.specs.declared.talk.Trouble.TheVariants as troubles
 use Rattle.apd_talk.proofs.Awaiting.{Talks-again, Talks-then, Breaks-again, Breaks-line-here, Breaks-end-here, Closes-hear, Closes-more}
-use Rattle.apd_talk.proofs.Counting.{count_later, read_rose}
-use Rattle.apd_talk.proofs.Speaking.{says_later, says_rose}
 use Rattle.apd_talk.proofs.Talking.{Talks-more, Breaks-more}
 use Rattle.apd_talk.proofs.Uttering.{Utters-nothing}
 use Rattle.apd_term.specs.Growth.{Grown}
@@ -66,9 +65,13 @@ heard_trouble_from None f p q after t breaks = heard_trouble f p q after t break
 heard_trouble_from (Some reply) f p q after t breaks = heard_trouble f p q after t breaks
 
 -- counts of faults of the console and of the sink, as those of an oracle
-line_counts : (a b : ℕ) (e : LineEnd) → Counted (console.is_read_fault e) a b → Counted (is_read_fault (end_of_line e)) a b
+once_counted : (is_fault : Bool) (a b : ℕ) → CountedOnce is_fault a b → Counted is_fault a b
+once_counted true a b counts = let rose = counts.0 in (omega (arith, rose), counts.1)
+once_counted false a b counts = counts
+
+line_counts : (a b : ℕ) (e : LineEnd) → CountedOnce (console.is_read_fault e) a b → Counted (is_read_fault (end_of_line e)) a b
 line_counts a b line_ends.Ended counts = counts
-line_counts a b line_ends.ReadFault counts = counts
+line_counts a b line_ends.ReadFault counts = once_counted true a b counts
 line_counts a b line_ends.InputLimit counts = counts
 line_counts a b line_ends.Memory counts = counts
 
@@ -78,8 +81,8 @@ line_writes c line_ends.ReadFault = refl
 line_writes c line_ends.InputLimit = refl
 line_writes c line_ends.Memory = refl
 
-pub trouble_writes : (c d : ℕ) (t : Trouble) → Counted (speech.is_write_fault t) c d → Counted (is_write_fault (end_of_trouble t)) c d
-trouble_writes c d troubles.WriteFault counts = counts
+pub trouble_writes : (c d : ℕ) (t : Trouble) → CountedOnce (speech.is_write_fault t) c d → Counted (is_write_fault (end_of_trouble t)) c d
+trouble_writes c d troubles.WriteFault counts = once_counted true c d counts
 trouble_writes c d troubles.Memory counts = counts
 
 pub trouble_reads : (a b : ℕ) (t : Trouble) → b ≡ a → Counted (is_read_fault (end_of_trouble t)) a b
@@ -87,23 +90,23 @@ trouble_reads a b troubles.WriteFault same = same
 trouble_reads a b troubles.Memory same = same
 
 -- a moment, with another console and other names
-abbrev pub onward : Moment → Kept → Option (List ℕ) → ℕ → List (List ℕ) → Moment
+abbrev pub onward : Moment → Kept → Left → ℕ → List (List ℕ) → Moment
 onward p k left reads names =
     record { console = k; left = left; read_faults = reads; spoken = record { log = record { names = names; ops = p.spoken.log.ops; entries = p.spoken.log.entries }; held = p.spoken.held; write_faults = p.spoken.write_faults } }
 
-module _ (asked : Asked) (p : Moment) (k : Kept) (y : Option (List ℕ)) (b : ℕ) (sound : IsKept k) where
+module _ (asked : Asked) (p : Moment) (k : Kept) (y : Left) (b : ℕ) (sound : IsKept k) where
   -- no line is heard
-  ends_so : (e : LineEnd) → HearsEnd p.console k p.left y e → p.read_faults ≤ b → (e ≡ line_ends.ReadFault → Rose p.read_faults b) → Follows HearsOne (waiting asked) p (onward p k y b p.spoken.log.names) (Err (end_of_line e))
-  ends_so line_ends.Ended hears reads rose = λ names grew reader after. Closes-hear (turn_at asked p.spoken.log.ops names reader after) after.closed line_ends.Ended p.console k p.left y p.spoken.held p.read_faults b p.spoken.write_faults p.spoken.log.entries.list hears reads rose (λ e. absurd (cc))
-  ends_so line_ends.ReadFault hears reads rose = λ names grew reader after. Closes-hear (turn_at asked p.spoken.log.ops names reader after) after.closed line_ends.ReadFault p.console k p.left y p.spoken.held p.read_faults b p.spoken.write_faults p.spoken.log.entries.list hears reads rose (λ e. absurd (cc))
-  ends_so line_ends.InputLimit hears reads rose = λ names grew reader after. Closes-hear (turn_at asked p.spoken.log.ops names reader after) after.closed line_ends.InputLimit p.console k p.left y p.spoken.held p.read_faults b p.spoken.write_faults p.spoken.log.entries.list hears reads rose (λ e. absurd (cc))
-  ends_so line_ends.Memory hears reads rose = λ names grew reader after. Breaks-end-here begun _ line_ends.Memory p.console k p.left y p.spoken.held p.read_faults b p.spoken.write_faults p.spoken.log.entries.list troubles.Memory hears reads (λ e. absurd (cc))
+  ends_so : (e : LineEnd) → HearsEnd p.console k p.left y e → CountedOnce (console.is_read_fault e) p.read_faults b → Follows HearsOne (waiting asked) p (onward p k y b p.spoken.log.names) (Err (end_of_line e))
+  ends_so line_ends.Ended hears reads = λ names grew reader after. Closes-hear (turn_at asked p.spoken.log.ops names reader after) after.closed line_ends.Ended p.console k p.left y p.spoken.held p.read_faults b p.spoken.write_faults p.spoken.log.entries.list hears reads (λ e. absurd (cc))
+  ends_so line_ends.ReadFault hears reads = λ names grew reader after. Closes-hear (turn_at asked p.spoken.log.ops names reader after) after.closed line_ends.ReadFault p.console k p.left y p.spoken.held p.read_faults b p.spoken.write_faults p.spoken.log.entries.list hears reads (λ e. absurd (cc))
+  ends_so line_ends.InputLimit hears reads = λ names grew reader after. Closes-hear (turn_at asked p.spoken.log.ops names reader after) after.closed line_ends.InputLimit p.console k p.left y p.spoken.held p.read_faults b p.spoken.write_faults p.spoken.log.entries.list hears reads (λ e. absurd (cc))
+  ends_so line_ends.Memory hears reads = λ names grew reader after. Breaks-end-here begun _ p.console k p.left y p.spoken.held p.read_faults b p.spoken.write_faults p.spoken.log.entries.list hears reads
 
-  pub heard_end : (e : LineEnd) → HearsEnd p.console k p.left y e → Counted (console.is_read_fault e) p.read_faults b → HasHeard HearsOne (waiting asked) p (onward p k y b p.spoken.log.names) (Err (end_of_line e))
+  pub heard_end : (e : LineEnd) → HearsEnd p.console k p.left y e → CountedOnce (console.is_read_fault e) p.read_faults b → HasHeard HearsOne (waiting asked) p (onward p k y b p.spoken.log.names) (Err (end_of_line e))
   heard_end e hears counts = record {
     keeps = record { names = Grown-self p.spoken.log.names; few = let s = hears.shrinks in omega (arith, s); ops = refl; sound = sound };
     keeps_place = λ some. some;
-    follows = ends_so e hears (count_later {T = Unit {0}} console.is_read_fault p.read_faults b (Err e) counts) (λ is. read_rose p.read_faults b e counts is);
+    follows = ends_so e hears counts;
     faults = record { read = line_counts p.read_faults b e counts; write = line_writes p.spoken.write_faults e };
   }
 
@@ -116,16 +119,13 @@ module _ (asked : Asked) (p : Moment) (k : Kept) (y : Option (List ℕ)) (b : �
       sound = sound;
     }
 
-    reads_later : p.read_faults ≤ b
-    reads_later = let r = reads in omega (arith, r)
-
     -- memory ran out while it was read
     pub heard_unread : HasHeard HearsOne (waiting asked) p (onward p k y b names) (Err ends.Memory)
     heard_unread = record {
       keeps = onward_keeps;
       keeps_place = λ some. some;
       follows = λ later grew reader after.
-          Breaks-line-here begun _ line p.console k p.left y p.spoken.held p.read_faults b p.spoken.write_faults p.spoken.log.entries.list troubles.Memory hears reads_later (λ e. absurd (cc));
+          Breaks-line-here begun _ line p.console k p.left y p.spoken.held p.read_faults b p.spoken.write_faults p.spoken.log.entries.list hears reads;
       faults = record { read = reads; write = refl };
     }
 
@@ -137,7 +137,7 @@ module _ (asked : Asked) (p : Moment) (k : Kept) (y : Option (List ℕ)) (b : �
       goes_then : (h : Afterwards → Hearing Entry) → ((ops : Table) (later : List (List ℕ)) (after : Afterwards) → turn_of ops later after said ≡ Then (h after)) →
           Lasting names (λ later. (reader : Reader later) (after : Afterwards) → Talks (means (waiting asked p.spoken.log.ops later reader after)) (place p) (place (onward p k y b names)) (means (h after)))
       goes_then h then = λ later grew reader after.
-          Talks-then (turn_at asked p.spoken.log.ops later reader after) after.closed line (h after) p.console k p.left y p.spoken.held p.read_faults b p.spoken.write_faults p.spoken.log.entries.list hears reads_later
+          Talks-then (turn_at asked p.spoken.log.ops later reader after) after.closed line (h after) p.console k p.left y p.spoken.held p.read_faults b p.spoken.write_faults p.spoken.log.entries.list hears reads
           (turn_is later grew reader after ∙ then p.spoken.log.ops later after)
 
       pub heard_reply : (r : Reply) → said ≡ spoken.Reply r → HasHeard HearsOne (waiting asked) p (onward p k y b names) (Ok (Some r))
@@ -169,8 +169,8 @@ module _ (asked : Asked) (p : Moment) (k : Kept) (y : Option (List ℕ)) (b : �
         keeps = onward_keeps;
         keeps_place = λ some. some;
         follows = λ later grew reader after.
-            Talks-again (turn_at asked p.spoken.log.ops later reader after) after.closed line [] p.console k p.left y p.spoken.held p.spoken.held p.read_faults b p.spoken.write_faults p.spoken.write_faults p.spoken.log.entries.list p.spoken.log.entries.list hears reads_later
-            (turn_is later grew reader after ∙ ap (turn_of p.spoken.log.ops later after) so) (Utters-nothing p.spoken.log.entries.list p.spoken.held) (omega arith);
+            Talks-again (turn_at asked p.spoken.log.ops later reader after) after.closed line [] p.console k p.left y p.spoken.held p.spoken.held p.read_faults b p.spoken.write_faults p.spoken.write_faults p.spoken.log.entries.list p.spoken.log.entries.list hears reads
+            (turn_is later grew reader after ∙ ap (turn_of p.spoken.log.ops later after) so) (Utters-nothing p.spoken.log.entries.list p.spoken.held) refl;
         faults = record { read = reads; write = refl };
       }
 
@@ -193,8 +193,8 @@ module _ (asked : Asked) (p : Moment) (k : Kept) (y : Option (List ℕ)) (b : �
           keeps_place = room;
           follows = λ later grew reader after.
               let grown : Grown names later = subst (λ (l : List (List ℕ)). Grown l later) refuses.names grew in
-              Talks-again (turn_at asked p.spoken.log.ops later reader after) after.closed line (one (BadReply reason) p.spoken.log.ops later) p.console k p.left y p.spoken.held q.held p.read_faults b p.spoken.write_faults q.write_faults p.spoken.log.entries.list q.log.entries.list hears reads_later
-              (turn_is later grown reader after ∙ ap (turn_of p.spoken.log.ops later after) so) (refuses.all later grown) (says_later (one (BadReply reason)) (onward p k y b names).spoken q (Ok t) refuses);
+              Talks-again (turn_at asked p.spoken.log.ops later reader after) after.closed line (one (BadReply reason) p.spoken.log.ops later) p.console k p.left y p.spoken.held q.held p.read_faults b p.spoken.write_faults q.write_faults p.spoken.log.entries.list q.log.entries.list hears reads
+              (turn_is later grown reader after ∙ ap (turn_of p.spoken.log.ops later after) so) (refuses.all later grown) refuses.cause;
           faults = record { read = reads; write = refuses.cause };
         }
 
@@ -205,7 +205,7 @@ module _ (asked : Asked) (p : Moment) (k : Kept) (y : Option (List ℕ)) (b : �
           follows = λ later grew reader after.
               let grown : Grown names later = subst (λ (l : List (List ℕ)). Grown l later) refuses.names grew in
               heard_trouble _ _ _ after t
-              (Breaks-again begun (turn_at asked p.spoken.log.ops later reader after) after.closed line (one (BadReply reason) p.spoken.log.ops later) p.console k p.left y p.spoken.held q.held p.read_faults b p.spoken.write_faults q.write_faults p.spoken.log.entries.list q.log.entries.list t hears reads_later
-              (turn_is later grown reader after ∙ ap (turn_of p.spoken.log.ops later after) so) (refuses.front later grown) (says_later {T = T} (one (BadReply reason)) (onward p k y b names).spoken q (Err t) refuses) (says_rose {T = T} (one (BadReply reason)) (onward p k y b names).spoken q t refuses));
+              (Breaks-again begun (turn_at asked p.spoken.log.ops later reader after) after.closed line (one (BadReply reason) p.spoken.log.ops later) p.console k p.left y p.spoken.held q.held p.read_faults b p.spoken.write_faults q.write_faults p.spoken.log.entries.list q.log.entries.list t hears reads
+              (turn_is later grown reader after ∙ ap (turn_of p.spoken.log.ops later after) so) (refuses.front later grown) refuses.cause);
           faults = record { read = trouble_reads p.read_faults b t reads; write = trouble_writes p.spoken.write_faults q.write_faults t refuses.cause };
         }

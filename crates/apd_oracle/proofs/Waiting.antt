@@ -1,7 +1,8 @@
 -- While a question waits, and where it is said first.
 use Rattle.std.proofs.Common.{◌≡◌, ℕ, ◌+◌, ◌≤◌, List, [], length, refl, ap, sym, ◌∙◌, arith, Bool, Option, None, Some, subst, inl, inr, ◌⊎◌}
 use Rattle.std.specs.Prelude.{Result, Ok, Err, IfOk}
-use Rattle.apd_base.specs.Counts.{Counted, Counts, risen}
+use Rattle.apd_base.specs.Counts.{Counts, risen}
+use Rattle.apd_io.specs.Outside.{Counted as CountedOnce, Counts as CountsOnce}
 use Rattle.apd_answers.specs.Oracle.{is_read_fault, is_write_fault}
 use Rattle.apd_answers.specs.Oracle as calls
 use Rattle.apd_answers.specs.declared.oracle.AskEnd.{AskEnd}
@@ -22,7 +23,7 @@ use Rattle.apd_talk.specs.Utterance.{Utterance}
 use Rattle.apd_talk.specs.declared.talk.Trouble.{Trouble}
 use Rattle.apd_talk.specs.declared.talk.Trouble.TheVariants as troubles
 use Rattle.apd_talk.specs.Speech as speech
-use Rattle.apd_talk.proofs.Speaking.{Says-none, says_later, says_rose}
+use Rattle.apd_talk.proofs.Speaking.{Says-none}
 use Rattle.apd_talk.proofs.Talking.{Talks-more, Talks-say, Talks-self, Breaks-say}
 use Rattle.apd_talk.proofs.Uttering.{UttersFront-none}
 use Rattle.apd_term.specs.Growth.{Grown}
@@ -153,7 +154,7 @@ not_given o asked p sound = record {
   follows = λ names grew reader after.
       heard_trouble_from o (means (answering o asked p.spoken.log.ops names reader after)) (place p) (place p) after troubles.Memory
       (Breaks-say begun _ p.console p.left p.spoken.held p.spoken.held p.read_faults p.spoken.write_faults p.spoken.write_faults p.spoken.log.entries.list p.spoken.log.entries.list [] troubles.Memory
-      (UttersFront-none begun p.spoken.log.entries.list p.spoken.log.entries.list p.spoken.held [] refl) (omega arith) (λ e. absurd (cc)) (λ room more ends. (_, refl)));
+      (UttersFront-none begun p.spoken.log.entries.list p.spoken.log.entries.list p.spoken.held [] refl) refl (λ room more ends. (_, refl)));
   faults = record { read = refl; write = refl };
 }
 
@@ -177,7 +178,7 @@ module _ (replies : Question → Option Reply) (by_reference : Bool) where
       λ named names grew reader after.
           heard_trouble_from (replies asked.question) (means (asking replies (risen count) asked p.spoken.log.ops names reader after)) (place p) (place p) after troubles.Memory
           (Breaks-say begun _ p.console p.left p.spoken.held p.spoken.held p.read_faults p.spoken.write_faults p.spoken.write_faults p.spoken.log.entries.list p.spoken.log.entries.list [] troubles.Memory
-          (UttersFront-none begun p.spoken.log.entries.list p.spoken.log.entries.list p.spoken.held [] refl) (omega arith) (λ e. absurd (cc)) (λ room more ends. (_, refl))),
+          (UttersFront-none begun p.spoken.log.entries.list p.spoken.log.entries.list p.spoken.held [] refl) refl (λ room more ends. (_, refl))),
       λ named. tt,
     );
   }
@@ -206,7 +207,7 @@ module _ (replies : Question → Option Reply) (by_reference : Bool) where
             let h = answering given asked p.spoken.log.ops names reader after in
             heard_trouble_from given _ _ _ after t
             (Breaks-say begun _ p.console p.left p.spoken.held s.held p.read_faults p.spoken.write_faults s.write_faults p.spoken.log.entries.list s.log.entries.list (one (Asks n asked) p.spoken.log.ops names) t
-            (says.front names grown) (says_later {T = T} (one (Asks n asked)) p.spoken s (Err t) says) (says_rose {T = T} (one (Asks n asked)) p.spoken s t says)
+            (says.front names grown) says.cause
             (λ room more ends. (means h room more ends, first_said (one (Asks n asked) p.spoken.log.ops names) h room more ends)))
 
     -- it was said, and heard to its reply
@@ -219,7 +220,7 @@ module _ (replies : Question → Option Reply) (by_reference : Bool) where
           let h = answering given asked p.spoken.log.ops names reader after in
           HearsFrom-more given _ (means h) (place p) (place (saying p s)) (place r) after result
           (Talks-say _ _ p.console p.left p.spoken.held s.held p.read_faults p.spoken.write_faults s.write_faults p.spoken.log.entries.list s.log.entries.list (one (Asks n asked) p.spoken.log.ops names)
-          (says.all names grown) (says_later (one (Asks n asked)) p.spoken s (Ok t) says) (first_said (one (Asks n asked) p.spoken.log.ops names) h))
+          (says.all names grown) says.cause (first_said (one (Asks n asked) p.spoken.log.ops names) h))
           (subst (λ (ops : Table). HearsFrom given (means (answering given asked ops names reader after)) (place (saying p s)) (place r) after result) ops_stay (heard.follows names grew reader after))
 
       pub asked_heard : (QuestionIsNamed (length s.log.names) asked.question → IfOk result (IsReply (length r.spoken.log.names) asked)) → Calls replies (calls.asking asked result) count by_reference p r
@@ -236,17 +237,17 @@ module _ (replies : Question → Option Reply) (by_reference : Bool) where
 pub asked_faults : (p : Moment) (s : Speaking) (r : Moment) (result : Result Reply AskEnd) → s.write_faults ≡ p.spoken.write_faults → HasFaults (saying p s) r result → HasFaults p r result
 asked_faults p s r result same faults = record { read = faults.read; write = subst (λ (n : ℕ). Counts is_write_fault n r.spoken.write_faults result) same faults.write }
 
-pub front_faults : (p : Moment) (s : Speaking) (t : Trouble) → Counted (speech.is_write_fault t) p.spoken.write_faults s.write_faults → HasFaults {T = Reply} p (saying p s) (Err (end_of_trouble t))
+pub front_faults : (p : Moment) (s : Speaking) (t : Trouble) → CountedOnce (speech.is_write_fault t) p.spoken.write_faults s.write_faults → HasFaults {T = Reply} p (saying p s) (Err (end_of_trouble t))
 front_faults p s t counts = record { read = trouble_reads p.read_faults p.read_faults t refl; write = trouble_writes p.spoken.write_faults s.write_faults t counts }
 
 -- a reply is said
-said_writes : (c d : ℕ) (said : Result (Unit {0}) Trouble) → Counts speech.is_write_fault c d said → Counts is_write_fault c d (answer_of said)
+said_writes : (c d : ℕ) (said : Result (Unit {0}) Trouble) → CountsOnce speech.is_write_fault c d said → Counts is_write_fault c d (answer_of said)
 said_writes c d (Ok t) counts = counts
 said_writes c d (Err t) counts = trouble_writes c d t counts
 
 pub said_so : (by_reference : Bool) (copy reply : Reply) (left : Option ℕ) (p s : Speaking) (said : Result (Unit {0}) Trouble) → copy ≡ reply → length standard_names ≤ length p.log.names →
     (EntryIsNamed (length p.log.names) (Replied copy left by_reference) → Says (one (Replied copy left by_reference)) p s said) →
-    s.log.names ≡ p.log.names → s.log.ops ≡ p.log.ops → KeepsPlace p s → Counts speech.is_write_fault p.write_faults s.write_faults said → SaysReply by_reference reply left p s (answer_of said)
+    s.log.names ≡ p.log.names → s.log.ops ≡ p.log.ops → KeepsPlace p s → CountsOnce speech.is_write_fault p.write_faults s.write_faults said → SaysReply by_reference reply left p s (answer_of said)
 said_so by_reference copy reply left p s said same standard says_if names ops room counts = record {
   said = said;
   answers = refl;

@@ -1,11 +1,11 @@
 -- What a printer prints of all that it is shown.
 use Rattle.std.proofs.Common.{◌≡◌, ℕ, ◌+◌, ◌<◌, ◌≤◌, ◌^◌, inl, inr, List, [], ◌∷◌, ◌++◌, refl, ap, sym, ◌∙◌, arith, append_assoc, Option, subst, zero, suc}
 use Rattle.std.specs.Prelude.{Result, Ok, Err, OnOk}
-use Rattle.apd_io.specs.Outside.{Adds}
+use Rattle.apd_io.specs.Outside.{Adds, Counted, Counts}
 use Rattle.apd_console.specs.Print.{AddsFront}
 use Rattle.apd_console.proofs.Printing.{Adds-self, Adds-more, front_self}
 use Rattle.apd_ops.specs.Table.{Table}
-use Rattle.apd_ports.specs.Hook.{GoesThrough, GoesInto, StopsAt}
+use Rattle.apd_ports.specs.Hook.{GoesThrough, GoesInto, StopsAt, is_write_fault}
 use Rattle.apd_ports.specs.Filter.{Admission}
 use Rattle.apd_ports.specs.declared.hook.HookFault.{HookFault}
 use Rattle.apd_ports.specs.declared.hook.Shown.{Shown}
@@ -149,13 +149,14 @@ keeps_stops step kept keeps fault (x ∷ xs) p q (inl here) = keeps p x (Err fau
 keeps_stops step kept keeps fault (x ∷ xs) p q (inr goes) = keeps_stops step kept keeps fault xs goes.0 q goes.2 ∙ keeps p x (Ok tt) goes.0 goes.1
 
 -- the printer of a sink of type X
-abbrev pub printer_step : {X : Type 0} → (X → Option (List ℕ)) → Printer X → Shown → Result (Unit {0}) HookFault → Printer X → Type 0
-printer_step held p x r q = (q.out.ghost_name ≡ p.out.ghost_name) × (q.ops.now ≡ p.ops.now) × (q.names.now ≡ p.names.now) × (q.vars.now ≡ p.vars.now)
+abbrev pub printer_step : {X : Type 0} → (X → Option (List ℕ)) → (X → ℕ) → Printer X → Shown → Result (Unit {0}) HookFault → Printer X → Type 0
+printer_step held faults p x r q = (q.out.ghost_name ≡ p.out.ghost_name) × (q.ops.now ≡ p.ops.now) × (q.names.now ≡ p.names.now) × (q.vars.now ≡ p.vars.now)
     × OnOk r (q.admit.now ≡ next_admission p.admit.now x)
     × Prints p.ops.now p.names.now p.vars.now p.admit.now (held p.out.now) (held q.out.now) p.answers q.answers x r
+    × Counts is_write_fault (faults p.out.now) (faults q.out.now) r
 
-abbrev reads : {X : Type 0} (held : X → Option (List ℕ)) → Reads (printer_step held)
-reads {X} held = record {
+abbrev reads : {X : Type 0} (held : X → Option (List ℕ)) (faults : X → ℕ) → Reads (printer_step held faults)
+reads {X} held faults = record {
   ops = λ (p : Printer X). p.ops.now;
   names = λ (p : Printer X). p.names.now;
   vars = λ (p : Printer X). p.vars.now;
@@ -173,29 +174,35 @@ few_from count xs start few = omega (arith, start, few)
 first_number : {X : Type 0} (p : Printer X) (xs : List Shown) → p.answers ≡ 0 → shown_text p.ops.now p.names.now p.vars.now p.admit.now (p.answers + 1) xs ≡ shown_text p.ops.now p.names.now p.vars.now p.admit.now 1 xs
 first_number p xs start = ap (λ (n : ℕ). shown_text p.ops.now p.names.now p.vars.now p.admit.now (n + 1) xs) start
 
-pub printed_all : {X : Type 0} (held : X → Option (List ℕ)) (xs : List Shown) (p q : Printer X) → p.answers ≡ 0 → answers_in xs ≤ 1000001 → GoesThrough (printer_step held) p xs q →
+pub printed_all : {X : Type 0} (held : X → Option (List ℕ)) (faults : X → ℕ) (xs : List Shown) (p q : Printer X) → p.answers ≡ 0 → answers_in xs ≤ 1000001 → GoesThrough (printer_step held faults) p xs q →
     Adds (held p.out.now) (held q.out.now) (shown_text p.ops.now p.names.now p.vars.now p.admit.now 1 xs)
-printed_all held xs p q start few goes =
-    subst (λ (t : List ℕ). Adds (held p.out.now) (held q.out.now) t) (first_number p xs start) (goes_through (printer_step held) (reads held) xs p q (few_from p.answers xs start few) goes)
+printed_all held faults xs p q start few goes =
+    subst (λ (t : List ℕ). Adds (held p.out.now) (held q.out.now) t) (first_number p xs start) (goes_through (printer_step held faults) (reads held faults) xs p q (few_from p.answers xs start few) goes)
 
-pub printed_into : {X : Type 0} (held : X → Option (List ℕ)) (xs : List Shown) (p q : Printer X) → p.answers ≡ 0 → answers_in xs ≤ 1000001 → GoesInto (printer_step held) p xs q →
+pub printed_into : {X : Type 0} (held : X → Option (List ℕ)) (faults : X → ℕ) (xs : List Shown) (p q : Printer X) → p.answers ≡ 0 → answers_in xs ≤ 1000001 → GoesInto (printer_step held faults) p xs q →
     AddsFront (held p.out.now) (held q.out.now) (shown_text p.ops.now p.names.now p.vars.now p.admit.now 1 xs)
-printed_into held xs p q start few goes =
-    subst (λ (t : List ℕ). AddsFront (held p.out.now) (held q.out.now) t) (first_number p xs start) (goes_into (printer_step held) (reads held) xs p q (few_from p.answers xs start few) goes)
+printed_into held faults xs p q start few goes =
+    subst (λ (t : List ℕ). AddsFront (held p.out.now) (held q.out.now) t) (first_number p xs start) (goes_into (printer_step held faults) (reads held faults) xs p q (few_from p.answers xs start few) goes)
 
-pub printed_till : {X : Type 0} (held : X → Option (List ℕ)) (fault : HookFault) (xs : List Shown) (p q : Printer X) → p.answers ≡ 0 → answers_in xs ≤ 1000001 → StopsAt (printer_step held) fault p xs q →
+pub printed_till : {X : Type 0} (held : X → Option (List ℕ)) (faults : X → ℕ) (fault : HookFault) (xs : List Shown) (p q : Printer X) → p.answers ≡ 0 → answers_in xs ≤ 1000001 → StopsAt (printer_step held faults) fault p xs q →
     AddsFront (held p.out.now) (held q.out.now) (shown_text p.ops.now p.names.now p.vars.now p.admit.now 1 xs)
-printed_till held fault xs p q start few stops =
-    subst (λ (t : List ℕ). AddsFront (held p.out.now) (held q.out.now) t) (first_number p xs start) (stops_at (printer_step held) (reads held) fault xs p q (few_from p.answers xs start few) stops)
+printed_till held faults fault xs p q start few stops =
+    subst (λ (t : List ℕ). AddsFront (held p.out.now) (held q.out.now) t) (first_number p xs start) (stops_at (printer_step held faults) (reads held faults) fault xs p q (few_from p.answers xs start few) stops)
 
-pub same_sink_all : {X : Type 0} (held : X → Option (List ℕ)) (xs : List Shown) (p q : Printer X) → GoesThrough (printer_step held) p xs q → q.out.ghost_name ≡ p.out.ghost_name
-same_sink_all {X} held xs p q goes = keeps_through (printer_step held) (λ (p : Printer X). p.out.ghost_name) (λ p x r q is. is.0) xs p q goes
+pub same_sink_all : {X : Type 0} (held : X → Option (List ℕ)) (faults : X → ℕ) (xs : List Shown) (p q : Printer X) → GoesThrough (printer_step held faults) p xs q → q.out.ghost_name ≡ p.out.ghost_name
+same_sink_all {X} held faults xs p q goes = keeps_through (printer_step held faults) (λ (p : Printer X). p.out.ghost_name) (λ p x r q is. is.0) xs p q goes
 
-pub same_sink_into : {X : Type 0} (held : X → Option (List ℕ)) (xs : List Shown) (p q : Printer X) → GoesInto (printer_step held) p xs q → q.out.ghost_name ≡ p.out.ghost_name
-same_sink_into {X} held xs p q goes = keeps_into (printer_step held) (λ (p : Printer X). p.out.ghost_name) (λ p x r q is. is.0) xs p q goes
+pub same_sink_into : {X : Type 0} (held : X → Option (List ℕ)) (faults : X → ℕ) (xs : List Shown) (p q : Printer X) → GoesInto (printer_step held faults) p xs q → q.out.ghost_name ≡ p.out.ghost_name
+same_sink_into {X} held faults xs p q goes = keeps_into (printer_step held faults) (λ (p : Printer X). p.out.ghost_name) (λ p x r q is. is.0) xs p q goes
 
-pub same_sink_till : {X : Type 0} (held : X → Option (List ℕ)) (fault : HookFault) (xs : List Shown) (p q : Printer X) → StopsAt (printer_step held) fault p xs q → q.out.ghost_name ≡ p.out.ghost_name
-same_sink_till {X} held fault xs p q stops = keeps_stops (printer_step held) (λ (p : Printer X). p.out.ghost_name) (λ p x r q is. is.0) fault xs p q stops
+pub same_sink_till : {X : Type 0} (held : X → Option (List ℕ)) (faults : X → ℕ) (fault : HookFault) (xs : List Shown) (p q : Printer X) → StopsAt (printer_step held faults) fault p xs q → q.out.ghost_name ≡ p.out.ghost_name
+same_sink_till {X} held faults fault xs p q stops = keeps_stops (printer_step held faults) (λ (p : Printer X). p.out.ghost_name) (λ p x r q is. is.0) fault xs p q stops
+
+-- how many writes failed till one did
+pub counts_till : {X : Type 0} (held : X → Option (List ℕ)) (faults : X → ℕ) (fault : HookFault) (xs : List Shown) (p q : Printer X) → StopsAt (printer_step held faults) fault p xs q → Counted (is_write_fault fault) (faults p.out.now) (faults q.out.now)
+counts_till held faults fault [] p q stops = absurd stops
+counts_till held faults fault (x ∷ xs) p q (inl here) = here.6
+counts_till held faults fault (x ∷ xs) p q (inr goes) = subst (λ (n : ℕ). Counted (is_write_fault fault) n (faults q.out.now)) goes.1.6 (counts_till held faults fault xs goes.0 q goes.2)
 
 -- a run's answers are few
 pub few_answers : (program : List Clause) (q : Query) (budget answers : ℕ) → answers ≤ 1000000 → answers_in (shown_of (run_for program q budget answers).passed) ≤ 1000001

@@ -53,7 +53,8 @@ impl<K: Sink> Hook for Printer<'_, K> {
         × (q.names.now ≡ p.names.now) × (q.vars.now ≡ p.vars.now)
         × OnOk r (q.admit.now ≡ next_admission p.admit.now x)
         × Prints p.ops.now p.names.now p.vars.now p.admit.now
-        (K.held p.out.now) (K.held q.out.now) p.answers q.answers x r };
+        (K.held p.out.now) (K.held q.out.now) p.answers q.answers x r
+        × Counts is_write_fault (K.faults p.out.now) (K.faults q.out.now) r };
 
     fn ignores_ports(&self) -> bool {
         self.admit.admits_nothing()

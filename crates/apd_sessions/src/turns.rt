@@ -1,9 +1,10 @@
 //! A source that gives a line at a time, and notes how much was written before each read.
 
 ghost use Rattle.std.specs.Prelude.{◌≤◌, ℕ, length, None};
+ghost use Rattle.apd_io.specs.Memory.{left_with};
 
 use apd_base::Text;
-use apd_io::{Failed, Sink, Source};
+use apd_io::{Failed, Sink, Source, Tally};
 use std::alloc::{AllocError, Global};
 use std::cell::Cell;
 use std::marker::Model;
@@ -24,12 +25,16 @@ pub struct LineSource<'a> {
     at: usize,
     turns: Vec<Turn>,
     faults: u64,
+    tally: Tally,
 }
 
 impl<'a> Model for LineSource<'a> {
-    ghost Value = { ℕ };
+    ghost use Rattle.std.specs.Prelude.{None};
+    ghost use Rattle.apd_io.specs.Wrapped.{Drawn};
 
-    ghost view = { λ s. s.faults };
+    ghost Value = { Drawn };
+
+    ghost view = { λ s. record { bytes = None; faults = s.faults; tally = s.tally } };
 }
 
 impl<'a> LineSource<'a> {
@@ -41,6 +46,7 @@ impl<'a> LineSource<'a> {
             at: 0,
             turns: Vec::new(alloc),
             faults: 0,
+            tally: Tally::new(),
         }
     }
 
@@ -63,9 +69,9 @@ fn line_len(bytes: &[u8], most: usize) -> usize
 }
 
 impl<'a> Source for LineSource<'a> {
-    ghost left = { λ _. None };
+    ghost left = { λ s. left_with None s.tally };
 
-    ghost faults = { λ count. count };
+    ghost faults = { λ s. s.faults };
 
     fn read(&mut self, buf: &mut [u8]) -> Result<usize, Failed> {
         let rest = self.lines.get(self.at..).unwrap_or(&[]);
@@ -77,10 +83,12 @@ impl<'a> Source for LineSource<'a> {
         };
         if self.turns.push(turn).is_err() {
             self.faults = self.faults.saturating_add(1);
+            self.tally.fail();
             return Err(Failed);
         }
         buf[..count].copy_from_slice(&rest[..count]);
         self.at = turn.to;
+        self.tally.give(count);
         Ok(count)
     }
 }

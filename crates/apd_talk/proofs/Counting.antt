@@ -1,33 +1,19 @@
 -- What counts of faults say of a part of a conversation.
 use Rattle.std.proofs.Common.{◌≡◌, ℕ, ◌≤◌, arith, true, false, Bool}
-use Rattle.std.specs.Prelude.{Result, Ok, Err}
-use Rattle.apd_io.specs.Outside.{Rose, Counted, Counts, is_load_fault}
+use Rattle.apd_io.specs.Outside.{Rose, Counted, is_load_fault}
 use Rattle.apd_io.specs.declared.fault.LoadFault.{LoadFault}
 use Rattle.apd_io.specs.declared.fault.LoadFault.TheVariants as loads
-use Rattle.apd_console.specs.declared.line.LineEnd.{LineEnd}
-use Rattle.apd_console.specs.declared.line.LineEnd.TheVariants as line_ends
 use Rattle.apd_talk.specs.declared.talk.Trouble.{Trouble}
 use Rattle.apd_talk.specs.declared.talk.Trouble.TheVariants as troubles
-use Rattle.apd_console.specs.Console.{is_read_fault}
 use Rattle.apd_talk.specs.Speech.{is_write_fault}
 
-counted_later : (b : Bool) (before now : ℕ) → Counted b before now → before ≤ now
+pub counted_later : (b : Bool) (before now : ℕ) → Counted b before now → before ≤ now
 counted_later true before now h = h.1
-counted_later false before now h = omega arith
-
-pub count_later : {T E : Type 0} (is_fault : E → Bool) (before now : ℕ) (result : Result T E) → Counts is_fault before now result → before ≤ now
-count_later is_fault before now (Ok value) h = omega arith
-count_later is_fault before now (Err fault) h = counted_later (is_fault fault) before now h
+counted_later false before now h = omega (arith, h)
 
 pub write_rose : (before now : ℕ) (t : Trouble) → Counted (is_write_fault t) before now → t ≡ troubles.WriteFault → Rose before now
 write_rose before now troubles.WriteFault h is = h.0
 write_rose before now troubles.Memory h is = absurd (cc)
-
-pub read_rose : (before now : ℕ) (end : LineEnd) → Counted (is_read_fault end) before now → end ≡ line_ends.ReadFault → Rose before now
-read_rose before now line_ends.ReadFault h is = h.0
-read_rose before now line_ends.Ended h is = absurd (cc)
-read_rose before now line_ends.InputLimit h is = absurd (cc)
-read_rose before now line_ends.Memory h is = absurd (cc)
 
 pub load_rose : (before now : ℕ) (fault : LoadFault) → Counted (is_load_fault fault) before now → fault ≡ loads.Failed → Rose before now
 load_rose before now loads.Failed h is = h.0

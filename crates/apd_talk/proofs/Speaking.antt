@@ -1,5 +1,5 @@
 -- Saying one thing after another.
-use Rattle.std.proofs.Common.{◌≡◌, ℕ, ◌≤◌, List, [], ◌∷◌, ◌++◌, length, refl, sym, ◌∙◌, arith, subst}
+use Rattle.std.proofs.Common.{◌≡◌, ℕ, ◌≤◌, List, [], ◌∷◌, ◌++◌, length, refl, sym, ◌∙◌, subst}
 use Rattle.std.specs.Prelude.{Result, Ok, Err}
 use Rattle.apd_io.specs.Outside.{Adds, Counted, Rose}
 use Rattle.apd_console.proofs.Printing.{Adds-self}
@@ -15,7 +15,6 @@ use Rattle.apd_text.specs.EntryList.{EntryList}
 use Rattle.apd_text.specs.Named.{EntryIsNamed}
 use Rattle.apd_text.proofs.MoreNames.{text_of-more}
 use Rattle.apd_text.specs.declared.entry.Entry.{Entry}
-use Rattle.apd_talk.proofs.Counting.{count_later, write_rose}
 use Rattle.apd_talk.specs.Speech.{is_write_fault, Lasting, Says, Speech, Spoken, begun, one, plain}
 
 -- one speech after another
@@ -118,8 +117,7 @@ later_front speech p q r t names ops says = λ all grew.
 
 -- what a trouble says of the count, where no fault was answered before
 pub cause_after : (a b c : ℕ) (e : Trouble) → b ≡ a → Counted (is_write_fault e) b c → Counted (is_write_fault e) a c
-cause_after a b c WriteFault same cause = let rose = cause.0 in let later = cause.1 in (rw (← same) rose, omega (arith, same, later))
-cause_after a b c Memory same cause = cause ∙ same
+cause_after a b c e same cause = subst (λ (n : ℕ). Counted (is_write_fault e) n c) same cause
 
 -- one thing and then another
 pub Says-more : {T U : Type 0} (us vs : Speech) (p q r : Spoken) (t : T) (result : Result U Trouble) → Says us p q (Ok t) → Says vs q r result → Says (both us vs) p r result
@@ -174,10 +172,3 @@ Says-as us vs p q (Err e) same says = record {
   ops = says.ops;
   cause = says.cause;
 }
-
--- the count never falls, and rose where the answer is a write fault
-pub says_later : {T : Type 0} (speech : Speech) (p q : Spoken) (result : Result T Trouble) → Says speech p q result → p.write_faults ≤ q.write_faults
-says_later speech p q result says = count_later is_write_fault p.write_faults q.write_faults result says.cause
-
-pub says_rose : {T : Type 0} (speech : Speech) (p q : Spoken) (e : Trouble) → Says {T = T} speech p q (Err e) → e ≡ WriteFault → Rose p.write_faults q.write_faults
-says_rose speech p q e says is = write_rose p.write_faults q.write_faults e says.cause is

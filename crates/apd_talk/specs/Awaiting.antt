@@ -1,12 +1,12 @@
 -- A question that waits for its reply: what the lines that are heard then mean, by what comes after each of them.
-use Rattle.std.specs.Prelude.{ℕ, ◌≡◌, List, [], ◌∷◌, ◌++◌, false, if◌then◌else◌}
-use Rattle.apd_io.specs.Outside.{Rose}
+use Rattle.std.specs.Prelude.{ℕ, ◌≡◌, ◌≤◌, List, [], ◌∷◌, ◌++◌, false, if◌then◌else◌}
+use Rattle.apd_io.specs.Outside.{Counted}
 use Rattle.apd_console.specs.declared.line.Line.{Line}
 use Rattle.apd_talk.specs.declared.talk.Ending.TheVariants as endings
 use Rattle.apd_console.specs.Lines.{InputEnd, Close, AtFault, hear}
-use Rattle.apd_console.specs.Console.{Hands, room_of}
+use Rattle.apd_console.specs.Console.{Hands, IsOnTime, room_of}
 use Rattle.apd_talk.specs.Utterance.{Utterance, Utters}
-use Rattle.apd_talk.specs.Talk.{Said, onto, Step, Talker, run, ending_of, Meaning, Place, Later, CanEnd}
+use Rattle.apd_talk.specs.Talk.{Said, onto, Step, Talker, run, ending_of, Meaning, Place, CanEnd, is_fault}
 
 -- what some lines, and what comes after the last of them, mean
 abbrev pub Hearing : Type 0 → Type 0
@@ -53,10 +53,11 @@ pub record Awaits {E S : Type 0} (talker : Talker E S) (s : S) (turn : Line → 
 pub record Closes {E : Type 0} (start : Meaning E) (p q : Place E) (close : Close) (said : Said E) : Type 0 where
   pub heard : List ℕ
   pub hands : Hands p.console q.console p.left q.left heard
+  pub on_time : IsOnTime p.console p.left → q.left.late ≤ 1
   pub utterances : List (Utterance E)
   pub says : Utters p.log q.log p.held q.held utterances
-  pub later : Later p q
-  pub rose : close ≡ AtFault → Rose p.read_faults q.read_faults
+  pub reads : Counted (is_fault (ending_of close)) p.read_faults q.read_faults
+  pub writes : q.write_faults ≡ p.write_faults
   pub going : close ≡ AtFault → q.console.ended ≡ false
   pub none_kept : close ≡ AtFault → q.console.kept ≡ []
   pub closes_so : (more : List ℕ) (ends : InputEnd) → CanEnd (ending_of close) q.console.ended more ends →

@@ -1,5 +1,6 @@
 -- Moments of a conversation, and what a part of one says and keeps.
-use Rattle.std.specs.Prelude.{ℕ, ◌≡◌, ◌+◌, ◌≤◌, List, length, Option, Result, MatchResult}
+use Rattle.std.specs.Prelude.{ℕ, ◌≡◌, ◌+◌, ◌≤◌, List, length, Result, MatchResult}
+use Rattle.apd_io.specs.Outside.{Left}
 use Rattle.apd_io.specs.declared.source.Source.{Ghosts as SourceGhosts}
 use Rattle.apd_io.specs.declared.sink.Sink.{Ghosts as SinkGhosts}
 use Rattle.apd_console.specs.Console.{Kept, IsKept, room_of}
@@ -16,7 +17,7 @@ use Rattle.apd_talk.specs.Speech.{Lasting, Spoken, begun, spoken}
 -- a moment of a conversation: the console and its source, and what was said by then
 pub record Moment : Type 0 where
   pub console : Kept
-  pub left : Option (List ℕ)
+  pub left : Left
   pub read_faults : ℕ
   pub spoken : Spoken
 

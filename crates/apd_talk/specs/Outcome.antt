@@ -1,6 +1,6 @@
 -- A whole conversation: an input that agrees with what the source tells, and what was said to it.
 use Rattle.std.specs.Prelude.{ℕ, ◌≡◌, ◌≤◌, List, [], ◌++◌, length, Option, None, Some, ⊤}
-use Rattle.apd_io.specs.Outside.{Takes}
+use Rattle.apd_io.specs.Outside.{Left, Takes}
 use Rattle.apd_talk.specs.declared.talk.Ending.{Ending}
 use Rattle.apd_console.specs.Lines.{InputEnd, Ended, Fails}
 use Rattle.apd_talk.specs.Utterance.{Utters}
@@ -14,7 +14,7 @@ IsGiven (Some known) input Ended = input ≡ known
 IsGiven (Some known) input Fails = (rest : List ℕ) × (known ≡ input ++ rest)
 
 -- the bytes that a source gave are the first of the input: at most 16,777,216, and all of them where a read fails
-pub record IsTaken (left left_now : Option (List ℕ)) (input : List ℕ) (ends : InputEnd) : Type 0 where
+pub record IsTaken (left left_now : Left) (input : List ℕ) (ends : InputEnd) : Type 0 where
   pub bytes : List ℕ
   pub takes : Takes left left_now bytes
   pub few : length bytes ≤ MAX_INPUT
@@ -23,10 +23,10 @@ pub record IsTaken (left left_now : Option (List ℕ)) (input : List ℕ) (ends 
   pub all : ends ≡ Fails → rest ≡ []
 
 -- some input is as far as it is told, fails only where a read has failed, and begins with what was taken; and P holds of it
-pub record SomeInput (left left_now : Option (List ℕ)) (failed : Type 0) (P : List ℕ → InputEnd → Type 0) : Type 0 where
+pub record SomeInput (left left_now : Left) (failed : Type 0) (P : List ℕ → InputEnd → Type 0) : Type 0 where
   pub input : List ℕ
   pub ends : InputEnd
-  pub given : IsGiven left input ends
+  pub given : IsGiven left.bytes input ends
   pub fails : ends ≡ Fails → failed
   pub taken : IsTaken left left_now input ends
   pub holds : P input ends

@@ -1,17 +1,17 @@
 -- A conversation: what is said to each line of an input, and how it ends.
-use Rattle.std.specs.Prelude.{ℕ, ◌≡◌, ◌≤◌, List, [], ◌∷◌, ◌++◌, Option, Bool, false, if◌then◌else◌}
-use Rattle.apd_io.specs.Outside.{Rose}
+use Rattle.std.specs.Prelude.{ℕ, ◌≡◌, ◌≤◌, List, [], ◌∷◌, ◌++◌, Option, Bool, true, false, if◌then◌else◌}
+use Rattle.apd_io.specs.Outside.{Counted, Left}
 use Rattle.apd_console.specs.declared.line.Line.{Line}
 use Rattle.apd_console.specs.declared.line.LineEnd.{LineEnd}
 use Rattle.apd_console.specs.declared.line.LineEnd.TheVariants as line_ends
 use Rattle.apd_talk.specs.declared.talk.Ending.{Ending}
 use Rattle.apd_talk.specs.declared.talk.Ending.TheVariants.{Done, ReadFault, InputLimit}
 use Rattle.apd_talk.specs.declared.talk.Trouble.{Trouble}
-use Rattle.apd_talk.specs.declared.talk.Trouble.TheVariants as troubles
 use Rattle.apd_talk.specs.declared.talk.Next.{Next}
 use Rattle.apd_talk.specs.declared.talk.Next.TheVariants as nexts
 use Rattle.apd_console.specs.Lines.{InputEnd, Fails, Close, AtEnd, AtFault, AtLimit, hear}
-use Rattle.apd_console.specs.Console.{Kept, Hands, CanFollow, room_of}
+use Rattle.apd_console.specs.Console.{Kept, Hands, CanFollow, IsOnTime, room_of}
+use Rattle.apd_talk.specs.Speech.{is_write_fault}
 use Rattle.apd_talk.specs.Utterance.{Utterance, Utters, UttersFront}
 
 -- what is said, and how it ends
@@ -63,28 +63,25 @@ after_step talker st room input ends =
 -- a moment of a conversation: the console and its source, the log and its sink, and the counts of faults
 pub record Place (E : Type 0) : Type 0 where
   pub console : Kept
-  pub left : Option (List ℕ)
+  pub left : Left
   pub read_faults : ℕ
   pub log : List E
   pub held : Option (List ℕ)
   pub write_faults : ℕ
 
-abbrev pub at : {E : Type 0} → Kept → Option (List ℕ) → ℕ → List E → Option (List ℕ) → ℕ → Place E
+abbrev pub at : {E : Type 0} → Kept → Left → ℕ → List E → Option (List ℕ) → ℕ → Place E
 at console left read_faults log held write_faults =
     record { console = console; left = left; read_faults = read_faults; log = log; held = held; write_faults = write_faults }
 
--- no count fell
-pub record Later {E : Type 0} (p q : Place E) : Type 0 where
-  pub reads : p.read_faults ≤ q.read_faults
-  pub writes : p.write_faults ≤ q.write_faults
-
--- from `start` at p to `next` at q: whatever follows, these utterances come first
+-- from `start` at p to `next` at q: whatever follows, these utterances come first, and nothing failed
 pub record Talks {E : Type 0} (start : Meaning E) (p q : Place E) (next : Meaning E) : Type 0 where
   pub heard : List ℕ
   pub hands : Hands p.console q.console p.left q.left heard
+  pub on_time : IsOnTime p.console p.left → IsOnTime q.console q.left
   pub utterances : List (Utterance E)
   pub says : Utters p.log q.log p.held q.held utterances
-  pub later : Later p q
+  pub reads : q.read_faults ≡ p.read_faults
+  pub writes : q.write_faults ≡ p.write_faults
   pub shrinks : room_of q.console ≤ room_of p.console
   pub goes : (more : List ℕ) (ends : InputEnd) → CanFollow q.console.ended more ends →
       start (room_of p.console) (heard ++ more) ends ≡ onto utterances (next (room_of q.console) more ends)
@@ -95,14 +92,20 @@ CanEnd ReadFault ended more ends = (more ≡ []) × (ends ≡ Fails)
 CanEnd Done ended more ends = CanFollow ended more ends
 CanEnd InputLimit ended more ends = CanFollow ended more ends
 
--- from `start` at p the conversation ends so at q
+-- an ending by a read that failed, which is counted
+abbrev pub is_fault : Ending → Bool
+is_fault ReadFault = true
+is_fault ending = false
+
+-- from `start` at p the conversation ends so at q, nothing failed but what it ends by, and no read is behind one that gave no byte
 pub record Ends {E : Type 0} (start : Meaning E) (p q : Place E) (ending : Ending) : Type 0 where
   pub heard : List ℕ
   pub hands : Hands p.console q.console p.left q.left heard
+  pub on_time : IsOnTime p.console p.left → q.left.late ≤ 1
   pub utterances : List (Utterance E)
   pub says : Utters p.log q.log p.held q.held utterances
-  pub later : Later p q
-  pub rose : ending ≡ ReadFault → Rose p.read_faults q.read_faults
+  pub reads : Counted (is_fault ending) p.read_faults q.read_faults
+  pub writes : q.write_faults ≡ p.write_faults
   pub going : ending ≡ ReadFault → q.console.ended ≡ false
   pub none_kept : ending ≡ ReadFault → q.console.kept ≡ []
   pub ends_so : (more : List ℕ) (ends : InputEnd) → CanEnd ending q.console.ended more ends →
@@ -112,15 +115,15 @@ pub record Ends {E : Type 0} (start : Meaning E) (p q : Place E) (ending : Endin
 pub record Breaks {E : Type 0} (begun : E → E) (start : Meaning E) (p q : Place E) (trouble : Trouble) : Type 0 where
   pub heard : List ℕ
   pub hands : Hands p.console q.console p.left q.left heard
+  pub on_time : IsOnTime p.console p.left → q.left.late ≤ 1
   pub utterances : List (Utterance E)
   pub says : UttersFront begun p.log q.log p.held q.held utterances
-  pub later : Later p q
   -- ReadFault where the input had failed
   pub way : Ending
-  pub rose : way ≡ ReadFault → Rose p.read_faults q.read_faults
+  pub reads : Counted (is_fault way) p.read_faults q.read_faults
+  pub writes : Counted (is_write_fault trouble) p.write_faults q.write_faults
   pub going : way ≡ ReadFault → q.console.ended ≡ false
   pub none_kept : way ≡ ReadFault → q.console.kept ≡ []
-  pub write_rose : trouble ≡ troubles.WriteFault → Rose p.write_faults q.write_faults
   pub breaks_so : (more : List ℕ) (ends : InputEnd) → CanEnd way q.console.ended more ends →
       (tail : Said E) × (start (room_of p.console) (heard ++ more) ends ≡ onto utterances tail)
 

@@ -10,4 +10,5 @@ returns-in-Err-clause-step g c = (
   refl,
   tt,
   answer_fails c.args.self.now.ops.now c.args.self.now.names.now c.args.self.now.vars.now c.args.self.now.admit.now _ _ c.args.self.now.answers c.saturating_add-number.result c.args.values.now c.answer_line-line.result c.in-Err.fault c.saturating_add-number.ensures c.answer_line-line.ensures c.in-Err.ensures.line,
+  c.in-Err.ensures.cause,
 )

@@ -11,7 +11,8 @@ returns-clause-step g c = (
   refl,
   on_either c.print_line.result c.in-Ok-true.ensures.after,
   event_prints c.args.self.now.ops.now c.args.self.now.names.now c.args.self.now.vars.now c.args.self.now.admit.now _ _ _ c.args.event.now c.port_line-line.result c.print_line.result (sym c.in-Ok-true.ensures.admitted ∙ c.in-Ok-true.field-0-test) c.port_line-line.ensures c.print_line.ensures.line,
+  c.print_line.ensures.cause,
 )
 
 pub returns-in-Err-clause-step : goal.returns-in-Err-clause-step
-returns-in-Err-clause-step g c = (refl, refl, refl, refl, tt, front_self _ _)
+returns-in-Err-clause-step g c = (refl, refl, refl, refl, tt, front_self _ _, refl)

@@ -1,7 +1,7 @@
 -- Names that grow while lines are heard and read.
-use Rattle.std.proofs.Common.{◌≡◌, ℕ, ◌+◌, ◌<◌, ◌≤◌, List, [], ◌++◌, length, ap, sym, ◌∙◌, refl, arith, append_assoc, length-append, Option}
+use Rattle.std.proofs.Common.{◌≡◌, ℕ, ◌+◌, ◌<◌, ◌≤◌, List, [], ◌++◌, length, ap, sym, ◌∙◌, refl, arith, append_assoc, length-append}
 use Rattle.std.proofs.lemmas.List.{append-nil}
-use Rattle.apd_console.specs.Console.{HearsLine, Kept, room_of}
+use Rattle.apd_console.specs.Console.{HearsLine, Kept, Left, room_of}
 use Rattle.apd_console.specs.declared.line.Line.{Line}
 use Rattle.apd_console.specs.declared.line.Line.TheVariants.{Text, TooLong}
 use Rattle.apd_console.proofs.Heard.{line_short}
@@ -28,11 +28,11 @@ Grown-line TooLong a b grows = ([], grows ∙ sym (append-nil a))
 Grown-line (Text bytes) a b grows = (grows.0, grows.1)
 
 -- a line that is heard can be read
-pub line_fits : (count : ℕ) (k l : Kept) (x y : Option (List ℕ)) (line : Line) → HearsLine k l x y line → count + room_of k < 4000000000 → LineFits count line
+pub line_fits : (count : ℕ) (k l : Kept) (x y : Left) (line : Line) → HearsLine k l x y line → count + room_of k < 4000000000 → LineFits count line
 line_fits count k l x y TooLong hears room = tt
 line_fits count k l x y (Text bytes) hears room = let fits = hears.fits bytes refl in (omega (arith, fits, room), line_short k l x y bytes hears)
 
 -- a line has as many bytes as names that reading it adds
-pub few_after : (line : Line) (k l : Kept) (x y : Option (List ℕ)) (a b : List (List ℕ)) → HearsLine k l x y line → LineGrows line a b → length b + room_of l ≤ length a + room_of k
+pub few_after : (line : Line) (k l : Kept) (x y : Left) (a b : List (List ℕ)) → HearsLine k l x y line → LineGrows line a b → length b + room_of l ≤ length a + room_of k
 few_after TooLong k l x y a b hears grows = let e : length b ≡ length a = ap length grows in let less = hears.goes_on in omega (arith, e, less)
 few_after (Text bytes) k l x y a b hears grows = let fits = hears.fits bytes refl in let most = grows_to (length bytes) a b grows in omega (arith, fits, most)

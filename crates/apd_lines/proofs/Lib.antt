@@ -1,3 +1,4 @@
 pub mod Lined
 pub mod Growing
 pub mod OneLine
+pub mod Named

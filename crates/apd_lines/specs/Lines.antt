@@ -1,5 +1,5 @@
 -- What is read of a line: no clause, or the one that it holds.
-use Rattle.std.specs.Prelude.{ℕ, ◌+◌, ◌<◌, ◌≤◌, ◌≡◌, List, [], ◌∷◌, length, slice_get, Option, None, Some, Result, Ok, Err}
+use Rattle.std.specs.Prelude.{ℕ, ◌+◌, ◌*◌, ◌<◌, ◌≤◌, ◌≡◌, List, [], ◌∷◌, length, slice_get, Option, None, Some, Result, Ok, Err}
 use Rattle.apd_term.specs.Growth.{GrowsBy}
 use Rattle.apd_term.specs.Named.{IsNamed}
 use Rattle.apd_term.specs.StandardNames.{standard_names}
@@ -61,3 +61,17 @@ LineIsNamed n lines.Empty = Unit {0}
 LineIsNamed n lines.TooLong = Unit {0}
 LineIsNamed n (lines.Bad cause) = CauseIsNamed n cause
 LineIsNamed n (lines.Clause r) = IsOfLine n r.term
+
+-- a term that was read from a text of so many bytes: its names and the standard ones are among the first n, and it has at most twice as
+-- many symbols
+pub record IsReadOf (n bytes : ℕ) (t : Term) : Type 0 where
+  pub standard : length standard_names ≤ n
+  pub named : IsNamed n t
+  pub short : size t ≤ 2 * bytes
+
+-- the names of what was read of such a text are among the first n
+abbrev pub LineIsReadOf : ℕ → ℕ → LineRead → Type 0
+LineIsReadOf n bytes lines.Empty = Unit {0}
+LineIsReadOf n bytes lines.TooLong = Unit {0}
+LineIsReadOf n bytes (lines.Bad cause) = CauseIsNamed n cause
+LineIsReadOf n bytes (lines.Clause r) = IsReadOf n bytes r.term

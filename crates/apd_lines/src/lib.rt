@@ -5,4 +5,4 @@
 
 mod lines;
 
-pub use lines::{LineRead, read_line};
+pub use lines::{LineRead, read_line, read_text};

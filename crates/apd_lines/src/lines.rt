@@ -1,12 +1,12 @@
 //! What is read of a line: no clause, or the one that it holds.
 
-ghost use Rattle.std.specs.Prelude.{◌≡◌, ◌≢◌, ◌<◌, ◌≤◌, ◌+◌, List, ℕ, length, IfOk, OnOk, Ok};
+ghost use Rattle.std.specs.Prelude.{◌≡◌, ◌≢◌, ◌<◌, ◌≤◌, ◌+◌, List, ℕ, length, IfOk, OnOk, Ok, IsUtf8};
 ghost use Rattle.apd_read.specs.Reader.{Reader};
 ghost use Rattle.apd_term.specs.Growth.{GrowsBy};
 ghost use Rattle.apd_token.specs.Grammar.{HasTokens};
 ghost use Rattle.apd_talk.specs.Speech.{Lasting};
-ghost use Rattle.apd_lines.specs.Lines.{IsOfLine, LineFits, LineGrows, LineIsNamed, line_from, line_in, line_of};
-ghost use Rattle.apd_base.specs.declared.limits.TheConstants.{MAX_LINE, MOST_NAMES};
+ghost use Rattle.apd_lines.specs.Lines.{IsReadOf, LineFits, LineGrows, LineIsNamed, LineIsReadOf, line_from, line_in, line_of};
+ghost use Rattle.apd_base.specs.declared.limits.TheConstants.{MAX_FILE, MOST_NAMES};
 
 use apd_causes::LoadCause;
 use apd_console::Line;
@@ -54,7 +54,7 @@ fn bad_division(fault: TokenFault) -> Result<LineRead, AllocError>
 /// A line with this clause, behind which a token is stray.
 fn whole_line(read: Read, tokens: &[Token]) -> LineRead
     ensures line { result ≡ line_of tokens.now (Ok read) }
-    ensures named { (n : ℕ) → IsOfLine n read.term → LineIsNamed n result }
+    ensures named { (n m : ℕ) → IsReadOf n m read.term → LineIsReadOf n m result }
 {
     match tokens.get(read.next) {
         Some(token) => LineRead::Bad(LoadCause::Read(ReadFault::Stray(token.start))),
@@ -62,51 +62,56 @@ fn whole_line(read: Read, tokens: &[Token]) -> LineRead
     }
 }
 
-/// What is read of a line with these tokens.
-fn tokens_line(
+/// What is read of a text with these tokens.
+fn read_tokens(
     alloc: Global,
     ops: &Ops,
     names: &mut Names,
-    line: &[u8],
+    text: &[u8],
     tokens: &Tokens,
 ) -> Result<LineRead, AllocError>
-    requires short { length line.now ≤ MAX_LINE }
-    requires tokens { HasTokens line.now tokens.now }
+    requires short { length text.now ≤ MAX_FILE }
+    requires utf8 { IsUtf8 text.now }
+    requires tokens { HasTokens text.now tokens.now }
     requires some { 0 < length tokens.now }
-    requires room { length names.old + length line.now < MOST_NAMES }
-    ensures names { GrowsBy (length line.now) names.old names.new }
+    requires room { length names.old + length text.now < MOST_NAMES }
+    ensures names { GrowsBy (length text.now) names.old names.new }
     ensures line { IfOk result (λ l. Lasting names.new (λ n. (reader : Reader n) →
-        l ≡ line_of tokens.now (reader.clause ops.now line.now tokens.now 0))) }
-    ensures named { IfOk result (LineIsNamed (length names.new)) }
+        l ≡ line_of tokens.now (reader.clause ops.now text.now tokens.now 0))) }
+    ensures named { IfOk result (LineIsReadOf (length names.new) (length text.now)) }
 {
     ops.has_no_clash();
     let _count = names.count();
-    match read_clause(alloc, ops, names, line, tokens, 0) {
+    match read_clause(alloc, ops, names, text, tokens, 0) {
         Ok(read) => Ok(whole_line(read, tokens.as_slice())),
         Err(fault) => bad_reading(fault),
     }
 }
 
-/// What is read of a line with these bytes.
-fn text_line(
+/// What is read of a text that holds one clause at most, by these operators.
+///
+/// # Errors
+///
+/// Where there was no memory; then, too, the names have only grown.
+pub fn read_text(
     alloc: Global,
     ops: &Ops,
     names: &mut Names,
-    line: &[u8],
+    text: &[u8],
 ) -> Result<LineRead, AllocError>
-    requires short { length line.now ≤ MAX_LINE }
-    requires room { length names.old + length line.now < MOST_NAMES }
-    ensures names { GrowsBy (length line.now) names.old names.new }
+    requires short { length text.now ≤ MAX_FILE }
+    requires room { length names.old + length text.now < MOST_NAMES }
+    ensures names { GrowsBy (length text.now) names.old names.new }
     ensures line { IfOk result (λ l. Lasting names.new (λ n. (reader : Reader n) →
-        l ≡ line_from reader ops.now line.now (reader.division line.now))) }
-    ensures named { IfOk result (LineIsNamed (length names.new)) }
+        l ≡ line_from reader ops.now text.now (reader.division text.now))) }
+    ensures named { IfOk result (LineIsReadOf (length names.new) (length text.now)) }
 {
-    match tokens(alloc, line) {
+    match tokens(alloc, text) {
         Ok(tokens) => {
             if tokens.as_slice().is_empty() {
                 return Ok(LineRead::Empty);
             }
-            tokens_line(alloc, ops, names, line, &tokens)
+            read_tokens(alloc, ops, names, text, &tokens)
         }
         Err(fault) => bad_division(fault),
     }
@@ -130,7 +135,7 @@ pub fn read_line(
     ensures named { IfOk result (LineIsNamed (length names.new)) }
 {
     match line {
-        Line::Text(text) => text_line(alloc, ops, names, text.bytes()),
+        Line::Text(text) => read_text(alloc, ops, names, text.bytes()),
         Line::TooLong => Ok(LineRead::TooLong),
     }
 }

@@ -1,11 +1,10 @@
 -- The tests of candidates tell what they test.
-use Rattle.std.proofs.Common.{◌≡◌, ◌↔◌, ◌⊎◌, inl, inr, ◌<◌, ◌≤◌, ◌+◌, ℕ, zero, suc, Bool, true, false, List, [], ◌∷◌, length, drop, get_or, Result, Ok, Err, refl, sym, ap, ◌∙◌, subst, arith}
+use Rattle.std.proofs.Common.{◌≡◌, ◌↔◌, ◌⊎◌, inl, inr, ◌<◌, ◌≤◌, ◌+◌, ◌-◌, ℕ, zero, suc, Bool, true, false, List, [], ◌∷◌, length, drop, get_or, Result, Ok, Err, refl, sym, ◌∙◌, subst, arith}
 use Rattle.std.specs.Prelude.{IsTrue, IfOk}
 use Rattle.std.specs.List.{AllByRecursion}
 use Rattle.std.specs.declared.alloc.AllocError.{AllocError}
 use Rattle.std.proofs.lemmas.List.{drop_all, drop_more}
 use Rattle.apd_term.specs.Term.{Term}
-use Rattle.apd_term.specs.Canonical.{canonical}
 use Rattle.apd_term.specs.declared.instance.Instance.{Instance}
 use Rattle.apd_term.specs.declared.tuple.Tuple.{Tuple}
 use Rattle.apd_record.specs.Recorded.{Recorded}
@@ -17,29 +16,6 @@ use Rattle.apd_answers.specs.declared.finding.Finding.{Finding}
 use Rattle.apd_answers.specs.declared.finding.Finding.TheVariants.{Candidates}
 use Rattle.apd_findings.specs.Deciding.{is_instance_of, says_no}
 use Rattle.apd_findings.proofs.Tests.{instance_of-is, says_no-is}
-
--- The heads of those that are later.
-
-module _ (a form : Term) (is : form ≡ canonical a) where
-  head-step : (cs : List Instance) (i : ℕ) (c : Instance) → i < length cs → c ≡ get_or cs i c → IsHeadAmong (drop i cs) a ↔ ((canonical c.tuple.head ≡ canonical a) ⊎ IsHeadAmong (drop (i + 1) cs) a)
-  head-step cs i c l e =
-      let d = drop_more cs i c l in
-      let one : drop i cs ≡ c ∷ drop (i + 1) cs = cc in
-      rw one (λ h. h, λ h. h)
-
-  pub head-found : (cs : List Instance) (i : ℕ) (c : Instance) (own : Term) (b : Bool) → IsHeadAmong cs a ↔ IsHeadAmong (drop i cs) a → i < length cs → c ≡ get_or cs i c → own ≡ canonical c.tuple.head → b ≡ true ↔ (own ≡ form) → b ≡ true
-      → true ≡ true ↔ IsHeadAmong cs a
-  head-found cs i c own b so_far l e f test g = (λ k. so_far.1 ((head-step cs i c l e).1 (inl (sym f ∙ test.0 g ∙ is))), λ k. refl)
-
-  pub head-passed : (cs : List Instance) (i : ℕ) (c : Instance) (own : Term) (b : Bool) → IsHeadAmong cs a ↔ IsHeadAmong (drop i cs) a → i < length cs → c ≡ get_or cs i c → own ≡ canonical c.tuple.head → b ≡ true ↔ (own ≡ form) → b ≡ false
-      → IsHeadAmong cs a ↔ IsHeadAmong (drop (i + 1) cs) a
-  head-passed cs i c own b so_far l e f test g = (
-    λ h. elim ((head-step cs i c l e).0 (so_far.0 h)) [ inl same ↦ absurd (let u : true ≡ false = sym (test.1 (f ∙ same ∙ sym is)) ∙ g in cc) | inr rest ↦ rest ],
-    λ h. so_far.1 ((head-step cs i c l e).1 (inr h)),
-  )
-
-  pub head-nowhere : (cs : List Instance) (i : ℕ) → IsHeadAmong cs a ↔ IsHeadAmong (drop i cs) a → length cs ≤ i → false ≡ true ↔ IsHeadAmong cs a
-  head-nowhere cs i so_far l = (λ k. absurd (cc), λ h. absurd (let none : IsHeadAmong [] a = rw (drop_all i cs l) at (so_far.0 h) in none))
 
 pub supported-yes : (R : Recorded) (store : Store) (later : List Instance) (a : Term) (b : Bool) → b ≡ true ↔ IsGranted R store a → b ≡ true → true ≡ true ↔ (IsGranted R store a ⊎ IsHeadAmong later a)
 supported-yes R store later a b test is = (λ k. inl (test.0 is), λ k. refl)
@@ -77,22 +53,34 @@ module _ (P : List Tuple) (R : Recorded) (store : Store) where
       let one : drop i cs ≡ c ∷ drop (i + 1) cs = cc in
       rw one (λ h. h, λ h. h)
 
-  pub each-fails : (cs : List Instance) (i : ℕ) (c : Instance) (b : Bool) → AreCandidates P R store cs ↔ AreCandidates P R store (drop i cs) → i < length cs → c ≡ get_or cs i c → b ≡ true ↔ IsCandidate P R store (drop (i + 1) cs) c → b ≡ false
+  each-later : (cs : List Instance) (i : ℕ) → AreCandidates P R store cs → AreCandidates P R store (drop i cs)
+  each-later cs zero all = all
+  each-later [] (suc i) all = all
+  each-later (c ∷ cs) (suc i) all = each-later cs i all.1
+
+  before : (cs : List Instance) (left : ℕ) (c : Instance) → 0 < left → left ≤ length cs → c ≡ get_or cs (left - 1) c
+      → AreCandidates P R store (drop (left - 1) cs) ↔ (IsCandidate P R store (drop left cs) c × AreCandidates P R store (drop left cs))
+  before cs left c l m e =
+      let next : left - 1 + 1 ≡ left = omega (arith, l) in
+      subst (λ n. AreCandidates P R store (drop (left - 1) cs) ↔ (IsCandidate P R store (drop n cs) c × AreCandidates P R store (drop n cs))) next (each-step cs (left - 1) c (omega (arith, l, m)) e)
+
+  pub each-fails : (cs : List Instance) (left : ℕ) (c : Instance) (b : Bool) → 0 < left → left ≤ length cs → c ≡ get_or cs (left - 1) c → b ≡ true ↔ IsCandidate P R store (drop left cs) c → b ≡ false
       → false ≡ true ↔ AreCandidates P R store cs
-  each-fails cs i c b so_far l e test fails = (
+  each-fails cs left c b l m e test fails = (
     λ k. absurd (cc),
-    λ all. absurd (let h = (each-step cs i c l e).0 (so_far.0 all) in let t : true ≡ false = sym (test.1 h.0) ∙ fails in cc),
+    λ all. absurd (let h = (before cs left c l m e).0 (each-later cs (left - 1) all) in let t : true ≡ false = sym (test.1 h.0) ∙ fails in cc),
   )
 
-  pub each-goes : (cs : List Instance) (i : ℕ) (c : Instance) (b : Bool) → AreCandidates P R store cs ↔ AreCandidates P R store (drop i cs) → i < length cs → c ≡ get_or cs i c → b ≡ true ↔ IsCandidate P R store (drop (i + 1) cs) c → b ≡ true
-      → AreCandidates P R store cs ↔ AreCandidates P R store (drop (i + 1) cs)
-  each-goes cs i c b so_far l e test goes = (
-    λ all. ((each-step cs i c l e).0 (so_far.0 all)).1,
-    λ rest. so_far.1 ((each-step cs i c l e).1 (test.0 goes, rest)),
-  )
+  pub each-goes : (cs : List Instance) (left : ℕ) (c : Instance) (b : Bool) → 0 < left → left ≤ length cs → c ≡ get_or cs (left - 1) c → b ≡ true ↔ IsCandidate P R store (drop left cs) c → b ≡ true
+      → AreCandidates P R store (drop left cs) → AreCandidates P R store (drop (left - 1) cs)
+  each-goes cs left c b l m e test goes rest = (before cs left c l m e).1 (test.0 goes, rest)
 
-  pub each-ends : (cs : List Instance) (i : ℕ) → AreCandidates P R store cs ↔ AreCandidates P R store (drop i cs) → length cs ≤ i → true ≡ true ↔ AreCandidates P R store cs
-  each-ends cs i so_far l = (λ k. so_far.1 (rw (drop_all i cs l) tt), λ k. refl)
+  pub each-begins : (cs : List Instance) (n : ℕ) → length cs ≤ n → AreCandidates P R store (drop n cs)
+  each-begins cs n l = rw (drop_all n cs l) tt
+
+  pub each-ends : (cs : List Instance) (left : ℕ) → left ≤ 0 → AreCandidates P R store (drop left cs) → true ≡ true ↔ AreCandidates P R store cs
+  each-ends cs zero l all = (λ k. all, λ k. refl)
+  each-ends cs (suc left) l all = absurd (omega (arith, l))
 
   -- All together.
 

@@ -1,20 +1,18 @@
 -- Calls that aren't below their callers, by what the record and the store say.
-use Rattle.std.proofs.Common.{◌≡◌, ◌↔◌, ◌⊎◌, inl, inr, ◌<◌, ◌≤◌, ◌+◌, ◌&&◌, ℕ, zero, suc, Bool, true, false, List, [], ◌∷◌, length, drop, take, get_or, Option, None, Some, Result, Ok, Err, refl, sym, ap, ◌∙◌, subst, arith}
+use Rattle.std.proofs.Common.{◌≡◌, ◌↔◌, ◌<◌, ◌≤◌, ◌+◌, ◌&&◌, ℕ, zero, suc, Bool, true, false, List, [], ◌∷◌, length, drop, get_or, Result, Ok, Err, refl, sym, ap, ◌∙◌, arith}
 use Rattle.std.specs.Prelude.{IsTrue, IfOk, IfSome, ◌==◌, nat_le, slice_get}
 use Rattle.std.specs.Option.{unwrap_or}
-use Rattle.std.specs.List.{list_all, AllByRecursion}
+use Rattle.std.specs.List.{list_all}
 use Rattle.std.specs.declared.alloc.AllocError.{AllocError}
 use Rattle.std.proofs.lemmas.Bool.{eqb-true, eq-eqb, leb-true, le-leb}
 use Rattle.std.proofs.lemmas.List.{drop_more, length-drop}
 use Rattle.apd_term.specs.Term.{Term}
 use Rattle.apd_term.specs.Canonical.{canonical}
-use Rattle.apd_term.specs.Matching.{same_term}
 use Rattle.apd_term.proofs.Opposite.{same_term-is}
 use Rattle.apd_term.proofs.Variants.{canonical-canonical}
-use Rattle.apd_ports.specs.declared.point.Point.{Point}
 use Rattle.apd_record.specs.Recorded.{Recorded, box_at}
 use Rattle.apd_record.specs.declared.rows.BoxRow.{BoxRow}
-use Rattle.apd_record.specs.Reading.{no_row, row_of, point_of, call_atom, calling_point}
+use Rattle.apd_record.specs.Reading.{no_row, call_atom, calling_point}
 use Rattle.apd_answers.specs.Bugs.{IsCall, earlier_atoms}
 use Rattle.apd_answers.specs.Findings.{Affirms, AllDescendByReplies, Apart, IsByReplies, IsViolationByReplies, IsWrongByReplies}
 use Rattle.apd_answers.specs.Store.{Store, SaysBelow}

@@ -1,10 +1,10 @@
 -- Clauses, and their instances for a goal.
-use Rattle.std.proofs.Common.{◌≡◌, ◌≢◌, ◌<◌, ◌≤◌, ◌+◌, ◌&&◌, ℕ, zero, suc, Bool, true, false, List, [], ◌∷◌, length, drop, map, Option, None, Some, Result, Ok, Err, refl, sym, ap, ◌∙◌, subst, arith}
-use Rattle.std.specs.Prelude.{not, ◌||◌, IfOk, slice_get}
+use Rattle.std.proofs.Common.{◌≡◌, ◌≢◌, ◌+◌, ◌&&◌, ℕ, zero, suc, Bool, true, false, List, [], ◌∷◌, length, drop, map, Some, Result, Ok, Err, refl, sym, ap, ◌∙◌, subst, arith}
+use Rattle.std.specs.Prelude.{IfOk, slice_get}
 use Rattle.std.specs.List.{list_all}
 use Rattle.std.specs.declared.alloc.AllocError.{AllocError}
-use Rattle.apd_term.specs.Term.{Term, Terms, none, more, compound, apply, apply_all, list_of, terms_of}
-use Rattle.apd_term.specs.Matching.{is_instance, matching, same_term}
+use Rattle.apd_term.specs.Term.{Term, apply}
+use Rattle.apd_term.specs.Matching.{is_instance, matching}
 use Rattle.apd_term.specs.Substitution.{IsInstance, IsMatch, term_for}
 use Rattle.apd_term.specs.Tuple.{apply_tuple, IsTupleInstance}
 use Rattle.apd_term.specs.declared.tuple.Tuple.{Tuple}

@@ -1,5 +1,5 @@
 -- The tests of atoms that are true by the store and the record tell what they test.
-use Rattle.std.proofs.Common.{◌≡◌, ◌↔◌, ◌⊎◌, inl, inr, ◌<◌, ◌≤◌, ◌+◌, ℕ, zero, suc, Bool, true, false, List, [], ◌∷◌, length, drop, get_or, map, Option, None, Some, Result, Ok, Err, refl, sym, ap, ◌∙◌, subst, arith}
+use Rattle.std.proofs.Common.{◌≡◌, ◌↔◌, inl, inr, ◌<◌, ◌≤◌, ◌+◌, ℕ, zero, suc, Bool, true, false, List, [], ◌∷◌, length, drop, get_or, map, Option, None, Some, Result, Ok, Err, refl, sym, ap, ◌∙◌, subst, arith}
 use Rattle.std.specs.Option.{unwrap_or}
 use Rattle.std.specs.Prelude.{◌||◌, IsTrue, IfOk, IfSome, slice_get}
 use Rattle.std.specs.List.{list_any, AllByRecursion}
@@ -22,9 +22,8 @@ use Rattle.apd_record.specs.Recorded.{Recorded, box_at, exits, point_at}
 use Rattle.apd_record.specs.Sound.{clause_of}
 use Rattle.apd_record.specs.declared.rows.BoxRow.{BoxRow}
 use Rattle.apd_record.proofs.Readers.{exits-are}
-use Rattle.apd_answers.specs.Bugs.{IsInstanceOfClause}
 use Rattle.apd_answers.specs.Findings.{IsTrueWhere, IsWrongByReplies}
-use Rattle.apd_answers.specs.Store.{Store, SaysNo}
+use Rattle.apd_answers.specs.Store.{Store}
 use Rattle.apd_answers.specs.Trust.{IsAnswered, IsGranted, is_trusted}
 use Rattle.apd_findings.specs.Calling.{IsBox}
 use Rattle.apd_findings.specs.Deciding.{is_instance_of, says_no, says_yes}

@@ -3,8 +3,12 @@ pub mod Standing
 pub mod Tests
 pub mod Telling
 pub mod Clauses
-pub mod Following
+pub mod Covering
 pub mod Calls
 pub mod Each
 pub mod Granted
 pub mod Among
+pub mod Parting
+pub mod Numbers
+pub mod Marked
+pub mod Ordering

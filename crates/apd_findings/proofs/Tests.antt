@@ -1,15 +1,15 @@
 -- The tests tell what they test.
-use Rattle.std.proofs.Common.{◌≡◌, ◌↔◌, ◌⊎◌, inl, inr, ℕ, ◌+◌, ◌&&◌, Bool, true, false, List, [], ◌∷◌, map, Option, None, Some, refl, sym, ap, ◌∙◌, subst, arith}
+use Rattle.std.proofs.Common.{◌≡◌, ◌↔◌, ◌⊎◌, inl, inr, ℕ, ◌&&◌, Bool, true, false, List, [], ◌∷◌, map, Option, None, Some, refl, sym, ap, ◌∙◌, subst}
 use Rattle.std.specs.Prelude.{not, ◌||◌, IsSome}
 use Rattle.std.specs.List.{list_any, list_all, AllByRecursion}
-use Rattle.apd_term.specs.Term.{Term, Terms, compound, none, more, terms_of, apply, apply_all, IsGround}
+use Rattle.apd_term.specs.Term.{Term, compound, more, terms_of, apply, apply_all, IsGround}
 use Rattle.apd_term.specs.Canonical.{canonical}
-use Rattle.apd_term.specs.Matching.{same_term, is_instance}
+use Rattle.apd_term.specs.Matching.{is_instance}
 use Rattle.apd_term.specs.Substitution.{IsInstance}
 use Rattle.apd_term.specs.Tuple.{canonical_tuple, apply_tuple, IsTupleInstance}
 use Rattle.apd_term.specs.declared.tuple.Tuple.{Tuple}
 use Rattle.apd_term.specs.declared.standard.TheConstants.{NIL}
-use Rattle.apd_term.proofs.Opposite.{same_term-is, is_instance-is}
+use Rattle.apd_term.proofs.Opposite.{is_instance-is}
 use Rattle.apd_arith.specs.Builtins.{builtin_of_atom, IsBuiltin}
 use Rattle.apd_arith.specs.Truth.{IsTrueAtom}
 use Rattle.apd_arith.specs.Truths.{is_ground, is_true_atom}
@@ -108,7 +108,7 @@ same_reply-is r (Values vs) k = absurd (cc)
 same_reply-is r Unknown k = absurd (cc)
 
 -- the reply to the same question
-abbrev Same : Question → Reply → Question → Reply → Type 0
+abbrev pub Same : Question → Reply → Question → Reply → Type 0
 Same question said q r = (canonical_question q ≡ canonical_question question) × (r ≡ said)
 
 same_question-is : (q x : Question) → same_question q x ≡ true ↔ (q ≡ x)
@@ -123,6 +123,11 @@ says_same-is : (store : Store) (question : Question) (said : Reply) → yes_or_n
     → says_same store question said ≡ true ↔ SomePair P store
 says_same-is store question said k P h =
     some_pair-is (tells_same (canonical_question question) said) P (λ q r. (λ e. (h q r).0 ((tells_same-is question said k q r).0 e), λ p. (tells_same-is question said k q r).1 ((h q r).1 p))) store.pairs
+
+-- an atom of a pair that is kept with Yes
+pub kept-same : (pairs : List Pair) (a : Term) → some_pair (tells_same (canonical_question (asks.True a)) Yes) pairs ≡ true → SomePairIn (Same (asks.True a) Yes) pairs
+unfolding yes_or_no
+kept-same pairs a e = (some_pair-is (tells_same (canonical_question (asks.True a)) Yes) (Same (asks.True a) Yes) (tells_same-is (asks.True a) Yes refl) pairs).0 e
 
 uncovered-same : (t : Tuple) (q : Question) (r : Reply) → Same (asks.Covers t) No q r ↔ TellsUncovered t q r
 uncovered-same t (asks.True b) r = (λ s. (let e : asks.True (canonical b) ≡ asks.Covers (canonical_tuple t) = s.0 in cc), λ h. absurd h)

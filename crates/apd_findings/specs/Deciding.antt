@@ -1,5 +1,5 @@
 -- Tests by which it is decided whether a finding follows from replies.
-use Rattle.std.specs.Prelude.{ℕ, ◌==◌, ◌&&◌, ◌||◌, not, Bool, true, false, List, [], ◌∷◌, take, Option, None, Some}
+use Rattle.std.specs.Prelude.{◌&&◌, ◌||◌, not, Bool, false, List, ◌∷◌, Option, None, Some}
 use Rattle.std.specs.List.{list_any, list_all}
 use Rattle.apd_term.specs.Term.{Term, compound, terms_of}
 use Rattle.apd_term.specs.Matching.{is_instance}
@@ -9,7 +9,6 @@ use Rattle.apd_arith.specs.Builtins.{builtin_of_atom}
 use Rattle.apd_arith.specs.Truths.{is_ground, is_true_atom}
 use Rattle.apd_arith.specs.declared.goal.Builtin.{Builtin}
 use Rattle.apd_record.specs.Recorded.{is_user_atom}
-use Rattle.apd_record.specs.Sound.{clause_of}
 use Rattle.apd_answers.specs.Questions.{canonical_question, with_values}
 use Rattle.apd_answers.specs.Store.{Store, same_question, same_reply}
 use Rattle.apd_answers.specs.Findings.{instance_for}

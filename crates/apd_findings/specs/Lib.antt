@@ -1,5 +1,8 @@
 pub mod Always
 pub mod Deciding
-pub mod Following
+pub mod Keys
+pub mod Reaching
+pub mod Ordering
 pub mod Calling
 pub mod Granting
+pub mod Parted

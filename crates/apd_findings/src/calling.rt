@@ -9,8 +9,7 @@ ghost use Rattle.apd_findings.specs.Calling.{IsBox, is_call, is_call_of, is_call
 ghost use Rattle.apd_findings.specs.Deciding.{affirms};
 
 use crate::affirming::affirms_all;
-use crate::apart::is_apart;
-use apd_answers::Answers;
+use crate::parted::Parted;
 use apd_ports::PointId;
 use apd_record::Record;
 use apd_term::Flat;
@@ -85,7 +84,7 @@ fn is_call(alloc: Global, record: &Record, called: &Called<'_>) -> Result<bool, 
 fn are_earlier_affirmed(
     alloc: Global,
     record: &Record,
-    answers: &Answers,
+    answers: &Parted,
     callee: u32,
 ) -> Result<bool, AllocError>
     requires { IsBox record.now callee }
@@ -106,7 +105,7 @@ fn are_earlier_affirmed(
 pub fn is_violation(
     alloc: Global,
     record: &Record,
-    answers: &Answers,
+    answers: &Parted,
     called: &Called<'_>,
 ) -> Result<bool, AllocError>
     ensures { IfOk result
@@ -119,5 +118,5 @@ pub fn is_violation(
     if !are_earlier_affirmed(alloc, record, answers, called.callee)? {
         return Ok(false);
     }
-    is_apart(alloc, answers, called.callee_atom, called.caller_atom)
+    answers.is_apart(called.callee_atom, called.caller_atom)
 }

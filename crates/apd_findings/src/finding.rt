@@ -3,15 +3,13 @@
 ghost use Rattle.std.specs.Prelude.{◌≡◌, ◌↔◌, IsTrue, IfOk};
 ghost use Rattle.apd_clauses.specs.Clauses.{tuples_of};
 ghost use Rattle.apd_answers.specs.Findings.{AllDescendByReplies, IsByReplies};
-ghost use Rattle.apd_findings.specs.Deciding.{says_below};
 
-use crate::apart::whether_below;
 use crate::calling::{Called, is_violation};
 use crate::candidates::are_candidates_by_replies;
 use crate::closing::is_uncovered;
-use crate::pairs::says_same;
+use crate::parted::Parted;
 use crate::wrong::is_wrong;
-use apd_answers::{Answers, Finding, Reply};
+use apd_answers::Finding;
 use apd_clauses::Program;
 use apd_record::Record;
 use apd_term::Flat;
@@ -22,7 +20,7 @@ pub fn is_by_replies(
     alloc: Global,
     program: &Program,
     record: &Record,
-    answers: &Answers,
+    answers: &Parted,
     finding: &Finding,
 ) -> Result<bool, AllocError>
     ensures { IfOk result (λ b. IsTrue b ↔
@@ -57,21 +55,8 @@ pub fn is_by_replies(
     }
 }
 
-/// Whether the store says that the one call is below the other.
-fn says_below(
-    alloc: Global,
-    answers: &Answers,
-    callee: &Flat,
-    caller: &Flat,
-) -> Result<bool, AllocError>
-    ensures { IfOk result (λ b. b ≡ says_below answers.now callee.now caller.now) }
-{
-    let question = whether_below(alloc, callee, caller)?;
-    says_same(alloc, answers, &question, &Reply::Yes)
-}
-
 /// Whether the store says that each call is below the one before.
-pub fn do_descend(alloc: Global, answers: &Answers, calls: &[Flat]) -> Result<bool, AllocError>
+pub fn do_descend(alloc: Global, answers: &Parted, calls: &[Flat]) -> Result<bool, AllocError>
     ensures { IfOk result (λ b. IsTrue b ↔ AllDescendByReplies answers.now calls.now) }
 {
     if calls.is_empty() {
@@ -79,7 +64,7 @@ pub fn do_descend(alloc: Global, answers: &Answers, calls: &[Flat]) -> Result<bo
     }
     let last = calls.len() - 1;
     'calls: for i in 0..last {
-        if !says_below(alloc, answers, &calls[i + 1], &calls[i])? {
+        if !answers.says_below(alloc, &calls[i + 1], &calls[i])? {
             return Ok(false);
         }
     }

@@ -7,8 +7,8 @@ ghost use Rattle.apd_ports.specs.Filter.{is_predicate};
 ghost use Rattle.apd_findings.specs.Calling.{IsBox};
 ghost use Rattle.apd_findings.specs.Granting.{IsAnsweredIn};
 
-use crate::pairs::says_yes;
-use apd_answers::{Answers, is_instance};
+use crate::parted::Parted;
+use apd_answers::is_instance;
 use apd_record::Record;
 use apd_term::{Flat, Pred};
 use std::alloc::{AllocError, Global};
@@ -66,11 +66,12 @@ fn is_predicate(called: Option<Pred>, listed: Pred) -> bool
 }
 
 /// Whether the predicate of the atom is trusted.
-fn is_trusted(answers: &Answers, atom: &Flat) -> bool
+fn is_trusted(answers: &Parted, atom: &Flat) -> bool
     ensures { result ≡ is_trusted answers.now.trusted atom.now }
 {
     let called = atom.pred();
     answers
+        .all()
         .trusted()
         .as_slice()
         .iter()
@@ -81,12 +82,12 @@ fn is_trusted(answers: &Answers, atom: &Flat) -> bool
 pub fn is_granted(
     alloc: Global,
     record: &Record,
-    answers: &Answers,
+    answers: &Parted,
     atom: &Flat,
 ) -> Result<bool, AllocError>
     ensures { IfOk result (λ b. IsTrue b ↔ IsGranted record.now answers.now atom.now) }
 {
-    if says_yes(alloc, answers, atom)? {
+    if answers.says_yes(alloc, atom)? {
         return Ok(true);
     }
     if !is_trusted(answers, atom) {

@@ -10,8 +10,8 @@ ghost use Rattle.apd_findings.specs.Deciding.{as_term, is_instance_of, is_tuple_
 
 use crate::always::stands;
 use crate::granting::is_granted;
-use crate::pairs::says_no;
-use apd_answers::{Answers, is_instance};
+use crate::parted::Parted;
+use apd_answers::is_instance;
 use apd_arith::Builtin;
 use apd_clauses::Program;
 use apd_record::Record;
@@ -66,7 +66,7 @@ pub fn is_instance_of(
 fn is_true(
     alloc: Global,
     record: &Record,
-    answers: &Answers,
+    answers: &Parted,
     atom: &Flat,
 ) -> Result<bool, AllocError>
     ensures { IfOk result (λ b. IsTrue b ↔ IsTrueWhere
@@ -82,7 +82,7 @@ fn is_true(
 fn are_true(
     alloc: Global,
     record: &Record,
-    answers: &Answers,
+    answers: &Parted,
     atoms: &[Flat],
 ) -> Result<bool, AllocError>
     ensures { IfOk result (λ b. IsTrue b ↔
@@ -101,7 +101,7 @@ pub fn is_wrong(
     alloc: Global,
     program: &Program,
     record: &Record,
-    answers: &Answers,
+    answers: &Parted,
     clause: u32,
     tuple: &Tuple,
 ) -> Result<bool, AllocError>
@@ -114,5 +114,5 @@ pub fn is_wrong(
     if !are_true(alloc, record, answers, tuple.body.as_slice())? {
         return Ok(false);
     }
-    says_no(alloc, answers, &tuple.head)
+    answers.says_no(alloc, &tuple.head)
 }

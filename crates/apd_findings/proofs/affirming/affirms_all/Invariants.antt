@@ -1,5 +1,5 @@
-use Rattle.std.proofs.Common.{◌≡◌, drop, take}
-use Rattle.std.specs.List.{list_any, list_all}
+use Rattle.std.proofs.Common.{◌≡◌, drop}
+use Rattle.std.specs.List.{list_all}
 use Rattle.apd_findings.specs.Deciding.{affirms}
 use Rattle.apd_findings.proofs.affirming.affirms_all.Given as goal
 

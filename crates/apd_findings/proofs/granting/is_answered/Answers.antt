@@ -1,6 +1,6 @@
 use Rattle.std.proofs.Common.{◌+◌, arith}
 use Rattle.apd_findings.specs.Granting.{IsAnsweredIn}
-use Rattle.apd_findings.proofs.Following.{fails-not, none-more}
+use Rattle.apd_findings.proofs.Each.{fails-not, none-more}
 use Rattle.apd_findings.proofs.Granted.{answered-here, none-answered}
 use Rattle.apd_findings.proofs.granting.is_answered.Goals as goal
 

@@ -1,5 +1,4 @@
-use Rattle.std.proofs.Common.{◌≡◌, drop, take}
-use Rattle.std.specs.List.{list_any, list_all}
+use Rattle.std.proofs.Common.{◌≡◌, take}
 use Rattle.std.proofs.Common.{◌∷◌}
 use Rattle.apd_findings.proofs.wrong.as_term.Given as goal
 

@@ -1,0 +1,350 @@
+-- Orders of calls by their numbers tell what follows of calls that aren't below another.
+use Rattle.std.proofs.Common.{◌≡◌, ◌≢◌, ◌↔◌, ◌⊎◌, inl, inr, ◌<◌, ◌+◌, ◌++◌, get_or, ℕ, zero, suc, Bool, true, false, if◌then◌else◌, List, [], ◌∷◌, length, map, Result, Ok, Err, refl, sym, ap, ◌∙◌, subst, arith}
+use Rattle.std.specs.Prelude.{IsTrue, IfOk, slice_set}
+use Rattle.std.specs.declared.alloc.AllocError.{AllocError}
+use Rattle.std.proofs.lemmas.Bool.{cases_eq}
+use Rattle.apd_term.specs.Term.{Term, IsAmong}
+use Rattle.apd_term.specs.Canonical.{canonical}
+use Rattle.apd_term.proofs.Among.{IsAmong-append, IsAmong-left, IsAmong-right}
+use Rattle.apd_term.proofs.Variants.{canonical-canonical}
+use Rattle.apd_answers.specs.Findings.{Apart, same, said, through}
+use Rattle.apd_answers.specs.Store.{Store, SomePairIn, TellsBelow, is_kept_in, with_pair_in}
+use Rattle.apd_answers.specs.declared.question.Question.{Question}
+use Rattle.apd_answers.specs.declared.question.Question.TheVariants as asks
+use Rattle.apd_answers.specs.declared.question.Reply.{Reply}
+use Rattle.apd_answers.specs.declared.question.Reply.TheVariants.{Yes, No}
+use Rattle.apd_answers.specs.declared.store.Pair.{Pair}
+use Rattle.apd_findings.specs.declared.keys.Part.{Part}
+use Rattle.apd_findings.specs.declared.orders.Orders.{Orders}
+use Rattle.apd_findings.specs.Keys.{HasNumber}
+use Rattle.apd_findings.specs.Ordering.{AreOrders, AreSaid, IsListed, IsNumbered, IsReached, IsSaid, Says, keys_of}
+use Rattle.apd_findings.specs.Reaching.{AreWithin, IsMarked, Reaches, SomeMarked, here, on}
+use Rattle.apd_findings.proofs.Marked.{at-default}
+use Rattle.apd_findings.proofs.Numbers.{like-number, same-form, same-number, within-number}
+use Rattle.apd_findings.proofs.Tests.{says_below-is, says_not_below-is}
+
+-- What the pairs say.
+
+tells-like : (r : Reply) (x y s t : Term) (q : Question) (reply : Reply) → canonical x ≡ canonical s → canonical y ≡ canonical t → TellsBelow r x y q reply → TellsBelow r s t q reply
+tells-like r x y s t (asks.True a) reply e f h = absurd h
+tells-like r x y s t (asks.Covers a) reply e f h = absurd h
+tells-like r x y s t (asks.Below a b) reply e f h = (h.0, h.1 ∙ e, h.2 ∙ f)
+
+said-like : (pairs : List Pair) (r : Reply) (x y s t : Term) → canonical x ≡ canonical s → canonical y ≡ canonical t → IsSaid pairs r x y → IsSaid pairs r s t
+said-like [] r x y s t e f h = absurd h
+said-like (p ∷ pairs) r x y s t e f (inl h) = inl (tells-like r x y s t p.question p.reply e f h)
+said-like (p ∷ pairs) r x y s t e f (inr h) = inr (said-like pairs r x y s t e f h)
+
+pair-more : (P : Question → Reply → Type 0) (pairs more : List Pair) → SomePairIn P pairs → SomePairIn P (pairs ++ more)
+pair-more P [] more h = absurd h
+pair-more P (p ∷ pairs) more (inl h) = inl h
+pair-more P (p ∷ pairs) more (inr h) = inr (pair-more P pairs more h)
+
+pair-last : (P : Question → Reply → Type 0) (pairs : List Pair) (p : Pair) → P p.question p.reply → SomePairIn P (pairs ++ p ∷ [])
+pair-last P [] p h = inl h
+pair-last P (x ∷ pairs) p h = inr (pair-last P pairs p h)
+
+pair-split : (P : Question → Reply → Type 0) (pairs : List Pair) (p : Pair) → SomePairIn P (pairs ++ p ∷ []) → SomePairIn P pairs ⊎ P p.question p.reply
+pair-split P [] p (inl h) = inr h
+pair-split P [] p (inr h) = absurd h
+pair-split P (x ∷ pairs) p (inl h) = inl (inl h)
+pair-split P (x ∷ pairs) p (inr h) = elim (pair-split P pairs p h) [ inl a ↦ inl (inr a) | inr b ↦ inr b ]
+
+said-more : (pairs : List Pair) (q : Question) (r k : Reply) (x y : Term) → IsSaid pairs k x y → IsSaid (with_pair_in pairs q r) k x y
+said-more pairs q r k x y h = by (is_kept_in pairs q r)
+  where
+    by : (b : Bool) → IsSaid (if b then pairs else pairs ++ record { question = q; reply = r } ∷ []) k x y
+    by true = h
+    by false = pair-more (TellsBelow k x y) pairs (record { question = q; reply = r } ∷ []) h
+
+said-before : (pairs : List Pair) (q : Question) (r k : Reply) (x y : Term) → IsSaid (with_pair_in pairs q r) k x y → IsSaid pairs k x y ⊎ TellsBelow k x y q r
+said-before pairs q r k x y h = by (is_kept_in pairs q r) h
+  where
+    by : (b : Bool) → IsSaid (if b then pairs else pairs ++ record { question = q; reply = r } ∷ []) k x y → IsSaid pairs k x y ⊎ TellsBelow k x y q r
+    by true g = inl g
+    by false g = pair-split (TellsBelow k x y) pairs (record { question = q; reply = r }) g
+
+-- a reply that is kept was given
+abbrev Keeps : Reply → Type 0
+Keeps r = (pairs : List Pair) (x y : Term) → is_kept_in pairs (asks.Below x y) r ≡ true → IsSaid pairs r x y
+
+keeps-yes : Keeps Yes
+keeps-yes pairs x y e = (says_below-is (record { pairs = pairs; trusted = [] }) x y).0 e
+
+keeps-no : Keeps No
+keeps-no pairs x y e = (says_not_below-is (record { pairs = pairs; trusted = [] }) x y).0 e
+
+said-now : (r : Reply) → Keeps r → (pairs : List Pair) (x y : Term) → IsSaid (with_pair_in pairs (asks.Below x y) r) r x y
+said-now r keeps pairs x y = by (is_kept_in pairs (asks.Below x y) r) refl
+  where
+    by : (b : Bool) → is_kept_in pairs (asks.Below x y) r ≡ b → IsSaid (if b then pairs else pairs ++ record { question = asks.Below x y; reply = r } ∷ []) r x y
+    by true e = keeps pairs x y e
+    by false e = pair-last (TellsBelow r x y) pairs (record { question = asks.Below x y; reply = r }) (refl, refl, refl)
+
+-- The lists of the numbers.
+
+none-listed : (keys : List (List Part)) (r : Reply) → AreSaid [] r keys []
+none-listed keys r = record { sound = λ low high a. absurd a; whole = λ x y h. absurd h }
+
+pub no-orders : (o : Orders) → o.keys.keys ≡ [] → o.above.items ≡ [] → o.denied.items ≡ [] → AreOrders [] o
+no-orders o e f g = record {
+  lists = record { above = rw (e, f) refl; denied = rw (e, g) refl };
+  yes = rw f (none-listed (keys_of o) Yes);
+  no = rw g (none-listed (keys_of o) No);
+}
+
+-- one more list, which is empty
+pub pushed-count : (lists lists_new : List (List ℕ)) (x : List ℕ) → lists_new ≡ lists ++ x ∷ [] → length lists_new ≡ length lists + 1
+pushed-count lists lists_new x e = ap length e ∙ by lists
+  where
+    by : (ls : List (List ℕ)) → length (ls ++ x ∷ []) ≡ length ls + 1
+    by [] = refl
+    by (l ∷ ls) = let h = by ls in omega (arith, h)
+
+pub pushed-empty : (lists lists_new : List (List ℕ)) (x : List ℕ) → lists_new ≡ lists ++ x ∷ [] → x ≡ [] → (i : ℕ) → get_or lists_new i [] ≡ get_or lists i []
+pushed-empty lists lists_new x e f i = ap (λ ls. get_or ls i []) e ∙ by lists i
+  where
+    by : (ls : List (List ℕ)) (i : ℕ) → get_or (ls ++ x ∷ []) i [] ≡ get_or ls i []
+    by [] zero = f
+    by [] (suc i) = refl
+    by (l ∷ ls) zero = refl
+    by (l ∷ ls) (suc i) = by ls i
+
+-- one more call has a number
+numbered-said : (pairs : List Pair) (r : Reply) (keys keys_new : List (List Part)) (lists lists_new : List (List ℕ)) → ((t : Term) (i : ℕ) → HasNumber keys t i → HasNumber keys_new t i)
+    → ((i : ℕ) → get_or lists_new i [] ≡ get_or lists i []) → AreSaid pairs r keys lists → AreSaid pairs r keys_new lists_new
+numbered-said pairs r keys keys_new lists lists_new kept is h = record {
+  sound = λ low high a.
+      let s = h.sound low high (subst (λ ns. IsAmong ns high) (is low) a) in
+      record { callee = s.callee; caller = s.caller; is_said = s.is_said; is_low = kept s.callee low s.is_low; is_high = kept s.caller high s.is_high };
+  whole = λ x y g.
+      let w = h.whole x y g in
+      record { low = w.low; high = w.high; is_low = kept x w.low w.is_low; is_high = kept y w.high w.is_high; among = subst (λ ns. IsAmong ns w.high) (sym (is w.low)) w.among };
+}
+
+numbered : (pairs : List Pair) (old new : Orders) (call : Term) (n : ℕ) → IsNumbered old new call n → AreOrders pairs old → AreOrders pairs new
+numbered pairs old new call n k h = record {
+  lists = k.lists;
+  yes = numbered-said pairs Yes (keys_of old) (keys_of new) old.above.items new.above.items k.kept k.above h.yes;
+  no = numbered-said pairs No (keys_of old) (keys_of new) old.denied.items new.denied.items k.kept k.denied h.no;
+}
+
+-- a pair that doesn't give this reply
+kept-said : (pairs : List Pair) (q : Question) (r k : Reply) (keys : List (List Part)) (lists : List (List ℕ)) → ((x y : Term) → ¬ TellsBelow k x y q r) → AreSaid pairs k keys lists → AreSaid (with_pair_in pairs q r) k keys lists
+kept-said pairs q r k keys lists other h = record {
+  sound = λ low high a.
+      let s = h.sound low high a in
+      record { callee = s.callee; caller = s.caller; is_said = said-more pairs q r k s.callee s.caller s.is_said; is_low = s.is_low; is_high = s.is_high };
+  whole = λ x y g. elim (said-before pairs q r k x y g) [ inl b ↦ h.whole x y b | inr t ↦ absurd (other x y t) ];
+}
+
+-- the list of one number has one more
+pub record IsPushed (lists : List (List ℕ)) (low high : ℕ) (lists_new : List (List ℕ)) : Type 0 where
+  pub count : length lists_new ≡ length lists
+  pub there : get_or lists_new low [] ≡ get_or lists low [] ++ high ∷ []
+  pub others : (i : ℕ) → i ≢ low → get_or lists_new i [] ≡ get_or lists i []
+
+pub pushed : (lists : List (List ℕ)) (low high : ℕ) (old new : List ℕ) → low < length lists → old ≡ get_or lists low old → new ≡ old ++ high ∷ [] → IsPushed lists low high (slice_set lists low new)
+pushed lists low high old new l e f = record {
+  count = same-length lists low;
+  there = here lists low l ∙ f ∙ ap (λ xs. xs ++ high ∷ []) (at-default lists low old [] l e);
+  others = others lists low;
+}
+  where
+    same-length : (ls : List (List ℕ)) (i : ℕ) → length (slice_set ls i new) ≡ length ls
+    same-length [] i = refl
+    same-length (x ∷ ls) zero = refl
+    same-length (x ∷ ls) (suc i) = let h = same-length ls i in omega (arith, h)
+
+    here : (ls : List (List ℕ)) (i : ℕ) → i < length ls → get_or (slice_set ls i new) i [] ≡ new
+    here [] i m = absurd (omega (arith, m))
+    here (x ∷ ls) zero m = refl
+    here (x ∷ ls) (suc i) m = here ls i (omega (arith, m))
+
+    others : (ls : List (List ℕ)) (i j : ℕ) → j ≢ i → get_or (slice_set ls i new) j [] ≡ get_or ls j []
+    others [] i j n = refl
+    others (x ∷ ls) zero zero n = absurd (n refl)
+    others (x ∷ ls) zero (suc j) n = refl
+    others (x ∷ ls) (suc i) zero n = refl
+    others (x ∷ ls) (suc i) (suc j) n = others ls i j (λ e. n (ap suc e))
+
+pushed-said : (pairs : List Pair) (r : Reply) → Keeps r → (x y : Term) (keys : List (List Part)) (lists lists_new : List (List ℕ)) (low high : ℕ) → HasNumber keys x low → HasNumber keys y high
+    → IsPushed lists low high lists_new → AreSaid pairs r keys lists → AreSaid (with_pair_in pairs (asks.Below x y) r) r keys lists_new
+pushed-said pairs r keeps x y keys lists lists_new low high is_low is_high p h = record { sound = sound; whole = whole }
+  where
+    new : List Pair
+    new = with_pair_in pairs (asks.Below x y) r
+
+    old-says : (l m : ℕ) → Says pairs r keys l m → Says new r keys l m
+    old-says l m s = record { callee = s.callee; caller = s.caller; is_said = said-more pairs (asks.Below x y) r r s.callee s.caller s.is_said; is_low = s.is_low; is_high = s.is_high }
+
+    this-says : (l m : ℕ) → l ≡ low → m ≡ high → Says new r keys l m
+    this-says l m e f = record { callee = x; caller = y; is_said = said-now r keeps pairs x y; is_low = subst (HasNumber keys x) (sym e) is_low; is_high = subst (HasNumber keys y) (sym f) is_high }
+
+    sound : (l m : ℕ) → IsAmong (get_or lists_new l []) m → Says new r keys l m
+    sound l m a = elim (cases_eq l low) [
+      | inl e ↦ elim (IsAmong-append (get_or lists low []) (high ∷ []) m (subst (λ ns. IsAmong ns m) (ap (λ i. get_or lists_new i []) e ∙ p.there) a)) [
+        | inl b ↦ old-says l m (h.sound l m (subst (λ i. IsAmong (get_or lists i []) m) (sym e) b))
+        | inr b ↦ elim b [ inl f ↦ this-says l m e (sym f) | inr z ↦ absurd z ]
+      ]
+      | inr n ↦ old-says l m (h.sound l m (subst (λ ns. IsAmong ns m) (p.others l n) a))
+    ]
+
+    still : (l m : ℕ) → IsAmong (get_or lists l []) m → IsAmong (get_or lists_new l []) m
+    still l m a = elim (cases_eq l low) [
+      | inl e ↦ subst (λ ns. IsAmong ns m) (sym (ap (λ i. get_or lists_new i []) e ∙ p.there)) (IsAmong-left (get_or lists low []) (high ∷ []) m (subst (λ i. IsAmong (get_or lists i []) m) e a))
+      | inr n ↦ subst (λ ns. IsAmong ns m) (sym (p.others l n)) a
+    ]
+
+    whole : (s t : Term) → IsSaid new r s t → IsListed keys lists_new s t
+    whole s t g = elim (said-before pairs (asks.Below x y) r r s t g) [
+      | inl b ↦ (let w = h.whole s t b in record { low = w.low; high = w.high; is_low = w.is_low; is_high = w.is_high; among = still w.low w.high w.among })
+      | inr k ↦ record {
+        low = low;
+        high = high;
+        is_low = like-number keys x s low k.1 is_low;
+        is_high = like-number keys y t high k.2 is_high;
+        among = subst (λ ns. IsAmong ns high) (sym p.there) (IsAmong-right (get_or lists low []) (high ∷ []) high (inl refl));
+      }
+    ]
+
+-- one more reply
+module _ (pairs : List Pair) (old mid now : Orders) (x y : Term) (low high : ℕ) (first : IsNumbered old mid x low) (second : IsNumbered mid now y high) (h : AreOrders pairs old) where
+  there : AreOrders pairs now
+  there = numbered pairs mid now y high second (numbered pairs old mid x low first h)
+
+  pub put-yes : (new : Orders) → new.keys ≡ now.keys → new.denied ≡ now.denied → IsPushed now.above.items low high new.above.items → AreOrders (with_pair_in pairs (asks.Below x y) Yes) new
+  put-yes new e f p =
+      let k : keys_of new ≡ keys_of now = ap (λ s. map (λ v. v.items) s.keys) e in
+      record {
+        lists = record { above = p.count ∙ there.lists.above ∙ ap length (sym k); denied = ap (λ v. length v.items) f ∙ there.lists.denied ∙ ap length (sym k) };
+        yes = subst (λ ks. AreSaid (with_pair_in pairs (asks.Below x y) Yes) Yes ks new.above.items) (sym k)
+            (pushed-said pairs Yes keeps-yes x y (keys_of now) now.above.items new.above.items low high (second.kept x low first.number) second.number p there.yes);
+        no = subst (λ ks. AreSaid (with_pair_in pairs (asks.Below x y) Yes) No ks new.denied.items) (sym k)
+            (subst (λ v. AreSaid (with_pair_in pairs (asks.Below x y) Yes) No (keys_of now) v.items) (sym f)
+            (kept-said pairs (asks.Below x y) Yes No (keys_of now) now.denied.items (λ s t g. (let z : Yes ≡ No = g.0 in cc)) there.no));
+      }
+
+  pub put-no : (new : Orders) → new.keys ≡ now.keys → new.above ≡ now.above → IsPushed now.denied.items low high new.denied.items → AreOrders (with_pair_in pairs (asks.Below x y) No) new
+  put-no new e f p =
+      let k : keys_of new ≡ keys_of now = ap (λ s. map (λ v. v.items) s.keys) e in
+      record {
+        lists = record { above = ap (λ v. length v.items) f ∙ there.lists.above ∙ ap length (sym k); denied = p.count ∙ there.lists.denied ∙ ap length (sym k) };
+        yes = subst (λ ks. AreSaid (with_pair_in pairs (asks.Below x y) No) Yes ks new.above.items) (sym k)
+            (subst (λ v. AreSaid (with_pair_in pairs (asks.Below x y) No) Yes (keys_of now) v.items) (sym f)
+            (kept-said pairs (asks.Below x y) No Yes (keys_of now) now.above.items (λ s t g. (let z : No ≡ Yes = g.0 in cc)) there.yes));
+        no = subst (λ ks. AreSaid (with_pair_in pairs (asks.Below x y) No) No ks new.denied.items) (sym k)
+            (pushed-said pairs No keeps-no x y (keys_of now) now.denied.items new.denied.items low high (second.kept x low first.number) second.number p there.no);
+      }
+
+  pub put-yes-as : (r : Reply) (new : Orders) → r ≡ Yes → new.keys ≡ now.keys → new.denied ≡ now.denied → IsPushed now.above.items low high new.above.items → AreOrders (with_pair_in pairs (asks.Below x y) r) new
+  put-yes-as r new is e f p = subst (λ (k : Reply). AreOrders (with_pair_in pairs (asks.Below x y) k) new) (sym is) (put-yes new e f p)
+
+  pub put-no-as : (r : Reply) (new : Orders) → r ≡ No → new.keys ≡ now.keys → new.above ≡ now.above → IsPushed now.denied.items low high new.denied.items → AreOrders (with_pair_in pairs (asks.Below x y) r) new
+  put-no-as r new is e f p = subst (λ (k : Reply). AreOrders (with_pair_in pairs (asks.Below x y) k) new) (sym is) (put-no new e f p)
+
+  pub put-other : (r : Reply) → r ≢ Yes → r ≢ No → AreOrders (with_pair_in pairs (asks.Below x y) r) now
+  put-other r e f = record {
+    lists = there.lists;
+    yes = kept-said pairs (asks.Below x y) r Yes (keys_of now) now.above.items (λ s t g. e g.0) there.yes;
+    no = kept-said pairs (asks.Below x y) r No (keys_of now) now.denied.items (λ s t g. f g.0) there.no;
+  }
+
+pub low-within : (o : Orders) (mid now : Orders) (x y : Term) (low high : ℕ) → IsNumbered o mid x low → IsNumbered mid now y high → (low < length now.above.items) × (low < length now.denied.items)
+low-within o mid now x y low high first second =
+    let w = within-number (keys_of now) x low (second.kept x low first.number) in
+    let a = second.lists.above in
+    let d = second.lists.denied in
+    (omega (arith, w, a), omega (arith, w, d))
+
+pub not-below : (q : Question) (r : Reply) → ((a b : Term) → q ≡ asks.Below a b → ⊥) → (k : Reply) (x y : Term) → ¬ TellsBelow k x y q r
+not-below (asks.True a) r none k x y h = h
+not-below (asks.Covers t) r none k x y h = h
+not-below (asks.Below a b) r none k x y h = none a b refl
+
+-- a reply to another question
+pub put-else : (pairs : List Pair) (q : Question) (r : Reply) (o : Orders) → ((k : Reply) (x y : Term) → ¬ TellsBelow k x y q r) → AreOrders pairs o → AreOrders (with_pair_in pairs q r) o
+put-else pairs q r o other h = record {
+  lists = h.lists;
+  yes = kept-said pairs q r Yes (keys_of o) o.above.items (other Yes) h.yes;
+  no = kept-said pairs q r No (keys_of o) o.denied.items (other No) h.no;
+}
+
+-- What is reached.
+
+pub above-within : (pairs : List Pair) (o : Orders) → AreOrders pairs o → AreWithin o.above.items
+above-within pairs o h a b i = let s = h.yes.sound a b i in let w = within-number (keys_of o) s.caller b s.is_high in let c = h.lists.above in omega (arith, w, c)
+
+pub denied-within : (pairs : List Pair) (o : Orders) (low n : ℕ) → AreOrders pairs o → IsAmong (get_or o.denied.items low []) n → n < length (keys_of o)
+denied-within pairs o low n h i = let s = h.no.sound low n i in within-number (keys_of o) s.caller n s.is_high
+
+module _ (store : Store) (o : Orders) (h : AreOrders store.pairs o) where
+  led : (p : Term) (high : ℕ) → canonical p ≡ p → HasNumber (keys_of o) p high → (a : ℕ) → Reaches o.above.items high a → (q r : Term) → canonical r ≡ r → HasNumber (keys_of o) r a → Apart store q r → Apart store q p
+  led p high e is n here q r f k apart = let equal : r ≡ p = sym f ∙ same-form (keys_of o) r p n k is ∙ e in subst (Apart store q) equal apart
+  led p high e is n (on a b reach i) q r f k apart =
+      let s = h.yes.sound a b i in
+      let low : Term = canonical s.callee in
+      let below : IsSaid store.pairs Yes low r = said-like store.pairs Yes s.callee s.caller low r (sym (canonical-canonical s.callee)) (same-form (keys_of o) s.caller r b s.is_high k) s.is_said in
+      led p high e is a reach q low (canonical-canonical s.callee) (like-number (keys_of o) s.callee low a (sym (canonical-canonical s.callee)) s.is_low) (through q low r below apart)
+
+  reached-apart : (q p : Term) (low high : ℕ) → canonical q ≡ q → canonical p ≡ p → HasNumber (keys_of o) q low → HasNumber (keys_of o) p high → IsReached o.above.items o.denied.items low high → Apart store q p
+  reached-apart q p low high e f is_low is_high (inl reach) = led p high f is_high low reach q q e is_low (same q)
+  reached-apart q p low high e f is_low is_high (inr (n, i, reach)) =
+      let s = h.no.sound low n i in
+      let t : Term = canonical s.caller in
+      let denied : IsSaid store.pairs No q t = said-like store.pairs No s.callee s.caller q t (same-form (keys_of o) s.callee q low s.is_low is_low) (sym (canonical-canonical s.caller)) s.is_said in
+      led p high f is_high n reach q t (canonical-canonical s.caller) (like-number (keys_of o) s.caller t n (sym (canonical-canonical s.caller)) s.is_high) (said q t denied)
+
+  record IsFound (q : Term) (high : ℕ) : Type 0 where
+    low : ℕ
+    is_low : HasNumber (keys_of o) q low
+    reached : IsReached o.above.items o.denied.items low high
+
+  found : (q t : Term) (a high : ℕ) → HasNumber (keys_of o) t a → Reaches o.above.items high a → Apart store q t → IsFound q high
+  found q t a high is reach (same x) = record { low = a; is_low = is; reached = inl reach }
+  found q t a high is reach (said x y no_reply) =
+      let w = h.no.whole x y no_reply in
+      let e : w.high ≡ a = same-number (keys_of o) y y w.high a refl w.is_high is in
+      record { low = w.low; is_low = w.is_low; reached = inr (w.high, w.among, subst (Reaches o.above.items high) (sym e) reach) }
+  found q t a high is reach (through x y r below rest) =
+      let w = h.yes.whole y r below in
+      let e : w.low ≡ a = same-number (keys_of o) y y w.low a refl w.is_low is in
+      found q r w.high high w.is_high (on w.low w.high (subst (Reaches o.above.items high) (sym e) reach) w.among) rest
+
+  pub no-caller : (q p : Term) → q ≢ p → ((n : ℕ) → ¬ HasNumber (keys_of o) p n) → false ≡ true ↔ Apart store q p
+  no-caller q p differ none = (λ e. absurd (cc), λ apart. absurd (by q p differ none apart))
+    where
+      by : (q p : Term) → q ≢ p → ((n : ℕ) → ¬ HasNumber (keys_of o) p n) → Apart store q p → ⊥
+      by q p differ none (same x) = differ refl
+      by q p differ none (said x y no_reply) = let w = h.no.whole x y no_reply in none w.high w.is_high
+      by q p differ none (through x y r below rest) = let w = h.yes.whole y r below in none w.low w.is_low
+
+  pub no-callee : (q p : Term) (high : ℕ) → HasNumber (keys_of o) p high → ((n : ℕ) → ¬ HasNumber (keys_of o) q n) → false ≡ true ↔ Apart store q p
+  no-callee q p high is none = (λ e. absurd (cc), λ apart. absurd (let f = found q p high high is here apart in none f.low f.is_low))
+
+  apart-is : (q p : Term) (low high : ℕ) → canonical q ≡ q → canonical p ≡ p → HasNumber (keys_of o) q low → HasNumber (keys_of o) p high → IsReached o.above.items o.denied.items low high ↔ Apart store q p
+  apart-is q p low high e f is_low is_high = (
+    reached-apart q p low high e f is_low is_high,
+    λ apart.
+        let k = found q p high high is_high here apart in
+        subst (λ n. IsReached o.above.items o.denied.items n high) (same-number (keys_of o) q q k.low low refl k.is_low is_low) k.reached,
+  )
+
+pub apart-here : (store : Store) (q p : Term) → q ≡ p → true ≡ true ↔ Apart store q p
+apart-here store q p e = (λ k. subst (Apart store q) e (same q), λ h. refl)
+
+pub apart-by : (o : Orders) (q p : Term) (low high : ℕ) (r : Result Bool AllocError) → canonical q ≡ q → canonical p ≡ p → HasNumber (keys_of o) q low → HasNumber (keys_of o) p high
+    → IfOk r (λ b. IsTrue b ↔ IsReached o.above.items o.denied.items low high) → IfOk r (λ b. (store : Store) → AreOrders store.pairs o → IsTrue b ↔ Apart store q p)
+apart-by o q p low high (Ok b) e f is_low is_high h = λ store orders. let k = apart-is store o orders q p low high e f is_low is_high in (λ t. k.0 (h.0 t), λ a. h.1 (k.1 a))
+apart-by o q p low high (Err x) e f is_low is_high h = tt
+
+-- The marks of what is reached.
+
+pub reached-here : (above denied : List (List ℕ)) (seen : List Bool) (low high : ℕ) → ((n : ℕ) → IsMarked seen n ↔ Reaches above high n) → IsMarked seen low → true ≡ true ↔ IsReached above denied low high
+reached-here above denied seen low high marks m = (λ e. inl ((marks low).0 m), λ k. refl)
+
+pub reached-denied : (above denied : List (List ℕ)) (seen : List Bool) (low high : ℕ) (b : Bool) → ((n : ℕ) → IsMarked seen n ↔ Reaches above high n) → ¬ IsMarked seen low → b ≡ true ↔ SomeMarked seen (get_or denied low []) → b ≡ true ↔ IsReached above denied low high
+reached-denied above denied seen low high b marks unmarked h = (
+  λ e. let s = h.0 e in inr (s.0, s.1, (marks s.0).0 s.2),
+  λ k. elim k [ inl r ↦ absurd (unmarked ((marks low).1 r)) | inr r ↦ h.1 (r.0, r.1, (marks r.0).1 r.2) ],
+)

@@ -26,9 +26,9 @@ use Rattle.apd_claims.specs.declared.boxes.Quote.TheVariants.{Outside}
 use Rattle.apd_claims.specs.declared.form.Calling.{Calling}
 use Rattle.apd_claims.specs.declared.form.Form.{Form}
 use Rattle.apd_claims.specs.declared.form.Form.TheVariants.{Query as Goals, End, Symptom, Framed, Call, Candidates, Candidate, Descent, Other, Unread}
-use Rattle.apd_claims.specs.Claims.{call_at, call_between, call_in, called, claim_as, claim_of, entry_for, is_prefix_name, is_text, or_garbled, query_claim, query_told, told, written}
+use Rattle.apd_claims.specs.Claims.{call_between, call_in, called, claim_as, claim_of, entry_for, is_text, may_end, or_garbled, query_claim, query_told, told, written}
 use Rattle.apd_claims.specs.Forms.{form_in, with_newline}
-use Rattle.apd_claims.specs.Parts.{Boxed, after, boxed_in, first_made, if_some, led_by}
+use Rattle.apd_claims.specs.Parts.{Boxed, boxed_in, boxed_where, if_some}
 use Rattle.apd_claims.specs.Reading.{as_clause, reading, term_in}
 use Rattle.apd_check.specs.Right.{AllRunAtoms, RunsAtoms}
 use Rattle.apd_claims.specs.Saying.{claim_by, goes_on, group_entry, group_text, instances_in, said_from, said_in}
@@ -87,17 +87,9 @@ written-atoms ops names text (Some e) = by (is_text ops names text e)
 claim_as-atoms : (ops : Table) (names : List (List ℕ)) (text : List ℕ) (o : Option Entry) → RunsAtoms (claim_as ops names text o)
 claim_as-atoms ops names text o = or-atoms (option_and_then (written ops names text) o) (written-atoms ops names text o)
 
-first-atoms : (made : List ℕ → List ℕ → Option Claim) → ((front rest : List ℕ) → OptionRunsAtoms (made front rest)) → (bytes front text : List ℕ) → OptionRunsAtoms (first_made made bytes front text)
-first-atoms made all bytes front [] = tt
-first-atoms made all bytes front (b ∷ text) = either (option_and_then (made front) (after bytes (b ∷ text))) (first_made made bytes (front ++ b ∷ []) text) (at (after bytes (b ∷ text))) (first-atoms made all bytes (front ++ b ∷ []) text)
-  where
-    at : (o : Option (List ℕ)) → OptionRunsAtoms (option_and_then (made front) o)
-    at None = tt
-    at (Some rest) = all front rest
-
-    either : (x y : Option Claim) → OptionRunsAtoms x → OptionRunsAtoms y → OptionRunsAtoms (option_or x y)
-    either None y h k = k
-    either (Some c) y h k = h
+or-other : (x y : Option Claim) → OptionRunsAtoms x → OptionRunsAtoms y → OptionRunsAtoms (option_or x y)
+or-other None y h k = k
+or-other (Some c) y h k = h
 
 -- Lines.
 
@@ -107,12 +99,9 @@ module _ {names : List (List ℕ)} (reader : Reader names) (ops : Table) where
   between-atoms whole c (Some p) = written-atoms ops names whole (called reader ops c p.front p.led)
 
   call-atoms : (whole : List ℕ) (c : Calling) (text : List ℕ) → OptionRunsAtoms (call_in reader ops whole c text)
-  call-atoms whole c text = by (is_prefix_name ops names (codes "box"))
-    where
-      by : (b : Bool) → OptionRunsAtoms (if b then first_made (call_at reader ops whole c) (codes " (box ") [] text else option_and_then (call_between reader ops whole c) (boxed_in Outside text))
-      by true =
-          first-atoms (call_at reader ops whole c) (λ q rest. written-atoms ops names whole (option_and_then (called reader ops c q) (led_by (codes ") called by ") rest))) (codes " (box ") [] text
-      by false = between-atoms whole c (boxed_in Outside text)
+  call-atoms whole c text =
+      or-other (option_and_then (call_between reader ops whole c) (boxed_in Outside text)) (option_and_then (call_between reader ops whole c) (boxed_where (may_end reader ops) Outside [] text))
+      (between-atoms whole c (boxed_in Outside text)) (between-atoms whole c (boxed_where (may_end reader ops) Outside [] text))
 
   form-atoms : (in_group : Bool) (line : List ℕ) (lines : List (List ℕ)) (f : Form) → RunsAtoms (claim_by reader ops in_group line lines f)
   form-atoms in_group line lines (Goals goals) = read-atoms (reading reader ops (codes "?- " ++ as_clause goals))

@@ -1,5 +1,6 @@
 pub mod Atoms
 pub mod Chains
+pub mod Descents
 pub mod Onward
 pub mod Ending
 pub mod Fits

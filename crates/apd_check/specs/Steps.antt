@@ -1,10 +1,12 @@
 -- What is kept from line to line, and what a line makes of it.
-use Rattle.std.specs.Prelude.{◌≡◌, List, Option, None, Some, IfSome}
+use Rattle.std.specs.Prelude.{ℕ, ◌≡◌, Bool, true, false, List, Option, None, Some, IfSome}
 use Rattle.apd_clauses.specs.Clauses.{MayRun}
 use Rattle.apd_clauses.specs.declared.clause.Clause.{Clause}
 use Rattle.apd_known.specs.Pairs.{MayAsk}
-use Rattle.apd_check.specs.Checked.{IsJudged, after_claim}
+use Rattle.apd_check.specs.Checked.{IsJudged, IsRightDescent, after_claim}
 use Rattle.apd_claims.specs.declared.claim.Claim.{Claim}
+use Rattle.apd_claims.specs.declared.claim.Claim.TheVariants.{Runs, Ends}
+use Rattle.apd_check.specs.declared.course.Course.{Course}
 use Rattle.apd_check.specs.declared.state.State.{State}
 use Rattle.apd_text.specs.declared.check.Why.{Why}
 
@@ -17,3 +19,18 @@ pub record IsKept (s : State) : Type 0 where
 abbrev pub Leads : List Clause → State → Claim → State → Option Why → Type 0
 Leads program s claim t None = IsJudged program s claim None × (t ≡ after_claim program s claim)
 Leads program s claim t (Some w) = IsJudged program s claim (Some w)
+
+-- where so many calls of the last run's chain are known to descend, they do
+abbrev pub KnowsDescent : List Clause → State → Option ℕ → Type 0
+KnowsDescent program s known = IfSome known (IsRightDescent program s)
+
+-- a line tells of a run, or of its end
+abbrev pub is_of_run : Claim → Bool
+is_of_run (Runs q) = true
+is_of_run (Ends ran) = true
+is_of_run claim = false
+
+-- the line is good and leads on, and what is known of the chain is so; or it isn't good and this is why
+abbrev pub GoesOn : List Clause → Course → Claim → Course → Option Why → Type 0
+GoesOn program c claim d None = Leads program c.state claim d.state None × KnowsDescent program d.state d.descent
+GoesOn program c claim d (Some w) = Leads program c.state claim d.state (Some w)

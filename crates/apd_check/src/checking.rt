@@ -8,11 +8,11 @@ ghost use Rattle.apd_term.specs.Growth.{Grown};
 ghost use Rattle.apd_talk.specs.Speech.{Lasting};
 ghost use Rattle.apd_check.specs.Checked.{IsCheckOf, IsChecked, found_in};
 ghost use Rattle.apd_claims.specs.Saying.{said_from};
-ghost use Rattle.apd_check.specs.Steps.{IsKept};
+ghost use Rattle.apd_check.specs.Steps.{IsKept, KnowsDescent};
 ghost use Rattle.apd_claims.specs.Texts.{KeepsFew};
 
 use crate::checked::Checked;
-use crate::state::State;
+use crate::course::Course;
 use apd_answers::Answers;
 use apd_claims::{Claim, Place, claim_at, first_line, goes_on};
 use apd_clauses::Program;
@@ -37,15 +37,16 @@ fn check_lines(
     program: &Program,
     ops: &Ops,
     names: &mut Names,
-    state: &mut State,
+    course: &mut Course,
     text: &[u8],
 ) -> Result<Checked, AllocError>
     requires size { length text.now ≤ MAX_FILE }
-    requires kept { IsKept state.old }
+    requires kept { IsKept course.old.state }
+    requires known { KnowsDescent program.now course.old.state course.old.descent }
     ensures names { Grown names.old names.new }
     ensures few { KeepsFew names.old names.new }
     ensures checked { IfOk result (λ r. Lasting names.new (λ n. (reader : Reader n) →
-        IsChecked program.now state.old 0
+        IsChecked program.now course.old.state 0
         (said_from reader ops.now false 1 (lines_of text.now)) r)) }
 {
     let mut rest = text;
@@ -60,7 +61,7 @@ fn check_lines(
         };
         let claim = claim_at(alloc, ops, names, &place)?;
         let findings = found_in(&claim);
-        if let Some(why) = state.take(alloc, program, claim)? {
+        if let Some(why) = course.take(alloc, program, claim)? {
             return Ok(Checked::Fails { line: number, why });
         }
         found += findings;
@@ -92,8 +93,8 @@ pub fn check(
     ensures checked { IfOk result (λ r. Lasting names.new (λ n. (reader : Reader n) →
         IsCheckOf program.now ops.now reader known text.now r)) }
 {
-    let mut state = State::first(alloc, known);
-    let checked = check_lines(alloc, program, ops, names, &mut state, text);
-    drop(state);
+    let mut course = Course::first(alloc, known)?;
+    let checked = check_lines(alloc, program, ops, names, &mut course, text);
+    drop(course);
     checked
 }

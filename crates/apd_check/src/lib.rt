@@ -4,6 +4,7 @@
 mod again;
 mod checked;
 mod checking;
+mod course;
 mod fitting;
 mod judging;
 mod laws;

@@ -1,7 +1,8 @@
 //! What the lines of a log tell so far.
 
-use apd_answers::{Answers, Asked};
+use apd_answers::Asked;
 use apd_causes::Query;
+use apd_findings::Parted;
 use apd_record::Record;
 
 /// What the lines so far tell.
@@ -13,7 +14,7 @@ pub struct State {
     pub history: Record,
     /// The replies, each with its question: those that were known beforehand, the symptoms, and those of the log; and the
     /// predicates that are trusted.
-    pub known: Answers,
+    pub known: Parted,
     /// The question that waits for its reply, and of how many suspects it is about one.
     pub waiting: Option<Asked>,
 }

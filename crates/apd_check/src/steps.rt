@@ -17,6 +17,7 @@ use apd_answers::{Answers, Asked, Question, Reply};
 use apd_causes::{Query, Ran};
 use apd_claims::Claim;
 use apd_clauses::Program;
+use apd_findings::Parted;
 use apd_record::Record;
 use std::alloc::{AllocError, Global};
 
@@ -29,15 +30,16 @@ fn is_same_run(a: Ran, b: Ran) -> bool
 
 impl State {
     /// Nothing was run or asked yet, and this is known.
-    pub(crate) fn first(alloc: Global, known: Answers) -> State
-        ensures { result ≡ first_state known }
+    pub(crate) fn first(alloc: Global, known: Answers) -> Result<State, AllocError>
+        ensures { IfOk result (λ s. s ≡ first_state known) }
     {
-        State {
+        let known = Parted::of(alloc, known)?;
+        Ok(State {
             query: None,
             history: Record::new(alloc),
             known,
             waiting: None,
-        }
+        })
     }
 
     /// A query is run.

@@ -1,3 +1,4 @@
+pub mod Behind
 pub mod Commas
 pub mod Cutting
 pub mod Grouping
@@ -5,7 +6,5 @@ pub mod Instances
 pub mod Naming
 pub mod Numbers
 pub mod Outside
-pub mod Places
-pub mod Placing
 pub mod ReadTexts
 pub mod Splitting

@@ -1,6 +1,5 @@
 -- The words between two calls, found place by place outside quotes.
-use Rattle.std.proofs.Common.{◌≡◌, ◌<◌, ◌≤◌, ◌+◌, ◌++◌, ℕ, zero, suc, Bool, true, false, List, [], ◌∷◌, length, take, drop, get_or, Option, None, Some, refl, sym, ap, ◌∙◌, arith}
-use Rattle.std.specs.Prelude.{if◌then◌else◌}
+use Rattle.std.proofs.Common.{◌≡◌, ◌<◌, ◌≤◌, ◌+◌, ◌++◌, ℕ, zero, suc, true, false, List, [], ◌∷◌, length, take, drop, get_or, Option, None, Some, refl, sym, ap, ◌∙◌, arith}
 use Rattle.std.specs.Char.{is_ascii_digit}
 use Rattle.std.specs.Option.{option_map}
 use Rattle.std.proofs.lemmas.List.{append-nil, length-drop}
@@ -15,11 +14,11 @@ with_front front p = record { front = front ++ p.front; led = p.led }
 abbrev pub boxed_with : List ℕ → Option Boxed → Option Boxed
 boxed_with front o = option_map (with_front front) o
 
-with-byte : (b : ℕ) (front : List ℕ) (o : Option Boxed) → option_map (boxed_behind b) (boxed_with front o) ≡ boxed_with (b ∷ front) o
+pub with-byte : (b : ℕ) (front : List ℕ) (o : Option Boxed) → option_map (boxed_behind b) (boxed_with front o) ≡ boxed_with (b ∷ front) o
 with-byte b front None = refl
 with-byte b front (Some p) = refl
 
-with-none : (o : Option Boxed) → boxed_with [] o ≡ o
+pub with-none : (o : Option Boxed) → boxed_with [] o ≡ o
 with-none None = refl
 with-none (Some p) = refl
 

@@ -5,7 +5,7 @@ use Rattle.std.specs.Option.{option_map}
 use Rattle.std.proofs.lemmas.Grind.{common_steps}
 use Rattle.apd_base.specs.declared.limits.TheConstants.{MAX_FILE, MOST_CLAUSE_SYMBOLS}
 use Rattle.apd_causes.specs.declared.reading.Read.{Read}
-use Rattle.apd_lines.specs.Lines.{line_from}
+use Rattle.apd_lines.specs.Lines.{IsReadOf, LineIsReadOf, line_from}
 use Rattle.apd_lines.specs.declared.lines.LineRead.{LineRead}
 use Rattle.apd_lines.specs.declared.lines.LineRead.TheVariants as lines
 use Rattle.apd_ops.specs.Table.{Table}
@@ -14,13 +14,12 @@ use Rattle.apd_term.specs.Growth.{Grown, GrowsBy}
 use Rattle.apd_term.specs.Named.{IsNamed}
 use Rattle.apd_term.specs.Term.{size}
 use Rattle.apd_claims.specs.Reading.{read_of, reading}
-use Rattle.apd_claims.specs.Texts.{IsReadOf, LineIsReadOf}
 
 pub grows : (names later : List (List ℕ)) (most : ℕ) → GrowsBy most names later → Grown names later
 grows names later most g = (g.0, g.1)
 
 read-short : (n m : ℕ) (r : Read) → m ≤ MAX_FILE → IsReadOf n m r.term → IsReadOf n MAX_FILE r.term
-read-short n m r short h = record { named = h.named; short = let s = h.short in omega (arith, s, short) }
+read-short n m r short h = record { standard = h.standard; named = h.named; short = let s = h.short in omega (arith, s, short) }
 
 pub read-named : (n m : ℕ) (line : LineRead) (o : Option Read) → m ≤ MAX_FILE → o ≡ read_of line → LineIsReadOf n m line → IfSome o (λ r. IsReadOf n MAX_FILE r.term)
 read-named n m lines.Empty o short e h = rw e tt

@@ -1,17 +1,17 @@
 -- What a line says. What was read of it as the text of an entry is written again, and has to be the line: then the entry is what the
 -- line says.
-use Rattle.std.specs.Prelude.{ℕ, ◌==◌, ◌++◌, codes, Bool, true, false, if◌then◌else◌, List, [], ◌∷◌, Option, None, Some, is_some, Result, Ok, Err}
+use Rattle.std.specs.Prelude.{ℕ, ◌==◌, ◌++◌, codes, ◌&&◌, ◌||◌, not, Bool, true, false, if◌then◌else◌, List, [], ◌∷◌, Option, None, Some, is_some, Result, Ok, Err}
 use Rattle.std.specs.Bool.{then_some}
 use Rattle.std.specs.Option.{option_map, option_and_then, option_or}
 use Rattle.std.specs.Str.{bytes_eq}
-use Rattle.apd_term.specs.Names.{number_of}
 use Rattle.apd_term.specs.Term.{Term, variable, integer, compound, none, more, predicate_of}
 use Rattle.apd_term.specs.declared.standard.TheConstants.{COMMA, NECK, QUERY}
+use Rattle.apd_term.specs.declared.term.Pred.{Pred}
 use Rattle.apd_term.specs.declared.tuple.Tuple.{Tuple}
 use Rattle.apd_causes.specs.declared.faults.BodyFault.{BodyFault}
 use Rattle.apd_causes.specs.declared.reading.Read.{Read}
 use Rattle.apd_causes.specs.declared.run.Query.{Query}
-use Rattle.apd_ops.specs.Table.{Table, prefix_in}
+use Rattle.apd_ops.specs.Table.{Table, infix_in, prefix_in}
 use Rattle.apd_read.specs.Reader.{Reader}
 use Rattle.apd_clauses.specs.Kinds.{◌∕◌}
 use Rattle.apd_clauses.specs.Predicates.{is_pred}
@@ -33,7 +33,7 @@ use Rattle.apd_claims.specs.declared.form.Numbered.{Numbered}
 use Rattle.apd_claims.specs.declared.form.Frame.{Frame}
 use Rattle.apd_claims.specs.declared.form.Frame.TheVariants.{Truth, Cover, Order, Reply as Answer, Instance, Uncovered}
 use Rattle.apd_claims.specs.Forms.{with_newline}
-use Rattle.apd_claims.specs.Parts.{Boxed, Led, boxed_in, first_made, if_some, led_by}
+use Rattle.apd_claims.specs.Parts.{Boxed, Led, boxed_in, boxed_where, if_some}
 use Rattle.apd_claims.specs.declared.boxes.Quote.TheVariants.{Outside}
 use Rattle.apd_claims.specs.Reading.{as_clause, reading, term_in}
 
@@ -109,9 +109,14 @@ or_garbled (Some c) = c
 abbrev pub claim_as : Table → List (List ℕ) → List ℕ → Option Entry → Claim
 claim_as ops names text e = or_garbled (option_and_then (written ops names text) e)
 
--- the name is a prefix operator
-abbrev pub is_prefix_name : Table → List (List ℕ) → List ℕ → Bool
-is_prefix_name ops names text = is_some (prefix_in ops (number_of names text))
+-- an operator without arguments
+abbrev pub is_operator : Table → Option Pred → Bool
+is_operator ops None = false
+is_operator ops (Some p) = p.arity == 0 && (is_some (prefix_in ops p.name.0) || is_some (infix_in ops p.name.0))
+
+abbrev pub is_operator_read : Table → Option Term → Bool
+is_operator_read ops None = false
+is_operator_read ops (Some t) = is_operator ops (predicate_of t)
 
 -- Symptoms and queries.
 
@@ -137,26 +142,27 @@ module _ {names : List (List ℕ)} (reader : Reader names) (ops : Table) where
   abbrev pub framed_claim : List ℕ → Frame → List ℕ → Claim
   framed_claim line frame text = claim_as ops names (with_newline line) (option_and_then (entry_for frame) (term_in reader ops text))
 
-  -- ` (box B) called by ` stands outside quotes in no text of a term, unless `box` is a prefix operator. So the two atoms of a call and its
-  -- caller are parted where it first does; or where it is such an operator, at the first place at which all parts read and their text is
-  -- the line.
+  -- Within a text of a term ` (box B) called by ` stands outside quotes only where `box` is a prefix operator, and then behind an
+  -- operator or a comma. A text of a term ends with neither, unless it is an operator's name alone. So the two atoms of a call and its
+  -- caller are parted where these words first stand outside quotes; or else where they first do behind a word that can end a term.
+
+  -- a text of more than an operator's name may end with this word
+  abbrev pub may_end : List ℕ → Bool
+  may_end [] = false
+  may_end (b ∷ bs) = not (is_operator_read ops (term_in reader ops (b ∷ bs)))
 
   -- `Q`, and `B) called by P`
   abbrev pub called : Calling → List ℕ → Led → Option Entry
   called c q b =
       if_some (term_in reader ops q) (λ callee. option_map (call_entry c b.number callee) (term_in reader ops b.rest)) None
 
-  abbrev pub call_at : List ℕ → Calling → List ℕ → List ℕ → Option Claim
-  call_at whole c q rest =
-      option_and_then (written ops names whole) (option_and_then (called c q) (led_by (codes ") called by ") rest))
-
   abbrev pub call_between : List ℕ → Calling → Boxed → Option Claim
   call_between whole c p = option_and_then (written ops names whole) (called c p.front p.led)
 
   abbrev pub call_in : List ℕ → Calling → List ℕ → Option Claim
   call_in whole c text =
-      if is_prefix_name ops names (codes "box") then first_made (call_at whole c) (codes " (box ") [] text
-      else option_and_then (call_between whole c) (boxed_in Outside text)
+      option_or (option_and_then (call_between whole c) (boxed_in Outside text))
+      (option_and_then (call_between whole c) (boxed_where may_end Outside [] text))
 
   abbrev pub call_claim : List ℕ → Calling → List ℕ → Claim
   call_claim line c text = or_garbled (call_in (with_newline line) c text)

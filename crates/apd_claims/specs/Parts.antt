@@ -1,5 +1,5 @@
 -- The parts of a line: what stands behind its beginning, on both sides of some bytes, and the numbers in it.
-use Rattle.std.specs.Prelude.{ℕ, ◌==◌, ◌&&◌, ◌++◌, ◌+◌, nat_lt, codes, List, [], ◌∷◌, length, take, drop, if◌then◌else◌, Option, None, Some}
+use Rattle.std.specs.Prelude.{ℕ, ◌==◌, ◌&&◌, ◌||◌, ◌++◌, ◌+◌, nat_lt, codes, Bool, false, List, [], ◌∷◌, length, take, drop, if◌then◌else◌, Option, None, Some}
 use Rattle.std.specs.Bool.{then_some}
 use Rattle.std.specs.Char.{is_ascii_digit}
 use Rattle.std.specs.List.{list_all}
@@ -60,12 +60,6 @@ last_part p = if_last p.0 p.1
 -- what stands before these bytes, where the text ends with them
 abbrev pub before : List ℕ → List ℕ → Option (List ℕ)
 before bytes text = option_and_then last_part (cut_last bytes text)
-
--- what is made of the parts on both sides of some bytes, at the first place in the text where anything is; the front stands before it
-abbrev pub first_made : {A : Type 0} → (List ℕ → List ℕ → Option A) → List ℕ → List ℕ → List ℕ → Option A
-first_made made bytes front [] = None
-first_made made bytes front (b ∷ text) =
-    option_or (option_and_then (made front) (after bytes (b ∷ text))) (first_made made bytes (front ++ b ∷ []) text)
 
 -- the number that decimal digits write, where it is below the limit
 abbrev pub number_in : ℕ → List ℕ → Option ℕ
@@ -152,3 +146,25 @@ abbrev pub boxed_in : Quote → List ℕ → Option Boxed
 boxed_in quote [] = None
 boxed_in quote (b ∷ text) =
     option_or (option_map boxed_here (box_outside quote (b ∷ text))) (option_map (boxed_behind b) (boxed_in (quote_after quote b) text))
+
+-- a space, a comma, a bar or an opening bracket outside quotes: the text's last word begins anew behind it
+abbrev pub parts_words : Quote → ℕ → Bool
+parts_words Outside b = b == 32 || (b == 40 || (b == 44 || (b == 91 || (b == 123 || b == 124))))
+parts_words Inside b = false
+parts_words Escaped b = false
+parts_words Hexadecimal b = false
+
+-- the last word of a text with this byte more, of which the last word was this
+abbrev pub word_after : Quote → List ℕ → ℕ → List ℕ
+word_after quote word b = if parts_words quote b then [] else word ++ b ∷ []
+
+-- the box of a call and its caller outside quotes, where the word before them passes a test
+abbrev pub box_where : (List ℕ → Bool) → Quote → List ℕ → List ℕ → Option Led
+box_where test quote word text = if test word then box_outside quote text else None
+
+-- the parts of a text, where the words between two calls first stand outside quotes behind such a word
+abbrev pub boxed_where : (List ℕ → Bool) → Quote → List ℕ → List ℕ → Option Boxed
+boxed_where test quote word [] = None
+boxed_where test quote word (b ∷ text) =
+    option_or (option_map boxed_here (box_where test quote word (b ∷ text)))
+    (option_map (boxed_behind b) (boxed_where test (quote_after quote b) (word_after quote word b) text))

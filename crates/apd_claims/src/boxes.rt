@@ -1,7 +1,7 @@
 //! The words between a call and its caller, outside quotes.
 
-ghost use Rattle.std.specs.Prelude.{◌≡◌, ◌≤◌, None, Some, MatchOption, length};
-ghost use Rattle.apd_claims.specs.Parts.{box_first, box_outside, boxed_in, digits_first, led_first, quote_after};
+ghost use Rattle.std.specs.Prelude.{◌≡◌, ◌+◌, ◌<◌, ◌≤◌, ◌^◌, None, Some, MatchOption, if◌then◌else◌, length};
+ghost use Rattle.apd_claims.specs.Parts.{box_first, box_outside, boxed_in, digits_first, led_first, parts_words, quote_after};
 
 use crate::parts::{Led, after, number_32};
 
@@ -19,7 +19,7 @@ pub enum Quote {
 }
 
 /// Where the byte behind this one stands.
-fn quote_after(quote: Quote, byte: u8) -> Quote
+pub(crate) fn quote_after(quote: Quote, byte: u8) -> Quote
     ensures { result ≡ quote_after quote byte }
 {
     match (quote, byte) {
@@ -71,7 +71,7 @@ fn box_first(text: &[u8]) -> Option<Led<'_>>
 }
 
 /// The same outside quotes.
-fn box_outside(quote: Quote, text: &[u8]) -> Option<Led<'_>>
+pub(crate) fn box_outside(quote: Quote, text: &[u8]) -> Option<Led<'_>>
     ensures { MatchOption result (box_outside quote text.now ≡ None)
         (λ a. box_outside quote text.now
         ≡ Some (record { number = a.number; rest = a.rest.now })) }
@@ -108,4 +108,30 @@ pub(crate) fn boxed_in(text: &[u8]) -> Option<Boxed<'_>>
         quote = quote_after(quote, text[i]);
     }
     None
+}
+
+/// Whether the text's last word begins anew behind this byte.
+fn parts_words(quote: Quote, byte: u8) -> bool
+    ensures { result ≡ parts_words quote byte }
+{
+    match quote {
+        Quote::Outside => byte == b' '
+            || byte == b'('
+            || byte == b','
+            || byte == b'['
+            || byte == b'{'
+            || byte == b'|',
+        Quote::Inside | Quote::Escaped | Quote::Hexadecimal => false,
+    }
+}
+
+/// Where the last word begins of a text with one byte more, which stands at this place.
+pub(crate) fn word_begins(quote: Quote, byte: u8, begun: usize, place: usize) -> usize
+    requires { place + 1 < 2 ^ 64 }
+    ensures { result ≡ (if parts_words quote byte then place + 1 else begun) }
+{
+    if parts_words(quote, byte) {
+        return place + 1;
+    }
+    begun
 }

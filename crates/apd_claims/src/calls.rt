@@ -1,29 +1,26 @@
 //! What a line says of a call that isn't below its caller.
-//!
-//! The words between its two atoms stand in no text of a term but within quotes, unless `box` is a prefix operator: then each
-//! place is looked at where these words stand.
 
-ghost use Rattle.std.specs.Prelude.{◌≡◌, ◌<◌, [], codes, drop, take, None, IfOk, IfSome, length};
+ghost use Rattle.std.specs.Prelude.{◌≡◌, [], None, Some, MatchOption, IfOk, IfSome, length};
 ghost use Rattle.std.specs.Option.{option_and_then, option_map};
 ghost use Rattle.apd_read.specs.Reader.{Reader};
 ghost use Rattle.apd_term.specs.Growth.{Grown};
 ghost use Rattle.apd_talk.specs.Speech.{Lasting};
 ghost use Rattle.apd_text.specs.Named.{EntryIsNamed};
-ghost use Rattle.apd_claims.specs.Claims.{call_at, call_between, call_claim, call_entry, call_in, called, is_prefix_name};
-ghost use Rattle.apd_claims.specs.Parts.{after, boxed_in, first_made, if_some};
+ghost use Rattle.apd_claims.specs.Claims.{call_between, call_claim, call_entry, call_in, called, is_operator, is_operator_read, may_end};
+ghost use Rattle.apd_claims.specs.Parts.{box_where, boxed_in, boxed_where, if_some};
 ghost use Rattle.apd_claims.specs.Sayable.{IsSayable};
 ghost use Rattle.apd_claims.specs.Texts.{KeepsFew};
 
-use crate::boxes::{Quote, boxed_in};
+use crate::boxes::{Quote, box_outside, boxed_in, quote_after, word_begins};
 use crate::claim::Claim;
 use crate::claims::{or_garbled, with_newline, written};
 use crate::entries::call_entry;
 use crate::form::Calling;
-use crate::parts::{Led, after, led_by};
-use crate::reading::{MOST_READ_NAMES, read_term};
+use crate::parts::Led;
+use crate::reading::read_term;
 use apd_ops::Ops;
-use apd_term::Flat;
 use apd_term::names::Names;
+use apd_term::{Flat, Pred};
 use apd_text::Entry;
 use std::alloc::{AllocError, Global};
 
@@ -64,75 +61,27 @@ fn called(
     Ok(entry_of(calling, led.number, callee, caller))
 }
 
-/// What the whole text says, if the call's atom stands before this place, and the call's box and its caller behind it.
-fn call_at(
+/// What the whole text says, if these are the call's atom, its box and its caller.
+fn claim_between(
     alloc: Global,
     ops: &Ops,
     names: &mut Names,
     whole: &[u8],
     calling: Calling,
     call: &[u8],
-    rest: &[u8],
+    led: &Led<'_>,
 ) -> Result<Option<Claim>, AllocError>
     ensures names { Grown names.old names.new }
     ensures few { KeepsFew names.old names.new }
     ensures claim { IfOk result (λ o. Lasting names.new (λ n. (reader : Reader n) →
-        o ≡ call_at reader ops.now whole.now calling call.now rest.now)) }
+        o ≡ call_between reader ops.now whole.now calling (record {
+          front = call.now;
+          led = record { number = led.now.number; rest = led.now.rest.now };
+        }))) }
     ensures sayable { IfOk result (λ o. IfSome o IsSayable) }
 {
-    let Some(led) = led_by(b") called by ", rest) else {
-        return Ok(None);
-    };
-    let entry = called(alloc, ops, names, calling, call, &led)?;
+    let entry = called(alloc, ops, names, calling, call, led)?;
     written(alloc, ops, names, whole, entry)
-}
-
-/// The same at a place of the text of the two calls, if the words that stand before the call's box stand there.
-fn call_here(
-    alloc: Global,
-    ops: &Ops,
-    names: &mut Names,
-    whole: &[u8],
-    calling: Calling,
-    text: &[u8],
-    place: usize,
-) -> Result<Option<Claim>, AllocError>
-    requires { place < length text.now }
-    ensures names { Grown names.old names.new }
-    ensures few { KeepsFew names.old names.new }
-    ensures claim { IfOk result (λ o. Lasting names.new (λ n. (reader : Reader n) →
-        o ≡ option_and_then (call_at reader ops.now whole.now calling (take place text.now))
-        (after (codes " (box ") (drop place text.now)))) }
-    ensures sayable { IfOk result (λ o. IfSome o IsSayable) }
-{
-    match after(b" (box ", &text[place..]) {
-        Some(rest) => call_at(alloc, ops, names, whole, calling, &text[..place], rest),
-        None => Ok(None),
-    }
-}
-
-/// What a line says of a call, by the first place at which it says anything.
-fn first_claim(
-    alloc: Global,
-    ops: &Ops,
-    names: &mut Names,
-    whole: &[u8],
-    calling: Calling,
-    text: &[u8],
-) -> Result<Option<Claim>, AllocError>
-    ensures names { Grown names.old names.new }
-    ensures few { KeepsFew names.old names.new }
-    ensures claim { IfOk result (λ o. Lasting names.new (λ n. (reader : Reader n) →
-        o ≡ first_made (call_at reader ops.now whole.now calling) (codes " (box ") [] text.now)) }
-    ensures sayable { IfOk result (λ o. IfSome o IsSayable) }
-{
-    'places: for place in 0..text.len() {
-        let claim = call_here(alloc, ops, names, whole, calling, text, place)?;
-        if claim.is_some() {
-            return Ok(claim);
-        }
-    }
-    Ok(None)
 }
 
 /// What a line says of a call, by the first place outside quotes.
@@ -154,22 +103,104 @@ fn claim_outside(
     let Some(boxed) = boxed_in(text) else {
         return Ok(None);
     };
-    let entry = called(alloc, ops, names, calling, boxed.front, &boxed.led)?;
-    written(alloc, ops, names, whole, entry)
+    claim_between(alloc, ops, names, whole, calling, boxed.front, &boxed.led)
 }
 
-/// Whether a name is a prefix operator. It is put among the names.
-fn is_prefix_name(ops: &Ops, names: &mut Names, text: &[u8]) -> Result<bool, AllocError>
+/// Whether it is an operator without arguments.
+fn is_operator(ops: &Ops, pred: Option<Pred>) -> bool
+    ensures { result ≡ is_operator ops.now pred }
+{
+    match pred {
+        Some(pred) => pred.arity == 0
+            && (ops.prefix(pred.name).is_some() || ops.infix(pred.name).is_some()),
+        None => false,
+    }
+}
+
+/// Whether what was read is an operator's name alone.
+fn is_operator_read(ops: &Ops, read: Option<Flat>) -> bool
+    ensures { result ≡ is_operator_read ops.now read }
+{
+    match read {
+        Some(term) => is_operator(ops, term.pred()),
+        None => false,
+    }
+}
+
+/// Whether a text of more than an operator's name may end with this word.
+fn may_end(alloc: Global, ops: &Ops, names: &mut Names, word: &[u8]) -> Result<bool, AllocError>
     ensures names { Grown names.old names.new }
     ensures few { KeepsFew names.old names.new }
-    ensures is { IfOk result (λ b. Lasting names.new (λ n.
-        b ≡ is_prefix_name ops.now n text.now)) }
+    ensures may { IfOk result (λ b. Lasting names.new (λ n. (reader : Reader n) →
+        b ≡ may_end reader ops.now word.now)) }
 {
-    if names.count() >= MOST_READ_NAMES {
-        return Err(AllocError);
+    if word.is_empty() {
+        return Ok(false);
     }
-    let name = names.intern(text)?;
-    Ok(ops.prefix(name).is_some())
+    let read = read_term(alloc, ops, names, word)?;
+    Ok(!is_operator_read(ops, read))
+}
+
+/// The box of a call and its caller, where they stand first outside quotes, behind a word that may end a term.
+fn box_here<'a>(
+    alloc: Global,
+    ops: &Ops,
+    names: &mut Names,
+    quote: Quote,
+    word: &[u8],
+    text: &'a [u8],
+) -> Result<Option<Led<'a>>, AllocError>
+    ensures names { Grown names.old names.new }
+    ensures few { KeepsFew names.old names.new }
+    ensures here { IfOk result (λ o. Lasting names.new (λ n. (reader : Reader n) →
+        MatchOption o (box_where (may_end reader ops.now) quote word.now text.now ≡ None)
+        (λ a. box_where (may_end reader ops.now) quote word.now text.now
+        ≡ Some (record { number = a.number; rest = a.rest.now })))) }
+{
+    let Some(led) = box_outside(quote, text) else {
+        return Ok(None);
+    };
+    let may = may_end(alloc, ops, names, word)?;
+    if !may {
+        return Ok(None);
+    }
+    Ok(Some(led))
+}
+
+/// What a line says of a call, by the first place outside quotes behind a word that may end a term.
+fn claim_behind(
+    alloc: Global,
+    ops: &Ops,
+    names: &mut Names,
+    whole: &[u8],
+    calling: Calling,
+    text: &[u8],
+) -> Result<Option<Claim>, AllocError>
+    ensures names { Grown names.old names.new }
+    ensures few { KeepsFew names.old names.new }
+    ensures claim { IfOk result (λ o. Lasting names.new (λ n. (reader : Reader n) →
+        o ≡ option_and_then (call_between reader ops.now whole.now calling)
+        (boxed_where (may_end reader ops.now) Quote.Outside [] text.now))) }
+    ensures sayable { IfOk result (λ o. IfSome o IsSayable) }
+{
+    let mut quote = Quote::Outside;
+    let mut begun = 0;
+    'places: for place in 0..text.len() {
+        let led = box_here(
+            alloc,
+            ops,
+            names,
+            quote,
+            &text[begun..place],
+            &text[place..],
+        )?;
+        if let Some(led) = led {
+            return claim_between(alloc, ops, names, whole, calling, &text[..place], &led);
+        }
+        begun = word_begins(quote, text[place], begun, place);
+        quote = quote_after(quote, text[place]);
+    }
+    Ok(None)
 }
 
 /// What a line says of a call, if anything.
@@ -187,11 +218,11 @@ fn call_in(
         o ≡ call_in reader ops.now whole.now calling text.now)) }
     ensures sayable { IfOk result (λ o. IfSome o IsSayable) }
 {
-    let is_prefix = is_prefix_name(ops, names, b"box")?;
-    if is_prefix {
-        return first_claim(alloc, ops, names, whole, calling, text);
+    let first = claim_outside(alloc, ops, names, whole, calling, text)?;
+    if first.is_some() {
+        return Ok(first);
     }
-    claim_outside(alloc, ops, names, whole, calling, text)
+    claim_behind(alloc, ops, names, whole, calling, text)
 }
 
 /// What a line says of a call that isn't below its caller.

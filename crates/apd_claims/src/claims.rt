@@ -20,7 +20,7 @@ ghost use Rattle.apd_claims.specs.declared.claim.Claim.TheVariants.{Garbled};
 use crate::claim::Claim;
 use crate::entries::entry_for;
 use crate::form::Frame;
-use crate::reading::{as_clause, read_term, read_text};
+use crate::reading::{as_clause, read_term, read_whole};
 use apd_answers::{Question, Reply};
 use apd_base::Text;
 use apd_causes::BodyFault;
@@ -251,6 +251,6 @@ pub(crate) fn run_claim(
     ensures sayable { IfOk result IsSayable }
 {
     let text = as_query(alloc, goals)?;
-    let read = read_text(alloc, ops, names, text.bytes())?;
+    let read = read_whole(alloc, ops, names, text.bytes())?;
     run_of(alloc, read)
 }

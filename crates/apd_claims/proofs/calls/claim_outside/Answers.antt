@@ -1,12 +1,11 @@
 use Rattle.std.proofs.Common.{ap, sym, ◌∙◌}
 use Rattle.std.specs.Option.{option_and_then}
 use Rattle.std.proofs.lemmas.Result.{IfOk-weaker}
-use Rattle.apd_claims.specs.Claims.{call_between, written}
+use Rattle.apd_claims.specs.Claims.{call_between}
 use Rattle.apd_claims.proofs.calls.claim_outside.Goals as goal
 
 pub returns-clause-claim : goal.returns-clause-claim
-returns-clause-claim c = IfOk-weaker c.written.result _ _ (λ o is n grew reader.
-    is n grew
-    ∙ ap (option_and_then (written c.args.ops.now n c.args.whole.now)) (c.in_ok-entry.ensures.entry n grew reader)
+returns-clause-claim c = IfOk-weaker c.claim_between.result _ _ (λ o is n grew reader.
+    is n grew reader
     ∙ ap (option_and_then (call_between reader c.args.ops.now c.args.whole.now c.args.calling)) (sym c.in-Some.ensures))
-    c.written.ensures.claim
+    c.claim_between.ensures.claim

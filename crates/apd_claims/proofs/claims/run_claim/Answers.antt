@@ -8,7 +8,7 @@ use Rattle.apd_claims.proofs.ReadTexts.{few-symbols}
 use Rattle.apd_claims.proofs.claims.run_claim.Goals as goal
 
 pub run_of-requires : goal.run_of-requires
-run_of-requires c = few-symbols (length c.read_text.new.names) c.in_ok-read.read c.in_ok-read.ensures.named
+run_of-requires c = few-symbols (length c.read_whole.new.names) c.in_ok-read.read c.in_ok-read.ensures.named
 
 pub returns-clause-claim : goal.returns-clause-claim
 returns-clause-claim c = IfOk-weaker c.run_of.result _ _ (λ claim is n grew reader.

@@ -73,10 +73,10 @@ abbrev pub Leaves : Strategy → Recorded → Store → Option Told → Asked �
 Leaves strategy R store symptom asked reply q =
     IfSome asked.suspects (λ before. LeavesFewer strategy R (with_pair store asked.question reply) symptom before q)
 
--- a reply that is marked as given without a line is the one that there is to the question
+-- a reply is marked as given without a line exactly where there is one to the question, and then it is that one
 abbrev pub IsReferred : Option Reply → Reply → Bool → Type 0
 IsReferred given reply true = given ≡ Some reply
-IsReferred given reply false = ⊤
+IsReferred given reply false = given ≡ None
 
 -- a reply answers the question that waits, it leaves as many suspects as the state that it leads to has, and where the question
 -- counted them, fewer

@@ -10,11 +10,11 @@ use Rattle.apd_answers.specs.declared.oracle.AskEnd.TheVariants as ask_ends
 use Rattle.apd_console.specs.Lines.{InputEnd}
 use Rattle.apd_console.specs.declared.line.Line.{Line}
 use Rattle.apd_console.specs.Console.{room_of}
-use Rattle.apd_console.proofs.Bytes.{Hands-self}
+use Rattle.apd_console.proofs.Bytes.{Hands-self, at_most_one}
 use Rattle.apd_debug.specs.Diagnosed.{Diagnosed}
 use Rattle.apd_debug.specs.Hearing.{HearsReplies, afterwards, is_quit}
 use Rattle.apd_debug.specs.Stand.{Stand, asking}
-use Rattle.apd_debug.specs.Steps.{after_turn, goes_within, most_in_a_row, referred_then, replied_then, reply_step, says_before, turn_within, unanswered}
+use Rattle.apd_debug.specs.Steps.{after_turn, goes_within, left_off, most_in_a_row, referred_then, replied_then, reply_step, says_before, turn_within, unanswered}
 use Rattle.apd_lines.specs.Lines.{line_in}
 use Rattle.apd_ops.specs.Table.{Table}
 use Rattle.apd_base.specs.Counts.{risen}
@@ -52,13 +52,14 @@ before talker us st room input over = before_by talker us st room input over st.
 
 -- a diagnosis that goes on doesn't quit
 module _ {S D E : Type 0} (replies : Replies) (d : Diagnosis D E) (found : E → Entry) (state : Stand D → S) (ops : Table) (names : List (List ℕ)) where
-  turn_goes_on : (store : Store) (count : ℕ) (turn : Turn D E) → (after_turn d found state ops names store count turn).quits ≡ false
-  turn_goes_on store count (asks asked next) = refl
-  turn_goes_on store count (goes t) = refl
-  turn_goes_on store count (ends e) = refl
+  left_goes_on : (store : Store) (count : ℕ) (asked : Asked) (next : Reply → D) (o : Option Reply) → (left_off replies d found state ops names store count asked next o).quits ≡ false
+  left_goes_on store count asked next None = refl
+  left_goes_on store count asked next (Some r) = refl
 
   pub within_goes_on : (k : ℕ) (store : Store) (count : ℕ) (turn : Turn D E) → (turn_within replies d found state ops names k store count turn).quits ≡ false
-  within_goes_on zero store count turn = turn_goes_on store count turn
+  within_goes_on zero store count (goes t) = refl
+  within_goes_on zero store count (ends e) = refl
+  within_goes_on zero store count (asks asked next) = left_goes_on store count asked next (replies.to asked.question)
   within_goes_on (suc k) store count (goes t) = refl
   within_goes_on (suc k) store count (ends e) = refl
   within_goes_on (suc k) store count (asks asked next) = by (replies.to asked.question) (λ r. within_goes_on k (with_pair store asked.question r) (risen count) (next_turn d (with_pair store asked.question r) (next r)))
@@ -174,13 +175,13 @@ pub broke_here : (f : Meaning Entry) (p : Place Entry) → Breaks begun f p p tr
 broke_here f p = record {
   heard = [];
   hands = Hands-self p.console p.left;
+  on_time = λ h. at_most_one p.console p.left h;
   utterances = [];
   says = UttersFront-none begun p.log p.log p.held [] refl;
-  later = record { reads = omega arith; writes = omega arith };
   way = Done;
-  rose = λ is. absurd (cc);
+  reads = refl;
+  writes = refl;
   going = λ is. absurd (cc);
   none_kept = λ is. absurd (cc);
-  write_rose = λ is. absurd (cc);
   breaks_so = λ more over can. (f (room_of p.console) more over, refl);
 }

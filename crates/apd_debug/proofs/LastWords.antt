@@ -6,7 +6,7 @@ use Rattle.apd_answers.specs.declared.oracle.AskEnd.{AskEnd}
 use Rattle.apd_answers.specs.declared.oracle.AskEnd.TheVariants as ask_ends
 use Rattle.apd_answers.specs.Store.{Store}
 use Rattle.apd_console.specs.Lines.{Close, AtEnd, AtFault, AtLimit}
-use Rattle.apd_io.specs.Outside.{Rose}
+use Rattle.apd_io.specs.Outside.{Counted}
 use Rattle.apd_debug.specs.Diagnosed.{Diagnosed, GoesOnSo, SaysEndIf, SaysLast, is_said, last_entry, next_after}
 use Rattle.apd_debug.specs.Stand.{Stand, ready}
 use Rattle.apd_debug.specs.Steps.{says_before}
@@ -14,7 +14,7 @@ use Rattle.apd_debug.proofs.Bridging.{before}
 use Rattle.apd_ops.specs.Table.{Table}
 use Rattle.apd_talk.specs.Awaiting.{Closes}
 use Rattle.apd_talk.specs.Moment.{Moment, place}
-use Rattle.apd_talk.specs.Speech.{Says, Speech, Spoken, begun, one, plain}
+use Rattle.apd_talk.specs.Speech.{Says, Speech, Spoken, begun, is_write_fault, one, plain}
 use Rattle.apd_talk.specs.Talk.{Breaks, Ends, Meaning, Place, Step, Talker, Talks, after_step, ending_of, replies}
 use Rattle.apd_talk.specs.Utterance.{Utterance, Utters, UttersFront}
 use Rattle.apd_talk.specs.declared.talk.Ending.TheVariants.{Done}
@@ -23,7 +23,6 @@ use Rattle.apd_talk.specs.declared.talk.Next.TheVariants as nexts
 use Rattle.apd_talk.specs.declared.talk.Trouble.{Trouble}
 use Rattle.apd_talk.specs.declared.talk.Trouble.TheVariants as troubles
 use Rattle.apd_talk.proofs.Awaiting.{Breaks-closed, Ends-closed}
-use Rattle.apd_talk.proofs.Speaking.{says_later, says_rose}
 use Rattle.apd_talk.proofs.Talking.{Breaks-more, Breaks-say, Breaks-step, Ends-more, Ends-step, Talks-more, Talks-say, Talks-step}
 use Rattle.apd_term.specs.Growth.{Grown}
 use Rattle.apd_text.specs.declared.entry.Entry.{Entry}
@@ -43,23 +42,23 @@ said_front speech p q t ops names same grew says = subst (λ (o : Table). Utters
 
 -- a step that is said
 module _ {S : Type 0} (talker : Talker Entry S) (start : Meaning Entry) (p : Place Entry) (q : Moment) (said : Spoken) (us : List (Utterance Entry)) where
-  step_said : (next : S) (writes : q.spoken.write_faults ≤ said.write_faults) → Talks start p (place q) (after_step talker (record { utterances = us; next = next; quits = false })) →
+  step_said : (next : S) (writes : said.write_faults ≡ q.spoken.write_faults) → Talks start p (place q) (after_step talker (record { utterances = us; next = next; quits = false })) →
       Utters q.spoken.log.entries.list said.log.entries.list q.spoken.held said.held us → Talks start p (place (said_at q said)) (replies talker next)
   step_said next writes talks says =
       Talks-more start _ _ p (place q) (place (said_at q said)) talks
       (Talks-step talker (record { utterances = us; next = next; quits = false }) q.console q.left q.spoken.held said.held q.read_faults q.spoken.write_faults said.write_faults q.spoken.log.entries.list said.log.entries.list refl says writes)
 
-  step_quits : (next : S) (writes : q.spoken.write_faults ≤ said.write_faults) → Talks start p (place q) (after_step talker (record { utterances = us; next = next; quits = true })) →
+  step_quits : (next : S) (writes : said.write_faults ≡ q.spoken.write_faults) → Talks start p (place q) (after_step talker (record { utterances = us; next = next; quits = true })) →
       Utters q.spoken.log.entries.list said.log.entries.list q.spoken.held said.held us → Ends start p (place (said_at q said)) Done
   step_quits next writes talks says =
       Ends-more start _ p (place q) (place (said_at q said)) Done talks
       (Ends-step talker (record { utterances = us; next = next; quits = true }) q.console q.left q.spoken.held said.held q.read_faults q.spoken.write_faults said.write_faults q.spoken.log.entries.list said.log.entries.list refl says writes)
 
-  step_front : (next : S) (quits : Bool) (t : Trouble) → Talks start p (place q) (after_step talker (record { utterances = us; next = next; quits = quits })) → q.spoken.write_faults ≤ said.write_faults → (t ≡ troubles.WriteFault → Rose q.spoken.write_faults said.write_faults) →
+  step_front : (next : S) (quits : Bool) (t : Trouble) → Talks start p (place q) (after_step talker (record { utterances = us; next = next; quits = quits })) → Counted (is_write_fault t) q.spoken.write_faults said.write_faults →
       UttersFront begun q.spoken.log.entries.list said.log.entries.list q.spoken.held said.held us → Breaks begun start p (place (said_at q said)) t
-  step_front next quits t talks writes rose says =
+  step_front next quits t talks writes says =
       Breaks-more begun start _ p (place q) (place (said_at q said)) t talks
-      (Breaks-step begun talker (record { utterances = us; next = next; quits = quits }) q.console q.left q.spoken.held said.held q.read_faults q.spoken.write_faults said.write_faults q.spoken.log.entries.list said.log.entries.list t says writes rose)
+      (Breaks-step begun talker (record { utterances = us; next = next; quits = quits }) q.console q.left q.spoken.held said.held q.read_faults q.spoken.write_faults said.write_faults q.spoken.log.entries.list said.log.entries.list t says writes)
 
 module _ {S D E : Type 0} (d : Diagnosis D E) (found : E → Entry) (state : Stand D → S) (ops : Table) (names : List (List ℕ)) (talker : Talker Entry S)
     (start : Meaning Entry) (p : Place Entry) (q : Moment) (said : Spoken) (store : Store) (count : ℕ) (same : q.spoken.log.ops ≡ ops) (grew : Grown q.spoken.log.names names) where
@@ -76,9 +75,9 @@ module _ {S D E : Type 0} (d : Diagnosis D E) (found : E → Entry) (state : Sta
   front_of e t says = said_front (one e) q.spoken said t ops names same grew says
 
   found_on : (e : E) (result : Result Next Trouble) → Diagnosed d found state ops names talker start p (place q) store count (Ok e) → SaysLast found (Ok e) q.spoken said result → Continued result
-  found_on e (Ok n) so (says, is) = goes_as n nexts.Goes is (step_said talker start p q said _ (state (ready store count)) (says_later (one (found e)) q.spoken said (Ok n) says) so (all_of (found e) n says))
+  found_on e (Ok n) so (says, is) = goes_as n nexts.Goes is (step_said talker start p q said _ (state (ready store count)) says.cause so (all_of (found e) n says))
   found_on e (Err t) so (says, is) =
-      step_front talker start p q said _ (state (ready store count)) false t so (says_later (one (found e)) q.spoken said (Err t) says) (λ w. says_rose (one (found e)) q.spoken said t says w) (front_of (found e) t says)
+      step_front talker start p q said _ (state (ready store count)) false t so says.cause (front_of (found e) t says)
 
   -- no line is left
   closed_on : (end : AskEnd) (close : Close) (us : List (Utterance Entry)) (result : Result Next Trouble) → us ≡ plain ops names (last_entry end) ∷ [] → next_after end ≡ nexts.Ends (ending_of close) →
@@ -86,10 +85,10 @@ module _ {S D E : Type 0} (d : Diagnosis D E) (found : E → Entry) (state : Sta
   closed_on end close us (Ok n) entry after closed (says, is) =
       let utters = subst (λ (vs : List (Utterance Entry)). Utters q.spoken.log.entries.list said.log.entries.list q.spoken.held said.held vs) (sym entry) (all_of (last_entry end) n says) in
       goes_as n (nexts.Ends (ending_of close)) (is ∙ after)
-      (Ends-closed start p (place q) said.log.entries.list said.held said.write_faults close us closed utters (says_later (one (last_entry end)) q.spoken said (Ok n) says))
+      (Ends-closed start p (place q) said.log.entries.list said.held said.write_faults close us closed utters says.cause)
   closed_on end close us (Err t) entry after closed (says, is) =
       let front = subst (λ (vs : List (Utterance Entry)). UttersFront begun q.spoken.log.entries.list said.log.entries.list q.spoken.held said.held vs) (sym entry) (front_of (last_entry end) t says) in
-      Breaks-closed begun start p (place q) said.log.entries.list said.held said.write_faults close us t closed front (says_later (one (last_entry end)) q.spoken said (Err t) says) (λ w. says_rose (one (last_entry end)) q.spoken said t says w)
+      Breaks-closed begun start p (place q) said.log.entries.list said.held said.write_faults close us t closed front says.cause
 
   -- nothing is said
   unsaid_on : (t : Trouble) (result : Result Next Trouble) → Breaks begun start p (place q) t → said ≡ q.spoken → result ≡ Err t → Continued result
@@ -98,14 +97,14 @@ module _ {S D E : Type 0} (d : Diagnosis D E) (found : E → Entry) (state : Sta
 
   end_on : (end : AskEnd) (result : Result Next Trouble) → Diagnosed d found state ops names talker start p (place q) store count (Err end) → SaysEndIf (is_said end) end q.spoken said result → Continued result
   end_on ask_ends.Stopped (Ok n) so (says, is) =
-      goes_as n nexts.Goes is (step_said talker start p q said _ (state (ready store count)) (says_later (one (last_entry ask_ends.Stopped)) q.spoken said (Ok n) says) so (all_of (last_entry ask_ends.Stopped) n says))
+      goes_as n nexts.Goes is (step_said talker start p q said _ (state (ready store count)) says.cause so (all_of (last_entry ask_ends.Stopped) n says))
   end_on ask_ends.Stopped (Err t) so (says, is) =
-      step_front talker start p q said _ (state (ready store count)) false t so (says_later (one (last_entry ask_ends.Stopped)) q.spoken said (Err t) says) (λ w. says_rose (one (last_entry ask_ends.Stopped)) q.spoken said t says w)
+      step_front talker start p q said _ (state (ready store count)) false t so says.cause
       (front_of (last_entry ask_ends.Stopped) t says)
   end_on ask_ends.Quit (Ok n) so (says, is) =
-      goes_as n (nexts.Ends Done) is (step_quits talker start p q said _ (state (ready store count)) (says_later (one (last_entry ask_ends.Quit)) q.spoken said (Ok n) says) so (all_of (last_entry ask_ends.Quit) n says))
+      goes_as n (nexts.Ends Done) is (step_quits talker start p q said _ (state (ready store count)) says.cause so (all_of (last_entry ask_ends.Quit) n says))
   end_on ask_ends.Quit (Err t) so (says, is) =
-      step_front talker start p q said _ (state (ready store count)) true t so (says_later (one (last_entry ask_ends.Quit)) q.spoken said (Err t) says) (λ w. says_rose (one (last_entry ask_ends.Quit)) q.spoken said t says w)
+      step_front talker start p q said _ (state (ready store count)) true t so says.cause
       (front_of (last_entry ask_ends.Quit) t says)
   end_on ask_ends.Ended result so says = closed_on ask_ends.Ended AtEnd _ result refl refl so says
   end_on ask_ends.ReadFault result so says = closed_on ask_ends.ReadFault AtFault _ result refl refl so says
@@ -120,13 +119,13 @@ module _ {S D E : Type 0} (d : Diagnosis D E) (found : E → Entry) (state : Sta
   last_on (Err end) result so says = end_on end result so says
 
 -- the first words
-pub Talks-before : {S : Type 0} (talker : Talker Entry S) (p : Moment) (said : Spoken) (us : List (Utterance Entry)) (st : Step Entry S) → p.spoken.write_faults ≤ said.write_faults →
+pub Talks-before : {S : Type 0} (talker : Talker Entry S) (p : Moment) (said : Spoken) (us : List (Utterance Entry)) (st : Step Entry S) → said.write_faults ≡ p.spoken.write_faults →
     Utters p.spoken.log.entries.list said.log.entries.list p.spoken.held said.held us → Talks (after_step talker (says_before us st)) (place p) (place (said_at p said)) (after_step talker st)
 Talks-before talker p said us st writes says =
     Talks-say _ _ p.console p.left p.spoken.held said.held p.read_faults p.spoken.write_faults said.write_faults p.spoken.log.entries.list said.log.entries.list us says writes (before talker us st)
 
-pub Breaks-before : {S : Type 0} (talker : Talker Entry S) (p : Moment) (said : Spoken) (us : List (Utterance Entry)) (st : Step Entry S) (t : Trouble) → p.spoken.write_faults ≤ said.write_faults → (t ≡ troubles.WriteFault → Rose p.spoken.write_faults said.write_faults) →
+pub Breaks-before : {S : Type 0} (talker : Talker Entry S) (p : Moment) (said : Spoken) (us : List (Utterance Entry)) (st : Step Entry S) (t : Trouble) → Counted (is_write_fault t) p.spoken.write_faults said.write_faults →
     UttersFront begun p.spoken.log.entries.list said.log.entries.list p.spoken.held said.held us → Breaks begun (after_step talker (says_before us st)) (place p) (place (said_at p said)) t
-Breaks-before talker p said us st t writes rose says =
-    Breaks-say begun _ p.console p.left p.spoken.held said.held p.read_faults p.spoken.write_faults said.write_faults p.spoken.log.entries.list said.log.entries.list us t says writes rose
+Breaks-before talker p said us st t writes says =
+    Breaks-say begun _ p.console p.left p.spoken.held said.held p.read_faults p.spoken.write_faults said.write_faults p.spoken.log.entries.list said.log.entries.list us t says writes
     (λ room more over. (after_step talker st room more over, before talker us st room more over))

@@ -10,7 +10,7 @@ use Rattle.apd_console.specs.declared.line.Line.{Line}
 use Rattle.apd_debug.specs.Hearing.{HearsReplies}
 use Rattle.apd_debug.specs.Replying.{IsLeft, SayReplies, SaysReply, count_after, counted_if, exchanges_said, referred_count}
 use Rattle.apd_debug.specs.Stand.{Stand, asking}
-use Rattle.apd_debug.specs.Steps.{after_turn, goes_within, most_in_a_row, referred_then, replied_then, reply_step, says_before, turn_within}
+use Rattle.apd_debug.specs.Steps.{after_turn, goes_within, left_off, most_in_a_row, referred_then, replied_then, reply_step, says_before, turn_within}
 use Rattle.apd_lines.specs.Lines.{line_in}
 use Rattle.apd_ops.specs.Table.{Table}
 use Rattle.apd_oracle.specs.Replies.{spoken_of}
@@ -47,7 +47,9 @@ module _ {S D E : Type 0} (replies : Replies) (d : Diagnosis D E) (found : E →
 
   -- what is asked has no reply without a line
   left_so : (k : ℕ) (store : Store) (count : ℕ) (turn : Turn D E) → IsLeft replies turn → turn_within replies d found state ops names k store count turn ≡ after_turn d found state ops names store count turn
-  left_so zero store count turn left = refl
+  left_so zero store count (goes t) left = refl
+  left_so zero store count (ends e) left = refl
+  left_so zero store count (asks asked next) left = ap (λ (o : Option Reply). left_off replies d found state ops names store count asked next o) left
   left_so (suc k) store count (goes t) left = refl
   left_so (suc k) store count (ends e) left = refl
   left_so (suc k) store count (asks asked next) left = ap (λ (o : Option Reply). referred_then replies d found state ops names (goes_within replies d found state ops names k) store count asked next o) left

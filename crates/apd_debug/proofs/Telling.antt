@@ -1,21 +1,20 @@
 -- A reply that is told.
 use Rattle.std.proofs.Common.{◌≡◌, ℕ, ◌≤◌, List, [], arith, Bool}
 use Rattle.std.specs.Prelude.{Result, Ok, Err}
-use Rattle.apd_io.specs.Outside.{Rose}
+use Rattle.apd_io.specs.Outside.{Counted}
 use Rattle.apd_answers.specs.declared.oracle.AskEnd.{AskEnd}
 use Rattle.apd_answers.specs.declared.question.Reply.{Reply}
-use Rattle.apd_console.proofs.Bytes.{Hands-self}
+use Rattle.apd_console.proofs.Bytes.{Hands-self, at_most_one}
 use Rattle.apd_console.specs.Console.{room_of}
 use Rattle.apd_console.specs.Lines.{InputEnd}
 use Rattle.apd_oracle.specs.Dialogue.{HearsNothing, SaysReply, end_of_trouble, answer_of}
 use Rattle.apd_talk.specs.Moment.{Moment, place}
-use Rattle.apd_talk.specs.Speech.{Says, begun, one}
+use Rattle.apd_talk.specs.Speech.{Says, begun, is_write_fault, one}
 use Rattle.apd_talk.specs.Talk.{Breaks, Meaning, Talks, onto}
 use Rattle.apd_talk.specs.Utterance.{Utterance, Utters, UttersFront}
 use Rattle.apd_talk.specs.declared.talk.Ending.TheVariants.{Done}
 use Rattle.apd_talk.specs.declared.talk.Trouble.{Trouble}
 use Rattle.apd_talk.specs.declared.talk.Trouble.TheVariants as troubles
-use Rattle.apd_talk.proofs.Speaking.{says_later, says_rose}
 use Rattle.apd_term.specs.Growth.{Grown}
 use Rattle.apd_text.specs.Named.{ReplyIsNamed}
 use Rattle.apd_text.specs.declared.entry.Entry.{Entry}
@@ -26,31 +25,33 @@ use Rattle.std.specs.Prelude.{length, Option}
 abbrev Before : Meaning Entry → Meaning Entry → List (Utterance Entry) → Type 0
 Before f g us = (room : ℕ) (input : List ℕ) (over : InputEnd) → f room input over ≡ onto us (g room input over)
 
-talks_on : (f g : Meaning Entry) (p q : Moment) (us : List (Utterance Entry)) → HearsNothing p q → p.spoken.write_faults ≤ q.spoken.write_faults →
+talks_on : (f g : Meaning Entry) (p q : Moment) (us : List (Utterance Entry)) → HearsNothing p q → q.spoken.write_faults ≡ p.spoken.write_faults →
     Utters p.spoken.log.entries.list q.spoken.log.entries.list p.spoken.held q.spoken.held us → Before f g us → Talks f (place p) (place q) g
 talks_on f g p q us same writes says so = record {
   heard = [];
   hands = rw (same.0, same.1) (Hands-self p.console p.left);
+  on_time = λ h. rw (same.0, same.1) h;
   utterances = us;
   says = says;
-  later = record { reads = (let e = same.2 in omega (arith, e)); writes = writes };
+  reads = same.2;
+  writes = writes;
   shrinks = rw same.0 (omega arith);
   goes = λ more over can. rw same.0 (so (room_of p.console) more over);
 }
 
-breaks_on : (f g : Meaning Entry) (p q : Moment) (us : List (Utterance Entry)) (t : Trouble) → HearsNothing p q → p.spoken.write_faults ≤ q.spoken.write_faults → (t ≡ troubles.WriteFault → Rose p.spoken.write_faults q.spoken.write_faults) →
+breaks_on : (f g : Meaning Entry) (p q : Moment) (us : List (Utterance Entry)) (t : Trouble) → HearsNothing p q → Counted (is_write_fault t) p.spoken.write_faults q.spoken.write_faults →
     UttersFront begun p.spoken.log.entries.list q.spoken.log.entries.list p.spoken.held q.spoken.held us → Before f g us → Breaks begun f (place p) (place q) t
-breaks_on f g p q us t same writes rose says so = record {
+breaks_on f g p q us t same writes says so = record {
   heard = [];
   hands = rw (same.0, same.1) (Hands-self p.console p.left);
+  on_time = λ h. rw same.1 (at_most_one p.console p.left h);
   utterances = us;
   says = says;
-  later = record { reads = (let e = same.2 in omega (arith, e)); writes = writes };
   way = Done;
-  rose = λ is. absurd (cc);
+  reads = same.2;
+  writes = writes;
   going = λ is. absurd (cc);
   none_kept = λ is. absurd (cc);
-  write_rose = rose;
   breaks_so = λ more over can. (g (room_of p.console) more over, so (room_of p.console) more over);
 }
 
@@ -60,7 +61,7 @@ pub told_on : (by_reference : Bool) (r : Reply) (left : Option ℕ) (p q : Momen
 told_on by_reference r left p q f g names same tells named grew so = by tells.said tells.answers (tells.says named)
   where
     by : (said : Result (Unit {0}) Trouble) → Ok tt ≡ answer_of said → Says (one (Replied r left by_reference)) p.spoken q.spoken said → Talks f (place p) (place q) g
-    by (Ok t) is says = talks_on f g p q _ same (says_later (one (Replied r left by_reference)) p.spoken q.spoken (Ok t) says) (says.all names grew) so
+    by (Ok t) is says = talks_on f g p q _ same says.cause (says.all names grew) so
     by (Err t) is says = absurd (cc)
 
 -- it was not
@@ -72,4 +73,4 @@ told_off by_reference r left p q f g names end same tells named grew so = by tel
     by (Ok u) is says = absurd (cc)
     by (Err t) is says =
         let same_end : end ≡ end_of_trouble t = cc in
-        (t, same_end, breaks_on f g p q _ t same (says_later (one (Replied r left by_reference)) p.spoken q.spoken (Err t) says) (λ e. says_rose (one (Replied r left by_reference)) p.spoken q.spoken t says e) (says.front names grew) so)
+        (t, same_end, breaks_on f g p q _ t same says.cause (says.front names grew) so)

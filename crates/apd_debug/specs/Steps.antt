@@ -64,9 +64,20 @@ module _ {S D E : Type 0} (replies : Replies) (d : Diagnosis D E) (found : E →
   turn_then rest store count (goes s) = after_turn d found state ops names store count (goes s)
   turn_then rest store count (ends e) = after_turn d found state ops names store count (ends e)
 
-  -- a turn, and the turns after it as long as there are replies without a line, at most k
+  -- a question is said, and waits where there is no reply without a line; where there is one, the diagnosis ends without a finding
+  abbrev pub left_off : Store → ℕ → Asked → (Reply → D) → Option Reply → Step Entry S
+  left_off store count asked next None = after_turn d found state ops names store count (asks asked next)
+  left_off store count asked next (Some r) = says_before (plain ops names (entry.Question (risen count) asked) ∷ []) (unanswered d found state ops names store (risen count) false)
+
+  abbrev pub last_turn : Store → ℕ → Turn D E → Step Entry S
+  last_turn store count (asks asked next) = left_off store count asked next (replies.to asked.question)
+  last_turn store count (goes s) = after_turn d found state ops names store count (goes s)
+  last_turn store count (ends e) = after_turn d found state ops names store count (ends e)
+
+  -- a turn, and the turns after it as long as there are replies without a line; behind k of them the diagnosis ends without a finding
+  -- where there is another, so a question waits for a line exactly where there is no reply without one
   abbrev pub turn_within : ℕ → Store → ℕ → Turn D E → Step Entry S
-  turn_within zero store count turn = after_turn d found state ops names store count turn
+  turn_within zero store count turn = last_turn store count turn
   turn_within (suc k) store count turn = turn_then (λ kept asked s. turn_within k kept asked (next_turn d kept s)) store count turn
 
   -- the diagnosis goes on from where it stands

@@ -84,7 +84,7 @@ there-of [] i t e = absurd (cc)
 there-of (c ∷ cs) zero t e = (c, refl)
 there-of (c ∷ cs) (suc i) t e = there-of cs i t e
 
-clause-there : (cs : List Clause) (n : ℕ) (t : Tuple) → clause_of (tuples_of cs) n ≡ Some t → (c : Clause) × (clause_at cs n ≡ Some c)
+pub clause-there : (cs : List Clause) (n : ℕ) (t : Tuple) → clause_of (tuples_of cs) n ≡ Some t → (c : Clause) × (clause_at cs n ≡ Some c)
 clause-there cs zero t e = absurd (cc)
 clause-there cs (suc i) t e = there-of cs i t e
 

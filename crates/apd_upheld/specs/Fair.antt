@@ -2,6 +2,7 @@
 use Rattle.std.specs.Prelude.{◌≡◌, ◌≢◌, ℕ, ◌<◌, ◌≤◌, ⊤, List, [], ◌∷◌, Option, None, Some, IfSome}
 use Rattle.std.specs.List.{AllByRecursion}
 use Rattle.apd_term.specs.Tuple.{canonical_tuple}
+use Rattle.apd_base.specs.declared.limits.TheConstants.{MOST_SHOWN}
 use Rattle.apd_causes.specs.declared.run.Query.{Query}
 use Rattle.apd_causes.specs.declared.run.Ran.{Ran}
 use Rattle.apd_causes.specs.declared.run.RunEnd.TheVariants.{Error}
@@ -22,6 +23,7 @@ use Rattle.apd_text.specs.declared.entry.Entry.{Entry}
 use Rattle.apd_text.specs.declared.entry.Entry.TheVariants as entry
 use Rattle.apd_account.specs.Account.{Account, Idle, after_entry}
 use Rattle.apd_symptoms.specs.Symptoms.{line_found}
+use Rattle.apd_written.specs.Proper.{AreProperGoals}
 
 -- a body is asked about in canonical form
 abbrev pub IsInForm : Question → Type 0
@@ -38,6 +40,20 @@ abbrev pub IsFairSymptom : Told → Type 0
 IsFairSymptom (Wrong a exit) = MayAsk (asks.True a)
 IsFairSymptom (Missing a box_no) = MayAsk (asks.True a)
 IsFairSymptom (NoEnd calls) = ⊤
+
+-- the calls of a run that doesn't end are two or more
+abbrev pub HasSeveral : Told → Type 0
+HasSeveral (Wrong a exit) = ⊤
+HasSeveral (Missing a box_no) = ⊤
+HasSeveral (NoEnd calls) = 2 ≤ calls
+
+-- a run's query didn't become too large
+abbrev pub IsRunInSize : Entry → Type 0
+IsRunInSize (entry.Run q budget answers filter end) = IfSome end (λ ran. ran.end ≢ Error Size 0)
+IsRunInSize e = ⊤
+
+abbrev pub AreRunsInSize : List Entry → Type 0
+AreRunsInSize es = AllByRecursion IsRunInSize es
 
 module _ (program : List Clause) where
   -- the clause of a call that isn't below its caller is there
@@ -59,21 +75,27 @@ module _ (program : List Clause) where
   abbrev pub AllFair : List Entry → Type 0
   AllFair es = AllByRecursion IsFair es
 
-  -- what was found has its clause's line
+  -- what was found has its clause's line, and a run that doesn't end has two calls or more
   abbrev pub IsLined : Entry → Type 0
+  IsLined (entry.Symptom what) = HasSeveral what
   IsLined (entry.Found finding line) = line ≡ line_found program finding
   IsLined e = ⊤
 
-  -- a run came to this end where no diagnosis goes on, within answers as many as may be allowed
+  -- a run of 1 to 64 goals of pure Prolog came to this end where no diagnosis goes on, within ports and answers as many as may be
+  -- allowed
   pub record IsTimed (a : Account) (q : Query) (budget answers : ℕ) (end : Option Ran) : Type 0 where
+    pub goals : AreProperGoals q.tuple.body
+    pub ports : budget ≤ MOST_SHOWN
     pub some : 0 < answers
     pub few : answers ≤ most_answers
     pub ended : end ≡ Some (ran_of (query_run (tuples_of program) q.tuple budget answers))
     pub idle : a.stage ≡ Idle
 
-  -- of an entry after those before it: a run ended as it does, and what was found has its clause's line
+  -- of an entry after those before it: a run ended as it does, what was found has its clause's line, and a run that doesn't end has two
+  -- calls or more
   abbrev pub IsInTurn : Account → Entry → Type 0
   IsInTurn a (entry.Run q budget answers filter end) = IsTimed a q budget answers end
+  IsInTurn a (entry.Symptom what) = HasSeveral what
   IsInTurn a (entry.Found finding line) = line ≡ line_found program finding
   IsInTurn a e = ⊤
 

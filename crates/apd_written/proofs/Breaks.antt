@@ -1,10 +1,7 @@
 -- No newline stands in what is written of a term.
 use Rattle.std.proofs.Common.{◌≡◌, ℕ, ◌+◌, suc, List, [], ◌∷◌, ◌++◌, refl, sym, ◌∙◌, ap, subst, arith, Bool, true, false, Option, Some, None}
-use Rattle.std.specs.Prelude.{nat_eq, nat_lt, if◌then◌else◌, not, length, ◌&&◌, ◌||◌, ◌==◌, ◌/◌, ◌%◌, ◌<◌, ◌^◌, ℤ, codes, pos, negsuc}
+use Rattle.std.specs.Prelude.{nat_eq, nat_lt, if◌then◌else◌, not, length, ◌&&◌, ◌||◌, ◌==◌, ◌/◌, ◌%◌, ℤ, codes, pos, negsuc}
 use Rattle.std.specs.Int.{IsInRange as IsDigitByte}
-use Rattle.std.specs.Str.Parse.{AllDigits}
-use Rattle.std.proofs.lemmas.Fmt.{decimal_is_IsNumeral}
-use Rattle.std.proofs.lemmas.Str.Parse.{digit_from_value}
 use Rattle.std.specs.Fmt.{decimal, signed_decimal}
 use Rattle.std.specs.List.{list_all, flat_map}
 use Rattle.std.proofs.lemmas.Bool.Decides.{nat_tests}
@@ -18,8 +15,8 @@ use Rattle.apd_ops.specs.Operators.{left_by, right_by}
 use Rattle.apd_ops.specs.Table.{Meaning, Table, prefix_in, infix_in}
 use Rattle.apd_write.specs.NameTexts.{is_word_name, is_graphic_name, is_solo_name, is_bracket_name, is_bare, begins_comment, hex_digit, hex_escape, quoted_byte, quoted, function_text, name_text}
 use Rattle.apd_write.specs.Writing.{Part, is_same_name, is_operator_atom, is_negative_integer, in_parentheses, fitted, between, right_operand, left_operand, prefix_text, infix_text, further_arguments, arguments_text, function, one_text, two_text, list_text, arranged, rest_after, variable_text, written, rest_text, parts}
-use Rattle.apd_reading_back.specs.Law.{IsWord, IsInRange, AreInRange}
 use Rattle.apd_written.specs.Says.{HasNoBreak}
+use Rattle.apd_written.proofs.Digits.{AllDigitBytes, decimal-digits}
 use Rattle.apd_written.proofs.Saying.{break-append}
 
 -- bytes that pass a test which a newline doesn't
@@ -52,19 +49,19 @@ if-break false t u h k = k
 in_digits : (c : ℕ) → IsDigitByte 48 57 c → nat_eq c 10 ≡ false
 in_digits c h = grind (arith, nat_tests, h)
 
-digits-break : (ds : List ℕ) → AllDigits 10 ds → HasNoBreak ds
+digits-break : (ds : List ℕ) → AllDigitBytes ds → HasNoBreak ds
 digits-break [] h = tt
-digits-break (d ∷ ds) h = (in_digits d (digit_from_value d h.0), digits-break ds h.1)
+digits-break (d ∷ ds) h = (in_digits d h.0, digits-break ds h.1)
 
-pub decimal-break : (n : ℕ) → n < 2 ^ 64 → HasNoBreak (decimal n)
-decimal-break n l = digits-break (decimal n) (decimal_is_IsNumeral n l).0.1
+pub decimal-break : (n : ℕ) → HasNoBreak (decimal n)
+decimal-break n = digits-break (decimal n) (decimal-digits n)
 
-pub signed-break : (i : ℤ) → IsWord i → HasNoBreak (signed_decimal i)
-signed-break (pos n) l = decimal-break n (omega (arith, l))
-signed-break (negsuc n) l = (refl, decimal-break (suc n) (omega (arith, l)))
+pub signed-break : (i : ℤ) → HasNoBreak (signed_decimal i)
+signed-break (pos n) = decimal-break n
+signed-break (negsuc n) = (refl, decimal-break (suc n))
 
-variable-break : (v : ℕ) → v < 2 ^ 64 → HasNoBreak (variable_text v)
-variable-break v l = (refl, decimal-break v l)
+variable-break : (v : ℕ) → HasNoBreak (variable_text v)
+variable-break v = (refl, decimal-break v)
 
 -- Names.
 
@@ -74,11 +71,11 @@ word_not = refl
 graphic_not : is_graphic 10 ≡ false
 graphic_not = refl
 
-and_left : (a b : Bool) → (a && b) ≡ true → a ≡ true
+pub and_left : (a b : Bool) → (a && b) ≡ true → a ≡ true
 and_left true b e = refl
 and_left false b e = absurd (cc)
 
-and_right : (a b : Bool) → (a && b) ≡ true → b ≡ true
+pub and_right : (a b : Bool) → (a && b) ≡ true → b ≡ true
 and_right true b e = e
 and_right false b e = absurd (cc)
 
@@ -223,16 +220,16 @@ module _ (ops : Table) where
   after-break f name (p ∷ q ∷ r ∷ ps) s = tail-break (arranged ops f name 999 (p ∷ q ∷ r ∷ ps)) (arranged-break f name 999 (p ∷ q ∷ r ∷ ps) s)
 
   mutual
-    pub written-break : (names : List (List ℕ)) (t : Term) → IsInRange t → (place : ℕ) → HasNoBreak (written ops names t place)
-    written-break names (variable v) r place = variable-break v r
-    written-break names (integer i) r place = signed-break i r
-    written-break names (compound f ts) r place = arranged-break f (text_of_name names f) place (parts ops names ts) (parts-safe names ts r.1)
+    pub written-break : (names : List (List ℕ)) (t : Term) (place : ℕ) → HasNoBreak (written ops names t place)
+    written-break names (variable v) place = variable-break v
+    written-break names (integer i) place = signed-break i
+    written-break names (compound f ts) place = arranged-break f (text_of_name names f) place (parts ops names ts) (parts-safe names ts)
 
-    rest-break : (names : List (List ℕ)) (t : Term) → IsInRange t → HasNoBreak (rest_text ops names t)
-    rest-break names (variable v) r = tail-break (variable_text v) (variable-break v r)
-    rest-break names (integer i) r = tail-break (signed_decimal i) (signed-break i r)
-    rest-break names (compound f ts) r = after-break f (text_of_name names f) (parts ops names ts) (parts-safe names ts r.1)
+    rest-break : (names : List (List ℕ)) (t : Term) → HasNoBreak (rest_text ops names t)
+    rest-break names (variable v) = tail-break (variable_text v) (variable-break v)
+    rest-break names (integer i) = tail-break (signed_decimal i) (signed-break i)
+    rest-break names (compound f ts) = after-break f (text_of_name names f) (parts ops names ts) (parts-safe names ts)
 
-    parts-safe : (names : List (List ℕ)) (ts : Terms) → AreInRange ts → AreSafe (parts ops names ts)
-    parts-safe names none r = tt
-    parts-safe names (more t ts) r = (record { text = λ place. written-break names t r.0 place; rest = rest-break names t r.0 }, parts-safe names ts r.1)
+    parts-safe : (names : List (List ℕ)) (ts : Terms) → AreSafe (parts ops names ts)
+    parts-safe names none = tt
+    parts-safe names (more t ts) = (record { text = λ place. written-break names t place; rest = rest-break names t }, parts-safe names ts)

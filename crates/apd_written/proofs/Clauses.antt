@@ -2,20 +2,18 @@
 use Rattle.std.proofs.Common.{◌≡◌, ℕ, List, [], ◌∷◌, refl, sym, ◌∙◌, ap, arith, Bool, true, false, Some}
 use Rattle.std.specs.Prelude.{if◌then◌else◌, ◌==◌, ◌&&◌}
 use Rattle.std.specs.List.{AllByRecursion}
-use Rattle.std.specs.Option.{option_map}
 use Rattle.apd_term.specs.declared.term.NameId.{NameId}
 use Rattle.apd_term.specs.declared.standard.TheConstants.{COMMA, NECK}
 use Rattle.apd_term.specs.Term.{Term, variable, integer, compound, none, more, predicate_of}
 use Rattle.apd_term.specs.Tuple.{canonical_tuple}
 use Rattle.apd_term.specs.declared.tuple.Tuple.{Tuple}
-use Rattle.apd_causes.specs.declared.reading.Read.{Read}
 use Rattle.apd_clauses.specs.Kinds.{◌∕◌}
 use Rattle.apd_clauses.specs.Predicates.{is_pred}
 use Rattle.apd_ops.specs.Table.{Table, IsTable}
 use Rattle.apd_read.specs.Reader.{Reader}
 use Rattle.apd_text.specs.ClauseTerms.{conjunction, with_body, clause_term}
 use Rattle.apd_text.specs.Dialogues.{clause_text}
-use Rattle.apd_reading_back.specs.Law.{AreNames, item_text}
+use Rattle.apd_reading_back.specs.Law.{AreNames}
 use Rattle.apd_reading_back.proofs.Read.{items_read_back}
 use Rattle.apd_claims.specs.Claims.{goals_in, tuple_in}
 use Rattle.apd_claims.specs.Reading.{as_clause, term_in}
@@ -68,4 +66,4 @@ module _ {names : List (List ℕ)} (reader : Reader names) (ops : Table) (table 
   clause-back t c = tuple-back (canonical_tuple t).head (canonical_tuple t).body c.head c.goals
 
   pub clause-break : (t : Tuple) → IsClauseTellable ops names t → HasNoBreak (clause_text ops names t)
-  clause-break t c = written-break ops names (clause_term (canonical_tuple t)) c.writable.in_range 1200
+  clause-break t c = written-break ops names (clause_term (canonical_tuple t)) 1200

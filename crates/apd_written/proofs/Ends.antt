@@ -1,5 +1,5 @@
 -- The last line of a run says how it ended.
-use Rattle.std.proofs.Common.{◌≡◌, ℕ, ◌<◌, ◌≤◌, ◌^◌, List, [], ◌∷◌, ◌++◌, refl, sym, ◌∙◌, ap, append_assoc, arith, Bool, true, false, Some, None}
+use Rattle.std.proofs.Common.{◌≡◌, ℕ, ◌<◌, ◌≤◌, List, [], ◌∷◌, ◌++◌, refl, sym, ◌∙◌, ap, append_assoc, arith, Bool, true, false, Some, None}
 use Rattle.std.specs.Prelude.{if◌then◌else◌, ◌&&◌, codes, nat_le}
 use Rattle.std.specs.Fmt.{decimal}
 use Rattle.std.specs.Str.{bytes_eq}
@@ -16,7 +16,7 @@ use Rattle.apd_text.specs.Lines.{error_name, end_of, end_text}
 use Rattle.apd_claims.specs.declared.claim.Claim.TheVariants.{Ends}
 use Rattle.apd_claims.specs.declared.form.Form.TheVariants.{End, Unread}
 use Rattle.apd_claims.specs.Forms.{is_shown, shown, answers_in, counts_in, boxed_in, ran_in, if_end, form_in}
-use Rattle.apd_claims.specs.Parts.{Led, if_some, led_by}
+use Rattle.apd_claims.specs.Parts.{Led, if_some}
 use Rattle.apd_claims.specs.Sayable.{IsShown}
 use Rattle.apd_claims.specs.Saying.{claim_by}
 use Rattle.apd_written.specs.Says.{HasNoBreak, IsSaid}
@@ -113,8 +113,8 @@ end_text-is ran =
 
 counts-break : (n m : ℕ) → n ≤ 1000000 → m ≤ 1000000 → HasNoBreak (counts_text n m)
 counts-break n m l k =
-    break-append (decimal n) (codes " ports, " ++ (decimal m ++ codes " answers")) (decimal-break n (omega (arith, l)))
-    (break-append (codes " ports, ") (decimal m ++ codes " answers") (codes-break (codes " ports, ") refl) (break-append (decimal m) (codes " answers") (decimal-break m (omega (arith, k))) (codes-break (codes " answers") refl)))
+    break-append (decimal n) (codes " ports, " ++ (decimal m ++ codes " answers")) (decimal-break n)
+    (break-append (codes " ports, ") (decimal m ++ codes " answers") (codes-break (codes " ports, ") refl) (break-append (decimal m) (codes " answers") (decimal-break m) (codes-break (codes " answers") refl)))
 
 error_front : RunError → List ℕ
 error_front e = codes "error " ++ error_name e ++ codes " in box "
@@ -124,7 +124,7 @@ unfolding error_front
 end_of-break Exhausted h = codes-break (codes "exhausted") refl
 end_of-break Budget h = codes-break (codes "budget") refl
 end_of-break AnswerLimit h = codes-break (codes "answer limit") refl
-end_of-break (Error e b) h = break-append (error_front e) (decimal b) (front e) (decimal-break b (omega (arith, h)))
+end_of-break (Error e b) h = break-append (error_front e) (decimal b) (front e) (decimal-break b)
   where
     front : (k : RunError) → HasNoBreak (error_front k)
     front Unbound = codes-break (codes "error Unbound in box ") refl

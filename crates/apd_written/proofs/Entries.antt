@@ -1,14 +1,13 @@
 -- What was read of a line as an entry is what the line says, where the line is the entry's text.
-use Rattle.std.proofs.Common.{◌≡◌, ℕ, List, [], ◌∷◌, ◌++◌, refl, sym, ◌∙◌, ap, subst, Bool, true, false, Option, Some}
+use Rattle.std.proofs.Common.{◌≡◌, ℕ, List, [], ◌∷◌, ◌++◌, sym, ◌∙◌, ap, subst, false, Some}
 use Rattle.std.specs.Bool.{then_some}
 use Rattle.std.specs.Str.{bytes_eq}
-use Rattle.std.specs.Option.{option_map, option_and_then}
+use Rattle.std.specs.Option.{option_and_then}
 use Rattle.apd_ops.specs.Table.{Table}
 use Rattle.apd_read.specs.Reader.{Reader}
 use Rattle.apd_term.specs.Term.{Term}
 use Rattle.apd_text.specs.Entries.{text_of}
 use Rattle.apd_text.specs.declared.entry.Entry.{Entry}
-use Rattle.apd_claims.specs.declared.claim.Claim.{Claim}
 use Rattle.apd_claims.specs.declared.form.Form.TheVariants.{Framed}
 use Rattle.apd_claims.specs.declared.form.Frame.{Frame}
 use Rattle.apd_claims.specs.Claims.{claim_as, claim_of, entry_for, or_garbled, written}

@@ -1,5 +1,5 @@
 -- The lines of what is found say it.
-use Rattle.std.proofs.Common.{◌≡◌, ℕ, ◌<◌, ◌≤◌, List, [], ◌∷◌, ◌++◌, refl, sym, ◌∙◌, ap, subst, append_assoc, arith, Bool, Option, Some, None}
+use Rattle.std.proofs.Common.{◌≡◌, ℕ, ◌<◌, List, [], ◌∷◌, ◌++◌, refl, sym, ◌∙◌, ap, subst, append_assoc, arith, Some}
 use Rattle.std.specs.Prelude.{codes}
 use Rattle.std.specs.Fmt.{decimal}
 use Rattle.apd_term.specs.Canonical.{canonical}
@@ -18,7 +18,6 @@ use Rattle.apd_text.specs.declared.entry.Entry.TheVariants as entry
 use Rattle.apd_write.specs.Writing.{written}
 use Rattle.apd_reading_back.specs.Law.{AreNames}
 use Rattle.apd_claims.specs.declared.claim.Claim.TheVariants.{Descends}
-use Rattle.apd_claims.specs.declared.form.Form.{Form}
 use Rattle.apd_claims.specs.declared.form.Form.TheVariants.{Framed, Descent, Unread}
 use Rattle.apd_claims.specs.declared.form.Frame.TheVariants.{Instance, Uncovered as OfGoal}
 use Rattle.apd_claims.specs.Forms.{form_in, placed_form}
@@ -26,12 +25,12 @@ use Rattle.apd_claims.specs.Parts.{Led, if_some, led_by}
 use Rattle.apd_claims.specs.Reading.{as_clause}
 use Rattle.apd_claims.specs.Saying.{claim_by}
 use Rattle.apd_written.specs.Claims.{claims_of}
-use Rattle.apd_written.specs.Says.{HasNoBreak, IsSaid, Says, no_line, one_line}
+use Rattle.apd_written.specs.Says.{Says, no_line, one_line}
 use Rattle.apd_written.specs.Texts.{IsTellable, IsClauseTellable, IsShort}
 use Rattle.apd_written.proofs.Saying.{break-append}
 use Rattle.apd_written.proofs.Breaks.{codes-break, decimal-break, written-break}
 use Rattle.apd_written.proofs.Parts.{as-short, behind-short, behind-two, drop-front, led-high, led-low, line-short}
-use Rattle.apd_written.proofs.Entries.{IsFramed, claim-back, framed-says}
+use Rattle.apd_written.proofs.Entries.{claim-back, framed-says}
 use Rattle.apd_written.proofs.Questions.{canonical_tuple-again}
 use Rattle.apd_written.proofs.Symptoms.{atom-read}
 use Rattle.apd_written.proofs.Clauses.{clause-read, clause-back, clause-break}
@@ -101,9 +100,9 @@ module _ {names : List (List ℕ)} (reader : Reader names) (ops : Table) (table 
         entry = ap (λ (u : Tuple). Some (entry.Found (WrongInstance clause u) line)) (clause-back reader ops table all t k);
         same = same_wrong ops names clause line t;
         whole = break-append (codes "bug: wrong instance of clause ") (wrong_rest ops names clause line t) (codes-break (codes "bug: wrong instance of clause ") refl)
-            (break-append (decimal clause) (codes ", line " ++ (decimal line ++ (codes ": " ++ x))) (decimal-break clause (omega (arith, lc)))
+            (break-append (decimal clause) (codes ", line " ++ (decimal line ++ (codes ": " ++ x))) (decimal-break clause)
             (break-append (codes ", line ") (decimal line ++ (codes ": " ++ x)) (codes-break (codes ", line ") refl)
-            (break-append (decimal line) (codes ": " ++ x) (decimal-break line (omega (arith, ll))) (refl, (refl, clause-break reader ops table all t k)))));
+            (break-append (decimal line) (codes ": " ++ x) (decimal-break line) (refl, (refl, clause-break reader ops table all t k)))));
         alone = refl;
       })
       (wrong_text ops names clause line t)
@@ -128,7 +127,7 @@ module _ {names : List (List ℕ)} (reader : Reader names) (ops : Table) (table 
         read = atom-read reader ops table all goal t (behind-short (codes "bug: uncovered goal: ") (atom_text ops names goal) 19 refl (line-short w short));
         entry = refl;
         same = ap (λ x. codes "bug: uncovered goal: " ++ goal_text ops names x ++ 10 ∷ []) (canonical-canonical goal);
-        whole = break-append (codes "bug: uncovered goal: ") (atom_text ops names goal) (codes-break (codes "bug: uncovered goal: ") refl) (written-break ops names (canonical goal) t.writable.in_range 999);
+        whole = break-append (codes "bug: uncovered goal: ") (atom_text ops names goal) (codes-break (codes "bug: uncovered goal: ") refl) (written-break ops names (canonical goal) 999);
         alone = refl;
       })
       refl
@@ -147,7 +146,7 @@ pub descent-says : {names : List (List ℕ)} (reader : Reader names) (ops : Tabl
 descent-says {names} reader ops n l = subst (λ x. Says reader ops x (Descends n ∷ [])) (sym (descent_text ops names n))
     (one_line (descent_line n)
     (record {
-      whole = break-append (codes "no bug: all ") (decimal n ++ codes " calls descend") (codes-break (codes "no bug: all ") refl) (break-append (decimal n) (codes " calls descend") (decimal-break n (omega (arith, l))) (codes-break (codes " calls descend") refl));
+      whole = break-append (codes "no bug: all ") (decimal n ++ codes " calls descend") (codes-break (codes "no bug: all ") refl) (break-append (decimal n) (codes " calls descend") (decimal-break n) (codes-break (codes " calls descend") refl));
       alone = refl;
       says = λ in_group lines. ap (claim_by reader ops in_group (descent_line n) lines) (descent_form n l) ∙ claim-back ops names (descent_line n ++ 10 ∷ []) (entry.AllDescend n) (descent_text ops names n);
     })

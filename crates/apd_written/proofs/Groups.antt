@@ -1,10 +1,9 @@
 -- The lines of candidates say them.
-use Rattle.std.proofs.Common.{◌≡◌, ℕ, suc, ◌+◌, ◌<◌, ◌^◌, List, [], ◌∷◌, ◌++◌, length, length-append, map, refl, sym, ◌∙◌, ap, subst, append_assoc, append-nil, arith, Bool, true, false, Option, Some, None}
+use Rattle.std.proofs.Common.{◌≡◌, ℕ, suc, ◌+◌, List, [], ◌∷◌, ◌++◌, length, length-append, map, refl, sym, ◌∙◌, ap, subst, append_assoc, append-nil, arith, Bool, Some, None}
 use Rattle.std.specs.Prelude.{codes, if◌then◌else◌, flat_map}
 use Rattle.std.specs.Fmt.{decimal}
 use Rattle.std.specs.List.{AllByRecursion}
 use Rattle.std.specs.Option.{option_map, option_and_then}
-use Rattle.apd_term.specs.Tuple.{canonical_tuple}
 use Rattle.apd_term.specs.declared.instance.Instance.{Instance}
 use Rattle.apd_term.specs.declared.tuple.Tuple.{Tuple}
 use Rattle.apd_ops.specs.Table.{Table, IsTable}
@@ -16,17 +15,16 @@ use Rattle.apd_text.specs.Entries.{text_of}
 use Rattle.apd_text.specs.declared.entry.Entry.TheVariants as entry
 use Rattle.apd_write.specs.Writing.{written}
 use Rattle.apd_reading_back.specs.Law.{AreNames}
-use Rattle.apd_claims.specs.declared.claim.Claim.{Claim}
 use Rattle.apd_claims.specs.declared.claim.Claim.TheVariants.{Finds}
 use Rattle.apd_claims.specs.declared.form.Form.TheVariants as forms
-use Rattle.apd_claims.specs.Claims.{claim_as, tuple_in}
+use Rattle.apd_claims.specs.Claims.{claim_as}
 use Rattle.apd_claims.specs.Forms.{form_in, with_newline}
-use Rattle.apd_claims.specs.Parts.{Led, if_some, led_by}
-use Rattle.apd_claims.specs.Reading.{as_clause, term_in}
+use Rattle.apd_claims.specs.Parts.{if_some}
+use Rattle.apd_claims.specs.Reading.{as_clause}
 use Rattle.apd_claims.specs.Sayable.{BeginsWithNone}
-use Rattle.apd_claims.specs.Saying.{candidates_text, claim_at, claim_by, group_claim, group_entry, group_text, instance_at, instance_in, instance_with, instances_in, is_candidate}
+use Rattle.apd_claims.specs.Saying.{candidates_text, claim_by, group_claim, group_entry, group_text, instance_at, instance_in, instance_with, instances_in}
 use Rattle.apd_written.specs.Claims.{canonical_instance, claims_of}
-use Rattle.apd_written.specs.Says.{HasNoBreak, Says, AreCandidateLines, IsCandidateLine, IsSaidWith, lines_before, no_line, some_lines}
+use Rattle.apd_written.specs.Says.{Says, AreCandidateLines, IsSaidWith, lines_before, no_line, some_lines}
 use Rattle.apd_written.specs.Texts.{IsInstanceTellable, IsShort}
 use Rattle.apd_written.proofs.Saying.{break-append}
 use Rattle.apd_written.proofs.Breaks.{codes-break, decimal-break}
@@ -137,14 +135,14 @@ module _ {names : List (List ℕ)} (reader : Reader names) (ops : Table) (table 
   are-candidates (c ∷ cs) t = (
     record {
       whole = break-append (codes "candidate: clause ") (candidate_rest ops names c) (codes-break (codes "candidate: clause ") refl)
-          (break-append (decimal c.clause) (codes ": " ++ clause_text ops names c.tuple) (decimal-break c.clause (let few = t.0.few in omega (arith, few))) (refl, (refl, clause-break reader ops table all c.tuple t.0.clause)));
+          (break-append (decimal c.clause) (codes ": " ++ clause_text ops names c.tuple) (decimal-break c.clause) (refl, (refl, clause-break reader ops table all c.tuple t.0.clause)));
       begins_so = refl;
       form = candidate-form (candidate_rest ops names c);
     },
     are-candidates cs t.1,
   )
 
-  module _ (cs : List Instance) (t : AllByRecursion (IsInstanceTellable ops names) cs) (few : length cs < 2 ^ 64) where
+  module _ (cs : List Instance) (t : AllByRecursion (IsInstanceTellable ops names) cs) where
     abbrev found : List Instance
     found = map canonical_instance cs
 
@@ -162,7 +160,7 @@ module _ {names : List (List ℕ)} (reader : Reader names) (ops : Table) (table 
 
     group-said : IsShort (lines_before (candidate_lines ops names cs) []) → IsSaidWith reader ops (count_line (length cs)) (candidate_lines ops names cs) (Finds (Candidates found) 0)
     group-said short = record {
-      whole = break-append (codes "candidates: ") (decimal (length cs)) (codes-break (codes "candidates: ") refl) (decimal-break (length cs) few);
+      whole = break-append (codes "candidates: ") (decimal (length cs)) (codes-break (codes "candidates: ") refl) (decimal-break (length cs));
       alone = refl;
       opens = refl;
       are_candidates = are-candidates cs t;

@@ -1,7 +1,6 @@
 -- The lines of what is known say nothing: each begins with the name of a statement and a parenthesis.
-use Rattle.std.proofs.Common.{◌≡◌, ℕ, ◌<◌, List, [], ◌∷◌, ◌++◌, refl, sym, ◌∙◌, ap, subst, append_assoc, arith, Option, Some, None}
-use Rattle.std.specs.Prelude.{codes, flat_map, if◌then◌else◌, Bool, false}
-use Rattle.std.specs.List.{AllByRecursion}
+use Rattle.std.proofs.Common.{◌≡◌, ℕ, List, [], ◌∷◌, ◌++◌, refl, sym, ◌∙◌, ap, subst, append_assoc, arith}
+use Rattle.std.specs.Prelude.{codes, flat_map, if◌then◌else◌, false}
 use Rattle.apd_term.specs.declared.term.NameId.{NameId}
 use Rattle.apd_term.specs.declared.term.Pred.{Pred}
 use Rattle.apd_term.specs.declared.standard.TheConstants.{BELOW, CELL, COVERS, CURLY, TRUE, TRUSTED}
@@ -18,12 +17,11 @@ use Rattle.apd_answers.specs.declared.store.Pair.{Pair}
 use Rattle.apd_kept.specs.Kept.{known_text, line_of, pair_line, pair_term, trust_line, trust_term}
 use Rattle.apd_text.specs.Entries.{text_of}
 use Rattle.apd_text.specs.declared.entry.Entry.TheVariants.{Known}
-use Rattle.apd_reading_back.specs.Law.{AreNames, IsInRange}
+use Rattle.apd_reading_back.specs.Law.{AreNames}
 use Rattle.apd_reading_back.proofs.Read.{standard_text}
-use Rattle.apd_claims.specs.declared.form.Form.TheVariants.{Other}
 use Rattle.apd_claims.specs.Forms.{form_in}
 use Rattle.apd_claims.specs.Saying.{is_candidate}
-use Rattle.apd_written.specs.Says.{HasNoBreak, Says, no_line, quiet_line}
+use Rattle.apd_written.specs.Says.{Says, no_line, quiet_line}
 use Rattle.apd_written.specs.Uttered.{AreNoOperators, IsKnownText}
 use Rattle.apd_written.proofs.Saying.{break-append, says-append}
 use Rattle.apd_written.proofs.Breaks.{codes-break, written-break}
@@ -114,36 +112,36 @@ module _ (ops : Table) (names : List (List ℕ)) (all : AreNames names) where
 
 module _ {names : List (List ℕ)} (reader : Reader names) (ops : Table) (all : AreNames names) where
   -- the line of a statement
-  statement-says : (front : List ℕ) (t : Term) → IsQuiet front → Begins ops names all front t → IsInRange t → Says reader ops (line_of ops names t) []
-  statement-says front t q b r =
+  statement-says : (front : List ℕ) (t : Term) → IsQuiet front → Begins ops names all front t → Says reader ops (line_of ops names t) []
+  statement-says front t q b =
       let w = written ops names t 1200 in
       let line = w ++ codes " ." in
       let same : line ≡ front ++ (b.rest ++ codes " .") = ap (λ x. x ++ codes " .") b.is ∙ append_assoc front b.rest (codes " .") in
       subst (λ x. Says reader ops x []) (append_assoc w (codes " .") (10 ∷ []))
       (quiet_line line
-      (other-said reader ops line (break-append w (codes " .") (written-break ops names t r 1200) (refl, (refl, tt))) (ap form_in same ∙ (q (b.rest ++ codes " .")).0) (ap is_candidate same ∙ (q (b.rest ++ codes " .")).1))
+      (other-said reader ops line (break-append w (codes " .") (written-break ops names t 1200) (refl, (refl, tt))) (ap form_in same ∙ (q (b.rest ++ codes " .")).0) (ap is_candidate same ∙ (q (b.rest ++ codes " .")).1))
       no_line)
 
-  pair-says : AreNoOperators ops → (q : Question) (r : Reply) → IsInRange (pair_term (record { question = q; reply = r })) → Says reader ops (pair_line ops names (record { question = q; reply = r })) []
-  pair-says apart (asks.True a) r i = statement-says (codes "true(") (pair_term (record { question = asks.True a; reply = r })) true_quiet (truths ops names all _ _ apart) i
-  pair-says apart (asks.Covers t) r i = statement-says (codes "covers(") (pair_term (record { question = asks.Covers t; reply = r })) covers_quiet (covering ops names all _ _ apart) i
-  pair-says apart (asks.Below q p) r i = statement-says (codes "below(") (pair_term (record { question = asks.Below q p; reply = r })) below_quiet (orders ops names all _ _ _) i
+  pair-says : AreNoOperators ops → (q : Question) (r : Reply) → Says reader ops (pair_line ops names (record { question = q; reply = r })) []
+  pair-says apart (asks.True a) r = statement-says (codes "true(") (pair_term (record { question = asks.True a; reply = r })) true_quiet (truths ops names all _ _ apart)
+  pair-says apart (asks.Covers t) r = statement-says (codes "covers(") (pair_term (record { question = asks.Covers t; reply = r })) covers_quiet (covering ops names all _ _ apart)
+  pair-says apart (asks.Below q p) r = statement-says (codes "below(") (pair_term (record { question = asks.Below q p; reply = r })) below_quiet (orders ops names all _ _ _)
 
-  pairs-say : AreNoOperators ops → (ps : List Pair) → AllByRecursion (λ p. IsInRange (pair_term p)) ps → Says reader ops (flat_map (pair_line ops names) ps) []
-  pairs-say apart [] h = no_line
-  pairs-say apart (p ∷ ps) h = says-append reader ops (pair-says apart p.question p.reply h.0) (pairs-say apart ps h.1)
+  pairs-say : AreNoOperators ops → (ps : List Pair) → Says reader ops (flat_map (pair_line ops names) ps) []
+  pairs-say apart [] = no_line
+  pairs-say apart (p ∷ ps) = says-append reader ops (pair-says apart p.question p.reply) (pairs-say apart ps)
 
-  trust-says : AreNoOperators ops → (ps : List Pred) → AllByRecursion (λ p. IsInRange (trust_term p)) ps → Says reader ops (flat_map (trust_line ops names) ps) []
-  trust-says apart [] h = no_line
-  trust-says apart (p ∷ ps) h = says-append reader ops (statement-says (codes "trusted(") (trust_term p) trusted_quiet (trusts ops names all _ apart) h.0) (trust-says apart ps h.1)
+  trust-says : AreNoOperators ops → (ps : List Pred) → Says reader ops (flat_map (trust_line ops names) ps) []
+  trust-says apart [] = no_line
+  trust-says apart (p ∷ ps) = says-append reader ops (statement-says (codes "trusted(") (trust_term p) trusted_quiet (trusts ops names all _ apart)) (trust-says apart ps)
 
   form-says : Says reader ops (codes "form(2) .\n") []
   unfolding form_in
   form-says = quiet_line (codes "form(2) .") (other-said reader ops (codes "form(2) .") (codes-break (codes "form(2) .") refl) refl refl) no_line
 
-  pub known-says : (text : List ℕ) → IsKnownText ops names text → Says reader ops (text_of ops names (Known text)) []
+  pub known-says : (text : List ℕ) → IsKnownText ops names text → AreNoOperators ops → Says reader ops (text_of ops names (Known text)) []
   unfolding known_text text_of
-  known-says text k =
-      let store = k.store in
-      subst (λ x. Says reader ops x []) (sym k.is)
-      (says-append reader ops (says-append reader ops form-says (trust-says k.apart store.trusted k.trust)) (pairs-say k.apart store.pairs k.pairs))
+  known-says text k apart =
+      let store = k.0 in
+      subst (λ x. Says reader ops x []) (sym k.1)
+      (says-append reader ops (says-append reader ops form-says (trust-says apart store.trusted)) (pairs-say apart store.pairs))

@@ -1,8 +1,16 @@
 pub mod Saying
+pub mod Digits
 pub mod Breaks
 pub mod Parts
+pub mod Watching
+pub mod WatchedNames
+pub mod Watched
+pub mod Parted
 pub mod Endings
+pub mod Uncounted
 pub mod ReadBack
+pub mod BoxNumbers
+pub mod Limits
 pub mod Ends
 pub mod RunLines
 pub mod Quiet
@@ -19,3 +27,6 @@ pub mod Notes
 pub mod Refusals
 pub mod Kept
 pub mod Uttered
+pub mod Together
+pub mod PureGoals
+pub mod Conditions

@@ -1,5 +1,5 @@
 -- Entries whose text says nothing that is checked.
-use Rattle.std.proofs.Common.{◌≡◌, ℕ, ◌<◌, ◌^◌, List, [], ◌∷◌, ◌++◌, refl, sym, ◌∙◌, subst, append_assoc, Bool, true, false, Option, Some, None}
+use Rattle.std.proofs.Common.{◌≡◌, ℕ, List, [], ◌∷◌, ◌++◌, refl, sym, ◌∙◌, subst, append_assoc, Bool, true, false, Option, Some, None}
 use Rattle.std.specs.Prelude.{codes}
 use Rattle.std.specs.Fmt.{decimal}
 use Rattle.apd_term.specs.Names.{text_of_name}
@@ -7,7 +7,6 @@ use Rattle.apd_term.specs.declared.term.Pred.{Pred}
 use Rattle.apd_ops.specs.Table.{Table}
 use Rattle.apd_read.specs.Reader.{Reader}
 use Rattle.apd_write.specs.NameTexts.{name_text}
-use Rattle.apd_reading_back.specs.Law.{IsInRange}
 use Rattle.apd_text.specs.Causes.{indicator}
 use Rattle.apd_text.specs.Dialogues.{told_text, reason_text}
 use Rattle.apd_text.specs.Entries.{in_line, text_of, why_name}
@@ -25,18 +24,17 @@ use Rattle.apd_claims.specs.Forms.{form_in}
 use Rattle.apd_claims.specs.Saying.{is_candidate}
 use Rattle.apd_written.specs.Claims.{claims_of}
 use Rattle.apd_written.specs.Says.{HasNoBreak, Says, no_line, quiet_line}
-use Rattle.apd_written.specs.Texts.{IsFew}
 use Rattle.apd_written.proofs.Saying.{break-append}
 use Rattle.apd_written.proofs.Quiet.{other-said}
 use Rattle.apd_written.proofs.Breaks.{codes-break, decimal-break, name-break, written-break}
 
-pub indicator-break : (names : List (List ℕ)) (p : Pred) → p.arity < 2 ^ 64 → HasNoBreak (indicator names p)
-indicator-break names p l =
-    break-append (name_text (text_of_name names p.name) ++ codes "/") (decimal p.arity) (break-append (name_text (text_of_name names p.name)) (codes "/") (name-break (text_of_name names p.name)) (codes-break (codes "/") refl)) (decimal-break p.arity l)
+pub indicator-break : (names : List (List ℕ)) (p : Pred) → HasNoBreak (indicator names p)
+indicator-break names p =
+    break-append (name_text (text_of_name names p.name) ++ codes "/") (decimal p.arity) (break-append (name_text (text_of_name names p.name)) (codes "/") (name-break (text_of_name names p.name)) (codes-break (codes "/") refl)) (decimal-break p.arity)
 
-pub in_line-break : (line : Option ℕ) → IsFew line → HasNoBreak (in_line line)
-in_line-break None l = tt
-in_line-break (Some n) l = break-append (codes "line " ++ decimal n) (codes ": ") (break-append (codes "line ") (decimal n) (codes-break (codes "line ") refl) (decimal-break n l)) (codes-break (codes ": ") refl)
+pub in_line-break : (line : Option ℕ) → HasNoBreak (in_line line)
+in_line-break None = tt
+in_line-break (Some n) = break-append (codes "line " ++ decimal n) (codes ": ") (break-append (codes "line ") (decimal n) (codes-break (codes "line ") refl) (decimal-break n)) (codes-break (codes ": ") refl)
 
 -- a line that begins as none of those that are checked, by its first bytes
 abbrev pub IsQuiet : List ℕ → Type 0
@@ -90,33 +88,33 @@ module _ {names : List (List ℕ)} (reader : Reader names) (ops : Table) where
   unfolding form_in
   fails_quiet rest = (refl, refl)
 
-  pub passed-says : (line : ℕ) (p : Pred) → line < 2 ^ 64 → p.arity < 2 ^ 64 → Says reader ops (text_of ops names (PassedOver line p)) (claims_of (PassedOver line p))
+  pub passed-says : (line : ℕ) (p : Pred) → Says reader ops (text_of ops names (PassedOver line p)) (claims_of (PassedOver line p))
   unfolding text_of
-  passed-says line p l m = subst (λ t. Says reader ops (t ++ 10 ∷ []) []) (sym (append_assoc (codes "passed over: ") (in_line (Some line)) (indicator names p)))
-      (quiet (codes "passed over: ") (in_line (Some line) ++ indicator names p) passed_quiet (codes-break (codes "passed over: ") refl) (break-append (in_line (Some line)) (indicator names p) (in_line-break (Some line) l) (indicator-break names p m)))
+  passed-says line p = subst (λ t. Says reader ops (t ++ 10 ∷ []) []) (sym (append_assoc (codes "passed over: ") (in_line (Some line)) (indicator names p)))
+      (quiet (codes "passed over: ") (in_line (Some line) ++ indicator names p) passed_quiet (codes-break (codes "passed over: ") refl) (break-append (in_line (Some line)) (indicator names p) (in_line-break (Some line)) (indicator-break names p)))
 
-  pub warning-says : (line : Option ℕ) (p : Pred) → IsFew line → p.arity < 2 ^ 64 → Says reader ops (text_of ops names (Warning line p)) (claims_of (Warning line p))
+  pub warning-says : (line : Option ℕ) (p : Pred) → Says reader ops (text_of ops names (Warning line p)) (claims_of (Warning line p))
   unfolding text_of
-  warning-says line p l m =
+  warning-says line p =
       subst (λ t. Says reader ops (t ++ 10 ∷ []) []) (sym (append_assoc (codes "warning: " ++ in_line line) (codes "no clauses for ") (indicator names p) ∙ append_assoc (codes "warning: ") (in_line line) (codes "no clauses for " ++ indicator names p)))
       (quiet (codes "warning: ") (in_line line ++ (codes "no clauses for " ++ indicator names p)) warning_quiet (codes-break (codes "warning: ") refl)
-      (break-append (in_line line) (codes "no clauses for " ++ indicator names p) (in_line-break line l) (break-append (codes "no clauses for ") (indicator names p) (codes-break (codes "no clauses for ") refl) (indicator-break names p m))))
+      (break-append (in_line line) (codes "no clauses for " ++ indicator names p) (in_line-break line) (break-append (codes "no clauses for ") (indicator names p) (codes-break (codes "no clauses for ") refl) (indicator-break names p))))
 
-  pub loaded-says : (n : ℕ) → n < 2 ^ 64 → Says reader ops (text_of ops names (Loaded n)) (claims_of (Loaded n))
+  pub loaded-says : (n : ℕ) → Says reader ops (text_of ops names (Loaded n)) (claims_of (Loaded n))
   unfolding text_of
-  loaded-says n l = subst (λ t. Says reader ops t []) (append_assoc (codes "loaded: " ++ decimal n) (codes " clauses") (10 ∷ []))
+  loaded-says n = subst (λ t. Says reader ops t []) (append_assoc (codes "loaded: " ++ decimal n) (codes " clauses") (10 ∷ []))
       (subst (λ t. Says reader ops (t ++ 10 ∷ []) []) (sym (append_assoc (codes "loaded: ") (decimal n) (codes " clauses")))
-      (quiet (codes "loaded: ") (decimal n ++ codes " clauses") loaded_quiet (codes-break (codes "loaded: ") refl) (break-append (decimal n) (codes " clauses") (decimal-break n l) (codes-break (codes " clauses") refl))))
+      (quiet (codes "loaded: ") (decimal n ++ codes " clauses") loaded_quiet (codes-break (codes "loaded: ") refl) (break-append (decimal n) (codes " clauses") (decimal-break n) (codes-break (codes " clauses") refl))))
 
-  pub oracle-says : (n : ℕ) → n < 2 ^ 64 → Says reader ops (text_of ops names (OracleLoaded n)) (claims_of (OracleLoaded n))
+  pub oracle-says : (n : ℕ) → Says reader ops (text_of ops names (OracleLoaded n)) (claims_of (OracleLoaded n))
   unfolding text_of
-  oracle-says n l = subst (λ t. Says reader ops t []) (append_assoc (codes "oracle: " ++ decimal n) (codes " statements") (10 ∷ []))
+  oracle-says n = subst (λ t. Says reader ops t []) (append_assoc (codes "oracle: " ++ decimal n) (codes " statements") (10 ∷ []))
       (subst (λ t. Says reader ops (t ++ 10 ∷ []) []) (sym (append_assoc (codes "oracle: ") (decimal n) (codes " statements")))
-      (quiet (codes "oracle: ") (decimal n ++ codes " statements") oracle_quiet (codes-break (codes "oracle: ") refl) (break-append (decimal n) (codes " statements") (decimal-break n l) (codes-break (codes " statements") refl))))
+      (quiet (codes "oracle: ") (decimal n ++ codes " statements") oracle_quiet (codes-break (codes "oracle: ") refl) (break-append (decimal n) (codes " statements") (decimal-break n) (codes-break (codes " statements") refl))))
 
-  pub trace-says : (f : Filter) → IsInRange (filter_term f) → Says reader ops (text_of ops names (TraceSet f)) (claims_of (TraceSet f))
+  pub trace-says : (f : Filter) → Says reader ops (text_of ops names (TraceSet f)) (claims_of (TraceSet f))
   unfolding text_of
-  trace-says f r = quiet (codes "trace: ") (goal_text ops names (filter_term f)) trace_quiet (codes-break (codes "trace: ") refl) (written-break ops names (filter_term f) r 999)
+  trace-says f = quiet (codes "trace: ") (goal_text ops names (filter_term f)) trace_quiet (codes-break (codes "trace: ") refl) (written-break ops names (filter_term f) 999)
 
   reason-break : (r : Reason) → HasNoBreak (reason_text r)
   reason-break reason.TooLong = codes-break (codes "too long") refl
@@ -135,22 +133,22 @@ module _ {names : List (List ℕ)} (reader : Reader names) (ops : Table) where
   unanswered-says true = quiet (codes "unanswered: ") (codes "stopped") unanswered_quiet (codes-break (codes "unanswered: ") refl) (codes-break (codes "stopped") refl)
   unanswered-says false = quiet (codes "unanswered: ") (codes "input ended") unanswered_quiet (codes-break (codes "unanswered: ") refl) (codes-break (codes "input ended") refl)
 
-  pub no_end-says : (n : ℕ) → n < 2 ^ 64 → Says reader ops (text_of ops names (Symptom (NoEnd n))) (claims_of (Symptom (NoEnd n)))
+  pub no_end-says : (n : ℕ) → Says reader ops (text_of ops names (Symptom (NoEnd n))) (claims_of (Symptom (NoEnd n)))
   unfolding text_of told_text
-  no_end-says n l = subst (λ t. Says reader ops (t ++ 10 ∷ []) []) (append_assoc (codes "symptom: no end: ") (decimal n) (codes " calls"))
-      (quiet (codes "symptom: no end: ") (decimal n ++ codes " calls") no_end_quiet (codes-break (codes "symptom: no end: ") refl) (break-append (decimal n) (codes " calls") (decimal-break n l) (codes-break (codes " calls") refl)))
+  no_end-says n = subst (λ t. Says reader ops (t ++ 10 ∷ []) []) (append_assoc (codes "symptom: no end: ") (decimal n) (codes " calls"))
+      (quiet (codes "symptom: no end: ") (decimal n ++ codes " calls") no_end_quiet (codes-break (codes "symptom: no end: ") refl) (break-append (decimal n) (codes " calls") (decimal-break n) (codes-break (codes " calls") refl)))
 
-  pub reference-says : (n : ℕ) → n < 2 ^ 64 → Says reader ops (text_of ops names (ReferenceLoaded n)) (claims_of (ReferenceLoaded n))
+  pub reference-says : (n : ℕ) → Says reader ops (text_of ops names (ReferenceLoaded n)) (claims_of (ReferenceLoaded n))
   unfolding text_of
-  reference-says n l = subst (λ t. Says reader ops t []) (append_assoc (codes "reference: " ++ decimal n) (codes " clauses") (10 ∷ []))
+  reference-says n = subst (λ t. Says reader ops t []) (append_assoc (codes "reference: " ++ decimal n) (codes " clauses") (10 ∷ []))
       (subst (λ t. Says reader ops (t ++ 10 ∷ []) []) (sym (append_assoc (codes "reference: ") (decimal n) (codes " clauses")))
-      (quiet (codes "reference: ") (decimal n ++ codes " clauses") reference_quiet (codes-break (codes "reference: ") refl) (break-append (decimal n) (codes " clauses") (decimal-break n l) (codes-break (codes " clauses") refl))))
+      (quiet (codes "reference: ") (decimal n ++ codes " clauses") reference_quiet (codes-break (codes "reference: ") refl) (break-append (decimal n) (codes " clauses") (decimal-break n) (codes-break (codes " clauses") refl))))
 
-  pub holds-says : (n : ℕ) → n < 2 ^ 64 → Says reader ops (text_of ops names (CheckHolds n)) (claims_of (CheckHolds n))
+  pub holds-says : (n : ℕ) → Says reader ops (text_of ops names (CheckHolds n)) (claims_of (CheckHolds n))
   unfolding text_of
-  holds-says n l = subst (λ t. Says reader ops t []) (append_assoc (codes "check: " ++ decimal n) (codes " findings hold") (10 ∷ []))
+  holds-says n = subst (λ t. Says reader ops t []) (append_assoc (codes "check: " ++ decimal n) (codes " findings hold") (10 ∷ []))
       (subst (λ t. Says reader ops (t ++ 10 ∷ []) []) (sym (append_assoc (codes "check: ") (decimal n) (codes " findings hold")))
-      (quiet (codes "check: ") (decimal n ++ codes " findings hold") check_quiet (codes-break (codes "check: ") refl) (break-append (decimal n) (codes " findings hold") (decimal-break n l) (codes-break (codes " findings hold") refl))))
+      (quiet (codes "check: ") (decimal n ++ codes " findings hold") check_quiet (codes-break (codes "check: ") refl) (break-append (decimal n) (codes " findings hold") (decimal-break n) (codes-break (codes " findings hold") refl))))
 
   why-break : (w : Why) → HasNoBreak (why_name w)
   why-break why.Text = codes-break (codes "Text") refl
@@ -159,9 +157,9 @@ module _ {names : List (List ℕ)} (reader : Reader names) (ops : Table) where
   why-break why.Unfit = codes-break (codes "Unfit") refl
   why-break why.Finding = codes-break (codes "Finding") refl
 
-  pub fails-says : (line : ℕ) (w : Why) → line < 2 ^ 64 → Says reader ops (text_of ops names (CheckFails line w)) (claims_of (CheckFails line w))
+  pub fails-says : (line : ℕ) (w : Why) → Says reader ops (text_of ops names (CheckFails line w)) (claims_of (CheckFails line w))
   unfolding text_of
-  fails-says line w l =
+  fails-says line w =
       subst (λ t. Says reader ops (t ++ 10 ∷ []) []) (sym (append_assoc (codes "check fails: line " ++ decimal line) (codes ": ") (why_name w) ∙ append_assoc (codes "check fails: line ") (decimal line) (codes ": " ++ why_name w)))
       (quiet (codes "check fails: line ") (decimal line ++ (codes ": " ++ why_name w)) fails_quiet (codes-break (codes "check fails: line ") refl)
-      (break-append (decimal line) (codes ": " ++ why_name w) (decimal-break line l) (refl, (refl, why-break w))))
+      (break-append (decimal line) (codes ": " ++ why_name w) (decimal-break line) (refl, (refl, why-break w))))

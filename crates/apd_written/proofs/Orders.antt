@@ -1,11 +1,11 @@
 -- The line of a question about two calls says the question: their two atoms are read as the arguments of one term.
-use Rattle.std.proofs.Common.{◌≡◌, ℕ, ◌+◌, ◌<◌, ◌≤◌, max, List, [], ◌∷◌, ◌++◌, length, length-append, refl, sym, ◌∙◌, ap, subst, append_assoc, append-nil, arith, Bool, true, false, Option, Some, None}
-use Rattle.std.specs.Prelude.{codes, slice_get, IsUtf8}
+use Rattle.std.proofs.Common.{◌≡◌, ℕ, ◌+◌, ◌<◌, max, List, [], ◌∷◌, ◌++◌, length, length-append, refl, sym, ◌∙◌, ap, subst, append_assoc, append-nil, arith, Bool, true, false, Option}
+use Rattle.std.specs.Prelude.{codes, slice_get}
 use Rattle.apd_term.specs.Canonical.{canonical}
 use Rattle.apd_term.specs.Names.{text_of_name}
 use Rattle.apd_term.specs.StandardNames.{standard_names}
 use Rattle.apd_term.proofs.FirstNames.{length-standard_names}
-use Rattle.apd_term.specs.Term.{Term, Terms, compound, none, more, variables}
+use Rattle.apd_term.specs.Term.{Term, compound, none, more, variables}
 use Rattle.apd_term.specs.declared.standard.TheConstants.{BELOW, COMMA}
 use Rattle.apd_ops.specs.Table.{Table, IsTable}
 use Rattle.apd_read.specs.declared.lexeme.Lexeme.{Lexeme}
@@ -22,37 +22,34 @@ use Rattle.apd_read.specs.Reader.{Reader}
 use Rattle.apd_write.specs.NameTexts.{function_text, is_bare}
 use Rattle.apd_write.specs.Writing.{written}
 use Rattle.apd_answers.specs.declared.question.Question.TheVariants as asks
-use Rattle.apd_text.specs.Dialogues.{asked_text, atom_text}
+use Rattle.apd_text.specs.Dialogues.{asked_text}
 use Rattle.apd_reading_back.specs.Law.{AreNames, ReadsAs}
 use Rattle.apd_reading_back.specs.Levels.{levels}
-use Rattle.apd_reading_back.specs.Queries.{AreReadable, IsGoal}
+use Rattle.apd_reading_back.specs.Queries.{AreReadable}
 use Rattle.apd_reading_back.proofs.Words.{Word, Blank, Token, name_sort, StandAt, spelled, variables_in, lexed}
 use Rattle.apd_reading_back.proofs.Laid
 use Rattle.apd_reading_back.proofs.Laid.{IsName, parenthesized}
 use Rattle.apd_reading_back.proofs.Begun.{begins_by, call_begins, goes_by}
-use Rattle.apd_reading_back.proofs.Chained.{AreKept, AreChained, StartsApart, whole_chained, joined, behind_blank, before, opened, named_word}
+use Rattle.apd_reading_back.proofs.Chained.{AreKept, AreChained, whole_chained, joined, behind_blank, before, opened, named_word}
 use Rattle.apd_reading_back.proofs.Scanned.{Scanned, scan_whole, joined_at}
 use Rattle.apd_reading_back.proofs.Shown.{phrase, raised_as, both_spell, both_vars, closed_spells, closed_vars}
 use Rattle.apd_reading_back.proofs.ShownTerms.{term_shown}
 use Rattle.apd_reading_back.proofs.Texts.{no_variable, bytes_of_name}
+use Rattle.apd_reading_back.proofs.Utf8Names.{has_utf8}
+use Rattle.apd_term.proofs.Utf8Texts.{utf8_text}
 use Rattle.apd_reading_back.proofs.Read.{kept_names, stop, words_read_back, standard_text}
 use Rattle.apd_reading_back.proofs.Lexed.{lexed_stand}
 use Rattle.apd_claims.specs.declared.form.Frame.TheVariants.{Order}
-use Rattle.apd_claims.specs.Claims.{asked as asked_entry}
-use Rattle.apd_claims.specs.Reading.{as_clause, term_in}
+use Rattle.apd_claims.specs.Reading.{as_clause}
 use Rattle.apd_written.specs.Texts.{IsLineShort, IsShort, order_term, order_text}
 use Rattle.apd_written.proofs.Saying.{break-append}
 use Rattle.apd_written.proofs.Breaks.{codes-break, written-break}
-use Rattle.apd_written.proofs.Questions.{IsReadable, form-again}
+use Rattle.apd_written.proofs.Questions.{IsReadable}
 use Rattle.apd_written.proofs.ReadBack.{term-read}
 
 standard_below : text_of_name standard_names BELOW ≡ codes "below"
 unfolding standard_names
 standard_below = refl
-
-below_utf8 : IsUtf8 (codes "below")
-unfolding lib.Utf8.encode
-below_utf8 = (98 ∷ 101 ∷ 108 ∷ 111 ∷ 119 ∷ [], (refl, refl))
 
 abbrev lexeme : Sort → Bool → ℕ → Lexeme
 lexeme s spaced start = record { sort = s; spaced = spaced; start = start }
@@ -107,10 +104,10 @@ orders_read_back ops names q p table all c =
     let shallow : n + 1 < 1000 = c.shallow in
     let g = c.goals_are.0 in
     let h = c.goals_are.1.0 in
-    let s = ((term_shown ops names table kept q g.named g.utf8 g.in_range).at 999 (omega (arith, shallow))).whole in
-    let r = ((term_shown ops names table kept p h.named h.utf8 h.in_range).at 999 (omega (arith, shallow))).whole in
+    let s = ((term_shown ops names table kept q g.named (has_utf8 names kept.utf8 q) g.in_range).at 999 (omega (arith, shallow))).whole in
+    let r = ((term_shown ops names table kept p h.named (has_utf8 names kept.utf8 p) h.in_range).at 999 (omega (arith, shallow))).whole in
     let name : text_of_name names BELOW ≡ codes "below" = standard_text names BELOW (codes "below") all.standard (omega arith) standard_below in
-    let k : IsName names BELOW = record { kept = many; utf8 = subst IsUtf8 (sym name) below_utf8 } in
+    let k : IsName names BELOW = record { kept = many; utf8 = utf8_text names BELOW all.utf8 } in
     let us = s.words in
     let vs = r.words in
     let ws : List Word = Token (name_sort names BELOW) ∷ parenthesized (two_words us vs) in
@@ -167,6 +164,6 @@ module _ {names : List (List ℕ)} (reader : Reader names) (ops : Table) (table 
         read = term-read reader ops (order_text ops names a b) (order_term a b) table (orders_read_back ops names a b table all c) short;
         as_asked = λ place. refl;
         line = break-append (codes "below? " ++ wa ++ codes ", ") wb
-            (break-append (codes "below? " ++ wa) (codes ", ") (break-append (codes "below? ") wa (codes-break (codes "below? ") refl) (written-break ops names a c.goals_are.0.in_range 999)) (refl, (refl, tt)))
-            (written-break ops names b c.goals_are.1.0.in_range 999);
+            (break-append (codes "below? " ++ wa) (codes ", ") (break-append (codes "below? ") wa (codes-break (codes "below? ") refl) (written-break ops names a 999)) (refl, (refl, tt)))
+            (written-break ops names b 999);
       }

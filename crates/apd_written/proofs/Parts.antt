@@ -1,5 +1,5 @@
 -- The parts of a line that is made of parts.
-use Rattle.std.proofs.Common.{◌≡◌, ℕ, ◌<◌, ◌≤◌, ◌^◌, ◌+◌, List, [], ◌∷◌, ◌++◌, length, refl, sym, ◌∙◌, ap, subst, append_assoc, append-nil, length-append, arith, Bool, true, false, Option, Some, None}
+use Rattle.std.proofs.Common.{◌≡◌, ℕ, ◌<◌, ◌≤◌, ◌^◌, ◌+◌, List, [], ◌∷◌, ◌++◌, length, refl, sym, ◌∙◌, ap, append-nil, length-append, arith, Bool, true, false, Option, Some, None}
 use Rattle.std.specs.Prelude.{nat_eq, nat_lt, if◌then◌else◌, ◌==◌, ◌&&◌, not, codes}
 use Rattle.std.specs.Bool.{then_some}
 use Rattle.std.specs.Char.{is_ascii_digit}
@@ -14,7 +14,7 @@ use Rattle.std.proofs.lemmas.Bool.Decides.{nat_tests}
 use Rattle.std.proofs.lemmas.Fmt.{decimal_is_IsNumeral, decimal_nonempty}
 use Rattle.std.proofs.lemmas.Str.Parse.{digit_from_value}
 use Rattle.apd_base.specs.declared.limits.TheConstants.{MAX_FILE}
-use Rattle.apd_claims.specs.Parts.{Parts, Led, Counted, after, at_start, onto_part, cut, cut_last, before, last_part, number_in, number_32, led_with, led_at, led_by, uncounted, counted_if, counted_with, counted_at, counted, if_some}
+use Rattle.apd_claims.specs.Parts.{Led, after, at_start, onto_part, cut, cut_last, before, last_part, number_in, led_with, led_at, led_by, uncounted, counted_with, counted_at, counted, if_some}
 use Rattle.apd_written.specs.Texts.{IsShort}
 
 same_byte : (b : ℕ) → nat_eq b b ≡ true
@@ -82,7 +82,7 @@ cut_last-second p q ps (b ∷ text) h =
 digit_byte : (c : ℕ) → IsDigitByte 48 57 c → is_ascii_digit c ≡ true
 digit_byte c h = grind (arith, nat_tests, h)
 
-all_digits : (ds : List ℕ) → AllDigits 10 ds → list_all is_ascii_digit ds ≡ true
+pub all_digits : (ds : List ℕ) → AllDigits 10 ds → list_all is_ascii_digit ds ≡ true
 all_digits [] h = refl
 all_digits (d ∷ ds) h = ap (λ c. c && list_all is_ascii_digit ds) (digit_byte d (digit_from_value d h.0)) ∙ all_digits ds h.1
 

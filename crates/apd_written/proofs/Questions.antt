@@ -1,5 +1,5 @@
 -- The line of a question says the question in canonical form.
-use Rattle.std.proofs.Common.{◌≡◌, ℕ, ◌+◌, ◌<◌, ◌≤◌, ◌^◌, List, [], ◌∷◌, ◌++◌, length, length-append, refl, sym, ◌∙◌, ap, subst, append_assoc, append-nil, arith, Bool, true, false, Option, Some, None}
+use Rattle.std.proofs.Common.{◌≡◌, ℕ, ◌+◌, ◌<◌, ◌^◌, List, [], ◌∷◌, ◌++◌, length, length-append, refl, sym, ◌∙◌, ap, append_assoc, append-nil, arith, Option, Some, None}
 use Rattle.std.specs.Prelude.{codes}
 use Rattle.std.specs.Fmt.{decimal}
 use Rattle.apd_term.specs.Canonical.{canonical}
@@ -18,22 +18,20 @@ use Rattle.apd_text.specs.ClauseTerms.{clause_term}
 use Rattle.apd_text.specs.Dialogues.{atom_text, clause_text, asked_text, suspects_text}
 use Rattle.apd_text.specs.Lines.{goal_text}
 use Rattle.apd_text.specs.Entries.{text_of}
-use Rattle.apd_text.specs.declared.entry.Entry.{Entry}
 use Rattle.apd_text.specs.declared.entry.Entry.TheVariants as entry
 use Rattle.apd_write.specs.Writing.{written}
 use Rattle.apd_reading_back.specs.Law.{AreNames}
-use Rattle.apd_claims.specs.declared.form.Form.{Form}
 use Rattle.apd_claims.specs.declared.form.Form.TheVariants.{Framed, Unread}
 use Rattle.apd_claims.specs.declared.form.Frame.{Frame}
-use Rattle.apd_claims.specs.declared.form.Frame.TheVariants.{Truth, Cover, Order}
+use Rattle.apd_claims.specs.declared.form.Frame.TheVariants.{Truth, Cover}
 use Rattle.apd_claims.specs.declared.form.Numbered.{Numbered}
 use Rattle.apd_claims.specs.Claims.{asked as asked_entry, entry_for}
 use Rattle.apd_claims.specs.Forms.{asked_form, counted_form, form_in, kind_form}
-use Rattle.apd_claims.specs.Parts.{counted, cut, if_some}
-use Rattle.apd_claims.specs.Reading.{as_clause, term_in}
+use Rattle.apd_claims.specs.Parts.{counted, if_some, uncounted}
+use Rattle.apd_claims.specs.Reading.{term_in}
 use Rattle.apd_written.specs.Claims.{canonical_asked, claims_of}
 use Rattle.apd_written.specs.Says.{HasNoBreak, Says}
-use Rattle.apd_written.specs.Texts.{IsFewLeft, IsUncounted, IsTellable, IsClauseTellable, IsLineShort, IsShort}
+use Rattle.apd_written.specs.Texts.{IsFewLeft, IsTellable, IsClauseTellable, IsLineShort, IsShort}
 use Rattle.apd_written.proofs.Saying.{break-append}
 use Rattle.apd_written.proofs.Breaks.{codes-break, decimal-break, written-break}
 use Rattle.apd_written.proofs.Parts.{behind-short, counted-back, cut-at, decimal-has_no_high, has_no-by, number-back}
@@ -77,13 +75,13 @@ text_is ops names n x =
     ∙ append_assoc (codes "question ") d (58 ∷ 32 ∷ (a ++ (s ++ 10 ∷ [])))
     ∙ sym (ap (λ t. codes "question " ++ t) (append_assoc d (58 ∷ 32 ∷ (a ++ s)) (10 ∷ []) ∙ ap (λ t. d ++ (58 ∷ 32 ∷ t)) (append_assoc a s (10 ∷ []))))
 
-counted_as : (text : List ℕ) (suspects : Option ℕ) → IsFewLeft suspects → IsUncounted (codes " suspects]") text suspects → counted (codes " suspects]") (counted_text text suspects) ≡ record { text = text; number = suspects }
+counted_as : (text : List ℕ) (suspects : Option ℕ) → IsFewLeft suspects → counted (codes " suspects]") text ≡ uncounted text → counted (codes " suspects]") (counted_text text suspects) ≡ record { text = text; number = suspects }
 counted_as text None l u = ap (counted (codes " suspects]")) (append-nil text) ∙ u
 counted_as text (Some n) l u = ap (λ t. counted (codes " suspects]") (text ++ t)) (append_assoc (codes " [") (decimal n) (codes " suspects]")) ∙ counted-back (codes "suspects]") text n (has_no-by 91 (codes "suspects]") refl) l
 
 suspects-break : (s : Option ℕ) → IsFewLeft s → HasNoBreak (suspects_text s)
 suspects-break None k = tt
-suspects-break (Some m) k = break-append (codes " [" ++ decimal m) (codes " suspects]") (break-append (codes " [") (decimal m) (codes-break (codes " [") refl) (decimal-break m (omega (arith, k)))) (codes-break (codes " suspects]") refl)
+suspects-break (Some m) k = break-append (codes " [" ++ decimal m) (codes " suspects]") (break-append (codes " [") (decimal m) (codes-break (codes " [") refl) (decimal-break m)) (codes-break (codes " suspects]") refl)
 
 place_of : ℕ → Option ℕ → Numbered
 place_of n suspects = record { number = n; suspects = suspects }
@@ -99,7 +97,7 @@ module _ {names : List (List ℕ)} (reader : Reader names) (ops : Table) where
     pub as_asked : (place : Numbered) → entry_for (frame place) term ≡ Some (asked_entry place (canonical_question q))
     pub line : HasNoBreak (asked_text ops names q)
 
-  module _ (n : ℕ) (x : Asked) (few : n < 2 ^ 64) (l : IsFewLeft x.suspects) (u : IsUncounted (codes " suspects]") (asked_text ops names x.question) x.suspects) (r : IsReadable x.question) where
+  module _ (n : ℕ) (x : Asked) (few : n < 2 ^ 64) (l : IsFewLeft x.suspects) (u : counted (codes " suspects]") (asked_text ops names x.question) ≡ uncounted (asked_text ops names x.question)) (r : IsReadable x.question) where
     abbrev line : List ℕ
     line = question_line ops names n x.question x.suspects
 
@@ -128,7 +126,7 @@ module _ {names : List (List ℕ)} (reader : Reader names) (ops : Table) where
       entry = r.as_asked (place_of n x.suspects) ∙ ap Some entry_is;
       same = same_text;
       whole = break-append (codes "question ") (decimal n ++ (58 ∷ 32 ∷ counted_text (asked_text ops names x.question) x.suspects)) (codes-break (codes "question ") refl)
-          (break-append (decimal n) (58 ∷ 32 ∷ counted_text (asked_text ops names x.question) x.suspects) (decimal-break n few) (refl, (refl, break-append (asked_text ops names x.question) (suspects_text x.suspects) r.line (suspects-break x.suspects l))));
+          (break-append (decimal n) (58 ∷ 32 ∷ counted_text (asked_text ops names x.question) x.suspects) (decimal-break n) (refl, (refl, break-append (asked_text ops names x.question) (suspects_text x.suspects) r.line (suspects-break x.suspects l))));
       alone = refl;
     }
 
@@ -159,7 +157,7 @@ module _ {names : List (List ℕ)} (reader : Reader names) (ops : Table) where
       kind = λ place. refl;
       read = atom-read reader ops table all a t (behind-short (codes "true? ") (atom_text ops names a) 4 refl (omega (arith, short)));
       as_asked = λ place. refl;
-      line = break-append (codes "true? ") (atom_text ops names a) (codes-break (codes "true? ") refl) (written-break ops names (canonical a) t.writable.in_range 999);
+      line = break-append (codes "true? ") (atom_text ops names a) (codes-break (codes "true? ") refl) (written-break ops names (canonical a) 999);
     }
 
     pub cover_readable : (t : Tuple) → IsClauseTellable ops names t → IsLineShort (asked_text ops names (asks.Covers t)) → IsReadable (asks.Covers t)

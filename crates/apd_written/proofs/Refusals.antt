@@ -1,5 +1,5 @@
 -- Refusals, and entries that end a session, say nothing that is checked.
-use Rattle.std.proofs.Common.{◌≡◌, ℕ, ◌<◌, ◌^◌, List, [], ◌∷◌, ◌++◌, false, refl, Option, Some, None}
+use Rattle.std.proofs.Common.{◌≡◌, ℕ, List, [], ◌∷◌, ◌++◌, false, refl, Option, Some, None}
 use Rattle.std.specs.Prelude.{codes}
 use Rattle.std.specs.Fmt.{decimal, signed_decimal}
 use Rattle.apd_causes.specs.declared.faults.LoadCause.{LoadCause}
@@ -26,7 +26,6 @@ use Rattle.apd_claims.specs.Forms.{form_in}
 use Rattle.apd_claims.specs.Saying.{is_candidate}
 use Rattle.apd_written.specs.Claims.{claims_of}
 use Rattle.apd_written.specs.Says.{HasNoBreak, Says, no_line, quiet_line}
-use Rattle.apd_written.specs.Texts.{IsFew, IsFaultShown, IsCauseShown, IsRefusalShown}
 use Rattle.apd_written.proofs.Notes.{indicator-break, in_line-break}
 use Rattle.apd_written.proofs.Quiet.{other-said}
 use Rattle.apd_written.proofs.Saying.{break-append}
@@ -65,29 +64,29 @@ op-break op.Clash = codes-break (codes "Clash") refl
 around-break : (front t rest : List ℕ) → HasNoBreak front → HasNoBreak t → HasNoBreak rest → HasNoBreak (front ++ t ++ rest)
 around-break front t rest h k l = break-append (front ++ t) rest (break-append front t h k) l
 
-body-break : (names : List (List ℕ)) (f : BodyFault) → IsFaultShown f → HasNoBreak (body_text names f)
+body-break : (names : List (List ℕ)) (f : BodyFault) → HasNoBreak (body_text names f)
 unfolding body_text
-body-break names body.Dcg s = codes-break (codes "Dcg") refl
-body-break names body.NotCallable s = codes-break (codes "NotCallable") refl
-body-break names (body.HeadIsBuiltin p) s = around-break (codes "HeadIsBuiltin(") (indicator names p) (codes ")") (codes-break (codes "HeadIsBuiltin(") refl) (indicator-break names p s) (codes-break (codes ")") refl)
-body-break names body.VariableGoal s = codes-break (codes "VariableGoal") refl
-body-break names body.Cut s = codes-break (codes "Cut") refl
-body-break names body.Negation s = codes-break (codes "Negation") refl
-body-break names body.Disjunction s = codes-break (codes "Disjunction") refl
-body-break names body.IfThen s = codes-break (codes "IfThen") refl
-body-break names (body.Impure p) s = around-break (codes "Impure(") (indicator names p) (codes ")") (codes-break (codes "Impure(") refl) (indicator-break names p s) (codes-break (codes ")") refl)
-body-break names body.DcgList s = codes-break (codes "DcgList") refl
-body-break names body.DcgArity s = codes-break (codes "DcgArity") refl
-body-break names body.BodyOver s = codes-break (codes "BodyOver") refl
-body-break names body.Memory s = codes-break (codes "Memory") refl
+body-break names body.Dcg = codes-break (codes "Dcg") refl
+body-break names body.NotCallable = codes-break (codes "NotCallable") refl
+body-break names (body.HeadIsBuiltin p) = around-break (codes "HeadIsBuiltin(") (indicator names p) (codes ")") (codes-break (codes "HeadIsBuiltin(") refl) (indicator-break names p) (codes-break (codes ")") refl)
+body-break names body.VariableGoal = codes-break (codes "VariableGoal") refl
+body-break names body.Cut = codes-break (codes "Cut") refl
+body-break names body.Negation = codes-break (codes "Negation") refl
+body-break names body.Disjunction = codes-break (codes "Disjunction") refl
+body-break names body.IfThen = codes-break (codes "IfThen") refl
+body-break names (body.Impure p) = around-break (codes "Impure(") (indicator names p) (codes ")") (codes-break (codes "Impure(") refl) (indicator-break names p) (codes-break (codes ")") refl)
+body-break names body.DcgList = codes-break (codes "DcgList") refl
+body-break names body.DcgArity = codes-break (codes "DcgArity") refl
+body-break names body.BodyOver = codes-break (codes "BodyOver") refl
+body-break names body.Memory = codes-break (codes "Memory") refl
 
-cause-break : (names : List (List ℕ)) (c : LoadCause) → IsCauseShown c → HasNoBreak (cause_text names c)
+cause-break : (names : List (List ℕ)) (c : LoadCause) → HasNoBreak (cause_text names c)
 unfolding cause_text
-cause-break names (causes.Token f) s = token-break f
-cause-break names (causes.Read f) s = read-break f
-cause-break names (causes.Op c) s = op-break c
-cause-break names (causes.Body f) s = body-break names f s
-cause-break names causes.ClausesOver s = codes-break (codes "ClausesOver") refl
+cause-break names (causes.Token f) = token-break f
+cause-break names (causes.Read f) = read-break f
+cause-break names (causes.Op c) = op-break c
+cause-break names (causes.Body f) = body-break names f
+cause-break names causes.ClausesOver = codes-break (codes "ClausesOver") refl
 
 oracle_cause-break : (c : OracleCause) → HasNoBreak (oracle_cause_name c)
 unfolding oracle_cause_name
@@ -101,30 +100,30 @@ oracle_cause-break oracle.NotGround = codes-break (codes "NotGround") refl
 oracle_cause-break oracle.WrongCount = codes-break (codes "WrongCount") refl
 oracle_cause-break oracle.BuiltinFalse = codes-break (codes "BuiltinFalse") refl
 
-at_byte-break : (place : Option ℕ) → IsFew place → HasNoBreak (at_byte place)
-at_byte-break None l = tt
-at_byte-break (Some n) l = break-append (codes " at byte ") (decimal n) (codes-break (codes " at byte ") refl) (decimal-break n l)
+at_byte-break : (place : Option ℕ) → HasNoBreak (at_byte place)
+at_byte-break None = tt
+at_byte-break (Some n) = break-append (codes " at byte ") (decimal n) (codes-break (codes " at byte ") refl) (decimal-break n)
 
 -- words, and a number behind them
-number-break : (words : List ℕ) (n : ℕ) → HasNoBreak words → n < 2 ^ 64 → HasNoBreak (words ++ decimal n)
-number-break words n h l = break-append words (decimal n) h (decimal-break n l)
+number-break : (words : List ℕ) (n : ℕ) → HasNoBreak words → HasNoBreak (words ++ decimal n)
+number-break words n h = break-append words (decimal n) h (decimal-break n)
 
-refusal-break : (names : List (List ℕ)) (r : Refusal) → IsRefusalShown r → HasNoBreak (refusal_text names r)
+refusal-break : (names : List (List ℕ)) (r : Refusal) → HasNoBreak (refusal_text names r)
 unfolding refusal_text
-refusal-break names (refusal.Syntax c) s = around-break (codes "E1 syntax: ") (cause_text names c) (at_byte (cause_place c)) (codes-break (codes "E1 syntax: ") refl) (cause-break names c s.1) (at_byte-break (cause_place c) s.0)
-refusal-break names refusal.TooLong s = codes-break (codes "E2 too long") refl
-refusal-break names refusal.NotACommand s = codes-break (codes "E3 not a command") refl
-refusal-break names (refusal.GoalRefused f) s = break-append (codes "E4 goal refused: ") (body_text names f) (codes-break (codes "E4 goal refused: ") refl) (body-break names f s)
-refusal-break names refusal.NoRun s = codes-break (codes "E5 no run") refl
-refusal-break names (refusal.NoSuchBox n) s = break-append (codes "E6 no such box: ") (signed_decimal n) (codes-break (codes "E6 no such box: ") refl) (signed-break n s)
-refusal-break names (refusal.NoSuchExit n) s = break-append (codes "E7 no such exit: ") (signed_decimal n) (codes-break (codes "E7 no such exit: ") refl) (signed-break n s)
-refusal-break names (refusal.NotUserBox n) s = number-break (codes "E8 not a user box: ") n (codes-break (codes "E8 not a user box: ") refl) s
-refusal-break names (refusal.NotComplete n) s = number-break (codes "E9 not complete: ") n (codes-break (codes "E9 not complete: ") refl) s
-refusal-break names refusal.NotGround s = codes-break (codes "E10 not ground") refl
-refusal-break names refusal.NotInstance s = codes-break (codes "E11 not an instance") refl
-refusal-break names (refusal.Answered n) s = number-break (codes "E12 answered: exit ") n (codes-break (codes "E12 answered: exit ") refl) s
-refusal-break names refusal.NotStopped s = codes-break (codes "E13 not stopped by the budget") refl
-refusal-break names refusal.NoChain s = codes-break (codes "E14 no chain") refl
+refusal-break names (refusal.Syntax c) = around-break (codes "E1 syntax: ") (cause_text names c) (at_byte (cause_place c)) (codes-break (codes "E1 syntax: ") refl) (cause-break names c) (at_byte-break (cause_place c))
+refusal-break names refusal.TooLong = codes-break (codes "E2 too long") refl
+refusal-break names refusal.NotACommand = codes-break (codes "E3 not a command") refl
+refusal-break names (refusal.GoalRefused f) = break-append (codes "E4 goal refused: ") (body_text names f) (codes-break (codes "E4 goal refused: ") refl) (body-break names f)
+refusal-break names refusal.NoRun = codes-break (codes "E5 no run") refl
+refusal-break names (refusal.NoSuchBox n) = break-append (codes "E6 no such box: ") (signed_decimal n) (codes-break (codes "E6 no such box: ") refl) (signed-break n)
+refusal-break names (refusal.NoSuchExit n) = break-append (codes "E7 no such exit: ") (signed_decimal n) (codes-break (codes "E7 no such exit: ") refl) (signed-break n)
+refusal-break names (refusal.NotUserBox n) = number-break (codes "E8 not a user box: ") n (codes-break (codes "E8 not a user box: ") refl)
+refusal-break names (refusal.NotComplete n) = number-break (codes "E9 not complete: ") n (codes-break (codes "E9 not complete: ") refl)
+refusal-break names refusal.NotGround = codes-break (codes "E10 not ground") refl
+refusal-break names refusal.NotInstance = codes-break (codes "E11 not an instance") refl
+refusal-break names (refusal.Answered n) = number-break (codes "E12 answered: exit ") n (codes-break (codes "E12 answered: exit ") refl)
+refusal-break names refusal.NotStopped = codes-break (codes "E13 not stopped by the budget") refl
+refusal-break names refusal.NoChain = codes-break (codes "E14 no chain") refl
 
 -- how a refusal begins is how no line begins that is checked
 refusal-form : (names : List (List ℕ)) (r : Refusal) → form_in (refusal_text names r) ≡ Other
@@ -165,9 +164,9 @@ module _ {names : List (List ℕ)} (reader : Reader names) (ops : Table) where
   silent : (line : List ℕ) → HasNoBreak line → form_in line ≡ Other → is_candidate line ≡ false → Says reader ops (line ++ 10 ∷ []) []
   silent line whole form alone = quiet_line line (other-said reader ops line whole form alone) no_line
 
-  pub refused-says : (r : Refusal) → IsRefusalShown r → Says reader ops (text_of ops names (Refused r)) (claims_of (Refused r))
+  pub refused-says : (r : Refusal) → Says reader ops (text_of ops names (Refused r)) (claims_of (Refused r))
   unfolding text_of
-  refused-says r s = silent (refusal_text names r) (refusal-break names r s) (refusal-form names r) (refusal-alone names r)
+  refused-says r = silent (refusal_text names r) (refusal-break names r) (refusal-form names r) (refusal-alone names r)
 
   pub usage-says : Says reader ops (text_of ops names UsageRefused) (claims_of UsageRefused)
   unfolding text_of usage form_in
@@ -187,25 +186,25 @@ module _ {names : List (List ℕ)} (reader : Reader names) (ops : Table) where
   unfolding text_of form_in
   over-says = silent (codes "input limit") (codes-break (codes "input limit") refl) refl refl
 
-  pub program-says : (line : ℕ) (c : LoadCause) → line < 2 ^ 64 → IsCauseShown c → Says reader ops (text_of ops names (ProgramRefused line c)) (claims_of (ProgramRefused line c))
+  pub program-says : (line : ℕ) (c : LoadCause) → Says reader ops (text_of ops names (ProgramRefused line c)) (claims_of (ProgramRefused line c))
   unfolding text_of form_in
-  program-says line c l s = silent (codes "program refused: " ++ in_line (Some line) ++ cause_text names c)
-      (around-break (codes "program refused: ") (in_line (Some line)) (cause_text names c) (codes-break (codes "program refused: ") refl) (in_line-break (Some line) l) (cause-break names c s)) refl refl
+  program-says line c = silent (codes "program refused: " ++ in_line (Some line) ++ cause_text names c)
+      (around-break (codes "program refused: ") (in_line (Some line)) (cause_text names c) (codes-break (codes "program refused: ") refl) (in_line-break (Some line)) (cause-break names c)) refl refl
 
-  pub oracle_refused-says : (line : ℕ) (c : OracleCause) → line < 2 ^ 64 → Says reader ops (text_of ops names (OracleRefused line c)) (claims_of (OracleRefused line c))
+  pub oracle_refused-says : (line : ℕ) (c : OracleCause) → Says reader ops (text_of ops names (OracleRefused line c)) (claims_of (OracleRefused line c))
   unfolding text_of form_in
-  oracle_refused-says line c l = silent (codes "oracle refused: " ++ in_line (Some line) ++ oracle_cause_name c)
-      (around-break (codes "oracle refused: ") (in_line (Some line)) (oracle_cause_name c) (codes-break (codes "oracle refused: ") refl) (in_line-break (Some line) l) (oracle_cause-break c)) refl refl
+  oracle_refused-says line c = silent (codes "oracle refused: " ++ in_line (Some line) ++ oracle_cause_name c)
+      (around-break (codes "oracle refused: ") (in_line (Some line)) (oracle_cause_name c) (codes-break (codes "oracle refused: ") refl) (in_line-break (Some line)) (oracle_cause-break c)) refl refl
 
-  pub reference_refused-says : (line : ℕ) (c : LoadCause) → line < 2 ^ 64 → IsCauseShown c → Says reader ops (text_of ops names (ReferenceRefused line c)) (claims_of (ReferenceRefused line c))
+  pub reference_refused-says : (line : ℕ) (c : LoadCause) → Says reader ops (text_of ops names (ReferenceRefused line c)) (claims_of (ReferenceRefused line c))
   unfolding text_of form_in
-  reference_refused-says line c l s = silent (codes "reference refused: " ++ in_line (Some line) ++ cause_text names c)
-      (around-break (codes "reference refused: ") (in_line (Some line)) (cause_text names c) (codes-break (codes "reference refused: ") refl) (in_line-break (Some line) l) (cause-break names c s)) refl refl
+  reference_refused-says line c = silent (codes "reference refused: " ++ in_line (Some line) ++ cause_text names c)
+      (around-break (codes "reference refused: ") (in_line (Some line)) (cause_text names c) (codes-break (codes "reference refused: ") refl) (in_line-break (Some line)) (cause-break names c)) refl refl
 
-  pub demo-says : (nodes questions clause : ℕ) → nodes < 2 ^ 64 → questions < 2 ^ 64 → clause < 2 ^ 64 → Says reader ops (text_of ops names (Demo nodes questions clause)) (claims_of (Demo nodes questions clause))
+  pub demo-says : (nodes questions clause : ℕ) → Says reader ops (text_of ops names (Demo nodes questions clause)) (claims_of (Demo nodes questions clause))
   unfolding text_of form_in
-  demo-says nodes questions clause l m n =
-      let first = around-break (codes "demo: ") (decimal nodes) (codes " nodes, ") (codes-break (codes "demo: ") refl) (decimal-break nodes l) (codes-break (codes " nodes, ") refl) in
-      let second = around-break (codes "demo: " ++ decimal nodes ++ codes " nodes, ") (decimal questions) (codes " questions, clause ") first (decimal-break questions m) (codes-break (codes " questions, clause ") refl) in
+  demo-says nodes questions clause =
+      let first = around-break (codes "demo: ") (decimal nodes) (codes " nodes, ") (codes-break (codes "demo: ") refl) (decimal-break nodes) (codes-break (codes " nodes, ") refl) in
+      let second = around-break (codes "demo: " ++ decimal nodes ++ codes " nodes, ") (decimal questions) (codes " questions, clause ") first (decimal-break questions) (codes-break (codes " questions, clause ") refl) in
       silent (codes "demo: " ++ decimal nodes ++ codes " nodes, " ++ decimal questions ++ codes " questions, clause " ++ decimal clause)
-      (number-break (codes "demo: " ++ decimal nodes ++ codes " nodes, " ++ decimal questions ++ codes " questions, clause ") clause second n) refl refl
+      (number-break (codes "demo: " ++ decimal nodes ++ codes " nodes, " ++ decimal questions ++ codes " questions, clause ") clause second) refl refl

@@ -1,6 +1,6 @@
 -- The line of a reply says the reply.
-use Rattle.std.proofs.Common.{◌≡◌, ℕ, ◌+◌, ◌<◌, ◌≤◌, List, [], ◌∷◌, ◌++◌, length, refl, sym, ◌∙◌, ap, subst, append_assoc, append-nil, length-append, arith, Bool, true, false, Option, Some, None}
-use Rattle.std.specs.Prelude.{codes, IsUtf8}
+use Rattle.std.proofs.Common.{◌≡◌, ℕ, ◌+◌, ◌<◌, List, [], ◌∷◌, ◌++◌, length, refl, sym, ◌∙◌, ap, subst, append_assoc, append-nil, length-append, arith, Bool, true, false, Option, Some, None}
+use Rattle.std.specs.Prelude.{codes}
 use Rattle.std.specs.Fmt.{decimal}
 use Rattle.std.specs.Option.{option_map, option_and_then}
 use Rattle.apd_term.specs.Canonical.{canonical}
@@ -21,23 +21,22 @@ use Rattle.apd_text.specs.Entries.{text_of}
 use Rattle.apd_text.specs.declared.entry.Entry.TheVariants as entry
 use Rattle.apd_answers.specs.declared.question.Reply.{Reply}
 use Rattle.apd_answers.specs.declared.question.Reply.TheVariants.{Yes, No, Values, Unknown}
-use Rattle.apd_reading_back.specs.Law.{AreNames, IsInRange, IsWritable, ReadsAs, item_text}
+use Rattle.apd_reading_back.specs.Law.{AreNames, IsWritable, ReadsAs, item_text}
 use Rattle.apd_reading_back.specs.Queries.{call_text, call_term}
 use Rattle.apd_reading_back.proofs.Goals.{calls_read_back}
-use Rattle.apd_reading_back.proofs.Read.{items_read_back, standard_text, kept_names}
-use Rattle.apd_claims.specs.declared.form.Form.{Form}
+use Rattle.apd_reading_back.proofs.Read.{items_read_back, standard_text}
 use Rattle.apd_claims.specs.declared.form.Form.TheVariants.{Framed}
 use Rattle.apd_claims.specs.declared.form.Frame.TheVariants.{Reply as Answer}
-use Rattle.apd_claims.specs.Claims.{entry_for, replied, reply_in}
+use Rattle.apd_claims.specs.Claims.{replied, reply_in}
 use Rattle.apd_claims.specs.Forms.{form_in, framed_reply, reply_form}
-use Rattle.apd_claims.specs.Parts.{before, counted, cut_last, if_some, last_part, uncounted}
+use Rattle.apd_claims.specs.Parts.{before, counted, if_some, last_part}
 use Rattle.apd_claims.specs.Reading.{as_clause, term_in}
 use Rattle.apd_written.specs.Claims.{claims_of}
 use Rattle.apd_written.specs.Says.{HasNoBreak, Says}
 use Rattle.apd_written.specs.Texts.{AreTellable, IsWordReply, IsFewLeft, IsShort}
 use Rattle.apd_written.proofs.Saying.{break-append}
 use Rattle.apd_written.proofs.Breaks.{codes-break, decimal-break, written-break}
-use Rattle.apd_written.proofs.Parts.{HasNo, before-end, behind-short, counted-back, cut_last-second, decimal-has_no, has_no-append, has_no-by, line-short}
+use Rattle.apd_written.proofs.Parts.{HasNo, before-end, counted-back, cut_last-second, decimal-has_no, has_no-append, has_no-by, line-short}
 use Rattle.apd_written.proofs.Endings.{EndsIn, ends-append, ends-behind, last-apart, not_before, not_counted, two-apart}
 use Rattle.apd_written.proofs.ReadBack.{term-read}
 use Rattle.apd_written.proofs.Entries.{IsFramed, framed-says}
@@ -57,18 +56,6 @@ standard_no = refl
 standard_unknown : text_of_name standard_names UNKNOWN ≡ codes "unknown"
 unfolding standard_names
 standard_unknown = refl
-
-yes_utf8 : IsUtf8 (codes "yes")
-unfolding lib.Utf8.encode
-yes_utf8 = (121 ∷ 101 ∷ 115 ∷ [], (refl, refl))
-
-no_utf8 : IsUtf8 (codes "no")
-unfolding lib.Utf8.encode
-no_utf8 = (110 ∷ 111 ∷ [], (refl, refl))
-
-unknown_utf8 : IsUtf8 (codes "unknown")
-unfolding lib.Utf8.encode
-unknown_utf8 = (117 ∷ 110 ∷ 107 ∷ 110 ∷ 111 ∷ 119 ∷ 110 ∷ [], (refl, refl))
 
 -- a word that stands alone
 abbrev word_term : NameId → Term
@@ -100,7 +87,7 @@ text_is ops names r left given =
 
 left-break : (left : Option ℕ) → IsFewLeft left → HasNoBreak (left_text left)
 left-break None l = tt
-left-break (Some n) l = break-append (codes " [" ++ decimal n) (codes " left]") (break-append (codes " [") (decimal n) (codes-break (codes " [") refl) (decimal-break n (omega (arith, l)))) (codes-break (codes " left]") refl)
+left-break (Some n) l = break-append (codes " [" ++ decimal n) (codes " left]") (break-append (codes " [") (decimal n) (codes-break (codes " [") refl) (decimal-break n)) (codes-break (codes " left]") refl)
 
 giver-break : (given : Bool) → HasNoBreak (giver_text given)
 giver-break true = codes-break (codes " (reference)") refl
@@ -161,10 +148,10 @@ module _ {names : List (List ℕ)} (reader : Reader names) (ops : Table) (table 
   many : (f : NameId) → f.0 < 132 → f.0 < length names
   many f l = omega (arith, l, ap (length {A = List ℕ}) all.standard.1, length-append standard_names all.standard.0, length-standard_names)
 
-  word_read : (f : NameId) (bytes : List ℕ) → f.0 < 132 → text_of_name standard_names f ≡ bytes → IsUtf8 bytes → name_text bytes ≡ bytes → IsShort (as_clause bytes) → term_in reader ops bytes ≡ Some (word_term f)
-  word_read f bytes l e u n short =
+  word_read : (f : NameId) (bytes : List ℕ) → f.0 < 132 → text_of_name standard_names f ≡ bytes → name_text bytes ≡ bytes → IsShort (as_clause bytes) → term_in reader ops bytes ≡ Some (word_term f)
+  word_read f bytes l e n short =
       let text : text_of_name names f ≡ bytes = standard_text names f bytes all.standard l e in
-      let w : IsWritable names (word_term f) = record { named = (many f l, tt); utf8 = (subst IsUtf8 (sym text) u, tt); canonical = refl; in_range = (omega arith, tt) } in
+      let w : IsWritable names (word_term f) = record { named = (many f l, tt); canonical = refl; in_range = (omega arith, tt) } in
       let back : ReadsAs ops names (item_text ops names (word_term f) 999) (word_term f) = items_read_back ops names (word_term f) 999 table all w (omega arith) (omega arith) in
       let same : item_text ops names (word_term f) 999 ≡ as_clause bytes = ap (λ t. t ++ codes " .") (ap name_text text ∙ n) in
       term-read reader ops bytes (word_term f) table (subst (λ t. ReadsAs ops names t (word_term f)) same back) short
@@ -177,9 +164,9 @@ module _ {names : List (List ℕ)} (reader : Reader names) (ops : Table) (table 
 
   reply_read : (r : Reply) → IsWordReply r → IsReadReply r
   unfolding reply_text
-  reply_read Yes w = record { term = word_term YES; read = word_read YES (codes "yes") (omega arith) standard_yes yes_utf8 refl (omega arith); is = refl }
-  reply_read No w = record { term = word_term NO; read = word_read NO (codes "no") (omega arith) standard_no no_utf8 refl (omega arith); is = refl }
-  reply_read Unknown w = record { term = word_term UNKNOWN; read = word_read UNKNOWN (codes "unknown") (omega arith) standard_unknown unknown_utf8 refl (omega arith); is = refl }
+  reply_read Yes w = record { term = word_term YES; read = word_read YES (codes "yes") (omega arith) standard_yes refl (omega arith); is = refl }
+  reply_read No w = record { term = word_term NO; read = word_read NO (codes "no") (omega arith) standard_no refl (omega arith); is = refl }
+  reply_read Unknown w = record { term = word_term UNKNOWN; read = word_read UNKNOWN (codes "unknown") (omega arith) standard_unknown refl (omega arith); is = refl }
   reply_read (Values vs) w = absurd w
 
   -- Values, as a list that is ground.
@@ -189,7 +176,7 @@ module _ {names : List (List ℕ)} (reader : Reader names) (ops : Table) (table 
   values_read vs v short =
       let l = list_term vs in
       let name : text_of_name names YES ≡ codes "yes" = standard_text names YES (codes "yes") all.standard (omega arith) standard_yes in
-      let back = calls_read_back ops names YES l table all (record { kept = many YES (omega arith); utf8 = subst IsUtf8 (sym name) yes_utf8 }) v.writable v.shallow in
+      let back = calls_read_back ops names YES l table all (many YES (omega arith)) v.writable v.shallow in
       let text : call_text ops names YES l ++ codes " ." ≡ as_clause (codes "yes(" ++ written ops names (canonical l) 999 ++ codes ")") =
       ap (λ f. (function_text f ++ in_parentheses (written ops names l 999)) ++ codes " .") name ∙ ap (λ x. (codes "yes(" ++ written ops names x 999 ++ codes ")") ++ codes " .") (sym v.writable.canonical) in
       record {
@@ -202,7 +189,7 @@ module _ {names : List (List ℕ)} (reader : Reader names) (ops : Table) (table 
   unfolding reply_text
   values-break vs v =
       let t = written ops names (canonical (list_term vs)) 999 in
-      break-append (codes "yes(" ++ t) (codes ")") (break-append (codes "yes(") t (codes-break (codes "yes(") refl) (written-break ops names (canonical (list_term vs)) (subst IsInRange (sym v.writable.canonical) v.writable.in_range) 999)) (codes-break (codes ")") refl)
+      break-append (codes "yes(" ++ t) (codes ")") (break-append (codes "yes(") t (codes-break (codes "yes(") refl) (written-break ops names (canonical (list_term vs)) 999)) (codes-break (codes ")") refl)
 
   framed : (r : Reply) (left : Option ℕ) (given : Bool) → IsParted ops names r left → IsReadReply r → HasNoBreak (reply_text ops names r) → IsFewLeft left
       → IsFramed reader ops (reply_line ops names r left given) (entry.Replied r left given)

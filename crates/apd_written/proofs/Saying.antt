@@ -1,5 +1,5 @@
 -- Texts that say something, one behind another.
-use Rattle.std.proofs.Common.{◌≡◌, ℕ, List, [], ◌∷◌, ◌++◌, refl, sym, ◌∙◌, ap, subst, append_assoc, Bool, true, false}
+use Rattle.std.proofs.Common.{◌≡◌, ℕ, List, [], ◌∷◌, ◌++◌, refl, sym, ◌∙◌, ap, subst, append_assoc, Bool}
 use Rattle.std.specs.Prelude.{if◌then◌else◌}
 use Rattle.apd_console.specs.Lines.{lines_of, onto_first}
 use Rattle.apd_ops.specs.Table.{Table}

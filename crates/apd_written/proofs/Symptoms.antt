@@ -1,21 +1,17 @@
 -- The line of a symptom says that its atom isn't true, or that it is.
 use Rattle.std.proofs.Common.{◌≡◌, ◌+◌, ℕ, List, ◌++◌, length, refl, ◌∙◌, ap, arith, Bool, true, false, Some}
 use Rattle.std.specs.Prelude.{codes}
-use Rattle.std.specs.Option.{option_map}
 use Rattle.apd_term.specs.Canonical.{canonical}
 use Rattle.apd_term.specs.Term.{Term}
-use Rattle.apd_causes.specs.declared.reading.Read.{Read}
 use Rattle.apd_ops.specs.Table.{Table, IsTable}
 use Rattle.apd_read.specs.Reader.{Reader}
-use Rattle.apd_answers.specs.declared.question.Question.TheVariants as asks
-use Rattle.apd_answers.specs.declared.question.Reply.TheVariants.{Yes, No}
 use Rattle.apd_text.specs.Dialogues.{atom_text, told_text}
 use Rattle.apd_text.specs.Entries.{text_of}
 use Rattle.apd_text.specs.declared.entry.Entry.TheVariants.{Symptom}
 use Rattle.apd_text.specs.declared.entry.Told.TheVariants.{Wrong, Missing}
-use Rattle.apd_reading_back.specs.Law.{AreNames, item_text}
+use Rattle.apd_reading_back.specs.Law.{AreNames}
 use Rattle.apd_reading_back.proofs.Read.{items_read_back}
-use Rattle.apd_claims.specs.declared.claim.Claim.TheVariants.{Tells, Garbled}
+use Rattle.apd_claims.specs.declared.claim.Claim.TheVariants.{Garbled}
 use Rattle.apd_claims.specs.declared.form.Form.TheVariants as forms
 use Rattle.apd_claims.specs.Claims.{told}
 use Rattle.apd_claims.specs.Forms.{form_in}
@@ -37,7 +33,7 @@ module _ {names : List (List ℕ)} (reader : Reader names) (ops : Table) (table 
   atom-read a t short = term-read reader ops (atom_text ops names a) (canonical a) table (items_read_back ops names (canonical a) 999 table all t.writable (omega arith) t.shallow) short
 
   pub atom-break : (a : Term) → IsTellable ops names a → HasNoBreak (atom_text ops names a)
-  atom-break a t = written-break ops names (canonical a) t.writable.in_range 999
+  atom-break a t = written-break ops names (canonical a) 999
 
   wrong_form : (t : List ℕ) → form_in (codes "symptom: not true: " ++ t) ≡ forms.Symptom false t
   unfolding form_in

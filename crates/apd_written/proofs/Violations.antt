@@ -1,6 +1,6 @@
 -- The line of a call that isn't below its caller says it.
-use Rattle.std.proofs.Common.{◌≡◌, ℕ, ◌+◌, ◌<◌, ◌≤◌, List, [], ◌∷◌, ◌++◌, length, refl, sym, ◌∙◌, ap, subst, append_assoc, append-nil, arith, Bool, true, false, Option, Some, None}
-use Rattle.std.specs.Prelude.{◌^◌, codes, if◌then◌else◌, nat_le}
+use Rattle.std.proofs.Common.{◌≡◌, ℕ, ◌+◌, ◌<◌, ◌≤◌, List, [], ◌∷◌, ◌++◌, length, refl, sym, ◌∙◌, ap, subst, append_assoc, arith, true, Option, Some, None}
+use Rattle.std.specs.Prelude.{codes, if◌then◌else◌}
 use Rattle.std.specs.Fmt.{decimal}
 use Rattle.std.specs.Option.{option_map, option_and_then, option_or}
 use Rattle.std.proofs.lemmas.Bool.{le-leb}
@@ -17,24 +17,26 @@ use Rattle.apd_text.specs.Lines.{goal_text}
 use Rattle.apd_text.specs.Entries.{text_of}
 use Rattle.apd_text.specs.declared.entry.Entry.{Entry}
 use Rattle.apd_text.specs.declared.entry.Entry.TheVariants as entry
-use Rattle.apd_claims.specs.declared.claim.Claim.{Claim}
 use Rattle.apd_claims.specs.declared.claim.Claim.TheVariants.{Finds}
 use Rattle.apd_claims.specs.declared.form.Calling.{Calling}
-use Rattle.apd_claims.specs.declared.form.Form.{Form}
 use Rattle.apd_claims.specs.declared.form.Form.TheVariants.{Call, Unread}
 use Rattle.apd_claims.specs.declared.boxes.Quote.TheVariants.{Outside}
-use Rattle.apd_claims.specs.Claims.{call_at, call_between, call_claim, call_entry, called, or_garbled, written}
+use Rattle.apd_claims.specs.declared.claim.Claim.{Claim}
+use Rattle.apd_claims.specs.Claims.{call_between, call_claim, call_entry, may_end, or_garbled, written}
 use Rattle.apd_claims.specs.Forms.{call_line_form, caller_form, form_in, goal_form, with_newline}
-use Rattle.apd_claims.specs.Parts.{Boxed, Led, at_start, after, boxed_in, cut_last, first_made, if_some, led_by, onto_part}
+use Rattle.apd_claims.specs.Parts.{Led, at_start, after, boxed_in, boxed_where, cut_last, if_some, led_by, onto_part}
 use Rattle.apd_claims.specs.Reading.{as_clause, term_in}
 use Rattle.apd_claims.specs.Saying.{claim_by}
 use Rattle.apd_written.specs.Claims.{claims_of}
 use Rattle.apd_written.specs.Says.{HasNoBreak, Says, no_line, one_line}
-use Rattle.apd_written.specs.Texts.{IsShort, IsTellable}
-use Rattle.apd_written.specs.Uttered.{IsViolationTellable}
+use Rattle.apd_written.specs.Texts.{IsShort}
+use Rattle.apd_written.specs.Uttered.{BoxIsNoPrefix, IsViolationTellable}
 use Rattle.apd_written.proofs.Saying.{break-append}
 use Rattle.apd_written.proofs.Breaks.{codes-break, decimal-break, written-break}
-use Rattle.apd_written.proofs.Parts.{HasNo, cut_last-at, cut_last-second, decimal-has_no, has_no-append, as-short, behind-two, drop-front, drop-rest, led-high, led-low, line-short}
+use Rattle.apd_written.proofs.Parts.{HasNo, cut_last-at, cut_last-second, decimal-has_no, has_no-append, as-short, behind-two, drop-front, drop-rest, led, led-high, led-low, line-short}
+use Rattle.apd_written.proofs.Watching.{Free, free_start}
+use Rattle.apd_written.proofs.Watched.{written-end}
+use Rattle.apd_written.proofs.Parted.{boxed-parted}
 use Rattle.apd_written.proofs.Entries.{written-back}
 use Rattle.apd_written.proofs.Symptoms.{atom-read}
 
@@ -147,19 +149,19 @@ module _ (ops : Table) (names : List (List ℕ)) (clause line goal a b : ℕ) wh
         let g = decimal goal ++ (codes ": " ++ r) in
         let l = decimal line ++ (codes ", goal " ++ g) in
         break-append (codes "bug: call not below its caller: clause ") (decimal clause ++ (codes ", line " ++ l)) (codes-break (codes "bug: call not below its caller: clause ") refl)
-        (break-append (decimal clause) (codes ", line " ++ l) (decimal-break clause (omega (arith, lc)))
+        (break-append (decimal clause) (codes ", line " ++ l) (decimal-break clause)
         (break-append (codes ", line ") l (codes-break (codes ", line ") refl)
-        (break-append (decimal line) (codes ", goal " ++ g) (decimal-break line (omega (arith, ll)))
+        (break-append (decimal line) (codes ", goal " ++ g) (decimal-break line)
         (break-append (codes ", goal ") g (codes-break (codes ", goal ") refl)
-        (break-append (decimal goal) (codes ": " ++ r) (decimal-break goal (omega (arith, lg))) (refl, (refl, h)))))))
+        (break-append (decimal goal) (codes ": " ++ r) (decimal-break goal) (refl, (refl, h)))))))
 
     boxed-break : (q p : List ℕ) → HasNoBreak q → HasNoBreak p → HasNoBreak (boxed_text q b p a)
     boxed-break q p h k =
         break-append (called_text q b p) (codes " (box " ++ (decimal a ++ codes ")"))
         (break-append q (codes " (box " ++ (decimal b ++ (codes ") called by " ++ p))) h
         (break-append (codes " (box ") (decimal b ++ (codes ") called by " ++ p)) (codes-break (codes " (box ") refl)
-        (break-append (decimal b) (codes ") called by " ++ p) (decimal-break b (omega (arith, lb))) (break-append (codes ") called by ") p (codes-break (codes ") called by ") refl) k))))
-        (break-append (codes " (box ") (decimal a ++ codes ")") (codes-break (codes " (box ") refl) (break-append (decimal a) (codes ")") (decimal-break a (omega (arith, la))) (refl, tt)))
+        (break-append (decimal b) (codes ") called by " ++ p) (decimal-break b) (break-append (codes ") called by ") p (codes-break (codes ") called by ") refl) k))))
+        (break-append (codes " (box ") (decimal a ++ codes ")") (codes-break (codes " (box ") refl) (break-append (decimal a) (codes ")") (decimal-break a) (refl, tt)))
 
 -- both atoms are short where the line is
 atoms-short : (clause line goal a b : ℕ) (q p : List ℕ) → IsShort (with_front clause line goal (boxed_text q b p a)) → IsShort (as_clause q) × IsShort (as_clause p)
@@ -176,7 +178,7 @@ atoms-short clause line goal a b q p short =
       as-short p (drop-front 2 (codes ") called by ") p (drop-front 2 (decimal b) (codes ") called by " ++ p) (drop-front 2 (codes " (box ") behind_q (drop-front 2 q (codes " (box " ++ behind_q) called)))),
     )
 
-module _ {names : List (List ℕ)} (reader : Reader names) (ops : Table) (clause line goal a b : ℕ) (p q : Term) (table : IsTable ops) (all : AreNames names) (v : IsViolationTellable ops names clause line goal a b p q) where
+module _ {names : List (List ℕ)} (reader : Reader names) (ops : Table) (clause line goal a b : ℕ) (p q : Term) (table : IsTable ops) (all : AreNames names) (apart : BoxIsNoPrefix ops names) (v : IsViolationTellable ops names clause line goal a b p q) where
   abbrev whole : List ℕ
   whole = whole_of ops names clause line goal a b p q
 
@@ -189,14 +191,18 @@ module _ {names : List (List ℕ)} (reader : Reader names) (ops : Table) (clause
   abbrev inner_text : List ℕ
   inner_text = called_text (atom_text ops names q) b (atom_text ops names p)
 
+  -- the atoms are parted where they were written
+  parted : boxed_in Outside inner_text ≡ Some (record { front = atom_text ops names q; led = led b (atom_text ops names p) })
+  parted = boxed-parted b v.callee_few (atom_text ops names p) (atom_text ops names q) Free (written-end true ops names all (λ e. apart) (canonical q) v.what.writable.named v.what.writable.in_range 999 Free free_start)
+
   call-said : IsShort whole → call_claim reader ops whole made inner_text ≡ Finds (Violation clause goal a b (canonical p) (canonical q)) line
   call-said short =
       let s = atoms-short clause line goal a b (atom_text ops names q) (atom_text ops names p) short in
-      ap (λ c. or_garbled (if c then first_made (call_at reader ops (with_newline whole) made) (codes " (box ") [] inner_text else option_and_then (call_between reader ops (with_newline whole) made) (boxed_in Outside inner_text))) v.box
-      ∙ ap (λ o. or_garbled (option_and_then (call_between reader ops (with_newline whole) made) o)) v.parted
-      ∙ ap (λ o. or_garbled (option_and_then (written ops names (with_newline whole)) (if_some o (λ callee. option_map (call_entry made b callee) (term_in reader ops (atom_text ops names p))) None))) (atom-read reader ops table all q v.what s.0)
-      ∙ ap (λ o. or_garbled (option_and_then (written ops names (with_newline whole)) (option_map (call_entry made b (canonical q)) o))) (atom-read reader ops table all p v.by s.1)
-      ∙ ap or_garbled (written-back ops names (with_newline whole) found (same_text ops names clause line goal a b p q))
+      let other : Option Claim = option_and_then (call_between reader ops (with_newline whole) made) (boxed_where (may_end reader ops) Outside [] inner_text) in
+      ap (λ o. or_garbled (option_or (option_and_then (call_between reader ops (with_newline whole) made) o) other)) parted
+      ∙ ap (λ o. or_garbled (option_or (option_and_then (written ops names (with_newline whole)) (if_some o (λ callee. option_map (call_entry made b callee) (term_in reader ops (atom_text ops names p))) None)) other)) (atom-read reader ops table all q v.what s.0)
+      ∙ ap (λ o. or_garbled (option_or (option_and_then (written ops names (with_newline whole)) (option_map (call_entry made b (canonical q)) o)) other)) (atom-read reader ops table all p v.by s.1)
+      ∙ ap (λ o. or_garbled (option_or o other)) (written-back ops names (with_newline whole) found (same_text ops names clause line goal a b p q))
 
   pub violation-says : IsShort (text_of ops names (entry.Found (Violation clause goal a b p q) line))
       → Says reader ops (text_of ops names (entry.Found (Violation clause goal a b p q) line)) (claims_of (entry.Found (Violation clause goal a b p q) line))
@@ -210,7 +216,7 @@ module _ {names : List (List ℕ)} (reader : Reader names) (ops : Table) (clause
       (one_line whole
       (record {
         whole = front-break ops names clause line goal a b lc ll v.goal_few la lb (boxed_text (atom_text ops names q) b (atom_text ops names p) a)
-            (boxed-break ops names clause line goal a b lc ll v.goal_few la lb (atom_text ops names q) (atom_text ops names p) (written-break ops names (canonical q) v.what.writable.in_range 999) (written-break ops names (canonical p) v.by.writable.in_range 999));
+            (boxed-break ops names clause line goal a b lc ll v.goal_few la lb (atom_text ops names q) (atom_text ops names p) (written-break ops names (canonical q) 999) (written-break ops names (canonical p) 999));
         alone = refl;
         says = λ in_group lines. ap (claim_by reader ops in_group whole lines) (form ops names clause line goal a b lc ll v.goal_few la lb (atom_text ops names q) (atom_text ops names p))
             ∙ call-said (line-short whole (subst IsShort is short));

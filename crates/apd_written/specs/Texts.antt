@@ -1,5 +1,5 @@
 -- When the texts of entries say what they are meant to.
-use Rattle.std.specs.Prelude.{◌≡◌, ℕ, ◌+◌, ◌<◌, ◌≤◌, ◌^◌, ⊤, Bool, false, List, ◌∷◌, ◌++◌, codes, length, Option, None, Some, IfSome}
+use Rattle.std.specs.Prelude.{◌≡◌, ℕ, ◌+◌, ◌<◌, ◌≤◌, ◌^◌, ⊤, false, List, ◌∷◌, ◌++◌, codes, length, Option, None, IfSome}
 use Rattle.std.specs.List.{AllByRecursion}
 use Rattle.apd_term.specs.Canonical.{canonical}
 use Rattle.apd_term.specs.Term.{Term, compound, none, more, predicate_of}
@@ -7,17 +7,10 @@ use Rattle.apd_term.specs.Tuple.{canonical_tuple}
 use Rattle.apd_term.specs.declared.instance.Instance.{Instance}
 use Rattle.apd_term.specs.declared.tuple.Tuple.{Tuple}
 use Rattle.apd_term.specs.declared.standard.TheConstants.{BELOW, COMMA, NECK}
-use Rattle.apd_base.specs.declared.limits.TheConstants.{MAX_FILE}
+use Rattle.apd_base.specs.declared.limits.TheConstants.{MAX_FILE, MOST_SHOWN}
 use Rattle.apd_causes.specs.declared.run.Query.{Query}
 use Rattle.apd_causes.specs.declared.run.RunEnd.{RunEnd}
 use Rattle.apd_causes.specs.declared.run.RunEnd.TheVariants.{Exhausted, Budget, AnswerLimit, Error}
-use Rattle.apd_causes.specs.declared.faults.BodyFault.{BodyFault}
-use Rattle.apd_causes.specs.declared.faults.BodyFault.TheVariants as body
-use Rattle.apd_causes.specs.declared.faults.LoadCause.{LoadCause}
-use Rattle.apd_causes.specs.declared.faults.LoadCause.TheVariants as causes
-use Rattle.apd_text.specs.Causes.{cause_place}
-use Rattle.apd_text.specs.declared.entry.Refusal.{Refusal}
-use Rattle.apd_text.specs.declared.entry.Refusal.TheVariants as refusal
 use Rattle.apd_clauses.specs.Bodies.{body_fault}
 use Rattle.apd_clauses.specs.Kinds.{◌∕◌}
 use Rattle.apd_clauses.specs.Predicates.{is_pred}
@@ -25,15 +18,12 @@ use Rattle.apd_answers.specs.declared.question.Reply.{Reply}
 use Rattle.apd_answers.specs.declared.question.Reply.TheVariants.{Yes, No, Values, Unknown}
 use Rattle.apd_ops.specs.Table.{Table}
 use Rattle.apd_write.specs.Writing.{written}
-use Rattle.apd_ports.specs.declared.hook.Shown.{Shown}
-use Rattle.apd_ports.specs.declared.hook.Shown.TheVariants.{Port as ShownPort, Answer as ShownAnswer}
 use Rattle.apd_text.specs.ClauseTerms.{clause_term, list_term}
-use Rattle.apd_text.specs.Lines.{elements, goals_of}
-use Rattle.apd_trace.specs.Run.{Run, shown_of, ran_of}
-use Rattle.apd_reading_back.specs.Law.{IsWord, IsInRange, IsWritable}
+use Rattle.apd_text.specs.Lines.{goals_of}
+use Rattle.apd_trace.specs.Run.{Run, ran_of}
+use Rattle.apd_reading_back.specs.Law.{IsWritable}
 use Rattle.apd_reading_back.specs.Levels.{levels}
 use Rattle.apd_reading_back.specs.Queries.{IsAskable}
-use Rattle.apd_claims.specs.Parts.{counted, uncounted}
 use Rattle.apd_claims.specs.Sayable.{IsShown}
 use Rattle.apd_written.specs.Says.{HasNoBreak}
 
@@ -65,20 +55,23 @@ IsFewBoxes Budget = ⊤
 IsFewBoxes AnswerLimit = ⊤
 IsFewBoxes (Error e b) = b < 2 ^ 32
 
--- what is shown has numbers of 64 bits, and terms whose numbers are those of symbols
-abbrev pub IsShowable : Shown → Type 0
-IsShowable (ShownPort e) = (e.box_no < 2 ^ 64) × (e.depth < 2 ^ 64) × IsInRange e.atom
-IsShowable (ShownAnswer a) = AllByRecursion IsInRange (elements a)
-
--- a query and its run: all of it can be printed, and what is checked of it is read back
-pub record IsTold (ops : Table) (names : List (List ℕ)) (q : Query) (r : Run) : Type 0 where
-  pub query : IsPrintable ops names q
-  pub goals : AllByRecursion IsInRange (goals_of q)
+-- a query can be printed and read back, and the names of its variables can be printed
+pub record IsAsked (ops : Table) (names : List (List ℕ)) (q : Query) : Type 0 where
+  pub goals : IsPrintable ops names q
   pub variables : AllByRecursion HasNoBreak q.vars
-  pub count : 1 + length (shown_of r.passed) < 2 ^ 64
-  pub lines : AllByRecursion IsShowable (shown_of r.passed)
+
+-- a query and its run: what is checked of it is read back
+pub record IsTold (ops : Table) (names : List (List ℕ)) (q : Query) (r : Run) : Type 0 where
+  pub query : IsAsked ops names q
   pub counts : IsShown (ran_of r)
   pub boxes : IsFewBoxes r.end
+
+-- how many ports and answers a run may have
+pub record AreAllowed (budget answers : ℕ) : Type 0 where
+  pub some_ports : 0 < budget
+  pub few_ports : budget ≤ MOST_SHOWN
+  pub some_answers : 0 < answers
+  pub few_answers : answers ≤ MOST_SHOWN
 
 -- the atom in canonical form can be written as an argument and read back
 pub record IsTellable (ops : Table) (names : List (List ℕ)) (a : Term) : Type 0 where
@@ -108,40 +101,10 @@ pub record IsInstanceTellable (ops : Table) (names : List (List ℕ)) (c : Insta
   pub few : c.clause < 2 ^ 32
   pub clause : IsClauseTellable ops names c.tuple
 
--- without a number behind it, the text isn't taken for one that has a number
-abbrev pub IsUncounted : List ℕ → List ℕ → Option ℕ → Type 0
-IsUncounted word text None = counted word text ≡ uncounted text
-IsUncounted word text (Some n) = ⊤
-
--- a number, where there is one, of 64 bits
-abbrev pub IsFew : Option ℕ → Type 0
-IsFew line = IfSome line (λ n. n < 2 ^ 64)
-
 -- values, as one list, can be written as an argument and read back
 pub record AreTellable (ops : Table) (names : List (List ℕ)) (values : List Term) : Type 0 where
   pub writable : IsWritable names (list_term values)
   pub shallow : levels ops (list_term values) 999 + 1 < 1000
-
--- a predicate that a fault names has as many arguments as 64 bits can tell
-abbrev pub IsFaultShown : BodyFault → Type 0
-IsFaultShown (body.HeadIsBuiltin p) = p.arity < 2 ^ 64
-IsFaultShown (body.Impure p) = p.arity < 2 ^ 64
-IsFaultShown f = ⊤
-
-abbrev pub IsCauseShown : LoadCause → Type 0
-IsCauseShown (causes.Body f) = IsFaultShown f
-IsCauseShown c = ⊤
-
--- the numbers that a refusal has are of 64 bits
-abbrev pub IsRefusalShown : Refusal → Type 0
-IsRefusalShown (refusal.Syntax c) = IsFew (cause_place c) × IsCauseShown c
-IsRefusalShown (refusal.GoalRefused f) = IsFaultShown f
-IsRefusalShown (refusal.NoSuchBox n) = IsWord n
-IsRefusalShown (refusal.NoSuchExit n) = IsWord n
-IsRefusalShown (refusal.NotUserBox n) = n < 2 ^ 64
-IsRefusalShown (refusal.NotComplete n) = n < 2 ^ 64
-IsRefusalShown (refusal.Answered n) = n < 2 ^ 64
-IsRefusalShown r = ⊤
 
 -- the two atoms of a question about calls as the arguments of one term, and the text that is read as this term
 abbrev pub order_term : Term → Term → Term

@@ -9,7 +9,7 @@ ghost use Rattle.apd_ops.specs.Table.{IsTable, Table};
 ghost use Rattle.apd_ports.specs.declared.filter.Filter.{Filter};
 ghost use Rattle.apd_query.specs.Runs.{run_text};
 ghost use Rattle.apd_read.specs.Reader.{Reader};
-ghost use Rattle.apd_reading_back.specs.Law.{AreNames, IsInRange, ReadsAs};
+ghost use Rattle.apd_reading_back.specs.Law.{AreNames, ReadsAs};
 ghost use Rattle.apd_reading_back.specs.Queries.{AreReadable};
 ghost use Rattle.apd_talk.specs.Utterance.{Utterance, entries_of, texts_of};
 ghost use Rattle.apd_term.specs.Term.{Term};
@@ -20,11 +20,11 @@ ghost use Rattle.apd_write.specs.Writing.{written};
 ghost use Rattle.apd_written.specs.Claims.{all_claims, claims_of, query_written};
 ghost use Rattle.apd_written.specs.Says.{HasNoBreak, Says};
 ghost use Rattle.apd_written.specs.Texts.{IsShort, IsTold, order_term, order_text};
-ghost use Rattle.apd_written.specs.Uttered.{AllUttered, AllWritten, IsPlainEntry, IsWritten};
+ghost use Rattle.apd_written.specs.Uttered.{AllUttered, AllWritten, AreCallsApart, BoxIsNoPrefix, IsCallFound, IsPlainEntry, IsWritten};
 
 /// No newline stands in what is written of a term.
 pub fn a_written_term_is_on_one_line()
-    ensures { (ops : Table) (names : List (List ℕ)) (t : Term) → IsInRange t → (place : ℕ) →
+    ensures { (ops : Table) (names : List (List ℕ)) (t : Term) (place : ℕ) →
         HasNoBreak (written ops names t place) }
 {}
 
@@ -48,18 +48,20 @@ pub fn runs_say_their_query_and_end()
 /// The text of each other entry says what the entry claims, in canonical form, and nothing else.
 pub fn entries_say_their_claims()
     ensures { (names : List (List ℕ)) (reader : Reader names) (ops : Table)
-        (program : List Clause) (e : Entry) →
-        IsTable ops → AreNames names → IsPlainEntry e → IsWritten ops names program e →
+        (e : Entry) →
+        IsTable ops → AreNames names → IsPlainEntry ops names e → IsWritten ops names e →
+        (IsCallFound e → BoxIsNoPrefix ops names) →
         IsShort (text_of ops names e) →
         Says reader ops (text_of ops names e) (claims_of e) }
 {}
 
-/// What is uttered says the claims of its entries, where their terms can be written and read back, and their numbers are those
-/// that are kept.
+/// What is uttered says the claims of its entries, where their terms and the numbers that are read again can be written and read
+/// back. `box` is no prefix operator where a call is told that isn't below its caller.
 pub fn what_is_uttered_says_its_claims()
     ensures { (names : List (List ℕ)) (reader : Reader names) (ops : Table) (program : List Clause)
         (us : List (Utterance Entry)) →
         IsTable ops → AreNames names → AllUttered ops names program us →
-        AllWritten ops names program (entries_of us) → IsShort (texts_of us) →
+        AllWritten ops names (entries_of us) → AreCallsApart ops names (entries_of us) →
+        IsShort (texts_of us) →
         Says reader ops (texts_of us) (all_claims (entries_of us)) }
 {}

@@ -1,5 +1,5 @@
 -- A demonstration: the lines that are known were heard, and it says what it came to.
-use Rattle.std.proofs.Common.{◌≡◌, ◌≤◌, inl, inr, ℕ, zero, suc, ◌+◌, ◌<◌, true, false, List, [], ◌∷◌, drop, length, refl, sym, ap, ◌∙◌, subst, Option, Some, None, arith}
+use Rattle.std.proofs.Common.{◌≡◌, ◌≢◌, ◌≤◌, inl, inr, ℕ, zero, suc, ◌+◌, ◌<◌, true, false, List, [], ◌∷◌, drop, length, refl, sym, ap, ◌∙◌, subst, Option, Some, None, arith}
 use Rattle.std.specs.Prelude.{◌-◌, Result, Ok, Err, IfSome, map, slice_get, slice_index_or}
 use Rattle.apd_answers.specs.declared.finding.Finding.{Finding}
 use Rattle.apd_answers.specs.declared.question.Asked.{Asked}
@@ -42,7 +42,7 @@ none_rose : (a b : ℕ) → a ≡ 0 → b ≡ 0 → Rose a b → ⊥
 none_rose a b first second rose = omega (arith, first, second, rose)
 
 -- the lines that are known were heard, and no others
-pub heard_known : (ops : Table) (start : Start) (before : List (List ℕ)) (p q : Streams) (log : Log) (st : Status) → p.left ≡ Some demo_lines → p.read_faults ≡ 0 → q.read_faults ≡ 0 → GoesOn (hears ops start) before p q log st
+pub heard_known : (ops : Table) (start : Start) (before : List (List ℕ)) (p q : Streams) (log : Log) (st : Status) → p.left.bytes ≡ Some demo_lines → p.read_faults ≡ 0 → q.read_faults ≡ 0 → GoesOn (hears ops start) before p q log st
     → (names : List (List ℕ)) → Grown log.names names → (reader : Reader names) → IsSaid st (hears_lines reader ops start demo_lines Ended) log p.held q.held
 heard_known ops start before p q log st known first second goes names grew reader =
     let some = (goes.answers names grew reader).0 in
@@ -191,6 +191,15 @@ pub shown_rose : (r : Result (Unit {0}) Trouble) (before now : ℕ) → HasWrite
 shown_rose (Ok t) before now cause is = absurd (cc)
 shown_rose (Err trouble.WriteFault) before now cause is = cause.0
 shown_rose (Err trouble.Memory) before now cause is = absurd (cc)
+
+-- and no other
+pub shown_writes : (r : Result (Unit {0}) Trouble) (before now : ℕ) → HasWriteCause before now r → status_shown r ≢ statuses.WriteFault → now ≡ before
+shown_writes (Ok t) before now cause not = cause
+shown_writes (Err trouble.WriteFault) before now cause not = absurd (not refl)
+shown_writes (Err trouble.Memory) before now cause not = cause
+
+pub done_writes : (st : Status) → is_done st ≡ true → st ≢ statuses.WriteFault
+done_writes st is e = let f : is_done statuses.WriteFault ≡ true = ap is_done (sym e) ∙ is in let g : false ≡ true = f in cc
 
 -- where the tree is asked first, the session may begin too
 last_asks : (n nodes : ℕ) (s : State) (last : Option LastRun) → IfSome last (IsRunOf n s) → IfSome last (IsRunOf n (asks_tree nodes s))

@@ -1,22 +1,12 @@
 -- What a session says is right: by its lines, and then for the whole.
-use Rattle.std.proofs.Common.{◌≡◌, ℕ, Bool, true, false, List, [], ◌∷◌, ◌++◌, Option, Some, None, Result, Ok, Err, refl, sym, ◌∙◌, ap, subst, append_assoc, length}
-use Rattle.std.specs.Prelude.{All, if◌then◌else◌, slice_get, ℤ}
-use Rattle.apd_causes.specs.declared.faults.BodyFault.{BodyFault}
-use Rattle.apd_causes.specs.declared.reading.Read.{Read}
-use Rattle.apd_causes.specs.declared.run.Query.{Query}
-use Rattle.apd_term.specs.Term.{Term, arguments, predicate_of}
-use Rattle.apd_term.specs.declared.term.Pred.{Pred}
-use Rattle.apd_term.specs.declared.standard.TheConstants.{KNOWN, LOOP, MISSING, QUERY, QUIT, TRACE, WRONG}
+use Rattle.std.proofs.Common.{◌≡◌, ℕ, Bool, true, false, List, [], ◌∷◌, ◌++◌, Option, Some, None, refl, sym, ◌∙◌, ap, subst, append_assoc, length}
+use Rattle.std.specs.Prelude.{if◌then◌else◌, slice_get}
 use Rattle.apd_clauses.specs.declared.clause.Clause.{Clause}
-use Rattle.apd_clauses.specs.Clauses.{IsAtom, IsProgram, is_pred}
-use Rattle.apd_clauses.specs.Kinds.{◌∕◌}
-use Rattle.apd_clauses.specs.Queries.{query_from}
-use Rattle.apd_clauses.proofs.Asked.{query_is_pure}
-use Rattle.apd_clauses.proofs.Indexing.{same_pred-true}
-use Rattle.apd_clauses.proofs.Pure.{goals_are_atoms}
+use Rattle.apd_clauses.specs.Clauses.{IsProgram}
 use Rattle.apd_console.specs.Lines.{Close, InputEnd, hear, Ended}
 use Rattle.apd_console.specs.declared.line.Line.{Line}
-use Rattle.apd_answers.specs.Repliers.{RepliesFit, nobody}
+use Rattle.apd_answers.specs.Repliers.{nobody}
+use Rattle.apd_answers.specs.declared.question.Question.{Question}
 use Rattle.apd_answers.specs.Fitting.{AllFit}
 use Rattle.apd_answers.specs.Interpretation.{Interpretation}
 use Rattle.apd_answers.specs.Store.{Store}
@@ -25,8 +15,6 @@ use Rattle.apd_load.specs.declared.Note.{Note}
 use Rattle.apd_ops.specs.Table.{Table}
 use Rattle.apd_read.specs.Reader.{Reader}
 use Rattle.apd_lines.specs.Lines.{line_in}
-use Rattle.apd_lines.specs.declared.lines.LineRead.{LineRead}
-use Rattle.apd_lines.specs.declared.lines.LineRead.TheVariants as lines
 use Rattle.apd_talk.specs.Talk.{Step, onto, run, replies}
 use Rattle.apd_talk.specs.declared.talk.Ending.TheVariants.{Done}
 use Rattle.apd_talk.specs.Utterance.{Utterance, entries_of}
@@ -34,14 +22,10 @@ use Rattle.apd_talk.proofs.Uttering.{entries_of-append}
 use Rattle.apd_talk.specs.Speech.{plain}
 use Rattle.apd_text.specs.declared.entry.Entry.{Entry}
 use Rattle.apd_text.specs.declared.entry.Entry.TheVariants.{CheckFails, CheckHolds, FileTooLong, InputFault, Loaded, OracleRefused, ProgramRefused, ReferenceLoaded, ReferenceRefused, UsageRefused, Found}
-use Rattle.apd_text.specs.declared.entry.Refusal.TheVariants.{NotACommand}
 use Rattle.apd_account.specs.Account.{Account, after_entries, account_with}
 use Rattle.apd_account.specs.Right.{AreRight, IsRight}
 use Rattle.apd_account.proofs.Fronts.{right-append}
-use Rattle.apd_commands.specs.Filters.{filter_at, trace_asked}
-use Rattle.apd_ports.specs.declared.filter.Filter.{Filter}
-use Rattle.apd_commands.specs.Commands.{command_in, command_of, integer_at, missing_asked, query_asked, term_asked, wrong_asked}
-use Rattle.apd_commands.specs.declared.commands.Command.TheVariants as command
+use Rattle.apd_commands.specs.Commands.{command_in}
 use Rattle.apd_oracle.specs.Replies.{spoken_of}
 use Rattle.apd_oracle.proofs.Fitting.{reply_fits}
 use Rattle.apd_query.specs.declared.state.State.{State}
@@ -64,62 +48,12 @@ use Rattle.apd_session.specs.declared.opening.Opening.{Opening}
 use Rattle.apd_session.specs.declared.opening.Opening.TheVariants.{Unloaded, Closed, Open}
 use Rattle.apd_session.specs.declared.opening.Stop.{Stop}
 use Rattle.apd_session.specs.declared.notes.Noted.{Noted}
-use Rattle.apd_session.proofs.Openings.{IsLastWord, askable-fits, opening_has, verdict-last}
+use Rattle.apd_session.proofs.Openings.{IsAlone, IsAskable, IsLastWord, askable-fits, askable-marks, opening_has, verdict-last}
 use Rattle.apd_session.specs.Steps.{Situation, Waiting, ForCommand, ForWrong, ForMissing, ForLoop, ready_in, remarks, step_for, talker}
 use Rattle.apd_session.specs.declared.notes.Noted.TheVariants as noted
 use Rattle.apd_session.proofs.Commanding.{closing-right, command-step}
+use Rattle.apd_session.proofs.Given.{query_atoms}
 use Rattle.apd_session.proofs.Righting.{IsMode, Stands, IsStep, loop_reply-step, missing_reply-step, wrong_reply-step}
-
--- A query that is asked has atoms as its goals.
-
-query_in : (r : Result Query BodyFault) (q : Query) → query_asked r ≡ command.Query q → r ≡ Ok q
-query_in (Err fault) q is = absurd (cc)
-query_in (Ok p) q is = cc
-
-not_wrong : (b k : Option ℤ) (q : Query) → wrong_asked b k ≡ command.Query q → ⊥
-not_wrong None k q is = cc
-not_wrong (Some b) None q is = cc
-not_wrong (Some b) (Some k) q is = cc
-
-not_missing : (b : Option ℤ) (a : Option Term) (q : Query) → missing_asked b a ≡ command.Query q → ⊥
-not_missing None a q is = cc
-not_missing (Some b) None q is = cc
-not_missing (Some b) (Some a) q is = cc
-
-not_trace : (f : Option Filter) (q : Query) → trace_asked f ≡ command.Query q → ⊥
-not_trace None q is = cc
-not_trace (Some f) q is = cc
-
-is_predicate : (o : Option Pred) (p : Pred) → is_pred o p ≡ true → o ≡ Some p
-is_predicate None p is = absurd (cc)
-is_predicate (Some x) p is = ap Some (same_pred-true x p is)
-
-term_atoms : (r : Read) (q : Query) → term_asked r (predicate_of r.term) ≡ command.Query q → All IsAtom q.tuple.body
-term_atoms r q is =
-    by (is_pred (predicate_of r.term) (QUIT ∕ 0)) (is_pred (predicate_of r.term) (QUERY ∕ 1)) (is_pred (predicate_of r.term) (WRONG ∕ 2)) (is_pred (predicate_of r.term) (MISSING ∕ 2)) (is_pred (predicate_of r.term) (LOOP ∕ 0)) (is_pred (predicate_of r.term) (TRACE ∕ 1)) (is_pred (predicate_of r.term) (KNOWN ∕ 0)) refl is
-  where
-    by : (a b c d e f g : Bool) → is_pred (predicate_of r.term) (QUERY ∕ 1) ≡ b
-        → (if a then command.Quit else (if b then query_asked (query_from r) else (if c then wrong_asked (integer_at r.term 0) (integer_at r.term 1)
-        else (if d then missing_asked (integer_at r.term 0) (slice_get (arguments r.term) 1) else (if e then command.Loop else (if f then trace_asked (filter_at r.term) else (if g then command.Known else command.Refused NotACommand))))))) ≡ command.Query q
-        → All IsAtom q.tuple.body
-    by true b c d e f g asks h = absurd (cc)
-    by false true c d e f g asks h = goals_are_atoms q.tuple.body (query_is_pure r q (is_predicate (predicate_of r.term) (QUERY ∕ 1) asks) (query_in (query_from r) q h))
-    by false false true d e f g asks h = absurd (not_wrong (integer_at r.term 0) (integer_at r.term 1) q h)
-    by false false false true e f g asks h = absurd (not_missing (integer_at r.term 0) (slice_get (arguments r.term) 1) q h)
-    by false false false false true f g asks h = absurd (cc)
-    by false false false false false true g asks h = absurd (not_trace (filter_at r.term) q h)
-    by false false false false false false true asks h = absurd (cc)
-    by false false false false false false false asks h = absurd (cc)
-
-line_atoms : (line : LineRead) (q : Query) → command_of line ≡ command.Query q → All IsAtom q.tuple.body
-line_atoms lines.Empty q is = absurd (cc)
-line_atoms lines.TooLong q is = absurd (cc)
-line_atoms (lines.Bad cause) q is = absurd (cc)
-line_atoms (lines.Clause r) q is = term_atoms r q is
-
-query_atoms : {names : List (List ℕ)} (reader : Reader names) (ops : Table) (line : Line) (q : Query) → command_in reader ops line ≡ command.Query q → All IsAtom q.tuple.body
-unfolding command_in
-query_atoms reader ops line q is = line_atoms (line_in reader ops line) q is
 
 append_twice : {X : Type 0} (xs ys zs us : List X) → (xs ++ (ys ++ zs)) ++ us ≡ xs ++ (ys ++ (zs ++ us))
 append_twice {X} xs ys zs us = append_assoc xs (ys ++ zs) us ∙ ap (λ (l : List X). xs ++ l) (append_assoc ys zs us)
@@ -173,15 +107,15 @@ last_word-right m program strategy a InputFault last = tt
 last_word-right m program strategy a e last = absurd last
 
 -- a tree is asked first, whose replies aren't marked
-pub tree_stands : (m : Interpretation) (program : List Clause) (is : IsProgram program) (strategy : Strategy) (nodes : ℕ) (s : State) (a : Account) → Stands m program is strategy (ready_in s) a → Stands m program is strategy (ready_in (asks_tree nodes s)) a
-tree_stands m program is strategy nodes s a h = record {
+pub tree_stands : (m : Interpretation) (program : List Clause) (is : IsProgram program) (strategy : Strategy) (nodes : ℕ) (s : State) (a : Account) → ((q : Question) → a.replies q ≡ None) → Stands m program is strategy (ready_in s) a → Stands m program is strategy (ready_in (asks_tree nodes s)) a
+tree_stands m program is strategy nodes s a none h = record {
   state = record {
     program_is = h.state.program_is;
     strategy_is = h.state.strategy_is;
     store_is = h.state.store_is;
     fit = h.state.fit;
     his = tree_fits (nodes_in nodes s.program);
-    marks = λ e. absurd (cc);
+    marks = none;
     last = h.state.last;
   };
   mode = h.mode;
@@ -246,23 +180,23 @@ module _ (m : Interpretation) (program : List Clause) (is : IsProgram program) (
       by e = tt
 
   -- the lines of the input are heard, or the tree is demonstrated
-  pub started-right : (verdict : Checked) (input : List ℕ) (ends : InputEnd) (b : Beginning) (s : State) (a : Account) (course : Course) → Stands m program is strategy (ready_in s) a
+  pub started-right : (verdict : Checked) (input : List ℕ) (ends : InputEnd) (b : Beginning) (s : State) (a : Account) (course : Course) → IsAlone course a.replies → Stands m program is strategy (ready_in s) a
       → Right a (transcript_of reader (Open ops (record { beginning = b; state = s }) course) verdict input ends).utterances
-  started-right verdict input ends b s a Hears h = heard-right input ends b s a h
-  started-right verdict input ends b s a (Plays nodes) h =
+  started-right verdict input ends b s a Hears alone h = heard-right input ends b s a h
+  started-right verdict input ends b s a (Plays nodes) alone h =
       let us = (hears_lines reader ops (record { beginning = b; state = asks_tree nodes s }) demo_lines Ended).utterances in
       let es = entries_of us in
-      both-right a us (map (plain ops names) (outcome_of nodes es)) (heard-right demo_lines Ended b (asks_tree nodes s) a (tree_stands m program is strategy nodes s a h))
+      both-right a us (map (plain ops names) (outcome_of nodes es)) (heard-right demo_lines Ended b (asks_tree nodes s) a (tree_stands m program is strategy nodes s a alone h))
       (outcome-right (after_entries program strategy a es) nodes (questions_in es) (slice_get es (length es - 1)))
-  started-right verdict input ends b s a (Checks text) h =
+  started-right verdict input ends b s a (Checks text) alone h =
       before-right a b (plain ops names (verdict_stop verdict).said ∷ []) (last_word-right m program strategy a (verdict_stop verdict).said (verdict-last verdict), tt)
 
 -- Each session.
 
-pub first_stands : (m : Interpretation) (options : Options) (program : List Clause) (store : Store) (referee : Referee) (is : IsProgram program) → AllFit store → RepliesFit (replies_of referee)
+pub first_stands : (m : Interpretation) (options : Options) (program : List Clause) (store : Store) (referee : Referee) (is : IsProgram program) → AllFit store → IsAskable referee
     → Stands m program is options.strategy (ready_in (first_state program options store referee)) (account_with (replies_of referee) store)
-first_stands m options program store referee is fit his = record {
-  state = record { program_is = refl; strategy_is = refl; store_is = refl; fit = fit; his = his; marks = λ e. refl; last = (refl, tt) };
+first_stands m options program store referee is fit may = record {
+  state = record { program_is = refl; strategy_is = refl; store_is = refl; fit = fit; his = askable-fits referee may; marks = askable-marks referee may; last = (refl, tt) };
   mode = refl;
 }
 
@@ -277,13 +211,13 @@ module _ (m : Interpretation) {names : List (List ℕ)} (reader : Reader names) 
   closed-right ops b why last = λ verdict input ends program strategy known.
       beginning-right m program strategy names ops (account_with nobody known) b (plain ops names why.said ∷ []) (last_word-right m program strategy (account_with nobody known) why.said last, tt)
 
-  opened-right : (options : Options) (program : List Clause) (ops : Table) (b : Beginning) (store : Store) (referee : Referee) (course : Course) → IsProgram program → AllFit store → RepliesFit (replies_of referee)
+  opened-right : (options : Options) (program : List Clause) (ops : Table) (b : Beginning) (store : Store) (referee : Referee) (course : Course) → IsProgram program → AllFit store → IsAskable referee → IsAlone course (replies_of referee)
       → RightOpening (Open ops (record { beginning = b; state = first_state program options store referee }) course)
-  opened-right options program ops b store referee course is fit his = λ verdict input ends.
-      started-right m program is options.strategy names reader ops verdict input ends b (first_state program options store referee) (account_with (replies_of referee) store) course (first_stands m options program store referee is fit his)
+  opened-right options program ops b store referee course is fit may alone = λ verdict input ends.
+      started-right m program is options.strategy names reader ops verdict input ends b (first_state program options store referee) (account_with (replies_of referee) store) course alone (first_stands m options program store referee is fit may)
 
   -- whatever the loads of files give
   pub session-right : (words : List (List ℕ)) (world : World) → AreRightFor m (entries_of (session_of words reader world).utterances) (opening_of reader world.files (options_of words))
   session-right words world =
       opening_has RightOpening reader world.files unloaded-right (λ ops b why table last. closed-right ops b why last)
-      (λ options program ops b store referee course is table fit may. opened-right options program ops b store referee course is fit (askable-fits referee may)) words world.verdict world.input world.ends
+      (λ options program ops b store referee course is table fit may alone. opened-right options program ops b store referee course is fit may alone) words world.verdict world.input world.ends

@@ -56,7 +56,7 @@ use Rattle.apd_account.proofs.Diagnosing.{AsksRightly, IsKnownTree, RightTurn, W
 use Rattle.apd_commands.specs.Commands.{command_in}
 use Rattle.apd_commands.specs.declared.commands.Command.{Command}
 use Rattle.apd_commands.specs.declared.commands.Command.TheVariants as command
-use Rattle.apd_debug.specs.Steps.{after_turn, closing_asked, goes_on, goes_within, most_in_a_row, referred_then, replied, replied_then, turn_within}
+use Rattle.apd_debug.specs.Steps.{after_turn, closing_asked, goes_on, goes_within, left_off, most_in_a_row, referred_then, replied, replied_then, turn_within}
 use Rattle.apd_query.specs.Runs.{said_for, run_said}
 use Rattle.apd_query.specs.declared.state.LastRun.{LastRun}
 use Rattle.apd_query.specs.declared.state.State.{State}
@@ -77,7 +77,7 @@ use Rattle.apd_session.specs.declared.opening.Stop.{Stop}
 use Rattle.apd_check.specs.declared.checked.Checked.{Checked}
 use Rattle.apd_session.specs.declared.opening.Course.{Course}
 use Rattle.apd_session.specs.declared.opening.Course.TheVariants.{Hears, Plays, Checks}
-use Rattle.apd_session.proofs.Openings.{askable-fits, IsLastWord, opening_has, verdict-last}
+use Rattle.apd_session.proofs.Openings.{IsAlone, IsAskable, IsLastWord, opening_has, verdict-last}
 use Rattle.apd_session.specs.Flow.{Due, Nothing, Move, Reply as Waits_for, due_after, Flows}
 use Rattle.apd_session.proofs.Courses.{IsKnownGoal, IsKnownLoop, IsLoopEnd, goal_left, loop_begins, missing_begins}
 use Rattle.apd_session.proofs.Exiting.{exit_of-exits}
@@ -127,10 +127,18 @@ module _ (m : Interpretation) (program : List Clause) (is : IsProgram program) (
         let st = goes_on b (told_on m program is strategy state s store a asked next r h fits) (w.known r fits) in
         record { flows = (Move, refl, st.flows); quits = st.quits }
 
+    -- a question that waits, or at which the diagnosis ends
+    left_off-flows : (ops : Table) (names : List (List ℕ)) (s : State) (store : Store) (count : ℕ) (a : Account) (asked : Asked) (next : Reply → D) (o : Option Reply) → AsksRightly strategy Known left state a.history a.store a.symptom asked next
+        → StepFlows Move (left_off (first_word s.referee) (d.diagnosis s) (d.found s) (situation d s) ops names store count asked next o)
+    left_off-flows ops names s store count a asked next None t = turn-flows ops names s store count a (asks asked next) t
+    left_off-flows ops names s store count a asked next (Some r) t = record { flows = (Waits_for, refl, (Nothing, refl, refl)); quits = λ e. absurd (cc) }
+
     -- a turn, and the turns after it as long as there are replies without a line
     within-flows : (k : ℕ) (ops : Table) (names : List (List ℕ)) (s : State) (store : Store) (count : ℕ) (a : Account) (turn : Turn D E) → IsTold m program is strategy s store a
         → RightTurn strategy Known left state IsEnd a.history a.store a.symptom turn → StepFlows Move (turn_within (first_word s.referee) (d.diagnosis s) (d.found s) (situation d s) ops names k store count turn)
-    within-flows zero ops names s store count a turn h t = turn-flows ops names s store count a turn t
+    within-flows zero ops names s store count a (goes y) h t = absurd t
+    within-flows zero ops names s store count a (ends e) h t = turn-flows ops names s store count a (ends e) t
+    within-flows zero ops names s store count a (asks asked next) h t = left_off-flows ops names s store count a asked next (replies_of s.referee asked.question) t
     within-flows (suc k) ops names s store count a (goes y) h t = absurd t
     within-flows (suc k) ops names s store count a (ends e) h t = turn-flows ops names s store count a (ends e) t
     within-flows (suc k) ops names s store count a (asks asked next) h t =
@@ -260,11 +268,11 @@ module _ (m : Interpretation) (program : List Clause) (is : IsProgram program) (
         by : (mode : Waiting) → IsMode m program is strategy mode a → StepFlows (due_of mode) (step_for reader ops s.state mode line)
         by ForCommand k = command-flows ops names s.state a (command_in reader ops line) h.state
         by (ForWrong asked next) k =
-            reply-flows by_wrong (IsKnownTree (tuples_of program)) wrong_left (IsByReplies (tuples_of program)) OfWrong loop_ends.Found (wrong_rightly m program is strategy) (λ asked next. refl) (λ s f. refl) ops names s.state a asked next (spoken_of asked (line_in reader ops line)) (λ r e. reply_fits asked (line_in reader ops line) r e) h.state k
+            reply-flows by_wrong (IsKnownTree (tuples_of program)) wrong_left (IsByReplies (tuples_of program)) OfWrong loop_ends.Found (wrong_rightly m program is strategy) (λ asked next. refl) (λ s f. refl) ops names s.state a asked next (spoken_of asked (line_in reader ops line)) (λ r e. reply_fits asked (line_in reader ops line) r e) h.state k.waits
         by (ForMissing asked next) k =
-            reply-flows by_missing (IsKnownGoal (tuples_of program)) goal_left (IsByReplies (tuples_of program)) OfMissing loop_ends.Found (missing_rightly m program is strategy) (λ asked next. refl) (λ s f. refl) ops names s.state a asked next (spoken_of asked (line_in reader ops line)) (λ r e. reply_fits asked (line_in reader ops line) r e) h.state k
+            reply-flows by_missing (IsKnownGoal (tuples_of program)) goal_left (IsByReplies (tuples_of program)) OfMissing loop_ends.Found (missing_rightly m program is strategy) (λ asked next. refl) (λ s f. refl) ops names s.state a asked next (spoken_of asked (line_in reader ops line)) (λ r e. reply_fits asked (line_in reader ops line) r e) h.state k.waits
         by (ForLoop asked next) k =
-            reply-flows by_loop (IsKnownLoop (tuples_of program)) left_in (IsLoopEnd (tuples_of program)) OfLoop (λ e. e) (loop_rightly m program is strategy) (λ asked next. refl) loop-closes ops names s.state a asked next (spoken_of asked (line_in reader ops line)) (λ r e. reply_fits asked (line_in reader ops line) r e) h.state k
+            reply-flows by_loop (IsKnownLoop (tuples_of program)) left_in (IsLoopEnd (tuples_of program)) OfLoop (λ e. e) (loop_rightly m program is strategy) (λ asked next. refl) loop-closes ops names s.state a asked next (spoken_of asked (line_in reader ops line)) (λ r e. reply_fits asked (line_in reader ops line) r e) h.state k.waits
 
     lines-flow : (s : Situation) (a : Account) (input : List Line) (close : Close) → Stands m program is strategy s a → Flows (due_of s.mode) (entries_of (run (talker reader ops) s input close).utterances) Nothing
     lines-flow s a [] close h = closing-flows ops names s.mode close
@@ -360,7 +368,7 @@ module _ {names : List (List ℕ)} (reader : Reader names) where
   closed-flows : (ops : Table) (b : Beginning) (why : Stop) → IsLastWord why.said → OpeningFlows (Closed ops b why)
   closed-flows ops b why last = λ verdict input end. beginning-flows ops names b (plain ops names why.said ∷ []) (Nothing, last_word-flows why.said last, refl)
 
-  module _ (options : Options) (program : List Clause) (ops : Table) (store : Store) (referee : Referee) (is : IsProgram program) (fit : AllFit store) (his : RepliesFit (replies_of referee)) where
+  module _ (options : Options) (program : List Clause) (ops : Table) (store : Store) (referee : Referee) (is : IsProgram program) (fit : AllFit store) (may : IsAskable referee) where
     -- the lines of an input are heard
     heard-flows : (b : Beginning) (s : State) (a : Account) (input : List ℕ) (end : InputEnd) → Stands nothing_intended program is options.strategy (ready_in s) a
         → Flows Nothing (entries_of (hears_lines reader ops (record { beginning = b; state = s }) input end).utterances) Nothing
@@ -368,19 +376,19 @@ module _ {names : List (List ℕ)} (reader : Reader names) where
         beginning-flows ops names b (replies (talker reader ops) (ready_in s) 16777216 input end).utterances
         (conversation-flows nothing_intended program is options.strategy names reader ops (ready_in s) a 16777216 input end h)
 
-    started-flows : (b : Beginning) (course : Course) → OpeningFlows (Open ops (record { beginning = b; state = first_state program options store referee }) course)
-    started-flows b Hears = λ verdict input end. heard-flows b (first_state program options store referee) (account_with (replies_of referee) store) input end (first_stands nothing_intended options program store referee is fit his)
-    started-flows b (Plays nodes) = λ verdict input end.
+    started-flows : (b : Beginning) (course : Course) → IsAlone course (replies_of referee) → OpeningFlows (Open ops (record { beginning = b; state = first_state program options store referee }) course)
+    started-flows b Hears alone = λ verdict input end. heard-flows b (first_state program options store referee) (account_with (replies_of referee) store) input end (first_stands nothing_intended options program store referee is fit may)
+    started-flows b (Plays nodes) alone = λ verdict input end.
         let s = first_state program options store referee in
         let a = account_with (replies_of referee) store in
         let us = (hears_lines reader ops (record { beginning = b; state = asks_tree nodes s }) demo_lines Ended).utterances in
         let es = entries_of us in
         said-flows Nothing Nothing Nothing us (map (plain ops names) (outcome_of nodes es))
-        (heard-flows b (asks_tree nodes s) a demo_lines Ended (tree_stands nothing_intended program is options.strategy nodes s a (first_stands nothing_intended options program store referee is fit his)))
+        (heard-flows b (asks_tree nodes s) a demo_lines Ended (tree_stands nothing_intended program is options.strategy nodes s a alone (first_stands nothing_intended options program store referee is fit may)))
         (outcome-flows ops names nodes (questions_in es) (slice_get es (length es - 1)))
-    started-flows b (Checks text) = λ verdict input end. closed-flows ops b (verdict_stop verdict) (verdict-last verdict) verdict input end
+    started-flows b (Checks text) alone = λ verdict input end. closed-flows ops b (verdict_stop verdict) (verdict-last verdict) verdict input end
 
 pub every-session-flows : (words names : List (List ℕ)) (reader : Reader names) (world : World) → Flows Nothing (entries_of (session_of words reader world).utterances) Nothing
 every-session-flows words names reader world =
     opening_has (OpeningFlows reader) reader world.files (unloaded-flows reader) (λ ops b why table last. closed-flows reader ops b why last)
-    (λ options program ops b store referee course is table fit may. started-flows reader options program ops store referee is fit (askable-fits referee may) b course) words world.verdict world.input world.ends
+    (λ options program ops b store referee course is table fit may alone. started-flows reader options program ops store referee is fit may b course alone) words world.verdict world.input world.ends

@@ -11,7 +11,6 @@ use Rattle.apd_ops.specs.Table.{Table}
 use Rattle.apd_read.specs.Reader.{Reader}
 use Rattle.apd_term.specs.Growth.{Grown}
 use Rattle.apd_talk.specs.Moment.{Converses, Keeps, Moment, place}
-use Rattle.apd_talk.proofs.Speaking.{says_later, says_rose}
 use Rattle.apd_talk.specs.Speech.{Lasting, Says, begun}
 use Rattle.apd_session.specs.Opening.{beginning_said}
 use Rattle.apd_session.specs.declared.opening.Start.{Start}
@@ -109,7 +108,7 @@ module _ (start : Start) (p m : Moment) (console : m.console ≡ p.console) (lef
         ends_on begun (opening start ops names reader) (conversation start.state ops names reader) (place p) (place m) (place q) result
         (rw (console, left, reads)
         (Talks-say (opening start ops names reader) (conversation start.state ops names reader) p.console p.left p.spoken.held m.spoken.held p.read_faults p.spoken.write_faults m.spoken.write_faults p.spoken.log.entries.list m.spoken.log.entries.list
-        (beginning_said ops names start.beginning) (says.all names grown) (says_later (λ ops names. beginning_said ops names start.beginning) p.spoken m.spoken (Ok t) says) (λ room more ends. refl)))
+        (beginning_said ops names start.beginning) (says.all names grown) says.cause (λ room more ends. refl)))
         (rw (← says.ops) (rest.course names grew reader));
   }
 
@@ -126,5 +125,5 @@ module _ (start : Start) (p m : Moment) (console : m.console ≡ p.console) (lef
         let grown : Grown p.spoken.log.names names = subst (λ (l : List (List ℕ)). Grown l names) says.names grew in
         rw (console, left, reads)
         (Breaks-say begun (opening start ops names reader) p.console p.left p.spoken.held m.spoken.held p.read_faults p.spoken.write_faults m.spoken.write_faults p.spoken.log.entries.list m.spoken.log.entries.list
-        (beginning_said ops names start.beginning) e (says.front names grown) (says_later {T = T} (λ ops names. beginning_said ops names start.beginning) p.spoken m.spoken (Err e) says) (says_rose {T = T} (λ ops names. beginning_said ops names start.beginning) p.spoken m.spoken e says) (λ room more ends. (conversation start.state ops names reader room more ends, refl)));
+        (beginning_said ops names start.beginning) e (says.front names grown) says.cause (λ room more ends. (conversation start.state ops names reader room more ends, refl)));
   }

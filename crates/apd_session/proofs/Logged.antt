@@ -36,6 +36,7 @@ use Rattle.apd_session.proofs.Referred.{all_true}
 use Rattle.apd_session.specs.Flow.{Due, Nothing, due_by, part_of, Flows, FlowsTo}
 use Rattle.apd_answers.specs.Store.{Store}
 use Rattle.apd_session.specs.Headline.{AreRightFor, ChecksRightly, HoldsRightly, MeetsRightly, ReferredRightly}
+use Rattle.apd_session.proofs.Upheld.{checked-holds}
 use Rattle.apd_session.specs.Known.{Outside}
 use Rattle.apd_session.specs.Outcome.{IsSaid, IsWhole, Meets, SaysNothing}
 use Rattle.apd_session.specs.Opening.{first_state, opening_of}
@@ -154,7 +155,7 @@ RefersRightly m x = (entries : List Entry) → AreRightFor m entries x → Refer
 pub refers-rightly : (m : Interpretation) (words names : List (List ℕ)) (reader : Reader names) (world : World) → RefersRightly m (opening_of reader world.files (options_of words))
 refers-rightly m words names reader world =
     opening_has (RefersRightly m) reader world.files (λ why last entries right. tt) (λ ops b why table last entries right. tt)
-    (λ options program ops b store referee course is table fit may entries right. refers_by m program options.strategy store entries referee may right) words
+    (λ options program ops b store referee course is table fit may alone entries right. refers_by m program options.strategy store entries referee may right) words
 
 -- findings of a log that holds are right
 abbrev pub VerdictIsRight : Interpretation → {names : List (List ℕ)} → Reader names → Opening → Type 0
@@ -176,7 +177,7 @@ checks_rightly m reader ops start (Checks text) is = holds_rightly m reader star
 verdict-right : (m : Interpretation) (words names : List (List ℕ)) (reader : Reader names) (world : World) → VerdictIsRight m reader (opening_of reader world.files (options_of words))
 verdict-right m words names reader world =
     opening_has (VerdictIsRight m reader) reader world.files (λ why last verdict checked. tt) (λ ops b why table last verdict checked. tt)
-    (λ options program ops b store referee course is table fit may. checks_rightly m reader ops (record { beginning = b; state = first_state program options store referee }) course is) words
+    (λ options program ops b store referee course is table fit may alone. checks_rightly m reader ops (record { beginning = b; state = first_state program options store referee }) course is) words
 
 judged-right : (m : Interpretation) {names : List (List ℕ)} (reader : Reader names) (x : Opening) (verdict : Checked) (nothing : Type 0) → VerdictIsRight m reader x → nothing ⊎ IsVerdict reader x verdict → nothing ⊎ ChecksRightly m reader x verdict
 judged-right m reader x verdict nothing right (inl none) = inl none
@@ -192,4 +193,5 @@ meets-rightly m words names reader p q st log meets =
       referred = refers-rightly m words names reader meets.world log.entries.list right;
       checked = judged-right m reader (opening_of reader meets.world.files (options_of words)) meets.world.verdict (SaysNothing st log) (verdict-right m words names reader meets.world) meets.judged;
       flows = said-flows st (session_of words reader meets.world) log p.streams.held q.streams.held meets.said (every-session-flows words names reader meets.world);
+      wrote = checked-holds reader words meets.world;
     }

@@ -7,7 +7,7 @@ use Rattle.std.proofs.lemmas.List.{length-replicate}
 use Rattle.std.specs.declared.alloc.AllocError.{AllocError}
 use Rattle.apd_answers.specs.Store.{Store, empty_store}
 use Rattle.apd_causes.specs.declared.faults.LoadCause.{LoadCause}
-use Rattle.apd_io.specs.Outside.{Rose, Tells, TellsLong}
+use Rattle.apd_io.specs.Outside.{Tells, TellsLong}
 use Rattle.apd_load.specs.Program.{Loads, loads, refused, program_of}
 use Rattle.apd_load.specs.Warnings.{NotesAreNamed}
 use Rattle.apd_load.specs.declared.Loaded.{Loaded}
@@ -26,8 +26,8 @@ use Rattle.apd_reference.specs.declared.referee.Referee.{Referee}
 use Rattle.apd_term.specs.Growth.{Grown}
 use Rattle.apd_text.specs.declared.entry.Entry.TheVariants as entry
 use Rattle.apd_words.specs.Words.{AreLimits, InFile, OfLog, OfTree, Options, StandsAlone, Subject}
-use Rattle.apd_session.specs.Opening.{beginning_of, course_of, course_with, first_state, goes_on, opening_after, opening_by, opening_with, prepared_from, referred, stop, stops_with, subject_text, text_in}
-use Rattle.apd_session.specs.Preparing.{Follows, HasSubject, HasText, IsBeginning, IsLoaded, IsPursued, IsReadyOpening, IsReviewed, IsStart, IsSubject, Opens, OpensAfter, OpensBy, OpensKnowing, OpensWith, Prepares, Pursues, Refers, States, stops_pursued}
+use Rattle.apd_session.specs.Opening.{beginning_of, course_of, course_with, first_state, goes_on, opening_after, opening_by, opening_with, prepared_from, referred, stop, subject_text, text_in}
+use Rattle.apd_session.specs.Preparing.{Follows, HasSubject, HasText, IsBeginning, IsLoaded, IsPursued, IsReadyOpening, IsReviewed, IsStart, IsSubject, Opens, OpensAfter, OpensBy, OpensKnowing, OpensWith, Prepares, Pursues, Refers, States}
 use Rattle.apd_session.specs.Roles as roles
 use Rattle.apd_session.specs.Roles.{Role, KnownReplies, Reference, FileLoad, Gives, Faults, AreLoads, IsFileLoad, IsNamedLoad, file_of, file_of_subject, log_of_subject}
 use Rattle.apd_session.specs.declared.opening.Course.{Course}
@@ -371,10 +371,6 @@ pub goes_ready : (n : ℕ) (ops : Table) (start : Start) (x : Result Course Stop
 goes_ready n ops start (Ok course) ready is = (ready, is)
 goes_ready n ops start (Err why) ready is = (ready.beginning, is n)
 
-pub goes_fault : (ops : Table) (start : Start) (x : Result Course Stop) (fault : Type 0) → (stops_pursued x ≡ Some status.ReadFault → fault) → stops_with (goes_on ops start x) ≡ Some status.ReadFault → fault
-goes_fault ops start (Ok course) fault is e = absurd (cc)
-goes_fault ops start (Err why) fault is e = is e
-
 -- what is said where a session ends before it hears anything
 pub closing_ready : (n m : ℕ) (l : Loaded) (statements : Option ℕ) → n ≤ m → IsLoaded n l → IsBeginning m (beginning_of l.program l.passed statements None)
 closing_ready n m l statements more is =
@@ -384,14 +380,3 @@ pub alone_subject : (s : Subject) (oracle reference : Option (List ℕ)) → Sta
 alone_subject (InFile name) oracle reference alone = tt
 alone_subject (OfTree nodes) oracle reference alone = alone.0
 alone_subject (OfLog program log) oracle reference alone = tt
-
--- a fault that was counted later is counted
-pub rose_more : (a b c : ℕ) → a ≤ b → Rose b c → Rose a c
-rose_more a b c less rose = omega (arith, less, rose)
-
-pub rose_later : (a b c : ℕ) → b ≤ c → Rose a b → Rose a c
-rose_later a b c less rose = omega (arith, less, rose)
-
-pub fault_more : (r : Result Opening AllocError) (a b c : ℕ) → a ≤ b → IfOk r (λ o. stops_with o ≡ Some status.ReadFault → Rose b c) → IfOk r (λ o. stops_with o ≡ Some status.ReadFault → Rose a c)
-fault_more (Ok x) a b c less fault = λ e. rose_more a b c less (fault e)
-fault_more (Err e) a b c less fault = tt

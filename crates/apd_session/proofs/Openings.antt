@@ -4,6 +4,8 @@ use borrow.Author.Tests.{ltb-false}
 use Rattle.std.specs.Prelude.{All, IfSome, Result, Ok, Err, if◌then◌else◌, nat_lt}
 use Rattle.apd_answers.specs.Fitting.{AllFit}
 use Rattle.apd_answers.specs.Repliers.{RepliesFit}
+use Rattle.apd_answers.specs.declared.question.Question.{Question}
+use Rattle.apd_answers.specs.declared.question.Reply.{Reply}
 use Rattle.apd_answers.specs.Store.{Store, empty_store}
 use Rattle.apd_causes.specs.declared.faults.LoadCause.TheVariants as causes
 use Rattle.apd_clauses.specs.Clauses.{IsClause, IsProgram, tuples_of}
@@ -22,7 +24,7 @@ use Rattle.apd_ops.specs.Table.{Table, IsTable}
 use Rattle.apd_read.specs.Reader.{Reader}
 use Rattle.apd_recorded.proofs.Recording.{program_clauses}
 use Rattle.apd_reference.proofs.Fitting.{replies_fit}
-use Rattle.apd_reference.specs.Referees.{replies_of}
+use Rattle.apd_reference.specs.Referees.{is_marked, replies_of}
 use Rattle.apd_reference.specs.declared.referee.Referee.{Referee}
 use Rattle.apd_reference.specs.declared.referee.Referee.TheVariants.{Nobody, Program, Tree}
 use Rattle.apd_text.specs.declared.entry.Entry.{Entry}
@@ -38,6 +40,7 @@ use Rattle.apd_check.specs.declared.checked.Checked.TheVariants.{Holds, Fails}
 use Rattle.apd_session.specs.Session.{verdict_stop}
 use Rattle.apd_session.specs.declared.opening.Beginning.{Beginning}
 use Rattle.apd_session.specs.declared.opening.Course.{Course}
+use Rattle.apd_session.specs.declared.opening.Course.TheVariants.{Hears, Plays, Checks}
 use Rattle.apd_session.specs.declared.opening.Opening.{Opening}
 use Rattle.apd_session.specs.declared.opening.Opening.TheVariants.{Unloaded, Closed, Open}
 use Rattle.apd_session.specs.declared.opening.Stop.{Stop}
@@ -46,6 +49,7 @@ use Rattle.apd_session.specs.declared.preparing.Prepared.TheVariants.{Knows}
 use Rattle.apd_session.specs.declared.referring.Referring.{Referring}
 use Rattle.apd_session.specs.declared.referring.Referring.TheVariants.{Asks, Stops}
 use Rattle.apd_session.specs.declared.status.Status.TheVariants as status
+use Rattle.apd_session.proofs.Righting.{IsMarking}
 
 -- what may be said last where a session hears nothing
 abbrev pub IsLastWord : Entry → Type 0
@@ -69,6 +73,31 @@ pub askable-fits : (referee : Referee) → IsAskable referee → RepliesFit (rep
 askable-fits Nobody is = λ q r e. absurd (cc)
 askable-fits (Program r) (are, some) = replies_fit (tuples_of r.program) r.budget are some
 askable-fits (Tree t) is = absurd is
+
+-- by whether its replies are marked, they are its own, or there is none
+pub askable-marks : (referee : Referee) → IsAskable referee → IsMarking (is_marked referee) (replies_of referee) (replies_of referee)
+askable-marks Nobody is = λ q. refl
+askable-marks (Program r) is = refl
+askable-marks (Tree t) is = absurd is
+
+-- where a tree is demonstrated, nothing is replied without a line by whom the session begins with
+abbrev pub IsAlone : Course → (Question → Option Reply) → Type 0
+IsAlone Hears given = Unit {0}
+IsAlone (Plays nodes) given = (q : Question) → given q ≡ None
+IsAlone (Checks text) given = Unit {0}
+
+-- where no reference program is named, nobody is asked
+abbrev pub IsNobody : Option (List ℕ) → Referring → Type 0
+IsNobody reference (Asks referee reviewed) = reference ≡ None → referee ≡ Nobody
+IsNobody reference (Stops why) = Unit {0}
+
+named_nobody : (name : List ℕ) (x : Referring) → IsNobody (Some name) x
+named_nobody name (Asks referee reviewed) = λ none. absurd (cc)
+named_nobody name (Stops why) = tt
+
+referred-nobody : {names : List (List ℕ)} (reader : Reader names) (budget : ℕ) (reference : Option (List ℕ)) (loading : FileLoad) → IsNobody reference (referred reader budget reference loading)
+referred-nobody reader budget None loading = λ none. refl
+referred-nobody reader budget (Some name) loading = named_nobody name (referred reader budget (Some name) loading)
 
 -- whoever is asked may be; or there is a last word
 abbrev pub IsFitting : Referring → Type 0
@@ -97,50 +126,57 @@ pub verdict-last : (verdict : Checked) → IsLastWord (verdict_stop verdict).sai
 verdict-last (Holds total) = tt
 verdict-last (Fails line why) = tt
 
--- a session goes on so, or there is a last word
-abbrev pub IsGoing : Result Course Stop → Type 0
-IsGoing (Ok course) = Unit {0}
-IsGoing (Err why) = IsLastWord why.said
+-- a session goes on so, with no reference program where a tree is demonstrated; or there is a last word
+abbrev pub IsGoing : Option (List ℕ) → Result Course Stop → Type 0
+IsGoing reference (Ok Hears) = Unit {0}
+IsGoing reference (Ok (Plays nodes)) = reference ≡ None
+IsGoing reference (Ok (Checks text)) = Unit {0}
+IsGoing reference (Err why) = IsLastWord why.said
 
-log-going : (loading : FileLoad) → IsGoing (course_with (text_in loading))
-log-going Faults = tt
-log-going (Gives text) = by (nat_lt 1048576 (length text))
+log-going : (reference : Option (List ℕ)) (loading : FileLoad) → IsGoing reference (course_with (text_in loading))
+log-going reference Faults = tt
+log-going reference (Gives text) = by (nat_lt 1048576 (length text))
   where
-    by : (b : Bool) → IsGoing (course_with (if b then Err (stop (FileTooLong 1048577) status.FileTooLong) else Ok text))
+    by : (b : Bool) → IsGoing reference (course_with (if b then Err (stop (FileTooLong 1048577) status.FileTooLong) else Ok text))
     by true = tt
     by false = tt
 
-course-going : (loading : FileLoad) (s : Subject) → IsGoing (course_of loading s)
-course-going loading (InFile name) = tt
-course-going loading (OfTree nodes) = tt
-course-going loading (OfLog program log) = log-going loading
+course-going : (oracle reference : Option (List ℕ)) (loading : FileLoad) (s : Subject) → StandsAlone s oracle reference → IsGoing reference (course_of loading s)
+course-going oracle reference loading (InFile name) alone = tt
+course-going oracle reference loading (OfTree nodes) alone = alone.2
+course-going oracle reference loading (OfLog program log) alone = log-going reference loading
+
+going-alone : (reference : Option (List ℕ)) (course : Course) (referee : Referee) → IsGoing reference (Ok course) → (reference ≡ None → referee ≡ Nobody) → IsAlone course (replies_of referee)
+going-alone reference Hears referee tell nobody = tt
+going-alone reference (Plays nodes) referee tell nobody = λ q. ap (λ (r : Referee). replies_of r q) (nobody tell)
+going-alone reference (Checks text) referee tell nobody = tt
 
 -- what holds of each thing that a session may begin with holds of what it begins with
 module _ (P : Opening → Type 0) {names : List (List ℕ)} (reader : Reader names) (files : Role → FileLoad)
     (unloaded : (why : Stop) → IsLastWord why.said → P (Unloaded why))
     (closed : (ops : Table) (b : Beginning) (why : Stop) → IsTable ops → IsLastWord why.said → P (Closed ops b why))
     (opened : (options : Options) (program : List Clause) (ops : Table) (b : Beginning) (store : Store) (referee : Referee) (course : Course) → IsProgram program → IsTable ops → AllFit store → IsAskable referee
-    → P (Open ops (record { beginning = b; state = first_state program options store referee }) course)) where
+    → IsAlone course (replies_of referee) → P (Open ops (record { beginning = b; state = first_state program options store referee }) course)) where
   -- by who is asked before the user
-  module _ (options : Options) (some : 0 < options.budget) (program : List Clause) (ops : Table) (passed : List Note) (is : IsProgram program) (table : IsTable ops) where
+  module _ (options : Options) (some : 0 < options.budget) (alone : StandsAlone options.subject options.oracle options.reference) (program : List Clause) (ops : Table) (passed : List Note) (is : IsProgram program) (table : IsTable ops) where
     abbrev asked : Referring
     asked = referred reader options.budget options.reference (files Reference)
 
     abbrev course : Result Course Stop
     course = course_of (files roles.Log) options.subject
 
-    goes_has : (b : Beginning) (store : Store) (referee : Referee) → AllFit store → IsAskable referee → (x : Result Course Stop) → IsGoing x
+    goes_has : (b : Beginning) (store : Store) (referee : Referee) → AllFit store → IsAskable referee → (options.reference ≡ None → referee ≡ Nobody) → (x : Result Course Stop) → IsGoing options.reference x
         → P (goes_on ops (record { beginning = b; state = first_state program options store referee }) x)
-    goes_has b store referee fit his (Ok going) tell = opened options program ops b store referee going is table fit his
-    goes_has b store referee fit his (Err why) tell = closed ops b why table tell
+    goes_has b store referee fit his nobody (Ok going) tell = opened options program ops b store referee going is table fit his (going-alone options.reference going referee tell nobody)
+    goes_has b store referee fit his nobody (Err why) tell = closed ops b why table tell
 
-    knows_has : (statements : Option ℕ) (store : Store) → AllFit store → (x : Referring) → IsFitting x → P (opening_with options program ops passed (Knows statements store) x course)
-    knows_has statements store fit (Asks referee reference) his =
-        goes_has (beginning_of program passed statements reference) store referee fit his course (course-going (files roles.Log) options.subject)
-    knows_has statements store fit (Stops why) last = closed ops (beginning_of program passed statements None) why table last
+    knows_has : (statements : Option ℕ) (store : Store) → AllFit store → (x : Referring) → IsFitting x → IsNobody options.reference x → P (opening_with options program ops passed (Knows statements store) x course)
+    knows_has statements store fit (Asks referee reference) his nobody =
+        goes_has (beginning_of program passed statements reference) store referee fit his nobody course (course-going options.oracle options.reference (files roles.Log) options.subject alone)
+    knows_has statements store fit (Stops why) last nobody = closed ops (beginning_of program passed statements None) why table last
 
     opens_has : (statements : Option ℕ) (store : Store) → AllFit store → P (opening_with options program ops passed (Knows statements store) asked course)
-    opens_has statements store fit = knows_has statements store fit asked (referred-fits reader options.budget options.reference (files Reference) some)
+    opens_has statements store fit = knows_has statements store fit asked (referred-fits reader options.budget options.reference (files Reference) some) (referred-nobody reader options.budget options.reference (files Reference))
 
     stated_has : (w : States) → FitsIn w → P (opening_with options program ops passed (prepared_by w) asked course)
     stated_has (oracle.refused line cause) fit = closed ops (beginning_of program passed None None) (stop (OracleRefused line cause) status.OracleText) table tt
@@ -155,29 +191,33 @@ module _ (P : Opening → Type 0) {names : List (List ℕ)} (reader : Reader nam
         by true = closed ops (beginning_of program passed None None) (stop (FileTooLong 1048577) status.FileTooLong) table tt
         by false = stated_has (stated_in reader ops known) (stated_fit reader ops known)
 
-  loaded_has : (options : Options) → 0 < options.budget → (o : Loads) → IsProgramIn o → LeavesTable o → P (opening_after reader files options o)
-  loaded_has options some (refused line cause) is table = unloaded (stop (ProgramRefused line cause) status.Program) tt
-  loaded_has options some (loads l) is table = prepared_has options some l.program l.ops l.passed is table options.oracle (files KnownReplies)
+  -- options whose subject stands alone
+  abbrev AreAlone : Options → Type 0
+  AreAlone options = StandsAlone options.subject options.oracle options.reference
 
-  text_has : (options : Options) → 0 < options.budget → (text : List ℕ) → length text ≤ 1048576 → P (opening_by reader files options (Ok text))
-  text_has options some text short = loaded_has options some (program_of reader text) (loaded_is_program names reader text short) (leaves_table names reader text)
+  loaded_has : (options : Options) → 0 < options.budget → AreAlone options → (o : Loads) → IsProgramIn o → LeavesTable o → P (opening_after reader files options o)
+  loaded_has options some alone (refused line cause) is table = unloaded (stop (ProgramRefused line cause) status.Program) tt
+  loaded_has options some alone (loads l) is table = prepared_has options some alone l.program l.ops l.passed is table options.oracle (files KnownReplies)
 
-  file_has : (options : Options) → 0 < options.budget → (loading : FileLoad) → P (opening_by reader files options (text_in loading))
-  file_has options some Faults = unloaded (stop InputFault status.ReadFault) tt
-  file_has options some (Gives text) = by (nat_lt 1048576 (length text)) refl
+  text_has : (options : Options) → 0 < options.budget → AreAlone options → (text : List ℕ) → length text ≤ 1048576 → P (opening_by reader files options (Ok text))
+  text_has options some alone text short = loaded_has options some alone (program_of reader text) (loaded_is_program names reader text short) (leaves_table names reader text)
+
+  file_has : (options : Options) → 0 < options.budget → AreAlone options → (loading : FileLoad) → P (opening_by reader files options (text_in loading))
+  file_has options some alone Faults = unloaded (stop InputFault status.ReadFault) tt
+  file_has options some alone (Gives text) = by (nat_lt 1048576 (length text)) refl
     where
       by : (b : Bool) → nat_lt 1048576 (length text) ≡ b → P (opening_by reader files options (if b then Err (stop (FileTooLong 1048577) status.FileTooLong) else Ok text))
       by true long = unloaded (stop (FileTooLong 1048577) status.FileTooLong) tt
-      by false short = text_has options some text (ltb-false 1048576 (length text) short)
+      by false short = text_has options some alone text (ltb-false 1048576 (length text) short)
 
-  subject_has : (options : Options) → 0 < options.budget → (s : Subject) → StandsAlone s options.oracle options.reference → P (opening_by reader files options (subject_text files s))
-  subject_has options some (InFile name) alone = file_has options some (files roles.Program)
-  subject_has options some (OfTree nodes) alone = let size = tree-short nodes alone.0.1 in text_has options some (tree_text nodes) (omega (arith, size))
-  subject_has options some (OfLog program log) alone = file_has options some (files roles.Program)
+  subject_has : (options : Options) → 0 < options.budget → AreAlone options → (s : Subject) → StandsAlone s options.oracle options.reference → P (opening_by reader files options (subject_text files s))
+  subject_has options some all (InFile name) alone = file_has options some all (files roles.Program)
+  subject_has options some all (OfTree nodes) alone = let size = tree-short nodes alone.0.1 in text_has options some all (tree_text nodes) (omega (arith, size))
+  subject_has options some all (OfLog program log) alone = file_has options some all (files roles.Program)
 
   options_has : (o : Option Options) → IfSome o (λ options. StandsAlone options.subject options.oracle options.reference × AreLimits options.budget options.answers) → P (opening_of reader files o)
   options_has None alone = unloaded (stop UsageRefused status.Usage) tt
-  options_has (Some options) (alone, limits) = subject_has options limits.some_ports options.subject alone
+  options_has (Some options) (alone, limits) = subject_has options limits.some_ports alone options.subject alone
 
   pub opening_has : (words : List (List ℕ)) → P (opening_of reader files (options_of words))
   opening_has words = options_has (options_of words) (by (options_of words) refl)

@@ -16,7 +16,7 @@ use Rattle.apd_reference.proofs.LowNames.{tuples_low}
 use Rattle.apd_reference.specs.Ready.{RightProgram}
 use Rattle.apd_reference.specs.declared.referee.Referee.TheVariants.{Nobody, Program}
 use Rattle.apd_session.specs.Opening.{last_line, referred_by, referred_from, refused_reference, reviewed}
-use Rattle.apd_session.specs.Preparing.{HasText, IsReferring, Refers, ReviewsText, stops_referring}
+use Rattle.apd_session.specs.Preparing.{HasText, IsReferring, Refers, ReviewsText, is_read_fault, stops_referring}
 use Rattle.apd_session.specs.Roles.{Gives, IsNamedLoad}
 use Rattle.apd_session.specs.declared.opening.Reviewed.{Reviewed}
 use Rattle.apd_session.specs.declared.opening.Stop.{Stop}
@@ -87,12 +87,12 @@ module _ (budget : ℕ) (program : List Clause) (ops : Table) (passed : List Not
       by true = (tuples_low (length standard_names) n (tuples_of program) named standard, record { passed = notes; called = warnings })
       by false = record { named = tt; may = tt }
 
-  pub referring_calm : stops_referring (referred_by budget loaded) ≢ Some status.ReadFault
+  pub referring_calm : is_read_fault (stops_referring (referred_by budget loaded)) ≡ false
   referring_calm = by (nat_lt (length program) 20000)
     where
-      by : (b : Bool) → stops_referring (if b then Asks (Program (record { program = program; budget = budget })) (Some (reviewed program passed)) else refused_reference (last_line program) causes.ClausesOver) ≢ Some status.ReadFault
-      by true e = absurd (cc)
-      by false e = absurd (cc)
+      by : (b : Bool) → is_read_fault (stops_referring (if b then Asks (Program (record { program = program; budget = budget })) (Some (reviewed program passed)) else refused_reference (last_line program) causes.ClausesOver)) ≡ false
+      by true = refl
+      by false = refl
 
 -- who is asked by a text is asked by what the text makes
 pub reviews_made : (budget : ℕ) (text bytes : List ℕ) (names : List (List ℕ)) (o : Loads) (x : Referring) → bytes ≡ text → ((n : List (List ℕ)) → Grown names n → (reader : Reader n) → program_of reader bytes ≡ o) → x ≡ referred_by budget o

@@ -35,9 +35,9 @@ use Rattle.apd_text.specs.declared.entry.Refusal.{Refusal}
 use Rattle.apd_account.specs.Account.{Account, Stage, Idle, Moves, Awaits, at_stage, with_reply, with_told, after_entry, after_entries, after_told}
 use Rattle.apd_account.specs.Inquiry.{Inquiry, OfWrong, OfMissing, OfLoop, begun_by, left_of, next_in}
 use Rattle.apd_account.specs.Right.{IsDue, IsOfRun, IsReferred, IsRight, AreRight}
-use Rattle.apd_account.proofs.Diagnosing.{IsKnownTree, RightTurn, Waits, descent-right, found-right, question-is, replied-is, reply-right, waits, wrong_left, wrong_turn}
+use Rattle.apd_account.proofs.Diagnosing.{AsksRightly, IsKnownTree, RightTurn, Waits, descent-right, found-right, question-is, replied-is, reply-right, waits, wrong_left, wrong_turn}
 use Rattle.apd_debug.specs.Stand.{Mode, Ready, Asking}
-use Rattle.apd_debug.specs.Steps.{after_turn, goes_on, goes_within, most_in_a_row, referred_then, replied, replied_then, turn_within}
+use Rattle.apd_debug.specs.Steps.{after_turn, goes_on, goes_within, left_off, most_in_a_row, referred_then, replied, replied_then, turn_within}
 use Rattle.apd_oracle.specs.declared.spoken.Spoken.{Spoken}
 use Rattle.apd_oracle.specs.declared.spoken.Spoken.TheVariants as spoken
 use Rattle.apd_query.specs.declared.state.LastRun.{LastRun}
@@ -45,6 +45,20 @@ use Rattle.apd_query.specs.declared.state.State.{State}
 use Rattle.apd_text.specs.declared.entry.Told.{Told}
 use Rattle.apd_session.specs.Steps.{Method, Situation, Waiting, ForCommand, ForWrong, ForMissing, ForLoop, begins, by_loop, by_missing, by_wrong, carries_on, history_of, mode_of, ready_in, refused, reply_said, situation, first_word}
 use Rattle.apd_session.proofs.Courses.{IsKnownGoal, IsKnownLoop, IsLoopEnd, goal_left, loop_turn, missing_turn}
+
+-- by whether replies without a line are marked: they are what the account has; or it has none
+abbrev pub IsMarking : Bool → (Question → Option Reply) → (Question → Option Reply) → Type 0
+IsMarking true his given = his ≡ given
+IsMarking false his given = (q : Question) → given q ≡ None
+
+-- so a reply without a line is marked rightly, and where there is none, the account has none
+marked_so : (b : Bool) (his given : Question → Option Reply) (q : Question) (r : Reply) → IsMarking b his given → his q ≡ Some r → IsReferred (given q) r b
+marked_so false his given q r marks is = marks q
+marked_so true his given q r marks is = ap (λ (f : Question → Option Reply). f q) (sym marks) ∙ is
+
+none_so : (b : Bool) (his given : Question → Option Reply) (q : Question) → IsMarking b his given → his q ≡ None → given q ≡ None
+none_so false his given q marks is = marks q
+none_so true his given q marks is = ap (λ (f : Question → Option Reply). f q) (sym marks) ∙ is
 
 module _ (m : Interpretation) (program : List Clause) (is : IsProgram program) (strategy : Strategy) where
   -- the record of a run: sound for the program, full at each complete box, and each box of its chain calls the next
@@ -69,15 +83,20 @@ module _ (m : Interpretation) (program : List Clause) (is : IsProgram program) (
     pub store_is : store ≡ a.store
     pub fit : AllFit a.store
     pub his : RepliesFit (replies_of s.referee)
-    pub marks : is_marked s.referee ≡ true → replies_of s.referee ≡ a.replies
+    pub marks : IsMarking (is_marked s.referee) (replies_of s.referee) a.replies
     pub last : IsLast s.last a.history
+
+  -- a question of a diagnosis waits for a line: there is no reply to it without one
+  pub record WaitsForLine {D : Type 0} (Known : Recorded → Store → Option Told → D → Type 0) (left : D → Option ℕ) (state : D → Inquiry) (a : Account) (asked : Asked) (next : Reply → D) : Type 0 where
+    pub waits : Waits strategy Known left state a asked next
+    pub none : a.replies asked.question ≡ None
 
   -- what is known where a question of a diagnosis waits
   abbrev pub IsMode : Waiting → Account → Type 0
   IsMode ForCommand a = a.stage ≡ Idle
-  IsMode (ForWrong asked next) a = Waits strategy (IsKnownTree (tuples_of program)) wrong_left OfWrong a asked next
-  IsMode (ForMissing asked next) a = Waits strategy (IsKnownGoal (tuples_of program)) goal_left OfMissing a asked next
-  IsMode (ForLoop asked next) a = Waits strategy (IsKnownLoop (tuples_of program)) left_in OfLoop a asked next
+  IsMode (ForWrong asked next) a = WaitsForLine (IsKnownTree (tuples_of program)) wrong_left OfWrong a asked next
+  IsMode (ForMissing asked next) a = WaitsForLine (IsKnownGoal (tuples_of program)) goal_left OfMissing a asked next
+  IsMode (ForLoop asked next) a = WaitsForLine (IsKnownLoop (tuples_of program)) left_in OfLoop a asked next
 
   -- where a session stands is what was told
   pub record Stands (s : Situation) (a : Account) : Type 0 where
@@ -115,7 +134,7 @@ module _ (m : Interpretation) (program : List Clause) (is : IsProgram program) (
 
   -- A diagnosis: where something is known of its state, its next turn is right, and it is what its definition gives.
   pub record IsRightly {D E : Type 0} (d : Method D E) (Known : Recorded → Store → Option Told → D → Type 0) (left : D → Option ℕ) (IsEnd : Recorded → Store → E → Type 0) (state : D → Inquiry) (end : E → LoopEnd) : Type 0 where
-    pub waits : (a : Account) (asked : Asked) (next : Reply → D) → Waits strategy Known left state a asked next → IsMode (d.waits asked next) a
+    pub waits : (a : Account) (asked : Asked) (next : Reply → D) → WaitsForLine Known left state a asked next → IsMode (d.waits asked next) a
     pub left_is : (s : State) (x : D) → (d.diagnosis s).left x ≡ left x
     pub left_there : (x : D) → left x ≡ left_of (state x)
     pub next_is : (s : State) (store : Store) (a : Account) (x : D) → IsTold s store a → next_in (tuples_of program) strategy a.history a.store (state x) ≡ inside state end (next_turn (d.diagnosis s) store x)
@@ -144,18 +163,25 @@ module _ (m : Interpretation) (program : List Clause) (is : IsProgram program) (
       mode = k;
     }
 
+    -- there is no reply without a line to what a turn asks
+    abbrev IsOpen : Account → Turn D E → Type 0
+    IsOpen a (asks asked next) = a.replies asked.question ≡ None
+    IsOpen a (goes y) = Unit {0}
+    IsOpen a (ends e) = Unit {0}
+
     -- the turn of a diagnosis
     turn-step : (ops : Table) (names : List (List ℕ)) (s : State) (store : Store) (count : ℕ) (a : Account) (turn : Turn D E) → IsTold s store a → Due a turn
-        → RightTurn strategy Known left state IsEnd a.history a.store a.symptom turn → IsStep a (after_turn (d.diagnosis s) (d.found s) (situation d s) ops names store count turn)
-    turn-step ops names s store count a (asks asked next) h due k =
+        → RightTurn strategy Known left state IsEnd a.history a.store a.symptom turn → IsOpen a turn → IsStep a (after_turn (d.diagnosis s) (d.found s) (situation d s) ops names store count turn)
+    turn-step ops names s store count a (asks asked next) h due k none =
         let b = waiting a asked next in
-        let there = told_at s store (risen count) (Asking asked next) b (told_there s store a b.stage h) (rightly.waits b asked next (waits strategy Known left state a asked next k)) in
+        let w : WaitsForLine Known left state b asked next = record { waits = waits strategy Known left state a asked next k; none = none } in
+        let there = told_at s store (risen count) (Asking asked next) b (told_there s store a b.stage h) (rightly.waits b asked next w) in
         record {
           right = (record { next = λ r. state (next r); due = due; unanswered = k.unanswered }, tt);
           stands = subst (Stands (situation d s (record { store = store; asked = risen count; mode = Asking asked next }))) (sym (question-is program strategy a asked (λ r. state (next r)) due)) there;
         }
-    turn-step ops names s store count a (goes y) h due k = absurd k
-    turn-step ops names s store count a (ends e) h due k = record {
+    turn-step ops names s store count a (goes y) h due k none = absurd k
+    turn-step ops names s store count a (ends e) h due k none = record {
       right = (rightly.ends s store a e h due k, tt);
       stands = subst (Stands (situation d s (record { store = store; asked = count; mode = Ready }))) (sym (rightly.closes s a e)) (told_at s store count Ready (at_stage a Idle) (told_there s store a Idle h) refl);
     }
@@ -184,17 +210,27 @@ module _ (m : Interpretation) (program : List Clause) (is : IsProgram program) (
     his_fits : (s : State) (store : Store) (a : Account) (asked : Asked) (r : Reply) → IsTold s store a → replies_of s.referee asked.question ≡ Some r → FitsAsked asked r
     his_fits s store a asked r h is = let f = h.his asked.question r is in (f.0, λ unknown. absurd (f.1 unknown))
 
-    -- where it is marked, it is the one that the account has
-    marked_so : (s : State) (a : Account) (asked : Asked) (r : Reply) → replies_of s.referee asked.question ≡ Some r → (b : Bool) → (b ≡ true → replies_of s.referee ≡ a.replies) → IsReferred (a.replies asked.question) r b
-    marked_so s a asked r is false marks = tt
-    marked_so s a asked r is true marks = ap (λ (f : Question → Option Reply). f asked.question) (sym (marks refl)) ∙ is
+    -- a question to which there is no reply without a line waits for one; to which there is one, the diagnosis ends there
+    left_off-step : (ops : Table) (names : List (List ℕ)) (s : State) (store : Store) (count : ℕ) (a : Account) (asked : Asked) (next : Reply → D) (o : Option Reply) → replies_of s.referee asked.question ≡ o → IsTold s store a → Due a (asks asked next)
+        → AsksRightly strategy Known left state a.history a.store a.symptom asked next → IsStep a (left_off (first_word s.referee) (d.diagnosis s) (d.found s) (situation d s) ops names store count asked next o)
+    left_off-step ops names s store count a asked next None is h due t = turn-step ops names s store count a (asks asked next) h due t (none_so (is_marked s.referee) (replies_of s.referee) a.replies asked.question h.marks is)
+    left_off-step ops names s store count a asked next (Some r) is h due t =
+        let b = waiting a asked next in
+        let there = told_at s store (risen count) Ready (at_stage b Idle) (told_there s store b Idle (told_there s store a b.stage h)) refl in
+        let after = situation d s (record { store = store; asked = risen count; mode = Ready }) in
+        record {
+          right = (record { next = λ reply. state (next reply); due = due; unanswered = t.unanswered }, (tt, tt));
+          stands = subst (λ c. Stands after (at_stage c Idle)) (sym (question-is program strategy a asked (λ reply. state (next reply)) due)) there;
+        }
 
     -- a turn, and the turns after it as long as there are such replies
     within-step : (k : ℕ) (ops : Table) (names : List (List ℕ)) (s : State) (store : Store) (count : ℕ) (a : Account) (turn : Turn D E) → IsTold s store a → Due a turn
         → RightTurn strategy Known left state IsEnd a.history a.store a.symptom turn → IsStep a (turn_within (first_word s.referee) (d.diagnosis s) (d.found s) (situation d s) ops names k store count turn)
-    within-step zero ops names s store count a turn h due t = turn-step ops names s store count a turn h due t
+    within-step zero ops names s store count a (goes y) h due t = absurd t
+    within-step zero ops names s store count a (ends e) h due t = turn-step ops names s store count a (ends e) h due t tt
+    within-step zero ops names s store count a (asks asked next) h due t = left_off-step ops names s store count a asked next (replies_of s.referee asked.question) refl h due t
     within-step (suc k) ops names s store count a (goes y) h due t = absurd t
-    within-step (suc k) ops names s store count a (ends e) h due t = turn-step ops names s store count a (ends e) h due t
+    within-step (suc k) ops names s store count a (ends e) h due t = turn-step ops names s store count a (ends e) h due t tt
     within-step (suc k) ops names s store count a (asks asked next) h due t =
         by (replies_of s.referee asked.question) refl
         (λ kept b x told stage known. within-step k ops names s kept (risen count) b (next_turn (d.diagnosis s) kept x) told (due_at s kept b x told stage) (rightly.turns s kept b x told known))
@@ -202,12 +238,12 @@ module _ (m : Interpretation) (program : List Clause) (is : IsProgram program) (
         by : (o : Option Reply) → replies_of s.referee asked.question ≡ o
             → ((kept : Store) (b : Account) (x : D) → IsTold s kept b → b.stage ≡ Moves (state x) → Known b.history b.store b.symptom x → IsStep b (goes_within (first_word s.referee) (d.diagnosis s) (d.found s) (situation d s) ops names k kept (risen count) x))
             → IsStep a (referred_then (first_word s.referee) (d.diagnosis s) (d.found s) (situation d s) ops names (goes_within (first_word s.referee) (d.diagnosis s) (d.found s) (situation d s) ops names k) store count asked next o)
-        by None is goes_on = turn-step ops names s store count a (asks asked next) h due t
+        by None is goes_on = turn-step ops names s store count a (asks asked next) h due t (none_so (is_marked s.referee) (replies_of s.referee) a.replies asked.question h.marks is)
         by (Some r) is goes_on =
             let b = waiting a asked next in
             let rest = goes_within (first_word s.referee) (d.diagnosis s) (d.found s) (situation d s) ops names k in
             let after = replied_then (first_word s.referee) (d.diagnosis s) (d.found s) (situation d s) ops names rest (is_marked s.referee) store (risen count) asked next r in
-            let st = reply_then-step rest (is_marked s.referee) ops names s store (risen count) b asked next r (told_there s store a b.stage h) (waits strategy Known left state a asked next t) (his_fits s store a asked r h is) (marked_so s a asked r is (is_marked s.referee) (λ e. h.marks e))
+            let st = reply_then-step rest (is_marked s.referee) ops names s store (risen count) b asked next r (told_there s store a b.stage h) (waits strategy Known left state a asked next t) (his_fits s store a asked r h is) (marked_so (is_marked s.referee) (replies_of s.referee) a.replies asked.question r h.marks is)
             (λ c told stage known. goes_on (with_pair store asked.question r) c (next r) told stage known) in
             let e = sym (question-is program strategy a asked (λ reply. state (next reply)) due) in
             record {
@@ -228,15 +264,15 @@ module _ (m : Interpretation) (program : List Clause) (is : IsProgram program) (
         record { right = (record { idle = idle; of_run = of_run }, st.right); stands = st.stands }
 
     -- a reply of a line is told, and the diagnosis goes on
-    replied-step : (ops : Table) (names : List (List ℕ)) (s : State) (a : Account) (asked : Asked) (next : Reply → D) (r : Reply) → IsTold s s.replies a → Waits strategy Known left state a asked next → FitsAsked asked r
+    replied-step : (ops : Table) (names : List (List ℕ)) (s : State) (a : Account) (asked : Asked) (next : Reply → D) (r : Reply) → IsTold s s.replies a → WaitsForLine Known left state a asked next → FitsAsked asked r
         → IsStep a (replied (first_word s.referee) (d.diagnosis s) (d.found s) (situation d s) ops names s.replies s.asked asked next r)
     replied-step ops names s a asked next r h w fits =
-        reply_then-step (goes_on (first_word s.referee) (d.diagnosis s) (d.found s) (situation d s) ops names) false ops names s s.replies s.asked a asked next r h w fits tt
+        reply_then-step (goes_on (first_word s.referee) (d.diagnosis s) (d.found s) (situation d s) ops names) false ops names s s.replies s.asked a asked next r h w.waits fits w.none
         (λ b told stage known. carries_on-step ops names s (with_pair s.replies asked.question r) s.asked b (next r) told stage known)
 
     -- a line in a reply's place
     reply-step : (ops : Table) (names : List (List ℕ)) (s : State) (a : Account) (asked : Asked) (next : Reply → D) (said : Spoken) → ((r : Reply) → said ≡ spoken.Reply r → FitsAsked asked r)
-        → IsTold s s.replies a → Waits strategy Known left state a asked next → IsStep a (reply_said d ops names s asked next said)
+        → IsTold s s.replies a → WaitsForLine Known left state a asked next → IsStep a (reply_said d ops names s asked next said)
     reply-step ops names s a asked next spoken.Nothing fits h w = record { right = tt; stands = told_at s s.replies s.asked (Asking asked next) a h (rightly.waits a asked next w) }
     reply-step ops names s a asked next (spoken.Reply r) fits h w = replied-step ops names s a asked next r h w (fits r refl)
     reply-step ops names s a asked next spoken.Stop fits h w = record { right = (tt, tt); stands = told_at s s.replies s.asked Ready (at_stage a Idle) (told_there s s.replies a Idle h) refl }

@@ -5,7 +5,7 @@ use Rattle.apd_answers.specs.Store.{Store}
 use Rattle.apd_debug.specs.NamedStates.{AreReplies}
 use Rattle.apd_answers.specs.declared.store.Pair.{Pair}
 use Rattle.apd_kept.specs.Kept.{known_text}
-use Rattle.apd_kept.specs.Law.{CanReadBack, HasPlainStatements}
+use Rattle.apd_kept.specs.Law.{CanReadBack, HasShallowStatements}
 use Rattle.apd_kept.proofs.MoreNames.{PairsAreNamed, known_text-more}
 use Rattle.apd_known.specs.Pairs.{AllMayTrust, AllStatable}
 use Rattle.apd_ops.specs.Table.{Table}
@@ -45,9 +45,9 @@ trust_named : (n : ℕ) (preds : List Pred) → AllMayTrust n preds → PredsAre
 trust_named n [] may = tt
 trust_named n (p ∷ ps) may = (may.0.named, trust_named n ps may.1)
 
--- what a session keeps reads back, where each of its statements is plain
-pub can_read_back : (ops : Table) (names : List (List ℕ)) (store : Store) → AreReplies (length names) store → HasPlainStatements ops names store → CanReadBack ops names store
-can_read_back ops names store are plain = record { pairs = are.pairs; trust = are.trust; plain = plain }
+-- what a session keeps reads back, where each of its statements is shallow
+pub can_read_back : (ops : Table) (names : List (List ℕ)) (store : Store) → AreReplies (length names) store → HasShallowStatements ops store → CanReadBack ops names store
+can_read_back ops names store are shallow = record { pairs = are.pairs; trust = are.trust; shallow = shallow }
 
 -- the text was said
 pub store_is_said : {T : Type 0} (store : Store) (text : List ℕ) (p q : Spoken) (r : Result T Trouble) → HasStandardNames (length p.log.names) → AreReplies (length p.log.names) store → text ≡ known_text p.log.ops p.log.names store → Says (one (Known text)) p q r

@@ -50,7 +50,7 @@ use Rattle.apd_talk.specs.Talk.{Meaning, Place, Talks, after_step}
 use Rattle.apd_talk.specs.declared.talk.Next.{Next}
 use Rattle.apd_talk.specs.declared.talk.Next.TheVariants.{Goes}
 use Rattle.apd_talk.specs.declared.talk.Trouble.{Trouble}
-use Rattle.apd_talk.proofs.Speaking.{Says-err, Says-ok, says_later, says_rose}
+use Rattle.apd_talk.proofs.Speaking.{Says-err, Says-ok}
 use Rattle.apd_talk.proofs.Talking.{Talks-more}
 use Rattle.apd_term.specs.Growth.{Grown}
 use Rattle.apd_term.specs.Named.{IsNamed, TupleIsNamed}
@@ -154,7 +154,7 @@ module _ {D E : Type 0} (d : Method D E) (s : State) (command : Command) (what :
         let grown : Grown p.spoken.log.names names = subst (λ (l : List (List ℕ)). Grown l names) says.names grew in
         rw (is ops names)
         (Breaks-before (talker reader ops) p said (plain ops names symptom ∷ []) (carries_on d ops names s replied s.asked x) trouble
-        (says_later {T = T} (one symptom) p.spoken said (Err trouble) says) (λ w. says_rose {T = T} (one symptom) p.spoken said trouble says w) (says.front names grown));
+        says.cause (says.front names grown));
     ready = tt;
   }
 
@@ -182,7 +182,7 @@ module _ {D E : Type 0} (d : Method D E) (s : State) (command : Command) (what :
             let grown : Grown p.spoken.log.names names = Grown-more p.spoken.log.names q.spoken.log.names names grew_to on in
             let st = carries_on d ops names s replied s.asked x in
             let first : Talks (after_step (talker reader ops) (says_before (plain ops names symptom ∷ []) st)) (place p) (place (said_at p said)) (after_step (talker reader ops) st) =
-            Talks-before (talker reader ops) p said (plain ops names symptom ∷ []) st (says_later (one symptom) p.spoken said (Ok u) says) (says.all names grown) in
+            Talks-before (talker reader ops) p said (plain ops names symptom ∷ []) st says.cause (says.all names grown) in
             let second = subst (λ (o : Table). Diagnosed (d.diagnosis s) (d.found s) (situation d s) o names (talker reader o)
             (after_step (talker reader o) (carries_on d o names s replied s.asked x)) (place (said_at p said)) (place q) now.store now.asked answer) says.ops (diagnosis.course names on reader s refl same) in
             rw (is ops names)

@@ -20,6 +20,7 @@ use Rattle.apd_session.specs.Flow.{FlowsTo}
 use Rattle.apd_session.specs.Known.{Outside}
 use Rattle.apd_session.specs.Opening.{opening_of}
 use Rattle.apd_session.specs.Outcome.{Meets, SaysNothing}
+use Rattle.apd_session.specs.Written.{WroteWhatHolds}
 use Rattle.apd_session.specs.declared.opening.Course.TheVariants.{Hears, Plays, Checks}
 use Rattle.apd_session.specs.declared.opening.Opening.{Opening}
 use Rattle.apd_session.specs.declared.opening.Opening.TheVariants.{Unloaded, Closed, Open}
@@ -67,13 +68,14 @@ ChecksRightly m reader (Open ops start (Plays nodes)) verdict = ⊤
 ChecksRightly m reader (Open ops start (Checks text)) verdict = HoldsRightly m start.state.program start.state.replies (said_in reader ops text) verdict
 
 -- a world is met, what was said in it is right, also of a log that is checked, and each diagnosis in it came to an end, unless a question
--- stayed without a reply
+-- stayed without a reply; and what a session writes in this world holds, where it can be checked
 pub record MeetsRightly (m : Interpretation) {names : List (List ℕ)} (words : List (List ℕ)) (reader : Reader names) (p q : Outside) (st : Status) (log : Log) : Type 0 where
   pub meets : Meets words reader p q st log
   pub right : AreRightFor m log.entries.list (opening_of reader meets.world.files (options_of words))
   pub referred : ReferredRightly m log.entries.list (opening_of reader meets.world.files (options_of words))
   pub checked : SaysNothing st log ⊎ ChecksRightly m reader (opening_of reader meets.world.files (options_of words)) meets.world.verdict
   pub flows : FlowsTo st log.entries.list
+  pub wrote : WroteWhatHolds words reader meets.world
 
 -- whatever names are kept later and whatever reader there is under them, a world is met rightly
 abbrev pub IsRightSession : Interpretation → List (List ℕ) → Outside → Outside → Log → Status → Type 0

@@ -1,13 +1,13 @@
 -- What is known outside at one moment, and how many calls have failed by then.
 use Rattle.std.specs.Prelude.{ℕ, List, Option}
-use Rattle.apd_io.specs.Outside.{Rose}
+use Rattle.apd_io.specs.Outside.{Left, Rose}
 use Rattle.apd_io.specs.declared.files.Files.{Ghosts as FilesGhosts}
 use Rattle.apd_io.specs.declared.source.Source.{Ghosts as SourceGhosts}
 use Rattle.apd_io.specs.declared.sink.Sink.{Ghosts as SinkGhosts}
 
--- of the input and the output: what is left, and what is held
+-- of the input and the output: what is left and was taken, and what is held
 pub record Streams : Type 0 where
-  pub left : Option (List ℕ)
+  pub left : Left
   pub read_faults : ℕ
   pub held : Option (List ℕ)
   pub write_faults : ℕ

@@ -1,5 +1,6 @@
 -- What the calls that make an opening give, and what an opening may be.
-use Rattle.std.specs.Prelude.{ℕ, ◌≡◌, ◌≤◌, List, length, Option, None, Some, IfSome, Result, Ok, Err, ⊤}
+use Rattle.std.specs.Prelude.{ℕ, ◌≡◌, ◌≤◌, List, length, Bool, true, false, Option, None, Some, IfSome, Result, Ok, Err, ⊤}
+use Rattle.apd_io.specs.Outside.{Counted}
 use Rattle.apd_base.specs.declared.limits.TheConstants.{MAX_FILE}
 use Rattle.apd_debug.specs.NamedStates.{AreReplies}
 use Rattle.apd_gen.specs.Nodes.{IsNodeCount}
@@ -186,10 +187,10 @@ abbrev pub IsPursued : Result Course Stop → Type 0
 IsPursued (Ok course) = IsCourse course
 IsPursued (Err why) = (n : ℕ) → IsStop n why
 
--- the status with which a log's file ends a session, where it does
-abbrev pub stops_pursued : Result Course Stop → Option Status
-stops_pursued (Ok course) = None
-stops_pursued (Err why) = Some why.status
+-- the status with which a file ends a session, where it does
+abbrev pub stops_of : {T : Type 0} → Result T Stop → Option Status
+stops_of (Ok made) = None
+stops_of (Err why) = Some why.status
 
 -- the status with which a reference program's file ends a session, where it does
 abbrev pub stops_referring : Referring → Option Status
@@ -200,3 +201,13 @@ stops_referring (Stops why) = Some why.status
 abbrev pub refuses_with : Prepared → Option Status
 refuses_with (Knows statements store) = None
 refuses_with (Refuses why) = Some why.status
+
+-- it is that of a file that can't be read
+abbrev pub is_read_fault : Option Status → Bool
+is_read_fault (Some status.ReadFault) = true
+is_read_fault why = false
+
+-- over a call one failed load was counted where what it made stops the session for that, and none otherwise
+abbrev pub CountsLoads : {T E : Type 0} → (T → Option Status) → ℕ → ℕ → Result T E → Type 0
+CountsLoads stops before now (Ok made) = Counted (is_read_fault (stops made)) before now
+CountsLoads stops before now (Err e) = now ≡ before

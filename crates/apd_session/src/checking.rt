@@ -1,6 +1,6 @@
 //! The check of a written log.
 
-ghost use Rattle.std.specs.Prelude.{◌≡◌, ◌≤◌, ℕ, [], length};
+ghost use Rattle.std.specs.Prelude.{◌≡◌, ◌≢◌, ◌≤◌, ℕ, [], length};
 ghost use Rattle.apd_base.specs.declared.limits.TheConstants.{MAX_FILE};
 ghost use Rattle.apd_claims.specs.declared.reading.TheConstants.{MOST_READ_NAMES};
 ghost use Rattle.apd_io.specs.Outside.{Rose};
@@ -52,6 +52,7 @@ pub(crate) fn check_log<K: Sink>(
     ensures checked { IsLogChecked log.old.ops start.old text.now log.old.names log.new
         (K.held out.old) (K.held out.new) result }
     ensures write { result ≡ Status.WriteFault → Rose (K.faults out.old) (K.faults out.new) }
+    ensures writes { result ≢ Status.WriteFault → K.faults out.new ≡ K.faults out.old }
 {
     let known = replace(&mut start.state.replies, Answers::new(alloc));
     match check(

@@ -1,6 +1,6 @@
 //! A demonstration: a session over lines that are known, in which the tree has the first word.
 
-ghost use Rattle.std.specs.Prelude.{◌≡◌, ◌<◌, ◌≤◌, [], length, map, option_to_list, IfOk, OnOk};
+ghost use Rattle.std.specs.Prelude.{◌≡◌, ◌≢◌, ◌<◌, ◌≤◌, [], length, map, option_to_list, Some, IfOk, OnOk};
 ghost use Rattle.apd_gen.specs.Nodes.{IsNodeCount};
 ghost use Rattle.apd_io.specs.Outside.{Rose};
 ghost use Rattle.apd_read.specs.Reader.{Reader};
@@ -129,7 +129,7 @@ fn ask_tree(alloc: Global, nodes: u32, start: &mut Start) -> Result<(), AllocErr
 
 /// The lines of a demonstration, as a source.
 fn demo_lines(alloc: Global) -> Result<KnownLines, AllocError>
-    ensures { IfOk result (λ l. l ≡ demo_lines) }
+    ensures { IfOk result (λ l. l.bytes ≡ Some demo_lines) }
 {
     Ok(KnownLines::new(Text::copy_of(alloc, LINES)?))
 }
@@ -138,7 +138,7 @@ fn demo_lines(alloc: Global) -> Result<KnownLines, AllocError>
 fn prepare_demo(alloc: Global, nodes: u32, start: &mut Start) -> Result<KnownLines, AllocError>
     requires { IsNodeCount nodes }
     ensures tree { OnOk result (start.new ≡ with_tree nodes start.old) }
-    ensures lines { IfOk result (λ l. l ≡ demo_lines) }
+    ensures lines { IfOk result (λ l. l.bytes ≡ Some demo_lines) }
 {
     ask_tree(alloc, nodes, start)?;
     let lines = demo_lines(alloc)?;
@@ -167,12 +167,13 @@ fn show<K: Sink>(
     requires empty { log.old.entries.list ≡ [] }
     requires ready { IsStart (length log.old.names) start.old }
     requires few { length log.old.names ≤ 1000000000 }
-    requires lines { lines.old ≡ demo_lines }
+    requires lines { lines.old.bytes ≡ Some demo_lines }
     ensures said { Lasting log.new.names (λ names. (reader : Reader names) →
         IsSaid result (shows reader log.old.ops nodes start.old)
         log.new (K.held out.old) (K.held out.new)) }
     ensures names { GrowsBy MAX_INPUT log.old.names log.new.names }
     ensures write { result ≡ Status.WriteFault → Rose (K.faults out.old) (K.faults out.new) }
+    ensures writes { result ≢ Status.WriteFault → K.faults out.new ≡ K.faults out.old }
 {
     let heard = hear(alloc, start, lines, out, log);
     if is_done(heard) {
@@ -208,6 +209,7 @@ pub(crate) fn play<K: Sink>(
         log.new (K.held out.old) (K.held out.new)) }
     ensures names { GrowsBy MAX_INPUT log.old.names log.new.names }
     ensures write { result ≡ Status.WriteFault → Rose (K.faults out.old) (K.faults out.new) }
+    ensures writes { result ≢ Status.WriteFault → K.faults out.new ≡ K.faults out.old }
 {
     match prepare_demo(alloc, nodes, start) {
         Ok(mut lines) => show(alloc, nodes, start, &mut lines, out, log),

@@ -1,6 +1,6 @@
 //! Sessions that end before they hear anything.
 
-ghost use Rattle.std.specs.Prelude.{◌≡◌, [], length};
+ghost use Rattle.std.specs.Prelude.{◌≡◌, ◌≢◌, [], length};
 ghost use Rattle.apd_io.specs.Outside.{Rose};
 ghost use Rattle.apd_ops.specs.Standard.{standard_table};
 ghost use Rattle.apd_session.specs.Causes.{Comes};
@@ -26,6 +26,7 @@ pub(crate) fn end_with<K: Sink>(alloc: Global, stop: Stop, out: &mut K, log: &mu
         IsSaid result (says_one names stop) log.new (K.held out.old) (K.held out.new)) }
     ensures names { log.new.names ≡ log.old.names }
     ensures write { result ≡ Status.WriteFault → Rose (K.faults out.old) (K.faults out.new) }
+    ensures writes { result ≢ Status.WriteFault → K.faults out.new ≡ K.faults out.old }
     ensures is { Comes result stop.status }
 {
     let Stop { said, status } = stop;
@@ -51,6 +52,7 @@ pub(crate) fn end_before<K: Sink>(
         log.new (K.held out.old) (K.held out.new)) }
     ensures names { log.new.names ≡ log.old.names }
     ensures write { result ≡ Status.WriteFault → Rose (K.faults out.old) (K.faults out.new) }
+    ensures writes { result ≢ Status.WriteFault → K.faults out.new ≡ K.faults out.old }
     ensures is { Comes result stop.status }
 {
     let Stop { said, status } = stop;

@@ -3,7 +3,7 @@
 ghost use Rattle.std.specs.Prelude.{◌≡◌, ◌≤◌, [], ◌∷◌, ℕ, length, IfErr, IfOk};
 ghost use Rattle.apd_base.specs.declared.limits.TheConstants.{MAX_FILE};
 ghost use Rattle.apd_io.specs.Outside.{LoadsInTurn, Rose};
-ghost use Rattle.apd_session.specs.Preparing.{HasText, IsStop};
+ghost use Rattle.apd_session.specs.Preparing.{CountsLoads, HasText, IsStop, stops_of};
 
 use crate::opening::Stop;
 use crate::status::Status;
@@ -23,10 +23,8 @@ pub(crate) fn load_file<F: Files>(
         (Rose (F.faults files.old) (F.faults files.new)) name.now) }
     ensures size { IfOk result (λ r. IfOk r (λ text. length text ≤ MAX_FILE)) }
     ensures stop { IfOk result (λ r. IfErr r (λ why. (n : ℕ) → IsStop n why)) }
-    ensures fault { IfOk result (λ r. IfErr r (λ why. why.status ≡ Status.ReadFault →
-        Rose (F.faults files.old) (F.faults files.new))) }
+    ensures faults { CountsLoads stops_of (F.faults files.old) (F.faults files.new) result }
     ensures same { F.content files.new ≡ F.content files.old }
-    ensures later { F.faults files.old ≤ F.faults files.new }
     ensures loads { LoadsInTurn F.step files.old (name.now ∷ []) files.new }
 {
     match files.load(alloc, name) {

@@ -49,10 +49,9 @@ pub(crate) fn hear<S: Source, K: Sink>(
     requires empty { log.old.entries.list ≡ [] }
     requires ready { IsStart (length log.old.names) start.old }
     requires few { length log.old.names ≤ 1000000000 }
-    ensures goes { GoesOn (hears log.old.ops start.old) log.old.names
+    ensures { GoesOn (hears log.old.ops start.old) log.old.names
         (streams S.Source K.Sink input.old out.old)
         (streams S.Source K.Sink input.new out.new) log.new result }
-    ensures later { K.faults out.old ≤ K.faults out.new }
 {
     let Ok(mut console) = Console::new(alloc) else {
         return Status::Memory;

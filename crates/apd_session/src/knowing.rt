@@ -2,7 +2,7 @@
 
 ghost use Rattle.std.specs.Prelude.{◌≡◌, length, IfOk, OnOk};
 ghost use Rattle.apd_debug.specs.NamedStates.{AreReplies};
-ghost use Rattle.apd_kept.specs.Law.{HasPlainStatements, ReadsBackAs};
+ghost use Rattle.apd_kept.specs.Law.{HasShallowStatements, ReadsBackAs};
 ghost use Rattle.apd_known.specs.declared.file.Stated.{Stated};
 ghost use Rattle.apd_session.specs.Steps.{store_said};
 ghost use Rattle.apd_talk.specs.Speech.{Says, spoken};
@@ -19,7 +19,7 @@ use std::alloc::Global;
 /// Says what is known, as an oracle file.
 ///
 /// That file, read by the operators of the session, states the same trust, and the same replies up to the canonical form of their
-/// questions, where no statement's text has a term at level 1,000 and its names are UTF-8, as each text is that is read.
+/// questions, where no statement's text has a term at level 1,000.
 ///
 /// # Errors
 ///
@@ -33,7 +33,7 @@ pub(crate) fn tell<K: Sink>(
     requires standard { HasStandardNames (length log.old.names) }
     requires named { AreReplies (length log.old.names) replies.now }
     ensures goes { IfOk result (λ next. next ≡ Next.Goes) }
-    ensures back { OnOk result (HasPlainStatements log.old.ops log.old.names replies.now →
+    ensures back { OnOk result (HasShallowStatements log.old.ops replies.now →
         (s : Stated) × ReadsBackAs log.old.ops log.old.names replies.now s) }
     ensures says { Says (λ ops names. store_said ops names replies.now)
         (spoken K.Sink log.old out.old) (spoken K.Sink log.new out.new) result }

@@ -7,7 +7,7 @@ ghost use Rattle.apd_debug.specs.NamedStates.{AreReplies};
 ghost use Rattle.apd_load.specs.Warnings.{warnings_of};
 ghost use Rattle.apd_session.specs.Loads.{LoadsFront, files_named, further_files, named};
 ghost use Rattle.apd_session.specs.Opening.{beginning_of, first_state, stops_with};
-ghost use Rattle.apd_session.specs.Preparing.{HasSubject, IsLoaded, IsReadyOpening, IsStop, IsSubject, Opens, OpensAfter, OpensKnowing, OpensWith};
+ghost use Rattle.apd_session.specs.Preparing.{HasSubject, IsLoaded, IsReadyOpening, IsStop, IsSubject, Opens, OpensAfter, OpensKnowing, OpensWith, CountsLoads, stops_of};
 ghost use Rattle.apd_session.specs.Roles.{file_of_subject, log_of_subject};
 ghost use Rattle.apd_session.specs.Session.{names_of_files};
 ghost use Rattle.apd_session.specs.declared.preparing.Prepared.TheVariants.{Knows};
@@ -137,10 +137,8 @@ fn subject_text<F: Files>(
         (Rose (F.faults files.old) (F.faults files.new)) (asked_subject subject.entry)) }
     ensures size { IfOk result (λ r. IfOk r (λ text. length text ≤ MAX_FILE)) }
     ensures stop { IfOk result (λ r. IfErr r (λ why. (n : ℕ) → IsStop n why)) }
-    ensures fault { IfOk result (λ r. IfErr r (λ why. why.status ≡ Status.ReadFault →
-        Rose (F.faults files.old) (F.faults files.new))) }
+    ensures faults { CountsLoads stops_of (F.faults files.old) (F.faults files.new) result }
     ensures same { F.content files.new ≡ F.content files.old }
-    ensures later { F.faults files.old ≤ F.faults files.new }
     ensures loads { LoadsInTurn F.step files.old
         (named (file_of_subject (asked_subject subject.entry))) files.new }
 {
@@ -199,9 +197,7 @@ fn open_knowing<F: Files>(
         (Rose (F.faults files.old) (F.faults files.new))
         (asked_options asked.entry) loaded names.new (Knows statements replies)) }
     ensures ready { IfOk result (IsReadyOpening (length names.new)) }
-    ensures fault { IfOk result (λ o. stops_with o ≡ Some Status.ReadFault →
-        Rose (F.faults files.old) (F.faults files.new)) }
-    ensures later { F.faults files.old ≤ F.faults files.new }
+    ensures faults { CountsLoads stops_with (F.faults files.old) (F.faults files.new) result }
     ensures loads { let o = asked_options asked.entry in LoadsFront F.step
         (named o.reference ++ named (log_of_subject o.subject)) files.old files.new }
 {
@@ -248,8 +244,7 @@ fn open_program<F: Files>(
         (Rose (F.faults files.old) (F.faults files.new))
         (asked_options asked.entry) loaded names.new) }
     ensures ready { IfOk result (IsReadyOpening (length names.new)) }
-    ensures fault { IfOk result (λ o. stops_with o ≡ Some Status.ReadFault →
-        Rose (F.faults files.old) (F.faults files.new)) }
+    ensures faults { CountsLoads stops_with (F.faults files.old) (F.faults files.new) result }
     ensures loads { LoadsFront F.step
         (further_files (asked_options asked.entry)) files.old files.new }
 {
@@ -279,8 +274,7 @@ fn open_text<F: Files>(
         (Rose (F.faults files.old) (F.faults files.new))
         (asked_options asked.entry) text.now names.new) }
     ensures ready { IfOk result (IsReadyOpening (length names.new)) }
-    ensures fault { IfOk result (λ o. stops_with o ≡ Some Status.ReadFault →
-        Rose (F.faults files.old) (F.faults files.new)) }
+    ensures faults { CountsLoads stops_with (F.faults files.old) (F.faults files.new) result }
     ensures loads { LoadsFront F.step
         (further_files (asked_options asked.entry)) files.old files.new }
 {
@@ -310,8 +304,7 @@ fn open_asked<F: Files>(
         (Rose (F.faults files.old) (F.faults files.new))
         (Some (asked_options asked.entry)) names.new) }
     ensures ready { IfOk result (IsReadyOpening (length names.new)) }
-    ensures fault { IfOk result (λ o. stops_with o ≡ Some Status.ReadFault →
-        Rose (F.faults files.old) (F.faults files.new)) }
+    ensures faults { CountsLoads stops_with (F.faults files.old) (F.faults files.new) result }
     ensures loads { LoadsFront F.step
         (files_named (Some (asked_options asked.entry))) files.old files.new }
 {
@@ -336,8 +329,7 @@ pub(crate) fn open_session<F: Files>(
         (Rose (F.faults files.old) (F.faults files.new))
         (options_of (bytes_of words.now)) names.new) }
     ensures ready { IfOk result (IsReadyOpening (length names.new)) }
-    ensures fault { IfOk result (λ o. stops_with o ≡ Some Status.ReadFault →
-        Rose (F.faults files.old) (F.faults files.new)) }
+    ensures faults { CountsLoads stops_with (F.faults files.old) (F.faults files.new) result }
     ensures loads { LoadsFront F.step
         (files_named (options_of (bytes_of words.now))) files.old files.new }
 {

@@ -1,10 +1,10 @@
 //! What is known before the first line: the replies of an oracle file, and the predicates that it trusts.
 
-ghost use Rattle.std.specs.Prelude.{◌≡◌, ◌≢◌, ◌+◌, ◌<◌, ◌≤◌, length, option_map, Some, IfOk};
+ghost use Rattle.std.specs.Prelude.{◌≡◌, ◌+◌, ◌<◌, ◌≤◌, length, option_map, false, IfOk};
 ghost use Rattle.apd_base.specs.declared.limits.TheConstants.{MAX_FILE, MOST_NAMES};
 ghost use Rattle.apd_io.specs.Outside.{LoadsInTurn, Rose};
 ghost use Rattle.apd_session.specs.Loads.{named};
-ghost use Rattle.apd_session.specs.Preparing.{AreReady, Prepares, States, refuses_with};
+ghost use Rattle.apd_session.specs.Preparing.{AreReady, CountsLoads, Prepares, States, is_read_fault, refuses_with};
 ghost use Rattle.apd_term.specs.Growth.{GrowsBy};
 
 use crate::files::load_file;
@@ -38,7 +38,7 @@ fn state(alloc: Global, text: &Text, ops: &Ops, names: &mut Names) -> Result<Pre
     ensures grows { GrowsBy MAX_FILE names.old names.new }
     ensures states { IfOk result (States ops.now text.now names.new) }
     ensures ready { IfOk result (AreReady (length names.new)) }
-    ensures fault { IfOk result (λ x. refuses_with x ≢ Some Status.ReadFault) }
+    ensures calm { IfOk result (λ x. is_read_fault (refuses_with x) ≡ false) }
 {
     match oracle_file(alloc, text.bytes(), ops, names) {
         Ok(
@@ -73,10 +73,8 @@ pub(crate) fn prepare<F: Files>(
         (Rose (F.faults files.old) (F.faults files.new)) ops.now names.new
         (option_map (λ s. s.now) oracle.entry)) }
     ensures ready { IfOk result (AreReady (length names.new)) }
-    ensures fault { IfOk result (λ x. refuses_with x ≡ Some Status.ReadFault →
-        Rose (F.faults files.old) (F.faults files.new)) }
+    ensures faults { CountsLoads refuses_with (F.faults files.old) (F.faults files.new) result }
     ensures same { F.content files.new ≡ F.content files.old }
-    ensures later { F.faults files.old ≤ F.faults files.new }
     ensures loads { LoadsInTurn F.step files.old
         (named (option_map (λ s. s.now) oracle.entry)) files.new }
 {

@@ -1,10 +1,10 @@
 //! How a session goes on with what is debugged.
 
-ghost use Rattle.std.specs.Prelude.{◌≡◌, ◌≤◌, ℕ, List, [], ◌∷◌, Some, IfOk};
+ghost use Rattle.std.specs.Prelude.{◌≡◌, ℕ, List, [], ◌∷◌, IfOk};
 ghost use Rattle.apd_io.specs.Outside.{LoadsInTurn, Rose};
 ghost use Rattle.apd_session.specs.Loads.{named};
 ghost use Rattle.apd_session.specs.Opening.{goes_on, stops_with};
-ghost use Rattle.apd_session.specs.Preparing.{Follows, IsPursued, IsReadyOpening, IsStart, IsSubject, Pursues, stops_pursued};
+ghost use Rattle.apd_session.specs.Preparing.{Follows, IsPursued, IsReadyOpening, IsStart, IsSubject, Pursues, CountsLoads, stops_of};
 ghost use Rattle.apd_session.specs.Roles.{log_of_subject};
 ghost use Rattle.apd_words.specs.Words.{OfLog, asked_subject};
 
@@ -25,9 +25,7 @@ fn checks_log<F: Files>(
     ensures pursues { (program : List ℕ) → IfOk result (Pursues (F.content files.old)
         (Rose (F.faults files.old) (F.faults files.new)) (OfLog program name.now)) }
     ensures ready { IfOk result IsPursued }
-    ensures fault { IfOk result (λ r. stops_pursued r ≡ Some Status.ReadFault →
-        Rose (F.faults files.old) (F.faults files.new)) }
-    ensures later { F.faults files.old ≤ F.faults files.new }
+    ensures faults { CountsLoads stops_of (F.faults files.old) (F.faults files.new) result }
     ensures loads { LoadsInTurn F.step files.old (name.now ∷ []) files.new }
 {
     match load_file(alloc, name, files)? {
@@ -46,9 +44,7 @@ fn pursue<F: Files>(
     ensures pursues { IfOk result (Pursues (F.content files.old)
         (Rose (F.faults files.old) (F.faults files.new)) (asked_subject subject.entry)) }
     ensures ready { IfOk result IsPursued }
-    ensures fault { IfOk result (λ r. stops_pursued r ≡ Some Status.ReadFault →
-        Rose (F.faults files.old) (F.faults files.new)) }
-    ensures later { F.faults files.old ≤ F.faults files.new }
+    ensures faults { CountsLoads stops_of (F.faults files.old) (F.faults files.new) result }
     ensures loads { LoadsInTurn F.step files.old
         (named (log_of_subject (asked_subject subject.entry))) files.new }
 {
@@ -89,9 +85,7 @@ pub(crate) fn follow<F: Files>(
     ensures follows { IfOk result (Follows (F.content files.old)
         (Rose (F.faults files.old) (F.faults files.new)) (asked_subject subject.entry) ops start) }
     ensures ready { (n : ℕ) → IsStart n start → IfOk result (IsReadyOpening n) }
-    ensures fault { IfOk result (λ o. stops_with o ≡ Some Status.ReadFault →
-        Rose (F.faults files.old) (F.faults files.new)) }
-    ensures later { F.faults files.old ≤ F.faults files.new }
+    ensures faults { CountsLoads stops_with (F.faults files.old) (F.faults files.new) result }
     ensures loads { LoadsInTurn F.step files.old
         (named (log_of_subject (asked_subject subject.entry))) files.new }
 {

@@ -1,6 +1,6 @@
 //! Who is asked before the user: nobody, or the program of a reference file.
 
-ghost use Rattle.std.specs.Prelude.{◌≡◌, ◌≢◌, ◌+◌, ◌<◌, ◌≤◌, length, option_map, Some, IfOk};
+ghost use Rattle.std.specs.Prelude.{◌≡◌, ◌+◌, ◌<◌, ◌≤◌, length, option_map, false, IfOk};
 ghost use Rattle.apd_base.specs.declared.limits.TheConstants.{MAX_FILE, MOST_NAMES, MOST_SHOWN};
 ghost use Rattle.apd_io.specs.Outside.{LoadsInTurn, Rose};
 ghost use Rattle.apd_clauses.specs.Clauses.{tuples_of};
@@ -8,7 +8,7 @@ ghost use Rattle.apd_load.specs.Program.{loads};
 ghost use Rattle.apd_load.specs.Warnings.{warnings_of};
 ghost use Rattle.apd_session.specs.Loads.{named};
 ghost use Rattle.apd_session.specs.Opening.{last_line, referred_by, refused_reference};
-ghost use Rattle.apd_session.specs.Preparing.{IsReferring, Refers, ReviewsText, stops_referring};
+ghost use Rattle.apd_session.specs.Preparing.{CountsLoads, IsReferring, Refers, ReviewsText, is_read_fault, stops_referring};
 ghost use Rattle.apd_term.specs.Growth.{GrowsBy};
 ghost use Rattle.apd_term.specs.Named.{AllTuplesNamed};
 ghost use Rattle.apd_term.specs.StandardNames.{standard_names};
@@ -100,7 +100,7 @@ fn refer_by(
     ensures grows { GrowsBy MAX_FILE names.old names.new }
     ensures reviews { IfOk result (ReviewsText budget text.now names.new) }
     ensures ready { IfOk result (IsReferring (length names.new)) }
-    ensures fault { IfOk result (λ x. stops_referring x ≢ Some Status.ReadFault) }
+    ensures calm { IfOk result (λ x. is_read_fault (stops_referring x) ≡ false) }
 {
     match load(alloc, text.bytes(), names) {
         Ok(loaded) => Ok(refer_to(alloc, budget, loaded)),
@@ -126,10 +126,8 @@ pub(crate) fn refer<F: Files>(
         (Rose (F.faults files.old) (F.faults files.new)) budget names.new
         (option_map (λ s. s.now) reference.entry)) }
     ensures ready { IfOk result (IsReferring (length names.new)) }
-    ensures fault { IfOk result (λ x. stops_referring x ≡ Some Status.ReadFault →
-        Rose (F.faults files.old) (F.faults files.new)) }
+    ensures faults { CountsLoads stops_referring (F.faults files.old) (F.faults files.new) result }
     ensures same { F.content files.new ≡ F.content files.old }
-    ensures later { F.faults files.old ≤ F.faults files.new }
     ensures loads { LoadsInTurn F.step files.old
         (named (option_map (λ s. s.now) reference.entry)) files.new }
 {

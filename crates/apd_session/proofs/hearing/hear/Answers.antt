@@ -6,15 +6,17 @@ use Rattle.apd_session.specs.Known.{streams}
 use Rattle.apd_session.specs.Opening.{hears}
 use Rattle.apd_session.specs.Session.{transcript_of}
 use Rattle.apd_talk.specs.Moment.{moment}
-use Rattle.apd_session.proofs.Limit.{takes_limit}
-use Rattle.apd_session.proofs.Loading.{broken_no_limit, broken_no_read, broken_write, ended_no_write, ended_over, ended_read, grew_lines, opened_broken, opened_ended}
+use Rattle.apd_session.proofs.Limit.{nothing_read, reads_in_time, takes_limit}
+use Rattle.apd_talk.proofs.Answering.{fault_rose}
+use Rattle.apd_talk.proofs.Counting.{write_rose}
+use Rattle.apd_session.proofs.Loading.{broken_no_limit, broken_no_read, broken_reads, broken_write, broken_writes, ended_no_write, ended_over, ended_read, ended_reads, grew_lines, opened_broken, opened_ended}
 use Rattle.apd_session.proofs.Turning.{grows_none}
 use Rattle.apd_lines.proofs.Growing.{Grown-self}
 use Rattle.apd_session.proofs.Worlds.{unread_front}
 use Rattle.apd_session.proofs.hearing.hear.Goals as goal
 
-pub returns-in_default-clause-goes : goal.returns-in_default-clause-goes
-returns-in_default-clause-goes g c = record {
+pub returns-in_default : goal.returns-in_default
+returns-in_default g c = record {
   verdict = Holds 0;
   judged = λ names grew reader. inr tt;
   answers = λ names grew reader.
@@ -23,10 +25,14 @@ returns-in_default-clause-goes g c = record {
   limit = λ is. absurd (cc);
   read = λ is. absurd (cc);
   write = λ is. absurd (cc);
+  in_time = nothing_read _ _ refl;
+  reads = inl refl;
+  writes = λ not. refl;
+  stopped = λ why e. absurd (cc);
 }
 
-pub returns-in-Ok-begin-clause-goes : goal.returns-in-Ok-begin-clause-goes
-returns-in-Ok-begin-clause-goes g c = record {
+pub returns-in-Ok-begin : goal.returns-in-Ok-begin
+returns-in-Ok-begin g c = record {
   verdict = Holds 0;
   judged = λ names grew reader. inr tt;
   answers = λ names grew reader.
@@ -44,12 +50,25 @@ returns-in-Ok-begin-clause-goes g c = record {
   read = λ is.
       let some : Reader c.begin.new.log.names = every_reader c.begin.new.log.names in
       let ends = c.in-Ok-begin.ensures.course c.begin.new.log.names (Grown-self c.begin.new.log.names) some in
-      inr (ends.rose (ended_read c.in-Ok-begin.ending (sym c.status_after.ensures ∙ is)));
+      inr (fault_rose c.in-Ok-begin.ending _ _ (ended_read c.in-Ok-begin.ending (sym c.status_after.ensures ∙ is)) ends.reads);
   write = λ is. absurd (ended_no_write c.in-Ok-begin.ending (sym c.status_after.ensures ∙ is));
+  in_time =
+      let some : Reader c.begin.new.log.names = every_reader c.begin.new.log.names in
+      let ends = c.in-Ok-begin.ensures.course c.begin.new.log.names (Grown-self c.begin.new.log.names) some in
+      reads_in_time c.in-Ok.console c.begin.new.console _ _ ends.heard c.in-Ok.ensures c.begin.ensures.keeps.sound ends.hands ends.on_time;
+  reads =
+      let some : Reader c.begin.new.log.names = every_reader c.begin.new.log.names in
+      let ends = c.in-Ok-begin.ensures.course c.begin.new.log.names (Grown-self c.begin.new.log.names) some in
+      rw c.status_after.ensures
+      (ended_reads c.in-Ok-begin.ending (streams g.S.Source g.K.Sink c.args.input.now c.args.out.now) (streams g.S.Source g.K.Sink c.begin.new.input c.begin.new.out) ends.reads);
+  writes = λ not.
+      let some : Reader c.begin.new.log.names = every_reader c.begin.new.log.names in
+      (c.in-Ok-begin.ensures.course c.begin.new.log.names (Grown-self c.begin.new.log.names) some).writes;
+  stopped = λ why e. absurd (cc);
 }
 
-pub returns-clause-goes : goal.returns-clause-goes
-returns-clause-goes g c = record {
+pub returns : goal.returns
+returns g c = record {
   verdict = Holds 0;
   judged = λ names grew reader. inr tt;
   answers = λ names grew reader.
@@ -63,15 +82,19 @@ returns-clause-goes g c = record {
   write = λ is.
       let some : Reader c.begin.new.log.names = every_reader c.begin.new.log.names in
       let breaks = c.in-Err.ensures.course c.begin.new.log.names (Grown-self c.begin.new.log.names) some in
-      breaks.write_rose (broken_write c.in-Err.trouble (sym c.status_of.ensures ∙ is));
+      write_rose _ _ c.in-Err.trouble breaks.writes (broken_write c.in-Err.trouble (sym c.status_of.ensures ∙ is));
+  in_time =
+      let some : Reader c.begin.new.log.names = every_reader c.begin.new.log.names in
+      let breaks = c.in-Err.ensures.course c.begin.new.log.names (Grown-self c.begin.new.log.names) some in
+      reads_in_time c.in-Ok.console c.begin.new.console _ _ breaks.heard c.in-Ok.ensures c.begin.ensures.keeps.sound breaks.hands breaks.on_time;
+  reads =
+      let some : Reader c.begin.new.log.names = every_reader c.begin.new.log.names in
+      let breaks = c.in-Err.ensures.course c.begin.new.log.names (Grown-self c.begin.new.log.names) some in
+      rw c.status_of.ensures
+      (broken_reads c.in-Err.trouble breaks.way (streams g.S.Source g.K.Sink c.args.input.now c.args.out.now) (streams g.S.Source g.K.Sink c.begin.new.input c.begin.new.out) breaks.reads);
+  writes = λ not.
+      let some : Reader c.begin.new.log.names = every_reader c.begin.new.log.names in
+      let breaks = c.in-Err.ensures.course c.begin.new.log.names (Grown-self c.begin.new.log.names) some in
+      broken_writes c.in-Err.trouble _ _ breaks.writes (λ is. not (c.status_of.ensures ∙ is));
+  stopped = λ why e. absurd (cc);
 }
-
-pub returns-in-Ok-begin-clause-later : goal.returns-in-Ok-begin-clause-later
-returns-in-Ok-begin-clause-later g c =
-    let some : Reader c.begin.new.log.names = every_reader c.begin.new.log.names in
-    (c.in-Ok-begin.ensures.course c.begin.new.log.names (Grown-self c.begin.new.log.names) some).later.writes
-
-pub returns-clause-later : goal.returns-clause-later
-returns-clause-later g c =
-    let some : Reader c.begin.new.log.names = every_reader c.begin.new.log.names in
-    (c.in-Err.ensures.course c.begin.new.log.names (Grown-self c.begin.new.log.names) some).later.writes

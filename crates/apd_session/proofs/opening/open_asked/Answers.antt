@@ -1,8 +1,10 @@
 use Rattle.std.proofs.Common.{length, ℕ, Ok, Err}
 use Rattle.apd_io.specs.Outside.{Rose}
 use Rattle.apd_words.specs.Words.{asked_options, asked_subject}
+use Rattle.apd_session.specs.Opening.{stops_with}
 use Rattle.apd_session.specs.Preparing.{HasSubject, IsStop}
-use Rattle.apd_session.proofs.Making.{fault_more, opens_not, opens_text, rose_more}
+use Rattle.apd_session.proofs.LoadCounts.{counts_more, rose_more}
+use Rattle.apd_session.proofs.Making.{opens_not, opens_text}
 use Rattle.apd_session.specs.Loads.{further_files, named}
 use Rattle.apd_session.specs.Roles.{file_of_subject}
 use Rattle.apd_session.proofs.FilesInTurn.{loads_first, loads_then}
@@ -12,10 +14,13 @@ pub returns-in-Ok-clause-opens : goal.returns-in-Ok-clause-opens
 returns-in-Ok-clause-opens g c =
     let has : HasSubject (g.F.Files.content c.args.files.now) (Rose (g.F.Files.faults c.args.files.now) (g.F.Files.faults c.subject_text.new.files)) (asked_subject c.args.asked.subject) (Ok c.in-Ok.text) =
     rw c.in-Ok.is at c.in_ok-text.ensures.has in
-    opens_text _ _ _ _ _ (asked_options c.args.asked) c.in-Ok.text c.open_text.new.names c.open_text.result has c.in_ok-text.ensures.same (rose_more _ _ _ c.in_ok-text.ensures.later) c.open_text.ensures.opens
+    opens_text _ _ _ _ _ (asked_options c.args.asked) c.in-Ok.text c.open_text.new.names c.open_text.result has c.in_ok-text.ensures.same (rose_more _ _ _ (rw c.in-Ok.is at c.in_ok-text.ensures.faults)) c.open_text.ensures.opens
 
-pub returns-in-Ok-clause-fault : goal.returns-in-Ok-clause-fault
-returns-in-Ok-clause-fault g c = fault_more c.open_text.result _ _ _ c.in_ok-text.ensures.later c.open_text.ensures.fault
+pub returns-in-Ok-clause-faults : goal.returns-in-Ok-clause-faults
+returns-in-Ok-clause-faults g c = counts_more stops_with c.open_text.result _ _ _ (rw c.in-Ok.is at c.in_ok-text.ensures.faults) c.open_text.ensures.faults
+
+pub returns-in-Err-clause-faults : goal.returns-in-Err-clause-faults
+returns-in-Err-clause-faults g c = rw c.in-Err.is at c.in_ok-text.ensures.faults
 
 pub returns-in-Err-clause-opens : goal.returns-in-Err-clause-opens
 returns-in-Err-clause-opens g c =

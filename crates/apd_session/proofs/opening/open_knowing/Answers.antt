@@ -7,7 +7,9 @@ use Rattle.apd_session.specs.declared.opening.Beginning.{Beginning}
 use Rattle.apd_session.specs.declared.opening.Start.{Start}
 use Rattle.apd_session.specs.declared.referring.Referring.TheVariants.{Asks, Stops}
 use Rattle.apd_session.proofs.Loading.{grew_by}
-use Rattle.apd_session.proofs.Making.{closing_ready, fault_more, opens_asking, opens_following, pursues_any, rose_later, rose_more, start_ready}
+use Rattle.apd_session.proofs.LoadCounts.{counts_more, rose_later, rose_more}
+use Rattle.apd_session.proofs.Making.{closing_ready, opens_asking, opens_following, pursues_any, start_ready}
+use Rattle.apd_session.specs.Opening.{stops_with}
 use Rattle.apd_session.proofs.Refereeing.{refers_later}
 use Rattle.apd_session.specs.Loads.{named}
 use Rattle.apd_session.specs.Roles.{log_of_subject}
@@ -19,9 +21,9 @@ returns-in-Asks-clause-opens g c =
     let b : Beginning = record { clauses = c.count.result; passed = c.args.loaded.passed; called = c.args.loaded.warnings; statements = c.args.statements; reference = c.in-Asks.reference } in
     let start : Start = record { beginning = b; state = c.first_state-state.result } in
     opens_following _ _ _ _ (asked_options c.args.asked) c.args.loaded c.refer.new.names c.args.statements c.args.replies c.in-Asks.referee c.in-Asks.reference start c.follow.result
-    (refers_later _ _ _ _ _ _ _ _ refl (rose_later _ _ _ c.follow.ensures.later) (rw c.in-Asks.is at c.in_ok-referee.ensures.refers))
+    (refers_later _ _ _ _ _ _ _ _ refl (rose_later stops_with c.follow.result _ _ _ (rw c.in-Asks.is at c.in_ok-referee.ensures.faults) c.follow.ensures.faults) (rw c.in-Asks.is at c.in_ok-referee.ensures.refers))
     (rw (c.first_state-state.ensures, c.count.ensures.count, c.requires.loaded.warnings) refl)
-    c.refer.ensures.same (rose_more _ _ _ c.refer.ensures.later) c.follow.ensures.follows
+    c.refer.ensures.same (rose_more _ _ _ (rw c.in-Asks.is at c.in_ok-referee.ensures.faults)) c.follow.ensures.follows
 
 pub returns-in-Asks-clause-ready : goal.returns-in-Asks-clause-ready
 returns-in-Asks-clause-ready g c =
@@ -34,8 +36,11 @@ returns-in-Asks-clause-ready g c =
     (start_ready (length c.args.names.now) (length c.refer.new.names) (asked_options c.args.asked) c.args.loaded.program c.args.replies c.in-Asks.referee b more c.requires.limits c.requires.standard c.requires.loaded.program c.requires.loaded.passed c.requires.loaded.called asks.1 (AreReplies-more _ _ c.args.replies more c.requires.replies) asks.0) in
     c.follow.ensures.ready (length c.refer.new.names) ready
 
-pub returns-in-Asks-clause-fault : goal.returns-in-Asks-clause-fault
-returns-in-Asks-clause-fault g c = fault_more c.follow.result _ _ _ c.refer.ensures.later c.follow.ensures.fault
+pub returns-in-Asks-clause-faults : goal.returns-in-Asks-clause-faults
+returns-in-Asks-clause-faults g c = counts_more stops_with c.follow.result _ _ _ (rw c.in-Asks.is at c.in_ok-referee.ensures.faults) c.follow.ensures.faults
+
+pub returns-in-Stops-clause-faults : goal.returns-in-Stops-clause-faults
+returns-in-Stops-clause-faults g c = rw c.close.ensures (rw c.in-Stops.is at c.in_ok-referee.ensures.faults)
 
 pub returns-in-Stops-clause-opens : goal.returns-in-Stops-clause-opens
 returns-in-Stops-clause-opens g c =

@@ -2,7 +2,9 @@ use Rattle.std.proofs.Common.{◌≤◌, ◌+◌, ◌++◌, arith, length, None}
 use Rattle.apd_lines.proofs.Growing.{Grown-length, Grown-more, grows_to}
 use Rattle.apd_words.specs.Words.{asked_options}
 use Rattle.apd_session.proofs.Loading.{grew_both, grew_by}
-use Rattle.apd_session.proofs.Making.{IsLoaded-more, closing_ready, fault_more, opens_knowing, opens_refusing, rose_later, rose_more}
+use Rattle.apd_session.proofs.LoadCounts.{counts_more, rose_later, rose_more}
+use Rattle.apd_session.proofs.Making.{IsLoaded-more, closing_ready, opens_knowing, opens_refusing}
+use Rattle.apd_session.specs.Opening.{stops_with}
 use Rattle.apd_session.specs.Loads.{named}
 use Rattle.apd_session.specs.Roles.{log_of_subject}
 use Rattle.apd_session.proofs.FilesInTurn.{loads_first, loads_then}
@@ -30,11 +32,14 @@ returns-in-Knows-clause-grows g c = grew_both 1048576 1048576 c.args.names.now c
 pub returns-in-Knows-clause-opens : goal.returns-in-Knows-clause-opens
 returns-in-Knows-clause-opens g c =
     opens_knowing _ _ _ _ _ (asked_options c.args.asked) c.args.loaded c.prepare.new.names c.open_knowing.new.names c.in-Knows.statements c.in-Knows.replies c.open_knowing.result
-    (rw c.in-Knows.is at c.in_ok-statements.ensures.prepares) c.prepare.ensures.same (rose_later _ _ _ c.open_knowing.ensures.later) (rose_more _ _ _ c.prepare.ensures.later)
+    (rw c.in-Knows.is at c.in_ok-statements.ensures.prepares) c.prepare.ensures.same (rose_later stops_with c.open_knowing.result _ _ _ (rw c.in-Knows.is at c.in_ok-statements.ensures.faults) c.open_knowing.ensures.faults) (rose_more _ _ _ (rw c.in-Knows.is at c.in_ok-statements.ensures.faults))
     (λ n grew. Grown-more c.prepare.new.names c.open_knowing.new.names n (grew_by _ _ _ c.open_knowing.ensures.grows) grew) c.open_knowing.ensures.opens
 
-pub returns-in-Knows-clause-fault : goal.returns-in-Knows-clause-fault
-returns-in-Knows-clause-fault g c = fault_more c.open_knowing.result _ _ _ c.prepare.ensures.later c.open_knowing.ensures.fault
+pub returns-in-Knows-clause-faults : goal.returns-in-Knows-clause-faults
+returns-in-Knows-clause-faults g c = counts_more stops_with c.open_knowing.result _ _ _ (rw c.in-Knows.is at c.in_ok-statements.ensures.faults) c.open_knowing.ensures.faults
+
+pub returns-in-Refuses-clause-faults : goal.returns-in-Refuses-clause-faults
+returns-in-Refuses-clause-faults g c = rw c.close.ensures (rw c.in-Refuses.is at c.in_ok-statements.ensures.faults)
 
 pub returns-in-Refuses-clause-opens : goal.returns-in-Refuses-clause-opens
 returns-in-Refuses-clause-opens g c =

@@ -34,8 +34,8 @@ returns-in-Ok-clause-ready c =
     rw c.refer_to.ensures
     (referring_ready c.args.budget l.program l.ops l.passed (length c.load.new.names) standard c.in-Ok.ensures.named c.in-Ok.ensures.passed (subst (NotesAreNamed (length c.load.new.names)) c.in-Ok.ensures.warnings c.in-Ok.ensures.noted))
 
-pub returns-in-Ok-clause-fault : goal.returns-in-Ok-clause-fault
-returns-in-Ok-clause-fault c = let l = c.in-Ok.loaded in rw c.refer_to.ensures (referring_calm c.args.budget l.program l.ops l.passed)
+pub returns-in-Ok-clause-calm : goal.returns-in-Ok-clause-calm
+returns-in-Ok-clause-calm c = let l = c.in-Ok.loaded in rw c.refer_to.ensures (referring_calm c.args.budget l.program l.ops l.passed)
 
 pub returns-in-Err-Refused-clause-reviews : goal.returns-in-Err-Refused-clause-reviews
 returns-in-Err-Refused-clause-reviews c =

@@ -26,6 +26,7 @@ BOX = ":- op(200, fy, box).\n" + SAME
 BOX_CALLED = ":- op(200, fy, box).\n:- op(300, xfy, called).\n" + SAME
 MANY = "".join(f"p({n}, X) :- q(X).\n" for n in range(20000))
 
+WRONG = "bug: wrong instance of clause 1, line 1: "
 CALL = "bug: call not below its caller: clause 1, line 1, goal 1: "
 APART = "bug: call not below its caller: clause 1, line 1, goal 2: n(1) (box 3) called by n(0) (box 1)\n"
 
@@ -39,7 +40,7 @@ def below(low, high, reply="yes"):
 
 
 def signs(number):
-    """An atom whose mark in a store is that of each other that is made so."""
+    """An atom of 16 numbers that differ in their signs alone: by marks without signs all these share one."""
     return "q(" + ",".join("-1" if number >> bit & 1 else "1" for bit in range(16)) + ")"
 
 
@@ -97,6 +98,7 @@ class Logs:
         yield "questions", SAME, self.filled("", lambda n: asked(f"true? q({n})", "yes"))
         yield "symptoms", SAME, self.filled("", lambda n: f"symptom: true: q({n})\n")
         yield "one symptom again and again", SAME, self.filled("", "symptom: true: q(1)\n")
+        yield "many values for one body", OPEN, self.filled("", lambda n: asked("covers? p(a) :- q(_1)", f"yes([{n}])"))
         yield "symptoms with one mark", SAME, self.filled("", lambda n: f"symptom: true: {signs(n)}\n")
 
     def findings(self):
@@ -109,6 +111,11 @@ class Logs:
         yield "an uncovered goal by the last of many symptoms", SAME, self.filled(symptoms, f"bug: uncovered goal: q({last})\n")
         yield "the same with one name", SAME, self.filled(nested, f"bug: uncovered goal: q(f({last_nested}))\n")
         yield "an uncovered goal behind denials", SAME, self.filled(denied, "bug: uncovered goal: q(2)\n")
+        alike = self.filled("", lambda n: f"symptom: not true: q(1,{n})\n", 0.5)
+        last_alike = alike.count("\n") - 1
+        yield "a wrong instance by the last of many denials", "q(1,X).\n", self.filled(alike, WRONG + f"q(1,{last_alike})\n")
+        others = self.filled("", lambda n: f"symptom: not true: q({n},1)\n", 0.5) + "symptom: not true: q(a,b)\n"
+        yield "a wrong instance that begins with a variable", "q(X,Y).\n", self.filled(others, WRONG + "q(_1,b)\n")
         front = "symptom: true: p(_1,_2)\n"
         yield "uncovered goals among 20,000 clauses", MANY, self.filled(front, lambda n: f"bug: uncovered goal: p({n + 20000},a)\n")
         yield "candidates of which each needs the last", OPEN, self.group()

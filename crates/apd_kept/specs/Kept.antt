@@ -4,6 +4,7 @@ use Rattle.apd_term.specs.Canonical.{by_appearance, canonical, shifted}
 use Rattle.apd_term.specs.Term.{Term, integer, compound, none, more, variables}
 use Rattle.apd_term.specs.declared.standard.TheConstants.{BELOW, COVERS, DIVIDE, NO, TRUE, TRUSTED, UNKNOWN, YES}
 use Rattle.apd_term.specs.declared.term.Pred.{Pred}
+use Rattle.apd_ops.specs.declared.op.TheConstants.{MOST_PRIORITY}
 use Rattle.apd_ops.specs.Table.{Table}
 use Rattle.apd_write.specs.Writing.{written}
 use Rattle.apd_answers.specs.Store.{Store}
@@ -49,7 +50,7 @@ trust_term p = compound TRUSTED (more (indicator_term p) none)
 
 -- a statement in a line of its own: as a clause is written, a space and a full stop
 abbrev pub line_of : Table → List (List ℕ) → Term → List ℕ
-line_of ops names t = written ops names t 1200 ++ codes " .\n"
+line_of ops names t = written ops names t MOST_PRIORITY ++ codes " .\n"
 
 abbrev pub trust_line : Table → List (List ℕ) → Pred → List ℕ
 trust_line ops names p = line_of ops names (trust_term p)

@@ -1,7 +1,9 @@
 -- The law of reading back: the text of a store is an oracle file that states what the store keeps.
 use Rattle.std.specs.Prelude.{◌≡◌, ℕ, ◌<◌, ◌≤◌, ◌++◌, List, length}
 use Rattle.std.specs.List.{AllByRecursion}
+use Rattle.apd_ops.specs.declared.op.TheConstants.{MOST_PRIORITY}
 use Rattle.apd_ops.specs.Table.{Table}
+use Rattle.apd_read.specs.declared.phrase.TheConstants.{TOO_MANY_LEVELS}
 use Rattle.apd_read.specs.Reader.{Reader}
 use Rattle.apd_reading_back.specs.Law.{IsInRange}
 use Rattle.apd_reading_back.specs.Levels.{levels}
@@ -17,7 +19,7 @@ use Rattle.apd_kept.specs.Kept.{known_text, pair_term, trust_term}
 -- the text of a statement has no term at level 1,000, and its numbers are those of symbols
 pub record CanBeWritten (ops : Table) (t : Term) : Type 0 where
   pub in_range : IsInRange t
-  pub shallow : levels ops t 1200 < 1000
+  pub shallow : levels ops t MOST_PRIORITY < TOO_MANY_LEVELS
 
 -- a store whose names are kept, whose pairs and predicates may be stated and are kept once, and whose statements can be written
 pub record IsWritableStore (ops : Table) (names : List (List ℕ)) (store : Store) : Type 0 where
@@ -31,7 +33,7 @@ pub record IsWritableStore (ops : Table) (names : List (List ℕ)) (store : Stor
 
 -- the statement's text has no term at level 1,000
 abbrev pub IsShallow : Table → Term → Type 0
-IsShallow ops t = levels ops t 1200 < 1000
+IsShallow ops t = levels ops t MOST_PRIORITY < TOO_MANY_LEVELS
 
 -- each statement of the store is so
 pub record HasShallowStatements (ops : Table) (store : Store) : Type 0 where

@@ -13,7 +13,7 @@ use crate::ranges::is_in_range;
 use crate::statements::{pair_term, trust_term};
 use apd_answers::Answers;
 use apd_base::Text;
-use apd_ops::Ops;
+use apd_ops::{MOST_PRIORITY, Ops};
 use apd_term::names::Names;
 use apd_term::{Flat, Pred};
 use apd_write::write_term;
@@ -24,7 +24,7 @@ fn line_of(alloc: Global, ops: &Ops, names: &Names, statement: &Flat) -> Result<
     ensures { IfOk result (λ t. t ≡ line_of ops.now names.now statement.now) }
 {
     let mut text = Text::new(alloc);
-    write_term(alloc, ops, names, statement, 1200, &mut text)?;
+    write_term(alloc, ops, names, statement, MOST_PRIORITY, &mut text)?;
     text.extend(b" .\n")?;
     Ok(text)
 }

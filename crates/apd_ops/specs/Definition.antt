@@ -4,6 +4,7 @@ use Rattle.std.specs.List.{list_any}
 use Rattle.std.specs.FinMap.{keys}
 use Rattle.apd_term.specs.declared.term.NameId.{NameId}
 use Rattle.apd_term.specs.declared.standard.TheConstants.{COMMA, BAR, NIL, CURLY}
+use Rattle.apd_ops.specs.declared.op.TheConstants.{MOST_PRIORITY}
 use Rattle.apd_ops.specs.declared.op.OpKind.{OpKind}
 use Rattle.apd_ops.specs.declared.op.OpFault.{OpFault}
 use Rattle.apd_ops.specs.declared.op.OpFault.TheVariants.{BadPriority, Fixed, Clash}
@@ -32,5 +33,5 @@ definition_by t p k f = if is_fixed f then Err Fixed else (if has_clash (defined
 
 -- the table after a definition, or the first reason why it is refused
 abbrev pub definition : Table → ℤ → OpKind → NameId → Result Table OpFault
-definition t (pos p) k f = if nat_le p 1200 then definition_by t p k f else Err BadPriority
+definition t (pos p) k f = if nat_le p MOST_PRIORITY then definition_by t p k f else Err BadPriority
 definition t (negsuc n) k f = Err BadPriority

@@ -5,6 +5,7 @@ use Rattle.std.specs.Coded.{Coded, code_by, coded×, coded_ℕ}
 use Rattle.apd_ops.specs.contracts.op.OpKind as kinds
 use Rattle.std.specs.FinMap.{FinMap, code, get, insert, remove, from_entries}
 use Rattle.apd_term.specs.declared.term.NameId.{NameId}
+use Rattle.apd_ops.specs.declared.op.TheConstants.{MOST_PRIORITY}
 use Rattle.apd_ops.specs.declared.op.OpKind.{OpKind}
 use Rattle.apd_ops.specs.declared.op.OpKind.TheVariants.{Xfy, Yfx}
 use Rattle.apd_ops.specs.declared.op.OpFault.{OpFault}
@@ -62,8 +63,8 @@ IsNoOperator t f = (prefix_in t f.0 ≡ None) × (infix_in t f.0 ≡ None)
 -- each meaning is of its place and has a priority from 1 to 1200, and no two clash; the comma is an infix operator alone,
 -- and the bar, [] and {} are none
 pub record IsTable (t : Table) : Type 0 where
-  pub prefixes_are : (f : ℕ) (m : Meaning) → prefix_in t f ≡ Some m → prefix_kind m.1 × (1 ≤ m.0) × (m.0 ≤ 1200)
-  pub infixes_are : (f : ℕ) (m : Meaning) → infix_in t f ≡ Some m → infix_kind m.1 × (1 ≤ m.0) × (m.0 ≤ 1200)
+  pub prefixes_are : (f : ℕ) (m : Meaning) → prefix_in t f ≡ Some m → prefix_kind m.1 × (1 ≤ m.0) × (m.0 ≤ MOST_PRIORITY)
+  pub infixes_are : (f : ℕ) (m : Meaning) → infix_in t f ≡ Some m → infix_kind m.1 × (1 ≤ m.0) × (m.0 ≤ MOST_PRIORITY)
   pub apart : HasClash t → ⊥
   pub comma : infix_in t COMMA.0 ≡ Some (1000, Xfy)
   pub comma_alone : prefix_in t COMMA.0 ≡ None
@@ -92,7 +93,7 @@ IsGiven t m = (f : ℕ) × ((prefix_in t f ≡ Some m) ⊎ (infix_in t f ≡ Som
 
 -- a priority of an operator, or 0
 abbrev pub IsPriority : ℤ → ℕ → Type 0
-IsPriority z p = (z ≡ pos p) × (p ≤ 1200)
+IsPriority z p = (z ≡ pos p) × (p ≤ MOST_PRIORITY)
 
 -- the comma, the bar, [] and {} keep their meanings
 abbrev pub IsFixed : NameId → Type 0
@@ -104,7 +105,7 @@ IsMade old z k f new = (p : ℕ) × IsPriority z p × (¬ IsFixed f) × (¬ Woul
 
 -- The definition is refused for this reason, which is the first that holds. Want of memory may come at any.
 abbrev pub IsRefused : Table → ℤ → OpKind → NameId → OpFault → Type 0
-IsRefused old z k f faults.BadPriority = (z <ℤ pos 0) ⊎ (pos 1200 <ℤ z)
+IsRefused old z k f faults.BadPriority = (z <ℤ pos 0) ⊎ (pos MOST_PRIORITY <ℤ z)
 IsRefused old z k f faults.Fixed = (p : ℕ) × IsPriority z p × IsFixed f
 IsRefused old z k f faults.Clash = (p : ℕ) × IsPriority z p × (¬ IsFixed f) × WouldClash old p k f.0
 IsRefused old z k f faults.Memory = Unit {0}

@@ -9,5 +9,5 @@ mod op;
 mod standard;
 mod table;
 
-pub use op::{Op, OpFault, OpKind};
+pub use op::{MOST_PRIORITY, Op, OpFault, OpKind};
 pub use table::Ops;

@@ -17,11 +17,14 @@ pub enum OpKind {
     Fy,
 }
 
+/// The greatest priority of an operator (ISO/IEC 13211-1 section 6.3.4).
+pub const MOST_PRIORITY: u16 = 1200;
+
 /// One meaning of a name as an operator.
 #[derive(Clone, Copy)]
 pub struct Op {
     pub name: NameId,
-    /// From 1 to 1200.
+    /// From 1 to [`MOST_PRIORITY`].
     pub priority: u16,
     pub kind: OpKind,
 }
@@ -29,7 +32,7 @@ pub struct Op {
 /// Why an operator isn't defined; the first that holds.
 #[derive(Clone, Copy, PartialEq, Eq, Debug)]
 pub enum OpFault {
-    /// The priority isn't from 0 to 1200.
+    /// The priority isn't from 0 to [`MOST_PRIORITY`].
     BadPriority,
     /// The name is `,`, the bar, `[]` or `{}`.
     Fixed,

@@ -8,7 +8,7 @@ ghost use Rattle.apd_ops.specs.Definition.{definition};
 ghost use Rattle.apd_ops.specs.Standard.{standard_table};
 ghost use Rattle.apd_ops.specs.Table.{prefix_in, infix_in, IsTable, IsMade, IsRefused, IsFixed, IsGiven, WouldClash, defined, clashes, clashes_unless, Sets};
 
-use crate::op::{OpFault, OpKind};
+use crate::op::{MOST_PRIORITY, OpFault, OpKind};
 use crate::standard::{infixes, prefixes};
 use apd_term::NameId;
 use apd_term::standard::{BAR, COMMA, CURLY, NIL};
@@ -155,7 +155,7 @@ impl Ops {
 
     /// Gives the name this meaning in its place; priority 0 takes it away.
     fn replace(&mut self, new: (u16, OpKind), name: NameId) -> Result<(), AllocError>
-        requires priority { new.0 ≤ 1200 }
+        requires priority { new.0 ≤ MOST_PRIORITY }
         requires free { ¬ IsFixed name }
         requires apart { ¬ WouldClash self.old new.0 new.1 name.0 }
         ensures done { OnOk result (self.new ≡ defined self.old new.0 new.1 name.0) }
@@ -176,7 +176,7 @@ impl Ops {
         ensures refused { IfErr result (IsRefused self.old priority kind name) }
         ensures unchanged { OnErr result (self.new ≡ self.old) }
     {
-        if priority < 0 || priority > 1200 {
+        if priority < 0 || priority > MOST_PRIORITY as i64 {
             return Err(OpFault::BadPriority);
         }
         if is_fixed(name) {

@@ -1,6 +1,6 @@
 //! The table of operators as a list of operators, and its change by a definition in the plainest way.
 
-use apd_ops::{Op, OpFault, OpKind};
+use apd_ops::{MOST_PRIORITY, Op, OpFault, OpKind};
 use apd_term::NameId;
 use apd_term::standard::{BAR, COMMA, CURLY, NIL};
 use std::alloc::{AllocError, Global};
@@ -59,7 +59,7 @@ pub fn plain_define(
     kind: OpKind,
     name: NameId,
 ) -> Result<Vec<Op>, OpFault> {
-    if priority < 0 || priority > 1200 {
+    if priority < 0 || priority > MOST_PRIORITY as i64 {
         return Err(OpFault::BadPriority);
     }
     if name == COMMA || name == BAR || name == NIL || name == CURLY {

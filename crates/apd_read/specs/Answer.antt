@@ -5,6 +5,7 @@ use Rattle.apd_causes.specs.declared.faults.ReadFault.TheVariants as faults
 use Rattle.apd_causes.specs.declared.reading.Read.{Read}
 use Rattle.apd_ops.specs.Table.{Table}
 use Rattle.apd_token.specs.declared.items.Token.{Token}
+use Rattle.apd_read.specs.declared.phrase.TheConstants.{TOO_MANY_LEVELS}
 use Rattle.apd_read.specs.declared.lexeme.Lexeme.{Lexeme}
 use Rattle.apd_read.specs.declared.phrase.Phrase.{Phrase}
 use Rattle.apd_read.specs.declared.places.Inside.TheVariants.{Clause}
@@ -28,7 +29,7 @@ IsSeen ops ls text_end fault place = (k : ℕ) × IsClauseFault Splits ops ls (f
 
 -- the clause has a reading, of which some term is at level 1,000
 abbrev pub IsTooDeep : Table → List Lexeme → ℕ → ℕ → Type 0
-IsTooDeep ops ls text_end place = (p : Phrase) × (n : ℕ) × Fills Splits ops ls Clause 0 p n × (1000 ≤ p.height) × (place ≡ place_of ls text_end 0)
+IsTooDeep ops ls text_end place = (p : Phrase) × (n : ℕ) × Fills Splits ops ls Clause 0 p n × (TOO_MANY_LEVELS ≤ p.height) × (place ≡ place_of ls text_end 0)
 
 abbrev pub IsFaultIn : Table → List Lexeme → ℕ → ReadFault → Type 0
 IsFaultIn ops ls text_end (faults.NoTerm place) = IsSeen ops ls text_end seen.NoTerm place
@@ -53,7 +54,7 @@ pub record HasReading (ops : Table) (names : List (List ℕ)) (text : List ℕ) 
   pub phrase : Phrase
   pub count : ℕ
   pub fills : Fills Splits ops clause.lexemes Clause 0 phrase count
-  pub shallow : phrase.height < 1000
+  pub shallow : phrase.height < TOO_MANY_LEVELS
   pub term : r.term ≡ phrase.term
   pub vars : r.vars ≡ clause.vars
   pub start : r.start ≡ place_of clause.lexemes (length text) 0
@@ -84,7 +85,7 @@ pub record IsReadAs (ops : Table) (ls : List Lexeme) (vars : List (List ℕ)) (t
   pub phrase : Phrase
   pub count : ℕ
   pub fills : Fills Splits ops ls Clause 0 phrase count
-  pub shallow : phrase.height < 1000
+  pub shallow : phrase.height < TOO_MANY_LEVELS
   pub term : r.term ≡ phrase.term
   pub names : r.vars ≡ vars
   pub start : r.start ≡ place_of ls text_end 0

@@ -1,6 +1,7 @@
 -- Reading a clause from its tokens: what each bracket holds, and the faults.
 use Rattle.std.specs.Prelude.{◌≡◌, ℕ, ◌+◌, ◌-◌, ◌<◌, ◌⊎◌, Result, Ok, Err, List, [], ◌∷◌, ◌++◌, reverse, length}
 use Rattle.apd_term.specs.declared.standard.TheConstants.{NIL}
+use Rattle.apd_ops.specs.declared.op.TheConstants.{MOST_PRIORITY}
 use Rattle.apd_ops.specs.declared.op.Op.{Op}
 use Rattle.apd_ops.specs.Table.{Table}
 use Rattle.apd_read.specs.declared.lexeme.Lexeme.{Lexeme}
@@ -23,9 +24,9 @@ pub data Place : Type 0 where
 
 -- the greatest priority of an item
 abbrev pub most : Inside → ℕ
-most Clause = 1200
-most Paren = 1200
-most Curly = 1200
+most Clause = MOST_PRIORITY
+most Paren = MOST_PRIORITY
+most Curly = MOST_PRIORITY
 most (Args f) = 999
 most Listing = 999
 most Tail = 999

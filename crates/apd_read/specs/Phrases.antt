@@ -4,6 +4,7 @@ use Rattle.apd_term.specs.declared.term.NameId.{NameId}
 use Rattle.apd_term.specs.declared.standard.TheConstants.{NIL, CELL, CURLY}
 use Rattle.apd_term.specs.Term.{Term, compound, none, more, terms_of}
 use Rattle.apd_ops.specs.declared.op.Op.{Op}
+use Rattle.apd_read.specs.declared.phrase.TheConstants.{TOO_MANY_LEVELS}
 use Rattle.apd_read.specs.declared.phrase.Phrase.{Phrase}
 
 abbrev pub atom : NameId → Term
@@ -15,7 +16,7 @@ leaf t = record { term = t; height = 0 }
 
 -- what reaches 1,000 levels, whatever its term
 abbrev pub too_deep : Phrase
-too_deep = record { term = atom NIL; height = 1000 }
+too_deep = record { term = atom NIL; height = TOO_MANY_LEVELS }
 
 -- a term over parts that reach so many levels
 abbrev pub raised : ℕ → Term → Phrase

@@ -13,7 +13,7 @@ use crate::lexeme::Lexeme;
 use crate::phrase::{Phrase, atom, braced, call, enclosed, leaf, listing};
 use crate::places::{Begin, Go, Inside, begins, goes};
 use crate::stack::Stack;
-use apd_ops::Ops;
+use apd_ops::{MOST_PRIORITY, Ops};
 use apd_term::standard::NIL;
 use std::alloc::{AllocError, Global};
 use std::mem;
@@ -63,9 +63,9 @@ fn most(inside: Inside) -> u16
     ensures { result ≡ most inside }
 {
     match inside {
-        Inside::Clause => 1200,
-        Inside::Paren => 1200,
-        Inside::Curly => 1200,
+        Inside::Clause => MOST_PRIORITY,
+        Inside::Paren => MOST_PRIORITY,
+        Inside::Curly => MOST_PRIORITY,
         _ => 999,
     }
 }

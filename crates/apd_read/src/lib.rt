@@ -18,6 +18,6 @@ mod variables;
 
 pub use apd_causes::{Read, ReadFault};
 pub use lexeme::{Lexeme, Sort};
-pub use phrase::Phrase;
+pub use phrase::{Phrase, TOO_MANY_LEVELS};
 pub use places::{Begin, Go, Inside};
 pub use reader::{every_clause_reads, one_reading, read_clause};

@@ -9,9 +9,12 @@ use apd_term::standard::{CELL, CURLY, NIL};
 use apd_term::{Atoms, Flat, NameId, Sym, Syms};
 use std::alloc::{AllocError, Global};
 
+/// No clause has a term so many levels below its own level 0.
+pub const TOO_MANY_LEVELS: u16 = 1000;
+
 /// A term that was read, with the greatest level in it, counted from its own level 0.
 ///
-/// Where that is 1,000 or more it is 1,000, and the term is left out.
+/// Where that is [`TOO_MANY_LEVELS`] or more it is that, and the term is left out.
 #[derive(Drop)]
 pub struct Phrase {
     pub term: Flat,
@@ -37,7 +40,7 @@ fn too_deep(alloc: Global) -> Result<Phrase, AllocError>
 {
     Ok(Phrase {
         term: atom(alloc, NIL)?,
-        height: 1000,
+        height: TOO_MANY_LEVELS,
     })
 }
 

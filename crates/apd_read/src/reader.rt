@@ -23,6 +23,7 @@ ghost use Rattle.apd_base.specs.declared.limits.TheConstants.{MAX_FILE, MOST_NAM
 use crate::brackets::{ClauseFault, Whole, read};
 use crate::lexeme::Lexeme;
 use crate::lexemes::{Clause, lexemes};
+use crate::phrase::TOO_MANY_LEVELS;
 use apd_causes::{Read, ReadFault};
 use apd_ops::Ops;
 use apd_term::Names;
@@ -94,7 +95,7 @@ fn answer(alloc: Global, ops: &Ops, clause: Clause, at: usize, end: u32) -> Resu
         Ok(whole) => {
             let Whole { phrase, next } = whole;
             let start = place_of(&lexemes, end, 0);
-            if phrase.height >= 1000 {
+            if phrase.height >= TOO_MANY_LEVELS {
                 return Err(ReadFault::TooDeep(start));
             }
             Ok(Read {

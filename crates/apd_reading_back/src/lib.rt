@@ -8,9 +8,11 @@ ghost use Rattle.apd_term.specs.Term.{Term};
 ghost use Rattle.apd_causes.specs.declared.faults.ReadFault.{ReadFault};
 ghost use Rattle.apd_causes.specs.declared.reading.Read.{Read};
 ghost use Rattle.apd_ops.specs.Table.{Table, IsTable};
+ghost use Rattle.apd_ops.specs.declared.op.TheConstants.{MOST_PRIORITY};
 ghost use Rattle.apd_token.specs.declared.items.Token.{Token};
 ghost use Rattle.apd_token.specs.Grammar.{HasTokens};
 ghost use Rattle.apd_read.specs.Reader.{IsRead};
+ghost use Rattle.apd_read.specs.declared.phrase.TheConstants.{TOO_MANY_LEVELS};
 ghost use Rattle.std.specs.Prelude.{◌≡◌, ℕ, ◌+◌, ◌≤◌, ◌<◌, List, ◌++◌, codes, length, map, Result, Ok};
 ghost use Rattle.apd_term.specs.declared.term.NameId.{NameId};
 ghost use Rattle.apd_reading_back.specs.Law.{AreNames, IsReadable, IsWritable, item_text, clause_text, ReadsAs, ReadsBack, IsTermRead};
@@ -37,7 +39,8 @@ pub fn reading_back()
 /// argument is written, behind `?-`. What reads as a term reads as nothing else.
 pub fn items_and_queries_read_back()
     ensures items { (ops : Table) (names : List (List ℕ)) (t : Term) (place : ℕ) →
-        IsTable ops → AreNames names → IsWritable names t → place ≤ 1200 → levels ops t place < 1000 →
+        IsTable ops → AreNames names → IsWritable names t → place ≤ MOST_PRIORITY →
+        levels ops t place < TOO_MANY_LEVELS →
         ReadsAs ops names (item_text ops names t place) t }
     ensures queries { (ops : Table) (names : List (List ℕ)) (goal : Term) (goals : List Term) →
         IsTable ops → AreNames names → IsAskable ops names goal goals →
@@ -47,7 +50,7 @@ pub fn items_and_queries_read_back()
         ReadsAs ops names (goals_text ops names goal goals ++ codes " .") (conjoined goal goals) }
     ensures calls { (ops : Table) (names : List (List ℕ)) (f : NameId) (t : Term) →
         IsTable ops → AreNames names → f.0 < length names → IsWritable names t →
-        levels ops t 999 + 1 < 1000 →
+        levels ops t 999 + 1 < TOO_MANY_LEVELS →
         ReadsAs ops names (call_text ops names f t ++ codes " .") (call_term f t) }
     ensures only { (ops : Table) (names : List (List ℕ)) (text : List ℕ) (t : Term) →
         IsTable ops → (back : ReadsAs ops names text t) →

@@ -1,7 +1,8 @@
 //! Texts that are built piece by piece.
 
-use crate::scene::{MOST_PRIORITY, Scene};
+use crate::scene::Scene;
 use apd_base::Text;
+use apd_ops::MOST_PRIORITY;
 use apd_term::{Flat, Pred, Tuple};
 use apd_write::write_term;
 use std::alloc::{AllocError, Global};

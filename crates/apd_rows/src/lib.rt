@@ -16,5 +16,5 @@ pub use builder::Builder;
 pub use driver::{Tables, try_tables};
 pub use first::{First, Unread};
 pub use rows::{BETWEEN, Row, texts_of};
-pub use scene::{MOST_PRIORITY, MOST_ROW_NAMES, Scene};
+pub use scene::{MOST_ROW_NAMES, Scene};
 pub use trial::{Sides, Trial};

@@ -9,9 +9,6 @@ use std::boxed::Box;
 /// More names than a row brings; fewer than that are there when a text is read.
 pub const MOST_ROW_NAMES: usize = 1_000_000;
 
-/// The greatest priority of a term that is written.
-pub const MOST_PRIORITY: u16 = 1200;
-
 /// The names and the operators by which terms are read and written.
 #[derive(Drop)]
 pub struct Scene {

@@ -6,6 +6,7 @@ use Rattle.apd_term.specs.declared.term.NameId.{NameId}
 use Rattle.apd_term.specs.declared.standard.TheConstants.{NIL, CELL, CURLY, COMMA}
 use Rattle.apd_term.specs.Names.{text_of_name}
 use Rattle.apd_term.specs.Term.{Term, Terms, variable, integer, compound, none, more}
+use Rattle.apd_ops.specs.declared.op.TheConstants.{MOST_PRIORITY}
 use Rattle.apd_ops.specs.Operators.{left_by, right_by}
 use Rattle.apd_ops.specs.Table.{Meaning, Table, prefix_in, infix_in}
 use Rattle.apd_write.specs.NameTexts.{name_text, function_text}
@@ -45,11 +46,11 @@ between f name = if is_same_name f COMMA then codes ", " else codes " " ++ name 
 module _ (ops : Table) where
   -- an operand on the right of an infix operator
   abbrev pub right_operand : ℕ → Part → List ℕ
-  right_operand max p = if is_operator_atom ops p.term then in_parentheses (p.text 1200) else p.text max
+  right_operand max p = if is_operator_atom ops p.term then in_parentheses (p.text MOST_PRIORITY) else p.text max
 
   -- an operand on its left, or of a prefix operator
   abbrev pub left_operand : ℕ → Part → List ℕ
-  left_operand max p = if is_negative_integer p.term then in_parentheses (p.text 1200) else right_operand max p
+  left_operand max p = if is_negative_integer p.term then in_parentheses (p.text MOST_PRIORITY) else right_operand max p
 
   abbrev pub prefix_text : Meaning → List ℕ → ℕ → Part → List ℕ
   prefix_text m name max p = fitted max m.0 (name ++ codes " " ++ left_operand (right_by m.1 m.0) p)
@@ -72,7 +73,7 @@ function name ps = function_text name ++ in_parentheses (arguments_text ps)
 
 -- a compound of one argument
 abbrev pub one_text : Table → Option Meaning → NameId → List ℕ → ℕ → Part → List ℕ
-one_text ops None f name max p = if is_same_name f CURLY then codes "{" ++ p.text 1200 ++ codes "}" else function name (p ∷ [])
+one_text ops None f name max p = if is_same_name f CURLY then codes "{" ++ p.text MOST_PRIORITY ++ codes "}" else function name (p ∷ [])
 one_text ops (Some m) f name max p = prefix_text ops m (name_text name) max p
 
 -- a compound of two arguments that is no list

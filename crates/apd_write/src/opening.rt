@@ -11,7 +11,7 @@ ghost use Rattle.apd_write.specs.declared.pending.Frame.TheVariants as pushed;
 use crate::names::{write_function_name, write_name};
 use crate::pending::{Frame, Place};
 use apd_base::Text;
-use apd_ops::{Op, OpKind, Ops};
+use apd_ops::{MOST_PRIORITY, Op, OpKind, Ops};
 use apd_term::NameId;
 use apd_term::names::Names;
 use apd_term::standard::{CELL, CURLY};
@@ -116,11 +116,11 @@ fn open_further(frames: &mut Vec<Frame>, out: &mut Text) -> Result<Place, AllocE
 /// A term in braces.
 fn open_curly(frames: &mut Vec<Frame>, out: &mut Text) -> Result<Place, AllocError>
     ensures { IfOk result (λ next. Puts (codes "{") (pushed.CurlyEnd ∷ [])
-        (places.Whole 1200) frames.old.items frames.new.items out.old out.new next) }
+        (places.Whole MOST_PRIORITY) frames.old.items frames.new.items out.old out.new next) }
 {
     out.push(b'{')?;
     frames.push(Frame::CurlyEnd)?;
-    Ok(Place::Whole(1200))
+    Ok(Place::Whole(MOST_PRIORITY))
 }
 
 /// What stands before the first argument of a compound in a place for this priority.

@@ -2,6 +2,7 @@
 use Rattle.std.specs.Prelude.{◌≡◌, ℕ, ◌+◌, ◌<◌, ◌≤◌, ◌^◌, ⊤, ◌++◌, false, codes, List, [], ◌∷◌, length, Option, None, Some}
 use Rattle.std.specs.List.{AllByRecursion}
 use Rattle.apd_causes.specs.declared.run.Query.{Query}
+use Rattle.apd_ops.specs.declared.op.TheConstants.{MOST_PRIORITY}
 use Rattle.apd_ops.specs.Table.{Table, prefix_in}
 use Rattle.apd_ops.specs.declared.op.OpKind.TheVariants.{Fx}
 use Rattle.apd_term.specs.Canonical.{canonical}
@@ -27,6 +28,7 @@ use Rattle.apd_text.specs.declared.entry.Entry.{Entry}
 use Rattle.apd_text.specs.declared.entry.Entry.TheVariants as entry
 use Rattle.apd_written.specs.Texts.{IsFewLeft}
 use Rattle.apd_written.specs.Uttered.{AreNoOperators}
+use Rattle.apd_read.specs.declared.phrase.TheConstants.{TOO_MANY_LEVELS}
 
 -- the program leaves `?-` its standard meaning, and none of the names of statements is an operator
 pub record LeavesMeanings (ops : Table) : Type 0 where
@@ -37,25 +39,25 @@ module _ (ops : Table) (names : List (List ℕ)) where
   -- in canonical form its numbers are those of symbols, and as an argument it has no term at level 1,000
   pub record IsAtomSayable (a : Term) : Type 0 where
     pub in_range : IsInRange (canonical a)
-    pub shallow : levels ops (canonical a) 999 < 1000
+    pub shallow : levels ops (canonical a) 999 < TOO_MANY_LEVELS
 
   pub record IsClauseSayable (t : Tuple) : Type 0 where
     pub in_range : IsInRange (clause_term (canonical_tuple t))
-    pub shallow : levels ops (clause_term (canonical_tuple t)) 1200 < 1000
+    pub shallow : levels ops (clause_term (canonical_tuple t)) MOST_PRIORITY < TOO_MANY_LEVELS
 
   pub record IsOrderSayable (q p : Term) : Type 0 where
     pub below : IsInRange (canonical q)
     pub above : IsInRange (canonical p)
-    pub shallow : goals_levels ops (canonical q) (canonical p ∷ []) < 1000
+    pub shallow : goals_levels ops (canonical q) (canonical p ∷ []) < TOO_MANY_LEVELS
 
   pub record AreValuesSayable (values : List Term) : Type 0 where
     pub in_range : IsInRange (list_term values)
-    pub shallow : levels ops (list_term values) 999 + 1 < 1000
+    pub shallow : levels ops (list_term values) 999 + 1 < TOO_MANY_LEVELS
 
   -- the first goal is no infix operator that stands alone, and behind `?-` no term of the goals is at level 1,000
   abbrev pub MayBeAsked : List Term → Type 0
   MayBeAsked [] = ⊤
-  MayBeAsked (g ∷ gs) = (is_infix_alone ops g ≡ false) × (goals_levels ops g gs + 1 < 1000)
+  MayBeAsked (g ∷ gs) = (is_infix_alone ops g ≡ false) × (goals_levels ops g gs + 1 < TOO_MANY_LEVELS)
 
   pub record IsQuerySayable (q : Query) : Type 0 where
     pub first : MayBeAsked (goals_of q)

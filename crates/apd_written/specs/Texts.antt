@@ -16,6 +16,7 @@ use Rattle.apd_clauses.specs.Kinds.{◌∕◌}
 use Rattle.apd_clauses.specs.Predicates.{is_pred}
 use Rattle.apd_answers.specs.declared.question.Reply.{Reply}
 use Rattle.apd_answers.specs.declared.question.Reply.TheVariants.{Yes, No, Values, Unknown}
+use Rattle.apd_ops.specs.declared.op.TheConstants.{MOST_PRIORITY}
 use Rattle.apd_ops.specs.Table.{Table}
 use Rattle.apd_write.specs.Writing.{written}
 use Rattle.apd_text.specs.ClauseTerms.{clause_term, list_term}
@@ -26,6 +27,7 @@ use Rattle.apd_reading_back.specs.Levels.{levels}
 use Rattle.apd_reading_back.specs.Queries.{IsAskable}
 use Rattle.apd_claims.specs.Sayable.{IsShown}
 use Rattle.apd_written.specs.Says.{HasNoBreak}
+use Rattle.apd_read.specs.declared.phrase.TheConstants.{TOO_MANY_LEVELS}
 
 -- it is no longer than a file may be
 abbrev pub IsShort : List ℕ → Type 0
@@ -76,7 +78,7 @@ pub record AreAllowed (budget answers : ℕ) : Type 0 where
 -- the atom in canonical form can be written as an argument and read back
 pub record IsTellable (ops : Table) (names : List (List ℕ)) (a : Term) : Type 0 where
   pub writable : IsWritable names (canonical a)
-  pub shallow : levels ops (canonical a) 999 < 1000
+  pub shallow : levels ops (canonical a) 999 < TOO_MANY_LEVELS
 
 -- a reply by a word
 abbrev pub IsWordReply : Reply → Type 0
@@ -92,7 +94,7 @@ IsFewLeft left = IfSome left (λ n. n < 2 ^ 32)
 -- the clause in canonical form can be written as one term and read back
 pub record IsClauseTellable (ops : Table) (names : List (List ℕ)) (t : Tuple) : Type 0 where
   pub writable : IsWritable names (clause_term (canonical_tuple t))
-  pub shallow : levels ops (clause_term (canonical_tuple t)) 1200 < 1000
+  pub shallow : levels ops (clause_term (canonical_tuple t)) MOST_PRIORITY < TOO_MANY_LEVELS
   pub goals : AllByRecursion IsOneGoal (canonical_tuple t).body
   pub head : is_pred (predicate_of (canonical_tuple t).head) (NECK ∕ 2) ≡ false
 
@@ -104,7 +106,7 @@ pub record IsInstanceTellable (ops : Table) (names : List (List ℕ)) (c : Insta
 -- values, as one list, can be written as an argument and read back
 pub record AreTellable (ops : Table) (names : List (List ℕ)) (values : List Term) : Type 0 where
   pub writable : IsWritable names (list_term values)
-  pub shallow : levels ops (list_term values) 999 + 1 < 1000
+  pub shallow : levels ops (list_term values) 999 + 1 < TOO_MANY_LEVELS
 
 -- the two atoms of a question about calls as the arguments of one term, and the text that is read as this term
 abbrev pub order_term : Term → Term → Term

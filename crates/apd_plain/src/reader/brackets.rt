@@ -2,7 +2,7 @@
 
 use crate::reader::pieces::{Part, Piece, split};
 use crate::reader::words::{atom, pair};
-use apd_ops::Op;
+use apd_ops::{MOST_PRIORITY, Op};
 use apd_term::standard::{CELL, CURLY, NIL};
 use apd_term::{Atoms, Flat, NameId};
 use apd_token::Kind;
@@ -40,8 +40,8 @@ impl Bracket {
     /// The greatest priority of an item.
     fn most(&self) -> u16 {
         match self.opened {
-            Kind::End | Kind::OpenCurly => 1200,
-            Kind::Open if self.call.is_none() => 1200,
+            Kind::End | Kind::OpenCurly => MOST_PRIORITY,
+            Kind::Open if self.call.is_none() => MOST_PRIORITY,
             _ => 999,
         }
     }

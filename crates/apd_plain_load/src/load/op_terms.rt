@@ -6,7 +6,7 @@ ghost use Rattle.apd_term.specs.Term.{arguments};
 use crate::load::stop::Stop;
 use apd_base::ListOf;
 use apd_causes::OpCause;
-use apd_ops::OpKind;
+use apd_ops::{MOST_PRIORITY, OpKind};
 use apd_term::standard::{CELL, NIL};
 use apd_term::{Flat, NameId, Names, Pred, Sym};
 use std::alloc::{AllocError, Global};
@@ -85,7 +85,9 @@ pub(crate) fn priority_of(alloc: Global, goal: &Flat) -> Result<u16, Stop>
 {
     let term = goal.arg(alloc, 0)?;
     match term.symbols() {
-        [Sym::Int(priority)] if *priority >= 0 && *priority <= 1200 => Ok(*priority as u16),
+        [Sym::Int(priority)] if *priority >= 0 && *priority <= MOST_PRIORITY as i64 => {
+            Ok(*priority as u16)
+        }
         _ => Err(Stop::from(OpCause::BadPriority)),
     }
 }

@@ -5,7 +5,7 @@ ghost use Rattle.std.specs.List.{zip};
 ghost use Rattle.apd_term.specs.Term.{Term, arguments, variable};
 ghost use Rattle.apd_term.specs.Substitution.{IsFree, extended, single, term_for};
 ghost use Rattle.apd_unify.specs.declared.rule.Rule.TheVariants.{Eliminate};
-ghost use Rattle.apd_unify.specs.Step.{first_symbol};
+ghost use Rattle.apd_cells.specs.First.{first_symbol};
 ghost use Rattle.apd_unify.specs.Textbook.{apply_equations, rule_for, rule_for_variable, unifier_of};
 ghost use Rattle.apd_by_definition.specs.Rules.{IsAfter};
 

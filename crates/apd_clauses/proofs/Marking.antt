@@ -6,7 +6,7 @@ use Rattle.std.proofs.lemmas.Grind.{common_steps}
 use Rattle.indexmap.specs.IndexMap.{get}
 use Rattle.apd_term.specs.Term.{predicate_of}
 use Rattle.apd_term.specs.declared.term.Pred.{Pred}
-use Rattle.apd_unify.specs.First.{key_of}
+use Rattle.apd_cells.specs.First.{key_of}
 use Rattle.apd_clauses.specs.declared.clause.Clause.{Clause}
 use Rattle.apd_clauses.specs.Clauses.{IsClause, IsProgram, same_pred}
 use Rattle.apd_clauses.specs.Index.{Index, IsIndexOf, Notes, HaveSameNumbers, numbers_at}

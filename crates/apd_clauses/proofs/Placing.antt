@@ -9,7 +9,7 @@ use Rattle.apd_term.specs.declared.term.Pred.{Pred}
 use Rattle.apd_term.specs.declared.term.Sym.{Sym}
 use Rattle.apd_term.specs.declared.term.Sym.TheVariants.{Var}
 use Rattle.apd_term.specs.declared.tuple.Tuple.{Tuple}
-use Rattle.apd_unify.specs.First.{AreClashing, IsFixed, key_of}
+use Rattle.apd_cells.specs.First.{AreClashing, IsFixed, key_of}
 use Rattle.apd_clauses.specs.declared.clause.Clause.{Clause}
 use Rattle.apd_clauses.specs.Clauses.{clauses_from, is_for, is_pred, numbers_from, numbers_of, tuples_of}
 use Rattle.apd_clauses.specs.Marks.{IsFirstFrom, PassesOver, mark_by, mark_for, mark_of, marked, numbers_where}

@@ -1,9 +1,9 @@
 -- What stays of the frames at branches.
 use Rattle.std.proofs.Common.{◌≡◌, ℕ, suc, ◌+◌, ◌-◌, ◌≤◌, List, [], ◌∷◌, length, drop, refl, sym, ◌∙◌, ap, subst, arith}
 use Rattle.std.proofs.lemmas.List.{length-drop, drop-drop}
-use Rattle.apd_unify.specs.Stored.{Stored}
-use Rattle.apd_unify.specs.Store.{at_mark, Keeps}
-use Rattle.apd_unify.proofs.Keeping.{at_mark-at_mark, length-before}
+use Rattle.apd_cells.specs.Stored.{Stored}
+use Rattle.apd_cells.specs.Store.{at_mark, Keeps}
+use Rattle.apd_cells.proofs.Keeping.{at_mark-at_mark, length-before}
 use Rattle.apd_frames.specs.Links.{Link}
 use Rattle.apd_frames.specs.declared.links.Branch.{Branch}
 use Rattle.apd_frames.specs.Instances.{AreInside, IsInside}

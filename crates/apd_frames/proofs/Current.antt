@@ -10,8 +10,8 @@ use Rattle.apd_term.specs.Canonical.{canonical, by_appearance, place_of}
 use Rattle.apd_term.specs.Tuple.{apply_tuple, canonical_tuple}
 use Rattle.apd_term.specs.declared.tuple.Tuple.{Tuple}
 use Rattle.apd_unify.specs.declared.store.Cell.{Cell}
-use Rattle.apd_unify.specs.Stored.{Stored}
-use Rattle.apd_unify.specs.Store.{term_at}
+use Rattle.apd_cells.specs.Stored.{Stored}
+use Rattle.apd_cells.specs.Store.{term_at}
 use Rattle.apd_ports.specs.declared.point.Step.{Step}
 use Rattle.apd_trace.specs.Frames.{apply_frames, is_large, called, goal_of, look_at, look_of, next_goal, left, owner_of, entered}
 use Rattle.apd_trace.specs.declared.frame.Frame.{Frame}

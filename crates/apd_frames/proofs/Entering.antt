@@ -9,7 +9,7 @@ use Rattle.apd_term.proofs.Applying.{apply-followed_by}
 use Rattle.apd_unify.specs.Unifier.{IsAnswer, IsUnifier, HasNoUnifier}
 use Rattle.apd_unify.specs.Textbook.{unifier_of}
 use Rattle.apd_unify.proofs.Textbook.{unifier_of-right}
-use Rattle.apd_unify.specs.First.{AreApart}
+use Rattle.apd_cells.specs.First.{AreApart}
 use Rattle.apd_trace.specs.Frames.{apply_frames, shifted_tuple, next_goal, entered, entering, under, apart, above, variables_of_frames}
 use Rattle.apd_trace.specs.declared.frame.Frame.{Frame}
 use Rattle.apd_trace.specs.declared.frame.Called.{Called}
@@ -17,7 +17,7 @@ use Rattle.apd_trace.specs.Renaming.{AreRenamed, IsBelow}
 use Rattle.apd_trace.proofs.Clauses.{canonical_back}
 use Rattle.apd_trace.proofs.Entered.{entering_by_any}
 use Rattle.apd_term.proofs.Tuples.{apply_tuple-variable}
-use Rattle.apd_unify.specs.Stored.{Stored}
+use Rattle.apd_cells.specs.Stored.{Stored}
 use Rattle.apd_frames.specs.Links.{Instance}
 use Rattle.apd_frames.specs.Instances.{IsVariant, Instantiates, InstantiatesVariant}
 

@@ -11,11 +11,12 @@ use Rattle.apd_term.proofs.Applying.{apply-followed_by, apply-same, apply-variab
 use Rattle.apd_term.proofs.Variants.{apply-agree}
 use Rattle.apd_unify.specs.Unifier.{IsUnifier, HasNoUnifier}
 use Rattle.apd_unify.specs.declared.store.Cell.{Cell}
-use Rattle.apd_unify.specs.Stored.{Stored}
-use Rattle.apd_unify.specs.Store.{term_at, meaning, loaded, at_mark, Keeps, IsUnified}
-use Rattle.apd_unify.specs.Numbered.{IsNumbered}
-use Rattle.apd_unify.proofs.Keeping.{meaning-loaded, Keeps-trans}
-use Rattle.apd_unify.proofs.Rounding.{Keeps-self}
+use Rattle.apd_cells.specs.Stored.{Stored}
+use Rattle.apd_cells.specs.Store.{term_at, meaning, loaded, at_mark, Keeps}
+use Rattle.apd_unify.specs.Unified.{IsUnified}
+use Rattle.apd_cells.specs.Numbered.{IsNumbered}
+use Rattle.apd_cells.proofs.Keeping.{meaning-loaded, Keeps-trans}
+use Rattle.apd_cells.proofs.Bindings.{Keeps-self}
 use Rattle.apd_trace.specs.Frames.{shifted_tuple}
 use Rattle.apd_frames.specs.Links.{Instance, instance_of}
 use Rattle.apd_frames.specs.Instances.{with_goals, terms_in, raised_in, AreInside, HasGrown, IsInstantiated, Instantiates}

@@ -11,9 +11,9 @@ use Rattle.apd_term.specs.Tuple.{apply_tuple, variables_of_tuple}
 use Rattle.apd_term.specs.declared.tuple.Tuple.{Tuple}
 use Rattle.apd_term.proofs.Among.{IsAmong-append}
 use Rattle.apd_unify.specs.declared.store.Cell.{Cell}
-use Rattle.apd_unify.specs.Stored.{Stored}
-use Rattle.apd_unify.specs.Store.{term_at}
-use Rattle.apd_unify.specs.Numbered.{IsNumbered}
+use Rattle.apd_cells.specs.Stored.{Stored}
+use Rattle.apd_cells.specs.Store.{term_at}
+use Rattle.apd_cells.specs.Numbered.{IsNumbered}
 use Rattle.apd_trace.specs.Frames.{apply_frame, apply_frames, variables_of_frames}
 use Rattle.apd_trace.specs.Renaming.{IsBelow}
 use Rattle.apd_trace.specs.declared.frame.Frame.{Frame}

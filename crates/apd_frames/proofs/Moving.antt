@@ -8,12 +8,12 @@ use Rattle.apd_term.specs.Tuple.{canonical_tuple}
 use Rattle.apd_term.specs.declared.tuple.Tuple.{Tuple}
 use Rattle.apd_unify.specs.Unifier.{HasNoUnifier}
 use Rattle.apd_unify.specs.declared.store.Cell.{Cell}
-use Rattle.apd_unify.specs.Stored.{Stored}
-use Rattle.apd_unify.specs.Store.{term_at, meaning, at_mark, loaded, Keeps}
-use Rattle.apd_unify.specs.Numbered.{IsNumbered}
-use Rattle.apd_unify.specs.First.{AreApart}
-use Rattle.apd_unify.proofs.Keeping.{meaning-loaded}
-use Rattle.apd_unify.proofs.Rounding.{Keeps-self}
+use Rattle.apd_cells.specs.Stored.{Stored}
+use Rattle.apd_cells.specs.Store.{term_at, meaning, at_mark, loaded, Keeps}
+use Rattle.apd_cells.specs.Numbered.{IsNumbered}
+use Rattle.apd_cells.specs.First.{AreApart}
+use Rattle.apd_cells.proofs.Keeping.{meaning-loaded}
+use Rattle.apd_cells.proofs.Bindings.{Keeps-self}
 use Rattle.apd_trace.specs.Frames.{apply_frames, entering, entered, shifted_tuple, outer, handed_all, query_frame}
 use Rattle.apd_trace.specs.BuiltIn.{built, solution, of_program}
 use Rattle.apd_trace.specs.Renaming.{AreAlike}

@@ -2,8 +2,8 @@
 use Rattle.std.proofs.Common.{◌≡◌, ℕ, inr, refl, subst}
 use Rattle.apd_term.specs.Term.{Term}
 use Rattle.apd_unify.specs.Unifier.{HasNoUnifier}
-use Rattle.apd_unify.specs.Stored.{Stored}
-use Rattle.apd_unify.specs.Store.{term_at}
+use Rattle.apd_cells.specs.Stored.{Stored}
+use Rattle.apd_cells.specs.Store.{term_at}
 use Rattle.apd_trace.specs.declared.frame.Outcome.TheVariants.{Equates}
 use Rattle.apd_frames.specs.Solves.{SettlesBy}
 use Rattle.apd_frames.specs.declared.builtin.Solved.TheVariants.{Failed}

@@ -16,8 +16,8 @@ use Rattle.apd_trace.proofs.Applied.{apply_frames-variable}
 use Rattle.apd_trace.proofs.BuiltIn.{alike_or}
 use Rattle.apd_trace.proofs.Entered.{renamed_under}
 use Rattle.apd_trace.proofs.Renamed.{renamed_self}
-use Rattle.apd_unify.specs.Stored.{Stored}
-use Rattle.apd_unify.specs.Store.{term_at}
+use Rattle.apd_cells.specs.Stored.{Stored}
+use Rattle.apd_cells.specs.Store.{term_at}
 use Rattle.apd_frames.specs.Kept.{Kept}
 use Rattle.apd_frames.specs.Solves.{HasClash, HasUnited, Settles, solution_as, Keeps}
 use Rattle.apd_frames.specs.declared.builtin.Solved.{Solved}

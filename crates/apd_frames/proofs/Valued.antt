@@ -4,7 +4,7 @@ use Rattle.std.proofs.lemmas.List.{length-map}
 use Rattle.apd_term.specs.Term.{Term, variable, integer, compound, arguments}
 use Rattle.apd_term.specs.declared.term.NameId.{NameId}
 use Rattle.apd_term.specs.declared.term.Sym.TheVariants.{Var, Int, Fun}
-use Rattle.apd_unify.specs.Step.{first_symbol}
+use Rattle.apd_cells.specs.First.{first_symbol}
 use Rattle.apd_arith.specs.declared.fault.ArithFault.TheVariants.{Unbound, NotEvaluable}
 use Rattle.apd_arith.specs.Value.{Value, value, values, value_of}
 use Rattle.apd_arith.proofs.Values.{values-map}

@@ -8,11 +8,11 @@ use Rattle.apd_term.specs.Term.{Term, size, variables, IsAmong}
 use Rattle.apd_term.specs.Canonical.{with_new, by_appearance, canonical, canonical_in}
 use Rattle.apd_term.specs.Tuple.{canonical_tuple, variables_of_tuple, sizes, size_of_tuple}
 use Rattle.apd_term.specs.declared.tuple.Tuple.{Tuple}
-use Rattle.apd_unify.specs.Ordered.{IsNumberedAnew, Numbers}
-use Rattle.apd_unify.specs.Stored.{Stored}
-use Rattle.apd_unify.specs.Store.{term_at, SizeWithin}
+use Rattle.apd_cells.specs.Ordered.{IsNumberedAnew, Numbers}
+use Rattle.apd_cells.specs.Stored.{Stored}
+use Rattle.apd_cells.specs.Store.{term_at, SizeWithin}
 use Rattle.apd_unify.specs.declared.store.Cell.{Cell}
-use Rattle.apd_unify.proofs.Ordered.{among_seen, canonical_kept}
+use Rattle.apd_cells.proofs.Ordered.{among_seen, canonical_kept}
 use Rattle.apd_trace.specs.Frames.{is_large}
 use Rattle.apd_frames.specs.Links.{Instance}
 use Rattle.apd_frames.specs.Instances.{terms_in, tuple_in, AreInside, IsInside}

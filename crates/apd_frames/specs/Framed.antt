@@ -1,6 +1,6 @@
 -- The frames that links over a store are, and what is kept of the store.
 use Rattle.std.specs.Prelude.{◌≡◌, ℕ, ◌≤◌, [], length}
-use Rattle.apd_unify.specs.Store.{Keeps, at_mark}
+use Rattle.apd_cells.specs.Store.{Keeps, at_mark}
 use Rattle.apd_frames.specs.declared.linked.Linked.{Linked}
 use Rattle.apd_frames.specs.Kept.{Kept}
 use Rattle.apd_frames.specs.Linked.{frames_at, saved_of, IsFramed}

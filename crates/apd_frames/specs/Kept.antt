@@ -6,7 +6,7 @@ use Rattle.apd_frames.specs.Codes.{frame_code}
 use Rattle.apd_term.specs.Tuple.{variables_of_tuple}
 use Rattle.apd_term.specs.declared.tuple.Tuple.{Tuple}
 use Rattle.apd_term.specs.declared.term.Sym.{Sym}
-use Rattle.apd_unify.specs.First.{AreClashing, key_of}
+use Rattle.apd_cells.specs.First.{AreClashing, key_of}
 use Rattle.apd_trace.specs.Frames.{entering, is_large, left, look_of, point_at}
 use Rattle.apd_trace.specs.declared.frame.Look.{Look}
 use Rattle.apd_trace.specs.declared.frame.Look.TheVariants.{Nothing, Goal, Exit as Exits, Answer as Answers}

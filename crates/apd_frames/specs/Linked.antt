@@ -1,8 +1,8 @@
 -- Frames that are linked over a store.
 use Rattle.std.specs.Prelude.{◌≡◌, ℕ, ◌+◌, ◌-◌, ◌<◌, ◌≤◌, ◌==◌, List, [], ◌∷◌, length, drop, Option, Some, None, if◌then◌else◌}
-use Rattle.apd_unify.specs.Stored.{Stored}
+use Rattle.apd_cells.specs.Stored.{Stored}
 use Rattle.apd_unify.specs.declared.store.Cell.{Cell}
-use Rattle.apd_unify.specs.Store.{term_at, at_mark}
+use Rattle.apd_cells.specs.Store.{term_at, at_mark}
 use Rattle.apd_trace.specs.Frames.{next_goal}
 use Rattle.apd_trace.specs.declared.frame.Called.{Called}
 use Rattle.apd_trace.specs.declared.frame.Frame.{Frame}

@@ -5,7 +5,7 @@ use Rattle.apd_trace.specs.declared.frame.Frame.{Frame}
 use Rattle.apd_frames.specs.Kept.{Kept}
 use Rattle.apd_term.specs.Term.{Term}
 use Rattle.apd_unify.specs.Unifier.{HasNoUnifier}
-use Rattle.apd_unify.specs.Stored.{Stored}
+use Rattle.apd_cells.specs.Stored.{Stored}
 use Rattle.apd_trace.specs.BuiltIn.{outcome}
 use Rattle.apd_trace.specs.declared.frame.Outcome.{Outcome}
 use Rattle.apd_trace.specs.declared.frame.Outcome.TheVariants.{User, Faults, Fails, Succeeds, Equates}

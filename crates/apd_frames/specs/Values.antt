@@ -4,8 +4,8 @@ use Rattle.apd_arith.specs.declared.comparison.Comparison.{Comparison}
 use Rattle.apd_arith.specs.declared.fault.ArithFault.{ArithFault}
 use Rattle.apd_arith.specs.Truth.{compared}
 use Rattle.apd_arith.specs.Value.{Value, value}
-use Rattle.apd_unify.specs.Store.{term_at}
-use Rattle.apd_unify.specs.Stored.{Stored}
+use Rattle.apd_cells.specs.Store.{term_at}
+use Rattle.apd_cells.specs.Stored.{Stored}
 
 -- the value of the expression at a cell
 abbrev pub value_at : Stored → ℕ → Value

@@ -3,8 +3,8 @@
 ghost use Rattle.std.specs.Prelude.{◌≡◌, ℕ, ◌+◌, ◌<◌, ◌≤◌, ◌^◌, length, map, IfOk, OnOk};
 ghost use Rattle.std.specs.List.{flat_map};
 ghost use Rattle.apd_term.specs.Term.{variables, IsAmong};
-ghost use Rattle.apd_unify.specs.Numbered.{IsNumbered};
-ghost use Rattle.apd_unify.specs.Store.{term_at, Keeps};
+ghost use Rattle.apd_cells.specs.Numbered.{IsNumbered};
+ghost use Rattle.apd_cells.specs.Store.{term_at, Keeps};
 ghost use Rattle.apd_clauses.specs.Clauses.{IsRunnable};
 ghost use Rattle.apd_frames.specs.Kept.{IsSmall};
 ghost use Rattle.apd_frames.specs.Links.{link_of};
@@ -14,8 +14,8 @@ ghost use Rattle.apd_frames.specs.Instances.{terms_in, tuple_in, raised_in, with
 use crate::links::LinkRef;
 use crate::small::has_small_variables;
 use apd_base::{MOST_GOALS, MOST_INSTANCE_SYMBOLS};
+use apd_cells::scratch::Scratch;
 use apd_term::{Atoms, Flat, Tuple, canonical_tuple};
-use apd_unify::scratch::Scratch;
 use apd_unify::store::{Cell, Store};
 use std::alloc::{AllocError, Global};
 

@@ -20,12 +20,12 @@ use crate::instance::{canonical_within, instantiate, is_within, keep_sizes, load
 use crate::links::{Branch, LinkRef, Links};
 use crate::reading::{ahead, goal_depth, left, look, next_goal};
 use crate::settling::{predicate_at, settle};
+use apd_cells::scratch::Scratch;
+use apd_cells::stack::Stack;
 use apd_ports::BUILTIN;
 use apd_term::tuple::canonical_tuple;
 use apd_term::{Pred, Sym, Tuple};
 use apd_trace::{Called, Look, Point, Step};
-use apd_unify::scratch::Scratch;
-use apd_unify::stack::Stack;
 use apd_unify::store::{Cell, Store};
 use std::alloc::{AllocError, Global};
 

@@ -2,8 +2,8 @@
 
 ghost use Rattle.std.specs.Prelude.{◌≡◌, ℕ, ◌+◌, ◌<◌, ◌≤◌, List, length, slice_get, Some, IfOk, MatchOption};
 ghost use Rattle.apd_term.specs.Canonical.{canonical};
-ghost use Rattle.apd_unify.specs.Stored.{Stored};
-ghost use Rattle.apd_unify.specs.Store.{term_at};
+ghost use Rattle.apd_cells.specs.Stored.{Stored};
+ghost use Rattle.apd_cells.specs.Store.{term_at};
 ghost use Rattle.apd_trace.specs.Frames.{left, look_of, owner_of};
 ghost use Rattle.apd_trace.specs.declared.frame.Called.{Called};
 ghost use Rattle.apd_frames.specs.Kept.{Calls, IsIn, MayCall, ahead_of};
@@ -12,9 +12,9 @@ ghost use Rattle.apd_frames.specs.Linked.{frames_at, frame_in, frames_from, IsGo
 
 use crate::ahead::Ahead;
 use crate::links::{LinkRef, Links};
+use apd_cells::scratch::Scratch;
 use apd_term::Flat;
 use apd_trace::{Called, Look};
-use apd_unify::scratch::Scratch;
 use apd_unify::store::{Cell, Store};
 use std::alloc::AllocError;
 

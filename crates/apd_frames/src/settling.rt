@@ -5,7 +5,7 @@ ghost use Rattle.apd_term.specs.Term.{integer, predicate_of};
 ghost use Rattle.apd_arith.specs.Builtins.{builtin_of_atom};
 ghost use Rattle.apd_trace.specs.BuiltIn.{outcome_of_is, outcome_of_comparison, outcome_of_two};
 ghost use Rattle.apd_trace.specs.declared.frame.Outcome.TheVariants.{Equates};
-ghost use Rattle.apd_unify.specs.Store.{term_at, Keeps};
+ghost use Rattle.apd_cells.specs.Store.{term_at, Keeps};
 ghost use Rattle.apd_frames.specs.Solves.{Settles, SettlesBy};
 ghost use Rattle.apd_frames.specs.Values.{value_at, compared_at};
 

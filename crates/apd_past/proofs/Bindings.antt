@@ -2,10 +2,10 @@
 use Rattle.std.proofs.Common.{◌≡◌, ℕ, ◌<◌, Option, Some, None, List, [], ◌∷◌, length, take, drop, reverse, refl, sym, ◌∙◌, ap, subst, arith}
 use Rattle.std.specs.Prelude.{MatchOption}
 use Rattle.apd_term.specs.declared.term.Sym.{Sym}
-use Rattle.apd_unify.specs.declared.heap.Note.{Note}
-use Rattle.apd_unify.specs.declared.heap.Note.TheVariants.{Loaded, Bound}
-use Rattle.apd_unify.specs.declared.heap.Binding.TheVariants.{Free, At}
-use Rattle.apd_unify.specs.Store.{binding_of, IsStore}
+use Rattle.apd_cells.specs.declared.heap.Note.{Note}
+use Rattle.apd_cells.specs.declared.heap.Note.TheVariants.{Loaded, Bound}
+use Rattle.apd_cells.specs.declared.heap.Binding.TheVariants.{Free, At}
+use Rattle.apd_cells.specs.Store.{binding_of, IsStore}
 use Rattle.apd_past.specs.declared.deeds.Deed.{Deed}
 use Rattle.apd_past.specs.Done.{to_of}
 use Rattle.apd_past.specs.History.{History, after_deed, bindings_after, at_moment, present, unbound, IsRight, IsPast, variables_of}

@@ -10,15 +10,14 @@ use Rattle.apd_term.specs.Spelling.{image}
 use Rattle.apd_term.proofs.Spelling.{spell-apply}
 use Rattle.apd_term.proofs.Tuples.{apply-terms_of}
 use Rattle.apd_term.proofs.Variants.{apply-agree}
-use Rattle.apd_unify.specs.declared.heap.Note.{Note}
-use Rattle.apd_unify.specs.declared.heap.Note.TheVariants.{Loaded}
-use Rattle.apd_unify.specs.Stored.{Stored}
-use Rattle.apd_unify.specs.Store.{written, IsStore, IsSound}
-use Rattle.apd_unify.proofs.Apart.{IsTerms-drop}
-use Rattle.apd_unify.proofs.Written.{written-append, reads_something}
-use Rattle.apd_unify.proofs.Meaning.{HasCells-of}
-use Rattle.apd_unify.proofs.Undoing.{le_or_lt}
-use Rattle.apd_unify.proofs.Touching.{occurs_in_cells}
+use Rattle.apd_cells.specs.declared.heap.Note.{Note}
+use Rattle.apd_cells.specs.declared.heap.Note.TheVariants.{Loaded}
+use Rattle.apd_cells.specs.Stored.{Stored}
+use Rattle.apd_cells.specs.Store.{written, IsStore, IsSound}
+use Rattle.apd_cells.proofs.Written.{IsTerms-drop, written-append, reads_something}
+use Rattle.apd_cells.proofs.Meaning.{HasCells-of}
+use Rattle.apd_cells.proofs.Undoing.{le_or_lt}
+use Rattle.apd_cells.proofs.Touching.{occurs_in_cells}
 use Rattle.apd_past.specs.declared.past.PastCell.{PastCell}
 use Rattle.apd_past.specs.Mirror.{place, name, renamed, renamed_symbol, AreRising, StandsIn}
 use Rattle.apd_past.proofs.Catching.{bindings_agree}

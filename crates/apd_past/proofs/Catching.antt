@@ -6,16 +6,16 @@ use Rattle.apd_term.specs.declared.term.Sym.{Sym}
 use Rattle.apd_term.specs.declared.term.Sym.TheVariants.{Var, Int, Fun}
 use Rattle.apd_term.specs.Term.{variable, Occurs}
 use Rattle.apd_term.proofs.Variants.{apply-agree}
-use Rattle.apd_unify.specs.declared.heap.Note.{Note}
-use Rattle.apd_unify.specs.declared.heap.Note.TheVariants.{Loaded, Bound}
-use Rattle.apd_unify.specs.declared.heap.Binding.TheVariants.{Free}
-use Rattle.apd_unify.specs.Stored.{Stored}
-use Rattle.apd_unify.specs.Store.{written, term_at, binding_of, bound, MayBind, IsStore, IsSound}
-use Rattle.apd_unify.proofs.Written.{written-take}
-use Rattle.apd_unify.proofs.Meaning.{HasCells-of, binding-same, binding-other}
-use Rattle.apd_unify.proofs.Following.{written-variable}
-use Rattle.apd_unify.proofs.Touching.{occurs_in_cells}
-use Rattle.apd_unify.proofs.Numbering.{is_numbered, occurs_in_image}
+use Rattle.apd_cells.specs.declared.heap.Note.{Note}
+use Rattle.apd_cells.specs.declared.heap.Note.TheVariants.{Loaded, Bound}
+use Rattle.apd_cells.specs.declared.heap.Binding.TheVariants.{Free}
+use Rattle.apd_cells.specs.Stored.{Stored}
+use Rattle.apd_cells.specs.Store.{written, term_at, binding_of, bound, MayBind, IsStore, IsSound}
+use Rattle.apd_cells.proofs.Written.{written-take}
+use Rattle.apd_cells.proofs.Meaning.{HasCells-of, binding-same, binding-other}
+use Rattle.apd_cells.proofs.Following.{written-variable}
+use Rattle.apd_cells.proofs.Touching.{occurs_in_cells}
+use Rattle.apd_cells.proofs.Numbering.{is_numbered, occurs_in_image}
 use Rattle.apd_past.specs.declared.past.PastCell.{PastCell}
 use Rattle.apd_past.specs.History.{unbound}
 use Rattle.apd_past.specs.Mirror.{place, name, renamed, bindings_there, AreRising, StandsIn}

@@ -2,11 +2,11 @@
 use Rattle.std.proofs.Common.{◌≡◌, ℕ, ◌+◌, ◌-◌, ◌<◌, ◌≤◌, List, length, take, drop, refl, sym, ◌∙◌, ap, subst, arith}
 use Rattle.std.proofs.lemmas.List.{take_at, length-append}
 use Rattle.apd_term.specs.declared.term.Sym.{Sym}
-use Rattle.apd_unify.specs.declared.heap.Note.TheVariants.{Loaded, Bound}
-use Rattle.apd_unify.specs.Stored.{Stored}
-use Rattle.apd_unify.specs.Store.{at_mark, before_note, IsSound}
-use Rattle.apd_unify.proofs.Keeping.{at_mark-at_mark, length-before}
-use Rattle.apd_unify.proofs.Undoing.{at_mark-here}
+use Rattle.apd_cells.specs.declared.heap.Note.TheVariants.{Loaded, Bound}
+use Rattle.apd_cells.specs.Stored.{Stored}
+use Rattle.apd_cells.specs.Store.{at_mark, before_note, IsSound}
+use Rattle.apd_cells.proofs.Keeping.{at_mark-at_mark, length-before}
+use Rattle.apd_cells.proofs.Undoing.{at_mark-here}
 use Rattle.apd_past.specs.declared.follow.Had.{Had}
 use Rattle.apd_past.specs.declared.mirror.Mirror.{Mirror}
 use Rattle.apd_past.specs.Follows.{Follows, with_load}

@@ -7,12 +7,12 @@ use Rattle.apd_term.specs.Term.{IsAmong, IsTerms}
 use Rattle.apd_term.proofs.Among.{IsAmong-right}
 use Rattle.std.proofs.lemmas.List.{length-append}
 use Rattle.std.proofs.lemmas.List.Concat.{flat_map-append}
-use Rattle.apd_unify.specs.declared.heap.Note.{Note}
-use Rattle.apd_unify.specs.declared.heap.Note.TheVariants.{Loaded, Bound}
-use Rattle.apd_unify.specs.Stored.{Stored}
-use Rattle.apd_unify.specs.Store.{before_note, IsStore, IsSound}
+use Rattle.apd_cells.specs.declared.heap.Note.{Note}
+use Rattle.apd_cells.specs.declared.heap.Note.TheVariants.{Loaded, Bound}
+use Rattle.apd_cells.specs.Stored.{Stored}
+use Rattle.apd_cells.specs.Store.{before_note, IsStore, IsSound}
 use Rattle.apd_past.specs.declared.past.PastCell.{PastCell}
-use Rattle.apd_unify.proofs.Loading.{above-ge}
+use Rattle.apd_cells.proofs.Loading.{above-ge}
 use Rattle.apd_past.specs.declared.deeds.Deed.{Deed}
 use Rattle.apd_past.specs.History.{History, bindings_after, present, unbound, with_terms}
 use Rattle.apd_past.specs.Follows.{with_load}

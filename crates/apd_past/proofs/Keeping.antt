@@ -2,8 +2,8 @@
 use Rattle.std.proofs.Common.{◌≡◌, ℕ, ◌<◌, ◌≤◌, Option, List, [], ◌∷◌, length, take, reverse, refl, ◌∙◌, ap, arith}
 use Rattle.std.proofs.lemmas.List.{length-append}
 use Rattle.apd_term.specs.declared.term.Sym.{Sym}
-use Rattle.apd_unify.specs.Stored.{Stored}
-use Rattle.apd_unify.specs.Store.{term_at}
+use Rattle.apd_cells.specs.Stored.{Stored}
+use Rattle.apd_cells.specs.Store.{term_at}
 use Rattle.apd_past.specs.declared.past.PastCell.{PastCell}
 use Rattle.apd_past.specs.History.{History, KeepsMoments, at_moment, bindings_after, present, unbound, with_done, with_terms}
 use Rattle.apd_past.specs.Tuples.{AreInside, terms_at, tuple_at}

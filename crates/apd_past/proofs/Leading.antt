@@ -2,11 +2,11 @@
 use Rattle.std.proofs.Common.{◌≡◌, ◌⊎◌, inl, inr, ℕ, ◌<◌, length, sym, ◌∙◌, subst}
 use Rattle.apd_term.specs.declared.term.Sym.{Sym}
 use Rattle.apd_term.specs.declared.term.Sym.TheVariants.{Var}
-use Rattle.apd_unify.specs.declared.heap.Binding.TheVariants.{At}
-use Rattle.apd_unify.specs.Heap.{IsVariable}
-use Rattle.apd_unify.specs.Stored.{Stored}
-use Rattle.apd_unify.specs.Store.{term_at, binding_of, symbol_at, IsSound}
-use Rattle.apd_unify.proofs.Following.{rank, follows}
+use Rattle.apd_cells.specs.declared.heap.Binding.TheVariants.{At}
+use Rattle.apd_cells.specs.Heap.{IsVariable}
+use Rattle.apd_cells.specs.Stored.{Stored}
+use Rattle.apd_cells.specs.Store.{term_at, binding_of, symbol_at, IsSound}
+use Rattle.apd_cells.proofs.Following.{rank, follows}
 
 -- so far a walk along bindings has come
 pub record Followed (s : Stored) (from at : ℕ) : Type 0 where

@@ -3,13 +3,13 @@ use Rattle.std.proofs.Common.{◌≡◌, ℕ, zero, suc, ◌+◌, ◌-◌, ◌<�
 use Rattle.std.proofs.Math.Seq.{drop-append_seam}
 use Rattle.std.proofs.lemmas.List.{append-nil, take-append-drop, length-drop, length-reverse, reverse-append, take_more, length-take-le}
 use Rattle.apd_term.specs.declared.term.Sym.{Sym}
-use Rattle.apd_unify.specs.declared.heap.Note.{Note}
-use Rattle.apd_unify.specs.declared.heap.Note.TheVariants.{Loaded, Bound}
-use Rattle.apd_unify.specs.Stored.{Stored}
-use Rattle.apd_unify.specs.Store.{before_note, before_notes, at_mark, bound, MayBind, IsStore, IsSound}
-use Rattle.apd_unify.proofs.Keeping.{at_mark-at_mark}
-use Rattle.apd_unify.proofs.Rounding.{not_zero}
-use Rattle.apd_unify.proofs.Undoing.{before_none}
+use Rattle.apd_cells.specs.declared.heap.Note.{Note}
+use Rattle.apd_cells.specs.declared.heap.Note.TheVariants.{Loaded, Bound}
+use Rattle.apd_cells.specs.Stored.{Stored}
+use Rattle.apd_cells.specs.Store.{before_note, before_notes, at_mark, bound, MayBind, IsStore, IsSound}
+use Rattle.apd_cells.proofs.Keeping.{at_mark-at_mark}
+use Rattle.apd_cells.proofs.Bindings.{not_zero}
+use Rattle.apd_cells.proofs.Undoing.{before_none}
 use Rattle.apd_past.specs.Follows.{with_load}
 
 -- the notes at a mark

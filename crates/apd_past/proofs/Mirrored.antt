@@ -14,16 +14,16 @@ use Rattle.apd_term.proofs.Tuples.{as_term, as_term-apply, as_term-variables, as
 use Rattle.apd_term.proofs.Applying.{apply-followed_by}
 use Rattle.apd_term.proofs.Variants.{apply-agree, canonical-renamed}
 use Rattle.apd_term.proofs.Pairs.{term_for-same, term_for-other}
-use Rattle.apd_unify.specs.declared.heap.Note.{Note}
-use Rattle.apd_unify.specs.declared.heap.Note.TheVariants.{Loaded, Bound}
-use Rattle.apd_unify.specs.Stored.{Stored}
-use Rattle.apd_unify.specs.Store.{written, meaning, term_at, IsStore, IsSound}
-use Rattle.apd_unify.proofs.Written.{written-take}
-use Rattle.apd_unify.proofs.Meaning.{HasCells-of}
-use Rattle.apd_unify.proofs.Undoing.{le_or_lt}
-use Rattle.apd_unify.proofs.Touching.{occurs_in_cells}
-use Rattle.apd_unify.proofs.Rounds.{Occurs-single}
-use Rattle.apd_unify.proofs.Numbering.{is_numbered, occurs_in_image}
+use Rattle.apd_cells.specs.declared.heap.Note.{Note}
+use Rattle.apd_cells.specs.declared.heap.Note.TheVariants.{Loaded, Bound}
+use Rattle.apd_cells.specs.Stored.{Stored}
+use Rattle.apd_cells.specs.Store.{written, meaning, term_at, IsStore, IsSound}
+use Rattle.apd_cells.proofs.Written.{written-take}
+use Rattle.apd_cells.proofs.Meaning.{HasCells-of}
+use Rattle.apd_cells.proofs.Undoing.{le_or_lt}
+use Rattle.apd_cells.proofs.Touching.{occurs_in_cells}
+use Rattle.apd_cells.proofs.Bindings.{Occurs-single}
+use Rattle.apd_cells.proofs.Numbering.{is_numbered, occurs_in_image}
 use Rattle.apd_past.specs.declared.past.PastCell.{PastCell}
 use Rattle.apd_past.specs.Tuples.{terms_at, tuple_at}
 use Rattle.apd_past.specs.Mirror.{place, name, renamed, bindings_there, AreRising, StandsIn, tuple_here, places_of}

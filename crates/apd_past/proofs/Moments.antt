@@ -12,14 +12,14 @@ use Rattle.apd_term.specs.Spelling.{variable_in}
 use Rattle.apd_term.specs.Substitution.{term_for, single}
 use Rattle.apd_term.proofs.Among.{IsAmong-append}
 use Rattle.apd_term.proofs.Variants.{apply-agree}
-use Rattle.apd_unify.specs.declared.heap.Note.{Note}
-use Rattle.apd_unify.specs.declared.heap.Note.TheVariants.{Loaded, Bound}
-use Rattle.apd_unify.specs.declared.heap.Binding.{Binding}
-use Rattle.apd_unify.specs.declared.heap.Binding.TheVariants.{Free, At}
-use Rattle.apd_unify.specs.Store.{above, written, meaning, term_at, binding_of, HasCells, MayBind, IsStore, IsSound}
-use Rattle.apd_unify.proofs.Written.{written-append}
-use Rattle.apd_unify.proofs.Meaning.{HasCells-of, binding-same, binding-other}
-use Rattle.apd_unify.proofs.Loading.{above-ge, above-gt, IsTerms-append}
+use Rattle.apd_cells.specs.declared.heap.Note.{Note}
+use Rattle.apd_cells.specs.declared.heap.Note.TheVariants.{Loaded, Bound}
+use Rattle.apd_cells.specs.declared.heap.Binding.{Binding}
+use Rattle.apd_cells.specs.declared.heap.Binding.TheVariants.{Free, At}
+use Rattle.apd_cells.specs.Store.{above, written, meaning, term_at, binding_of, HasCells, MayBind, IsStore, IsSound}
+use Rattle.apd_cells.proofs.Written.{written-append}
+use Rattle.apd_cells.proofs.Meaning.{HasCells-of, binding-same, binding-other}
+use Rattle.apd_cells.proofs.Loading.{above-ge, above-gt, IsTerms-append}
 use Rattle.apd_past.specs.declared.deeds.Deed.{Deed}
 use Rattle.apd_past.specs.Done.{Done, to_of, with_variables}
 use Rattle.apd_past.specs.History.{History, after_deed, bindings_after, store_after, at_moment, present, with_terms, with_done, IsRightDeed, IsRight, variables_of, IsPast}

@@ -6,9 +6,9 @@ use Rattle.apd_term.specs.Term.{Term, variables, IsAmong}
 use Rattle.apd_term.specs.Canonical.{with_new, by_appearance, canonical, canonical_in}
 use Rattle.apd_term.specs.Tuple.{canonical_tuple, variables_of_tuple}
 use Rattle.apd_term.specs.declared.tuple.Tuple.{Tuple}
-use Rattle.apd_unify.proofs.Ordered.{among_seen, canonical_kept}
-use Rattle.apd_unify.specs.Stored.{Stored}
-use Rattle.apd_unify.specs.Store.{term_at}
+use Rattle.apd_cells.proofs.Ordered.{among_seen, canonical_kept}
+use Rattle.apd_cells.specs.Stored.{Stored}
+use Rattle.apd_cells.specs.Store.{term_at}
 use Rattle.apd_past.specs.declared.past.PastCell.{PastCell}
 use Rattle.apd_past.specs.Tuples.{terms_at, AreInside, IsNumbered}
 

@@ -6,8 +6,8 @@ use Rattle.std.proofs.lemmas.List.Concat.{flat_map-append}
 use Rattle.apd_term.specs.declared.term.Sym.{Sym}
 use Rattle.apd_term.specs.declared.term.Sym.TheVariants.{Var}
 use Rattle.apd_term.specs.Spelling.{variable_in}
-use Rattle.apd_unify.specs.Store.{above}
-use Rattle.apd_unify.proofs.Appending.{above-append}
+use Rattle.apd_cells.specs.Store.{above}
+use Rattle.apd_cells.proofs.Appending.{above-append}
 
 pub more_variables : (n : ℕ) (symbols : List Sym) (i : ℕ) (x : Sym) (m k : ℕ) → i < length symbols → x ≡ get_or symbols i (Var 0) → m ≡ above n (flat_map variable_in (take i symbols))
     → k ≡ above m (variable_in x) → k ≡ above n (flat_map variable_in (take (i + 1) symbols))

@@ -6,7 +6,7 @@ use Rattle.std.proofs.lemmas.Bool.{cases_eq}
 use Rattle.std.proofs.lemmas.Bool.Decides.{nat_tests}
 use Rattle.std.proofs.lemmas.List.{get_or_append_left, length-append, length-map, length-set, get_or-set_same, get_or-set_other, map-append, reverse-append, take_more}
 use Rattle.apd_past.specs.Done.{to_of}
-use Rattle.apd_unify.proofs.Following.{read_at}
+use Rattle.apd_cells.proofs.Following.{read_at}
 use Rattle.apd_past.specs.Linked.{deeds_of, no_deed, no_kept, IsOn, IsNewest, IsEarlier, HasWays, HaveWays, AreLinked, GoesBack}
 use Rattle.apd_past.specs.declared.deeds.Deed.{Deed}
 use Rattle.apd_past.specs.declared.deeds.KeptDeed.{KeptDeed}

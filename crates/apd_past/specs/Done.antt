@@ -2,7 +2,7 @@
 use Rattle.std.specs.Prelude.{◌≡◌, ℕ, ◌+◌, ◌==◌, ◌++◌, Option, None, List, [], ◌∷◌, map, max, if◌then◌else◌, refl}
 use Rattle.std.specs.Coded.{Coded, code_by, coded_list, coded_option, coded×, coded_ℕ}
 use Rattle.std.proofs.Common.{ap}
-use Rattle.apd_unify.specs.Store.{above}
+use Rattle.apd_cells.specs.Store.{above}
 use Rattle.apd_past.specs.declared.deeds.Deed.{Deed}
 
 -- a number above all variables, and what was done to them, the oldest first

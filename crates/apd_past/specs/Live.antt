@@ -1,7 +1,7 @@
 -- A past that has followed a store for a part of the way.
 use Rattle.std.specs.Prelude.{◌≡◌, ℕ, ◌≤◌, length}
-use Rattle.apd_unify.specs.Stored.{Stored}
-use Rattle.apd_unify.specs.Store.{at_mark, IsSound}
+use Rattle.apd_cells.specs.Stored.{Stored}
+use Rattle.apd_cells.specs.Store.{at_mark, IsSound}
 use Rattle.apd_past.specs.declared.follow.Had.{Had}
 use Rattle.apd_past.specs.declared.mirror.Mirror.{Mirror}
 use Rattle.apd_past.specs.Follows.{Follows}

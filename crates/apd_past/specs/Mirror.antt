@@ -4,10 +4,10 @@ use Rattle.apd_term.specs.declared.term.Sym.{Sym}
 use Rattle.apd_term.specs.declared.term.Sym.TheVariants.{Var, Int, Fun}
 use Rattle.apd_term.specs.Term.{Term, variable, apply}
 use Rattle.apd_term.specs.declared.tuple.Tuple.{Tuple}
-use Rattle.apd_unify.specs.declared.heap.Note.{Note}
-use Rattle.apd_unify.specs.declared.heap.Note.TheVariants.{Loaded, Bound}
-use Rattle.apd_unify.specs.Stored.{Stored}
-use Rattle.apd_unify.specs.Store.{written, term_at}
+use Rattle.apd_cells.specs.declared.heap.Note.{Note}
+use Rattle.apd_cells.specs.declared.heap.Note.TheVariants.{Loaded, Bound}
+use Rattle.apd_cells.specs.Stored.{Stored}
+use Rattle.apd_cells.specs.Store.{written, term_at}
 use Rattle.apd_past.specs.declared.past.PastCell.{PastCell}
 
 -- where a cell is, and what a variable is called

@@ -4,8 +4,8 @@ use Rattle.std.specs.List.{fold}
 use Rattle.apd_term.specs.Term.{Term, variables}
 use Rattle.apd_term.specs.Canonical.{with_new, canonical_in}
 use Rattle.apd_term.specs.declared.tuple.Tuple.{Tuple}
-use Rattle.apd_unify.specs.Stored.{Stored}
-use Rattle.apd_unify.specs.Store.{term_at}
+use Rattle.apd_cells.specs.Stored.{Stored}
+use Rattle.apd_cells.specs.Store.{term_at}
 use Rattle.apd_past.specs.declared.past.PastCell.{PastCell}
 
 -- the terms at some cells

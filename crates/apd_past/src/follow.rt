@@ -1,17 +1,17 @@
 //! A past that catches up with a store.
 
 ghost use Rattle.std.specs.Prelude.{◌≡◌, ℕ, ◌+◌, ◌<◌, ◌≤◌, length, drop, take, OnOk};
-ghost use Rattle.apd_unify.specs.Stored.{Stored};
-ghost use Rattle.apd_unify.specs.Store.{at_mark, IsSound};
-ghost use Rattle.apd_unify.specs.Live.{store_of};
+ghost use Rattle.apd_cells.specs.Stored.{Stored};
+ghost use Rattle.apd_cells.specs.Store.{at_mark, IsSound};
+ghost use Rattle.apd_cells.specs.Live.{store_of};
 ghost use Rattle.apd_past.specs.Follows.{Follows};
 ghost use Rattle.apd_past.specs.History.{KeepsMoments};
 ghost use Rattle.apd_past.specs.Live.{HasExtentAt, MayCatchUp};
 
 use crate::mirror::Mirror;
+use apd_cells::heap::Note;
+use apd_cells::live::Live;
 use apd_term::Sym;
-use apd_unify::heap::Note;
-use apd_unify::live::Live;
 use std::alloc::AllocError;
 
 /// How many cells and variables a store had at a place of its trail.

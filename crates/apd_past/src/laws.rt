@@ -7,8 +7,8 @@ ghost use Rattle.apd_past.specs.Tuples.{AreInside, tuple_at};
 ghost use Rattle.apd_past.specs.declared.past.PastCell.{PastCell};
 ghost use Rattle.apd_term.specs.Term.{IsAmong};
 ghost use Rattle.apd_term.specs.Tuple.{canonical_tuple};
-ghost use Rattle.apd_unify.specs.Store.{IsSound};
-ghost use Rattle.apd_unify.specs.Stored.{Stored};
+ghost use Rattle.apd_cells.specs.Store.{IsSound};
+ghost use Rattle.apd_cells.specs.Stored.{Stored};
 
 /// Where a store stands in another one, a tuple is there what it is here, in canonical form.
 pub fn tuples_are_the_same_there()

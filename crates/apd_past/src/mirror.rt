@@ -6,17 +6,17 @@ ghost use Rattle.std.specs.List.{flat_map};
 ghost use Rattle.apd_term.specs.declared.term.Sym.TheVariants.{Var};
 ghost use Rattle.apd_term.specs.Spelling.{variable_in};
 ghost use Rattle.apd_term.specs.Term.{IsAmong};
-ghost use Rattle.apd_unify.specs.Stored.{Stored};
-ghost use Rattle.apd_unify.specs.Store.{before_note, bound, IsSound};
+ghost use Rattle.apd_cells.specs.Stored.{Stored};
+ghost use Rattle.apd_cells.specs.Store.{before_note, bound, IsSound};
 ghost use Rattle.apd_past.specs.Follows.{Follows, MayFollowBinding, MayFollowLoad, with_load};
 ghost use Rattle.apd_past.specs.History.{KeepsMoments};
 ghost use Rattle.apd_past.specs.Mirror.{renamed_symbol};
 ghost use Rattle.apd_past.specs.Names.{AreGoodNames, ArePlacedFrom, HasMoreNames};
 
 use crate::past::{Past, PastCell, narrow};
+use apd_cells::heap::Note;
+use apd_cells::stack::Stack;
 use apd_term::Sym;
-use apd_unify::heap::Note;
-use apd_unify::stack::Stack;
 use std::alloc::{AllocError, Global};
 
 /// A past, and how the store stands in it that it follows.

@@ -1,12 +1,12 @@
 //! A walk over the symbols of a term as it was at a moment.
 
 ghost use Rattle.std.specs.Prelude.{◌∷◌, ◌<◌, IfOk};
-ghost use Rattle.apd_unify.specs.Work.{AreRuns, PassesOn};
+ghost use Rattle.apd_cells.specs.Work.{AreRuns, PassesOn};
 
 use crate::then::Then;
+use apd_cells::stack::Stack;
+use apd_cells::walk::{Run, arity_of};
 use apd_term::Sym;
-use apd_unify::stack::Stack;
-use apd_unify::walk::{Run, arity_of};
 use std::alloc::AllocError;
 
 /// What was passed: a symbol, and the run that the walk is in then.

@@ -3,14 +3,14 @@
 ghost use Rattle.std.specs.Prelude.{◌≡◌, ℕ, ◌∷◌, [], ◌<◌, ◌≤◌, ◌^◌, length, get_or, drop, None, Some, IfOk, OnOk, OnErr, MatchOption};
 ghost use Rattle.apd_term.specs.declared.term.Sym.TheVariants.{Var};
 ghost use Rattle.apd_term.specs.Term.{IsTerms};
-ghost use Rattle.apd_unify.specs.declared.heap.Binding.TheVariants.{Free, At};
-ghost use Rattle.apd_unify.specs.Store.{term_at, binding_of, bound, MayBind, IsSound};
+ghost use Rattle.apd_cells.specs.declared.heap.Binding.TheVariants.{Free, At};
+ghost use Rattle.apd_cells.specs.Store.{term_at, binding_of, bound, MayBind, IsSound};
 ghost use Rattle.apd_past.specs.History.{at_moment, present, unbound, with_done, with_one_variable, with_terms};
 
 use crate::deeds::Deeds;
 use crate::slot::Slot;
+use apd_cells::stack::Stack;
 use apd_term::Sym;
-use apd_unify::stack::Stack;
 use std::alloc::{AllocError, Global};
 use std::marker::Model;
 

@@ -1,9 +1,9 @@
 //! A past as it was at a moment.
 
 ghost use Rattle.std.specs.Prelude.{◌≡◌, ◌⊎◌, ◌<◌, ◌≤◌, ◌^◌, length, MatchOption};
-ghost use Rattle.apd_unify.specs.declared.heap.Binding.TheVariants.{Free, At};
-ghost use Rattle.apd_unify.specs.Heap.{IsVariable};
-ghost use Rattle.apd_unify.specs.Store.{term_at, binding_of, symbol_at, IsSound, IsEnd};
+ghost use Rattle.apd_cells.specs.declared.heap.Binding.TheVariants.{Free, At};
+ghost use Rattle.apd_cells.specs.Heap.{IsVariable};
+ghost use Rattle.apd_cells.specs.Store.{term_at, binding_of, symbol_at, IsSound, IsEnd};
 ghost use Rattle.apd_past.specs.History.{at_moment};
 
 use crate::past::{Moment, Past};
@@ -19,7 +19,7 @@ pub struct Then<'a> {
 
 impl<'a> Model for Then<'a> {
     ghost use Rattle.std.specs.Prelude.{◌≤◌, length};
-    ghost use Rattle.apd_unify.specs.Stored.{Stored, stored_code};
+    ghost use Rattle.apd_cells.specs.Stored.{Stored, stored_code};
     ghost use Rattle.apd_past.specs.History.{at_moment};
 
     ghost Value = { Stored };

@@ -4,16 +4,16 @@ ghost use Rattle.std.specs.Prelude.{◌≡◌, [], ◌<◌, length, IfOk};
 ghost use Rattle.apd_term.specs.Canonical.{canonical};
 ghost use Rattle.apd_term.specs.Tuple.{canonical_tuple};
 ghost use Rattle.apd_past.specs.Tuples.{tuple_at, AreInside, IsNumbered};
-ghost use Rattle.apd_unify.specs.Ordered.{Numbers, Writes};
-ghost use Rattle.apd_unify.specs.Store.{term_at};
+ghost use Rattle.apd_cells.specs.Ordered.{Numbers, Writes};
+ghost use Rattle.apd_cells.specs.Store.{term_at};
 
 use crate::passing::pass;
 use crate::past::PastCell;
 use crate::then::Then;
+use apd_cells::order::Order;
+use apd_cells::stack::Stack;
+use apd_cells::walk::{Run, next_run};
 use apd_term::{Atoms, Flat, Sym, Tuple};
-use apd_unify::order::Order;
-use apd_unify::stack::Stack;
-use apd_unify::walk::{Run, next_run};
 use std::alloc::{AllocError, Global};
 use std::marker::Model;
 

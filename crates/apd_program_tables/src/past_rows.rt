@@ -2,8 +2,8 @@
 
 ghost use Rattle.std.specs.Prelude.{◌≡◌};
 ghost use Rattle.std.specs.Bool.{OnTrue};
-ghost use Rattle.apd_unify.specs.declared.heap.Binding.TheVariants.{Free};
-ghost use Rattle.apd_unify.specs.Store.{binding_of, MayBind};
+ghost use Rattle.apd_cells.specs.declared.heap.Binding.TheVariants.{Free};
+ghost use Rattle.apd_cells.specs.Store.{binding_of, MayBind};
 ghost use Rattle.apd_past.specs.History.{present};
 
 use apd_past::past::{Moment, Past, PastCell};

@@ -1,8 +1,6 @@
 -- What a unification keeps, from one pair of terms to the next.
-use Rattle.std.proofs.Common.{Some, None, ◌≡◌, ◌≢◌, inl, inr, ℕ, ◌+◌, ◌-◌, ◌<◌, ◌≤◌, ◌==◌, Bool, true, false, if◌then◌else◌, List, [], ◌∷◌, ◌++◌, length, map, refl, sym, ◌∙◌, ap, subst, arith}
+use Rattle.std.proofs.Common.{Some, None, ◌≡◌, inl, inr, ℕ, ◌+◌, ◌-◌, ◌<◌, if◌then◌else◌, List, [], ◌∷◌, ◌++◌, length, map, refl, sym, ◌∙◌, ap, subst, arith}
 use Rattle.std.specs.List.{zip}
-use Rattle.std.specs.Bool.{Decides}
-use Rattle.std.proofs.lemmas.Bool.Decides.{Decides-eqb}
 use Rattle.apd_term.specs.Term.{Term, terms_of, apply, apply_all, variables}
 use Rattle.apd_term.specs.Substitution.{term_for, single, extended, followed_by}
 use Rattle.apd_term.proofs.Applying.{apply-followed_by, apply-same, apply-variable}
@@ -13,17 +11,19 @@ use Rattle.apd_unify.proofs.Rounds.{IsRound, UnifiesAll, apply_equations-append,
 use Rattle.apd_unify.proofs.Rules.{Eliminates, Decomposes, decomposes, eliminates_left, eliminates_right}
 use Rattle.apd_unify.proofs.Textbook.{deleted_round, decomposed_round, eliminated_round}
 use Rattle.apd_unify.proofs.Measure.{most_steps, most_steps-lt, steps_eliminated}
-use Rattle.apd_unify.specs.declared.heap.Note.TheVariants.{Bound}
+use Rattle.apd_cells.specs.declared.heap.Note.TheVariants.{Bound}
 use Rattle.apd_unify.specs.declared.unify.Pairs.{Pairs}
 use Rattle.apd_unify.specs.declared.unify.Solved.{Solved}
 use Rattle.apd_unify.specs.declared.unify.Solved.TheVariants.{Equal, Clash, Arguments, Bound as BoundOne}
-use Rattle.apd_unify.specs.Stored.{Stored}
-use Rattle.apd_unify.specs.Store.{written, meaning, term_at, bound, before_notes, at_mark, Keeps, IsStore, IsUnified}
-use Rattle.apd_unify.specs.Work.{run_of}
+use Rattle.apd_cells.specs.Stored.{Stored}
+use Rattle.apd_cells.specs.Store.{written, meaning, term_at, bound, Keeps, IsStore}
+use Rattle.apd_unify.specs.Unified.{IsUnified}
+use Rattle.apd_cells.specs.Work.{run_of}
 use Rattle.apd_unify.specs.Unifying.{ArePairs, pairs_of, equations_of, IsElimination, HasEliminated, HasArguments, GoesOn, IsPast, IsDecomposed, Solves}
-use Rattle.apd_unify.proofs.Undoing.{at_mark-here}
-use Rattle.apd_unify.proofs.Passing.{run_one-is}
-use Rattle.apd_unify.proofs.Pairing.{compound_at, split_pairs, rest_of}
+use Rattle.apd_cells.proofs.Passing.{run_one-is}
+use Rattle.apd_cells.proofs.Compounds.{compound_at}
+use Rattle.apd_unify.proofs.Pairing.{split_pairs, rest_of}
+use Rattle.apd_cells.proofs.Bindings.{meaning-bound-applied, Keeps-bound, Keeps-self}
 
 elimination : (a b : Term) (v : ℕ) (t : Term) → IsElimination a b v t → Eliminates a b v t
 elimination a b v t h = elim h.sides [
@@ -44,10 +44,6 @@ decomposes_at s x y n h l m k =
     (length-apply_all g ts ∙ ap length (list_of-terms_of (run_of s.cells (x + 1) n)) ∙ u.number
     ∙ sym (length-apply_all g us ∙ ap length (list_of-terms_of (run_of s.cells (y + 1) n)) ∙ v.number)))
 
--- a binding is a single pair applied to all
-pub meaning-bound-applied : (s : Stored) (v to : ℕ) (t : Term) → apply (meaning s.cells (Bound v to ∷ s.trail)) t ≡ apply (term_for (single v (term_at s to))) (apply (meaning s.cells s.trail) t)
-meaning-bound-applied s v to t = sym (apply-followed_by (meaning s.cells s.trail) (term_for (single v (term_at s to))) t)
-
 zip_applied : (f g one : Term → Term) → ((t : Term) → f t ≡ one (g t)) → (s : ℕ → Term) → ((t : Term) → one t ≡ apply s t) → (xs ys : List Term)
     → zip (map f xs) (map f ys) ≡ apply_equations s (zip (map g xs) (map g ys))
 zip_applied f g one h s k [] ys = refl
@@ -65,27 +61,6 @@ equations_bound s v to (p ∷ ps) =
     ap (λ z. z ++ equations_of (bound s v to) ps) e
     ∙ ap (λ z. apply_equations one (pairs_of s p) ++ z) (equations_bound s v to ps)
     ∙ sym (apply_equations-append one (pairs_of s p) (equations_of s ps))
-
-pub not_zero : {X : Type 0} (k : ℕ) (x y : X) → k ≢ 0 → (if k == 0 then x else y) ≡ y
-not_zero k x y n = by (k == 0) (Decides-eqb k 0)
-  where
-    by : (b : Bool) → Decides b (k ≡ 0) → (if b then x else y) ≡ y
-    by true d = absurd (n (d.0 refl))
-    by false d = refl
-
--- a binding changes nothing at an earlier mark
-pub at_mark-bound : (k : ℕ) (s : Stored) (v to : ℕ) → k ≤ length s.trail → at_mark k (bound s v to) ≡ at_mark k s
-at_mark-bound k s v to l =
-    let j = length (Bound v to ∷ s.trail) - k in
-    let e : j - 1 ≡ length s.trail - k = omega arith in
-    not_zero j (bound s v to) (before_notes s.cells s.variables s.trail (j - 1)) (omega arith)
-    ∙ ap (before_notes s.cells s.variables s.trail) e
-
-pub Keeps-bound : (old s : Stored) (v to : ℕ) → Keeps old s → Keeps old (bound s v to)
-Keeps-bound old s v to h = (omega (arith, h.0), at_mark-bound (length old.trail) s v to h.0 ∙ h.1)
-
-pub Keeps-self : (s : Stored) → Keeps s s
-Keeps-self s = (omega arith, at_mark-here (length s.trail) s (omega arith))
 
 -- what holds while pairs are left that are to be made equal
 pub record Unifying (old s : Stored) (a b : ℕ) (ps : List Pairs) : Type 0 where

@@ -8,15 +8,16 @@ use Rattle.apd_unify.specs.Unifier.{HasNoUnifier}
 use Rattle.apd_unify.proofs.Steps.{cycle}
 use Rattle.apd_unify.specs.declared.unify.Solved.{Solved}
 use Rattle.apd_unify.specs.declared.unify.Solved.TheVariants.{Equal, Bound, Clash, Arguments}
-use Rattle.apd_unify.specs.Stored.{Stored}
-use Rattle.apd_unify.specs.Store.{meaning, term_at, bound, MayBind, IsStore, IsEnd}
-use Rattle.apd_unify.specs.Work.{run_symbols}
+use Rattle.apd_cells.specs.Stored.{Stored}
+use Rattle.apd_cells.specs.Store.{meaning, term_at, bound, MayBind, IsStore, IsEnd}
+use Rattle.apd_cells.specs.Work.{run_symbols}
 use Rattle.apd_unify.specs.Unifying.{HasEliminated, HasArguments, Solves}
-use Rattle.apd_unify.proofs.Meaning.{meaning-free}
-use Rattle.apd_unify.proofs.Following.{written-variable, variable-below}
-use Rattle.apd_unify.proofs.Ending.{spell_end}
-use Rattle.apd_unify.specs.First.{IsFixed}
-use Rattle.apd_unify.proofs.Beginning.{first_symbol-end, apart_first}
+use Rattle.apd_cells.proofs.Meaning.{meaning-free}
+use Rattle.apd_cells.proofs.Following.{written-variable, variable-below}
+use Rattle.apd_cells.proofs.Ending.{spell_end}
+use Rattle.apd_cells.specs.First.{IsFixed}
+use Rattle.apd_cells.proofs.Keys.{first_symbol-end}
+use Rattle.apd_unify.proofs.Beginning.{apart_first}
 
 pub variable_end : (s : Stored) (c v : ℕ) → c < length s.cells → IsEnd s c → get_or s.cells c (Var 0) ≡ Var v → term_at s c ≡ variable v
 variable_end s c v l e is = ap (apply (meaning s.cells s.trail)) (written-variable s.cells c v l is) ∙ meaning-free s.cells s.trail v (e v is)

@@ -10,9 +10,9 @@ use Rattle.apd_unify.specs.Unifier.{HasNoUnifier}
 use Rattle.apd_unify.specs.declared.unify.Pairs.{Pairs}
 use Rattle.apd_unify.specs.declared.unify.Solved.{Solved}
 use Rattle.apd_unify.specs.declared.unify.Solved.TheVariants.{Equal, Bound, Clash, Arguments}
-use Rattle.apd_unify.specs.Stored.{Stored}
-use Rattle.apd_unify.specs.Store.{meaning, term_at, bound}
-use Rattle.apd_unify.specs.Work.{run_of, IsRun}
+use Rattle.apd_cells.specs.Stored.{Stored}
+use Rattle.apd_cells.specs.Store.{meaning, term_at, bound}
+use Rattle.apd_cells.specs.Work.{run_of, IsRun}
 
 -- so many terms are written at both cells
 pub record IsPairs (cells : List Sym) (p : Pairs) : Type 0 where

@@ -4,11 +4,10 @@ ghost use Rattle.std.specs.Prelude.{◌≡◌, ◌↔◌, ◌≤◌, ℕ, List, 
 ghost use Rattle.apd_term.specs.Term.{Term, apply};
 ghost use Rattle.apd_term.specs.Substitution.{term_for, Unifies};
 ghost use Rattle.apd_unify.specs.Unifier.{FactorsUnifiers, IsMostGeneral, BringsNoVariable, HasNoUnifier, IsAnswer, made_of};
-ghost use Rattle.apd_unify.specs.First.{AreClashing, AreApart, key_of};
-ghost use Rattle.apd_unify.specs.Step.{first_symbol};
+ghost use Rattle.apd_cells.specs.First.{AreClashing, AreApart, key_of, first_symbol};
 ghost use Rattle.apd_unify.specs.Textbook.{unifier_of};
-ghost use Rattle.apd_unify.specs.Stored.{Stored};
-ghost use Rattle.apd_unify.specs.Store.{at_mark, Keeps};
+ghost use Rattle.apd_cells.specs.Stored.{Stored};
+ghost use Rattle.apd_cells.specs.Store.{at_mark, Keeps};
 
 /// The textbook's function gives a most general unifier of two terms that has only variables of
 /// theirs, and `None` exactly where they have no unifier (Robinson 1965).

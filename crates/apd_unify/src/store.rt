@@ -2,26 +2,25 @@
 
 ghost use Rattle.std.specs.Prelude.{◌≡◌, ℕ, ◌+◌, ◌<◌, ◌≤◌, ◌^◌, [], length, IfOk, OnOk, OnErr};
 ghost use Rattle.std.specs.Bool.{OnTrue};
-ghost use Rattle.apd_term.specs.Term.{arguments, Occurs, size};
+ghost use Rattle.apd_term.specs.Term.{arguments, IsGround, Occurs, size};
 ghost use Rattle.apd_term.specs.Canonical.{shifted};
-ghost use Rattle.apd_unify.specs.Arguments.{HasOne, HasTwo};
-ghost use Rattle.apd_unify.specs.First.{AreApart, key_of};
-ghost use Rattle.apd_unify.specs.Live.{store_of};
-ghost use Rattle.apd_unify.specs.Numbered.{IsNumbered};
-ghost use Rattle.apd_unify.specs.Ordered.{Numbers};
-ghost use Rattle.apd_unify.specs.Step.{first_symbol};
-ghost use Rattle.apd_unify.specs.Store.{term_at, under_bindings, loaded, at_mark, Keeps, IsSound, IsUnification, SizeWithin};
+ghost use Rattle.apd_cells.specs.Arguments.{HasOne, HasTwo};
+ghost use Rattle.apd_cells.specs.First.{AreApart, key_of, first_symbol};
+ghost use Rattle.apd_cells.specs.Live.{store_of};
+ghost use Rattle.apd_cells.specs.Numbered.{IsNumbered};
+ghost use Rattle.apd_cells.specs.Ordered.{Numbers};
+ghost use Rattle.apd_cells.specs.Store.{term_at, under_bindings, loaded, at_mark, Keeps, IsSound, SizeWithin};
+ghost use Rattle.apd_unify.specs.Unified.{IsUnification};
 
-use crate::arguments::{only_argument, two_arguments};
-use crate::counting::keep_sizes;
-use crate::first::{are_clashing, first_symbol, key_at, key_of};
-use crate::heap::Heap;
-use crate::live::Live;
-use crate::reading::{resolved, size_within};
-use crate::scratch::{Scratch, numbered_within};
-use crate::stack::Stack;
 use crate::unify::{Pairs, unify};
-use crate::walk::Walk;
+use apd_cells::arguments::{only_argument, two_arguments};
+use apd_cells::counting::keep_sizes;
+use apd_cells::first::{are_clashing, first_symbol, key_at, key_of};
+use apd_cells::heap::Heap;
+use apd_cells::live::Live;
+use apd_cells::reading::{Looking, is_ground_within, resolved, size_within};
+use apd_cells::scratch::{Scratch, numbered_within};
+use apd_cells::stack::Stack;
 use apd_term::{Flat, Sym};
 use std::alloc::{AllocError, Global};
 use std::marker::Model;
@@ -39,13 +38,13 @@ pub struct Mark(pub usize);
 #[derive(Drop)]
 pub struct Store {
     heap: Heap,
-    walk: Walk,
+    looking: Looking,
     pairs: Stack<Pairs>,
     alloc: Global,
 }
 
 impl Model for Store {
-    ghost use Rattle.apd_unify.specs.Stored.{Stored, stored_code};
+    ghost use Rattle.apd_cells.specs.Stored.{Stored, stored_code};
 
     ghost Value = { Stored };
 
@@ -61,11 +60,7 @@ impl Store {
     {
         Store {
             heap: Heap::new(alloc),
-            walk: Walk {
-                at: 0,
-                left: 0,
-                rest: Stack::new(alloc),
-            },
+            looking: Looking::new(alloc),
             pairs: Stack::new(alloc),
             alloc,
         }
@@ -98,7 +93,7 @@ impl Store {
         ensures cells { self.new.cells ≡ self.old.cells }
         ensures kept { Keeps self.old self.new }
     {
-        unify(&mut self.heap, &mut self.walk, &mut self.pairs, a.0, b.0)
+        unify(&mut self.heap, &mut self.looking, &mut self.pairs, a.0, b.0)
     }
 
     /// How many cells there are.
@@ -190,6 +185,15 @@ impl Store {
         ensures { IfOk result (SizeWithin (term_at self.now cell.0) limit) }
     {
         size_within(&self.heap, self.alloc, cell.0, limit)
+    }
+
+    /// Whether no variable stands in the term at a cell. False says nothing; it comes where the term's size is
+    /// over the limit too.
+    pub fn is_ground_within(&self, cell: Cell, limit: u64) -> Result<bool, AllocError>
+        requires { cell.0 < length self.now.cells }
+        ensures { IfOk result (λ b. OnTrue b (IsGround (term_at self.now cell.0))) }
+    {
+        is_ground_within(&self.heap, self.alloc, cell.0, limit)
     }
 
     /// Counts the terms that stand for the variables of what is written at a cell, and keeps the sizes of

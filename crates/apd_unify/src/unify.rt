@@ -2,14 +2,15 @@
 
 ghost use Rattle.std.specs.Prelude.{◌≡◌, ◌<◌, ◌^◌, ◌∷◌, length, IfOk, IfSome, OnErr, IsTrue, ◌↔◌};
 ghost use Rattle.apd_term.specs.Term.{Occurs};
-ghost use Rattle.apd_unify.specs.First.{IsFixed};
-ghost use Rattle.apd_unify.specs.Store.{term_at, symbol_at, IsEnd, IsFreeVariable, IsSound, IsUnification, Keeps};
+ghost use Rattle.apd_cells.specs.First.{IsFixed};
+ghost use Rattle.apd_cells.specs.Store.{term_at, symbol_at, IsEnd, IsFreeVariable, IsSound, Keeps};
+ghost use Rattle.apd_unify.specs.Unified.{IsUnification};
 ghost use Rattle.apd_unify.specs.Unifying.{Solves, IsPairs, ArePairs, IsPast, IsPastTwin, GoesOn, HasArguments, IsDecomposed};
 
-use crate::heap::Heap;
-use crate::reading::mentions;
-use crate::stack::Stack;
-use crate::walk::{Walk, arity_of};
+use apd_cells::heap::Heap;
+use apd_cells::reading::{Looking, mentions};
+use apd_cells::stack::Stack;
+use apd_cells::walk::arity_of;
 use apd_term::Sym;
 use std::alloc::AllocError;
 
@@ -37,7 +38,7 @@ pub enum Solved {
 
 /// Whether the variable stands in the term at a cell. Where the variable is new, or known
 /// to be above those of the term, the term isn't looked at.
-fn stands_in(heap: &Heap, walk: &mut Walk, v: u64, at: usize) -> Result<bool, AllocError>
+fn stands_in(heap: &Heap, looking: &mut Looking, v: u64, at: usize) -> Result<bool, AllocError>
     requires { at < length heap.now.cells }
     ensures { IfOk result (λ b. IsTrue b ↔ Occurs v (term_at heap.now at)) }
 {
@@ -49,13 +50,13 @@ fn stands_in(heap: &Heap, walk: &mut Walk, v: u64, at: usize) -> Result<bool, Al
             return Ok(false);
         }
     }
-    mentions(walk, heap, at, v)
+    mentions(looking, heap, at, v)
 }
 
 /// Binds a variable to a term, if it doesn't stand in it.
 fn solve_variable(
     heap: &mut Heap,
-    walk: &mut Walk,
+    looking: &mut Looking,
     v: u64,
     at: usize,
     to: usize,
@@ -67,7 +68,7 @@ fn solve_variable(
     ensures ok { IfOk result (λ r. Solves r heap.old heap.new at to) }
     ensures err { OnErr result (heap.new ≡ heap.old) }
 {
-    if stands_in(heap, walk, v, to)? {
+    if stands_in(heap, looking, v, to)? {
         return Ok(Solved::Clash);
     }
     heap.bind(v, to)?;
@@ -100,7 +101,7 @@ fn solve_variables(
 }
 
 /// Solves the equation between the terms at two cells, up to the arguments of names.
-fn solve(heap: &mut Heap, walk: &mut Walk, a: usize, b: usize) -> Result<Solved, AllocError>
+fn solve(heap: &mut Heap, looking: &mut Looking, a: usize, b: usize) -> Result<Solved, AllocError>
     requires a { a < length heap.old.cells }
     requires b { b < length heap.old.cells }
     requires free_a { IsEnd heap.old a }
@@ -113,8 +114,8 @@ fn solve(heap: &mut Heap, walk: &mut Walk, a: usize, b: usize) -> Result<Solved,
     }
     match (heap.symbol(a), heap.symbol(b)) {
         (Sym::Var(v), Sym::Var(w)) => solve_variables(heap, v, w, a, b),
-        (Sym::Var(v), _) => solve_variable(heap, walk, v, a, b),
-        (_, Sym::Var(w)) => solve_variable(heap, walk, w, b, a),
+        (Sym::Var(v), _) => solve_variable(heap, looking, v, a, b),
+        (_, Sym::Var(w)) => solve_variable(heap, looking, w, b, a),
         (x, y) => {
             if x != y {
                 return Ok(Solved::Clash);
@@ -218,7 +219,7 @@ fn decompose(
 /// store at each earlier mark is as it was.
 pub fn unify(
     heap: &mut Heap,
-    walk: &mut Walk,
+    looking: &mut Looking,
     pairs: &mut Stack<Pairs>,
     a: usize,
     b: usize,
@@ -238,7 +239,7 @@ pub fn unify(
         }
         let x = heap.follow(next.a);
         let y = heap.follow(next.b);
-        match solve(heap, walk, x, y)? {
+        match solve(heap, looking, x, y)? {
             Solved::Clash => return Ok(false),
             Solved::Arguments(arity) => here = decompose(heap, pairs, next, x, y, arity)?,
             Solved::Equal => here = past(heap, next),

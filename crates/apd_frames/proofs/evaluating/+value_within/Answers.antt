@@ -1,7 +1,7 @@
 use Rattle.std.proofs.Common.{◌≡◌, ℕ, [], ◌∷◌, ap, sym, ◌∙◌}
 use Rattle.apd_term.specs.declared.term.Sym.TheVariants.{Fun}
-use Rattle.apd_unify.specs.Step.{first_symbol}
-use Rattle.apd_unify.specs.Store.{term_at}
+use Rattle.apd_cells.specs.First.{first_symbol}
+use Rattle.apd_cells.specs.Store.{term_at}
 use Rattle.apd_arith.specs.Value.{value, value_of}
 use Rattle.apd_frames.proofs.Valued.{value-one, value-two, value-other}
 use Rattle.apd_frames.proofs.evaluating.+value_within.Goals as goal

@@ -1,5 +1,5 @@
 use Rattle.std.proofs.Common.{◌+◌, drop, length, refl, subst}
-use Rattle.apd_unify.specs.Store.{term_at}
+use Rattle.apd_cells.specs.Store.{term_at}
 use Rattle.apd_frames.specs.Links.{link_of}
 use Rattle.apd_frames.specs.Instances.{terms_in, tuple_in}
 use Rattle.apd_frames.proofs.Instancing.{inside_or}

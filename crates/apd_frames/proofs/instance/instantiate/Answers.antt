@@ -1,5 +1,5 @@
 use Rattle.std.proofs.lemmas.Result.{IfOk-weaker}
-use Rattle.apd_unify.proofs.Rounding.{Keeps-self}
+use Rattle.apd_cells.proofs.Bindings.{Keeps-self}
 use Rattle.apd_frames.specs.Instances.{with_goals}
 use Rattle.apd_frames.proofs.Numbers.{IsSmall-canonical}
 use Rattle.apd_frames.proofs.Entering.{instantiates_self, instantiates_canonical}

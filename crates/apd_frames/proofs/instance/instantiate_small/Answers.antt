@@ -2,8 +2,8 @@ use Rattle.std.proofs.Common.{◌∙◌, ◌<◌, length, map, ap, refl, sym, su
 use Rattle.std.specs.List.{flat_map}
 use Rattle.apd_term.specs.Term.{variables, IsAmong}
 use Rattle.apd_term.proofs.Among.{IsAmong-left, IsAmong-right}
-use Rattle.apd_unify.specs.Store.{IsUnification}
-use Rattle.apd_unify.proofs.Keeping.{Keeps-trans}
+use Rattle.apd_unify.specs.Unified.{IsUnification}
+use Rattle.apd_cells.proofs.Keeping.{Keeps-trans}
 use Rattle.apd_frames.specs.Instances.{raised_in}
 use Rattle.apd_frames.specs.Links.{Instance}
 use Rattle.apd_frames.proofs.Instancing.{inside_new, not_instantiated, instantiated}

@@ -1,6 +1,6 @@
 use Rattle.std.proofs.Common.{arith, ◌+◌, drop, get_or, length, refl, subst, sym, ap}
 use Rattle.std.specs.Prelude.{not}
-use Rattle.apd_unify.specs.Store.{term_at}
+use Rattle.apd_cells.specs.Store.{term_at}
 use Rattle.apd_frames.specs.Links.{link_of}
 use Rattle.apd_frames.specs.Instances.{terms_in, tuple_in}
 use Rattle.apd_frames.proofs.Instancing.{inside_or}

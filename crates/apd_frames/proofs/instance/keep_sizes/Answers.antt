@@ -1,5 +1,5 @@
 use Rattle.std.proofs.Common.{◌<◌, get_or, length, subst, sym}
-use Rattle.apd_unify.specs.Stored.{Stored}
+use Rattle.apd_cells.specs.Stored.{Stored}
 use Rattle.apd_frames.proofs.Instancing.{inside_or}
 use Rattle.apd_frames.proofs.instance.keep_sizes.Goals as goal
 

@@ -1,6 +1,6 @@
 use Rattle.std.proofs.Common.{refl, ap}
 use Rattle.apd_term.specs.Canonical.{canonical}
-use Rattle.apd_unify.specs.Store.{term_at}
+use Rattle.apd_cells.specs.Store.{term_at}
 use Rattle.apd_trace.specs.Frames.{left}
 use Rattle.apd_frames.specs.Kept.{ahead_of}
 use Rattle.apd_frames.specs.Links.{link_of}

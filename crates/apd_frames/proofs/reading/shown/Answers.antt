@@ -1,4 +1,4 @@
-use Rattle.apd_unify.specs.Store.{term_at}
+use Rattle.apd_cells.specs.Store.{term_at}
 use Rattle.apd_frames.proofs.Writing.{canonical_alone}
 use Rattle.apd_frames.proofs.reading.shown.Goals as goal
 

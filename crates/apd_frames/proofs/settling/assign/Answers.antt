@@ -2,10 +2,11 @@ use Rattle.std.proofs.Common.{◌≡◌, length, arith, sym, ◌∙◌, ap, subs
 use Rattle.std.proofs.lemmas.Int.{to_z-of_z}
 use Rattle.apd_term.specs.Term.{integer}
 use Rattle.apd_term.specs.Canonical.{shifted}
-use Rattle.apd_unify.proofs.Keeping.{Keeps-trans}
-use Rattle.apd_unify.proofs.Rounding.{Keeps-self}
-use Rattle.apd_unify.specs.Stored.{Stored}
-use Rattle.apd_unify.specs.Store.{term_at, under_bindings, Keeps, IsUnification}
+use Rattle.apd_cells.proofs.Keeping.{Keeps-trans}
+use Rattle.apd_cells.proofs.Bindings.{Keeps-self}
+use Rattle.apd_cells.specs.Stored.{Stored}
+use Rattle.apd_cells.specs.Store.{term_at, under_bindings, Keeps}
+use Rattle.apd_unify.specs.Unified.{IsUnification}
 use Rattle.apd_frames.proofs.Instancing.{undone}
 use Rattle.apd_frames.proofs.Settled.{clashed}
 use Rattle.apd_frames.proofs.settling.assign.Goals as goal

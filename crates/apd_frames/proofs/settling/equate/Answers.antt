@@ -1,6 +1,6 @@
 use Rattle.std.proofs.Common.{sym, subst}
-use Rattle.apd_unify.proofs.Rounding.{Keeps-self}
-use Rattle.apd_unify.specs.Store.{Keeps}
+use Rattle.apd_cells.proofs.Bindings.{Keeps-self}
+use Rattle.apd_cells.specs.Store.{Keeps}
 use Rattle.apd_frames.proofs.Instancing.{undone}
 use Rattle.apd_frames.proofs.settling.equate.Goals as goal
 

@@ -1,4 +1,4 @@
-use Rattle.apd_unify.proofs.Rounding.{Keeps-self}
+use Rattle.apd_cells.proofs.Bindings.{Keeps-self}
 use Rattle.apd_frames.proofs.settling.evaluate.Goals as goal
 
 pub returns-in_err-error_of-in-Err-clause-kept : goal.returns-in_err-error_of-in-Err-clause-kept

@@ -2,8 +2,8 @@ use Rattle.std.proofs.Common.{◌≡◌, inl, refl, sym, subst, Some}
 use Rattle.std.proofs.lemmas.Result.{IfOk-weaker}
 use Rattle.apd_arith.specs.Builtins.{builtin_of_atom}
 use Rattle.apd_arith.specs.declared.goal.Builtin.TheVariants.{True, Fail}
-use Rattle.apd_unify.proofs.Rounding.{Keeps-self}
-use Rattle.apd_unify.specs.Store.{term_at}
+use Rattle.apd_cells.proofs.Bindings.{Keeps-self}
+use Rattle.apd_cells.specs.Store.{term_at}
 use Rattle.apd_frames.proofs.Outcomes.{outcome-user, outcome-none, outcome-of-two}
 use Rattle.apd_frames.specs.Solves.{SettlesBy}
 use Rattle.apd_frames.proofs.settling.settle.Goals as goal

@@ -1,4 +1,4 @@
-use Rattle.apd_unify.proofs.Rounding.{Keeps-self}
+use Rattle.apd_cells.proofs.Bindings.{Keeps-self}
 use Rattle.apd_frames.proofs.settling.settle_two.Goals as goal
 
 pub returns-in-True-clause-kept : goal.returns-in-True-clause-kept

@@ -1,6 +1,6 @@
 use Rattle.std.proofs.Common.{arith, length, refl, subst}
 use Rattle.std.proofs.lemmas.List.{length-reverse}
-use Rattle.apd_unify.specs.Live.{store_of}
+use Rattle.apd_cells.specs.Live.{store_of}
 use Rattle.apd_past.proofs.CatchingUp.{had_all, had_loaded, quiet_more}
 use Rattle.apd_past.proofs.Marks.{IsStep, step_at}
 use Rattle.apd_past.proofs.follow.had_at.Goals as goal

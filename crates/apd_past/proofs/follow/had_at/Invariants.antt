@@ -1,5 +1,5 @@
 use Rattle.std.proofs.Common.{◌≤◌, ◌-◌, length}
-use Rattle.apd_unify.specs.Live.{store_of}
+use Rattle.apd_cells.specs.Live.{store_of}
 use Rattle.apd_past.proofs.CatchingUp.{IsQuiet}
 use Rattle.apd_past.proofs.follow.had_at.Given as goal
 

@@ -1,8 +1,8 @@
 use Rattle.std.proofs.Common.{◌∷◌, length, ap, refl, arith}
-use Rattle.apd_unify.specs.Store.{term_at}
-use Rattle.apd_unify.specs.Work.{runs_symbols}
-use Rattle.apd_unify.proofs.Passing.{started, goes_and_passes}
-use Rattle.apd_unify.proofs.Placing.{writing_first, writing_more}
+use Rattle.apd_cells.specs.Store.{term_at}
+use Rattle.apd_cells.specs.Work.{runs_symbols}
+use Rattle.apd_cells.proofs.Passing.{started, goes_and_passes}
+use Rattle.apd_cells.proofs.Placing.{writing_first, writing_more}
 use Rattle.apd_past.proofs.writing.write_within.Goals as goal
 
 pub symbols-init : goal.symbols-init

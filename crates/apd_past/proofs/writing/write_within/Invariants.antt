@@ -1,7 +1,7 @@
 use Rattle.std.proofs.Common.{◌≤◌, ◌∷◌, length}
-use Rattle.apd_unify.specs.Store.{term_at}
-use Rattle.apd_unify.specs.Work.{AreRuns, runs_symbols}
-use Rattle.apd_unify.proofs.Placing.{IsWriting}
+use Rattle.apd_cells.specs.Store.{term_at}
+use Rattle.apd_cells.specs.Work.{AreRuns, runs_symbols}
+use Rattle.apd_cells.proofs.Placing.{IsWriting}
 use Rattle.apd_past.proofs.writing.write_within.Given as goal
 
 abbrev pub invariant-symbols : goal.invariant-symbols

@@ -1,11 +1,11 @@
 use Rattle.std.proofs.Common.{◌≡◌, inl, inr, ℕ, ◌<◌, get_or, length, ap, arith, sym, subst, ◌∙◌}
 use Rattle.apd_term.specs.declared.term.Sym.TheVariants.{Var}
 use Rattle.apd_term.specs.Term.{Occurs, apply}
-use Rattle.apd_unify.specs.declared.heap.Binding.TheVariants.{Free}
-use Rattle.apd_unify.specs.Stored.{Stored}
-use Rattle.apd_unify.specs.Store.{MayBind, binding_of, meaning}
-use Rattle.apd_unify.proofs.Following.{written-variable}
-use Rattle.apd_unify.proofs.Meaning.{meaning-free}
+use Rattle.apd_cells.specs.declared.heap.Binding.TheVariants.{Free}
+use Rattle.apd_cells.specs.Stored.{Stored}
+use Rattle.apd_cells.specs.Store.{MayBind, binding_of, meaning}
+use Rattle.apd_cells.proofs.Following.{written-variable}
+use Rattle.apd_cells.proofs.Meaning.{meaning-free}
 use Rattle.apd_past.specs.History.{present}
 use Rattle.apd_program_tables.proofs.past_rows.may_bind.Goals as goal
 

@@ -1,4 +1,4 @@
-use Rattle.apd_unify.proofs.Keeping.{at_mark-at_mark, Keeps-trans}
+use Rattle.apd_cells.proofs.Keeping.{at_mark-at_mark, Keeps-trans}
 use Rattle.apd_unify.proofs.laws.marks_nest.Goals as goal
 
 pub returns-clause-twice : goal.returns-clause-twice

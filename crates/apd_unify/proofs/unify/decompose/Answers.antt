@@ -1,5 +1,5 @@
 use Rattle.std.proofs.Common.{refl, arith, ◌+◌, ◌-◌, ◌∙◌}
-use Rattle.apd_unify.proofs.Passing.{left_fits}
+use Rattle.apd_cells.proofs.Passing.{left_fits}
 use Rattle.apd_unify.proofs.Pairing.{Waits, decomposed_equal, decomposed_there, waits_pushed, waits_same}
 use Rattle.apd_unify.proofs.unify.decompose.Goals.{then-here-gt1+in_ok-push, else-here-gt1}
 use Rattle.apd_unify.proofs.unify.decompose.Goals as goal

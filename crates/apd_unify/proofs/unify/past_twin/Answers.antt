@@ -1,5 +1,6 @@
 use Rattle.std.proofs.Common.{refl}
-use Rattle.apd_unify.proofs.Twins.{two_inside, past_twin_is}
+use Rattle.apd_cells.proofs.Skipping.{two_inside}
+use Rattle.apd_unify.proofs.Twins.{past_twin_is}
 use Rattle.apd_unify.proofs.unify.past_twin.Goals as goal
 
 pub is_twin-requires : goal.is_twin-requires

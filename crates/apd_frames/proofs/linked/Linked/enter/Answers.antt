@@ -1,10 +1,10 @@
 use Rattle.std.proofs.Common.{length, refl, sym, subst}
 use Rattle.std.specs.Bool.{OnTrue}
 use Rattle.apd_term.specs.Term.{variable}
-use Rattle.apd_unify.specs.First.{AreApart}
-use Rattle.apd_unify.specs.Store.{term_at, Keeps}
-use Rattle.apd_unify.specs.Stored.{Stored}
-use Rattle.apd_unify.proofs.Rounding.{Keeps-self}
+use Rattle.apd_cells.specs.First.{AreApart}
+use Rattle.apd_cells.specs.Store.{term_at, Keeps}
+use Rattle.apd_cells.specs.Stored.{Stored}
+use Rattle.apd_cells.proofs.Bindings.{Keeps-self}
 use Rattle.apd_trace.specs.declared.frame.Called.{Called}
 use Rattle.apd_trace.specs.Frames.{entering}
 use Rattle.apd_frames.specs.Kept.{HasEntered}

@@ -1,6 +1,6 @@
 use Rattle.std.proofs.Common.{refl, length, subst}
-use Rattle.apd_unify.specs.First.{AreClashing, key_of}
-use Rattle.apd_unify.specs.Store.{term_at}
+use Rattle.apd_cells.specs.First.{AreClashing, key_of}
+use Rattle.apd_cells.specs.Store.{term_at}
 use Rattle.apd_unify.proofs.Beginning.{apart_keys}
 use Rattle.apd_frames.specs.Framed.{frames_of}
 use Rattle.apd_frames.proofs.Moving.{enters_no}

@@ -2,9 +2,9 @@ use Rattle.std.proofs.Common.{◌∷◌, ◌∙◌, [], length, map, refl, sym, 
 use Rattle.std.specs.List.{flat_map}
 use Rattle.apd_term.specs.Term.{variables, IsAmong}
 use Rattle.apd_term.proofs.Among.{IsAmong-left, IsAmong-right}
-use Rattle.apd_unify.specs.Store.{Keeps}
-use Rattle.apd_unify.specs.Stored.{Stored}
-use Rattle.apd_unify.proofs.Keeping.{Keeps-trans}
+use Rattle.apd_cells.specs.Store.{Keeps}
+use Rattle.apd_cells.specs.Stored.{Stored}
+use Rattle.apd_cells.proofs.Keeping.{Keeps-trans}
 use Rattle.apd_frames.specs.Links.{Instance, Link}
 use Rattle.apd_frames.specs.Instances.{terms_in, raised_in, AreInside}
 use Rattle.apd_frames.proofs.Numbers.{IsSmall-canonical}

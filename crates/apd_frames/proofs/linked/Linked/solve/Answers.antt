@@ -6,10 +6,10 @@ use Rattle.apd_trace.specs.Renaming.{AreAlike}
 use Rattle.apd_frames.specs.declared.builtin.Solved.TheVariants.{Entered}
 use Rattle.apd_frames.specs.Links.{Instance, instance_of, link_of}
 use Rattle.apd_frames.specs.Linked.{frames_at, saved_of, IsFramed}
-use Rattle.apd_unify.specs.Store.{term_at}
+use Rattle.apd_cells.specs.Store.{term_at}
 use Rattle.apd_frames.specs.Solves.{Settles, solution_as, Keeps}
 use Rattle.apd_frames.specs.Framed.{frames_of}
-use Rattle.apd_unify.proofs.Rounding.{Keeps-self}
+use Rattle.apd_cells.proofs.Bindings.{Keeps-self}
 use Rattle.apd_frames.proofs.Branching.{framed_kept}
 use Rattle.apd_frames.proofs.Current.{view_of, may_call_any}
 use Rattle.apd_frames.proofs.Moving.{solves_without, solves_with, solved_framed, pushed_saved}

@@ -1,7 +1,7 @@
 use Rattle.std.proofs.Common.{◌≡◌, ◌≤◌, take}
 use Rattle.std.specs.List.{flat_map}
 use Rattle.apd_term.specs.Spelling.{variable_in}
-use Rattle.apd_unify.specs.Store.{above}
+use Rattle.apd_cells.specs.Store.{above}
 use Rattle.apd_past.proofs.deeds.Deeds.add_variables.Given as goal
 
 abbrev pub invariant-loop-symbol : goal.invariant-loop-symbol

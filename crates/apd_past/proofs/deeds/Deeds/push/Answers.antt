@@ -1,5 +1,5 @@
 use Rattle.std.proofs.Common.{◌<◌, ◌∙◌, ◌∷◌, ◌++◌, [], ap, subst, sym, arith, length, set, None}
-use Rattle.apd_unify.proofs.Following.{read_at}
+use Rattle.apd_cells.proofs.Following.{read_at}
 use Rattle.apd_past.specs.Done.{Done}
 use Rattle.apd_past.specs.Linked.{AreLinked, IsEarlier, deeds_of}
 use Rattle.apd_past.specs.declared.deeds.Deed.{Deed}

@@ -1,6 +1,6 @@
 use Rattle.std.proofs.Common.{◌≤◌, length}
-use Rattle.apd_unify.specs.Stored.{Stored}
-use Rattle.apd_unify.specs.Store.{IsSound}
+use Rattle.apd_cells.specs.Stored.{Stored}
+use Rattle.apd_cells.specs.Store.{IsSound}
 use Rattle.apd_past.specs.Follows.{Follows}
 use Rattle.apd_past.specs.History.{KeepsMoments}
 use Rattle.apd_past.proofs.CatchingUp.{IsGoingBack}

@@ -1,6 +1,6 @@
 use Rattle.std.proofs.Common.{◌<◌, ap, arith, get_or, length, subst}
-use Rattle.apd_unify.specs.Store.{MayBind}
-use Rattle.apd_unify.proofs.Following.{read_at}
+use Rattle.apd_cells.specs.Store.{MayBind}
+use Rattle.apd_cells.proofs.Following.{read_at}
 use Rattle.apd_past.specs.declared.past.PastCell.{PastCell}
 use Rattle.apd_past.specs.History.{present}
 use Rattle.apd_past.proofs.Catching.{bind_there}

@@ -1,8 +1,8 @@
 use Rattle.std.proofs.Common.{arith, subst}
 use Rattle.std.proofs.lemmas.List.{length-reverse}
-use Rattle.apd_unify.proofs.Undoing.{at_mark-here}
+use Rattle.apd_cells.proofs.Undoing.{at_mark-here}
 use Rattle.apd_past.specs.Follows.{Follows}
-use Rattle.apd_unify.specs.Live.{store_of}
+use Rattle.apd_cells.specs.Live.{store_of}
 use Rattle.apd_past.proofs.mirror.Mirror.catch_up.Goals as goal
 
 pub returns-clause-follows : goal.returns-clause-follows

@@ -1,7 +1,7 @@
-use Rattle.apd_unify.specs.Store.{at_mark}
+use Rattle.apd_cells.specs.Store.{at_mark}
 use Rattle.apd_past.specs.Follows.{Follows}
 use Rattle.apd_past.specs.History.{KeepsMoments}
-use Rattle.apd_unify.specs.Live.{store_of}
+use Rattle.apd_cells.specs.Live.{store_of}
 use Rattle.apd_past.proofs.mirror.Mirror.catch_up.Given as goal
 
 abbrev pub invariant-notes : goal.invariant-notes

@@ -1,5 +1,5 @@
 use Rattle.std.proofs.Common.{◌≡◌, ◌∷◌, ◌∙◌, ap, arith, length, map}
-use Rattle.apd_unify.specs.declared.heap.Note.TheVariants.{Loaded}
+use Rattle.apd_cells.specs.declared.heap.Note.TheVariants.{Loaded}
 use Rattle.apd_past.specs.Mirror.{renamed_symbol}
 use Rattle.apd_past.proofs.Following.{known_names, stands_loaded, whole_symbols}
 use Rattle.apd_past.proofs.mirror.Mirror.load.Goals as goal

@@ -1,8 +1,8 @@
 use Rattle.std.proofs.Common.{◌+◌, refl, subst, sym}
-use Rattle.apd_unify.specs.declared.heap.Note.TheVariants.{Bound, Loaded}
-use Rattle.apd_unify.specs.Store.{at_mark}
+use Rattle.apd_cells.specs.declared.heap.Note.TheVariants.{Bound, Loaded}
+use Rattle.apd_cells.specs.Store.{at_mark}
 use Rattle.apd_past.specs.Follows.{Follows}
-use Rattle.apd_unify.specs.Live.{store_of}
+use Rattle.apd_cells.specs.Live.{store_of}
 use Rattle.apd_past.proofs.CatchingUp.{had_within, loaded_within, loading}
 use Rattle.apd_past.proofs.Marks.{IsStep, binding_step, sound_at_mark, step_at}
 use Rattle.apd_past.proofs.mirror.Mirror.step.Goals as goal

@@ -1,5 +1,5 @@
 use Rattle.std.proofs.Common.{◌∙◌, ap, reverse, subst, sym}
-use Rattle.apd_unify.specs.Store.{term_at}
+use Rattle.apd_cells.specs.Store.{term_at}
 use Rattle.apd_past.specs.Done.{Done}
 use Rattle.apd_past.specs.History.{History, IsPast, IsRight, at_moment}
 use Rattle.apd_past.proofs.Moments.{loaded_is, past_loaded, past_wider, term_kept}

@@ -1,9 +1,9 @@
 use Rattle.std.proofs.Common.{◌∙◌, subst, sym}
 use Rattle.apd_term.specs.Canonical.{canonical_in}
 use Rattle.apd_term.proofs.Spelling.{whole_from_spelled, term_of_from_spelled}
-use Rattle.apd_unify.specs.Store.{term_at}
-use Rattle.apd_unify.specs.Ordered.{Writes, IsWritten, IsNumberedAnew}
-use Rattle.apd_unify.proofs.Placing.{numbered_anew}
+use Rattle.apd_cells.specs.Store.{term_at}
+use Rattle.apd_cells.specs.Ordered.{Writes, IsWritten, IsNumberedAnew}
+use Rattle.apd_cells.proofs.Placing.{numbered_anew}
 use Rattle.apd_past.proofs.then.Then.number_within.Goals as goal
 
 written : (c : goal.After-as_slice) → IsWritten c.page.inside.order c.write_within.new.order (term_at c.args.self.now c.args.cell.0) c.args.limit c.as_slice.result.now

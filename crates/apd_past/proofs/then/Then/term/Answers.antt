@@ -2,7 +2,7 @@ use Rattle.std.proofs.Common.{◌≡◌}
 use Rattle.std.proofs.lemmas.Result.{IfOk-weaker}
 use Rattle.apd_term.specs.Term.{Term}
 use Rattle.apd_term.specs.Canonical.{canonical}
-use Rattle.apd_unify.specs.Store.{term_at}
+use Rattle.apd_cells.specs.Store.{term_at}
 use Rattle.apd_past.specs.Tuples.{IsNumbered}
 use Rattle.apd_past.proofs.Tuples.{canonical_alone}
 use Rattle.apd_past.proofs.then.Then.term.Goals as goal

@@ -1,5 +1,5 @@
 use Rattle.std.proofs.Common.{◌+◌, drop, get_or, subst}
-use Rattle.apd_unify.specs.Store.{term_at}
+use Rattle.apd_cells.specs.Store.{term_at}
 use Rattle.apd_past.specs.Tuples.{terms_at, tuple_at}
 use Rattle.apd_past.proofs.Tuples.{IsWriting, head_written, inside_at, next_left, none_left, writing_last, writing_more}
 use Rattle.std.proofs.Common.{length}

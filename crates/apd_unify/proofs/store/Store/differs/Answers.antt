@@ -1,9 +1,9 @@
 use Rattle.std.proofs.Common.{subst}
 use Rattle.std.specs.Bool.{OnTrue}
 use Rattle.std.proofs.lemmas.Bool.{OnTrue_from}
-use Rattle.apd_unify.specs.First.{AreClashing, AreApart, key_of}
-use Rattle.apd_unify.specs.Store.{term_at}
-use Rattle.apd_unify.specs.Stored.{Stored}
+use Rattle.apd_cells.specs.First.{AreClashing, AreApart, key_of}
+use Rattle.apd_cells.specs.Store.{term_at}
+use Rattle.apd_cells.specs.Stored.{Stored}
 use Rattle.apd_unify.proofs.Beginning.{apart_keys}
 use Rattle.apd_unify.proofs.store.Store.differs.Goals as goal
 

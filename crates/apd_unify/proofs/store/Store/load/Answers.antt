@@ -1,9 +1,9 @@
 use Rattle.std.proofs.Common.{◌≡◌, ◌∙◌, subst}
 use Rattle.apd_term.specs.Term.{apply}
 use Rattle.apd_term.specs.Canonical.{shifted}
-use Rattle.apd_unify.specs.Stored.{Stored}
-use Rattle.apd_unify.specs.Store.{term_at, meaning}
-use Rattle.apd_unify.proofs.Keeping.{HasKept, made_loaded, kept_loaded, kept_same}
+use Rattle.apd_cells.specs.Stored.{Stored}
+use Rattle.apd_cells.specs.Store.{term_at, meaning}
+use Rattle.apd_cells.proofs.Keeping.{HasKept, made_loaded, kept_loaded, kept_same}
 use Rattle.apd_unify.proofs.store.Store.load.Goals as goal
 
 pub returns-in_err-cell-clause-kept : goal.returns-in_err-cell-clause-kept

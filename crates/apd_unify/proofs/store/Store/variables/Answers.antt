@@ -1,7 +1,7 @@
 use Rattle.std.proofs.Common.{subst}
-use Rattle.apd_unify.specs.Stored.{Stored}
-use Rattle.apd_unify.specs.Numbered.{IsNumbered}
-use Rattle.apd_unify.proofs.Numbering.{is_numbered}
+use Rattle.apd_cells.specs.Stored.{Stored}
+use Rattle.apd_cells.specs.Numbered.{IsNumbered}
+use Rattle.apd_cells.proofs.Numbering.{is_numbered}
 use Rattle.apd_unify.proofs.store.Store.variables.Goals as goal
 
 pub returns-clause-numbered : goal.returns-clause-numbered

@@ -1,0 +1,13 @@
+pub mod Store
+pub mod Stored
+pub mod Flat
+pub mod Known
+pub mod Heap
+pub mod Work
+pub mod Counting
+pub mod Numbered
+pub mod First
+pub mod Ordered
+pub mod Arguments
+pub mod Live
+pub mod Noticed

@@ -1,0 +1,40 @@
+//! A front of the cells, with what is known of its variables.
+
+ghost use Rattle.std.specs.Prelude.{◌≡◌, ◌<◌, ◌⊎◌, min, max};
+
+/// So many of the first cells, and a number above their variables.
+#[derive(Clone, Copy)]
+pub struct Front {
+    pub cells: usize,
+    pub variables: usize,
+}
+
+/// The greater of two numbers.
+pub(crate) fn greater(a: usize, b: usize) -> usize
+    ensures { result ≡ max a b }
+{
+    if a < b {
+        return b;
+    }
+    a
+}
+
+/// The smaller of two numbers.
+pub(crate) fn smaller(a: usize, b: usize) -> usize
+    ensures { result ≡ min a b }
+{
+    if b < a {
+        return b;
+    }
+    a
+}
+
+/// A number above the variables of the term at a cell, where so many variables are there.
+pub(crate) fn above_term(front: Front, to: usize, variables: usize) -> usize
+    ensures { ((to < front.cells) × (result ≡ front.variables)) ⊎ (result ≡ variables) }
+{
+    if to < front.cells {
+        return front.variables;
+    }
+    variables
+}

@@ -1,0 +1,382 @@
+//! Cells, bindings and the trail.
+
+ghost use Rattle.std.specs.Prelude.{◌≡◌, ℕ, ◌+◌, ◌<◌, ◌≤◌, ◌^◌, ◌⊎◌, [], length, get_or, min, max, IfOk, IfSome, OnOk, OnErr, MatchOption};
+ghost use Rattle.std.specs.Bool.{OnTrue};
+ghost use Rattle.apd_term.specs.Term.{Occurs, size, spell};
+ghost use Rattle.apd_term.specs.declared.term.Sym.TheVariants.{Var};
+ghost use Rattle.apd_cells.specs.Flat.{compound_in};
+ghost use Rattle.apd_cells.specs.Known.{HasExtent};
+ghost use Rattle.apd_cells.specs.Heap.{IsVariable};
+ghost use Rattle.apd_cells.specs.Live.{store_of};
+ghost use Rattle.apd_cells.specs.declared.heap.Binding.TheVariants.{Free, At};
+ghost use Rattle.apd_cells.specs.Store.{term_at, written, symbol_at, binding_of, MayBind, bound, loaded, before_note, at_mark, IsSound, IsEnd, IsTwin};
+
+use crate::front::{Front, above_term, greater, smaller};
+use crate::known::{Extent, Known, above_all, forget_above, forget_since, known_at, make_place};
+use crate::live::Live;
+use crate::stack::Stack;
+use crate::symbols::append;
+use apd_term::term::term_end;
+use apd_term::{Flat, Sym};
+use std::alloc::{AllocError, Global};
+use std::marker::Model;
+
+/// What a variable is bound to.
+#[derive(Clone, Copy)]
+pub enum Binding {
+    Free,
+    /// The term at a cell.
+    At(usize),
+}
+
+/// A note of the trail.
+#[derive(Clone, Copy)]
+pub enum Note {
+    /// A term was loaded where so many cells and so many variables were.
+    Loaded(usize, usize),
+    /// A variable was bound to a cell.
+    Bound(u64, usize),
+}
+
+/// Terms in cells, with their bindings.
+#[derive(Drop)]
+pub struct Heap {
+    cells: Vec<Sym>,
+    bindings: Vec<Binding>,
+    trail: Stack<Note>,
+    /// No binding's term has a variable from this number on.
+    touched: usize,
+    /// A front of the cells: those before the newest load, or none.
+    front: Front,
+    /// How many bindings lead to a term that has arguments.
+    compounds: usize,
+    /// No term that was loaded has more symbols.
+    longest: usize,
+    /// The sizes of terms without variables, as far as they are known.
+    ground_terms: Stack<Known>,
+    /// The same of terms with variables.
+    open_terms: Stack<Known>,
+    /// The place of each cell in one of the two. What is left of earlier places says nothing.
+    places: Vec<usize>,
+}
+
+impl Model for Heap {
+    ghost use Rattle.std.specs.Prelude.{length, ◌≡◌};
+    ghost use Rattle.apd_cells.specs.Flat.{compound_count, AreShort};
+    ghost use Rattle.apd_cells.specs.Stored.{Stored, stored_code};
+    ghost use Rattle.apd_cells.specs.Heap.{IsHeap, IsMarked};
+    ghost use Rattle.apd_cells.specs.Known.{AreSized};
+
+    ghost Value = { Stored };
+
+    ghost coded = { stored_code };
+
+    ghost view = { λ h. record { cells = h.cells.items; variables = length h.bindings.items; trail = h.trail } };
+
+    ghost invariant = { λ h. IsHeap h.cells.items h.bindings.items h.trail × IsMarked h.cells.items h.trail h.touched h.front × (h.compounds ≡ compound_count h.cells.items h.trail) × AreShort h.cells.items h.trail h.longest × AreSized (record { cells = h.cells.items; variables = length h.bindings.items; trail = h.trail }) h.ground_terms h.open_terms };
+}
+
+/// 1 where the symbol at this place has arguments.
+fn compound_at(cells: &[Sym], at: usize) -> usize
+    requires { at < length cells.now }
+    ensures { result ≡ compound_in (get_or cells.now at (Var 0)) }
+{
+    match cells[at] {
+        Sym::Fun(_, 0) => 0,
+        Sym::Fun(..) => 1,
+        _ => 0,
+    }
+}
+
+impl Heap {
+    /// No term.
+    pub fn new(alloc: Global) -> Heap
+        ensures { result ≡ record { cells = []; variables = 0; trail = [] } }
+    {
+        Heap {
+            cells: Vec::new(alloc),
+            bindings: Vec::new(alloc),
+            trail: Stack::new(alloc),
+            touched: 0,
+            front: Front {
+                cells: 0,
+                variables: 0,
+            },
+            compounds: 0,
+            longest: 0,
+            ground_terms: Stack::new(alloc),
+            open_terms: Stack::new(alloc),
+            places: Vec::new(alloc),
+        }
+    }
+
+    /// How many cells there are.
+    pub fn cells(&self) -> usize
+        ensures { result ≡ length self.now.cells }
+    {
+        self.cells.len()
+    }
+
+    /// How many variables there are.
+    pub fn variables(&self) -> usize
+        ensures count { result ≡ self.now.variables }
+        ensures room { result < 2 ^ 63 }
+        ensures store { IsSound self.now }
+    {
+        self.bindings.len()
+    }
+
+    /// Its parts, to be read.
+    pub fn live(&self) -> Live<'_>
+        ensures parts { store_of result ≡ self.now }
+        ensures store { IsSound self.now }
+    {
+        Live {
+            cells: self.cells.as_slice(),
+            notes: self.trail.as_slice(),
+            variables: self.bindings.len(),
+        }
+    }
+
+    /// The symbol at a cell.
+    pub fn symbol(&self, at: usize) -> Sym
+        requires { at < length self.now.cells }
+        ensures symbol { result ≡ symbol_at self.now at }
+        ensures store { IsSound self.now }
+    {
+        self.cells[at]
+    }
+
+    /// Whether the variable that is written at a cell is written at the next one again.
+    pub fn is_twin(&self, at: usize) -> bool
+        requires { at + 1 < length self.now.cells }
+        ensures twin { OnTrue result (IsTwin self.now at) }
+        ensures store { IsSound self.now }
+        ensures fits { length self.now.cells < 2 ^ 64 }
+    {
+        match self.cells[at] {
+            Sym::Var(v) => self.cells[at + 1] == Sym::Var(v),
+            _ => false,
+        }
+    }
+
+    /// The cell that a cell leads to through variables that are bound.
+    #[inline(always)]
+    pub fn follow(&self, from: usize) -> usize
+        requires { from < length self.now.cells }
+        ensures inside { result < length self.now.cells }
+        ensures same { term_at self.now result ≡ term_at self.now from }
+        ensures end { IsEnd self.now result }
+        ensures start { (result ≡ from) ⊎ IsVariable (symbol_at self.now from) }
+        ensures store { IsSound self.now }
+        ensures fits { length self.now.cells < 2 ^ 64 }
+    {
+        let mut at = from;
+        'bindings: while let Sym::Var(v) = self.cells[at] {
+            match self.bindings[v as usize] {
+                Binding::Free => return at,
+                Binding::At(next) => at = next,
+            }
+        }
+        at
+    }
+
+    /// The cell behind the term that is written at a cell.
+    pub fn end(&self, at: usize) -> usize
+        requires { at < length self.now.cells }
+        ensures end { result ≡ at + size (written self.now.cells at) }
+        ensures store { IsSound self.now }
+    {
+        term_end(self.cells.as_slice(), at)
+    }
+
+    /// The symbols of the term that is written at a cell.
+    pub fn written(&self, at: usize) -> &[Sym]
+        requires { at < length self.now.cells }
+        ensures symbols { result.now ≡ spell (written self.now.cells at) }
+        ensures store { IsSound self.now }
+    {
+        let cells = self.cells.as_slice();
+        let end = term_end(cells, at);
+        &cells[at..end]
+    }
+
+    /// The cell that a variable is bound to; none where it is free.
+    pub fn bound_to(&self, v: u64) -> Option<usize>
+        ensures { MatchOption result
+            (binding_of self.now.trail v ≡ Free)
+            (λ c. (c < length self.now.cells) × (binding_of self.now.trail v ≡ At c)) }
+    {
+        if v as usize >= self.bindings.len() {
+            return None;
+        }
+        match self.bindings[v as usize] {
+            Binding::Free => None,
+            Binding::At(to) => Some(to),
+        }
+    }
+
+    /// Whether no binding leads to a term that has arguments: then a term has as many symbols as are written of it. False
+    /// says nothing.
+    pub fn is_flat(&self) -> bool
+        ensures { OnTrue result ((c : ℕ) → size (term_at self.now c) ≡
+            size (written self.now.cells c)) }
+    {
+        if self.compounds > 0 {
+            return false;
+        }
+        true
+    }
+
+    /// Whether no term has more symbols than this, with all bindings applied. False says nothing.
+    pub fn are_within(&self, most: usize) -> bool
+        ensures { OnTrue result
+            ((c : ℕ) → c < length self.now.cells → size (term_at self.now c) ≤ most) }
+    {
+        if self.longest > most {
+            return false;
+        }
+        self.is_flat()
+    }
+
+    /// Whether the variable is so new that it can't stand in the term at a cell; false says
+    /// nothing.
+    pub fn is_apart(&self, v: u64, at: usize) -> bool
+        requires { at < length self.now.cells }
+        ensures { OnTrue result (¬ Occurs v (term_at self.now at)) }
+    {
+        if at >= self.front.cells {
+            return false;
+        }
+        if v < self.front.variables as u64 {
+            return false;
+        }
+        if v < self.touched as u64 {
+            return false;
+        }
+        true
+    }
+
+    /// The extent of the term at a cell, where it is known; none says nothing.
+    pub fn known(&self, at: usize) -> Option<Extent>
+        ensures { IfSome result (HasExtent self.now at) }
+    {
+        let place = *self.places.get(at)?;
+        if let Some(extent) = known_at(&self.ground_terms, place, at) {
+            return Some(extent);
+        }
+        known_at(&self.open_terms, place, at)
+    }
+
+    /// Keeps the extent of the term at a cell.
+    pub fn keep(&mut self, at: usize, extent: Extent) -> Result<(), AllocError>
+        requires { HasExtent self.old at extent }
+        ensures { self.new ≡ self.old }
+    {
+        let since = self.trail.len();
+        make_place(&mut self.places, at)?;
+        if extent.above == 0 {
+            self.places[at] = self.ground_terms.len();
+            self.ground_terms.push(Known {
+                cell: at,
+                extent,
+                since,
+            })?;
+            return Ok(());
+        }
+        let above = above_all(&self.open_terms, extent.above);
+        self.places[at] = self.open_terms.len();
+        self.open_terms.push(Known {
+            cell: at,
+            extent: Extent {
+                size: extent.size,
+                above,
+            },
+            since,
+        })?;
+        Ok(())
+    }
+
+    /// Binds a free variable to the term at a cell.
+    pub fn bind(&mut self, v: u64, to: usize) -> Result<(), AllocError>
+        requires { MayBind self.old.cells self.old.variables self.old.trail v to }
+        ensures ok { OnOk result (self.new ≡ bound self.old v to) }
+        ensures err { OnErr result (self.new ≡ self.old) }
+    {
+        let count = self.bindings.len();
+        let above = above_term(self.front, to, count);
+        let compound = compound_at(self.cells.as_slice(), to);
+        self.trail.push(Note::Bound(v, to))?;
+        let _notes = self.trail.len();
+        self.bindings[v as usize] = Binding::At(to);
+        self.compounds += compound;
+        self.touched = greater(self.touched, above);
+        forget_above(&mut self.open_terms, v);
+        Ok(())
+    }
+
+    /// Puts a term behind the others, its variables raised by `base`. After want of memory nothing
+    /// has changed.
+    pub fn load(&mut self, t: &Flat, base: u64) -> Result<usize, AllocError>
+        requires { (v : ℕ) → Occurs v t.now → base + v < 2 ^ 64 }
+        ensures cell { IfOk result (λ c. c ≡ length self.old.cells) }
+        ensures ok { OnOk result (self.new ≡ loaded self.old t.now base) }
+        ensures store { IsSound self.old }
+        ensures err { OnErr result (self.new ≡ self.old) }
+    {
+        let cells = self.cells.len();
+        let variables = self.bindings.len();
+        self.trail.push(Note::Loaded(cells, variables))?;
+        if let Err(e) = append(&mut self.cells, &mut self.bindings, t, base) {
+            self.cells.truncate(cells);
+            self.bindings.truncate(variables);
+            let _ = self.trail.pop();
+            return Err(e);
+        }
+        self.front = Front { cells, variables };
+        self.longest = greater(self.longest, self.cells.len() - cells);
+        Ok(cells)
+    }
+
+    /// How many notes the trail has.
+    pub fn mark(&self) -> usize
+        ensures { result ≡ length self.now.trail }
+    {
+        self.trail.len()
+    }
+
+    /// Takes back what the newest note says.
+    fn undo_note(&mut self)
+        ensures { self.new ≡ before_note self.old.cells self.old.variables self.old.trail }
+    {
+        let notes = self.trail.len();
+        forget_since(&mut self.ground_terms, notes);
+        forget_since(&mut self.open_terms, notes);
+        match self.trail.pop() {
+            None => {}
+            Some(Note::Loaded(cells, variables)) => {
+                self.cells.truncate(cells);
+                self.bindings.truncate(variables);
+                self.front = Front {
+                    cells: 0,
+                    variables: 0,
+                };
+                self.touched = smaller(self.touched, variables);
+            }
+            Some(Note::Bound(v, to)) => {
+                self.bindings[v as usize] = Binding::Free;
+                self.compounds -= compound_at(self.cells.as_slice(), to);
+            }
+        }
+    }
+
+    /// Takes back all that was done since the trail had so many notes.
+    pub fn undo(&mut self, mark: usize)
+        requires { mark ≤ length self.old.trail }
+        ensures { self.new ≡ at_mark mark self.old }
+    {
+        'notes: while self.trail.len() > mark {
+            self.undo_note();
+        }
+    }
+}

@@ -1,0 +1,108 @@
+//! Sizes of terms that are known without a count.
+//!
+//! A size stays right as long as no variable of its term is bound, and as the trail is no shorter than where it was
+//! found. So what is known stands in stacks: a binding and an undoing drop what is newest there.
+
+ghost use Rattle.std.specs.Prelude.{◌≡◌, ℕ, ◌+◌, ◌-◌, ◌<◌, ◌≤◌, ◌^◌, max, length, OnOk, IfSome};
+ghost use Rattle.apd_cells.specs.Known.{AreKnown, HasExtent};
+ghost use Rattle.apd_cells.specs.Stored.{Stored};
+
+use crate::stack::Stack;
+use std::alloc::AllocError;
+
+/// How many symbols a term has, and a number above its variables: 0 only where it has none.
+#[derive(Clone, Copy)]
+pub struct Extent {
+    pub size: u64,
+    pub above: u64,
+}
+
+impl Extent {
+    /// The extent of what has the one and the other together.
+    pub fn and(self, other: Extent) -> Extent
+        requires { self.size + other.size < 2 ^ 64 }
+        ensures size { result.size ≡ self.size + other.size }
+        ensures above { result.above ≡ max self.above other.above }
+    {
+        let mut above = self.above;
+        if above < other.above {
+            above = other.above;
+        }
+        Extent {
+            size: self.size + other.size,
+            above,
+        }
+    }
+}
+
+/// The extent of the term at a cell, since the trail had so many notes.
+#[derive(Clone, Copy)]
+pub struct Known {
+    pub cell: usize,
+    pub extent: Extent,
+    pub since: usize,
+}
+
+/// What is known of a cell's term, if it stands at this place, counted from the oldest.
+pub fn known_at(known: &Stack<Known>, place: usize, cell: usize) -> Option<Extent>
+    ensures { (s : Stored) (n a : ℕ) → n ≤ length s.trail → AreKnown s n a known.now →
+        IfSome result (HasExtent s cell) }
+{
+    let found = known.get(place)?;
+    if found.cell != cell {
+        return None;
+    }
+    Some(found.extent)
+}
+
+/// Forgets what was found since the trail had so many notes.
+pub fn forget_since(known: &mut Stack<Known>, notes: usize)
+    ensures { (s : Stored) (n a : ℕ) → AreKnown s n a known.old →
+        AreKnown s (notes - 1) a known.new }
+{
+    'known: while let Some(newest) = known.top() {
+        if newest.since < notes {
+            return;
+        }
+        known.pop();
+    }
+}
+
+/// Forgets what the binding of a variable may change.
+pub fn forget_above(known: &mut Stack<Known>, v: u64)
+    ensures { (s : Stored) (n a : ℕ) → AreKnown s n a known.old → AreKnown s n v known.new }
+{
+    'known: while let Some(newest) = known.top() {
+        if newest.extent.above <= v {
+            return;
+        }
+        known.pop();
+    }
+}
+
+/// A number that is no less than this one, and above the variables of all that is known.
+pub fn above_all(known: &Stack<Known>, above: u64) -> u64
+    ensures more { above ≤ result }
+    ensures all { (s : Stored) (n a : ℕ) → AreKnown s n a known.now →
+        AreKnown s n result known.now }
+{
+    match known.top() {
+        None => above,
+        Some(newest) => {
+            if newest.extent.above > above {
+                return newest.extent.above;
+            }
+            above
+        }
+    }
+}
+
+/// Makes room for the place of a cell.
+pub fn make_place(places: &mut Vec<usize>, cell: usize) -> Result<(), AllocError>
+    ensures { OnOk result (cell < length places.new.items) }
+{
+    'room: while places.len() <= cell {
+        places.push(0)?;
+    }
+    Ok(())
+}

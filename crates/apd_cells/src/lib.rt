@@ -1,0 +1,18 @@
+//! Terms in cells, with bindings that can be undone: what a cell's term is, how long it is, and what is
+//! written of it.
+#![tactic(auto)]
+
+pub mod arguments;
+pub mod counting;
+pub mod first;
+mod front;
+pub mod heap;
+pub mod known;
+pub mod live;
+pub mod order;
+pub mod reaching;
+pub mod reading;
+pub mod scratch;
+pub mod stack;
+mod symbols;
+pub mod walk;

@@ -1,5 +1,0 @@
-use Rattle.std.proofs.Common.{◌+◌, ◌-◌, length}
-use Rattle.apd_unify.proofs.known.make_place.Given as goal
-
-abbrev pub decreases-room : goal.decreases-room
-decreases-room l = l.cell + 1 - length l.places.items

@@ -1,8 +1,0 @@
--- A store as its parts are read.
-use Rattle.std.specs.Prelude.{reverse}
-use Rattle.apd_unify.specs.declared.live.Live.{Live}
-use Rattle.apd_unify.specs.Stored.{Stored}
-
--- the store that has these parts
-abbrev pub store_of : Live → Stored
-store_of l = record { cells = l.cells.now; variables = l.variables; trail = reverse l.notes.now }

@@ -1,2 +1,3 @@
 mod Tying
 mod Keeping
+mod Known

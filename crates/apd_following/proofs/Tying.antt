@@ -1,9 +1,9 @@
 -- What stays of a tie where the store goes on or back.
 use Rattle.std.proofs.Common.{◌≡◌, ℕ, ◌-◌, ◌≤◌, [], length, refl, sym, ◌∙◌, ap, subst, arith}
 use Rattle.std.proofs.lemmas.Bool.{OnTrue_at, OnTrue_from}
-use Rattle.apd_unify.specs.Stored.{Stored}
-use Rattle.apd_unify.specs.Store.{at_mark, IsSound, Keeps}
-use Rattle.apd_unify.proofs.Keeping.{at_mark-at_mark, length-before}
+use Rattle.apd_cells.specs.Stored.{Stored}
+use Rattle.apd_cells.specs.Store.{at_mark, IsSound, Keeps}
+use Rattle.apd_cells.proofs.Keeping.{at_mark-at_mark, length-before}
 use Rattle.apd_past.specs.declared.mirror.Mirror.{Mirror}
 use Rattle.apd_past.specs.Follows.{Follows}
 use Rattle.apd_past.specs.Live.{MayCatchUp}

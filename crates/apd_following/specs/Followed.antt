@@ -6,7 +6,7 @@ use Rattle.apd_term.specs.Canonical.{canonical}
 use Rattle.apd_term.specs.Tuple.{canonical_tuple}
 use Rattle.apd_term.specs.declared.tuple.Tuple.{Tuple}
 use Rattle.apd_clauses.specs.Codes.{tuple_code}
-use Rattle.apd_tuples.specs.declared.spots.Numbered.{Numbered}
+use Rattle.apd_following.specs.declared.following.KeptFrame.{KeptFrame}
 use Rattle.apd_trace.specs.Frames.{next_goal}
 use Rattle.apd_trace.specs.declared.frame.Frame.{Frame}
 use Rattle.apd_frames.specs.Codes.{frame_code}
@@ -31,14 +31,17 @@ followed_code =
     (λ p. record { current = p.0; saved = p.1.0; tuples = p.1.1 })
     (λ _. refl)
 
--- the innermost frame's tuple stands behind the others, in canonical form, with this number and so many goals
-pub record IsKept (n : Numbered) (F : List Frame) (old new : List Tuple) : Type 0 where
+-- the innermost frame's tuple stands behind the others, in canonical form, with this number and so many goals; and the rest of what is told of the frame
+pub record IsKept (n : KeptFrame) (F : List Frame) (old new : List Tuple) : Type 0 where
   pub frame : Frame
   pub around : List Frame
   pub is : F ≡ frame ∷ around
   pub more : new ≡ old ++ canonical_tuple frame.tuple ∷ []
-  pub number : n.number ≡ length old
-  pub goals : n.goals ≡ length frame.tuple.body
+  pub number : n.tuple.number ≡ length old
+  pub goals : n.tuple.goals ≡ length frame.tuple.body
+  pub owner : n.owner ≡ frame.box_no
+  pub clause : n.clause ≡ frame.clause
+  pub done : n.done ≡ frame.done
 
 -- the next goal stands alone behind the others, in canonical form
 pub record IsGoalKept (F : List Frame) (old new : List Tuple) : Type 0 where
@@ -47,7 +50,7 @@ pub record IsGoalKept (F : List Frame) (old new : List Tuple) : Type 0 where
   pub more : new ≡ old ++ record { head = canonical goal; body = [] } ∷ []
 
 -- the innermost frame's tuple was kept behind the others, or it is too large and nothing changed
-abbrev pub KeepsInstance : Option Numbered → List Frame → List Tuple → List Tuple → Type 0
+abbrev pub KeepsInstance : Option KeptFrame → List Frame → List Tuple → List Tuple → Type 0
 KeepsInstance None F old new = (is_large_of F ≡ true) × (new ≡ old)
 KeepsInstance (Some n) F old new = (is_large_of F ≡ false) × IsKept n F old new
 

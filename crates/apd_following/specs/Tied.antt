@@ -1,8 +1,8 @@
 -- A mirror that has followed a store for a part of the way.
 use Rattle.std.specs.Prelude.{◌≡◌, ℕ, ◌≤◌, length}
 use Rattle.std.specs.Bool.{OnTrue}
-use Rattle.apd_unify.specs.Stored.{Stored}
-use Rattle.apd_unify.specs.Store.{at_mark}
+use Rattle.apd_cells.specs.Stored.{Stored}
+use Rattle.apd_cells.specs.Store.{at_mark}
 use Rattle.apd_past.specs.Live.{MayCatchUp}
 use Rattle.apd_following.specs.declared.tie.Tie.{Tie}
 

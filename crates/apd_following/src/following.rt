@@ -15,9 +15,10 @@ ghost use Rattle.apd_term.specs.Term.{predicate_of};
 ghost use Rattle.apd_frames.specs.Solves.{solution_as, Keeps};
 ghost use Rattle.apd_following.specs.Tied.{IsTied};
 ghost use Rattle.apd_tuples.specs.Spots.{HavePlaces};
-ghost use Rattle.apd_tuples.specs.Tuples.{kept_tuples, tuple_of, AreThere};
-ghost use Rattle.apd_following.specs.Followed.{KeepsGoal, KeepsInstance, kept_of};
+ghost use Rattle.apd_tuples.specs.Tuples.{kept_tuples, tuple_of, AreThere, Holds};
+ghost use Rattle.apd_following.specs.Followed.{IsKept, KeepsGoal, KeepsInstance, kept_of};
 
+use crate::facts::{fact_of_goal, fact_of_instance};
 use crate::tie::Tie;
 use apd_frames::ahead::Ahead;
 use apd_frames::builtin::Solved;
@@ -25,7 +26,7 @@ use apd_frames::linked::Linked;
 use apd_frames::reading::next_goal;
 use apd_term::{Pred, Sym, Tuple};
 use apd_trace::{Called, Look};
-use apd_tuples::spots::{Numbered, Spots};
+use apd_tuples::spots::{Fact, Numbered, Spots};
 use apd_tuples::tuples::KeptTuples;
 use apd_unify::store::{Cell, Store};
 use std::alloc::{AllocError, Global};
@@ -54,19 +55,31 @@ impl Model for Following {
     ghost invariant = { λ f. AreFramed f.linked × IsTied f.tie f.linked.store × AreThere f.tie.mirror.past f.spots };
 }
 
-/// Keeps the tuple at a head's cell and at goals' cells of the store that is followed, and tells its
-/// number and how many goals it has.
+/// A frame whose instance was kept: the box that owns it, its clause, how many of its goals are
+/// solved, and the kept tuple.
+#[derive(Clone, Copy)]
+pub struct KeptFrame {
+    pub owner: u32,
+    pub clause: u32,
+    pub done: u8,
+    pub tuple: Numbered,
+}
+
+/// Keeps the tuple at a head's cell and at goals' cells of the store that is followed, with what is known of
+/// it, and tells its number and how many goals it has.
 fn keep_at(
     tie: &mut Tie,
     spots: &mut Spots,
     store: &Store,
     head: Cell,
     goals: &[Cell],
+    fact: Fact,
 ) -> Result<Numbered, AllocError>
     requires tied { IsTied tie.old store.now }
     requires there { AreThere tie.old.mirror.past spots.old }
     requires head { head.0 < length store.now.cells }
     requires goals { HavePlaces (length store.now.cells) goals.now }
+    requires fact { Holds fact (canonical_tuple (tuple_of store.now head goals.now)) }
     ensures tied { IsTied tie.new store.now }
     ensures there { AreThere tie.new.mirror.past spots.new }
     ensures number { IfOk result (λ n. n.number ≡ length spots.old) }
@@ -79,7 +92,7 @@ fn keep_at(
 {
     tie.catch_up(store)?;
     let moment = tie.mirror.past.moment();
-    let numbered = spots.push(tie.mirror.places.as_slice(), head, goals, moment)?;
+    let numbered = spots.push(tie.mirror.places.as_slice(), head, goals, moment, fact)?;
     Ok(numbered)
 }
 
@@ -250,24 +263,42 @@ impl Following {
         self.linked.forget();
     }
 
-    /// Keeps the innermost frame's instance, and tells its number and how many goals it has; none
-    /// exactly where it is too large.
-    pub fn keep(&mut self) -> Result<Option<Numbered>, AllocError>
+    /// Keeps the innermost frame's instance, and tells of the frame; none exactly where it is too
+    /// large.
+    pub fn keep(&mut self) -> Result<Option<KeptFrame>, AllocError>
         requires { 0 < length self.old.current }
         ensures frames { kept_of self.new ≡ kept_of self.old }
         ensures kept { IfOk result
             (λ o. KeepsInstance o self.old.current self.old.tuples self.new.tuples) }
         ensures err { OnErr result (self.new.tuples ≡ self.old.tuples) }
     {
-        if !self.linked.fits()? {
+        if !self.fits()? {
             return Ok(None);
         }
+        let kept = self.keep_any()?;
+        Ok(Some(kept))
+    }
+
+    /// The same however large it is.
+    pub fn keep_any(&mut self) -> Result<KeptFrame, AllocError>
+        requires { 0 < length self.old.current }
+        ensures frames { kept_of self.new ≡ kept_of self.old }
+        ensures kept { IfOk result
+            (λ n. IsKept n self.old.current self.old.tuples self.new.tuples) }
+        ensures err { OnErr result (self.new.tuples ≡ self.old.tuples) }
+    {
         match self.linked.links.get(self.linked.innermost) {
             None => unreachable!(),
             Some(link) => {
+                let fact = fact_of_instance(&self.linked.store, &link)?;
                 let (tie, spots) = (&mut self.tie, &mut self.spots);
-                let numbered = keep_at(tie, spots, &self.linked.store, link.head, link.goals)?;
-                Ok(Some(numbered))
+                let tuple = keep_at(tie, spots, &self.linked.store, link.head, link.goals, fact)?;
+                Ok(KeptFrame {
+                    owner: link.box_no,
+                    clause: link.clause,
+                    done: link.done,
+                    tuple,
+                })
             }
         }
     }
@@ -282,8 +313,9 @@ impl Following {
         match next_goal(&self.linked.links, self.linked.innermost) {
             None => Ok(None),
             Some(goal) => {
+                let fact = fact_of_goal(&self.linked.store, goal)?;
                 let (tie, spots) = (&mut self.tie, &mut self.spots);
-                let numbered = keep_at(tie, spots, &self.linked.store, goal, &[])?;
+                let numbered = keep_at(tie, spots, &self.linked.store, goal, &[], fact)?;
                 Ok(Some(numbered.number))
             }
         }

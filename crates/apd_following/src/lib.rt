@@ -2,5 +2,6 @@
 //! was kept, and none is written out before.
 #![tactic(auto)]
 
+mod facts;
 pub mod following;
 pub mod tie;

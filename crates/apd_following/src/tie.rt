@@ -1,8 +1,8 @@
 //! A mirror that follows a store from time to time.
 
 ghost use Rattle.std.specs.Prelude.{◌≡◌, OnOk, [], min};
-ghost use Rattle.apd_unify.specs.Stored.{Stored};
-ghost use Rattle.apd_unify.specs.Store.{at_mark, IsSound};
+ghost use Rattle.apd_cells.specs.Stored.{Stored};
+ghost use Rattle.apd_cells.specs.Store.{at_mark, IsSound};
 ghost use Rattle.apd_past.specs.Follows.{Follows};
 ghost use Rattle.apd_past.specs.History.{KeepsMoments};
 ghost use Rattle.apd_following.specs.Tied.{IsBack, IsTied};

@@ -1,2 +1,3 @@
 pub mod Spanning
 pub mod Standing
+pub mod Predicates

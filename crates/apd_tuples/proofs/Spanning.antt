@@ -11,7 +11,7 @@ use Rattle.apd_tuples.specs.declared.spots.Row.{Row}
 use Rattle.apd_tuples.specs.Spots.{Place, goals_in, place_of_cell, placed_all, spot_in, spots_in, HasMore, HavePlaces, IsSpanned, AreSpanned}
 
 abbrev pub with_goals : Row → List PastCell → Place
-with_goals r goals = record { head = r.head; goals = goals; moment = r.moment.0 }
+with_goals r goals = record { head = r.head; goals = goals; moment = r.moment.0; fact = r.fact }
 
 pub spots_more : (goals more : List PastCell) (rows : List Row) → AreSpanned (length goals) rows → spots_in (goals ++ more) rows ≡ spots_in goals rows
 spots_more goals more [] h = refl

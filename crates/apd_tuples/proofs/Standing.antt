@@ -8,8 +8,8 @@ use Rattle.apd_term.specs.Term.{IsAmong}
 use Rattle.apd_term.specs.Tuple.{canonical_tuple}
 use Rattle.apd_term.specs.declared.tuple.Tuple.{Tuple}
 use Rattle.apd_unify.specs.declared.store.Cell.{Cell}
-use Rattle.apd_unify.specs.Stored.{Stored}
-use Rattle.apd_unify.specs.Store.{term_at, IsSound}
+use Rattle.apd_cells.specs.Stored.{Stored}
+use Rattle.apd_cells.specs.Store.{term_at, IsSound}
 use Rattle.apd_past.specs.declared.mirror.Mirror.{Mirror}
 use Rattle.apd_past.specs.declared.past.PastCell.{PastCell}
 use Rattle.apd_past.specs.Follows.{Follows}
@@ -18,8 +18,9 @@ use Rattle.apd_past.specs.Mirror.{place, places_of}
 use Rattle.apd_past.specs.Tuples.{AreInside, tuple_at}
 use Rattle.apd_past.proofs.Keeping.{tuple_kept}
 use Rattle.apd_past.proofs.Mirrored.{tuple_there}
+use Rattle.apd_tuples.specs.declared.spots.Fact.{Fact}
 use Rattle.apd_tuples.specs.Spots.{HavePlaces, Place, place_of_cell, placed, placed_all}
-use Rattle.apd_tuples.specs.Tuples.{kept_tuple, kept_tuples, tuple_of, AreThere, IsThere}
+use Rattle.apd_tuples.specs.Tuples.{kept_tuple, kept_tuples, tuple_of, AreThere, Holds, IsThere}
 
 inside_more : (n m : ℕ) (cs : List PastCell) → n ≤ m → AreInside n cs → AreInside m cs
 inside_more n m [] le h = tt
@@ -38,6 +39,7 @@ there_more old new (p ∷ ps) k h = (
     moment = omega (arith, h.0.moment, k.moments);
     head = omega (arith, h.0.head, k.cells);
     goals = inside_more (length old.cells) (length new.cells) p.goals k.cells h.0.goals;
+    fact = subst (Holds p.fact) (sym (ap canonical_tuple (tuple_kept old new p.moment p.head.0 p.goals k h.0.moment h.0.head h.0.goals))) h.0.fact;
   },
   there_more old new ps k h.1,
 )
@@ -66,32 +68,46 @@ among_inside n (d ∷ cs) c h (inr o) = among_inside n cs c h.1 o
 
 -- a store stands in a past at present
 module _ (m : Mirror) (s : Stored) (f : Follows m s) (sound : IsSound s) (head : Cell) (goals : List Cell) (inside : head.0 < length s.cells)
-    (all : HavePlaces (length s.cells) goals) (k : ℕ) (now : k ≡ length m.past.deeds) (here : at_moment k m.past ≡ present m.past) where
+    (all : HavePlaces (length s.cells) goals) (k : ℕ) (now : k ≡ length m.past.deeds) (here : at_moment k m.past ≡ present m.past) (fact : Fact)
+    (holds : Holds fact (canonical_tuple (tuple_of s head goals))) where
   placed_inside : (cs : List Cell) → HavePlaces (length s.cells) cs → AreInside (length m.past.cells) (placed_all m.places.items cs)
   placed_inside [] h = tt
   placed_inside (c ∷ cs) h = (f.stands.inside c.0 h.0, placed_inside cs h.1)
 
-  placed_there : IsThere m.past (placed m.places.items head goals k)
-  placed_there = record { moment = omega (arith, now); head = f.stands.inside head.0 inside; goals = placed_inside goals all }
-
-  placed_tuple : kept_tuple m.past (placed m.places.items head goals k) ≡ canonical_tuple (tuple_of s head goals)
+  placed_tuple : kept_tuple m.past (placed m.places.items head goals k fact) ≡ canonical_tuple (tuple_of s head goals)
   placed_tuple =
       ap (λ (z : Stored). canonical_tuple (tuple_at z (place m.places.items head.0) (placed_all m.places.items goals))) here
       ∙ ap (λ ps. canonical_tuple (tuple_at (present m.past) (place m.places.items head.0) ps)) (placed_as m.places.items goals)
       ∙ tuple_there s (present m.past) m.places.items m.names.items head.0 (map (λ (c : Cell). c.0) goals) sound f.stands inside (λ c o. among_inside (length s.cells) goals c all o)
       ∙ ap (λ ts. canonical_tuple (record { head = term_at s head.0; body = ts })) (terms_as s goals)
 
-  -- one more tuple is kept
-  pub one_there : (old : History) (ps qs : List Place) → KeepsMoments old m.past → AreThere old ps → qs ≡ ps ++ placed m.places.items head goals k ∷ [] → AreThere m.past qs
-  one_there old ps qs moments h e = subst (AreThere m.past) (sym e) (there_push m.past ps (placed m.places.items head goals k) (there_more old m.past ps moments h) placed_there)
+  placed_there : IsThere m.past (placed m.places.items head goals k fact)
+  placed_there = record {
+    moment = omega (arith, now);
+    head = f.stands.inside head.0 inside;
+    goals = placed_inside goals all;
+    fact = subst (Holds fact) (sym placed_tuple) holds;
+  }
 
-  pub one_kept : (old : History) (ps qs : List Place) → KeepsMoments old m.past → AreThere old ps → qs ≡ ps ++ placed m.places.items head goals k ∷ []
+  -- one more tuple is kept
+  pub one_there : (old : History) (ps qs : List Place) → KeepsMoments old m.past → AreThere old ps → qs ≡ ps ++ placed m.places.items head goals k fact ∷ [] → AreThere m.past qs
+  one_there old ps qs moments h e = subst (AreThere m.past) (sym e) (there_push m.past ps (placed m.places.items head goals k fact) (there_more old m.past ps moments h) placed_there)
+
+  pub one_kept : (old : History) (ps qs : List Place) → KeepsMoments old m.past → AreThere old ps → qs ≡ ps ++ placed m.places.items head goals k fact ∷ []
       → kept_tuples m.past qs ≡ kept_tuples old ps ++ canonical_tuple (tuple_of s head goals) ∷ []
   one_kept old ps qs moments h e =
       ap (kept_tuples m.past) e
-      ∙ map-append (kept_tuple m.past) ps (placed m.places.items head goals k ∷ [])
-      ∙ ap (λ ts. ts ++ kept_tuple m.past (placed m.places.items head goals k) ∷ []) (tuples_same old m.past ps moments h)
+      ∙ map-append (kept_tuple m.past) ps (placed m.places.items head goals k fact ∷ [])
+      ∙ ap (λ ts. ts ++ kept_tuple m.past (placed m.places.items head goals k fact) ∷ []) (tuples_same old m.past ps moments h)
       ∙ ap (λ t. kept_tuples old ps ++ t ∷ []) placed_tuple
+
+-- what is known of a kept tuple
+pub got_fact : (h : History) (ps : List Place) (i : ℕ) (now : List Tuple) (p : Place) → kept_tuples h ps ≡ now → AreThere h ps → slice_get ps i ≡ Some p → (t : Tuple) → slice_get now i ≡ Some t → Holds p.fact t
+got_fact h ps i now p view there at t is =
+    let both : Some (kept_tuple h p) ≡ Some t =
+    sym (slice_get-map (kept_tuple h) ps i ∙ ap (option_map (kept_tuple h)) at) ∙ ap (λ ts. slice_get ts i) view ∙ is in
+    let same : kept_tuple h p ≡ t = cc in
+    subst (Holds p.fact) same (there_get h ps i p there at).fact
 
 -- a kept tuple by its number
 pub got_none : (h : History) (ps : List Place) (i : ℕ) (now : List Tuple) → kept_tuples h ps ≡ now → slice_get ps i ≡ None → None ≡ slice_get now i

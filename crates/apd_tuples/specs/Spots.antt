@@ -2,25 +2,27 @@
 use Rattle.std.specs.Prelude.{◌≡◌, ℕ, ◌<◌, ◌≤◌, List, [], ◌∷◌, ◌++◌, map, take, drop, get_or}
 use Rattle.apd_unify.specs.declared.store.Cell.{Cell}
 use Rattle.apd_past.specs.declared.past.PastCell.{PastCell}
+use Rattle.apd_tuples.specs.declared.spots.Fact.{Fact}
 use Rattle.apd_tuples.specs.declared.spots.Row.{Row}
 use Rattle.apd_tuples.specs.declared.spots.Spot.{Spot}
 
--- where a tuple's head and goals are, and the moment at which it was kept
+-- where a tuple's head and goals are, the moment at which it was kept, and what is known of it
 pub record Place : Type 0 where
   pub head : PastCell
   pub goals : List PastCell
   pub moment : ℕ
+  pub fact : Fact
 
 -- a spot as functions are given it
 abbrev pub spot_at : Spot → Place
-spot_at s = record { head = s.head; goals = s.goals.now; moment = s.moment.0 }
+spot_at s = record { head = s.head; goals = s.goals.now; moment = s.moment.0; fact = s.fact }
 
 -- the goals of a row among those of all
 abbrev pub goals_in : List PastCell → Row → List PastCell
 goals_in goals r = drop r.from (take r.to goals)
 
 abbrev pub spot_in : List PastCell → Row → Place
-spot_in goals r = record { head = r.head; goals = goals_in goals r; moment = r.moment.0 }
+spot_in goals r = record { head = r.head; goals = goals_in goals r; moment = r.moment.0; fact = r.fact }
 
 abbrev pub spots_in : List PastCell → List Row → List Place
 spots_in goals rows = map (spot_in goals) rows
@@ -46,9 +48,10 @@ place_of_cell places c = get_or places c.0 (record { 0 = 0 })
 abbrev pub placed_all : List PastCell → List Cell → List PastCell
 placed_all places cells = map (place_of_cell places) cells
 
--- where the tuple at a head's cell and at goals' cells is, at a moment
-abbrev pub placed : List PastCell → Cell → List Cell → ℕ → Place
-placed places head goals m = record { head = place_of_cell places head; goals = placed_all places goals; moment = m }
+-- where the tuple at a head's cell and at goals' cells is, at a moment, of which this is known
+abbrev pub placed : List PastCell → Cell → List Cell → ℕ → Fact → Place
+placed places head goals m fact =
+    record { head = place_of_cell places head; goals = placed_all places goals; moment = m; fact = fact }
 
 -- more was put behind
 abbrev pub HasMore : List PastCell → List PastCell → Type 0

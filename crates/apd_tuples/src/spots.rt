@@ -8,12 +8,23 @@ use apd_unify::store::Cell;
 use std::alloc::{AllocError, Global};
 use std::marker::Model;
 
-/// Where a tuple's head and goals are, and the moment at which it was kept.
+/// What is known of a tuple without a look at its terms.
+#[derive(Clone, Copy)]
+pub enum Fact {
+    Nothing,
+    /// How many symbols its head has.
+    HeadSize(u32),
+    /// No variable stands in it.
+    Ground,
+}
+
+/// Where a tuple's head and goals are, the moment at which it was kept, and what was known of it then.
 #[derive(Clone, Copy)]
 pub struct Spot<'a> {
     pub head: PastCell,
     pub goals: &'a [PastCell],
     pub moment: Moment,
+    pub fact: Fact,
 }
 
 /// The number of a kept tuple, and how many goals it has.
@@ -30,6 +41,7 @@ pub struct Row {
     pub moment: Moment,
     pub from: u32,
     pub to: u32,
+    pub fact: Fact,
 }
 
 /// The spots of tuples. Clauses see their list, the oldest first.
@@ -107,6 +119,7 @@ fn spot_in<'a>(goals: &'a [PastCell], row: Row) -> Spot<'a>
         head: row.head,
         goals: &goals[row.from as usize..row.to as usize],
         moment: row.moment,
+        fact: row.fact,
     }
 }
 
@@ -148,11 +161,12 @@ impl Spots {
         head: Cell,
         goals: &[Cell],
         moment: Moment,
+        fact: Fact,
     ) -> Result<Numbered, AllocError>
         requires head { head.0 < length places.now }
         requires goals { HavePlaces (length places.now) goals.now }
         ensures ok { OnOk result
-            (self.new ≡ self.old ++ placed places.now head goals.now moment.0 ∷ []) }
+            (self.new ≡ self.old ++ placed places.now head goals.now moment.0 fact ∷ []) }
         ensures number { IfOk result (λ n. n.number ≡ length self.old) }
         ensures count { IfOk result (λ n. n.goals ≡ length goals.now) }
         ensures err { OnErr result (self.new ≡ self.old) }
@@ -166,6 +180,7 @@ impl Spots {
             moment,
             from,
             to,
+            fact,
         })?;
         Ok(Numbered {
             number,

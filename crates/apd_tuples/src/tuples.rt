@@ -1,12 +1,17 @@
 //! Tuples that were kept during a search.
 
-ghost use Rattle.std.specs.Prelude.{◌≡◌, [], length, slice_get, IfOk};
-ghost use Rattle.apd_tuples.specs.Tuples.{kept_tuples, AreThere};
+ghost use Rattle.std.specs.Prelude.{◌≡◌, [], length, slice_get, IfOk, IfSome, Some};
+ghost use Rattle.std.specs.Bool.{OnTrue};
+ghost use Rattle.apd_term.specs.Term.{Term, predicate_of, size};
+ghost use Rattle.apd_term.specs.Tuple.{variables_of_tuple};
+ghost use Rattle.apd_term.specs.declared.tuple.Tuple.{Tuple};
+ghost use Rattle.apd_cells.specs.First.{first_symbol};
+ghost use Rattle.apd_tuples.specs.Tuples.{kept_tuples, AreThere, Holds};
 
-use crate::spots::Spots;
+use crate::spots::{Fact, Spots};
 use apd_past::past::Past;
 use apd_past::writing::Page;
-use apd_term::Tuple;
+use apd_term::{Pred, Sym, Tuple};
 use std::alloc::{AllocError, Global};
 use std::marker::Model;
 
@@ -32,6 +37,36 @@ impl Model for KeptTuples {
     ghost view = { λ k. kept_tuples k.past k.spots };
 
     ghost invariant = { λ k. AreThere k.past k.spots };
+}
+
+/// The size of a tuple's head, where the fact says it.
+fn size_in(fact: Fact) -> Option<u32>
+    ensures { (t : Tuple) → Holds fact t → IfSome result (λ n. n ≡ size t.head) }
+{
+    match fact {
+        Fact::HeadSize(size) => Some(size),
+        _ => None,
+    }
+}
+
+/// Whether the fact says that no variable stands in a tuple.
+fn says_ground(fact: Fact) -> bool
+    ensures { (t : Tuple) → Holds fact t → OnTrue result (variables_of_tuple t ≡ []) }
+{
+    match fact {
+        Fact::Ground => true,
+        _ => false,
+    }
+}
+
+/// The predicate of a term with this first symbol; none where it has none.
+fn pred_of(symbol: Sym) -> Option<Pred>
+    ensures { (t : Term) → first_symbol t ≡ symbol → result ≡ predicate_of t }
+{
+    match symbol {
+        Sym::Fun(name, arity) => Some(Pred { name, arity }),
+        _ => None,
+    }
 }
 
 impl KeptTuples {
@@ -60,6 +95,30 @@ impl KeptTuples {
         self.spots.len()
     }
 
+    /// How many symbols the head of that with this number has; none where it isn't known without a look
+    /// at it.
+    pub fn head_size(&self, number: u32) -> Option<u32>
+        ensures { (t : Tuple) → slice_get self.now number ≡ Some t →
+            IfSome result (λ n. n ≡ size t.head) }
+    {
+        match self.spots.get(number as usize) {
+            None => None,
+            Some(spot) => size_in(spot.fact),
+        }
+    }
+
+    /// Whether no variable stands in that with this number; false where it isn't known without a look
+    /// at it.
+    pub fn is_ground(&self, number: u32) -> bool
+        ensures { (t : Tuple) → slice_get self.now number ≡ Some t →
+            OnTrue result (variables_of_tuple t ≡ []) }
+    {
+        match self.spots.get(number as usize) {
+            None => false,
+            Some(spot) => says_ground(spot.fact),
+        }
+    }
+
     /// That with this number, counted from 0.
     pub fn get(
         &self,
@@ -75,6 +134,21 @@ impl KeptTuples {
                 let then = self.past.at(spot.moment);
                 let tuple = then.tuple(page, alloc, spot.head, spot.goals)?;
                 Ok(Some(tuple))
+            }
+        }
+    }
+
+    /// The predicate of the head of that with this number, which isn't read; none where it has none.
+    pub fn pred(&self, number: u32) -> Option<Pred>
+        ensures { IfSome (slice_get self.now number)
+            (λ (t : Tuple). result ≡ predicate_of t.head) }
+    {
+        match self.spots.get(number as usize) {
+            None => None,
+            Some(spot) => {
+                let then = self.past.at(spot.moment);
+                let at = then.follow(spot.head.0 as usize);
+                pred_of(then.symbol(at))
             }
         }
     }

@@ -35,11 +35,11 @@ returns-in_err-numbered-clause-err c =
 pub returns-clause-there : goal.returns-clause-there
 returns-clause-there c =
     one_there c.catch_up.new.self.mirror c.args.store.now c.in_ok-catch_up.ensures.follows c.in_ok-catch_up.ensures.sound c.args.head c.args.goals.now c.requires.head c.requires.goals
-    c.moment-moment.result.0 c.moment-moment.ensures.moment c.moment-moment.ensures.present c.args.tie.now.mirror.past c.args.spots.now c.push.new.self c.catch_up.ensures.kept c.requires.there
-    (c.in_ok-numbered.ensures.ok ∙ ap (λ (ps : List PastCell). c.args.spots.now ++ placed ps c.args.head c.args.goals.now c.moment-moment.result.0 ∷ []) c.as_slice.ensures.value)
+    c.moment-moment.result.0 c.moment-moment.ensures.moment c.moment-moment.ensures.present c.args.fact c.requires.fact c.args.tie.now.mirror.past c.args.spots.now c.push.new.self c.catch_up.ensures.kept c.requires.there
+    (c.in_ok-numbered.ensures.ok ∙ ap (λ (ps : List PastCell). c.args.spots.now ++ placed ps c.args.head c.args.goals.now c.moment-moment.result.0 c.args.fact ∷ []) c.as_slice.ensures.value)
 
 pub returns-clause-ok : goal.returns-clause-ok
 returns-clause-ok c =
     one_kept c.catch_up.new.self.mirror c.args.store.now c.in_ok-catch_up.ensures.follows c.in_ok-catch_up.ensures.sound c.args.head c.args.goals.now c.requires.head c.requires.goals
-    c.moment-moment.result.0 c.moment-moment.ensures.moment c.moment-moment.ensures.present c.args.tie.now.mirror.past c.args.spots.now c.push.new.self c.catch_up.ensures.kept c.requires.there
-    (c.in_ok-numbered.ensures.ok ∙ ap (λ (ps : List PastCell). c.args.spots.now ++ placed ps c.args.head c.args.goals.now c.moment-moment.result.0 ∷ []) c.as_slice.ensures.value)
+    c.moment-moment.result.0 c.moment-moment.ensures.moment c.moment-moment.ensures.present c.args.fact c.requires.fact c.args.tie.now.mirror.past c.args.spots.now c.push.new.self c.catch_up.ensures.kept c.requires.there
+    (c.in_ok-numbered.ensures.ok ∙ ap (λ (ps : List PastCell). c.args.spots.now ++ placed ps c.args.head c.args.goals.now c.moment-moment.result.0 c.args.fact ∷ []) c.as_slice.ensures.value)

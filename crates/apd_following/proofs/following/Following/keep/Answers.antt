@@ -1,68 +1,10 @@
-use Rattle.std.proofs.Common.{◌∙◌, ap, arith, length, refl, sym}
-use Rattle.std.proofs.lemmas.List.{length-map}
-use Rattle.apd_unify.specs.declared.store.Cell.{Cell}
-use Rattle.apd_unify.specs.Store.{term_at}
-use Rattle.apd_frames.specs.Framed.{frames_of}
-use Rattle.apd_frames.specs.Linked.{frame_in, frames_at}
-use Rattle.apd_frames.specs.Links.{link_of}
-use Rattle.apd_frames.proofs.Current.{IsInnermost, innermost_none, innermost_some}
-use Rattle.apd_following.specs.Followed.{Followed, kept_of}
-use Rattle.apd_tuples.specs.Tuples.{kept_tuple, kept_tuples}
-use Rattle.apd_tuples.proofs.Spanning.{on_err_always}
-use Rattle.apd_following.proofs.Keeping.{have_places, keeps_large, keeps_so}
+use Rattle.std.proofs.Common.{◌∙◌, refl, sym}
+use Rattle.std.proofs.lemmas.Bool.{not-false, not-true}
+use Rattle.apd_frames.specs.Kept.{is_large_of}
 use Rattle.apd_following.proofs.following.Following.keep.Goals as goal
 
-pub fits-requires : goal.fits-requires
-fits-requires c = c.self.invariant.0
-
-pub unreachable-requires : goal.unreachable-requires
-unreachable-requires c =
-    let e = ap length (innermost_none c.self.inside.linked.store c.self.inside.linked.links c.self.inside.linked.innermost c.self.inside.linked.branches (frames_of c.self.inside.linked) refl c.in-None.ensures) in
-    let n = ap (λ (f : Followed). length f.current) c.self.view_is in
-    omega (arith, c.requires, e, n)
-
-pub keep_at-requires-clause-tied : goal.keep_at-requires-clause-tied
-keep_at-requires-clause-tied c = c.self.invariant.1
-
-pub keep_at-requires-clause-there : goal.keep_at-requires-clause-there
-keep_at-requires-clause-there c = c.self.invariant.2
-
-pub keep_at-requires-clause-head : goal.keep_at-requires-clause-head
-keep_at-requires-clause-head c =
-    (innermost_some c.self.inside.linked.store c.self.inside.linked.links c.self.inside.linked.innermost c.self.inside.linked.branches (frames_of c.self.inside.linked) (link_of c.in-Some.link) refl c.self.invariant.0 c.in-Some.ensures).inside.head
-
-pub keep_at-requires-clause-goals : goal.keep_at-requires-clause-goals
-keep_at-requires-clause-goals c =
-    have_places (length c.self.inside.linked.store.cells) c.in-Some.link.goals.now
-    (innermost_some c.self.inside.linked.store c.self.inside.linked.links c.self.inside.linked.innermost c.self.inside.linked.branches (frames_of c.self.inside.linked) (link_of c.in-Some.link) refl c.self.invariant.0 c.in-Some.ensures).inside.goals
-
 pub returns-then-not-branch-clause-kept : goal.returns-then-not-branch-clause-kept
-returns-then-not-branch-clause-kept c =
-    keeps_large c.args.self.now (frames_of c.self.inside.linked) (kept_tuples c.self.inside.tie.mirror.past c.self.inside.spots) c.in_ok-fits.field-0 c.self.view_is c.in_ok-fits.ensures c.if-not-branch.true
-
-pub invariant_of-self-in-Some : goal.invariant_of-self-in-Some
-invariant_of-self-in-Some c = (c.self.invariant.0, c.keep_at.ensures.tied, c.keep_at.ensures.there)
-
-pub returns-in_err-numbered-in-Some-clause-frames : goal.returns-in_err-numbered-in-Some-clause-frames
-returns-in_err-numbered-in-Some-clause-frames c = ap kept_of c.self.view_is
-
-pub returns-in_err-numbered-in-Some-clause-err : goal.returns-in_err-numbered-in-Some-clause-err
-returns-in_err-numbered-in-Some-clause-err c =
-    on_err_always c.from_residual-in_err-numbered-in-Some.result _
-    (c.in_err-numbered-in-Some.ensures.err ∙ ap (λ (f : Followed). f.tuples) c.self.view_is)
-
-pub invariant_of-self : goal.invariant_of-self
-invariant_of-self c = (c.self.invariant.0, c.keep_at.ensures.tied, c.keep_at.ensures.there)
-
-pub returns-clause-frames : goal.returns-clause-frames
-returns-clause-frames c = ap kept_of c.self.view_is
+returns-then-not-branch-clause-kept c = (not-false (is_large_of c.args.self.now.current) (sym c.in_ok-fits.ensures ∙ c.if-not-branch.true), refl)
 
 pub returns-clause-kept : goal.returns-clause-kept
-returns-clause-kept c =
-    let i : IsInnermost c.self.inside.linked.store c.self.inside.linked.links (link_of c.in-Some.link) (frames_of c.self.inside.linked) =
-    innermost_some c.self.inside.linked.store c.self.inside.linked.links c.self.inside.linked.innermost c.self.inside.linked.branches (frames_of c.self.inside.linked) (link_of c.in-Some.link) refl c.self.invariant.0 c.in-Some.ensures in
-    keeps_so c.args.self.now (frames_of c.self.inside.linked) (kept_tuples c.self.inside.tie.mirror.past c.self.inside.spots) (kept_tuples c.keep_at.new.tie.mirror.past c.keep_at.new.spots)
-    (frame_in c.self.inside.linked.store (link_of c.in-Some.link)) (frames_at c.self.inside.linked.store c.self.inside.linked.links c.in-Some.link.around) c.in_ok-fits.field-0 c.in_ok-numbered-in-Some.numbered
-    c.self.view_is i.is c.in_ok-fits.ensures c.if-not-branch.false
-    (c.in_ok-numbered-in-Some.ensures.count ∙ sym (length-map c.in-Some.link.goals.now (λ (a : Cell). term_at c.self.inside.linked.store a.0)))
-    (c.in_ok-numbered-in-Some.ensures.number ∙ sym (length-map c.self.inside.spots (kept_tuple c.self.inside.tie.mirror.past))) c.in_ok-numbered-in-Some.ensures.ok
+returns-clause-kept c = (not-true (is_large_of c.args.self.now.current) (sym c.in_ok-fits.ensures ∙ c.if-not-branch.false), c.in_ok-kept.ensures.kept)

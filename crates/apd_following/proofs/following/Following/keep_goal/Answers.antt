@@ -1,6 +1,6 @@
 use Rattle.std.proofs.Common.{◌∙◌, ap, length, sym}
 use Rattle.std.proofs.lemmas.List.{length-map}
-use Rattle.apd_unify.specs.Store.{term_at}
+use Rattle.apd_cells.specs.Store.{term_at}
 use Rattle.apd_frames.specs.Framed.{frames_of}
 use Rattle.apd_following.specs.Followed.{Followed, kept_of}
 use Rattle.apd_tuples.specs.Tuples.{kept_tuple, kept_tuples}
@@ -29,7 +29,7 @@ returns-in_err-numbered-in-Some-clause-frames c = ap kept_of c.self.view_is
 
 pub returns-in_err-numbered-in-Some-clause-err : goal.returns-in_err-numbered-in-Some-clause-err
 returns-in_err-numbered-in-Some-clause-err c =
-    on_err_always c.from_residual.result _
+    on_err_always c.from_residual-in_err-numbered-in-Some.result _
     (c.in_err-numbered-in-Some.ensures.err ∙ ap (λ (f : Followed). f.tuples) c.self.view_is)
 
 pub invariant_of-self : goal.invariant_of-self
@@ -43,3 +43,6 @@ returns-in_ok-numbered-in-Some-clause-kept c =
     keeps_goal c.args.self.now (frames_of c.self.inside.linked) (kept_tuples c.self.inside.tie.mirror.past c.self.inside.spots) (kept_tuples c.keep_at.new.tie.mirror.past c.keep_at.new.spots)
     (term_at c.self.inside.linked.store c.in-Some.goal.0) c.in_ok-numbered-in-Some.numbered.number c.self.view_is (c.in-Some.ensures.1 c.self.inside.linked.store)
     (c.in_ok-numbered-in-Some.ensures.number ∙ sym (length-map c.self.inside.spots (kept_tuple c.self.inside.tie.mirror.past))) c.in_ok-numbered-in-Some.ensures.ok
+
+pub fact_of_goal-requires : goal.fact_of_goal-requires
+fact_of_goal-requires c = c.in-Some.ensures.0 (length c.self.inside.linked.store.cells) c.self.invariant.0.placed

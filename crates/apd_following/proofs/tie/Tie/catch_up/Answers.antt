@@ -1,8 +1,8 @@
 use Rattle.std.proofs.Common.{◌∙◌, ap, length, refl, subst, sym}
 use Rattle.std.proofs.lemmas.Bool.{OnTrue_at}
 use Rattle.std.proofs.lemmas.List.{length-reverse}
-use Rattle.apd_unify.specs.Stored.{Stored}
-use Rattle.apd_unify.specs.Store.{IsSound}
+use Rattle.apd_cells.specs.Stored.{Stored}
+use Rattle.apd_cells.specs.Store.{IsSound}
 use Rattle.apd_past.specs.Follows.{Follows}
 use Rattle.apd_past.specs.Live.{MayCatchUp}
 use Rattle.apd_past.proofs.Keeping.{keeps_same}

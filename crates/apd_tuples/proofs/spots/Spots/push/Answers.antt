@@ -37,17 +37,17 @@ returns-in_err-push-clause-err c =
 pub invariant_of-self-2 : goal.invariant_of-self-2
 invariant_of-self-2 c =
     pushed_spanned c.self.inside.goals.items _ c.put_places.new.there.items c.self.inside.rows.items c.push.new.self.items
-    (record { head = c.place_of.result; moment = c.args.moment; from = c.in_ok-from.from; to = c.in_ok-to.to })
+    (record { head = c.place_of.result; moment = c.args.moment; from = c.in_ok-from.from; to = c.in_ok-to.to; fact = c.args.fact })
     c.in_ok-put_places.ensures.ok c.in_ok-push.ensures.items (c.in_ok-from.ensures ∙ c.len-2.ensures ∙ c.self.inside.goals.ok.0) (c.in_ok-to.ensures ∙ c.len-3.ensures ∙ c.put_places.new.there.ok.0) c.self.invariant
 
 pub returns-clause-ok : goal.returns-clause-ok
 returns-clause-ok c =
     pushed_now c.self.inside.goals.items _ c.put_places.new.there.items c.self.inside.rows.items c.push.new.self.items
-    (record { head = c.place_of.result; moment = c.args.moment; from = c.in_ok-from.from; to = c.in_ok-to.to })
+    (record { head = c.place_of.result; moment = c.args.moment; from = c.in_ok-from.from; to = c.in_ok-to.to; fact = c.args.fact })
     c.in_ok-put_places.ensures.ok c.in_ok-push.ensures.items (c.in_ok-from.ensures ∙ c.len-2.ensures ∙ c.self.inside.goals.ok.0) (c.in_ok-to.ensures ∙ c.len-3.ensures ∙ c.put_places.new.there.ok.0) c.self.invariant
     c.args.self.now c.self.view_is
     ∙ ap
-    (λ (p : PastCell). c.args.self.now ++ with_goals (record { head = p; moment = c.args.moment; from = c.in_ok-from.from; to = c.in_ok-to.to }) (placed_all c.args.places.now c.args.goals.now) ∷ [])
+    (λ (p : PastCell). c.args.self.now ++ with_goals (record { head = p; moment = c.args.moment; from = c.in_ok-from.from; to = c.in_ok-to.to; fact = c.args.fact }) (placed_all c.args.places.now c.args.goals.now) ∷ [])
     c.place_of.ensures
 
 pub returns-clause-number : goal.returns-clause-number

@@ -1,6 +1,6 @@
 use Rattle.std.proofs.Common.{◌<◌, ◌∙◌, ap, subst, sym, length}
 use Rattle.apd_term.specs.Tuple.{canonical_tuple}
-use Rattle.apd_unify.specs.Stored.{Stored}
+use Rattle.apd_cells.specs.Stored.{Stored}
 use Rattle.apd_past.specs.Tuples.{AreInside, tuple_at}
 use Rattle.apd_tuples.specs.Spots.{spot_at}
 use Rattle.apd_tuples.specs.Tuples.{IsThere}

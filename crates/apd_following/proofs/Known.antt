@@ -1,0 +1,58 @@
+-- What is known of a tuple is known of its canonical form.
+use Rattle.std.proofs.Common.{◌≡◌, ℕ, ◌+◌, ◌<◌, ◌≤◌, List, [], ◌∷◌, ◌++◌, map, length, take, get_or, Option, Some, refl, sym, ◌∙◌, ap, subst}
+use Rattle.std.specs.List.{flat_map}
+use Rattle.std.proofs.lemmas.List.{map_more, take_all}
+use Rattle.std.proofs.lemmas.List.Concat.{flat_map-append}
+use Rattle.apd_term.specs.Term.{Term, variable, apply, variables, size, IsGround}
+use Rattle.apd_term.specs.Canonical.{by_appearance, place_of}
+use Rattle.apd_term.specs.Tuple.{canonical_tuple, variables_of_tuple}
+use Rattle.apd_term.specs.declared.tuple.Tuple.{Tuple}
+use Rattle.apd_term.proofs.Ground.{apply-ground}
+use Rattle.apd_term.proofs.Variants.{size-canonical}
+use Rattle.apd_unify.specs.declared.store.Cell.{Cell}
+use Rattle.apd_cells.specs.Stored.{Stored}
+use Rattle.apd_cells.specs.Store.{term_at, SizeWithin}
+use Rattle.apd_tuples.specs.Tuples.{tuple_of}
+use Rattle.apd_following.proofs.Keeping.{alone}
+
+pub size_alone : (s : Stored) (goal : Cell) (limit n : ℕ) (o : Option ℕ) → SizeWithin (term_at s goal.0) limit o → o ≡ Some n → n ≡ size (canonical_tuple (tuple_of s goal [])).head
+size_alone s goal limit n o h is =
+    (subst (SizeWithin (term_at s goal.0) limit) is h).0 ∙ sym (size-canonical (term_at s goal.0)) ∙ ap (λ (t : Tuple). size t.head) (sym (alone (term_at s goal.0)))
+
+pub size_small : (s : Stored) (goal : Cell) (limit n : ℕ) (o : Option ℕ) → SizeWithin (term_at s goal.0) limit o → o ≡ Some n → n ≤ limit
+size_small s goal limit n o h is = (subst (SizeWithin (term_at s goal.0) limit) is h).1
+
+both_none : (xs ys : List ℕ) → xs ++ ys ≡ [] → (xs ≡ []) × (ys ≡ [])
+both_none [] ys e = (refl, e)
+both_none (x ∷ xs) ys e = absurd (cc)
+
+none_after : (s : ℕ → Term) (t : Term) → IsGround t → IsGround (apply s t)
+none_after s t g = subst IsGround (sym (apply-ground s t g)) g
+
+none_after_all : (s : ℕ → Term) (ts : List Term) → flat_map variables ts ≡ [] → flat_map variables (map (apply s) ts) ≡ []
+none_after_all s [] g = refl
+none_after_all s (t ∷ ts) g =
+    let h = both_none (variables t) (flat_map variables ts) g in
+    ap (λ vs. vs ++ flat_map variables (map (apply s) ts)) (none_after s t h.0) ∙ none_after_all s ts h.1
+
+pub ground_canonical : (t : Tuple) → variables_of_tuple t ≡ [] → variables_of_tuple (canonical_tuple t) ≡ []
+ground_canonical t g =
+    let s = λ (v : ℕ). variable (place_of (by_appearance (variables_of_tuple t)) v) in
+    let h = both_none (variables t.head) (flat_map variables t.body) g in
+    ap (λ vs. vs ++ flat_map variables (map (apply s) t.body)) (none_after s t.head h.0) ∙ none_after_all s t.body h.1
+
+-- the terms at some cells
+abbrev pub goal_terms : Stored → List Cell → List Term
+goal_terms s cs = map (λ (c : Cell). term_at s c.0) cs
+
+pub ground_next : (s : Stored) (cs : List Cell) (i : ℕ) (d : Cell) → i < length cs → flat_map variables (goal_terms s (take i cs)) ≡ [] → IsGround (term_at s (get_or cs i d).0) → flat_map variables (goal_terms s (take (i + 1) cs)) ≡ []
+ground_next s cs i d l e g =
+    let f = λ (c : Cell). term_at s c.0 in
+    ap (flat_map variables) (map_more f cs i d l)
+    ∙ flat_map-append variables (goal_terms s (take i cs)) (f (get_or cs i d) ∷ [])
+    ∙ ap (λ vs. vs ++ flat_map variables (f (get_or cs i d) ∷ [])) e
+    ∙ ap (λ vs. vs ++ []) g
+
+pub ground_whole : (s : Stored) (head : Cell) (cs : List Cell) (i : ℕ) → length cs ≤ i → flat_map variables (goal_terms s (take i cs)) ≡ [] → IsGround (term_at s head.0) → variables_of_tuple (tuple_of s head cs) ≡ []
+ground_whole s head cs i l e g =
+    ap (λ vs. vs ++ flat_map variables (goal_terms s cs)) g ∙ ap (λ xs. flat_map variables (goal_terms s xs)) (sym (take_all i cs l)) ∙ e

@@ -12,10 +12,9 @@ use Rattle.apd_ports.specs.declared.hook.Shown.TheVariants.{Answer as ShownAnswe
 use Rattle.apd_trace.specs.Run.{Run, stop, pass, ran_of, shown_of, ports_of, answers_of}
 use Rattle.apd_trace.specs.declared.item.Item.TheVariants.{Answer, Error}
 use Rattle.apd_engine.specs.Progress.{left, Showing, Completes}
-use Rattle.apd_engine.specs.Search.{Gives, Ends}
-use Rattle.apd_engine.specs.declared.search.Search.{Search}
+use Rattle.apd_engine.specs.Search.{Standing, Gives, Ends}
 
-module _ {H : Type 0} (step : H → Shown → Result (Unit {0}) HookFault → H → Type 0) (faults : H → ℕ) (start : H) (P : List Tuple) (budget answers : ℕ) (all : Run) (ports answered : ℕ) (s : Search) (hook : H) (was : Showing step faults start P budget answers all ports answered s hook) where
+module _ {H : Type 0} (step : H → Shown → Result (Unit {0}) HookFault → H → Type 0) (faults : H → ℕ) (start : H) (P : List Tuple) (budget answers : ℕ) (all : Run) (ports answered : ℕ) (s : Standing) (hook : H) (was : Showing step faults start P budget answers all ports answered s hook) where
   -- where nothing is passed any more
   shows_all : (end : RunEnd) → left P budget answers ports answered s ≡ stop end → GoesThrough step start (shown_of all.passed) hook
   shows_all end is =
@@ -42,7 +41,7 @@ module _ {H : Type 0} (step : H → Shown → Result (Unit {0}) HookFault → H 
     exhausted_ran = ran_so Exhausted exhausted
 
   -- it gives an error
-  module _ (new : Search) (e : RunError) (b : ℕ) (gives : Gives P s.mode s.frames s.stack s.boxes s.points (Error e b) new) where
+  module _ (new : Standing) (e : RunError) (b : ℕ) (gives : Gives P s.mode s.frames s.stack s.boxes s.points (Error e b) new) where
     in_error : left P budget answers ports answered s ≡ stop (EndsInError e b)
     in_error = rw (gives.items (budget + 1) (omega (arith, was.going.height, was.going.within))) refl
 
@@ -53,7 +52,7 @@ module _ {H : Type 0} (step : H → Shown → Result (Unit {0}) HookFault → H 
     error_ran = ran_so (EndsInError e b) in_error
 
   -- it gives the last answer that is asked for
-  module _ (new : Search) (a : Term) (last : answered + 1 ≡ answers) (gives : Gives P s.mode s.frames s.stack s.boxes s.points (Answer a) new) where
+  module _ (new : Standing) (a : Term) (last : answered + 1 ≡ answers) (gives : Gives P s.mode s.frames s.stack s.boxes s.points (Answer a) new) where
     at_last : left P budget answers ports answered s ≡ pass (Answer a) (stop AnswerLimit)
     at_last =
         let one : answers - answered ≡ suc zero = omega (arith, last) in

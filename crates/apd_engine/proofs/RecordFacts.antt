@@ -16,10 +16,9 @@ use Rattle.apd_trace.specs.declared.item.Item.{Item}
 use Rattle.apd_trace.specs.declared.item.Item.TheVariants.{Passed, Answer, Made, Error}
 use Rattle.apd_record.specs.Recorded.{Recorded, empty, query_point, called_row, noted, passed_at}
 use Rattle.apd_record.specs.declared.rows.BoxRow.{BoxRow}
-use Rattle.apd_engine.specs.Search.{opened, rest, Gives, Ends, may_make}
+use Rattle.apd_engine.specs.Search.{Standing, opened, rest, Gives, Ends, may_make}
 use Rattle.apd_recorded.specs.Told.{told_port, record_from, record_of}
 use Rattle.apd_engine.specs.Recording.{newest, MayPass, MayBeToldAll, with_held, told_held, MayBeToldHeld, held_count}
-use Rattle.apd_engine.specs.declared.search.Search.{Search}
 use Rattle.apd_engine.specs.declared.search.Mode.{Mode}
 use Rattle.apd_engine.specs.declared.search.Mode.TheVariants.{Forward, Hand, Leave, Back}
 use Rattle.apd_engine.specs.Progress.{left, Showing, Completes, Keeping}
@@ -87,7 +86,7 @@ may_make-small Back = omega arith
 -- Steps of a run.
 
 -- at first the query's point is held back
-pub keeps_first : (P : List Tuple) (query : Tuple) (budget answers : ℕ) (s : Search) → s ≡ opened query → MayBeToldAll empty (query_run P query budget answers).passed → Keeping P budget answers (query_run P query budget answers) 0 0 s (Some (query_point query)) empty
+pub keeps_first : (P : List Tuple) (query : Tuple) (budget answers : ℕ) (s : Standing) → s ≡ opened query → MayBeToldAll empty (query_run P query budget answers).passed → Keeping P budget answers (query_run P query budget answers) 0 0 s (Some (query_point query)) empty
 keeps_first P query budget answers s is may =
     let first : (query_run P query budget answers).passed ≡ before_event (Made (query_point query)) (left P budget answers 0 0 s).passed =
     rw is (ap (λ (r : Run). r.passed) (first_run P query budget answers)) in
@@ -100,9 +99,9 @@ keeps_first P query budget answers s is may =
       begun = rw is (omega arith);
     }
 
-module _ (P : List Tuple) (budget answers : ℕ) (all : Run) (ports answered : ℕ) (s : Search) (held : Option Point) (R : Recorded) (was : Keeping P budget answers all ports answered s held R) where
+module _ (P : List Tuple) (budget answers : ℕ) (all : Run) (ports answered : ℕ) (s : Standing) (held : Option Point) (R : Recorded) (was : Keeping P budget answers all ports answered s held R) where
   -- where a port is passed next
-  module _ (new : Search) (e : Event) (height : length s.stack ≤ ports) (within : ports < budget) (gives : Gives P s.mode s.frames s.stack s.boxes s.points (Passed e) new) where
+  module _ (new : Standing) (e : Event) (height : length s.stack ≤ ports) (within : ports < budget) (gives : Gives P s.mode s.frames s.stack s.boxes s.points (Passed e) new) where
     port_left : (left P budget answers ports answered s).passed ≡ Passed e ∷ (left P budget answers (ports + 1) answered new).passed
     port_left = ap (λ (r : Run). r.passed) (left_passed P budget answers ports answered s new e height within gives)
 
@@ -130,7 +129,7 @@ module _ (P : List Tuple) (budget answers : ℕ) (all : Run) (ports answered : �
         }
 
   -- where an answer is given next
-  module _ (new : Search) (a : Term) (height : length s.stack ≤ ports) (within : ports ≤ budget) (gives : Gives P s.mode s.frames s.stack s.boxes s.points (Answer a) new) where
+  module _ (new : Standing) (a : Term) (height : length s.stack ≤ ports) (within : ports ≤ budget) (gives : Gives P s.mode s.frames s.stack s.boxes s.points (Answer a) new) where
     answer_items : rest P (budget + 1) s.mode s.frames s.stack s.boxes s.points ≡ Answer a ∷ rest P (budget + 1) new.mode new.frames new.stack new.boxes new.points
     answer_items = gives.items (budget + 1) (omega (arith, height, within))
 
@@ -165,7 +164,7 @@ module _ (P : List Tuple) (budget answers : ℕ) (all : Run) (ports answered : �
     last_agrees last = was.agrees ∙ rw (last_left last) (recorded_held R held (Answer a) [])
 
   -- where a point is made next
-  module _ (new : Search) (p : Point) (height : length s.stack ≤ ports) (within : ports ≤ budget) (gives : Gives P s.mode s.frames s.stack s.boxes s.points (Made p) new) where
+  module _ (new : Standing) (p : Point) (height : length s.stack ≤ ports) (within : ports ≤ budget) (gives : Gives P s.mode s.frames s.stack s.boxes s.points (Made p) new) where
     none_held : held_count held ≡ 0
     none_held = omega (arith, gives.pace, was.lone)
 
@@ -194,15 +193,15 @@ module _ (P : List Tuple) (budget answers : ℕ) (all : Run) (ports answered : �
   pub ends_exhausted : Ends P s.mode s.frames s.stack s.boxes s.points → record_of all.passed ≡ R
   ends_exhausted ends = ends_with (rw (ends (budget + 1)) refl)
 
-  pub ends_in_error : (new : Search) (e : RunError) (b : ℕ) → length s.stack ≤ ports → ports ≤ budget → Gives P s.mode s.frames s.stack s.boxes s.points (Error e b) new → record_of all.passed ≡ R
+  pub ends_in_error : (new : Standing) (e : RunError) (b : ℕ) → length s.stack ≤ ports → ports ≤ budget → Gives P s.mode s.frames s.stack s.boxes s.points (Error e b) new → record_of all.passed ≡ R
   ends_in_error new e b height within gives = ends_with (rw (gives.items (budget + 1) (omega (arith, height, within))) refl)
 
-  pub ends_at_budget : (new : Search) (e : Event) → length s.stack ≤ ports → ports ≡ budget → Gives P s.mode s.frames s.stack s.boxes s.points (Passed e) new → record_of all.passed ≡ R
+  pub ends_at_budget : (new : Standing) (e : Event) → length s.stack ≤ ports → ports ≡ budget → Gives P s.mode s.frames s.stack s.boxes s.points (Passed e) new → record_of all.passed ≡ R
   ends_at_budget new e height spent gives = let none : budget - ports ≡ zero = omega (arith, spent) in ends_with (rw (gives.items (budget + 1) (omega (arith, height, spent)), none) refl)
 
-module _ {H : Type 0} (step : H → Shown → Result (Unit {0}) HookFault → H → Type 0) (faults : H → ℕ) (start : H) (P : List Tuple) (budget answers : ℕ) (all : Run) (ports answered : ℕ) (s : Search) (hook : H) (was : Showing step faults start P budget answers all ports answered s hook) where
+module _ {H : Type 0} (step : H → Shown → Result (Unit {0}) HookFault → H → Type 0) (faults : H → ℕ) (start : H) (P : List Tuple) (budget answers : ℕ) (all : Run) (ports answered : ℕ) (s : Standing) (hook : H) (was : Showing step faults start P budget answers all ports answered s hook) where
   -- a point is made: nothing is shown
-  pub shows_point : (new : Search) (p : Point) → Gives P s.mode s.frames s.stack s.boxes s.points (Made p) new → Showing step faults start P budget answers all ports answered new hook
+  pub shows_point : (new : Standing) (p : Point) → Gives P s.mode s.frames s.stack s.boxes s.points (Made p) new → Showing step faults start P budget answers all ports answered new hook
   shows_point new p gives =
       let later : Run = left P budget answers ports answered new in
       let is : left P budget answers ports answered s ≡ hold (Made p) later = rw (gives.items (budget + 1) (omega (arith, was.going.height, was.going.within))) refl in
@@ -226,7 +225,7 @@ module _ {H : Type 0} (step : H → Shown → Result (Unit {0}) HookFault → H 
       }
 
   -- another port would pass the budget: all is shown
-  pub shows_budget : (new : Search) (e : Event) → ports ≡ budget → Gives P s.mode s.frames s.stack s.boxes s.points (Passed e) new → GoesThrough step start (shown_of all.passed) hook
+  pub shows_budget : (new : Standing) (e : Event) → ports ≡ budget → Gives P s.mode s.frames s.stack s.boxes s.points (Passed e) new → GoesThrough step start (shown_of all.passed) hook
   shows_budget new e spent gives =
       let none : budget - ports ≡ zero = omega (arith, spent) in
       let is : left P budget answers ports answered s ≡ run_of (Passed e ∷ rest P (budget + 1) new.mode new.frames new.stack new.boxes new.points) (budget - ports) (answers - answered) = rw (gives.items (budget + 1) (omega (arith, was.going.height, spent))) refl in
@@ -234,7 +233,7 @@ module _ {H : Type 0} (step : H → Shown → Result (Unit {0}) HookFault → H 
       (subst (λ xs. Completes step start (shown_of all.passed) hook (shown_of xs)) nothing was.completes).through hook refl
 
   -- another port would pass the budget: the end and the counts
-  pub budget_ran : (new : Search) (e : Event) → ports ≡ budget → Gives P s.mode s.frames s.stack s.boxes s.points (Passed e) new → record { end = Budget; ports = ports; answers = answered } ≡ ran_of all
+  pub budget_ran : (new : Standing) (e : Event) → ports ≡ budget → Gives P s.mode s.frames s.stack s.boxes s.points (Passed e) new → record { end = Budget; ports = ports; answers = answered } ≡ ran_of all
   budget_ran new e spent gives =
       let none : budget - ports ≡ zero = omega (arith, spent) in
       let is : left P budget answers ports answered s ≡ run_of (Passed e ∷ rest P (budget + 1) new.mode new.frames new.stack new.boxes new.points) (budget - ports) (answers - answered) = rw (gives.items (budget + 1) (omega (arith, was.going.height, spent))) refl in
@@ -258,26 +257,26 @@ module _ {H : Type 0} (step : H → Shown → Result (Unit {0}) HookFault → H 
       cut_at fault (shown_of all.passed) hook' (completes.stops fault hook' (inl shown))
 
   -- at a port
-  pub port_cut : (new : Search) (e : Event) (hook' : H) (fault : HookFault) → ports < budget → Gives P s.mode s.frames s.stack s.boxes s.points (Passed e) new → step hook (ShownPort e) (Err fault) hook'
+  pub port_cut : (new : Standing) (e : Event) (hook' : H) (fault : HookFault) → ports < budget → Gives P s.mode s.frames s.stack s.boxes s.points (Passed e) new → step hook (ShownPort e) (Err fault) hook'
       → IsCut step start (shown_of all.passed) hook' (run_fault fault)
   port_cut new e hook' fault within gives shown =
       cuts (Passed e) (ShownPort e) (left P budget answers (ports + 1) answered new).passed hook' fault (ap (λ (r : Run). r.passed) (left_passed P budget answers ports answered s new e was.going.height within gives)) refl shown
 
   -- at an answer
-  pub answer_cut : (new : Search) (a : Term) (hook' : H) (fault : HookFault) → Gives P s.mode s.frames s.stack s.boxes s.points (Answer a) new → step hook (ShownAnswer a) (Err fault) hook'
+  pub answer_cut : (new : Standing) (a : Term) (hook' : H) (fault : HookFault) → Gives P s.mode s.frames s.stack s.boxes s.points (Answer a) new → step hook (ShownAnswer a) (Err fault) hook'
       → IsCut step start (shown_of all.passed) hook' (run_fault fault)
   answer_cut new a hook' fault gives shown =
       let xs = some_left P budget answers ports answered s new a was.going.height was.going.within was.going.below gives in
       cuts (Answer a) (ShownAnswer a) xs.0 hook' fault xs.1 refl shown
 
   -- whatever fault it was, at a port and at an answer
-  pub port_fails : (new : Search) (e : Event) (hook' : H) (f : RunFault) → ports < budget → Gives P s.mode s.frames s.stack s.boxes s.points (Passed e) new → FailsAt step hook (ShownPort e) hook' f
+  pub port_fails : (new : Standing) (e : Event) (hook' : H) (f : RunFault) → ports < budget → Gives P s.mode s.frames s.stack s.boxes s.points (Passed e) new → FailsAt step hook (ShownPort e) hook' f
       → IsCut step start (shown_of all.passed) hook' f
   port_fails new e hook' WriteFault within gives h = port_cut new e hook' HookWriteFault within gives h
   port_fails new e hook' Memory within gives (inl same) = inl (subst (λ (k : H). GoesInto step start (shown_of all.passed) k) same (memory_short step faults start P budget answers all ports answered s hook was))
   port_fails new e hook' Memory within gives (inr h) = port_cut new e hook' HookMemory within gives h
 
-  pub answer_fails : (new : Search) (a : Term) (hook' : H) (f : RunFault) → Gives P s.mode s.frames s.stack s.boxes s.points (Answer a) new → FailsAt step hook (ShownAnswer a) hook' f
+  pub answer_fails : (new : Standing) (a : Term) (hook' : H) (f : RunFault) → Gives P s.mode s.frames s.stack s.boxes s.points (Answer a) new → FailsAt step hook (ShownAnswer a) hook' f
       → IsCut step start (shown_of all.passed) hook' f
   answer_fails new a hook' WriteFault gives h = answer_cut new a hook' HookWriteFault gives h
   answer_fails new a hook' Memory gives (inl same) = inl (subst (λ (k : H). GoesInto step start (shown_of all.passed) k) same (memory_short step faults start P budget answers all ports answered s hook was))

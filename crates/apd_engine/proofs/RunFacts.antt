@@ -22,8 +22,7 @@ use Rattle.apd_trace.proofs.Searched.{search_same}
 use Rattle.apd_trace.proofs.Clauses.{canonical_query}
 use Rattle.apd_trace.proofs.Deeper.{run_of-up_to_error}
 use Rattle.apd_engine.specs.Progress.{left, Going, Completes, Showing}
-use Rattle.apd_engine.specs.Search.{opened, rest, Gives}
-use Rattle.apd_engine.specs.declared.search.Search.{Search}
+use Rattle.apd_engine.specs.Search.{Standing, opened, rest, Gives}
 use Rattle.apd_engine.specs.declared.search.Mode.TheVariants.{Forward}
 
 -- a silent item is no port, no answer, and is not shown
@@ -43,19 +42,19 @@ pub ran_of-hold : (p : Point) (r : Run) → ran_of (hold (Made p) r) ≡ ran_of 
 ran_of-hold p r = rw (ports_of-hold, answers_of-hold) refl
 
 -- what is left of a run before an item, and after it
-pub left_passed : (P : List Tuple) (budget answers ports answered : ℕ) (s new : Search) (e : Event) → length s.stack ≤ ports → ports < budget → Gives P s.mode s.frames s.stack s.boxes s.points (Passed e) new → left P budget answers ports answered s ≡ pass (Passed e) (left P budget answers (ports + 1) answered new)
+pub left_passed : (P : List Tuple) (budget answers ports answered : ℕ) (s new : Standing) (e : Event) → length s.stack ≤ ports → ports < budget → Gives P s.mode s.frames s.stack s.boxes s.points (Passed e) new → left P budget answers ports answered s ≡ pass (Passed e) (left P budget answers (ports + 1) answered new)
 left_passed P budget answers ports answered s new e low within gives =
     let more : budget - ports ≡ suc (budget - (ports + 1)) = omega arith in
     rw (gives.items (budget + 1) (omega arith), more) refl
 
-pub left_answer : (P : List Tuple) (budget answers ports answered : ℕ) (s new : Search) (a : Term) → length s.stack ≤ ports → ports ≤ budget → answered + 1 < answers → Gives P s.mode s.frames s.stack s.boxes s.points (Answer a) new → left P budget answers ports answered s ≡ pass (Answer a) (left P budget answers ports (answered + 1) new)
+pub left_answer : (P : List Tuple) (budget answers ports answered : ℕ) (s new : Standing) (a : Term) → length s.stack ≤ ports → ports ≤ budget → answered + 1 < answers → Gives P s.mode s.frames s.stack s.boxes s.points (Answer a) new → left P budget answers ports answered s ≡ pass (Answer a) (left P budget answers ports (answered + 1) new)
 left_answer P budget answers ports answered s new a low within more gives =
     let two : answers - answered ≡ suc (suc (answers - (answered + 2))) = omega arith in
     let one : answers - (answered + 1) ≡ suc (answers - (answered + 2)) = omega arith in
     rw (gives.items (budget + 1) (omega arith), two, one) refl
 
 -- before an answer something is left, whether it is the last answer or not
-pub some_left : (P : List Tuple) (budget answers ports answered : ℕ) (s new : Search) (a : Term) → length s.stack ≤ ports → ports ≤ budget → answered < answers → Gives P s.mode s.frames s.stack s.boxes s.points (Answer a) new → (xs : List Item) × ((left P budget answers ports answered s).passed ≡ Answer a ∷ xs)
+pub some_left : (P : List Tuple) (budget answers ports answered : ℕ) (s new : Standing) (a : Term) → length s.stack ≤ ports → ports ≤ budget → answered < answers → Gives P s.mode s.frames s.stack s.boxes s.points (Answer a) new → (xs : List Item) × ((left P budget answers ports answered s).passed ≡ Answer a ∷ xs)
 some_left P budget answers ports answered s new a low within below gives = by_count (answers - answered) refl
   where
     items : rest P (budget + 1) s.mode s.frames s.stack s.boxes s.points ≡ Answer a ∷ rest P (budget + 1) new.mode new.frames new.stack new.boxes new.points
@@ -70,13 +69,17 @@ some_left P budget answers ports answered s new a low within below gives = by_co
 pub first_rest : (P : List Tuple) (query : Tuple) (budget : ℕ) → rest P (budget + 1) Forward (opened query).frames [] 0 1 ≡ (search_from P (budget + 1) (query_frame query ∷ []) 0 1).items
 first_rest P query budget = simp (append-nil, sub-zero) (ap (λ (o : Out). o.items) (sym (search_same P (budget + 1) (query_frame query ∷ []) (query_frame (canonical_tuple query) ∷ []) 0 1 (canonical_query query))))
 
+pub left_first : (P : List Tuple) (budget answers ports answered : ℕ) (s t : Standing) → ports ≡ 0 → answered ≡ 0 → s ≡ t → left P budget answers ports answered s ≡ left P budget answers 0 0 t
+left_first P budget answers ports answered s t no_ports none is =
+    ap (λ n. left P budget answers n answered s) no_ports ∙ ap (λ n. left P budget answers 0 n s) none ∙ ap (left P budget answers 0 0) is
+
 -- the whole run is the query's point, and what is left at first
 pub first_run : (P : List Tuple) (query : Tuple) (budget answers : ℕ) → query_run P query budget answers ≡ hold (Made (query_point query)) (left P budget answers 0 0 (opened query))
 first_run P query budget answers =
     let later : run_of (search_from P (budget + 1) (query_frame query ∷ []) 0 1).items budget answers ≡ left P budget answers 0 0 (opened query) = rw (first_rest P query budget, sub-zero, sub-zero) refl in
     ap (hold (Made (query_point query))) (run_of-up_to_error (search_from P (budget + 1) (query_frame query ∷ []) 0 1).items budget answers ∙ later)
 
-starts : (P : List Tuple) (query : Tuple) (budget answers : ℕ) (s : Search) → 0 < answers → length query.body ≤ 64 → s ≡ opened query → Going P budget answers (query_run P query budget answers) 0 0 s
+starts : (P : List Tuple) (query : Tuple) (budget answers : ℕ) (s : Standing) → 0 < answers → length query.body ≤ 64 → s ≡ opened query → Going P budget answers (query_run P query budget answers) 0 0 s
 starts P query budget answers s some few is =
     let items = first_rest P query budget in
     let cut = run_of-up_to_error (search_from P (budget + 1) (query_frame query ∷ []) 0 1).items budget answers in
@@ -93,8 +96,8 @@ starts P query budget answers s some few is =
       below = some;
     })
 
-module _ (P : List Tuple) (budget answers : ℕ) (all : Run) (ports answered : ℕ) (s : Search) (going : Going P budget answers all ports answered s) where
-  goes_passed : (new : Search) (e : Event) → ports < budget → Gives P s.mode s.frames s.stack s.boxes s.points (Passed e) new → Going P budget answers all (ports + 1) answered new
+module _ (P : List Tuple) (budget answers : ℕ) (all : Run) (ports answered : ℕ) (s : Standing) (going : Going P budget answers all ports answered s) where
+  goes_passed : (new : Standing) (e : Event) → ports < budget → Gives P s.mode s.frames s.stack s.boxes s.points (Passed e) new → Going P budget answers all (ports + 1) answered new
   goes_passed new e more gives =
       let is = left_passed P budget answers ports answered s new e going.height more gives in
       let count = rw is at going.ports_left in
@@ -111,7 +114,7 @@ module _ (P : List Tuple) (budget answers : ℕ) (all : Run) (ports answered : �
         below = going.below;
       }
 
-  goes_answer : (new : Search) (a : Term) → answered + 1 < answers → Gives P s.mode s.frames s.stack s.boxes s.points (Answer a) new → Going P budget answers all ports (answered + 1) new
+  goes_answer : (new : Standing) (a : Term) → answered + 1 < answers → Gives P s.mode s.frames s.stack s.boxes s.points (Answer a) new → Going P budget answers all ports (answered + 1) new
   goes_answer new a more gives =
       let is = left_answer P budget answers ports answered s new a going.height going.within more gives in
       let count = rw is at going.answers_left in
@@ -147,7 +150,7 @@ pub left_alone : {H : Type 0} (step : H → Shown → Result (Unit {0}) HookFaul
 left_alone step start all here xs so_far = so_far.into here (goes_nowhere step here xs)
 
 module _ {H : Type 0} (step : H → Shown → Result (Unit {0}) HookFault → H → Type 0) (faults : H → ℕ) (start : H) (P : List Tuple) (budget answers : ℕ) where
-  pub starts_showing : (query : Tuple) (s : Search) → 0 < answers → length query.body ≤ 64 → s ≡ opened query → Showing step faults start P budget answers (query_run P query budget answers) 0 0 s start
+  pub starts_showing : (query : Tuple) (s : Standing) → 0 < answers → length query.body ≤ 64 → s ≡ opened query → Showing step faults start P budget answers (query_run P query budget answers) 0 0 s start
   starts_showing query s some few is =
       let going = starts P query budget answers s some few is in
       record {
@@ -156,7 +159,7 @@ module _ {H : Type 0} (step : H → Shown → Result (Unit {0}) HookFault → H 
         kept = refl;
       }
 
-  module _ (all : Run) (ports answered : ℕ) (s : Search) (hook : H) (was : Showing step faults start P budget answers all ports answered s hook) where
+  module _ (all : Run) (ports answered : ℕ) (s : Standing) (hook : H) (was : Showing step faults start P budget answers all ports answered s hook) where
     -- where memory is short
     pub memory_short : GoesInto step start (shown_of all.passed) hook
     memory_short = left_alone step start (shown_of all.passed) hook (shown_of (left P budget answers ports answered s).passed) was.completes
@@ -165,7 +168,7 @@ module _ {H : Type 0} (step : H → Shown → Result (Unit {0}) HookFault → H 
     completes_as run is = subst (λ (r : Run). Completes step start (shown_of all.passed) hook (shown_of r.passed)) is was.completes
 
     -- a port is shown
-    pub shows_port : (new : Search) (e : Event) (hook' : H) → ports < budget → Gives P s.mode s.frames s.stack s.boxes s.points (Passed e) new → step hook (ShownPort e) (Ok tt) hook' → faults hook' ≡ faults hook → Showing step faults start P budget answers all (ports + 1) answered new hook'
+    pub shows_port : (new : Standing) (e : Event) (hook' : H) → ports < budget → Gives P s.mode s.frames s.stack s.boxes s.points (Passed e) new → step hook (ShownPort e) (Ok tt) hook' → faults hook' ≡ faults hook → Showing step faults start P budget answers all (ports + 1) answered new hook'
     shows_port new e hook' within gives shown same =
         let later : Run = left P budget answers (ports + 1) answered new in
         record {
@@ -175,7 +178,7 @@ module _ {H : Type 0} (step : H → Shown → Result (Unit {0}) HookFault → H 
         }
 
     -- an answer is shown
-    pub shows_answer : (new : Search) (a : Term) (hook' : H) → answered + 1 < answers → Gives P s.mode s.frames s.stack s.boxes s.points (Answer a) new → step hook (ShownAnswer a) (Ok tt) hook' → faults hook' ≡ faults hook → Showing step faults start P budget answers all ports (answered + 1) new hook'
+    pub shows_answer : (new : Standing) (a : Term) (hook' : H) → answered + 1 < answers → Gives P s.mode s.frames s.stack s.boxes s.points (Answer a) new → step hook (ShownAnswer a) (Ok tt) hook' → faults hook' ≡ faults hook → Showing step faults start P budget answers all ports (answered + 1) new hook'
     shows_answer new a hook' within gives shown same =
         let later : Run = left P budget answers ports (answered + 1) new in
         record {

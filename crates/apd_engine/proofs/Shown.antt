@@ -1,7 +1,7 @@
 -- What the next item makes of a run that is shown.
 use Rattle.std.specs.Bool.{OnTrue}
 use Rattle.std.proofs.lemmas.Bool.{OnTrue_at}
-use Rattle.std.proofs.Common.{◌≡◌, ℕ, ◌+◌, ◌<◌, ◌≤◌, ◌∙◌, List, length, refl, sym, ap, subst, arith, inl, Result, Ok}
+use Rattle.std.proofs.Common.{◌≡◌, ℕ, ◌+◌, ◌<◌, ◌≤◌, ◌∙◌, List, length, refl, sym, ap, arith, inl, Result, Ok}
 use Rattle.apd_causes.specs.declared.run.RunEnd.TheVariants.{Exhausted, Budget, AnswerLimit, Error as EndsInError}
 use Rattle.apd_causes.specs.declared.run.RunError.{RunError}
 use Rattle.apd_term.specs.Term.{Term}
@@ -19,28 +19,27 @@ use Rattle.apd_trace.specs.declared.item.Item.TheVariants.{Passed, Answer, Made,
 use Rattle.apd_engine.specs.Cut.{FailsAt, IsCut}
 use Rattle.apd_engine.specs.Given.{TellsPort}
 use Rattle.apd_engine.specs.Progress.{Course, Showing, left}
-use Rattle.apd_engine.specs.Search.{Gives, GivesBy, Ends, opened}
-use Rattle.apd_engine.specs.Unrecorded.{HasShown, IsShowing, first_shown}
+use Rattle.apd_engine.specs.Search.{Standing, stand, Gives, GivesBy, Ends, opened}
+use Rattle.apd_engine.specs.Unrecorded.{HasShown, IsShowing, IsFirstShown}
 use Rattle.apd_engine.specs.declared.progress.Limits.{Limits}
 use Rattle.apd_engine.specs.declared.unrecorded.Unrecorded.{Unrecorded}
 use Rattle.apd_engine.specs.declared.given.Unread.{Unread}
 use Rattle.apd_engine.specs.declared.running.RunFault.{RunFault}
 use Rattle.apd_engine.specs.declared.running.RunFault.TheVariants.{Memory}
-use Rattle.apd_engine.specs.declared.search.Search.{Search}
 use Rattle.apd_engine.proofs.Ends.{exhausted_shown, exhausted_ran, error_shown, error_ran, last_shown, last_ran}
 use Rattle.apd_engine.proofs.RecordFacts.{shows_point, shows_budget, budget_ran, port_fails, answer_fails}
-use Rattle.apd_engine.proofs.RunFacts.{first_run, memory_short, ran_of-hold, shown_of-hold, shows_port, shows_answer, starts_showing}
+use Rattle.apd_engine.proofs.RunFacts.{first_run, left_first, memory_short, ran_of-hold, shown_of-hold, shows_port, shows_answer, starts_showing}
 
 -- what such a run still passes
 abbrev pub all_left : List Tuple → Limits → Unrecorded → Run
-all_left P limits p = left P limits.budget limits.answers p.ports p.answered p.search
+all_left P limits p = left P limits.budget limits.answers p.ports p.answered (stand p.search)
 
 -- at first all that is shown is left
-pub first_left : (P : List Tuple) (query : Tuple) (limits : Limits) (p : Unrecorded) → p ≡ first_shown query → query_run P query limits.budget limits.answers ≡ hold (Made (query_point query)) (all_left P limits p)
+pub first_left : (P : List Tuple) (query : Tuple) (limits : Limits) (p : Unrecorded) → IsFirstShown query p → query_run P query limits.budget limits.answers ≡ hold (Made (query_point query)) (all_left P limits p)
 first_left P query limits p is =
-    first_run P query limits.budget limits.answers ∙ ap (λ (q : Unrecorded). hold (Made (query_point query)) (all_left P limits q)) (sym is)
+    first_run P query limits.budget limits.answers ∙ ap (hold (Made (query_point query))) (sym (left_first P limits.budget limits.answers p.ports p.answered (stand p.search) (opened query) is.ports is.answered is.search))
 
-module _ (P : List Tuple) (query : Tuple) (limits : Limits) (p : Unrecorded) (is : p ≡ first_shown query) where
+module _ (P : List Tuple) (query : Tuple) (limits : Limits) (p : Unrecorded) (is : IsFirstShown query p) where
   pub first_shown_left : shown_of (all_left P limits p).passed ≡ shown_of (query_run P query limits.budget limits.answers).passed
   first_shown_left = sym (ap (λ (r : Run). shown_of r.passed) (first_left P query limits p is) ∙ shown_of-hold (query_point query) (all_left P limits p).passed)
 
@@ -49,8 +48,8 @@ module _ (P : List Tuple) (query : Tuple) (limits : Limits) (p : Unrecorded) (is
 
   pub starts_shown : {H : Type 0} (step : H → Shown → Result (Unit {0}) HookFault → H → Type 0) (faults : H → ℕ) (start : H) → 0 < limits.answers → length query.body ≤ 64 → IsShowing step faults (record { start = start; run = all_left P limits p }) P limits p start
   starts_shown step faults start some few =
-      subst (λ (q : Unrecorded). IsShowing step faults (record { start = start; run = all_left P limits q }) P limits q start) (sym is)
-      (let first = starts_showing step faults start P limits.budget limits.answers query (opened query) some few refl in
+      rw (is.ports, is.answered)
+      (let first = starts_showing step faults start P limits.budget limits.answers query (stand p.search) some few is.search in
       record {
         going = record {
           end = refl;
@@ -69,10 +68,10 @@ module _ (P : List Tuple) (query : Tuple) (limits : Limits) (p : Unrecorded) (is
       })
 
 -- from this search comes this item next
-abbrev pub Next : List Tuple → Search → Item → Search → Type 0
+abbrev pub Next : List Tuple → Standing → Item → Standing → Type 0
 Next P s i new = Gives P s.mode s.frames s.stack s.boxes s.points i new
 
-module _ {H : Type 0} {step : H → Shown → Result (Unit {0}) HookFault → H → Type 0} {faults : H → ℕ} (course : Course H) {P : List Tuple} {budget answers ports answered : ℕ} {s : Search} {hook : H} (on : Showing step faults course.start P budget answers course.run ports answered s hook) where
+module _ {H : Type 0} {step : H → Shown → Result (Unit {0}) HookFault → H → Type 0} {faults : H → ℕ} (course : Course H) {P : List Tuple} {budget answers ports answered : ℕ} {s : Standing} {hook : H} (on : Showing step faults course.start P budget answers course.run ports answered s hook) where
   -- where memory is short
   pub memory_cut : IsCut step course.start (shown_of course.run.passed) hook Memory
   memory_cut = inl (memory_short step faults course.start P budget answers course.run ports answered s hook on)
@@ -86,7 +85,7 @@ module _ {H : Type 0} {step : H → Shown → Result (Unit {0}) HookFault → H 
       }
 
   -- an error comes
-  pub at_error : {new : Search} {e : RunError} {b : ℕ} → Next P s (Error e b) new → HasShown step course hook (record { end = EndsInError e b; ports = ports; answers = answered })
+  pub at_error : {new : Standing} {e : RunError} {b : ℕ} → Next P s (Error e b) new → HasShown step course hook (record { end = EndsInError e b; ports = ports; answers = answered })
   at_error {new} {e} {b} gives =
       record {
         shown = error_shown step faults course.start P budget answers course.run ports answered s hook on new e b gives;
@@ -94,11 +93,11 @@ module _ {H : Type 0} {step : H → Shown → Result (Unit {0}) HookFault → H 
       }
 
   -- a point is made
-  pub after_point : {new : Search} {point : Point} → Next P s (Made point) new → Showing step faults course.start P budget answers course.run ports answered new hook
+  pub after_point : {new : Standing} {point : Point} → Next P s (Made point) new → Showing step faults course.start P budget answers course.run ports answered new hook
   after_point {new} {point} gives = shows_point step faults course.start P budget answers course.run ports answered s hook on new point gives
 
   -- a port comes
-  module _ {new : Search} {e : Event} (gives : Next P s (Passed e) new) where
+  module _ {new : Standing} {e : Event} (gives : Next P s (Passed e) new) where
     -- and there is no budget for it
     pub at_budget : ports ≡ budget → HasShown step course hook (record { end = Budget; ports = ports; answers = answered })
     at_budget spent =
@@ -115,11 +114,11 @@ module _ {H : Type 0} {step : H → Shown → Result (Unit {0}) HookFault → H 
       after_port now shown same = shows_port step faults course.start P budget answers course.run ports answered s hook on new e now within gives shown same
 
   -- a port comes of which its box alone is told: the hook stays as it is
-  pub after_bare : {new : Search} {unread : Unread} {port : Port} {b : ℕ} → TellsPort unread port b (GivesBy P s new) → ports < budget → OnTrue unread.ports ((e : Event) → step hook (ShownPort e) (Ok tt) hook) → Showing step faults course.start P budget answers course.run (ports + 1) answered new hook
+  pub after_bare : {new : Standing} {unread : Unread} {port : Port} {b : ℕ} → TellsPort unread port b (GivesBy P s new) → ports < budget → OnTrue unread.ports ((e : Event) → step hook (ShownPort e) (Ok tt) hook) → Showing step faults course.start P budget answers course.run (ports + 1) answered new hook
   after_bare bare within ignored = after_port bare.holds within hook (OnTrue_at bare.may ignored bare.event) refl
 
   -- an answer comes
-  module _ {new : Search} {a : Term} (gives : Next P s (Answer a) new) where
+  module _ {new : Standing} {a : Term} (gives : Next P s (Answer a) new) where
     pub cut_at_answer : (now : H) (f : RunFault) → FailsAt step hook (ShownAnswer a) now f → IsCut step course.start (shown_of course.run.passed) now f
     cut_at_answer now f fails = answer_fails step faults course.start P budget answers course.run ports answered s hook on new a now f gives fails
 

@@ -1,14 +1,21 @@
 -- What is told of an item.
-use Rattle.std.proofs.Common.{◌≡◌, ◌≢◌, ℕ, ◌+◌, ◌<◌, true, false, List, [], ◌∷◌, length, drop, refl, ap, sym, ◌∙◌, subst, arith, Option, Some, None}
+use Rattle.std.proofs.Common.{◌≡◌, ◌≢◌, ℕ, ◌+◌, ◌<◌, Bool, true, false, List, [], ◌∷◌, length, drop, append-nil, refl, ap, sym, ◌∙◌, subst, arith, Option, Some, None}
 use Rattle.std.proofs.lemmas.Bool.{not-true}
+use Rattle.std.proofs.lemmas.List.{length-map}
+use Rattle.std.specs.Prelude.{◌==◌, if◌then◌else◌, slice_get}
+use Rattle.apd_term.specs.Canonical.{canonical}
+use Rattle.apd_term.specs.Term.{Term, predicate_of}
+use Rattle.apd_term.specs.Tuple.{canonical_tuple}
+use Rattle.apd_term.specs.declared.term.Pred.{Pred}
 use Rattle.apd_term.specs.declared.tuple.Tuple.{Tuple}
 use Rattle.apd_ports.specs.declared.event.Event.{Event}
 use Rattle.apd_ports.specs.declared.event.Port.{Port}
 use Rattle.apd_ports.specs.declared.event.Port.TheVariants.{Call, Exit, Redo, Fail}
 use Rattle.apd_ports.specs.declared.point.Step.{Step}
-use Rattle.apd_record.specs.Recorded.{Recorded, noted}
+use Rattle.apd_record.specs.Recorded.{Recorded, is_user_atom, noted}
+use Rattle.apd_record.proofs.Lists.{get-last}
 use Rattle.apd_recorded.specs.Told.{told_port}
-use Rattle.apd_trace.specs.Frames.{look_of, left, point_at}
+use Rattle.apd_trace.specs.Frames.{called, goal_of, left, look_at, look_of, next_goal, point_at}
 use Rattle.apd_trace.specs.Trace.{at_port}
 use Rattle.apd_trace.specs.declared.frame.Called.{Called}
 use Rattle.apd_trace.specs.declared.frame.Frame.{Frame}
@@ -16,24 +23,49 @@ use Rattle.apd_trace.specs.declared.frame.Look.{Look}
 use Rattle.apd_trace.specs.declared.frame.Look.TheVariants.{Nothing, Goal, Exit as Exits, Answer as Answers}
 use Rattle.apd_trace.specs.declared.item.Item.{Item}
 use Rattle.apd_trace.specs.declared.item.Item.TheVariants.{Passed, Made}
-use Rattle.apd_frames.specs.Kept.{Kept, Calls, ahead_of, exit_in, fits, is_large_of, newest_of}
+use Rattle.apd_frames.specs.Kept.{Kept, Calls, ahead_of, exit_in, fits, is_large_of, newest_of, point_in}
 use Rattle.apd_frames.specs.declared.ahead.Ahead.TheVariants.{Call as CallsNext, Exit as ExitsNext}
-use Rattle.apd_engine.specs.Given.{IsPointOf, IsWhole, Makes, Tells, TellsPoint, TellsPort, TellsSome}
+use Rattle.std.specs.Global.{Box}
+use Rattle.apd_following.specs.Followed.{KeepsGoal, KeepsInstance}
+use Rattle.apd_following.specs.declared.following.KeptFrame.{KeptFrame}
+use Rattle.apd_record.specs.declared.ongoing.OpenPoint.{OpenPoint}
+use Rattle.apd_engine.specs.Given.{IsCalled, IsPointOf, IsToldWhole, IsWhole, Makes, MayBeWhole, Tells, TellsCall, TellsKept, TellsPoint, TellsPort, TellsSome}
+use Rattle.apd_engine.specs.declared.given.KeptCall.{KeptCall}
 use Rattle.apd_engine.specs.Recording.{IsThere, MayPass}
-use Rattle.apd_engine.specs.Search.{Ends, GivesAlways, GivesBy, GivesOrEnds, HasFailed, IsCalling, IsLeft, IsOpen, AllWaits, Waits, called_at, in_mode, left_at}
+use Rattle.apd_engine.specs.Search.{Standing, Grows, Ends, GivesAlways, GivesBy, GivesOrEnds, HasFailed, IsCalling, IsLeft, IsOpen, AllWaits, Waits, called_at, in_mode, left_at}
 use Rattle.apd_engine.specs.declared.given.Given.{Given}
-use Rattle.apd_engine.specs.declared.given.Given.TheVariants.{Whole, Port as PortOf, Point as SomePoint}
+use Rattle.apd_engine.specs.declared.given.Given.TheVariants.{Whole, Port as PortOf, Point as SomePoint, Kept as KeptPoint, Call as KeptGoal}
 use Rattle.apd_engine.specs.declared.given.Unread.{Unread}
 use Rattle.apd_engine.specs.declared.search.Choice.{Choice}
 use Rattle.apd_engine.specs.declared.search.Choice.TheVariants.{Over}
 use Rattle.apd_engine.specs.declared.search.Mode.TheVariants.{Forward}
-use Rattle.apd_engine.specs.declared.search.Search.{Search}
 use Rattle.apd_engine.proofs.Steps.{IsRestored, box_of, gives_call, gives_exit}
 
+-- what was kept stays
+pub grows_same : {old new : List Tuple} → new ≡ old → Grows old new
+grows_same {old} {new} same = record { more = []; is = same ∙ sym (append-nil old) }
+
+pub grows_from : {old here new : List Tuple} → here ≡ old → Grows here new → Grows old new
+grows_from {old} {here} {new} same grows = subst (λ ts. Grows ts new) same grows
+
+pub grows_to : {old here new : List Tuple} → Grows old here → new ≡ here → Grows old new
+grows_to {old} {here} {new} grows same = subst (λ ts. Grows old ts) (sym same) grows
+
+pub grows_kept : (o : Option KeptFrame) (F : List Frame) {old new : List Tuple} → KeepsInstance o F old new → Grows old new
+grows_kept None F {old} {new} h = grows_same h.1
+grows_kept (Some n) F {old} {new} h = record { more = canonical_tuple h.1.frame.tuple ∷ []; is = h.1.more }
+
+pub grows_goal : (o : Option ℕ) (F : List Frame) {old new : List Tuple} → KeepsGoal o F old new → Grows old new
+grows_goal None F {old} {new} h = grows_same h.1
+grows_goal (Some n) F {old} {new} h = record { more = record { head = canonical h.1.goal; body = [] } ∷ []; is = h.1.more }
+
+pub tells_tuples : (kept here : List Tuple) (unread : Unread) (given : Given) (B : Item → Type 0) → kept ≡ here → Tells here unread given B → Tells kept unread given B
+tells_tuples kept here unread given B same h = subst (λ ts. Tells ts unread given B) (sym same) h
+
 -- what follows for each item follows for the one that is told
-pub tells_weaker : (unread : Unread) (given : Given) (A B : Item → Type 0) → ((i : Item) → A i → B i) → Tells unread given A → Tells unread given B
-tells_weaker unread (Whole i) A B weaker h = weaker i.value h
-tells_weaker unread (PortOf port b) A B weaker h =
+pub tells_weaker : (kept : List Tuple) (unread : Unread) (given : Given) (A B : Item → Type 0) → ((i : Item) → A i → B i) → Tells kept unread given A → Tells kept unread given B
+tells_weaker kept unread (Whole i) A B weaker h = (h.0, weaker i.value h.1)
+tells_weaker kept unread (PortOf port b) A B weaker h =
     record {
       event = h.event;
       holds = weaker (Passed h.event) h.holds;
@@ -42,23 +74,43 @@ tells_weaker unread (PortOf port b) A B weaker h =
       may = h.may;
       call = h.call;
     }
-tells_weaker unread SomePoint A B weaker h =
+tells_weaker kept unread SomePoint A B weaker h =
     record {
       point = h.point;
       holds = weaker (Made h.point) h.holds;
       may = h.may;
     }
+tells_weaker kept unread (KeptPoint p) A B weaker h =
+    record {
+      point = h.point;
+      holds = weaker (Made h.point) h.holds;
+      at = h.at;
+      may = h.may;
+    }
+tells_weaker kept unread (KeptGoal call) A B weaker h =
+    record {
+      event = h.event;
+      holds = weaker (Passed h.event) h.holds;
+      port_is = h.port_is;
+      at = h.at;
+      read = h.read;
+      may = h.may;
+    }
 
 -- what holds of an item is told by it, whole
-pub tells_whole : (unread : Unread) (given : Given) (i : Item) (B : Item → Type 0) → IsWhole given i → B i → Tells unread given B
-tells_whole unread (Whole w) i B is h = subst B (sym is) h
-tells_whole unread (PortOf port b) i B is h = absurd is
-tells_whole unread SomePoint i B is h = absurd is
+pub tells_whole : (kept : List Tuple) (unread : Unread) (given : Given) (i : Item) (B : Item → Type 0) → IsWhole given i → MayBeWhole unread i → B i → Tells kept unread given B
+tells_whole kept unread (Whole w) i B is may h = (subst (MayBeWhole unread) (sym is) may, subst B (sym is) h)
+tells_whole kept unread (PortOf port b) i B is may h = absurd is
+tells_whole kept unread SomePoint i B is may h = absurd is
+tells_whole kept unread (KeptPoint p) i B is may h = absurd is
+tells_whole kept unread (KeptGoal call) i B is may h = absurd is
 
-pub whole_told : (unread : Unread) (given : Given) (i : Item) (B : Item → Type 0) → IsWhole given i → Tells unread given B → B i
-whole_told unread (Whole w) i B is h = subst B is h
-whole_told unread (PortOf port b) i B is h = absurd is
-whole_told unread SomePoint i B is h = absurd is
+pub whole_told : (kept : List Tuple) (unread : Unread) (given : Given) (i : Item) (B : Item → Type 0) → IsWhole given i → Tells kept unread given B → MayBeWhole unread i × B i
+whole_told kept unread (Whole w) i B is h = (subst (MayBeWhole unread) is h.0, subst B is h.1)
+whole_told kept unread (PortOf port b) i B is h = absurd is
+whole_told kept unread SomePoint i B is h = absurd is
+whole_told kept unread (KeptPoint p) i B is h = absurd is
+whole_told kept unread (KeptGoal call) i B is h = absurd is
 
 -- a port of a goal, told by its box
 tells_port : (unread : Unread) (port : Port) (g : Called) (b : ℕ) (B : Item → Type 0) → g.box_no ≡ b → unread.ports ≡ true → (port ≡ Call → unread.points ≡ true) → B (at_port port g) → TellsPort unread port b B
@@ -83,29 +135,51 @@ pub some_newest : (F : List Frame) → 0 < length F → newest_of F ≡ None →
 some_newest [] some none = omega arith
 some_newest (f ∷ F) some none = cc
 
-pub tells_left : (unread : Unread) (port : Port) (F : List Frame) (b e : ℕ) → unread.ports ≡ true → port ≢ Call → newest_of F ≡ Some (b, e) → Tells unread (PortOf port b) (IsLeft F port e)
-tells_left unread port F b e may later newest =
+pub tells_left : (kept : List Tuple) (unread : Unread) (port : Port) (F : List Frame) (b e : ℕ) → unread.ports ≡ true → port ≢ Call → newest_of F ≡ Some (b, e) → Tells kept unread (PortOf port b) (IsLeft F port e)
+tells_left kept unread port F b e may later newest =
     let l = newest_left F b e newest in
     tells_port unread port l.0 b (IsLeft F port e) l.2 may (λ call. absurd (later call)) (record { goal = l.0; exit = l.1; item = refl })
 
 -- the innermost frame as a point
-pub tells_point : (unread : Unread) (F : List Frame) (before : Option Step) → unread.points ≡ true → 0 < length F → fits F ≡ true → Tells unread SomePoint (IsPointOf F before)
-tells_point unread [] before may some fit = absurd (omega (arith, some))
-tells_point unread (f ∷ F) before may some fit =
+pub tells_point : (kept : List Tuple) (unread : Unread) (F : List Frame) (before : Option Step) → unread.points ≡ true → 0 < length F → fits F ≡ true → Tells kept unread SomePoint (IsPointOf F before)
+tells_point kept unread [] before may some fit = absurd (omega (arith, some))
+tells_point kept unread (f ∷ F) before may some fit =
     record {
       point = point_at f before;
       holds = record { point = point_at f before; is = refl; points = (not-true (is_large_of (f ∷ F)) fit, refl) };
       may = may;
     }
 
+-- the innermost frame as a point whose instance is kept
+pub makes_kept : (unread : Unread) (n : KeptFrame) (F : List Frame) (before : Option Step) (old new : List Tuple) → unread.points ≡ false → KeepsInstance (Some n) F old new
+    → Tells new unread (KeptPoint (record { owner = n.owner; clause = n.clause; done = n.done; tuple = n.tuple; before = before })) (IsPointOf F before)
+makes_kept unread n F before old new may h =
+    let k = h.1 in
+    let frame : Frame = k.frame in
+    record {
+      point = point_at frame before;
+      holds = record {
+        point = point_at frame before;
+        is = refl;
+        points = (h.0, ap (λ G. point_in G before) (sym k.is));
+      };
+      at = record {
+        tuple = canonical_tuple frame.tuple;
+        there = subst (λ ts. slice_get ts n.tuple.number ≡ Some (canonical_tuple frame.tuple)) (sym k.more) (get-last old (canonical_tuple frame.tuple) n.tuple.number (sym k.number));
+        goals = k.goals ∙ sym (length-map frame.tuple.body _);
+        is = rw (k.owner, k.clause, k.done) refl;
+      };
+      may = may;
+    }
+
 -- an instance that makes no point is too large
-pub large_without : (unread : Unread) (o : Option Given) (F : List Frame) (before : Option Step) → Makes unread o F before → ((given : Given) → ¬ (o ≡ Some given)) → is_large_of F ≡ true
-large_without unread None F before h none = h
-large_without unread (Some given) F before h none = absurd (none given refl)
+pub large_without : (kept : List Tuple) (unread : Unread) (o : Option Given) (F : List Frame) (before : Option Step) → Makes kept unread o F before → ((given : Given) → ¬ (o ≡ Some given)) → is_large_of F ≡ true
+large_without kept unread None F before h none = h
+large_without kept unread (Some given) F before h none = absurd (none given refl)
 
 -- one that does is told
-pub made_some : (unread : Unread) (o : Option Given) (given : Given) (F : List Frame) (before : Option Step) → Makes unread o F before → o ≡ Some given → Tells unread given (IsPointOf F before)
-made_some unread o given F before h is = subst (λ (x : Option Given). Makes unread x F before) is h
+pub made_some : (kept : List Tuple) (unread : Unread) (o : Option Given) (given : Given) (F : List Frame) (before : Option Step) → Makes kept unread o F before → o ≡ Some given → Tells kept unread given (IsPointOf F before)
+made_some kept unread o given F before h is = subst (λ (x : Option Given). Makes kept unread x F before) is h
 
 -- what waits behind a built-in goal that has exited
 pub record IsOver (n b : ℕ) (cs : List Choice) (saved : List (List Frame)) : Type 0 where
@@ -126,8 +200,8 @@ over_first X R h n b cs waits = behind (drop 1 X.saved) (subst (AllWaits n (Over
 same_goal : (look : Look) (g h : Called) → look ≡ Goal g → look ≡ Goal h → g ≡ h
 same_goal look g h one other = cc
 
-pub tells_failed : (unread : Unread) (b : ℕ) (old new : Kept) (g : Called) → unread.ports ≡ true → Calls old.current b g → new.saved ≡ drop 1 old.saved → Tells unread (PortOf Fail b) (HasFailed b old new)
-tells_failed unread b old new g may calls saved =
+pub tells_failed : (kept : List Tuple) (unread : Unread) (b : ℕ) (old new : Kept) (g : Called) → unread.ports ≡ true → Calls old.current b g → new.saved ≡ drop 1 old.saved → Tells kept unread (PortOf Fail b) (HasFailed b old new)
+tells_failed kept unread b old new g may calls saved =
     tells_port unread Fail g b (HasFailed b old new) (box_of old.current b g calls) may (λ same. cc)
     (record { saved = saved; item = λ h others. ap (at_port Fail) (same_goal (look_of old.current b) g h calls others) })
 
@@ -147,53 +221,123 @@ exit_so (Exits g x) b e is =
     let box : g.box_no ≡ b = cc in
     (g, ap (Exits g) exit, box)
 
-pub tells_call : (unread : Unread) (s new : Search) → unread.ports ≡ true → unread.points ≡ true → ((n : ℕ) → CallsNext ≡ ahead_of (look_of s.frames.current n)) → IsOpen s.boxes s.frames.current → Waits s → new ≡ called_at s → Tells unread (PortOf Call new.boxes) (GivesAlways (in_mode Forward s) new)
-tells_call unread s new may points calls ready waits now =
-    let x = call_so (look_of s.frames.current (s.boxes + 1)) (calls (s.boxes + 1)) in
-    tells_port unread Call x.0 new.boxes (GivesAlways (in_mode Forward s) new) (box_of s.frames.current (s.boxes + 1) x.0 x.1 ∙ sym (ap (λ (t : Search). t.boxes) now)) may (λ same. points)
-    (λ P. subst (λ (t : Search). GivesBy P (in_mode Forward s) t (at_port Call x.0)) (sym now)
-    (gives_call P s.frames (called_at s).frames s.stack (called_at s).stack s.boxes s.points (look_of s.frames.current (s.boxes + 1)) x.0 (at_port Call x.0) refl x.1 ready waits refl refl refl))
+called_gives : (s new : Standing) (g : Called) → Calls s.frames.current (s.boxes + 1) g → IsOpen s.boxes s.frames.current → Waits s → new ≡ called_at s → GivesAlways (in_mode Forward s) new (at_port Call g)
+called_gives s new g calls ready waits now =
+    λ P. subst (λ (t : Standing). GivesBy P (in_mode Forward s) t (at_port Call g)) (sym now)
+    (gives_call P s.frames (called_at s).frames s.stack (called_at s).stack s.boxes s.points (look_of s.frames.current (s.boxes + 1)) g (at_port Call g) refl calls ready waits refl refl refl)
 
-pub tells_exit : (unread : Unread) (s new : Search) (b e : ℕ) → unread.ports ≡ true → ((n : ℕ) → ExitsNext b e ≡ ahead_of (look_of s.frames.current n)) → IsOpen s.boxes s.frames.current → Waits s → new ≡ left_at s e → Tells unread (PortOf Exit b) (GivesAlways (in_mode Forward s) new)
-tells_exit unread s new b e may exits ready waits now =
+pub tells_call : (kept : List Tuple) (unread : Unread) (s new : Standing) → unread.ports ≡ true → unread.points ≡ true → ((n : ℕ) → CallsNext ≡ ahead_of (look_of s.frames.current n)) → IsOpen s.boxes s.frames.current → Waits s → new ≡ called_at s → Tells kept unread (PortOf Call new.boxes) (GivesAlways (in_mode Forward s) new)
+tells_call kept unread s new may points calls ready waits now =
+    let x = call_so (look_of s.frames.current (s.boxes + 1)) (calls (s.boxes + 1)) in
+    tells_port unread Call x.0 new.boxes (GivesAlways (in_mode Forward s) new) (box_of s.frames.current (s.boxes + 1) x.0 x.1 ∙ sym (ap (λ (t : Standing). t.boxes) now)) may (λ same. points)
+    (called_gives s new x.0 x.1 ready waits now)
+
+pub tells_exit : (kept : List Tuple) (unread : Unread) (s new : Standing) (b e : ℕ) → unread.ports ≡ true → ((n : ℕ) → ExitsNext b e ≡ ahead_of (look_of s.frames.current n)) → IsOpen s.boxes s.frames.current → Waits s → new ≡ left_at s e → Tells kept unread (PortOf Exit b) (GivesAlways (in_mode Forward s) new)
+tells_exit kept unread s new b e may exits ready waits now =
     let x = exit_so (look_of s.frames.current (s.boxes + 1)) b e (exits (s.boxes + 1)) in
     tells_port unread Exit x.0 b (GivesAlways (in_mode Forward s) new) x.2 may (λ same. cc)
-    (λ P. subst (λ (t : Search). GivesBy P (in_mode Forward s) t (at_port Exit x.0)) (sym now)
+    (λ P. subst (λ (t : Standing). GivesBy P (in_mode Forward s) t (at_port Exit x.0)) (sym now)
     (gives_exit P s.frames (left_at s e).frames s.stack (left_at s e).stack s.boxes s.points e (look_of s.frames.current (s.boxes + 1)) x.0 (at_port Exit x.0) refl x.1 ready waits refl refl refl))
 
--- what was told of the item that was matched
-module _ (P : List Tuple) (unread : Unread) (s new : Search) (o : Option Given) (h : TellsSome unread o (GivesOrEnds P s new)) where
-  pub ends_told : o ≡ None → Ends P s.mode s.frames s.stack s.boxes s.points
-  ends_told is = subst (λ (x : Option Given). TellsSome unread x (GivesOrEnds P s new)) is h
+-- a Call that is told whole, where points aren't read
+pub tells_called : (kept : List Tuple) (unread : Unread) (given : Given) (s new : Standing) (i : Item) → unread.points ≡ true → IsCalled s.frames.current (s.boxes + 1) i → IsOpen s.boxes s.frames.current → Waits s → new ≡ called_at s → IsWhole given i → Tells kept unread given (GivesAlways (in_mode Forward s) new)
+tells_called kept unread given s new i points told ready waits now is =
+    tells_whole kept unread given i (GivesAlways (in_mode Forward s) new) is (subst (MayBeWhole unread) (sym told.item) (λ same. points))
+    (λ P. subst (λ (j : Item). GivesBy P (in_mode Forward s) new j) (sym told.item) (called_gives s new told.goal told.calls ready waits now P))
 
-  gives_told : (given : Given) → o ≡ Some given → Tells unread given (GivesBy P s new)
-  gives_told given is = subst (λ (x : Option Given). TellsSome unread x (GivesOrEnds P s new)) is h
+-- a Call whose goal is kept
+goal_called : (o : Option Term) (f : Frame) (F : List Frame) (b : ℕ) (g : Called) (a : Term) → look_at o f F b ≡ Goal g → o ≡ Some a → canonical a ≡ g.atom
+goal_called None f F b g a calls is = cc
+goal_called (Some x) f F b g a calls is =
+    let same : called f x b ≡ g = cc in
+    let term : x ≡ a = cc in
+    ap canonical (sym term) ∙ ap (λ (c : Called). c.atom) same
+
+next_called : (F : List Frame) (b : ℕ) (g : Called) (a : Term) → Calls F b g → next_goal F ≡ Some a → canonical a ≡ g.atom
+next_called [] b g a calls is = cc
+next_called (f ∷ F) b g a calls is = goal_called (goal_of f) f F b g a calls is
+
+none_at : (o : Option Term) (f : Frame) (F : List Frame) → CallsNext ≡ ahead_of (look_at o f F 0) → o ≡ None → ⊥
+none_at (Some a) f F calls is = cc
+none_at None f F calls is = elim (f.box_no == 0) as (λ b. CallsNext ≡ ahead_of (if b then Answers (canonical f.tuple.head) else Exits (left f F) f.point) → ⊥) [ true ↦ λ bad. cc | false ↦ λ bad. cc ] calls
+
+none_next : (F : List Frame) → CallsNext ≡ ahead_of (look_of F 0) → next_goal F ≡ None → ⊥
+none_next [] calls is = cc
+none_next (f ∷ F) calls is = none_at (goal_of f) f F calls is
+
+pub goal_kept : (o : Option ℕ) (F : List Frame) (old new : List Tuple) → KeepsGoal o F old new → CallsNext ≡ ahead_of (look_of F 0) → ((n : ℕ) → ¬ (o ≡ Some n)) → ⊥
+goal_kept None F old new h calls none = none_next F calls h.0
+goal_kept (Some n) F old new h calls none = none n refl
+
+pub tells_kept_call : (unread : Unread) (s new : Standing) (port : Option (Box Item)) (goal : ℕ) (is_user : Bool) (o : Option Pred) (old kept : List Tuple) → unread.points ≡ false → ((n : ℕ) → CallsNext ≡ ahead_of (look_of s.frames.current n)) → IsOpen s.boxes s.frames.current → Waits s → new ≡ called_at s
+    → IsToldWhole unread (IsCalled s.frames.current (s.boxes + 1)) port → ((n : ℕ) (g : Called) → Calls s.frames.current n g → o ≡ predicate_of g.atom) → ((atom : Term) → o ≡ predicate_of atom → is_user ≡ is_user_atom atom)
+    → KeepsGoal (Some goal) s.frames.current old kept
+    → Tells kept unread (KeptGoal (record { goal = goal; is_user = is_user; port = port })) (GivesAlways (in_mode Forward s) new)
+tells_kept_call unread s new port goal is_user o old kept may calls ready waits now read pred user keeps =
+    let x = call_so (look_of s.frames.current (s.boxes + 1)) (calls (s.boxes + 1)) in
+    let g : Called = x.0 in
+    let k = keeps.1 in
+    record {
+      event = record { port = Call; box_no = g.box_no; caller = g.caller; depth = g.depth; atom = g.atom };
+      holds = called_gives s new g x.1 ready waits now;
+      port_is = refl;
+      at = record {
+        tuple = record { head = canonical k.goal; body = [] };
+        there = subst (λ ts. slice_get ts goal ≡ Some (record { head = canonical k.goal; body = [] })) (sym k.more) (get-last old (record { head = canonical k.goal; body = [] }) goal (sym keeps.0));
+        atom = next_called s.frames.current (s.boxes + 1) g k.goal x.1 k.is;
+        is_user = user g.atom (pred (s.boxes + 1) g x.1);
+      };
+      read = read_so port read;
+      may = may;
+    }
+  where
+    read_so : (p : Option (Box Item)) → IsToldWhole unread (IsCalled s.frames.current (s.boxes + 1)) p → IsToldWhole unread (λ i. i ≡ Passed (record { port = Call; box_no = (call_so (look_of s.frames.current (s.boxes + 1)) (calls (s.boxes + 1))).0.box_no; caller = (call_so (look_of s.frames.current (s.boxes + 1)) (calls (s.boxes + 1))).0.caller; depth = (call_so (look_of s.frames.current (s.boxes + 1)) (calls (s.boxes + 1))).0.depth; atom = (call_so (look_of s.frames.current (s.boxes + 1)) (calls (s.boxes + 1))).0.atom })) p
+    read_so None r = r
+    read_so (Some b) r = r.item ∙ ap (at_port Call) (same_goal (look_of s.frames.current (s.boxes + 1)) r.goal (call_so (look_of s.frames.current (s.boxes + 1)) (calls (s.boxes + 1))).0 r.calls (call_so (look_of s.frames.current (s.boxes + 1)) (calls (s.boxes + 1))).1)
+
+-- what was told of the item that was matched
+module _ (P : List Tuple) (kept : List Tuple) (unread : Unread) (s new : Standing) (o : Option Given) (h : TellsSome kept unread o (GivesOrEnds P s new)) where
+  pub ends_told : o ≡ None → Ends P s.mode s.frames s.stack s.boxes s.points
+  ends_told is = subst (λ (x : Option Given). TellsSome kept unread x (GivesOrEnds P s new)) is h
+
+  gives_told : (given : Given) → o ≡ Some given → Tells kept unread given (GivesBy P s new)
+  gives_told given is = subst (λ (x : Option Given). TellsSome kept unread x (GivesOrEnds P s new)) is h
 
   module _ (given : Given) (is : o ≡ Some given) where
-    pub gives_whole : (i : Item) → IsWhole given i → GivesBy P s new i
-    gives_whole i whole = whole_told unread given i (GivesBy P s new) whole (gives_told given is)
-
+    -- the item r was given whole, which is i
     pub gives_of : (r i : Item) → IsWhole given r → r ≡ i → GivesBy P s new i
-    gives_of r i whole e = subst (GivesBy P s new) e (gives_whole r whole)
+    gives_of r i whole e = subst (GivesBy P s new) e (whole_told kept unread given r (GivesBy P s new) whole (gives_told given is)).1
+
+    pub whole_of : (r i : Item) → IsWhole given r → r ≡ i → MayBeWhole unread i
+    whole_of r i whole e = subst (MayBeWhole unread) e (whole_told kept unread given r (GivesBy P s new) whole (gives_told given is)).0
 
     pub gives_port : (port : Port) (b : ℕ) → given ≡ PortOf port b → TellsPort unread port b (GivesBy P s new)
-    gives_port port b bare = subst (λ (x : Given). Tells unread x (GivesBy P s new)) bare (gives_told given is)
+    gives_port port b bare = subst (λ (x : Given). Tells kept unread x (GivesBy P s new)) bare (gives_told given is)
 
     pub gives_point : given ≡ SomePoint → TellsPoint unread (GivesBy P s new)
-    gives_point bare = subst (λ (x : Given). Tells unread x (GivesBy P s new)) bare (gives_told given is)
+    gives_point bare = subst (λ (x : Given). Tells kept unread x (GivesBy P s new)) bare (gives_told given is)
+
+    pub gives_kept : (p : OpenPoint) → given ≡ KeptPoint p → TellsKept kept unread p (GivesBy P s new)
+    gives_kept p bare = subst (λ (x : Given). Tells kept unread x (GivesBy P s new)) bare (gives_told given is)
+
+    pub gives_called : (call : KeptCall) → given ≡ KeptGoal call → TellsCall kept unread call (GivesBy P s new)
+    gives_called call bare = subst (λ (x : Given). Tells kept unread x (GivesBy P s new)) bare (gives_told given is)
 
 -- a Call is told whole where points are read
 pub later_than_call : (unread : Unread) (port : Port) → unread.points ≡ false → (port ≡ Call → unread.points ≡ true) → port ≢ Call
 later_than_call unread port read call = λ same. let unread_too : unread.points ≡ true = call same in cc
 
+pub later_whole : (unread : Unread) (e : Event) → unread.points ≡ false → MayBeWhole unread (Passed e) → e.port ≢ Call
+later_whole unread e read may = later_than_call unread e.port read may
+
 -- what a port other than Call tells the record, and when it may
-later_port : (R : Recorded) (e : Event) (port : Port) → port ≢ Call → noted R e.box_no port ≡ told_port R e port
+pub later_port : (R : Recorded) (e : Event) (port : Port) → port ≢ Call → noted R e.box_no port ≡ told_port R e port
 later_port R e Call later = absurd (later refl)
 later_port R e Exit later = refl
 later_port R e Redo later = refl
 later_port R e Fail later = refl
 
-later_there : (R : Recorded) (e : Event) (port : Port) → port ≢ Call → MayPass R e port → IsThere R e.box_no
+pub later_there : (R : Recorded) (e : Event) (port : Port) → port ≢ Call → MayPass R e port → IsThere R e.box_no
 later_there R e Call later may = absurd (later refl)
 later_there R e Exit later may = may
 later_there R e Redo later may = may

@@ -1,17 +1,31 @@
 -- What is told of an item.
-use Rattle.std.specs.Prelude.{◌≡◌, ℕ, List, true, Option, Some, None}
+use Rattle.std.specs.Prelude.{◌≡◌, ℕ, ◌∷◌, [], List, length, Result, Ok, true, false, Option, Some, None, slice_get}
+use Rattle.std.specs.Global.{Box}
+use Rattle.apd_term.specs.declared.tuple.Tuple.{Tuple}
+use Rattle.apd_term.specs.Tuple.{canonical_tuple}
 use Rattle.apd_ports.specs.declared.event.Event.{Event}
 use Rattle.apd_ports.specs.declared.event.Port.{Port}
 use Rattle.apd_ports.specs.declared.event.Port.TheVariants.{Call}
+use Rattle.apd_ports.specs.declared.hook.HookFault.{HookFault}
+use Rattle.apd_ports.specs.declared.hook.Shown.{Shown}
+use Rattle.apd_ports.specs.declared.hook.Shown.TheVariants.{Port as ShownPort}
 use Rattle.apd_ports.specs.declared.point.Point.{Point}
 use Rattle.apd_ports.specs.declared.point.Step.{Step}
+use Rattle.apd_record.specs.Open.{made_point}
+use Rattle.apd_record.specs.Recorded.{is_user_atom, query_point}
+use Rattle.apd_record.specs.declared.ongoing.OpenPoint.{OpenPoint}
+use Rattle.apd_trace.specs.Trace.{at_port}
+use Rattle.apd_trace.specs.declared.frame.Called.{Called}
 use Rattle.apd_trace.specs.declared.frame.Frame.{Frame}
 use Rattle.apd_trace.specs.declared.item.Item.{Item}
-use Rattle.apd_trace.specs.declared.item.Item.TheVariants.{Passed, Made}
-use Rattle.apd_frames.specs.Kept.{Points}
+use Rattle.apd_trace.specs.declared.item.Item.TheVariants.{Passed, Made, Answer, Error}
+use Rattle.apd_frames.specs.Kept.{Calls, Points}
+use Rattle.apd_engine.specs.Search.{opened, stand}
 use Rattle.apd_engine.specs.declared.given.Unread.{Unread}
 use Rattle.apd_engine.specs.declared.given.Given.{Given}
-use Rattle.apd_engine.specs.declared.given.Given.TheVariants.{Whole, Port as PortOf, Point as SomePoint}
+use Rattle.apd_engine.specs.declared.given.Given.TheVariants.{Whole, Port as PortOf, Point as SomePoint, Kept as KeptPoint, Call as KeptGoal}
+use Rattle.apd_engine.specs.declared.given.KeptCall.{KeptCall}
+use Rattle.apd_engine.specs.declared.search.Search.{Search}
 
 -- a port is told by its box alone, where nobody reads it; B holds of its item
 pub record TellsPort (unread : Unread) (port : Port) (b : ℕ) (B : Item → Type 0) : Type 0 where
@@ -28,22 +42,72 @@ pub record TellsPoint (unread : Unread) (B : Item → Type 0) : Type 0 where
   pub holds : B (Made point)
   pub may : unread.points ≡ true
 
+-- the point is told whose instance is one of the tuples that were kept
+pub record IsPointAt (kept : List Tuple) (p : OpenPoint) (point : Point) : Type 0 where
+  pub tuple : Tuple
+  pub there : slice_get kept p.tuple.number ≡ Some tuple
+  pub goals : p.tuple.goals ≡ length tuple.body
+  pub is : point ≡ made_point p tuple
+
+-- a point is told by its kept instance; B holds of it
+pub record TellsKept (kept : List Tuple) (unread : Unread) (p : OpenPoint) (B : Item → Type 0) : Type 0 where
+  pub point : Point
+  pub holds : B (Made point)
+  pub at : IsPointAt kept p point
+  pub may : unread.points ≡ false
+
+-- B holds of what is told whole, and it isn't told where nobody reads ports
+abbrev pub IsToldWhole : Unread → (Item → Type 0) → Option (Box Item) → Type 0
+IsToldWhole unread B None = unread.ports ≡ true
+IsToldWhole unread B (Some item) = B item.value
+
+-- the goal is the head of a kept tuple
+pub record IsGoalAt (kept : List Tuple) (call : KeptCall) (event : Event) : Type 0 where
+  pub tuple : Tuple
+  pub there : slice_get kept call.goal ≡ Some tuple
+  pub atom : tuple.head ≡ event.atom
+  pub is_user : call.is_user ≡ is_user_atom event.atom
+
+-- a Call is told by its kept goal; B holds of it
+pub record TellsCall (kept : List Tuple) (unread : Unread) (call : KeptCall) (B : Item → Type 0) : Type 0 where
+  pub event : Event
+  pub holds : B (Passed event)
+  pub port_is : event.port ≡ Call
+  pub at : IsGoalAt kept call event
+  pub read : IsToldWhole unread (λ i. i ≡ Passed event) call.port
+  pub may : unread.points ≡ false
+
+-- a Call isn't told whole where points are read, and no point ever is
+abbrev pub MayBeWhole : Unread → Item → Type 0
+MayBeWhole unread (Passed e) = e.port ≡ Call → unread.points ≡ true
+MayBeWhole unread (Made p) = ⊥
+MayBeWhole unread (Answer a) = Unit {0}
+MayBeWhole unread (Error e b) = Unit {0}
+
 -- the item is given whole
 abbrev pub IsWhole : Given → Item → Type 0
 IsWhole (Whole whole) i = whole.value ≡ i
 IsWhole (PortOf port b) i = ⊥
 IsWhole SomePoint i = ⊥
+IsWhole (KeptPoint p) i = ⊥
+IsWhole (KeptGoal call) i = ⊥
 
--- B holds of the item of which this is told
-abbrev pub Tells : Unread → Given → (Item → Type 0) → Type 0
-Tells unread (Whole i) B = B i.value
-Tells unread (PortOf port b) B = TellsPort unread port b B
-Tells unread SomePoint B = TellsPoint unread B
+-- B holds of the item of which this is told, where these tuples were kept
+abbrev pub Tells : List Tuple → Unread → Given → (Item → Type 0) → Type 0
+Tells kept unread (Whole i) B = MayBeWhole unread i.value × B i.value
+Tells kept unread (PortOf port b) B = TellsPort unread port b B
+Tells kept unread SomePoint B = TellsPoint unread B
+Tells kept unread (KeptPoint p) B = TellsKept kept unread p B
+Tells kept unread (KeptGoal call) B = TellsCall kept unread call B
+
+-- the same whatever tuples were kept
+abbrev pub TellsAlways : Unread → Given → (Item → Type 0) → Type 0
+TellsAlways unread given B = (kept : List Tuple) → Tells kept unread given B
 
 -- the same where there may be no item
-abbrev pub TellsSome : Unread → Option Given → (Option Item → Type 0) → Type 0
-TellsSome unread None B = B None
-TellsSome unread (Some given) B = Tells unread given (λ i. B (Some i))
+abbrev pub TellsSome : List Tuple → Unread → Option Given → (Option Item → Type 0) → Type 0
+TellsSome kept unread None B = B None
+TellsSome kept unread (Some given) B = Tells kept unread given (λ i. B (Some i))
 
 -- the item is the innermost frame as a point
 pub record IsPointOf (F : List Frame) (before : Option Step) (i : Item) : Type 0 where
@@ -52,6 +116,23 @@ pub record IsPointOf (F : List Frame) (before : Option Step) (i : Item) : Type 0
   pub points : Points (Some point) F before
 
 -- the innermost frame is told as a point, or none where its instance is too large
-abbrev pub Makes : Unread → Option Given → List Frame → Option Step → Type 0
-Makes unread None F before = Points None F before
-Makes unread (Some given) F before = Tells unread given (IsPointOf F before)
+abbrev pub Makes : List Tuple → Unread → Option Given → List Frame → Option Step → Type 0
+Makes kept unread None F before = Points None F before
+Makes kept unread (Some given) F before = Tells kept unread given (IsPointOf F before)
+
+-- the item is the Call of the goal that the frames call in box b
+pub record IsCalled (F : List Frame) (b : ℕ) (i : Item) : Type 0 where
+  pub goal : Called
+  pub calls : Calls F b goal
+  pub item : i ≡ at_port Call goal
+
+-- the search of a query, whose point was kept alone
+pub record IsOpened (query : Tuple) (s : Search) (p : OpenPoint) : Type 0 where
+  pub search : stand s ≡ opened query
+  pub tuples : s.frames.tuples ≡ canonical_tuple query ∷ []
+  pub first : IsPointAt s.frames.tuples p (query_point query)
+
+-- the hook is shown this port, or ignores it where it isn't told
+abbrev pub IsPortRead : {H : Type 0} → (H → Shown → Result (Unit {0}) HookFault → H → Type 0) → H → Event → Option (Box Item) → Type 0
+IsPortRead step hook e None = step hook (ShownPort e) (Ok tt) hook
+IsPortRead step hook e (Some item) = item.value ≡ Passed e

@@ -4,10 +4,11 @@ ghost use Rattle.std.specs.Prelude.{◌≡◌, ◌<◌, ◌≤◌, length, IfOk}
 ghost use Rattle.apd_clauses.specs.Clauses.{IsProgram, tuples_of};
 ghost use Rattle.apd_trace.specs.declared.frame.Called.{Called};
 ghost use Rattle.apd_frames.specs.Kept.{Calls, MayCall};
+ghost use Rattle.apd_following.specs.Followed.{kept_of};
 ghost use Rattle.apd_engine.specs.Search.{AreFor, Found, OfGoal, PassesBy, Skips, numbers_by};
 
 use apd_clauses::Program;
-use apd_frames::frames::Frames;
+use apd_following::following::Following;
 use apd_term::{Pred, Sym};
 use std::alloc::{AllocError, Global};
 
@@ -21,12 +22,19 @@ pub fn numbers(program: &Program, pred: Option<Pred>) -> &[u32]
     }
 }
 
+/// So many clauses are tried one after another.
+const FEW: usize = 8;
+
 /// The place of the first of a predicate's clauses, from this one on, that isn't known to begin
-/// otherwise than the key says.
-fn next(program: &Program, pred: Option<Pred>, key: Sym, from: usize) -> usize
+/// otherwise than the key says. There are so many of them.
+#[tactic(auto, using(crate::proofs::Numbered::passes_none))]
+fn next(program: &Program, pred: Option<Pred>, key: Sym, from: usize, count: usize) -> usize
     ensures forward { from ≤ result }
     ensures passes { PassesBy program.now pred key from result }
 {
+    if count.saturating_sub(from) <= FEW {
+        return from;
+    }
     match pred {
         Some(pred) => program.next_place(pred, key, from),
         None => from,
@@ -36,7 +44,7 @@ fn next(program: &Program, pred: Option<Pred>, key: Sym, from: usize) -> usize
 /// Enters the first of these clauses from this index on that can be entered for the goal called in this box, and tells its
 /// index, or how many there are.
 pub fn find(
-    frames: &mut Frames,
+    frames: &mut Following,
     alloc: Global,
     box_no: u32,
     point: u32,
@@ -51,17 +59,19 @@ pub fn find(
     ensures skips { IfOk result (λ at. OfGoal frames.old.current box_no
         (λ g. Skips (tuples_of program.now) frames.old.current g point from at)) }
     ensures found { IfOk result (λ at. at < length numbers.now → OfGoal frames.old.current box_no
-        (λ g. Found (tuples_of program.now) g point at frames.old frames.new)) }
+        (λ g. Found (tuples_of program.now) g point at
+        (kept_of frames.old) (kept_of frames.new))) }
     ensures kept { IfOk result (λ at. length numbers.now ≤ at → frames.new ≡ frames.old) }
+    ensures tuples { frames.new.tuples ≡ frames.old.tuples }
 {
     let (pred, key) = (frames.predicate(), frames.key());
-    let mut at = next(program, pred, key, from);
+    let mut at = next(program, pred, key, from, numbers.len());
     'clauses: while at < numbers.len() {
         let clause = program.clause(numbers[at]);
         if frames.enter(alloc, box_no, numbers[at], &clause.tuple, point)? {
             return Ok(at);
         }
-        at = next(program, pred, key, at + 1);
+        at = next(program, pred, key, at + 1, numbers.len());
     }
     Ok(at)
 }

@@ -1,14 +1,20 @@
 //! What a search gives of an item, and the ports that it reads from its frames.
 
-ghost use Rattle.std.specs.Prelude.{◌≡◌, ◌≢◌, ◌<◌, length, IfOk};
+ghost use Rattle.std.specs.Prelude.{◌≡◌, ◌≢◌, ◌<◌, length, IfOk, OnOk};
+ghost use Rattle.apd_term.specs.Term.{Term, predicate_of};
+ghost use Rattle.apd_record.specs.Recorded.{is_user_atom};
 ghost use Rattle.apd_trace.specs.Trace.{at_port};
 ghost use Rattle.apd_trace.specs.declared.frame.Called.{Called};
 ghost use Rattle.apd_frames.specs.Kept.{Calls, MayCall};
-ghost use Rattle.apd_engine.specs.Search.{HasFailed, IsLeft};
-ghost use Rattle.apd_engine.specs.Given.{IsWhole, Makes, Tells};
+ghost use Rattle.apd_following.specs.Followed.{kept_of};
+ghost use Rattle.apd_engine.specs.Search.{Grows, HasFailed, IsLeft};
+ghost use Rattle.apd_engine.specs.Given.{IsWhole, Makes, TellsAlways};
 
-use apd_frames::frames::Frames;
+use apd_arith::Builtin;
+use apd_following::following::Following;
 use apd_ports::{Event, Port};
+use apd_record::ongoing::OpenPoint;
+use apd_term::Pred;
 use apd_trace::{Called, Item, Look, Step};
 use std::alloc::{AllocError, Global};
 use std::boxed::Box;
@@ -18,8 +24,19 @@ use std::boxed::Box;
 pub struct Unread {
     /// Ports. A Call is read with the points, where a record is made of them.
     pub ports: bool,
-    /// Points.
+    /// Points. Where they are read, each point and each goal that is called is kept.
     pub points: bool,
+}
+
+/// A goal that is called, kept.
+#[derive(Drop)]
+pub struct KeptCall {
+    /// The number of the kept tuple that the goal is the head of.
+    pub goal: u32,
+    /// Whether it is one of the program's, and not built in.
+    pub is_user: bool,
+    /// The port, where somebody reads ports.
+    pub port: Option<Box<Item>>,
 }
 
 /// What is given of an item.
@@ -29,8 +46,12 @@ pub enum Given {
     Whole(Box<Item>),
     /// A port and its box: its atom isn't written out.
     Port(Port, u32),
-    /// A point: it isn't written out.
+    /// A point: it isn't written out, and its instance isn't kept.
     Point,
+    /// A point whose instance is kept.
+    Kept(OpenPoint),
+    /// A Call whose goal is kept.
+    Call(KeptCall),
 }
 
 /// The item, given whole.
@@ -54,16 +75,27 @@ pub fn event(port: Port, g: Called) -> Item
     })
 }
 
+/// Whether a goal of this predicate is one of the program's, and not built in.
+pub fn is_user(pred: Option<Pred>) -> bool
+    ensures { (atom : Term) → pred ≡ predicate_of atom → result ≡ is_user_atom atom }
+{
+    match pred {
+        Some(pred) => Builtin::of(pred).is_none(),
+        None => true,
+    }
+}
+
 /// The innermost frame as a point; none exactly where its instance is too large.
 pub fn made(
-    frames: &mut Frames,
-    alloc: Global,
+    frames: &mut Following,
     before: Option<Step>,
     unread: Unread,
 ) -> Result<Option<Given>, AllocError>
     requires { 0 < length frames.old.current }
-    ensures made { IfOk result (λ o. Makes unread o frames.old.current before) }
-    ensures kept { frames.new ≡ frames.old }
+    ensures made { IfOk result
+        (λ o. Makes frames.new.tuples unread o frames.old.current before) }
+    ensures frames { kept_of frames.new ≡ kept_of frames.old }
+    ensures more { OnOk result (Grows frames.old.tuples frames.new.tuples) }
 {
     if unread.points {
         if !frames.fits()? {
@@ -71,15 +103,21 @@ pub fn made(
         }
         return Ok(Some(Given::Point));
     }
-    match frames.point(alloc, before)? {
-        Some(point) => Ok(Some(whole(alloc, Item::Made(point))?)),
+    match frames.keep()? {
         None => Ok(None),
+        Some(kept) => Ok(Some(Given::Kept(OpenPoint {
+            owner: kept.owner,
+            clause: kept.clause,
+            done: kept.done,
+            tuple: kept.tuple,
+            before,
+        }))),
     }
 }
 
 /// A port of the box that the innermost frame leaves, and the frame's newest point.
 pub fn leaving(
-    frames: &mut Frames,
+    frames: &mut Following,
     alloc: Global,
     port: Port,
     unread: Unread,
@@ -87,7 +125,7 @@ pub fn leaving(
     requires some { 0 < length frames.old.current }
     requires later { port ≢ Port.Call }
     ensures left { IfOk result
-        (λ x. Tells unread x.0 (IsLeft frames.old.current port x.1)) }
+        (λ x. TellsAlways unread x.0 (IsLeft frames.old.current port x.1)) }
     ensures kept { frames.new ≡ frames.old }
 {
     if !unread.ports {
@@ -102,7 +140,7 @@ pub fn leaving(
 
 /// Fail of the goal that the frames call in this box; what was saved for it is given up.
 pub fn fail(
-    frames: &mut Frames,
+    frames: &mut Following,
     alloc: Global,
     box_no: u32,
     unread: Unread,
@@ -110,8 +148,9 @@ pub fn fail(
     requires saved { 0 < length frames.old.saved }
     requires deep { MayCall frames.old.current }
     requires goal { (g : Called) × Calls frames.old.current box_no g }
-    ensures { IfOk result
-        (λ given. Tells unread given (HasFailed box_no frames.old frames.new)) }
+    ensures failed { IfOk result (λ given. TellsAlways unread given
+        (HasFailed box_no (kept_of frames.old) (kept_of frames.new))) }
+    ensures tuples { frames.new.tuples ≡ frames.old.tuples }
 {
     if unread.ports {
         frames.forget();

@@ -1,26 +1,30 @@
 //! A run on the way: it passes its items one by one, up to its limits.
 
-ghost use Rattle.std.specs.Prelude.{◌≡◌, ◌<◌, ◌≤◌, Some, MatchOption, IfNone, IfOk, IfErr};
+ghost use Rattle.std.specs.Prelude.{◌≡◌, ◌-◌, ◌<◌, ◌≤◌, ◌^◌, length, MatchOption, IfNone, Ok};
+ghost use Rattle.std.specs.Prelude.{OnOk, IfOk, IfErr};
 ghost use Rattle.apd_base.specs.Counts.{Counts};
 ghost use Rattle.apd_base.specs.declared.limits.TheConstants.{MOST_SHOWN};
 ghost use Rattle.apd_clauses.specs.Clauses.{IsProgram, IsRunnable, tuples_of};
-ghost use Rattle.apd_record.specs.Recorded.{query_point};
-ghost use Rattle.apd_ports.specs.declared.point.Point.{Point};
+ghost use Rattle.apd_record.specs.Open.{told_by, AreIn};
+ghost use Rattle.apd_record.specs.Sound.{IsKept};
+ghost use Rattle.apd_ports.specs.declared.hook.Shown.TheVariants.{Port as ShownPort, Answer as ShownAnswer};
 ghost use Rattle.apd_trace.specs.Run.{shown_of};
-ghost use Rattle.apd_trace.specs.declared.item.Item.TheVariants.{Made};
-ghost use Rattle.apd_engine.specs.Cut.{IsCut, is_write_fault};
-ghost use Rattle.apd_engine.specs.Progress.{Course, HasEnded, IsOn, at_first, items_left};
+ghost use Rattle.apd_engine.specs.Cut.{FailsAt, IsCut, is_write_fault};
+ghost use Rattle.apd_engine.specs.Progress.{Course, HasEnded, IsFirst, IsOn, items_left};
+ghost use Rattle.apd_engine.specs.Progress.{PassesAnswer, PassesLater};
+ghost use Rattle.apd_engine.specs.Recording.{HasRow, MayAdd, rows_held};
 
 use crate::given::{Given, Unread};
-use crate::recording::tell_bare;
+use crate::recording::tell_later;
 use crate::running::RunFault;
 use crate::search::Search;
-use crate::showing::{show_answer, show_port};
+use crate::showing::{show_answer, show_call, show_later};
 use apd_causes::{Ran, RunEnd};
 use apd_clauses::Program;
-use apd_ports::{Hook, Point};
+use apd_ports::{Event, Hook};
 use apd_record::Record;
-use apd_term::{Tuple, canonical_tuple};
+use apd_record::ongoing::{Open, OpenPoint};
+use apd_term::{Flat, Tuple};
 use apd_trace::Item;
 use std::alloc::{AllocError, Global};
 use std::boxed::Box;
@@ -32,43 +36,42 @@ pub struct Limits {
     pub answers: u32,
 }
 
-/// Where a run stands: its search, how many ports and answers were passed, and the point that is held back till a port or
-/// an answer is passed after it.
+/// Where a run stands: its search, what was recorded of it, how many ports and answers were passed, and the point that is
+/// held back till a port or an answer is passed after it.
 #[derive(Drop)]
 pub struct Progress {
     search: Search,
-    held: Option<Point>,
+    rows: Open,
+    held: Option<OpenPoint>,
     ports: u32,
     answered: u32,
-}
-
-/// The query's point.
-fn query_point(alloc: Global, query: &Tuple) -> Result<Point, AllocError>
-    ensures { IfOk result (λ p. p ≡ query_point query.now) }
-{
-    let tuple = canonical_tuple(alloc, query)?;
-    Ok(Point {
-        owner: 0,
-        clause: 0,
-        done: 0,
-        tuple,
-        before: None,
-    })
 }
 
 impl Progress {
     /// A run before its first item.
     pub fn open(alloc: Global, query: &Tuple) -> Result<Box<Progress>, AllocError>
         requires { IsRunnable query.now }
-        ensures { IfOk result (λ p. p.value ≡ at_first query.now) }
+        ensures { IfOk result (λ p. IsFirst query.now p.value) }
     {
+        let (search, point) = Search::open_kept(alloc, query)?;
         let first = Progress {
-            held: Some(query_point(alloc, query)?),
-            search: Search::open(alloc, query)?,
+            search,
+            rows: Open::new(alloc),
+            held: Some(point),
             ports: 0,
             answered: 0,
         };
         Ok(Box::new(alloc, first)?)
+    }
+
+    /// The record of the run, which is over.
+    pub fn into_record(self) -> Record
+        requires sound { IsKept (told_by self.search.frames.tuples self.rows) }
+        requires there { AreIn self.search.frames.tuples self.rows }
+        ensures { result ≡ told_by self.search.frames.tuples self.rows }
+    {
+        let Progress { search, rows, .. } = self;
+        Record::close(rows, search.into_kept())
     }
 
     /// The run ends so here.
@@ -83,14 +86,54 @@ impl Progress {
         }
     }
 
-    /// The point that an item makes is held back.
-    fn hold(&mut self, item: Box<Item>)
-        ensures { (point : Point) → item.value ≡ Made point
-            → self.new ≡ record self.old { held = Some point } }
+    /// Passes a port other than Call; or tells that the budget is spent, and passes nothing.
+    fn pass_later<H: Hook>(
+        &mut self,
+        limits: Limits,
+        hook: &mut H,
+        event: &Event,
+    ) -> Result<Option<Ran>, RunFault>
+        requires within { self.old.ports ≤ limits.budget }
+        requires budget_limit { limits.budget ≤ MOST_SHOWN }
+        requires held { self.old.ports < limits.budget → MayAdd self.old.rows self.old.held }
+        requires there { self.old.ports < limits.budget →
+            HasRow (rows_held self.old.rows self.old.held) event.now.box_no }
+        requires few_points { length self.old.rows.points < 2 ^ 32 - 1 }
+        ensures passed { IfOk result (λ o. PassesLater H.step limits self.old hook.old event.now
+            self.new hook.new o) }
+        ensures cut { IfErr result (λ fault. (self.old.ports < limits.budget)
+            × FailsAt H.step hook.old (ShownPort event.now) hook.new fault) }
+        ensures cause { Counts is_write_fault (H.faults hook.old) (H.faults hook.new) result }
     {
-        if let Item::Made(point) = Box::into_inner(item) {
-            self.held = Some(point);
+        if self.ports == limits.budget {
+            return Ok(Some(self.ended(RunEnd::Budget)));
         }
+        show_later(hook, &mut self.rows, &mut self.held, event)?;
+        self.ports += 1;
+        Ok(None)
+    }
+
+    /// Passes an answer, and tells where it is the last that is asked for.
+    fn pass_answer<H: Hook>(
+        &mut self,
+        limits: Limits,
+        hook: &mut H,
+        values: &Flat,
+    ) -> Result<Option<Ran>, RunFault>
+        requires below { self.old.answered < limits.answers }
+        requires held { MayAdd self.old.rows self.old.held }
+        requires few_points { length self.old.rows.points < 2 ^ 32 - 1 }
+        ensures answered { IfOk result (λ o. PassesAnswer limits self.old self.new o) }
+        ensures shown { OnOk result (H.step hook.old (ShownAnswer values.now) (Ok tt) hook.new) }
+        ensures cut { IfErr result (FailsAt H.step hook.old (ShownAnswer values.now) hook.new) }
+        ensures cause { Counts is_write_fault (H.faults hook.old) (H.faults hook.new) result }
+    {
+        show_answer(hook, &mut self.rows, &mut self.held, values)?;
+        self.answered += 1;
+        if self.answered == limits.answers {
+            return Ok(Some(self.ended(RunEnd::AnswerLimit)));
+        }
+        Ok(None)
     }
 
     /// Passes the next item; or tells how the run ended, where it passes no more after this.
@@ -100,18 +143,17 @@ impl Progress {
         program: &Program,
         limits: Limits,
         hook: &mut H,
-        history: &mut Record,
     ) -> Result<Option<Ran>, RunFault>
         ghost course: { Course H }
         requires program { IsProgram program.now }
         requires budget_limit { limits.budget ≤ MOST_SHOWN }
         requires answers_limit { limits.answers ≤ MOST_SHOWN }
         requires on { IsOn H.step H.faults course (tuples_of program.now) limits
-            self.old hook.old history.old }
+            self.old hook.old }
         ensures passed { IfOk result (λ o. MatchOption o
             (IsOn H.step H.faults course (tuples_of program.now) limits
-            self.new hook.new history.new)
-            (λ ran. HasEnded H.step course hook.new history.new ran)) }
+            self.new hook.new)
+            (λ ran. HasEnded H.step course self.new hook.new ran)) }
         ensures nearer { IfOk result (λ o. IfNone o
             (items_left limits self.new < items_left limits self.old)) }
         ensures cut { IfErr result
@@ -127,35 +169,30 @@ impl Progress {
         };
         match given {
             Given::Whole(item) => match &*item {
-                Item::Made(_) => {
-                    self.hold(item);
-                    Ok(None)
-                }
+                Item::Made(_) => unreachable!(),
                 Item::Error(error, at) => Ok(Some(self.ended(RunEnd::Error(*error, *at)))),
-                Item::Passed(event) => {
-                    if self.ports == limits.budget {
-                        return Ok(Some(self.ended(RunEnd::Budget)));
-                    }
-                    let from = self.search.newest();
-                    show_port(hook, history, &mut self.held, event, from)?;
-                    self.ports += 1;
-                    Ok(None)
-                }
-                Item::Answer(values) => {
-                    show_answer(hook, history, &mut self.held, values)?;
-                    self.answered += 1;
-                    if self.answered == limits.answers {
-                        return Ok(Some(self.ended(RunEnd::AnswerLimit)));
-                    }
-                    Ok(None)
-                }
+                Item::Passed(event) => self.pass_later(limits, hook, event),
+                Item::Answer(values) => self.pass_answer(limits, hook, values),
             },
             Given::Point => unreachable!(),
+            Given::Kept(point) => {
+                self.held = Some(point);
+                Ok(None)
+            }
+            Given::Call(call) => {
+                if self.ports == limits.budget {
+                    return Ok(Some(self.ended(RunEnd::Budget)));
+                }
+                let from = self.search.newest();
+                show_call(hook, &mut self.rows, &mut self.held, call, from)?;
+                self.ports += 1;
+                Ok(None)
+            }
             Given::Port(port, box_no) => {
                 if self.ports == limits.budget {
                     return Ok(Some(self.ended(RunEnd::Budget)));
                 }
-                tell_bare(history, &mut self.held, port, box_no)?;
+                tell_later(&mut self.rows, &mut self.held, port, box_no)?;
                 self.ports += 1;
                 Ok(None)
             }
@@ -169,21 +206,20 @@ impl Progress {
         program: &Program,
         limits: Limits,
         hook: &mut H,
-        history: &mut Record,
     ) -> Result<Ran, RunFault>
         ghost course: { Course H }
         requires program { IsProgram program.now }
         requires budget_limit { limits.budget ≤ MOST_SHOWN }
         requires answers_limit { limits.answers ≤ MOST_SHOWN }
         requires on { IsOn H.step H.faults course (tuples_of program.now) limits
-            self.old hook.old history.old }
-        ensures ended { IfOk result (λ ran. HasEnded H.step course hook.new history.new ran) }
+            self.old hook.old }
+        ensures ended { IfOk result (λ ran. HasEnded H.step course self.new hook.new ran) }
         ensures cut { IfErr result
             (IsCut H.step course.start (shown_of course.run.passed) hook.new) }
         ensures cause { Counts is_write_fault (H.faults course.start) (H.faults hook.new) result }
     {
         'items: loop {
-            if let Some(ran) = self.pass(alloc, program, limits, hook, history)? {
+            if let Some(ran) = self.pass(alloc, program, limits, hook)? {
                 return Ok(ran);
             }
         }

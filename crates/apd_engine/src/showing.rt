@@ -2,38 +2,85 @@
 
 ghost use Rattle.std.specs.Prelude.{◌≡◌, ◌-◌, ◌<◌, ◌^◌, length, None, Ok, OnOk, IfErr};
 ghost use Rattle.apd_base.specs.Counts.{Counts};
-ghost use Rattle.apd_recorded.specs.Told.{told_port};
+ghost use Rattle.apd_record.specs.Open.{noted_row, with_box_row};
+ghost use Rattle.apd_ports.specs.declared.event.Event.{Event};
 ghost use Rattle.apd_ports.specs.declared.hook.Shown.TheVariants.{Port as ShownPort, Answer as ShownAnswer};
 ghost use Rattle.apd_engine.specs.Cut.{FailsAt, is_write_fault};
-ghost use Rattle.apd_engine.specs.Recording.{newest, told_held, MayPass, MayBeToldHeld};
+ghost use Rattle.apd_engine.specs.Given.{IsPortRead};
+ghost use Rattle.apd_engine.specs.Recording.{HasRow, MayAdd, rows_held};
 
-use crate::recording::{tell, tell_answer};
+use crate::given::KeptCall;
+use crate::recording::{tell_answer, tell_call, tell_later};
 use crate::running::RunFault;
-use apd_ports::{Event, Hook, Point, PointId};
-use apd_record::Record;
+use apd_ports::{Event, Hook, PointId};
+use apd_record::ongoing::{Open, OpenPoint};
 use apd_term::Flat;
+use apd_trace::Item;
+use std::boxed::Box;
 
-/// A port is passed, after a point that was held back. The newest point then has this number.
-pub fn show_port<H: Hook>(
+/// The Call is shown, where somebody reads ports.
+fn show_read<H: Hook>(hook: &mut H, port: Option<Box<Item>>) -> Result<(), RunFault>
+    ensures shown { (e : Event) → IsPortRead H.step hook.old e port →
+        OnOk result (H.step hook.old (ShownPort e) (Ok tt) hook.new) }
+    ensures cut { (e : Event) → IsPortRead H.step hook.old e port →
+        IfErr result (FailsAt H.step hook.old (ShownPort e) hook.new) }
+    ensures cause { Counts is_write_fault (H.faults hook.old) (H.faults hook.new) result }
+{
+    match port {
+        None => Ok(()),
+        Some(item) => match &*item {
+            Item::Passed(event) => {
+                hook.event(event)?;
+                Ok(())
+            }
+            _ => Ok(()),
+        },
+    }
+}
+
+/// A goal is called, after a point that was held back. The newest point then has this number.
+pub fn show_call<H: Hook>(
     hook: &mut H,
-    history: &mut Record,
-    held: &mut Option<Point>,
-    event: &Event,
+    rows: &mut Open,
+    held: &mut Option<OpenPoint>,
+    call: KeptCall,
     from: PointId,
 ) -> Result<(), RunFault>
-    requires held { MayBeToldHeld history.old held.old }
-    requires may { MayPass (told_held history.old held.old) event.now event.now.port }
-    requires from { from.0 ≡ newest (told_held history.old held.old) }
-    requires few_points { length history.old.points < 2 ^ 32 - 1 }
-    requires few_boxes { length history.old.boxes < 2 ^ 32 - 1 }
-    ensures told { OnOk result
-        (history.new ≡ told_port (told_held history.old held.old) event.now event.now.port) }
+    requires held { MayAdd rows.old held.old }
+    requires from { from.0 < length (rows_held rows.old held.old).points }
+    requires few_points { length rows.old.points < 2 ^ 32 - 1 }
+    requires few_boxes { length rows.old.boxes < 2 ^ 32 - 1 }
+    ensures told { OnOk result (rows.new ≡
+        with_box_row (rows_held rows.old held.old) call.goal from.0 call.is_user) }
+    ensures none { held.new ≡ None }
+    ensures shown { (e : Event) → IsPortRead H.step hook.old e call.port →
+        OnOk result (H.step hook.old (ShownPort e) (Ok tt) hook.new) }
+    ensures cut { (e : Event) → IsPortRead H.step hook.old e call.port →
+        IfErr result (FailsAt H.step hook.old (ShownPort e) hook.new) }
+    ensures cause { Counts is_write_fault (H.faults hook.old) (H.faults hook.new) result }
+{
+    tell_call(rows, held, call.goal, call.is_user, from)?;
+    show_read(hook, call.port)
+}
+
+/// A port other than Call is passed, after a point that was held back.
+pub fn show_later<H: Hook>(
+    hook: &mut H,
+    rows: &mut Open,
+    held: &mut Option<OpenPoint>,
+    event: &Event,
+) -> Result<(), RunFault>
+    requires held { MayAdd rows.old held.old }
+    requires there { HasRow (rows_held rows.old held.old) event.now.box_no }
+    requires few_points { length rows.old.points < 2 ^ 32 - 1 }
+    ensures told { OnOk result (rows.new ≡
+        noted_row (rows_held rows.old held.old) event.now.box_no event.now.port) }
     ensures none { held.new ≡ None }
     ensures shown { OnOk result (H.step hook.old (ShownPort event.now) (Ok tt) hook.new) }
     ensures cut { IfErr result (FailsAt H.step hook.old (ShownPort event.now) hook.new) }
     ensures cause { Counts is_write_fault (H.faults hook.old) (H.faults hook.new) result }
 {
-    tell(history, held, event, from)?;
+    tell_later(rows, held, event.port, event.box_no)?;
     hook.event(event)?;
     Ok(())
 }
@@ -41,19 +88,19 @@ pub fn show_port<H: Hook>(
 /// An answer is given, after a point that was held back.
 pub fn show_answer<H: Hook>(
     hook: &mut H,
-    history: &mut Record,
-    held: &mut Option<Point>,
+    rows: &mut Open,
+    held: &mut Option<OpenPoint>,
     values: &Flat,
 ) -> Result<(), RunFault>
-    requires held { MayBeToldHeld history.old held.old }
-    requires few_points { length history.old.points < 2 ^ 32 - 1 }
-    ensures told { OnOk result (history.new ≡ told_held history.old held.old) }
+    requires held { MayAdd rows.old held.old }
+    requires few_points { length rows.old.points < 2 ^ 32 - 1 }
+    ensures told { OnOk result (rows.new ≡ rows_held rows.old held.old) }
     ensures none { held.new ≡ None }
     ensures shown { OnOk result (H.step hook.old (ShownAnswer values.now) (Ok tt) hook.new) }
     ensures cut { IfErr result (FailsAt H.step hook.old (ShownAnswer values.now) hook.new) }
     ensures cause { Counts is_write_fault (H.faults hook.old) (H.faults hook.new) result }
 {
-    tell_answer(history, held)?;
+    tell_answer(rows, held)?;
     hook.answer(values)?;
     Ok(())
 }

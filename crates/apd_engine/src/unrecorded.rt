@@ -7,7 +7,7 @@ ghost use Rattle.apd_clauses.specs.Clauses.{IsProgram, IsRunnable, tuples_of};
 ghost use Rattle.apd_trace.specs.Run.{shown_of};
 ghost use Rattle.apd_engine.specs.Cut.{IsCut, is_write_fault};
 ghost use Rattle.apd_engine.specs.Progress.{Course};
-ghost use Rattle.apd_engine.specs.Unrecorded.{HasShown, IsShowing, first_shown, items_ahead};
+ghost use Rattle.apd_engine.specs.Unrecorded.{HasShown, IsFirstShown, IsShowing, items_ahead};
 
 use crate::given::{Given, Unread};
 use crate::progress::Limits;
@@ -33,7 +33,7 @@ impl Unrecorded {
     /// A run before its first item.
     pub fn open(alloc: Global, query: &Tuple) -> Result<Box<Unrecorded>, AllocError>
         requires { IsRunnable query.now }
-        ensures { IfOk result (λ p. p.value ≡ first_shown query.now) }
+        ensures { IfOk result (λ p. IsFirstShown query.now p.value) }
     {
         let first = Unrecorded {
             search: Search::open(alloc, query)?,
@@ -107,6 +107,8 @@ impl Unrecorded {
                 }
             },
             Given::Point => Ok(None),
+            Given::Kept(_) => unreachable!(),
+            Given::Call(_) => unreachable!(),
             Given::Port(_, _) => {
                 if self.ports == limits.budget {
                     return Ok(Some(self.ended(RunEnd::Budget)));

@@ -6,7 +6,9 @@ mod beside;
 mod guesses;
 mod kept;
 pub mod laws;
+pub mod ongoing;
 pub mod record;
+mod room;
 pub mod rows;
 mod slot;
 

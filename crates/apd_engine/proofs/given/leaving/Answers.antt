@@ -6,4 +6,4 @@ pub unreachable-requires : goal.unreachable-requires
 unreachable-requires c = some_newest c.args.frames.now.current c.requires.some (sym c.in-None.ensures)
 
 pub returns-clause-left : goal.returns-clause-left
-returns-clause-left c = tells_left c.args.unread c.args.port c.args.frames.now.current c.in-Some.box_no c.in-Some.point c.if-not-unread.false c.requires.later (sym c.in-Some.ensures)
+returns-clause-left c = λ kept. tells_left kept c.args.unread c.args.port c.args.frames.now.current c.in-Some.box_no c.in-Some.point c.if-not-unread.false c.requires.later (sym c.in-Some.ensures)

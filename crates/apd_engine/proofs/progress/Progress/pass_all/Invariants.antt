@@ -6,7 +6,7 @@ abbrev pub ghost-pass : goal.ghost-pass
 ghost-pass g a = g.course
 
 abbrev pub invariant-items : goal.invariant-items
-invariant-items g l = IsOn g.H.Hook.step g.H.Hook.faults g.course (tuples_of l.program) l.limits l.self l.hook l.history
+invariant-items g l = IsOn g.H.Hook.step g.H.Hook.faults g.course (tuples_of l.program) l.limits l.self l.hook
 
 abbrev pub decreases-items : goal.decreases-items
 decreases-items g l = items_left l.limits l.self

@@ -1,22 +1,25 @@
 use Rattle.std.proofs.Common.{sym, subst, Some}
 use Rattle.apd_clauses.specs.Clauses.{tuples_of}
 use Rattle.apd_engine.specs.declared.search.Mode.TheVariants.{Forward, Leave}
-use Rattle.apd_engine.specs.Search.{Gives, GivesAlways, GivesOrEnds, in_mode}
-use Rattle.apd_engine.proofs.Telling.{tells_weaker}
+use Rattle.apd_engine.specs.Search.{Gives, GivesAlways, GivesOrEnds, in_mode, stand}
+use Rattle.apd_engine.proofs.Telling.{grows_same, tells_weaker}
 use Rattle.apd_engine.proofs.search.Search.next.Goals as goal
 
-pub returns-in_ok-forward-in-Forward : goal.returns-in_ok-forward-in-Forward
-returns-in_ok-forward-in-Forward c =
-    let s = c.args.self.now in
+pub returns-in_ok-forward-in-Forward-clause-told : goal.returns-in_ok-forward-in-Forward-clause-told
+returns-in_ok-forward-in-Forward-clause-told c =
+    let s = stand c.args.self.now in
     let P = tuples_of c.args.program.now in
-    tells_weaker c.args.unread c.in_ok-forward-in-Forward.field-0 (GivesAlways (in_mode Forward s) c.forward.new.self) (λ i. GivesOrEnds P s c.forward.new.self (Some i))
-    (λ i gives. subst (λ mode. Gives P mode s.frames s.stack s.boxes s.points i c.forward.new.self) (sym c.in-Forward.is) (gives P))
-    c.in_ok-forward-in-Forward.ensures
+    tells_weaker c.forward.new.self.frames.tuples c.args.unread c.in_ok-forward-in-Forward.field-0 (GivesAlways (in_mode Forward s) (stand c.forward.new.self)) (λ i. GivesOrEnds P s (stand c.forward.new.self) (Some i))
+    (λ i gives. subst (λ mode. Gives P mode s.frames s.stack s.boxes s.points i (stand c.forward.new.self)) (sym c.in-Forward.is) (gives P))
+    c.in_ok-forward-in-Forward.ensures.told
 
-pub returns-in_ok-leave-in-Leave : goal.returns-in_ok-leave-in-Leave
-returns-in_ok-leave-in-Leave c =
-    let s = c.args.self.now in
+pub returns-in_ok-leave-in-Leave-clause-told : goal.returns-in_ok-leave-in-Leave-clause-told
+returns-in_ok-leave-in-Leave-clause-told c =
+    let s = stand c.args.self.now in
     let P = tuples_of c.args.program.now in
-    tells_weaker c.args.unread c.in_ok-leave-in-Leave.field-0 (GivesAlways (in_mode Leave s) c.leave.new.self) (λ i. GivesOrEnds P s c.leave.new.self (Some i))
-    (λ i gives. subst (λ mode. Gives P mode s.frames s.stack s.boxes s.points i c.leave.new.self) (sym c.in-Leave.is) (gives P))
-    c.in_ok-leave-in-Leave.ensures
+    tells_weaker c.leave.new.self.frames.tuples c.args.unread c.in_ok-leave-in-Leave.field-0 (GivesAlways (in_mode Leave s) (stand c.leave.new.self)) (λ i. GivesOrEnds P s (stand c.leave.new.self) (Some i))
+    (λ i gives. subst (λ mode. Gives P mode s.frames s.stack s.boxes s.points i (stand c.leave.new.self)) (sym c.in-Leave.is) (gives P))
+    (c.in_ok-leave-in-Leave.ensures.told c.leave.new.self.frames.tuples)
+
+pub returns-in_ok-leave-in-Leave-clause-more : goal.returns-in_ok-leave-in-Leave-clause-more
+returns-in_ok-leave-in-Leave-clause-more c = grows_same c.in_ok-leave-in-Leave.ensures.tuples

@@ -2,22 +2,22 @@ use Rattle.std.proofs.Common.{refl, inl}
 use Rattle.std.proofs.lemmas.Result.{err_from_is_err_and}
 use Rattle.apd_ports.specs.declared.hook.Shown.TheVariants.{Port}
 use Rattle.apd_engine.proofs.Faults.{hook_fails, hook_counts}
-use Rattle.apd_engine.proofs.showing.show_port.Goals as goal
+use Rattle.apd_engine.proofs.showing.show_later.Goals as goal
 
-pub returns-in_err-tell-clause-told : goal.returns-in_err-tell-clause-told
-returns-in_err-tell-clause-told g c =
+pub returns-in_err-tell_later-clause-told : goal.returns-in_err-tell_later-clause-told
+returns-in_err-tell_later-clause-told g c =
     let p = err_from_is_err_and c.from_residual.result c.from_residual.ensures.1 in rw p.1 tt
 
-pub returns-in_err-tell-clause-shown : goal.returns-in_err-tell-clause-shown
-returns-in_err-tell-clause-shown g c =
+pub returns-in_err-tell_later-clause-shown : goal.returns-in_err-tell_later-clause-shown
+returns-in_err-tell_later-clause-shown g c =
     let p = err_from_is_err_and c.from_residual.result c.from_residual.ensures.1 in rw p.1 tt
 
-pub returns-in_err-tell-clause-cut : goal.returns-in_err-tell-clause-cut
-returns-in_err-tell-clause-cut g c =
+pub returns-in_err-tell_later-clause-cut : goal.returns-in_err-tell_later-clause-cut
+returns-in_err-tell_later-clause-cut g c =
     let p = err_from_is_err_and c.from_residual.result c.from_residual.ensures.1 in rw (p.1, p.2) (inl refl)
 
-pub returns-in_err-tell-clause-cause : goal.returns-in_err-tell-clause-cause
-returns-in_err-tell-clause-cause g c =
+pub returns-in_err-tell_later-clause-cause : goal.returns-in_err-tell_later-clause-cause
+returns-in_err-tell_later-clause-cause g c =
     let p = err_from_is_err_and c.from_residual.result c.from_residual.ensures.1 in rw (p.1, p.2) refl
 
 pub returns-in_err-event-clause-told : goal.returns-in_err-event-clause-told

@@ -1,0 +1,239 @@
+-- Rows of a search that goes on: what stands beside them stays right, and what record they tell.
+use Rattle.std.proofs.Common.{◌≡◌, ℕ, zero, suc, ◌+◌, ◌-◌, ◌^◌, ◌<◌, ◌≤◌, ◌==◌, Bool, false, List, [], ◌∷◌, ◌++◌, length, map, get_or, not, Option, Some, refl, ap, sym, subst, ◌∙◌, arith, inl, inr, length-append}
+use Rattle.std.specs.Prelude.{nat_lt, slice_get, All}
+use Rattle.std.proofs.lemmas.List.{get_or_append_left, length-map, map-append}
+use Rattle.std.proofs.lemmas.List.Elements.{All-nil, All-head, All-tail, All-weaker}
+use Rattle.std.proofs.lemmas.Option.{get_or_from_slice_get, slice_get_within}
+use Rattle.apd_term.specs.Term.{Term}
+use Rattle.apd_term.specs.declared.tuple.Tuple.{Tuple}
+use Rattle.apd_ports.specs.declared.event.Port.{Port}
+use Rattle.apd_ports.specs.declared.event.Port.TheVariants.{Call}
+use Rattle.apd_ports.specs.declared.point.Point.{Point}
+use Rattle.apd_tuples.specs.Tuples.{IsNumbered}
+use Rattle.apd_record.specs.declared.beside.Owned.{Owned}
+use Rattle.apd_record.specs.declared.beside.Links.{Links}
+use Rattle.apd_record.specs.declared.kept.AtomPlace.{AtomPlace}
+use Rattle.apd_record.specs.declared.kept.AtomPlace.TheVariants.{Written, Kept}
+use Rattle.apd_record.specs.declared.kept.KeptBox.{KeptBox}
+use Rattle.apd_record.specs.declared.kept.KeptPoint.{KeptPoint}
+use Rattle.apd_record.specs.declared.kept.TuplePlace.{TuplePlace}
+use Rattle.apd_record.specs.declared.kept.TuplePlace.TheVariants.{Written as Spanned, Kept as Held}
+use Rattle.apd_record.specs.declared.ongoing.OpenPoint.{OpenPoint}
+use Rattle.apd_record.specs.Beside.{earlier_of, edited, linked, owning, with_child}
+use Rattle.apd_record.specs.Index.{is_exit, IsBelow, IsIndex, IsWithin}
+use Rattle.apd_record.specs.Kept.{atom_there, box_from, kept_passed, no_tuple, point_from, tuple_there, IsAtomThere, IsHeld, IsTupleThere}
+use Rattle.apd_record.specs.Open.{blank_point, blank_tuple, blanked, box_row, made_point, no_rows, noted_row, point_row, told_by, variables_for, with_box_row, with_point_row, AreIn, IsBeside, Rows}
+use Rattle.apd_record.specs.Recorded.{Recorded, BoxRow, is_user_atom, noted, opened, with_point}
+use Rattle.apd_record.specs.Sound.{IsKept}
+use Rattle.apd_record.proofs.Indexed.{box_index, nothing, nowhere, point_index}
+use Rattle.apd_record.proofs.KeptRows.{passed_rows, rows_box, rows_edited, rows_point}
+use Rattle.apd_record.proofs.Places.{length-edited, length-points, slice_get-push}
+use Rattle.apd_record.proofs.Shaped.{from_of, index_same, shape, within_same, Shape}
+
+-- Numbers that are there.
+
+within_box : (R : Recorded) (row : BoxRow) → IsWithin R → row.from < length R.points → IsWithin (record { boxes = R.boxes ++ row ∷ []; points = R.points })
+within_box R row h l =
+    let n : length (R.boxes ++ row ∷ []) ≡ length R.boxes + 1 = length-points R.boxes row in
+    record {
+      owner = λ p x at. omega (arith, h.owner p x at, n);
+      later = h.later;
+      from = λ i r at. elim (slice_get-push R.boxes row i r at) [ inl e ↦ h.from i r e | inr e ↦ subst (λ (b : BoxRow). b.from < length R.points) e.1 l ];
+    }
+
+within_point : (R : Recorded) (x : Point) → IsWithin R → x.owner ≤ length R.boxes → IsBelow (length R.points) x.before → IsWithin (with_point R x)
+within_point R x h o b =
+    let n : length (R.points ++ x ∷ []) ≡ length R.points + 1 = length-points R.points x in
+    record {
+      owner = λ p y at. elim (slice_get-push R.points x p y at) [ inl e ↦ h.owner p y e | inr e ↦ subst (λ (z : Point). z.owner ≤ length R.boxes) e.1 o ];
+      later = λ p y at. elim (slice_get-push R.points x p y at) [ inl e ↦ h.later p y e | inr e ↦ subst (λ k. IsBelow k y.before) (sym e.0) (subst (λ (z : Point). IsBelow (length R.points) z.before) e.1 b) ];
+      from = λ i r at. omega (arith, h.from i r at, n);
+    }
+
+-- Rows.
+
+pub beside_box : (r : Rows) (o os : List Owned) (l ls : List Links) (row : KeptBox) (bs : List KeptBox) → IsBeside r o l → row.from < length r.points → length r.boxes < 2 ^ 32 - 1
+    → bs ≡ r.boxes ++ row ∷ [] → os ≡ o ++ nothing ∷ [] → ls ≡ edited (with_child (length r.boxes)) l row.from → IsBeside (record { boxes = bs; points = r.points }) os ls
+beside_box r o os l ls row bs h from few be oe le =
+    let n : length (blanked r).boxes ≡ length r.boxes = length-map r.boxes (box_from [] []) in
+    let m : length (blanked r).points ≡ length r.points = length-map r.points blank_point in
+    let there : row.from < length (blanked r).points = omega (arith, from, m) in
+    let more : map (box_from [] []) (r.boxes ++ row ∷ []) ≡ map (box_from [] []) r.boxes ++ box_from [] [] row ∷ [] = map-append (box_from [] []) r.boxes (row ∷ []) in
+    rw (be, oe, le)
+    (record {
+      boxes = omega (arith, few, length-points r.boxes row);
+      points = h.points;
+      within = subst (λ (rows : List BoxRow). IsWithin (record { boxes = rows; points = (blanked r).points })) (sym more) (within_box (blanked r) (box_from [] [] row) h.within there);
+      index =
+          subst (λ (rows : List BoxRow). IsIndex (record { boxes = rows; points = (blanked r).points }) (o ++ nothing ∷ []) (edited (with_child (length r.boxes)) l row.from)) (sym more)
+          (subst (λ k. IsIndex (record { boxes = (blanked r).boxes ++ box_from [] [] row ∷ []; points = (blanked r).points }) (o ++ nothing ∷ []) (edited (with_child k) l row.from)) n
+          (box_index (blanked r) o l h.within h.index (box_from [] [] row)));
+    })
+
+pub beside_point : (r : Rows) (o os : List Owned) (l ls : List Links) (x : KeptPoint) (xs : List KeptPoint) (e : Option ℕ) → IsBeside r o l → x.owner ≤ length r.boxes → IsBelow (length r.points) x.before → length r.points < 2 ^ 32 - 1
+    → ((d : Owned) → slice_get o x.owner ≡ Some d → e ≡ earlier_of (x.done == 0) d) → xs ≡ r.points ++ x ∷ []
+    → os ≡ edited (owning (length r.points) (x.done == 0) (is_exit (blank_point x))) o x.owner → ls ≡ linked x.before (length r.points) (l ++ nowhere e ∷ []) → IsBeside (record { boxes = r.boxes; points = xs }) os ls
+beside_point r o os l ls x xs e h owner below few earlier xe oe le =
+    let n : length (blanked r).boxes ≡ length r.boxes = length-map r.boxes (box_from [] []) in
+    let m : length (blanked r).points ≡ length r.points = length-map r.points blank_point in
+    let there : x.owner ≤ length (blanked r).boxes = omega (arith, owner, n) in
+    let more : map blank_point (r.points ++ x ∷ []) ≡ map blank_point r.points ++ blank_point x ∷ [] = map-append blank_point r.points (x ∷ []) in
+    rw (xe, oe, le)
+    (record {
+      boxes = h.boxes;
+      points = omega (arith, few, length-points r.points x);
+      within = subst (λ (ps : List Point). IsWithin (record { boxes = (blanked r).boxes; points = ps })) (sym more) (within_point (blanked r) (blank_point x) h.within there (subst (λ k. IsBelow k x.before) (sym m) below));
+      index =
+          subst (λ (ps : List Point). IsIndex (record { boxes = (blanked r).boxes; points = ps }) (edited (owning (length r.points) (x.done == 0) (is_exit (blank_point x))) o x.owner) (linked x.before (length r.points) (l ++ nowhere e ∷ []))) (sym more)
+          (subst (λ k. IsIndex (with_point (blanked r) (blank_point x)) (edited (owning k (x.done == 0) (is_exit (blank_point x))) o x.owner) (linked x.before k (l ++ nowhere e ∷ []))) m
+          (point_index (blanked r) o l h.within h.index (blank_point x) there e earlier));
+    })
+
+froms_passed : (port : Port) (i : ℕ) (bs : List KeptBox) → map from_of (map (box_from [] []) (edited (kept_passed port) bs i)) ≡ map from_of (map (box_from [] []) bs)
+froms_passed port i [] = refl
+froms_passed port zero (b ∷ bs) = refl
+froms_passed port (suc i) (b ∷ bs) = ap (λ ns. b.from ∷ ns) (froms_passed port i bs)
+
+pub beside_noted : (r : Rows) (o : List Owned) (l : List Links) (port : Port) (i : ℕ) (bs : List KeptBox) → IsBeside r o l → bs ≡ edited (kept_passed port) r.boxes i → IsBeside (record { boxes = bs; points = r.points }) o l
+beside_noted r o l port i bs h e =
+    let froms : map from_of (map (box_from [] []) (edited (kept_passed port) r.boxes i)) ≡ map from_of (map (box_from [] []) r.boxes) = froms_passed port i r.boxes in
+    let R : Recorded = record { boxes = map (box_from [] []) (edited (kept_passed port) r.boxes i); points = map blank_point r.points } in
+    rw e
+    (record {
+      boxes = omega (arith, h.boxes, length-edited (kept_passed port) r.boxes i);
+      points = h.points;
+      within = within_same R (blanked r) froms refl h.within;
+      index = index_same R (blanked r) froms refl o l h.index;
+    })
+
+pub noted_as : (r : Rows) (n : ℕ) (port : Port) → 0 < n → record { boxes = edited (kept_passed port) r.boxes (n - 1); points = r.points } ≡ noted_row r n port
+noted_as r zero port l = absurd (omega arith)
+noted_as r (suc i) port l = let e : suc i - 1 ≡ i = omega arith in ap (λ k. record { boxes = edited (kept_passed port) r.boxes k; points = r.points }) e
+
+-- The record that is closed.
+
+length-variables : (n : ℕ) → length (variables_for n) ≡ n
+length-variables zero = refl
+length-variables (suc n) = omega (arith, length-variables n)
+
+pub exit_of : (p : OpenPoint) → is_exit (blank_point (point_row p)) ≡ not (nat_lt p.done p.tuple.goals)
+exit_of p = ap (λ n. not (nat_lt p.done n)) (length-variables p.tuple.goals)
+
+same_goals : (kept : List Tuple) (at : TuplePlace) → IsTupleThere 0 kept at → length (tuple_there [] kept at).body ≡ length (blank_tuple at).body
+same_goals kept (Spanned s) h = absurd (omega (arith, h))
+same_goals kept (Held k) h =
+    ap (λ (t : Tuple). length t.body) (get_or_from_slice_get kept k.number h.tuple no_tuple h.there) ∙ sym h.goals ∙ sym (length-variables k.goals)
+
+abbrev with_exit : KeptPoint → Bool → Shape
+with_exit x b = record { owner = x.owner; done = x.done; is_exit = b; before = x.before }
+
+same_shapes : (kept : List Tuple) (xs : List KeptPoint) → All (λ (x : KeptPoint). IsTupleThere 0 kept x.tuple) xs → map shape (map (point_from [] kept) xs) ≡ map shape (map blank_point xs)
+same_shapes kept [] h = refl
+same_shapes kept (x ∷ xs) h =
+    let P : KeptPoint → Type 0 = λ x. IsTupleThere 0 kept x.tuple in
+    ap (λ n. with_exit x (not (nat_lt x.done n)) ∷ map shape (map (point_from [] kept) xs)) (same_goals kept x.tuple (All-head P x xs h))
+    ∙ ap (λ ss. shape (blank_point x) ∷ ss) (same_shapes kept xs (All-tail P x xs h))
+
+same_froms : (kept : List Tuple) (bs : List KeptBox) → map from_of (map (box_from [] kept) bs) ≡ map from_of (map (box_from [] []) bs)
+same_froms kept [] = refl
+same_froms kept (b ∷ bs) = ap (λ ns. b.from ∷ ns) (same_froms kept bs)
+
+pub closed : (kept : List Tuple) (r : Rows) (o : List Owned) (l : List Links) → IsBeside r o l → IsKept (told_by kept r) → AreIn kept r → IsHeld [] [] kept r.boxes r.points o l
+closed kept r o l h sound there =
+    record {
+      stored = record {
+        kept = sound;
+        boxes = omega (arith, h.boxes, length-map r.boxes (box_from [] kept));
+        points = omega (arith, h.points, length-map r.points (point_from [] kept));
+        index = index_same (told_by kept r) (blanked r) (same_froms kept r.boxes) (same_shapes kept r.points there.tuples) o l h.index;
+      };
+      rows = there;
+    }
+
+-- What the rows tell.
+
+abbrev called_by : Term → ℕ → Bool → BoxRow
+called_by atom from user = record { atom = atom; from = from; is_user = user; last = Call; complete = false }
+
+pub told_box : (kept : List Tuple) (r : Rows) (atom from : ℕ) (user : Bool) (t : Tuple) → slice_get kept atom ≡ Some t → user ≡ is_user_atom t.head → told_by kept (with_box_row r atom from user) ≡ opened (told_by kept r) t.head from
+told_box kept r atom from user t at is =
+    let e : get_or kept atom no_tuple ≡ t = get_or_from_slice_get kept atom t no_tuple at in
+    ap (λ bs. record { boxes = bs; points = (told_by kept r).points }) (map-append (box_from [] kept) r.boxes (box_row atom from user ∷ []))
+    ∙ ap (λ (u : Tuple). record { boxes = (told_by kept r).boxes ++ called_by u.head from user ∷ []; points = (told_by kept r).points }) e
+    ∙ ap (λ b. record { boxes = (told_by kept r).boxes ++ called_by t.head from b ∷ []; points = (told_by kept r).points }) is
+
+pub told_point : (kept : List Tuple) (r : Rows) (p : OpenPoint) (t : Tuple) → slice_get kept p.tuple.number ≡ Some t
+    → told_by kept (with_point_row r p) ≡ with_point (told_by kept r) (made_point p t)
+told_point kept r p t at =
+    let e : get_or kept p.tuple.number no_tuple ≡ t = get_or_from_slice_get kept p.tuple.number t no_tuple at in
+    ap (λ ps. record { boxes = (told_by kept r).boxes; points = ps }) (map-append (point_from [] kept) r.points (point_row p ∷ []))
+    ∙ rw e refl
+
+pub told_noted : (kept : List Tuple) (r : Rows) (n : ℕ) (port : Port) → told_by kept (noted_row r n port) ≡ noted (told_by kept r) n port
+told_noted kept r zero port = refl
+told_noted kept r (suc i) port = ap (λ bs. record { boxes = bs; points = (told_by kept r).points }) (passed_rows [] kept port i r.boxes)
+
+-- where more tuples are kept
+
+atom_on : (kept more : List Tuple) (at : AtomPlace) → IsAtomThere [] kept at → (atom_there [] (kept ++ more) at ≡ atom_there [] kept at) × IsAtomThere [] (kept ++ more) at
+atom_on kept more (Written p) h = absurd (omega (arith, h))
+atom_on kept more (Kept n) h = (ap (λ (t : Tuple). t.head) (get_or_append_left kept more no_tuple n h), omega (arith, h, length-append kept more))
+
+get-on : {X : Type 0} (xs ys : List X) (i : ℕ) (x : X) → slice_get xs i ≡ Some x → slice_get (xs ++ ys) i ≡ Some x
+get-on [] ys i x e = cc
+get-on (y ∷ xs) ys zero x e = e
+get-on (y ∷ xs) ys (suc i) x e = get-on xs ys i x e
+
+tuple_on : (kept more : List Tuple) (at : TuplePlace) → IsTupleThere 0 kept at → (tuple_there [] (kept ++ more) at ≡ tuple_there [] kept at) × IsTupleThere 0 (kept ++ more) at
+tuple_on kept more (Spanned s) h = absurd (omega (arith, h))
+tuple_on kept more (Held k) h = (
+  get_or_append_left kept more no_tuple k.number (slice_get_within kept k.number h.tuple h.there),
+  record { tuple = h.tuple; there = get-on kept more k.number h.tuple h.there; goals = h.goals },
+)
+
+boxes_on : (kept more : List Tuple) (bs : List KeptBox) → All (λ (b : KeptBox). IsAtomThere [] kept b.atom) bs → map (box_from [] (kept ++ more)) bs ≡ map (box_from [] kept) bs
+boxes_on kept more [] h = refl
+boxes_on kept more (b ∷ bs) h =
+    let P : KeptBox → Type 0 = λ b. IsAtomThere [] kept b.atom in
+    ap (λ a. record { atom = a; from = b.from; is_user = b.is_user; last = b.last; complete = b.complete } ∷ map (box_from [] (kept ++ more)) bs) (atom_on kept more b.atom (All-head P b bs h)).0
+    ∙ ap (λ rows. box_from [] kept b ∷ rows) (boxes_on kept more bs (All-tail P b bs h))
+
+points_on : (kept more : List Tuple) (xs : List KeptPoint) → All (λ (x : KeptPoint). IsTupleThere 0 kept x.tuple) xs → map (point_from [] (kept ++ more)) xs ≡ map (point_from [] kept) xs
+points_on kept more [] h = refl
+points_on kept more (x ∷ xs) h =
+    let P : KeptPoint → Type 0 = λ x. IsTupleThere 0 kept x.tuple in
+    ap (λ t. record { owner = x.owner; clause = x.clause; done = x.done; tuple = t; before = x.before } ∷ map (point_from [] (kept ++ more)) xs) (tuple_on kept more x.tuple (All-head P x xs h)).0
+    ∙ ap (λ ps. point_from [] kept x ∷ ps) (points_on kept more xs (All-tail P x xs h))
+
+pub told_on : (kept more : List Tuple) (r : Rows) → AreIn kept r → told_by (kept ++ more) r ≡ told_by kept r
+told_on kept more r h =
+    ap (λ bs. record { boxes = bs; points = (told_by (kept ++ more) r).points }) (boxes_on kept more r.boxes h.atoms)
+    ∙ ap (λ ps. record { boxes = (told_by kept r).boxes; points = ps }) (points_on kept more r.points h.tuples)
+
+pub in_on : (kept more : List Tuple) (r : Rows) → AreIn kept r → AreIn (kept ++ more) r
+in_on kept more r h =
+    record {
+      there = h.there;
+      atoms = All-weaker (λ (b : KeptBox). IsAtomThere [] kept b.atom) (λ (b : KeptBox). IsAtomThere [] (kept ++ more) b.atom) (λ b i. (atom_on kept more b.atom i).1) r.boxes h.atoms;
+      tuples = All-weaker (λ (x : KeptPoint). IsTupleThere 0 kept x.tuple) (λ (x : KeptPoint). IsTupleThere 0 (kept ++ more) x.tuple) (λ x i. (tuple_on kept more x.tuple i).1) r.points h.tuples;
+    }
+
+-- where a row comes behind
+
+pub in_box : (kept : List Tuple) (r : Rows) (atom from : ℕ) (user : Bool) → AreIn kept r → atom < length kept → AreIn kept (with_box_row r atom from user)
+in_box kept r atom from user h l = rows_box [] [] kept r.boxes r.points (box_row atom from user) h l
+
+pub in_point : (kept : List Tuple) (r : Rows) (p : OpenPoint) → AreIn kept r → IsNumbered kept p.tuple → AreIn kept (with_point_row r p)
+in_point kept r p h l = rows_point [] [] kept r.boxes r.points (point_row p) h l
+
+pub in_noted : (kept : List Tuple) (r : Rows) (n : ℕ) (port : Port) → AreIn kept r → AreIn kept (noted_row r n port)
+in_noted kept r zero port h = h
+in_noted kept r (suc i) port h = rows_edited [] [] kept r.boxes r.points port i h
+
+pub in_none : (kept : List Tuple) → AreIn kept no_rows
+in_none kept =
+    record {
+      there = All-nil (λ (p : ℕ). p < 0);
+      atoms = All-nil (λ (b : KeptBox). IsAtomThere [] kept b.atom);
+      tuples = All-nil (λ (x : KeptPoint). IsTupleThere 0 kept x.tuple);
+    }

@@ -1,0 +1,89 @@
+-- A record of a search that goes on: kept tuples stand for terms.
+use Rattle.std.specs.Prelude.{ℕ, ◌<◌, ◌^◌, Bool, false, List, [], ◌∷◌, ◌++◌, length, map}
+use Rattle.std.proofs.Common.{zero, suc}
+use Rattle.apd_term.specs.Term.{Term, variable}
+use Rattle.apd_term.specs.declared.tuple.Tuple.{Tuple}
+use Rattle.apd_ports.specs.declared.event.Port.{Port}
+use Rattle.apd_ports.specs.declared.event.Port.TheVariants.{Call}
+use Rattle.apd_ports.specs.declared.point.Point.{Point}
+use Rattle.apd_record.specs.declared.beside.Owned.{Owned}
+use Rattle.apd_record.specs.declared.beside.Links.{Links}
+use Rattle.apd_record.specs.declared.kept.AtomPlace.TheVariants.{Kept}
+use Rattle.apd_record.specs.declared.kept.KeptBox.{KeptBox}
+use Rattle.apd_record.specs.declared.kept.KeptPoint.{KeptPoint}
+use Rattle.apd_record.specs.declared.kept.TuplePlace.{TuplePlace}
+use Rattle.apd_record.specs.declared.kept.TuplePlace.TheVariants.{Written as Spanned, Kept as Held}
+use Rattle.apd_record.specs.declared.ongoing.OpenPoint.{OpenPoint}
+use Rattle.apd_record.specs.Beside.{edited}
+use Rattle.apd_record.specs.Index.{IsIndex, IsWithin}
+use Rattle.apd_record.specs.Kept.{AreKept, box_from, kept_passed, told}
+use Rattle.apd_record.specs.Recorded.{Recorded}
+
+-- boxes in the order of their calls, and points in the order in which they were made
+pub record Rows : Type 0 where
+  pub boxes : List KeptBox
+  pub points : List KeptPoint
+
+-- the record that they are of, where these tuples were kept
+abbrev pub told_by : List Tuple → Rows → Recorded
+told_by kept r = told [] [] kept r.boxes r.points
+
+-- each tuple that is named was kept, and has so many goals
+abbrev pub AreIn : List Tuple → Rows → Type 0
+AreIn kept r = AreKept [] [] kept r.boxes r.points
+
+abbrev pub no_rows : Rows
+no_rows = record { boxes = []; points = [] }
+
+-- a box is called, for the head of this kept tuple, from point number `from`
+abbrev pub box_row : ℕ → ℕ → Bool → KeptBox
+box_row atom from user = record { atom = Kept atom; from = from; is_user = user; last = Call; complete = false }
+
+abbrev pub with_box_row : Rows → ℕ → ℕ → Bool → Rows
+with_box_row r atom from user = record { boxes = r.boxes ++ box_row atom from user ∷ []; points = r.points }
+
+abbrev pub point_row : OpenPoint → KeptPoint
+point_row p = record { owner = p.owner; clause = p.clause; done = p.done; tuple = Held p.tuple; before = p.before }
+
+-- the point, where this tuple was kept for it
+abbrev pub made_point : OpenPoint → Tuple → Point
+made_point p t = record { owner = p.owner; clause = p.clause; done = p.done; tuple = t; before = p.before }
+
+abbrev pub with_point_row : Rows → OpenPoint → Rows
+with_point_row r p = record { boxes = r.boxes; points = r.points ++ point_row p ∷ [] }
+
+-- the port was passed last by box n
+abbrev pub noted_row : Rows → ℕ → Port → Rows
+noted_row r zero port = r
+noted_row r (suc i) port = record { boxes = edited (kept_passed port) r.boxes i; points = r.points }
+
+-- Without the tuples.
+
+abbrev pub variables_for : ℕ → List Term
+variables_for zero = []
+variables_for (suc n) = variable 0 ∷ variables_for n
+
+abbrev pub blank_tuple : TuplePlace → Tuple
+blank_tuple (Spanned s) = record { head = variable 0; body = variables_for s.goals }
+blank_tuple (Held k) = record { head = variable 0; body = variables_for k.goals }
+
+abbrev pub blank_point : KeptPoint → Point
+blank_point x =
+    record {
+      owner = x.owner;
+      clause = x.clause;
+      done = x.done;
+      tuple = blank_tuple x.tuple;
+      before = x.before;
+    }
+
+-- the record with variables for all terms
+abbrev pub blanked : Rows → Recorded
+blanked r = record { boxes = map (box_from [] []) r.boxes; points = map blank_point r.points }
+
+-- what stands beside the rows is right
+pub record IsBeside (r : Rows) (owned : List Owned) (links : List Links) : Type 0 where
+  pub boxes : length r.boxes < 2 ^ 32
+  pub points : length r.points < 2 ^ 32
+  pub within : IsWithin (blanked r)
+  pub index : IsIndex (blanked r) owned links

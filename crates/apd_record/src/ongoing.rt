@@ -1,0 +1,137 @@
+//! The record of a search that goes on.
+
+ghost use Rattle.std.specs.Prelude.{◌≡◌, ◌<◌, ◌≤◌, ◌+◌, ◌-◌, ◌^◌, ◌∷◌, length, nat_lt, not, IfOk, OnOk, OnErr};
+ghost use Rattle.apd_record.specs.Index.{id_of, IsBelow};
+ghost use Rattle.apd_record.specs.Open.{no_rows, noted_row, with_box_row, with_point_row};
+
+use crate::beside::{Links, Owned, link, link_child, note_owned};
+use crate::kept::{AtomPlace, KeptBox, KeptPoint, TuplePlace};
+use crate::room::{box_room, pass, point_room};
+use crate::slot::Slot;
+use apd_ports::{PointId, Port, Step};
+use apd_tuples::spots::Numbered;
+use std::alloc::{AllocError, Global};
+use std::marker::Model;
+
+/// A point whose instance is a kept tuple.
+#[derive(Clone, Copy)]
+pub struct OpenPoint {
+    pub owner: u32,
+    pub clause: u32,
+    pub done: u8,
+    pub tuple: Numbered,
+    pub before: Option<Step>,
+}
+
+/// The boxes and points of a search that goes on. Their terms are kept tuples: no term is looked at
+/// before the search is over.
+#[derive(Drop)]
+pub struct Open {
+    pub(crate) alloc: Global,
+    pub(crate) boxes: Vec<KeptBox>,
+    pub(crate) points: Vec<KeptPoint>,
+    pub(crate) query: Owned,
+    pub(crate) owned: Vec<Owned>,
+    pub(crate) links: Vec<Links>,
+}
+
+impl Model for Open {
+    ghost use Rattle.std.specs.Prelude.{◌∷◌};
+    ghost use Rattle.apd_record.specs.Open.{Rows, IsBeside};
+
+    ghost Value = { Rows };
+
+    ghost view = { λ o. record { boxes = o.boxes.items; points = o.points.items } };
+
+    ghost invariant = { λ o. IsBeside (record { boxes = o.boxes.items; points = o.points.items }) (o.query ∷ o.owned.items) o.links.items };
+}
+
+/// Whether all goals are solved.
+fn are_solved(done: u8, goals: u32) -> bool
+    ensures { result ≡ not (nat_lt done goals) }
+{
+    done as u32 >= goals
+}
+
+impl Open {
+    /// No box and no point.
+    pub fn new(alloc: Global) -> Open
+        ensures { result ≡ no_rows }
+    {
+        Open {
+            alloc,
+            boxes: Vec::new(alloc),
+            points: Vec::new(alloc),
+            query: Owned::new(alloc),
+            owned: Vec::new(alloc),
+            links: Vec::new(alloc),
+        }
+    }
+
+    /// Calls a goal, the head of the kept tuple with this number: a new box, and its number.
+    pub fn open_box(&mut self, atom: u32, from: PointId, user: bool) -> Result<u32, AllocError>
+        requires from { from.0 < length self.old.points }
+        requires few { length self.old.boxes < 2 ^ 32 - 1 }
+        ensures number { IfOk result (λ b. b ≡ length self.old.boxes + 1) }
+        ensures opened { OnOk result (self.new ≡ with_box_row self.old atom from.0 user) }
+        ensures err { OnErr result (self.new ≡ self.old) }
+    {
+        box_room(&mut self.boxes, &mut self.owned)?;
+        let place = self.boxes.len() as u32;
+        self.owned.push_reserved(Owned::new(self.alloc));
+        link_child(&mut self.links, from, place);
+        self.boxes.push_reserved(KeptBox {
+            atom: AtomPlace::Kept(atom),
+            from: from.0,
+            is_user: user,
+            last: Port::Call,
+            complete: false,
+        });
+        Ok(place + 1)
+    }
+
+    /// A new point, and its number.
+    pub fn add_point(&mut self, point: OpenPoint) -> Result<PointId, AllocError>
+        requires owner { point.owner ≤ length self.old.boxes }
+        requires before { IsBelow (length self.old.points) point.before }
+        requires few { length self.old.points < 2 ^ 32 - 1 }
+        ensures number { IfOk result (λ p. p ≡ id_of (length self.old.points)) }
+        ensures added { OnOk result (self.new ≡ with_point_row self.old point) }
+        ensures err { OnErr result (self.new ≡ self.old) }
+    {
+        let number = self.points.len() as u32;
+        point_room(&mut self.points, &mut self.links)?;
+        let is_exit = are_solved(point.done, point.tuple.goals);
+        let earlier = note_owned(
+            &mut self.query,
+            &mut self.owned,
+            point.owner,
+            number,
+            point.done == 0,
+            is_exit,
+        )?;
+        self.links.push_reserved(Links {
+            child: Slot::none(),
+            follow: Slot::none(),
+            earlier,
+        });
+        link(&mut self.links, point.before, number);
+        self.points.push_reserved(KeptPoint {
+            owner: point.owner,
+            clause: point.clause,
+            done: point.done,
+            tuple: TuplePlace::Kept(point.tuple),
+            before: point.before,
+        });
+        Ok(PointId(number))
+    }
+
+    /// The port was passed last by the box; `Fail` makes it complete.
+    pub fn note(&mut self, box_no: u32, port: Port)
+        requires from { 0 < box_no }
+        requires to { box_no ≤ length self.old.boxes }
+        ensures { self.new ≡ noted_row self.old box_no port }
+    {
+        pass(&mut self.boxes, box_no as usize - 1, port);
+    }
+}

@@ -1,0 +1,57 @@
+//! Room for boxes and points, and ports that boxes pass.
+
+ghost use Rattle.std.specs.Prelude.{◌≡◌, ◌<◌, length, OnOk, vec_len, vec_capacity};
+ghost use Rattle.apd_record.specs.Recorded.{completes};
+ghost use Rattle.apd_record.specs.Beside.{edited};
+ghost use Rattle.apd_record.specs.Kept.{kept_passed};
+
+use crate::beside::{Links, Owned};
+use crate::kept::{KeptBox, KeptPoint};
+use apd_ports::Port;
+use std::alloc::AllocError;
+
+/// Whether a box is complete that passes a port.
+fn completes(port: Port, complete: bool) -> bool
+    ensures { result ≡ completes port complete }
+{
+    match port {
+        Port::Fail => true,
+        _ => complete,
+    }
+}
+
+/// The box at this place passes a port.
+pub fn pass(boxes: &mut Vec<KeptBox>, place: usize, port: Port)
+    requires { place < length boxes.old.items }
+    ensures { boxes.new.items ≡ edited (kept_passed port) boxes.old.items place }
+{
+    let row = &mut boxes[place];
+    row.last = port;
+    row.complete = completes(port, row.complete);
+}
+
+/// Room for a box.
+pub fn box_room(boxes: &mut Vec<KeptBox>, owned: &mut Vec<Owned>) -> Result<(), AllocError>
+    ensures boxes { boxes.new.items ≡ boxes.old.items }
+    ensures owned { owned.new.items ≡ owned.old.items }
+    ensures boxes_len { vec_len boxes.new ≡ vec_len boxes.old }
+    ensures owned_len { vec_len owned.new ≡ vec_len owned.old }
+    ensures room { OnOk result (vec_len boxes.new < vec_capacity boxes.new) }
+    ensures owned_room { OnOk result (vec_len owned.new < vec_capacity owned.new) }
+{
+    boxes.reserve(1)?;
+    owned.reserve(1)
+}
+
+/// Room for a point.
+pub fn point_room(points: &mut Vec<KeptPoint>, links: &mut Vec<Links>) -> Result<(), AllocError>
+    ensures points { points.new.items ≡ points.old.items }
+    ensures links { links.new.items ≡ links.old.items }
+    ensures points_len { vec_len points.new ≡ vec_len points.old }
+    ensures links_len { vec_len links.new ≡ vec_len links.old }
+    ensures room { OnOk result (vec_len points.new < vec_capacity points.new) }
+    ensures links_room { OnOk result (vec_len links.new < vec_capacity links.new) }
+{
+    points.reserve(1)?;
+    links.reserve(1)
+}

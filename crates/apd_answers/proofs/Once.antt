@@ -5,7 +5,8 @@ use Rattle.apd_answers.specs.declared.question.Reply.{Reply}
 use Rattle.apd_answers.specs.declared.store.Pair.{Pair}
 use Rattle.apd_answers.specs.Questions.{canonical_question}
 use Rattle.apd_answers.specs.Store.{same_question, same_reply, is_kept_as, is_kept_in, with_pair_in}
-use Rattle.std.specs.Prelude.{Some, Result, Ok, Err, OnOk, OnErr}
+use Rattle.std.specs.Prelude.{Some, Result, Ok, Err, IfOk, IsOk, OnOk, OnErr}
+use Rattle.indexmap.specs.IndexSet.{insert_key}
 use Rattle.std.specs.List.{list_any}
 use Rattle.std.proofs.Common.{append_assoc}
 use Rattle.std.proofs.lemmas.List.{append-nil}
@@ -89,3 +90,11 @@ preds-more before (x ∷ ps) p n e = (n.0, preds-more (before ++ x ∷ []) ps p 
 pub listed-put : {T E : Type 0} (ps new : List Pred) (p : Pred) (b : Bool) (r : Result T E) → AreListedOnce ps → OnOk r (new ≡ ps ++ p ∷ []) → OnErr r (new ≡ ps) → b ≡ list_any (is_predicate (Some p)) ps → b ≡ false → AreListedOnce new
 listed-put ps new p b (Ok x) o is same listed unlisted = subst AreListedOnce (sym is) (preds-more [] ps p o (sym listed ∙ unlisted))
 listed-put ps new p b (Err e) o is same listed unlisted = subst AreListedOnce (sym same) o
+
+-- a set that has the same predicates, after one more was put to both
+pub listed-too : {T E : Type 0} (test : Pred → Pred → Bool) (olds kept news preds preds_new : List Pred) (p : Pred) (r : Result T E) → olds ≡ preds → kept ≡ olds → preds_new ≡ preds ++ p ∷ [] → list_any (test p) preds ≡ false
+    → IfOk r (λ x. news ≡ insert_key test kept p) → IsOk r → news ≡ preds_new
+listed-too test olds kept news preds preds_new p (Ok x) same still is unlisted put there =
+    let e : kept ≡ preds = still ∙ same in
+    put ∙ ap (λ (ks : List Pred). insert_key test ks p) e ∙ ap (λ (b : Bool). if b then preds else preds ++ p ∷ []) unlisted ∙ sym is
+listed-too test olds kept news preds preds_new p (Err e) same still is unlisted put there = absurd (cc)

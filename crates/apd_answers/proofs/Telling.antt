@@ -17,9 +17,9 @@ use Rattle.apd_term.specs.declared.term.Sym.TheVariants.{Var, Int, Fun}
 use Rattle.apd_term.specs.Matching.{is_instance}
 use Rattle.apd_term.specs.Substitution.{IsInstance}
 use Rattle.apd_term.proofs.Opposite.{is_instance-is}
-use Rattle.apd_unify.specs.First.{IsFixed, key_of}
+use Rattle.apd_cells.specs.First.{IsFixed, key_of}
 use Rattle.apd_unify.proofs.Beginning.{key_of-apply}
-use Rattle.apd_unify.proofs.Undoing.{le_or_lt}
+use Rattle.apd_cells.proofs.Undoing.{le_or_lt}
 use Rattle.apd_answers.specs.declared.question.Question.{Question}
 use Rattle.apd_answers.specs.declared.question.Question.TheVariants as asks
 use Rattle.apd_answers.specs.declared.question.Reply.{Reply}

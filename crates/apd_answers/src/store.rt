@@ -1,6 +1,6 @@
 //! The store of replies.
 
-ghost use Rattle.std.specs.Prelude.{◌≡◌, ◌<◌, ◌&&◌, [], length, IfOk, IfSome, OnOk, OnErr, slice_get, Some};
+ghost use Rattle.std.specs.Prelude.{◌≡◌, ◌<◌, ◌++◌, ◌∷◌, [], false, length, IfOk, IfSome, OnOk, OnErr, slice_get, Some};
 ghost use Rattle.apd_answers.specs.declared.store.Pair.{Pair};
 ghost use Rattle.std.specs.List.{enumerate_from, list_any};
 ghost use Rattle.apd_term.specs.Matching.{is_instance};
@@ -9,24 +9,24 @@ ghost use Rattle.apd_answers.specs.declared.question.Question.TheVariants.{True}
 ghost use Rattle.apd_answers.specs.declared.question.Reply.TheVariants.{Unknown};
 ghost use Rattle.apd_answers.specs.Fitting.{AllFit};
 ghost use Rattle.apd_answers.specs.Once.{AreListedOnce, AreOnce};
-ghost use Rattle.apd_answers.specs.Marks.{mark_of_form, places_from};
-ghost use Rattle.apd_answers.specs.Store.{told_of_truth, decided_in, decided, is_kept_as, is_doubted, empty_store, reply_to, with_pair, same_question, same_reply};
+ghost use Rattle.apd_answers.specs.Marks.{mark_of, places_from, replied_mark};
+ghost use Rattle.apd_answers.specs.Store.{told_of_truth, decided_in, decided, is_doubted, empty_store, with_pair, same_question, is_kept};
 ghost use Rattle.apd_answers.specs.Tellers.{IsFirstTold, IsNarrow, tellers};
 ghost use Rattle.apd_term.specs.Term.{predicate_of};
-ghost use Rattle.apd_unify.specs.First.{key_of};
+ghost use Rattle.apd_cells.specs.First.{key_of};
 ghost use Rattle.apd_ports.specs.Filter.{is_predicate};
 ghost use Rattle.apd_answers.specs.Trust.{with_trust};
 
-use crate::marks::{Places, mark_of_form, note_both, with_mark};
+use crate::kept::{is_kept, marks_of, reply_to};
+use crate::marks::{Places, mark_of_form, note_all, with_mark, with_reply};
 use crate::question::{Question, Reply};
 use crate::tellers::{
-    ANY_ATOM, Told, VARIABLE, earlier, first_told, is_narrow, mark_of_atoms, reply_in, telling_mark,
+    ANY_ATOM, Told, VARIABLE, earlier, first_told, is_narrow, mark_of_atoms, reply_in,
 };
-use crate::tests_of::{same_question, same_reply};
-use apd_term::canonical::canonical;
+use crate::tests_of::same_question;
+use apd_cells::first::key_of;
 use apd_term::{Atoms, Flat, Pred, Preds, Subst, Tuple, apply_tuple, canonical_tuple};
-use apd_unify::first::key_of;
-use indexmap::IndexMap;
+use indexmap::{IndexMap, IndexSet};
 use std::alloc::{AllocError, Global};
 use std::marker::Model;
 
@@ -125,78 +125,18 @@ fn truth_decided(alloc: Global, pairs: &[Pair], atom: &Flat) -> Result<Option<Re
     Ok(None)
 }
 
-/// Whether the pair's question has this canonical form.
-fn has_form(alloc: Global, pair: &Pair, form: &Question) -> Result<bool, AllocError>
-    ensures { IfOk result (λ b. b ≡ same_question (canonical_question pair.now.question) form.now) }
+/// Puts a predicate at the end of a list, and of the set that has the same; after want of memory both are as before.
+fn put_both(trusted: &mut Preds, listed: &mut IndexSet<Pred>, pred: Pred) -> Result<(), AllocError>
+    requires same { listed.old.keys ≡ trusted.old }
+    requires unlisted { list_any (is_predicate (Some pred)) trusted.old ≡ false }
+    ensures same { listed.new.keys ≡ trusted.new }
+    ensures ok { OnOk result (trusted.new ≡ trusted.old ++ pred ∷ []) }
+    ensures err { OnErr result (trusted.new ≡ trusted.old) }
 {
-    let own = pair.question.canonical(alloc)?;
-    Ok(same_question(&own, form))
-}
-
-/// The reply of the first of the pairs, at the places of their mark, whose question has this canonical form.
-fn reply_to(
-    alloc: Global,
-    pairs: &[Pair],
-    places: &[usize],
-    form: &Question,
-) -> Result<Option<Reply>, AllocError>
-    requires { places.now ≡ places_from 0 (mark_of_form form.now) pairs.now }
-    ensures { IfOk result (λ r. r ≡ reply_to pairs.now form.now) }
-{
-    'places: for place in places {
-        let pair = &pairs[*place];
-        if has_form(alloc, pair, form)? {
-            return Ok(Some(pair.reply.copy(alloc)?));
-        }
-    }
-    Ok(None)
-}
-
-/// Whether a pair is one with this question, in canonical form, and this reply.
-fn is_such(alloc: Global, pair: &Pair, form: &Question, reply: &Reply) -> Result<bool, AllocError>
-    ensures { IfOk result (λ b. b ≡ (same_question
-        (canonical_question pair.now.question) form.now && same_reply pair.now.reply reply.now)) }
-{
-    if !same_reply(&pair.reply, reply) {
-        return Ok(false);
-    }
-    has_form(alloc, pair, form)
-}
-
-/// Whether a pair with this question, in canonical form, and this reply is kept, at one of the places of its mark.
-fn is_kept(
-    alloc: Global,
-    pairs: &[Pair],
-    places: &[usize],
-    form: &Question,
-    reply: &Reply,
-) -> Result<bool, AllocError>
-    requires { places.now ≡ places_from 0 (mark_of_form form.now) pairs.now }
-    ensures { IfOk result (λ b. b ≡ is_kept_as pairs.now form.now reply.now) }
-{
-    'places: for place in places {
-        if is_such(alloc, &pairs[*place], form, reply)? {
-            return Ok(true);
-        }
-    }
-    Ok(false)
-}
-
-/// Whether two predicates are one.
-fn is_predicate(pred: Pred, other: Pred) -> bool
-    ensures { result ≡ is_predicate (Some pred) other }
-{
-    pred.name.0 == other.name.0 && pred.arity == other.arity
-}
-
-/// Whether the predicate is one of these.
-fn is_listed(preds: &Preds, pred: Pred) -> bool
-    ensures { result ≡ list_any (is_predicate (Some pred)) preds.now }
-{
-    preds
-        .as_slice()
-        .iter()
-        .any(|other| is_predicate(pred, *other))
+    listed.reserve(1)?;
+    trusted.push(pred)?;
+    let _listed = listed.insert(pred);
+    Ok(())
 }
 
 /// The replies that were given, each with its question, in the order in which they came, and the predicates that are trusted.
@@ -207,15 +147,20 @@ pub struct Answers {
     pairs: Vec<Pair>,
     /// The places of the pairs by their marks, which those with one question share.
     places: Places,
+    /// The places of the pairs by marks that those with one question and one reply share.
+    replied: Places,
     /// The places of the pairs by the marks of the atoms that they may tell of.
     tellers: Places,
     trusted: Preds,
+    /// The predicates that are trusted, to look them up.
+    listed: IndexSet<Pred>,
 }
 
 impl Model for Answers {
+    ghost use Rattle.std.specs.Prelude.{◌≡◌};
     ghost use Rattle.apd_answers.specs.Codes.{store_code};
     ghost use Rattle.apd_answers.specs.Fitting.{AllFitIn};
-    ghost use Rattle.apd_answers.specs.Marks.{IsIndexOf};
+    ghost use Rattle.apd_answers.specs.Marks.{IsIndexOf, mark_of, replied_mark};
     ghost use Rattle.apd_answers.specs.Once.{AreListedOnce, AreOnce};
     ghost use Rattle.apd_answers.specs.Store.{Store};
     ghost use Rattle.apd_answers.specs.Tellers.{AreTellers};
@@ -226,8 +171,9 @@ impl Model for Answers {
 
     ghost view = { λ a. record { pairs = a.pairs.items; trusted = a.trusted } };
 
-    ghost invariant = { λ a. AllFitIn a.pairs.items × IsIndexOf a.pairs.items a.places
-        × AreOnce a.pairs.items × AreTellers a.pairs.items a.tellers × AreListedOnce a.trusted };
+    ghost invariant = { λ a. AllFitIn a.pairs.items × IsIndexOf mark_of a.pairs.items a.places
+        × AreOnce a.pairs.items × AreTellers a.pairs.items a.tellers × AreListedOnce a.trusted
+        × IsIndexOf replied_mark a.pairs.items a.replied × (a.listed.keys ≡ a.trusted) };
 }
 
 impl Answers {
@@ -239,16 +185,25 @@ impl Answers {
             alloc,
             pairs: Vec::new(alloc),
             places: IndexMap::new(alloc),
+            replied: IndexMap::new(alloc),
             tellers: IndexMap::new(alloc),
             trusted: Preds::new(alloc),
+            listed: IndexSet::new(alloc),
         }
     }
 
     /// The places of the pairs with this mark, in order.
     fn places_of(&self, mark: u64) -> &[usize]
-        ensures { result.now ≡ places_from 0 mark self.now.pairs }
+        ensures { result.now ≡ places_from mark_of 0 mark self.now.pairs }
     {
         with_mark(&self.places, mark)
+    }
+
+    /// The places of the pairs with this mark of a question and a reply, in order.
+    fn replied_of(&self, mark: u64) -> &[usize]
+        ensures { result.now ≡ places_from replied_mark 0 mark self.now.pairs }
+    {
+        with_mark(&self.replied, mark)
     }
 
     /// The first of the pairs with this mark that tells whether the atom is true.
@@ -349,24 +304,24 @@ impl Answers {
         ensures err { OnErr result (self.new ≡ self.old) }
     {
         let form = question.canonical(self.alloc)?;
-        let mark = mark_of_form(&form);
+        let marks = marks_of(&form, question, reply);
         let pairs = self.pairs.as_slice();
-        if is_kept(self.alloc, pairs, self.places_of(mark), &form, reply)? {
+        let places = self.replied_of(marks.replied);
+        if is_kept(self.alloc, pairs, places, &form, reply)? {
             return Ok(());
         }
         let pair = Pair {
             question: question.copy(self.alloc)?,
             reply: reply.copy(self.alloc)?,
         };
-        let telling = telling_mark(&pair.question);
         let place = self.pairs.len();
         self.pairs.push(pair)?;
-        let noted = note_both(
+        let noted = note_all(
             self.alloc,
             &mut self.places,
+            &mut self.replied,
             &mut self.tellers,
-            mark,
-            telling,
+            marks,
             place,
         );
         if noted.is_err() {
@@ -376,19 +331,21 @@ impl Answers {
         Ok(())
     }
 
+    /// Whether a pair with this reply, and with a question that has the same canonical form, is kept.
+    pub fn has(&self, question: &Question, reply: &Reply) -> Result<bool, AllocError>
+        ensures { IfOk result (λ b. b ≡ is_kept self.now question.now reply.now) }
+    {
+        let form = question.canonical(self.alloc)?;
+        let places = self.replied_of(with_reply(mark_of_form(&form), reply));
+        is_kept(self.alloc, self.pairs.as_slice(), places, &form, reply)
+    }
+
     /// Whether the reply Unknown is kept to whether an atom with the same canonical form is true.
     pub fn unknown(&self, atom: &Flat) -> Result<bool, AllocError>
         ensures { IfOk result (λ b. b ≡ is_doubted self.now atom.now) }
     {
-        let form = Question::True(canonical(self.alloc, atom)?);
-        let places = self.places_of(mark_of_form(&form));
-        is_kept(
-            self.alloc,
-            self.pairs.as_slice(),
-            places,
-            &form,
-            &Reply::Unknown,
-        )
+        let question = Question::True(atom.copy(self.alloc)?);
+        self.has(&question, &Reply::Unknown)
     }
 
     /// The predicates that are trusted, in the order in which they came.
@@ -398,14 +355,21 @@ impl Answers {
         &self.trusted
     }
 
+    /// Whether the predicate is trusted.
+    pub fn trusts(&self, pred: Pred) -> bool
+        ensures { result ≡ list_any (is_predicate (Some pred)) self.now.trusted }
+    {
+        self.listed.contains(&pred)
+    }
+
     /// Puts a predicate at the end of those that are trusted, unless it is kept; after want of memory the store is as before.
     pub fn trust(&mut self, pred: Pred) -> Result<(), AllocError>
         ensures ok { OnOk result (self.new ≡ with_trust self.old pred) }
         ensures err { OnErr result (self.new ≡ self.old) }
     {
-        if is_listed(&self.trusted, pred) {
+        if self.trusts(pred) {
             return Ok(());
         }
-        self.trusted.push(pred)
+        put_both(&mut self.trusted, &mut self.listed, pred)
     }
 }

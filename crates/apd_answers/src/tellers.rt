@@ -9,8 +9,8 @@ ghost use Rattle.apd_answers.specs.Tellers.{IsFirstTold, IsNarrow, leading, mark
 use crate::marks::mixed;
 use crate::question::{Question, Reply};
 use crate::store::{Pair, told_of_truth};
+use apd_cells::first::key_of;
 use apd_term::{Flat, Pred, Sym};
-use apd_unify::first::key_of;
 use std::alloc::{AllocError, Global};
 
 /// What the marks of atoms begin with.

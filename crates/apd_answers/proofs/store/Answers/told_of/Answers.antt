@@ -1,6 +1,6 @@
 use Rattle.std.proofs.Common.{◌∙◌, ◌++◌, ap, subst}
 use Rattle.apd_term.specs.declared.term.Sym.TheVariants.{Var}
-use Rattle.apd_unify.specs.First.{key_of}
+use Rattle.apd_cells.specs.First.{key_of}
 use Rattle.apd_answers.specs.Tellers.{IsFirstTold, any_atom, mark_of_atoms, tellers}
 use Rattle.apd_answers.proofs.Telling.{decided_by}
 use Rattle.apd_answers.proofs.store.Answers.told_of.Goals as goal

@@ -39,6 +39,22 @@ def below(low, high, reply="yes"):
     return asked(f"below? {low}, {high}", reply)
 
 
+def spread(number):
+    """Numbers below 65,535 in an order that mixes them."""
+    return number * 2654435761 % 65535
+
+
+def vector(number):
+    """An atom of 16 zeros and ones: by any few of its arguments it is one of many."""
+    return "q(" + ",".join(str(number >> bit & 1) for bit in range(16)) + ")"
+
+
+def general(number):
+    """An atom of 16 arguments: a variable where the number has a one, else 1."""
+    names = iter(range(1, 17))
+    return "q(" + ",".join(f"_{next(names)}" if number >> bit & 1 else "1" for bit in range(16)) + ")"
+
+
 def signs(number):
     """An atom of 16 numbers that differ in their signs alone: by marks without signs all these share one."""
     return "q(" + ",".join("-1" if number >> bit & 1 else "1" for bit in range(16)) + ")"
@@ -100,6 +116,7 @@ class Logs:
         yield "one symptom again and again", SAME, self.filled("", "symptom: true: q(1)\n")
         yield "many values for one body", OPEN, self.filled("", lambda n: asked("covers? p(a) :- q(_1)", f"yes([{n}])"))
         yield "symptoms with one mark", SAME, self.filled("", lambda n: f"symptom: true: {signs(n)}\n")
+        yield "unknown replies", SAME, self.filled("", lambda n: asked(f"true? q({n}) [1 suspects]", "unknown [0 left]"))
 
     def findings(self):
         """Many findings, of many replies."""
@@ -116,9 +133,26 @@ class Logs:
         yield "a wrong instance by the last of many denials", "q(1,X).\n", self.filled(alike, WRONG + f"q(1,{last_alike})\n")
         others = self.filled("", lambda n: f"symptom: not true: q({n},1)\n", 0.5) + "symptom: not true: q(a,b)\n"
         yield "a wrong instance that begins with a variable", "q(X,Y).\n", self.filled(others, WRONG + "q(_1,b)\n")
+        nested_denied = self.filled("", lambda n: f"symptom: not true: q(f({n},1))\n", 0.5) + "symptom: not true: q(f(a,b))\n"
+        yield "a wrong instance by a nested argument, again and again", "q(X).\n", self.filled(nested_denied, WRONG + "q(f(_1,b))\n")
+        vectors = self.filled("", lambda n: f"symptom: not true: {vector(spread(n))}\n", 0.5) + f"symptom: not true: {vector(65535)}\n"
+        head = "q(" + ",".join(f"X{n}" for n in range(16)) + ").\n"
+        yield "wrong instances that few arguments tell", head, self.filled(vectors, lambda n: WRONG + general(spread(n) & 0x5555) + "\n")
+        free = self.filled("", lambda n: f"symptom: true: q(_1,{n})\n", 0.5)
+        frees = free.count("\n")
+        yield "uncovered goals by symptoms that begin with variables", SAME, self.filled(free, lambda n: f"bug: uncovered goal: q(a,{n % frees})\n")
+        values = self.filled("", lambda n: asked("covers? p(a) :- q(_1)", f"yes([{n}])"), 0.5)
+        valued = values.count("reply")
+        yield "uncovered goals by the values of a body", OPEN, self.filled(values, lambda n: f"bug: uncovered goal: q({valued - 1 - n % valued})\n")
         front = "symptom: true: p(_1,_2)\n"
         yield "uncovered goals among 20,000 clauses", MANY, self.filled(front, lambda n: f"bug: uncovered goal: p({n + 20000},a)\n")
         yield "candidates of which each needs the last", OPEN, self.group()
+        heads = self.filled("symptom: true: p(yes)\n", lambda n: f"symptom: not true: p({n})\n", 0.3)
+        pairs = heads.count("\n") - 1
+        yield "groups of two candidates", OPEN, self.filled(heads, lambda n: self.two(n % pairs))
+
+    def two(self, number):
+        return f"candidates: 2\ncandidate: clause 1: p({number}) :- p(last)\ncandidate: clause 1: p(last) :- p(yes)\n"
 
     def group(self):
         lines = self.filled("", lambda n: f"candidate: clause 1: p({n}) :- p(last)\n", 0.9) + "candidate: clause 1: p(last) :- p(0)\n"

@@ -10,7 +10,7 @@ use Rattle.apd_term.specs.Term.{Term, predicate_of}
 use Rattle.apd_term.specs.declared.term.Pred.{Pred}
 use Rattle.apd_term.specs.declared.term.Sym.{Sym}
 use Rattle.apd_term.specs.declared.tuple.Tuple.{Tuple}
-use Rattle.apd_unify.specs.First.{AreClashing, key_of}
+use Rattle.apd_cells.specs.First.{AreClashing, key_of}
 use Rattle.apd_unify.proofs.Beginning.{key_of-apply}
 use Rattle.apd_clauses.specs.Clauses.{IsClause, IsProgram, clause_at, clauses_from, is_for, is_pred, numbers_from, numbers_of, tuples_of}
 use Rattle.apd_clauses.specs.Marks.{PassesOver}

@@ -5,7 +5,8 @@ use Rattle.std.specs.Prelude.{◌||◌, IsTrue, IfOk, IfSome, slice_get}
 use Rattle.std.specs.List.{list_any, AllByRecursion}
 use Rattle.std.specs.declared.alloc.AllocError.{AllocError}
 use Rattle.std.proofs.lemmas.List.{drop_more}
-use Rattle.apd_term.specs.Term.{IsAmong, Term}
+use Rattle.apd_term.specs.Term.{IsAmong, Term, predicate_of}
+use Rattle.apd_term.specs.declared.term.Pred.{Pred}
 use Rattle.apd_term.specs.Matching.{is_instance}
 use Rattle.apd_term.specs.Substitution.{IsInstance}
 use Rattle.apd_term.specs.declared.tuple.Tuple.{Tuple}
@@ -15,6 +16,7 @@ use Rattle.apd_arith.specs.Truths.{is_true_atom}
 use Rattle.apd_arith.specs.declared.goal.Builtin.{Builtin}
 use Rattle.apd_ports.specs.declared.point.Point.{Point}
 use Rattle.apd_ports.specs.declared.point.PointId.{PointId}
+use Rattle.apd_ports.specs.Filter.{is_predicate}
 use Rattle.apd_record.specs.Full.{HasExit}
 use Rattle.apd_record.specs.Index.{id_of}
 use Rattle.apd_record.specs.Reading.{no_point, point_of}
@@ -47,7 +49,7 @@ or-right : (a b : Bool) → b ≡ true → (a || b) ≡ true
 or-right true b h = refl
 or-right false b h = h
 
-any-among : (test : ℕ → Bool) (es : List ℕ) → list_any test es ≡ true → (e : ℕ) × IsAmong es e × (test e ≡ true)
+pub any-among : (test : ℕ → Bool) (es : List ℕ) → list_any test es ≡ true → (e : ℕ) × IsAmong es e × (test e ≡ true)
 any-among test [] h = absurd (cc)
 any-among test (x ∷ es) h = by (test x) refl h (λ later. any-among test es later)
   where
@@ -55,7 +57,7 @@ any-among test (x ∷ es) h = by (test x) refl h (λ later. any-among test es la
     by true t h rest = (x, inl refl, t)
     by false t h rest = let k = rest h in (k.0, inr k.1, k.2)
 
-among-any : (test : ℕ → Bool) (es : List ℕ) (e : ℕ) → IsAmong es e → test e ≡ true → list_any test es ≡ true
+pub among-any : (test : ℕ → Bool) (es : List ℕ) (e : ℕ) → IsAmong es e → test e ≡ true → list_any test es ≡ true
 among-any test [] e m t = absurd m
 among-any test (x ∷ es) e (inl same) t = let here : test x ≡ true = subst (λ y. test y ≡ true) (sym same) t in rw here refl
 among-any test (x ∷ es) e (inr later) t = or-right (test x) (list_any test es) (among-any test es e later t)
@@ -172,6 +174,14 @@ none-answered R a i l before = (λ k. absurd (cc), λ w. absurd (by w.number w.r
         before j (omega (arith, k, l)) (subst (IsAnsweredIn R a) next (record { row = row; there = there; user = user; exit = exit }))
 
 -- Atoms.
+
+-- an atom without a predicate is of none that is trusted
+pub no-predicate : (a : Term) (preds : List Pred) → predicate_of a ≡ None → false ≡ is_trusted preds a
+no-predicate a preds e = subst (λ (o : Option Pred). false ≡ list_any (is_predicate o) preds) (sym e) (none preds)
+  where
+    none : (ps : List Pred) → false ≡ list_any (is_predicate None) ps
+    none [] = refl
+    none (p ∷ ps) = none ps
 
 pub granted-yes : (R : Recorded) (store : Store) (a : Term) (b : Bool) → b ≡ says_yes store a → b ≡ true → true ≡ true ↔ IsGranted R store a
 granted-yes R store a b e f = (λ k. inl ((says_yes-is store a).0 (sym e ∙ f)), λ k. refl)

@@ -8,6 +8,8 @@ pub mod Calls
 pub mod Each
 pub mod Granted
 pub mod Among
+pub mod Walking
+pub mod AtomIndexes
 pub mod Parting
 pub mod Numbers
 pub mod Marked

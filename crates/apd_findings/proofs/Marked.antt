@@ -185,7 +185,7 @@ module _ (lists : List (List ℕ)) (first : ℕ) (seen : List Bool) (waiting res
   pub reaching-steps : (seen_new : List Bool) (waiting_new : List ℕ) → HasSeen (get_or lists number []) seen rest seen_new waiting_new → 2 * unmarked seen_new + length waiting_new < 2 * unmarked seen + length waiting
   reaching-steps seen_new waiting_new s = let t = s.steps in let g : length waiting ≡ length rest + 1 = ap length is ∙ length-last rest number in omega (arith, t, g)
 
-pub emptied : (xs ys : List ℕ) (n : ℕ) → xs ≡ ys ++ [] → ys ≡ take (n - 1) xs → n ≡ 0 → xs ≡ []
+pub emptied : {X : Type 0} (xs ys : List X) (n : ℕ) → xs ≡ ys ++ [] → ys ≡ take (n - 1) xs → n ≡ 0 → xs ≡ []
 emptied xs ys n e f z =
     let g : n - 1 ≡ 0 = omega (arith, z) in
     e ∙ ap (λ zs. zs ++ []) (f ∙ ap (λ k. take k xs) g)

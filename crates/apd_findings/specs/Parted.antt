@@ -1,48 +1,34 @@
--- The pairs of a store, parted by their replies.
-use Rattle.std.specs.Prelude.{◌≡◌, Bool, true, false, if◌then◌else◌, List, [], ◌∷◌}
-use Rattle.apd_term.specs.Canonical.{canonical}
+-- The atoms that the pairs of a store affirm or deny, to be looked up.
+use Rattle.std.specs.Prelude.{ℕ, ◌≡◌, List, [], ◌∷◌, Some, slice_get}
 use Rattle.apd_term.specs.Term.{Term}
-use Rattle.apd_answers.specs.Store.{SomePairIn, Store, TellsYes, with_pair_in}
+use Rattle.apd_answers.specs.Questions.{with_values}
+use Rattle.apd_answers.specs.Store.{SomePairIn, TellsNo, TellsYes}
 use Rattle.apd_answers.specs.declared.question.Question.{Question}
+use Rattle.apd_answers.specs.declared.question.Question.TheVariants as asks
 use Rattle.apd_answers.specs.declared.question.Reply.{Reply}
-use Rattle.apd_answers.specs.declared.question.Reply.TheVariants.{Yes, No, Values, Unknown}
+use Rattle.apd_answers.specs.declared.question.Reply.TheVariants.{Yes, No, Values}
 use Rattle.apd_answers.specs.declared.store.Pair.{Pair}
-use Rattle.apd_findings.specs.Keys.{IsKeyAmong, key}
-use Rattle.apd_findings.specs.declared.keys.Part.{Part}
+use Rattle.apd_findings.specs.AtomIndex.{IsFoundAbove, IsFoundBelow, IsOneOf}
+use Rattle.apd_findings.specs.declared.atom_index.AtomIndex.{AtomIndex}
 
-abbrev pub is_yes : Reply → Bool
-is_yes Yes = true
-is_yes No = false
-is_yes (Values values) = false
-is_yes Unknown = false
+-- the atoms of which a pair says that they are true, each with its instances
+abbrev pub affirmed_by : Question → Reply → List Term
+affirmed_by (asks.True a) Yes = a ∷ []
+affirmed_by (asks.Covers t) (Values values) = with_values t values
+affirmed_by _ _ = []
 
-abbrev pub has_values : Reply → Bool
-has_values Yes = false
-has_values No = false
-has_values (Values values) = true
-has_values Unknown = false
+-- the atoms of which a pair says that they aren't
+abbrev pub denied_by : Question → Reply → List Term
+denied_by (asks.True a) No = a ∷ []
+denied_by _ _ = []
 
-abbrev pub is_no : Reply → Bool
-is_no Yes = false
-is_no No = true
-is_no (Values values) = false
-is_no Unknown = false
+-- the index has what pairs say of atoms: they tell of each that it has, and each that they name is found
+pub record AreListed (Tells : Term → Question → Reply → Type 0) (named_by : Question → Reply → List Term) (IsFound : AtomIndex → Term → Type 0) (pairs : List Pair) (d : AtomIndex) : Type 0 where
+  pub sound : (k : ℕ) (x : Term) → slice_get d.atoms k ≡ Some x → SomePairIn (Tells x) pairs
+  pub whole : (x : Term) → SomePairIn (λ q r. IsOneOf (named_by q r) x) pairs → IsFound d x
 
--- the pairs with such replies
-abbrev pub picked : (Reply → Bool) → List Pair → List Pair
-picked test [] = []
-picked test (p ∷ pairs) = if test p.reply then p ∷ picked test pairs else picked test pairs
+abbrev pub AreAffirmed : List Pair → AtomIndex → Type 0
+AreAffirmed pairs d = AreListed TellsYes affirmed_by IsFoundBelow pairs d
 
--- the pairs with this one too, where its reply is such a one
-abbrev pub with_picked : (Reply → Bool) → List Pair → Question → Reply → List Pair
-with_picked test pairs question reply = if test reply then with_pair_in pairs question reply else pairs
-
--- the stores have the pairs with these replies, each for its own
-pub record AreParts (pairs : List Pair) (yes values no : Store) : Type 0 where
-  pub by_yes : yes.pairs ≡ picked is_yes pairs
-  pub by_values : values.pairs ≡ picked has_values pairs
-  pub by_no : no.pairs ≡ picked is_no pairs
-
--- the pairs say Yes of each term with one of these keys
-abbrev pub AreAffirmed : List Pair → List (List Part) → Type 0
-AreAffirmed pairs keys = (a : Term) → IsKeyAmong keys (key (canonical a)) → SomePairIn (TellsYes a) pairs
+abbrev pub AreDenied : List Pair → AtomIndex → Type 0
+AreDenied pairs d = AreListed TellsNo denied_by IsFoundAbove pairs d

@@ -3,14 +3,13 @@
 ghost use Rattle.std.specs.Prelude.{◌≡◌, ◌↔◌, IsTrue, IfOk};
 ghost use Rattle.apd_record.specs.Full.{HasExit};
 ghost use Rattle.apd_answers.specs.Trust.{IsAnswered, IsGranted, is_trusted};
-ghost use Rattle.apd_ports.specs.Filter.{is_predicate};
 ghost use Rattle.apd_findings.specs.Calling.{IsBox};
 ghost use Rattle.apd_findings.specs.Granting.{IsAnsweredIn};
 
 use crate::parted::Parted;
 use apd_answers::is_instance;
 use apd_record::Record;
-use apd_term::{Flat, Pred};
+use apd_term::Flat;
 use std::alloc::{AllocError, Global};
 
 /// Whether some exit of the box has the atom as an instance of its head.
@@ -55,27 +54,14 @@ fn is_answered(alloc: Global, record: &Record, atom: &Flat) -> Result<bool, Allo
     Ok(false)
 }
 
-/// Whether the predicate is the one that is listed.
-fn is_predicate(called: Option<Pred>, listed: Pred) -> bool
-    ensures { result ≡ is_predicate called listed }
-{
-    match called {
-        Some(pred) => pred.name.0 == listed.name.0 && pred.arity == listed.arity,
-        None => false,
-    }
-}
-
 /// Whether the predicate of the atom is trusted.
 fn is_trusted(answers: &Parted, atom: &Flat) -> bool
     ensures { result ≡ is_trusted answers.now.trusted atom.now }
 {
-    let called = atom.pred();
-    answers
-        .all()
-        .trusted()
-        .as_slice()
-        .iter()
-        .any(|listed| is_predicate(called, *listed))
+    match atom.pred() {
+        Some(pred) => answers.all().trusts(pred),
+        None => false,
+    }
 }
 
 /// Whether the store says yes to the atom, or its predicate is trusted and the record has an exit for it.

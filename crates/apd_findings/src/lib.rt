@@ -3,6 +3,7 @@
 
 mod affirming;
 mod always;
+mod atom_index;
 mod calling;
 mod candidates;
 mod closing;
@@ -11,6 +12,7 @@ mod granting;
 mod keys;
 mod orders;
 mod parted;
+mod positions;
 mod reaching;
 mod wrong;
 

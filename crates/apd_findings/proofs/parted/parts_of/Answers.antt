@@ -1,17 +1,16 @@
-use Rattle.std.proofs.Common.{List, map, subst, arith, take}
+use Rattle.std.proofs.Common.{List, subst, arith, take}
 use Rattle.apd_answers.specs.declared.store.Pair.{Pair}
 use Rattle.apd_findings.specs.Ordering.{AreOrders}
-use Rattle.apd_findings.specs.Parted.{AreAffirmed, AreParts}
-use Rattle.apd_findings.proofs.Parting.{parts-next, put-next, taken-all}
+use Rattle.apd_findings.specs.Parted.{AreAffirmed, AreDenied}
+use Rattle.apd_findings.proofs.Parting.{put-next, taken-all}
 use Rattle.apd_findings.proofs.parted.parts_of.Goals as goal
 
 pub pairs-preserved : goal.pairs-preserved
 pairs-preserved c =
     let next = put-next c.args.all.now.pairs c.pairs.i c.question.result.now c.reply.result.now c.are_once.ensures (omega (arith, c.pairs-test.true, c.len-i-end.ensures)) c.question.ensures c.reply.ensures in (
-      parts-next c.args.all.now.pairs c.pairs.i c.question.result.now c.reply.result.now c.pairs.parts.yes c.pairs.parts.values c.pairs.parts.no c.put.new.parts.yes c.put.new.parts.values c.put.new.parts.no
-          c.are_once.ensures (omega (arith, c.pairs-test.true, c.len-i-end.ensures)) c.question.ensures c.reply.ensures c.pairs.invariant.0 c.in_ok-put.ensures.yes c.in_ok-put.ensures.values c.in_ok-put.ensures.no,
+      subst (λ (ps : List Pair). AreAffirmed ps c.put.new.parts.affirmed) next (c.in_ok-put.ensures.affirmed (take c.pairs.i c.args.all.now.pairs) c.pairs.invariant.0),
       (
-        subst (λ (ps : List Pair). AreAffirmed ps (map (λ v. v.items) c.put.new.parts.affirmed.keys)) next (c.in_ok-put.ensures.affirmed (take c.pairs.i c.args.all.now.pairs) c.pairs.invariant.1.0),
+        subst (λ (ps : List Pair). AreDenied ps c.put.new.parts.denied) next (c.in_ok-put.ensures.denied (take c.pairs.i c.args.all.now.pairs) c.pairs.invariant.1.0),
         subst (λ (ps : List Pair). AreOrders ps c.put.new.parts.orders) next (c.in_ok-put.ensures.orders (take c.pairs.i c.args.all.now.pairs) c.pairs.invariant.1.1),
       ),
     )
@@ -19,9 +18,9 @@ pairs-preserved c =
 pub returns : goal.returns
 returns c =
     let all = taken-all c.args.all.now.pairs c.pairs.i (omega (arith, c.pairs-test.false, c.len-i-end.ensures)) in (
-      subst (λ (ps : List Pair). AreParts ps c.pairs.parts.yes c.pairs.parts.values c.pairs.parts.no) all c.pairs.invariant.0,
+      subst (λ (ps : List Pair). AreAffirmed ps c.pairs.parts.affirmed) all c.pairs.invariant.0,
       (
-        subst (λ (ps : List Pair). AreAffirmed ps (map (λ v. v.items) c.pairs.parts.affirmed.keys)) all c.pairs.invariant.1.0,
+        subst (λ (ps : List Pair). AreDenied ps c.pairs.parts.denied) all c.pairs.invariant.1.0,
         subst (λ (ps : List Pair). AreOrders ps c.pairs.parts.orders) all c.pairs.invariant.1.1,
       ),
     )

@@ -66,7 +66,7 @@ asked-descending R chain strategy calls (suc k) d e is l m =
     (call-at R chain calls (suc k + 1) d is (omega arith) (omega (arith, m)) ∙ ap (λ j. get_or calls j d) z) (call-at R chain calls (suc k) e is (omega arith) (omega (arith, m)))
     (record { turn = λ store. refl; left_by_yes = refl; left_by_no = refl }))
 
-pub asked-whole : (R : Recorded) (chain : List ℕ) (strategy : Strategy) (calls : List Term) (d e : Term) → calls ≡ calls_in R chain → 2 ≤ length calls
+asked-whole : (R : Recorded) (chain : List ℕ) (strategy : Strategy) (calls : List Term) (d e : Term) → calls ≡ calls_in R chain → 2 ≤ length calls
     → IsAsked R chain strategy (asking.Below (get_or calls (length calls - 1) d) (get_or calls 0 e)) whole (descending (length calls - 1)) (between 1 (length calls))
 asked-whole R chain strategy calls d e is l =
     let n : length chain ≡ length calls = sym (length-map chain (λ b. canonical (call_atom R b))) ∙ ap length (sym is) in
@@ -75,6 +75,11 @@ asked-whole R chain strategy calls d e is l =
     (asked-order R chain strategy (call_of R chain (length chain)) (call_of R chain 1) (get_or calls (length calls - 1) d) (get_or calls 0 e) whole (descending (length chain - 1)) (between 1 (length chain))
     (ap (call_of R chain) n ∙ call-at R chain calls (length calls) d is (omega (arith, l)) (omega arith)) (call-at R chain calls 1 e is (omega arith) (omega (arith, l)) ∙ ap (λ j. get_or calls j e) z)
     (record { turn = λ store. refl; left_by_yes = refl; left_by_no = refl }))
+
+pub asked-last : (R : Recorded) (chain : List ℕ) (strategy : Strategy) (calls : List Term) (last : ℕ) (d e : Term) → calls ≡ calls_in R chain → 2 ≤ length calls → last ≡ length calls
+    → IsAsked R chain strategy (asking.Below (get_or calls (last - 1) d) (get_or calls 0 e)) whole (descending (length calls - 1)) (between 1 last)
+asked-last R chain strategy calls last d e is l n =
+    subst (λ m. IsAsked R chain strategy (asking.Below (get_or calls (m - 1) d) (get_or calls 0 e)) whole (descending (length calls - 1)) (between 1 m)) (sym n) (asked-whole R chain strategy calls d e is l)
 
 pub asked-rising : (R : Recorded) (chain : List ℕ) (strategy : Strategy) (i : ℕ) (e : Earlier) (es : List Earlier)
     → IsAsked R chain strategy (asking.True e.atom) (rising i (e ∷ es)) (rising i es) (denied e)
@@ -162,24 +167,7 @@ atom-is R (suc k) a l m h =
     let e : box_at R (suc k) ≡ Some (get_or R.boxes k no_row) = slice_get-get_or R.boxes k no_row (omega (arith, m)) in
     subst (λ o. IfSome o (λ (r : BoxRow). a ≡ r.atom)) e h ∙ ap (λ (r : BoxRow). r.atom) (ap (λ o. unwrap_or o no_row) (sym e))
 
--- as the code has them
-pub asked-halves : (R : Recorded) (chain : List ℕ) (strategy : Strategy) (calls : List Term) (low high : ℕ) (q p : Term) → calls ≡ calls_in R chain → 1 ≤ low → high ≤ length calls → 1 < high - low
-    → q ≡ get_or calls (low + (high - low) / 2 - 1) q → p ≡ get_or calls (low - 1) p
-    → let middle = low + (high - low) / 2 in IsAsked R chain strategy (asking.Below q p) (between low high) (between middle high) (between low middle)
-asked-halves R chain strategy calls low high q p is l m far f g =
-    let middle = low + (high - low) / 2 in
-    asked-order R chain strategy (get_or calls (middle - 1) q) (get_or calls (low - 1) p) q p (between low high) (between middle high) (between low middle) (sym f) (sym g) (asked-middle R chain strategy calls low high q p is l m far)
-
-pub asked-left : (R : Recorded) (chain : List ℕ) (strategy : Strategy) (calls : List Term) (left : ℕ) (q p : Term) → calls ≡ calls_in R chain → 0 < left → left < length calls → q ≡ get_or calls left q → p ≡ get_or calls (left - 1) p
-    → IsAsked R chain strategy (asking.Below q p) (descending left) (descending (left - 1)) (rising left (earlier_goals R chain left))
-asked-left R chain strategy calls left q p is l m f g =
-    asked-order R chain strategy (get_or calls left q) (get_or calls (left - 1) p) q p (descending left) (descending (left - 1)) (rising left (earlier_goals R chain left)) (sym f) (sym g) (asked-descending R chain strategy calls left q p is l m)
-
-pub asked-last : (R : Recorded) (chain : List ℕ) (strategy : Strategy) (calls : List Term) (q p : Term) → calls ≡ calls_in R chain → 2 ≤ length calls → q ≡ get_or calls (length calls - 1) q → p ≡ get_or calls 0 p
-    → IsAsked R chain strategy (asking.Below q p) whole (descending (length calls - 1)) (between 1 (length calls))
-asked-last R chain strategy calls q p is l f g =
-    asked-order R chain strategy (get_or calls (length calls - 1) q) (get_or calls 0 p) q p whole (descending (length calls - 1)) (between 1 (length calls)) (sym f) (sym g) (asked-whole R chain strategy calls q p is l)
-
+-- what the half of a segment keeps
 pub halved-facts : (s new : Segment) (b : Bool) (n : ℕ) → new ≡ half s (s.low + (s.high - s.low) / 2) b → 1 < s.high - s.low → 1 ≤ s.low → s.high ≤ n → (1 ≤ new.low) × (new.low < new.high) × (new.high ≤ n)
 halved-facts s new b n e l f t =
     let h = half-order s b l in

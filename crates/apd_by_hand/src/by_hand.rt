@@ -149,19 +149,33 @@ fn solve_rule(alloc: Global, recorded: &mut Record) -> Result<(), AllocError>
     Ok(())
 }
 
+/// The run, box by box.
+fn record_run(alloc: Global, recorded: &mut Record) -> Result<(), AllocError>
+    ensures { OnOk result (recorded.new ≡ made) }
+{
+    call_r(alloc, recorded)?;
+    enter_rule(alloc, recorded)?;
+    call_p(alloc, recorded)?;
+    enter_fact(alloc, recorded)?;
+    recorded.note(2, Port::Exit);
+    solve_rule(alloc, recorded)?;
+    recorded.note(1, Port::Exit);
+    Ok(())
+}
+
 /// The record of the run, whose exits are the points 2, of `p`, and 3, of `r`.
 pub fn made(alloc: Global) -> Result<Record, AllocError>
     ensures { IfOk result (λ r. r ≡ made) }
 {
     let mut recorded = Record::new(alloc);
-    call_r(alloc, &mut recorded)?;
-    enter_rule(alloc, &mut recorded)?;
-    call_p(alloc, &mut recorded)?;
-    enter_fact(alloc, &mut recorded)?;
-    recorded.note(2, Port::Exit);
-    solve_rule(alloc, &mut recorded)?;
-    recorded.note(1, Port::Exit);
-    Ok(recorded)
+    match record_run(alloc, &mut recorded) {
+        Ok(()) => Ok(recorded),
+        Err(fault) => {
+            // Dropped by a call: else each of its fields is dropped by itself, in as many steps to check.
+            drop(recorded);
+            Err(fault)
+        }
+    }
 }
 
 /// What is told first: the atom isn't true.

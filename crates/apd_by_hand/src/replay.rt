@@ -214,6 +214,26 @@ fn query_of(alloc: Global, clause: &Tuple) -> Option<Query> {
     })
 }
 
+/// Records a run of the query by the program that enters the clauses by the instances behind the first.
+fn replay(
+    alloc: Global,
+    program: &Program,
+    query: &Query,
+    instances: &Program,
+    recorded: &mut Record,
+) -> Option<()>
+    ensures { OnSome result (IsSound (tuples_of program.now) recorded.new) }
+{
+    recorded.begin(query).ok()?;
+    let mut newest = PointId(0);
+    'instances: for before in 1..instances.count() {
+        let tuple = copy_tuple(alloc, &instances.clause(before + 1).tuple).ok()?;
+        newest = enter(alloc, recorded, newest, program, tuple)?;
+        newest = leave_all(alloc, recorded, newest)?;
+    }
+    Some(())
+}
+
 /// The record of a run by the program that never goes back and enters the clauses by these instances, of which the first
 /// is the query's. None where an instance isn't one of a clause or doesn't fit where it stands, or for want of memory.
 pub fn replayed(alloc: Global, program: &Program, instances: &Program) -> Option<Record>
@@ -224,12 +244,13 @@ pub fn replayed(alloc: Global, program: &Program, instances: &Program) -> Option
     }
     let query = query_of(alloc, &instances.clause(1).tuple)?;
     let mut recorded = Record::new(alloc);
-    recorded.begin(&query).ok()?;
-    let mut newest = PointId(0);
-    'instances: for before in 1..instances.count() {
-        let tuple = copy_tuple(alloc, &instances.clause(before + 1).tuple).ok()?;
-        newest = enter(alloc, &mut recorded, newest, program, tuple)?;
-        newest = leave_all(alloc, &mut recorded, newest)?;
+    let made = replay(alloc, program, &query, instances, &mut recorded);
+    drop(query);
+    match made {
+        Some(()) => Some(recorded),
+        None => {
+            drop(recorded);
+            None
+        }
     }
-    Some(recorded)
 }

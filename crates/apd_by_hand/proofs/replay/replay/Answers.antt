@@ -1,5 +1,5 @@
 use Rattle.apd_clauses.specs.Clauses.{tuples_of}
-use Rattle.apd_by_hand.proofs.replay.replayed.Goals as goal
+use Rattle.apd_by_hand.proofs.replay.replay.Goals as goal
 
 pub instances-preserved : goal.instances-preserved
 instances-preserved c = record {

@@ -1,5 +1,5 @@
 -- A store keeps each pair and each predicate once; so statements that tell its pairs in their order, up to canonical form, make such a store again.
-use Rattle.std.proofs.Common.{◌≡◌, ◌++◌, ◌&&◌, ◌||◌, Bool, true, false, if◌then◌else◌, List, [], ◌∷◌, refl, sym, ◌∙◌, ap, subst}
+use Rattle.std.proofs.Common.{◌≡◌, ◌++◌, ◌&&◌, ◌||◌, Bool, false, if◌then◌else◌, List, [], ◌∷◌, refl, sym, ◌∙◌, ap, subst}
 use Rattle.apd_answers.specs.declared.question.Question.{Question}
 use Rattle.apd_answers.specs.declared.question.Reply.{Reply}
 use Rattle.apd_answers.specs.declared.store.Pair.{Pair}
@@ -65,14 +65,6 @@ put-again ps qs n s = all-put [] qs (new-same [] [] ps qs tt s n)
 new-more : (before ps : List Pair) (p : Pair) → AreNew before ps → is_kept_in (before ++ ps) p.question p.reply ≡ false → AreNew before (ps ++ p ∷ [])
 new-more before [] p n e = (subst (λ xs. is_kept_in xs p.question p.reply ≡ false) (none_behind before) e, tt)
 new-more before (x ∷ ps) p n e = (n.0, new-more (before ++ x ∷ []) ps p n.1 (subst (λ xs. is_kept_in xs p.question p.reply ≡ false) (sym (one_behind before ps x)) e))
-
--- a pair that is put to a store leaves each kept once
-pub once-put : (pairs : List Pair) (q : Question) (r : Reply) → AreOnce pairs → AreOnce (with_pair_in pairs q r)
-once-put pairs q r o = by (is_kept_in pairs q r) refl
-  where
-    by : (b : Bool) → is_kept_in pairs q r ≡ b → AreOnce (if b then pairs else pairs ++ record { question = q; reply = r } ∷ [])
-    by true e = o
-    by false e = new-more [] pairs (record { question = q; reply = r }) o e
 
 -- a pair behind others, which isn't kept by them
 pub once-behind : (ps new : List Pair) (p : Pair) (form : Question) (reply : Reply) (b : Bool) → AreOnce ps → new ≡ ps ++ p ∷ [] → canonical_question p.question ≡ form → p.reply ≡ reply

@@ -19,6 +19,7 @@ use Rattle.apd_term.proofs.Opposite.{matching-forced, matching-stays, opposite-s
 use Rattle.apd_record.specs.Recorded.{Recorded}
 use Rattle.apd_term.specs.declared.instance.Instance.{Instance}
 use Rattle.apd_record.specs.Sound.{IsAlwaysTrue, IsSound}
+use Rattle.apd_term.proofs.Spelling.{length-apply_all}
 use Rattle.apd_answers.specs.declared.finding.Finding.{Finding}
 use Rattle.apd_answers.specs.declared.finding.Finding.TheVariants.{WrongInstance, Uncovered, Violation, Candidates}
 use Rattle.apd_answers.specs.Interpretation.{Interpretation, Holds, HoldsBy, IsValid}
@@ -28,14 +29,14 @@ use Rattle.apd_answers.specs.Bugs.{IsBug, IsWrongInstance, IsWrongAmong, IsUncov
 use Rattle.apd_answers.specs.Findings.{IsByReplies, IsWrongByReplies, IsUncoveredByReplies, IsViolationByReplies, AreCandidates, SaysNoToFirst, IsHeadAmong, IsTrueBy, IsTrueWhere, IsClosed, IsFalseBuiltin, instance_for, Apart, same, said, through, AllDescendByReplies, Descends}
 use Rattle.apd_term.proofs.Variants.{IsInstance_from_variants}
 use Rattle.apd_answers.proofs.Truth.{valid-ground, holds-valid, valid-instance}
-use Rattle.apd_answers.proofs.Trusted.{count-apply, granted_so}
+use Rattle.apd_answers.proofs.Trusted.{granted_so}
 use Rattle.apd_answers.proofs.Decided.{says_yes-true, says_no-true, says_uncovered-true, says_below-true, says_not_below-true}
 
 -- an instance of an atom is one of the same built-in goal, or of none
 builtin-apply : (s : ℕ → Term) (a : Term) (g : Builtin) → builtin_of_atom a ≡ Some g → builtin_of_atom (apply s a) ≡ Some g
 builtin-apply s (variable v) g e = absurd (cc)
 builtin-apply s (integer i) g e = absurd (cc)
-builtin-apply s (compound f ts) g e = ap (λ n. builtin_of (record { name = f; arity = n })) (count-apply s ts) ∙ e
+builtin-apply s (compound f ts) g e = ap (λ n. builtin_of (record { name = f; arity = n })) (length-apply_all s ts) ∙ e
 
 -- an atom of a built-in goal that is always true is valid
 builtin-valid : (m : Interpretation) (a : Term) (g : Builtin) → builtin_of_atom a ≡ Some g → IsAlwaysTrue a → IsValid m a

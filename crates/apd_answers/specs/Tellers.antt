@@ -1,5 +1,5 @@
 -- Tellers: the pairs that may tell whether an atom is true, by which a store finds the first that does.
-use Rattle.std.specs.Prelude.{ℕ, ◌≡◌, ◌⊎◌, ◌+◌, ◌<◌, Bool, List, [], ◌∷◌, Option, Some, None, All, if◌then◌else◌, nat_eq, slice_get}
+use Rattle.std.specs.Prelude.{ℕ, ◌≡◌, ◌⊎◌, ◌<◌, List, Option, Some, None, All, slice_get}
 use Rattle.apd_term.specs.Term.{Term, predicate_of}
 use Rattle.apd_term.specs.declared.term.Pred.{Pred}
 use Rattle.apd_term.specs.declared.term.Sym.{Sym}
@@ -9,8 +9,9 @@ use Rattle.apd_answers.specs.declared.question.Question.{Question}
 use Rattle.apd_answers.specs.declared.question.Question.TheVariants as asks
 use Rattle.apd_answers.specs.declared.question.Reply.{Reply}
 use Rattle.apd_answers.specs.declared.store.Pair.{Pair}
-use Rattle.apd_answers.specs.declared.tellers.Told.{Told}
-use Rattle.apd_answers.specs.Marks.{Index, mixed, places_at}
+use Rattle.apd_answers.specs.declared.tellers.Teller.{Teller}
+use Rattle.apd_marks.specs.Mixing.{mixed}
+use Rattle.apd_marks.specs.Places.{places_of}
 use Rattle.apd_answers.specs.Store.{told}
 
 -- a first symbol; of a variable it says no more than that it is one
@@ -40,19 +41,12 @@ telling_mark (asks.True a) = mark_by (predicate_of a) (key_of a)
 telling_mark (asks.Covers t) = any_atom
 telling_mark (asks.Below q p) = no_atom
 
--- the places of the pairs that pass a test, in order, where the first pair has place n
-abbrev pub places_where : ℕ → (Pair → Bool) → List Pair → List ℕ
-places_where n test [] = []
-places_where n test (p ∷ ps) =
-    if test p then n ∷ places_where (n + 1) test ps else places_where (n + 1) test ps
+abbrev pub telling_of : Pair → ℕ
+telling_of pair = telling_mark pair.question
 
 -- the places of the pairs with this mark, in order
 abbrev pub tellers : ℕ → List Pair → List ℕ
-tellers mark ps = places_where 0 (λ (p : Pair). nat_eq mark (telling_mark p.question)) ps
-
--- the index has the places of each mark's pairs
-abbrev pub AreTellers : List Pair → Index → Type 0
-AreTellers ps m = (mark : ℕ) → places_at m mark ≡ tellers mark ps
+tellers mark pairs = places_of telling_of mark pairs
 
 -- the first argument begins with a name or an integer, or there is none: so few pairs may tell of such an atom
 abbrev pub IsNarrow : Pred → Sym → Type 0
@@ -71,10 +65,10 @@ pub record IsFirst (ps : List Pair) (a : Term) (places : List ℕ) (place : ℕ)
   pub before : All (λ k. k < place → TellsNothing ps a k) places
 
 -- the first of the pairs at these places that tells whether the atom is true; none where none does
-abbrev pub IsFirstTold : List Pair → Term → List ℕ → Option Told → Type 0
+abbrev pub IsFirstTold : List Pair → Term → List ℕ → Option Teller → Type 0
 IsFirstTold ps a places None = All (TellsNothing ps a) places
 IsFirstTold ps a places (Some t) = IsFirst ps a places t.place t.reply
 
-abbrev pub reply_in : Option Told → Option Reply
+abbrev pub reply_in : Option Teller → Option Reply
 reply_in None = None
 reply_in (Some t) = Some t.reply

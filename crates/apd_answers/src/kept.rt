@@ -2,15 +2,16 @@
 
 ghost use Rattle.std.specs.Prelude.{◌≡◌, ◌&&◌, IfOk};
 ghost use Rattle.apd_answers.specs.Questions.{canonical_question};
-ghost use Rattle.apd_answers.specs.Marks.{mark_of, mark_of_form, places_from, replied_mark, with_reply};
+ghost use Rattle.apd_marks.specs.Places.{places_of};
+ghost use Rattle.apd_answers.specs.Marks.{mark_of, mark_of_form, replied_mark, with_reply};
 ghost use Rattle.apd_answers.specs.Store.{is_kept_as, reply_to, same_question, same_reply};
 ghost use Rattle.apd_answers.specs.Tellers.{telling_mark};
 
 use crate::marks::{PairMarks, mark_of_form, with_reply};
 use crate::question::{Question, Reply};
+use crate::same::{same_question, same_reply};
 use crate::store::Pair;
 use crate::tellers::telling_mark;
-use crate::tests_of::{same_question, same_reply};
 use std::alloc::{AllocError, Global};
 
 /// Whether the pair's question has this canonical form.
@@ -28,7 +29,7 @@ pub(crate) fn reply_to(
     places: &[usize],
     form: &Question,
 ) -> Result<Option<Reply>, AllocError>
-    requires { places.now ≡ places_from mark_of 0 (mark_of_form form.now) pairs.now }
+    requires { places.now ≡ places_of mark_of (mark_of_form form.now) pairs.now }
     ensures { IfOk result (λ r. r ≡ reply_to pairs.now form.now) }
 {
     'places: for place in places {
@@ -73,7 +74,7 @@ pub(crate) fn is_kept(
     form: &Question,
     reply: &Reply,
 ) -> Result<bool, AllocError>
-    requires { places.now ≡ places_from replied_mark 0
+    requires { places.now ≡ places_of replied_mark
         (with_reply (mark_of_form form.now) reply.now) pairs.now }
     ensures { IfOk result (λ b. b ≡ is_kept_as pairs.now form.now reply.now) }
 {

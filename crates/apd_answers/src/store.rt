@@ -9,7 +9,8 @@ ghost use Rattle.apd_answers.specs.declared.question.Question.TheVariants.{True}
 ghost use Rattle.apd_answers.specs.declared.question.Reply.TheVariants.{Unknown};
 ghost use Rattle.apd_answers.specs.Fitting.{AllFit};
 ghost use Rattle.apd_answers.specs.Once.{AreListedOnce, AreOnce};
-ghost use Rattle.apd_answers.specs.Marks.{mark_of, places_from, replied_mark};
+ghost use Rattle.apd_marks.specs.Places.{places_of};
+ghost use Rattle.apd_answers.specs.Marks.{mark_of, replied_mark};
 ghost use Rattle.apd_answers.specs.Store.{told_of_truth, decided_in, decided, is_doubted, empty_store, with_pair, same_question, is_kept};
 ghost use Rattle.apd_answers.specs.Tellers.{IsFirstTold, IsNarrow, tellers};
 ghost use Rattle.apd_term.specs.Term.{predicate_of};
@@ -18,13 +19,14 @@ ghost use Rattle.apd_ports.specs.Filter.{is_predicate};
 ghost use Rattle.apd_answers.specs.Trust.{with_trust};
 
 use crate::kept::{is_kept, marks_of, reply_to};
-use crate::marks::{Places, mark_of_form, note_all, with_mark, with_reply};
+use crate::marks::{mark_of_form, note_all, with_reply};
 use crate::question::{Question, Reply};
+use crate::same::same_question;
 use crate::tellers::{
-    ANY_ATOM, Told, VARIABLE, earlier, first_told, is_narrow, mark_of_atoms, reply_in,
+    ANY_ATOM, Teller, VARIABLE, earlier, first_told, is_narrow, mark_of_atoms, reply_in,
 };
-use crate::tests_of::same_question;
 use apd_cells::first::key_of;
+use apd_marks::{Places, with_mark};
 use apd_term::{Atoms, Flat, Pred, Preds, Subst, Tuple, apply_tuple, canonical_tuple};
 use indexmap::{IndexMap, IndexSet};
 use std::alloc::{AllocError, Global};
@@ -160,10 +162,11 @@ impl Model for Answers {
     ghost use Rattle.std.specs.Prelude.{◌≡◌};
     ghost use Rattle.apd_answers.specs.Codes.{store_code};
     ghost use Rattle.apd_answers.specs.Fitting.{AllFitIn};
-    ghost use Rattle.apd_answers.specs.Marks.{IsIndexOf, mark_of, replied_mark};
+    ghost use Rattle.apd_marks.specs.Places.{IsIndexOf};
+    ghost use Rattle.apd_answers.specs.Marks.{mark_of, replied_mark};
     ghost use Rattle.apd_answers.specs.Once.{AreListedOnce, AreOnce};
     ghost use Rattle.apd_answers.specs.Store.{Store};
-    ghost use Rattle.apd_answers.specs.Tellers.{AreTellers};
+    ghost use Rattle.apd_answers.specs.Tellers.{telling_of};
 
     ghost Value = { Store };
 
@@ -172,7 +175,7 @@ impl Model for Answers {
     ghost view = { λ a. record { pairs = a.pairs.items; trusted = a.trusted } };
 
     ghost invariant = { λ a. AllFitIn a.pairs.items × IsIndexOf mark_of a.pairs.items a.places
-        × AreOnce a.pairs.items × AreTellers a.pairs.items a.tellers × AreListedOnce a.trusted
+        × AreOnce a.pairs.items × IsIndexOf telling_of a.pairs.items a.tellers × AreListedOnce a.trusted
         × IsIndexOf replied_mark a.pairs.items a.replied × (a.listed.keys ≡ a.trusted) };
 }
 
@@ -194,20 +197,20 @@ impl Answers {
 
     /// The places of the pairs with this mark, in order.
     fn places_of(&self, mark: u64) -> &[usize]
-        ensures { result.now ≡ places_from mark_of 0 mark self.now.pairs }
+        ensures { result.now ≡ places_of mark_of mark self.now.pairs }
     {
         with_mark(&self.places, mark)
     }
 
     /// The places of the pairs with this mark of a question and a reply, in order.
     fn replied_of(&self, mark: u64) -> &[usize]
-        ensures { result.now ≡ places_from replied_mark 0 mark self.now.pairs }
+        ensures { result.now ≡ places_of replied_mark mark self.now.pairs }
     {
         with_mark(&self.replied, mark)
     }
 
     /// The first of the pairs with this mark that tells whether the atom is true.
-    fn first_with(&self, mark: u64, atom: &Flat) -> Result<Option<Told>, AllocError>
+    fn first_with(&self, mark: u64, atom: &Flat) -> Result<Option<Teller>, AllocError>
         ensures { IfOk result (IsFirstTold self.now.pairs atom.now (tellers mark self.now.pairs)) }
     {
         let places = with_mark(&self.tellers, mark);

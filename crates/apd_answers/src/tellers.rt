@@ -6,10 +6,10 @@ ghost use Rattle.apd_term.specs.Term.{Term};
 ghost use Rattle.apd_answers.specs.declared.store.Pair.{Pair};
 ghost use Rattle.apd_answers.specs.Tellers.{IsFirstTold, IsNarrow, leading, mark_of_atoms, reply_in, telling_mark};
 
-use crate::marks::mixed;
 use crate::question::{Question, Reply};
 use crate::store::{Pair, told_of_truth};
 use apd_cells::first::key_of;
+use apd_marks::mixed;
 use apd_term::{Flat, Pred, Sym};
 use std::alloc::{AllocError, Global};
 
@@ -27,7 +27,7 @@ pub(crate) const VARIABLE: Sym = Sym::Var(0);
 
 /// What a pair tells of an atom, and the pair's place.
 #[derive(Drop)]
-pub(crate) struct Told {
+pub(crate) struct Teller {
     pub place: usize,
     pub reply: Reply,
 }
@@ -79,7 +79,7 @@ pub(crate) fn first_told(
     pairs: &[Pair],
     places: &[usize],
     atom: &Flat,
-) -> Result<Option<Told>, AllocError>
+) -> Result<Option<Teller>, AllocError>
     requires within { All (λ k. k < length pairs.now) places.now }
     requires rising { IsNonDecreasing places.now }
     ensures { IfOk result (IsFirstTold pairs.now atom.now places.now) }
@@ -87,7 +87,7 @@ pub(crate) fn first_told(
     'places: for place in places {
         let pair = &pairs[*place];
         if let Some(reply) = told_of_truth(alloc, pair, atom)? {
-            return Ok(Some(Told {
+            return Ok(Some(Teller {
                 place: *place,
                 reply,
             }));
@@ -97,7 +97,7 @@ pub(crate) fn first_told(
 }
 
 /// The earlier of the two, where there are both.
-pub(crate) fn earlier(one: Option<Told>, other: Option<Told>) -> Option<Told>
+pub(crate) fn earlier(one: Option<Teller>, other: Option<Teller>) -> Option<Teller>
     ensures { (ps : List Pair) (a : Term) (xs ys : List ℕ) →
         IsFirstTold ps a xs one → IsFirstTold ps a ys other → IsFirstTold ps a (xs ++ ys) result }
 {
@@ -109,7 +109,7 @@ pub(crate) fn earlier(one: Option<Told>, other: Option<Told>) -> Option<Told>
 }
 
 /// What is told.
-pub(crate) fn reply_in(told: Option<Told>) -> Option<Reply>
+pub(crate) fn reply_in(told: Option<Teller>) -> Option<Reply>
     ensures { result ≡ reply_in told }
 {
     match told {

@@ -35,9 +35,6 @@ variables_frames-apply : (s : ℕ → Term) (F : List Frame) → variables_of_fr
 variables_frames-apply s [] = refl
 variables_frames-apply s (f ∷ F) = rw (flat_map-append (λ v. variables (s v)) (variables_of_tuple f.tuple) (variables_of_frames F), variables_tuple-apply s f.tuple, variables_frames-apply s F) refl
 
-pub IsBelow-more : (n m : ℕ) (F : List Frame) → n ≤ m → IsBelow n F → IsBelow m F
-IsBelow-more n m F le h v o = omega (arith, h v o)
-
 -- frames under a substitution whose terms have variables below n only
 pub IsBelow-apply : (n : ℕ) (s : ℕ → Term) (F : List Frame) → IsBelow n F → ((w v : ℕ) → w < n → IsAmong (variables (s w)) v → v < n) → IsBelow n (apply_frames s F)
 IsBelow-apply n s F below h v o =

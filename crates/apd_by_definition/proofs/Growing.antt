@@ -80,7 +80,3 @@ full_boxes n m o h k = inl (omega (arith, k.0))
 
 pub full_points : (n m : ℕ) (o : Out) → 4294967295 ≤ m → IsPast n m o → IsFull o
 full_points n m o h k = inr (omega (arith, k.1))
-
-pub full_then : (o : Out) (f : ℕ → ℕ → Out) → IsFull o → Grows f → IsFull (and_then o f)
-full_then o f (inl h) k = inl (omega (arith, (k o.boxes o.points).0))
-full_then o f (inr h) k = inr (omega (arith, (k o.boxes o.points).1))

@@ -1,6 +1,6 @@
 -- The nodes of a list of frames.
 use Rattle.std.proofs.Common.{◌≡◌, ℕ, ◌+◌, ◌<◌, ◌≤◌, List, [], ◌∷◌, ◌++◌, length, get_or, take, map, refl, sym, ◌∙◌, ap, subst}
-use Rattle.std.proofs.lemmas.List.{take_all, take_more, map_more, map-append}
+use Rattle.std.proofs.lemmas.List.{take_all, take_more, map_more}
 use Rattle.apd_term.specs.Term.{Term, apply, IsGround}
 use Rattle.apd_term.specs.Tuple.{apply_tuple}
 use Rattle.apd_term.specs.declared.tuple.Tuple.{Tuple}
@@ -33,33 +33,11 @@ map_twice : (s : ℕ → Term) (nodes : List Node) → map (applied_frame_of s) 
 map_twice s [] = refl
 map_twice s (n ∷ nodes) = ap (λ F. applied_frame_of s n ∷ F) (map_twice s nodes)
 
--- one more node behind the first frame
-pub nodes_more : (s : ℕ → Term) (first : Frame) (nodes out out' : List Node) (i : ℕ) (x y : Node)
-    → out' ≡ out ++ y ∷ [] → i < length nodes → x ≡ get_or nodes i x → map frame_of out ≡ first ∷ map (applied_frame_of s) (take i nodes) → frame_of y ≡ applied_frame_of s x
-    → map frame_of out' ≡ first ∷ map (applied_frame_of s) (take (i + 1) nodes)
-nodes_more s first nodes out out' i x y pushed lt at was is =
-    ap (map frame_of) pushed
-    ∙ map-append frame_of out (y ∷ [])
-    ∙ ap (λ o. o ++ frame_of y ∷ []) was
-    ∙ ap (λ z. first ∷ (map (applied_frame_of s) (take i nodes) ++ z ∷ [])) (is ∙ ap (applied_frame_of s) at)
-    ∙ ap (λ z. first ∷ z) (sym (map_more (applied_frame_of s) nodes i x lt))
-
 -- all of them
 pub nodes_all : (s : ℕ → Term) (first : Frame) (nodes out : List Node) (F : List Frame) (i : ℕ)
     → map frame_of nodes ≡ F → length nodes ≤ i → map frame_of out ≡ first ∷ map (applied_frame_of s) (take i nodes) → map frame_of out ≡ first ∷ apply_frames s F
 nodes_all s first nodes out F i is past was =
     was ∙ ap (λ ns. first ∷ map (applied_frame_of s) ns) (take_all i nodes past) ∙ ap (λ z. first ∷ z) (map_twice s nodes) ∙ ap (λ G. first ∷ apply_frames s G) is
-
--- one more node that is shared
-pub shared_more : (nodes out out' : List Node) (i : ℕ) (x y : Node)
-    → out' ≡ out ++ y ∷ [] → i < length nodes → x ≡ get_or nodes i x → map frame_of out ≡ map frame_of (take i nodes) → frame_of y ≡ frame_of x
-    → map frame_of out' ≡ map frame_of (take (i + 1) nodes)
-shared_more nodes out out' i x y pushed lt at was is =
-    ap (map frame_of) pushed
-    ∙ map-append frame_of out (y ∷ [])
-    ∙ ap (λ o. o ++ frame_of y ∷ []) was
-    ∙ ap (λ z. map frame_of (take i nodes) ++ z ∷ []) (is ∙ ap frame_of at)
-    ∙ sym (map_more frame_of nodes i x lt)
 
 -- all of them
 pub shared_all : (nodes out : List Node) (F : List Frame) (i : ℕ)

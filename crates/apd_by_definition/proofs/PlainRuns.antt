@@ -1,32 +1,26 @@
 -- The plain program's run is the run of its trace.
-use Rattle.std.proofs.Common.{◌≡◌, ℕ, zero, suc, ◌+◌, ◌-◌, ◌<◌, ◌≤◌, List, [], ◌∷◌, ◌++◌, length, refl, ap, sym, ◌∙◌, subst, arith, append_assoc, append-nil, None, true, false}
+use Rattle.std.proofs.Common.{◌≡◌, ℕ, suc, ◌+◌, ◌-◌, ◌<◌, ◌≤◌, List, [], ◌∷◌, ◌++◌, length, refl, ap, sym, ◌∙◌, subst, arith, append_assoc, None, true, false}
 use Rattle.std.proofs.lemmas.List.{length-map}
 use Rattle.apd_term.specs.Term.{Term}
 use Rattle.apd_term.specs.Canonical.{by_appearance, canonical_in}
 use Rattle.apd_term.specs.Tuple.{canonical_tuple, variables_of_tuple, size_of_tuple}
 use Rattle.apd_term.specs.declared.tuple.Tuple.{Tuple}
-use Rattle.apd_causes.specs.declared.run.Ran.{Ran}
-use Rattle.apd_causes.specs.declared.run.RunEnd.{RunEnd}
-use Rattle.apd_causes.specs.declared.run.RunEnd.TheVariants.{Budget, AnswerLimit, Error as EndsInError}
-use Rattle.apd_causes.specs.declared.run.RunError.{RunError}
 use Rattle.apd_ports.specs.declared.event.Event.{Event}
 use Rattle.apd_ports.specs.declared.hook.Shown.{Shown}
 use Rattle.apd_ports.specs.declared.hook.Shown.TheVariants.{Port as ShownPort, Answer as ShownAnswer}
 use Rattle.apd_trace.specs.Frames.{query_frame}
 use Rattle.apd_trace.specs.Renaming.{IsBelow}
-use Rattle.apd_trace.specs.Run.{Run, run_of, stop, pass, hold, shown_of, ports_of, answers_of, ran_of}
+use Rattle.apd_trace.specs.Run.{Run, run_of, pass, shown_of, ports_of, answers_of}
 use Rattle.apd_trace.specs.Trace.{Out, search_from, up_to_error, point_of, trace}
 use Rattle.apd_trace.specs.declared.frame.Frame.{Frame}
 use Rattle.apd_trace.specs.declared.item.Item.{Item}
 use Rattle.apd_trace.specs.declared.item.Item.TheVariants.{Passed, Answer, Made, Error}
-use Rattle.apd_ports.specs.declared.point.Point.{Point}
 use Rattle.apd_trace.proofs.Clauses.{canonical_query}
 use Rattle.apd_trace.proofs.Renamed.{same_point}
 use Rattle.apd_trace.proofs.Searched.{search_same}
 use Rattle.apd_by_definition.specs.Searched.{is_error, traced}
 use Rattle.apd_engine.specs.Search.{IsOpen}
 use Rattle.apd_by_definition.proofs.Below.{query_fresh}
-use Rattle.apd_engine.proofs.RunFacts.{shown_of-hold, ports_of-hold, answers_of-hold}
 
 -- nothing follows an error
 last_kept : (i : Item) (xs : List Item) → is_error i ≡ true → up_to_error (i ∷ xs) ≡ i ∷ []
@@ -82,15 +76,6 @@ pub record Shows (whole left : Run) (shown : List Shown) (ports answered : ℕ) 
   pub answers_told : answers_of whole.passed ≡ answered + answers_of left.passed
 
 module _ (whole : Run) (s : List Shown) (p a : ℕ) where
-  shows_hold : (q : Point) (r : Run) → Shows whole (hold (Made q) r) s p a → Shows whole r s p a
-  shows_hold q r h =
-      record {
-        told = h.told ∙ ap (λ xs. s ++ xs) (shown_of-hold q r.passed);
-        end = h.end;
-        ports_told = h.ports_told ∙ ap (λ n. p + n) (ports_of-hold q r.passed);
-        answers_told = h.answers_told ∙ ap (λ n. a + n) (answers_of-hold q r.passed);
-      }
-
   shows_pass : (e : Event) (r : Run) (s' : List Shown) → s' ≡ s ++ ShownPort e ∷ [] → Shows whole (pass (Passed e) r) s p a → Shows whole r s' (p + 1) a
   shows_pass e r s' pushed h =
       record {
@@ -109,19 +94,6 @@ module _ (whole : Run) (s : List Shown) (p a : ℕ) where
         answers_told = omega (arith, h.answers_told);
       }
 
-  -- all of it was shown
-  pub whole_shown : (e : RunEnd) → Shows whole (stop e) s p a → s ≡ shown_of whole.passed
-  whole_shown e h = sym (h.told ∙ append-nil s)
-
-  pub whole_ran : (e : RunEnd) (ran : Ran) → Shows whole (stop e) s p a → ran ≡ record { end = e; ports = p; answers = a } → ran ≡ ran_of whole
-  whole_ran e ran h is =
-      let ports : p ≡ ports_of whole.passed = omega (arith, h.ports_told) in
-      let answers : a ≡ answers_of whole.passed = omega (arith, h.answers_told) in
-      is ∙ ap (λ n. rest_of e n a) ports ∙ ap (λ n. rest_of e (ports_of whole.passed) n) answers ∙ ap (λ x. rest_of x (ports_of whole.passed) (answers_of whole.passed)) (sym h.end)
-    where
-      rest_of : RunEnd → ℕ → ℕ → Ran
-      rest_of x n m = record { end = x; ports = n; answers = m }
-
 -- the run before its first item
 pub starts_shown : (whole : Run) → Shows whole whole [] 0 0
 starts_shown whole = record { told = refl; end = refl; ports_told = omega arith; answers_told = omega arith }
@@ -130,9 +102,6 @@ starts_shown whole = record { told = refl; end = refl; ports_told = omega arith;
 module _ (budget answers : ℕ) (whole : Run) (items rest : List Item) (i : Item) (s : List Shown) (p a : ℕ) (first : items ≡ i ∷ rest) (was : Shows whole (run_of items (budget - p) (answers - a)) s p a) where
   at_item : (j : Item) → i ≡ j → Shows whole (run_of (j ∷ rest) (budget - p) (answers - a)) s p a
   at_item j is = subst (λ xs. Shows whole (run_of xs (budget - p) (answers - a)) s p a) (first ∙ ap (λ x. x ∷ rest) is) was
-
-  pub made_step : (q : Point) → i ≡ Made q → Shows whole (run_of rest (budget - p) (answers - a)) s p a
-  made_step q is = shows_hold whole s p a q (run_of rest (budget - p) (answers - a)) (at_item (Made q) is)
 
   pub port_step : (e : Event) (s' : List Shown) → i ≡ Passed e → p < budget → s' ≡ s ++ ShownPort e ∷ [] → Shows whole (run_of rest (budget - (p + 1)) (answers - a)) s' (p + 1) a
   port_step e s' is within pushed =
@@ -145,16 +114,3 @@ module _ (budget answers : ℕ) (whole : Run) (items rest : List Item) (i : Item
       let one : suc (answers - (a + 2)) ≡ answers - (a + 1) = omega arith in
       shows_answer whole s p a v (run_of rest (budget - p) (answers - (a + 1))) s' pushed
       (subst (λ k. Shows whole (pass (Answer v) (run_of rest (budget - p) k)) s p a) one (subst (λ k. Shows whole (run_of (Answer v ∷ rest) (budget - p) k) s p a) two (at_item (Answer v) is)))
-
-  pub error_end : (e : RunError) (b : ℕ) → i ≡ Error e b → Shows whole (stop (EndsInError e b)) s p a
-  error_end e b is = at_item (Error e b) is
-
-  pub budget_end : (e : Event) → i ≡ Passed e → p ≡ budget → Shows whole (stop Budget) s p a
-  budget_end e is full =
-      let none : budget - p ≡ 0 = omega arith in
-      subst (λ k. Shows whole (run_of (Passed e ∷ rest) k (answers - a)) s p a) none (at_item (Passed e) is)
-
-  pub limit_end : (v : Term) (s' : List Shown) → i ≡ Answer v → a + 1 ≡ answers → s' ≡ s ++ ShownAnswer v ∷ [] → Shows whole (stop AnswerLimit) s' p (a + 1)
-  limit_end v s' is full pushed =
-      let one : answers - a ≡ suc zero = omega arith in
-      shows_answer whole s p a v (stop AnswerLimit) s' pushed (subst (λ k. Shows whole (run_of (Answer v ∷ rest) (budget - p) k) s p a) one (at_item (Answer v) is))

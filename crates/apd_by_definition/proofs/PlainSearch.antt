@@ -1,13 +1,12 @@
 -- The plain search makes what its definition says.
-use Rattle.std.proofs.Common.{◌≡◌, ℕ, suc, ◌+◌, ◌-◌, ◌<◌, ◌≤◌, List, [], ◌∷◌, ◌++◌, drop, refl, ap, sym, ◌∙◌, subst, arith, append_assoc, Option, Some, None, true, false}
+use Rattle.std.proofs.Common.{◌≡◌, ℕ, suc, ◌+◌, ◌-◌, ◌<◌, ◌≤◌, List, [], ◌∷◌, ◌++◌, drop, refl, ap, sym, ◌∙◌, subst, arith, append_assoc, Option, Some, None, false}
 use Rattle.std.specs.Prelude.{slice_get}
 use Rattle.apd_term.specs.Tuple.{variables_of_tuple}
 use Rattle.apd_term.specs.declared.tuple.Tuple.{Tuple}
-use Rattle.apd_causes.specs.declared.run.RunError.TheVariants.{Size}
 use Rattle.apd_term.proofs.Among.{IsAmong-right}
 use Rattle.apd_clauses.specs.Clauses.{IsRunnable, clauses_for}
 use Rattle.apd_ports.specs.declared.event.Port.TheVariants.{Exit, Redo, Fail}
-use Rattle.apd_trace.specs.Frames.{entering, apart, entered, handed_all, outer, look_of, next_goal, variables_of_frames, point_at, step_from, left}
+use Rattle.apd_trace.specs.Frames.{entering, apart, entered, outer, look_of, next_goal, variables_of_frames, point_at, left}
 use Rattle.apd_trace.specs.BuiltIn.{Solution, solution}
 use Rattle.apd_trace.specs.Renaming.{AreAlike, AreRenamed, IsBelow}
 use Rattle.apd_trace.specs.Trace.{Out, Next, nothing, emit, and_then, at_port, again, closing, over, point_of, begun, tried, tries, hand, succeeded, settled, turn, search_from, up_to_error}
@@ -15,13 +14,13 @@ use Rattle.apd_trace.specs.declared.frame.Frame.{Frame}
 use Rattle.apd_trace.specs.declared.frame.Called.{Called}
 use Rattle.apd_trace.specs.declared.frame.Look.{Look}
 use Rattle.apd_trace.specs.declared.item.Item.{Item}
-use Rattle.apd_trace.specs.declared.item.Item.TheVariants.{Made, Error}
+use Rattle.apd_trace.specs.declared.item.Item.TheVariants.{Made}
 use Rattle.apd_ports.specs.declared.point.Point.{Point}
 use Rattle.apd_ports.specs.declared.point.Step.{Step}
 use Rattle.apd_trace.proofs.Renamed.{renamed_self}
 use Rattle.apd_trace.proofs.Searched.{search_same, tried_same, settled_same}
 use Rattle.apd_frames.specs.Kept.{exit_in, is_large_of, newest_of, point_in}
-use Rattle.apd_by_definition.specs.Searched.{Advances, IsFull, Makes, around, out_of, pointed, traced}
+use Rattle.apd_by_definition.specs.Searched.{Advances, IsFull, Makes, around, pointed, traced}
 use Rattle.apd_engine.specs.Search.{AllWait, IsOpen}
 use Rattle.apd_by_definition.specs.declared.engine.search.Advance.{Advance}
 use Rattle.apd_by_definition.specs.declared.engine.search.Advance.TheVariants.{Full, Ends, Goes}
@@ -43,10 +42,6 @@ pub followed : (o : Option Searched) (i j : Item) (first : Option Searched) (who
     → ((w : Out) → Makes first w → Makes o (and_then w (λ n m. emit i (nothing n m)))) → i ≡ j → Makes first whole → Makes o (and_then whole (λ n m. emit j (nothing n m)))
 followed o i j first whole h is made = subst (λ x. Makes o (and_then whole (λ n m. emit x (nothing n m)))) is (h whole made)
 
--- a search that may go no port deep
-pub makes_none : (P : List Tuple) (d : ℕ) (F : List Frame) (n m : ℕ) (s : Searched) → d ≡ 0 → out_of s ≡ nothing n m → out_of s ≡ search_from P d F n m
-makes_none P d F n m s none is = is ∙ ap (λ k. search_from P k F n m) (sym none)
-
 -- a search that may go some ports deep does what the innermost frame does next
 pub makes_turn : (P : List Tuple) (d : ℕ) (F : List Frame) (n m : ℕ) (look l : Look) (o : Option Searched) → 0 < d → look ≡ look_of F (n + 1) → look ≡ l
     → Makes o (turn (search_from P (d - 1)) P l F n m) → Makes o (search_from P d F n m)
@@ -62,34 +57,6 @@ turn_as P k F n m look l is = ap (λ x. turn (search_from P k) P x F n m) is
 pub outer_below : (q : ℕ) (F G : List Frame) → G ≡ outer F → IsBelow q F → IsBelow q G
 outer_below q [] G is below = rw is below
 outer_below q (f ∷ F) G is below = rw is (λ v o. below v (IsAmong-right (variables_of_tuple f.tuple) (variables_of_frames F) v o))
-
--- frames that an exit is handed to
-pub handed_open : (n m : ℕ) (F : List Frame) (x : ℕ × ℕ) → newest_of F ≡ Some x → AllWait n F → IsOpen n (handed_all F m)
-handed_open n m [] x is h = cc
-handed_open n m (f ∷ F) x is h = (h.1, h.2, h.3)
-
-pub handed_below : (q m : ℕ) (F : List Frame) → IsBelow q F → IsBelow q (handed_all F m)
-handed_below q m [] h = h
-handed_below q m (f ∷ F) h = h
-
-pub hand_none : (next : Next) (F : List Frame) (e n m : ℕ) → newest_of F ≡ None → hand next F e n m ≡ nothing n m
-hand_none next [] e n m is = refl
-hand_none next (f ∷ F) e n m is = cc
-
-pub hand_large : (next : Next) (F : List Frame) (e n m b p : ℕ) → newest_of F ≡ Some (b, p) → is_large_of F ≡ true → hand next F e n m ≡ emit (Error Size b) (nothing n m)
-hand_large next [] e n m b p is large = cc
-hand_large next (f ∷ F) e n m b p is large =
-    let both : (f.box_no, f.point) ≡ (b, p) = cc in
-    let same : f.box_no ≡ b = ap (λ (x : ℕ × ℕ). x.0) both in
-    rw (large, same) refl
-
-pub hand_pointed : (next : Next) (F : List Frame) (e n m b p : ℕ) → newest_of F ≡ Some (b, p) → is_large_of F ≡ false
-    → hand next F e n m ≡ pointed (handed_all F m) (Some (step_from p e)) (next (handed_all F m) n (m + 1))
-hand_pointed next [] e n m b p is large = cc
-hand_pointed next (f ∷ F) e n m b p is large =
-    let both : (f.box_no, f.point) ≡ (b, p) = cc in
-    let same : f.point ≡ p = ap (λ (x : ℕ × ℕ). x.1) both in
-    rw (large, same) refl
 
 -- a built-in goal that succeeds
 pub succeeded_around : (next : Next) (g : Called) (F : List Frame) (n m b e : ℕ) → newest_of F ≡ Some (b, e) → is_large_of F ≡ false

@@ -20,26 +20,19 @@ use Rattle.apd_ports.specs.declared.point.Step.{Step}
 use Rattle.apd_record.specs.Index.{id_of}
 use Rattle.apd_record.specs.Recorded.{Recorded, box_at, point_at, goal_left, IsExit, child, first_point, follow}
 use Rattle.apd_record.specs.declared.rows.BoxRow.{BoxRow}
-use Rattle.apd_record.specs.Sound.{IsKept, IsOpen, MayOpen, MayMake, ComeAlike, IsOfClauseIn, clause_of}
+use Rattle.apd_record.specs.Sound.{IsKept, IsOpen, MayOpen, MayMake, ComeAlike, clause_of}
 use Rattle.apd_record.proofs.Readers.{child-is, first-is, follow-is}
-use Rattle.apd_by_hand.specs.Newest.{IsInstanceOf, IsSolvedBy, as_term}
+use Rattle.apd_symptoms.proofs.Exits.{row_there}
+use Rattle.apd_by_hand.specs.Newest.{IsSolvedBy, as_term}
 
 pub get_there : {X : Type 0} (xs : List X) (i : ℕ) → i < length xs → (x : X) × (slice_get xs i ≡ Some x)
 get_there [] i h = absurd (omega (arith, h))
 get_there (x ∷ xs) zero h = (x, refl)
 get_there (x ∷ xs) (suc i) h = get_there xs i (omega (arith, h))
 
-pub not_some : {X : Type 0} (o : Option X) → is_some o ≡ false → o ≡ None
-not_some None e = refl
-not_some (Some x) e = absurd (cc)
-
 pub no_image : {X Y : Type 0} (f : X → Y) (o : Option X) (r : Option Y) → r ≡ option_map f o → is_some r ≡ false → o ≡ None
 no_image f None r e n = refl
 no_image f (Some x) r e n = let bad : true ≡ false = sym (ap is_some e) ∙ n in absurd (cc)
-
-box_there : (R : Recorded) (b : ℕ) → 0 < b → b ≤ length R.boxes → (row : BoxRow) × (box_at R b ≡ Some row)
-box_there R zero some few = absurd (omega (arith, some))
-box_there R (suc i) some few = get_there R.boxes i (omega (arith, few))
 
 pub fits_told : {E : Type 0} (r : Result Bool E) (Q : Bool → Type 0) → result_unwrap_or r false ≡ true → IfOk r Q → Q true
 fits_told (Ok true) Q e h = h
@@ -80,7 +73,7 @@ pub may_enter_by : (R : Recorded) (b c : ℕ) (t : Tuple) (a : Term) (user : Boo
     IfSome (box_at R b) (λ (r : BoxRow). user ≡ r.is_user) → user ≡ true → IfSome (box_at R b) (λ (r : BoxRow). a ≡ r.atom) → IsInstance t.head a →
     first_point R b c ≡ None → IsOpen R b → MayMake R (record { owner = b; clause = c; done = 0; tuple = t; before = None })
 may_enter_by R b c t a user kept some few by_user is by_atom head free grows =
-    let box = box_there R b some few in
+    let box = row_there R b some few in
     let own : user ≡ box.0.is_user = rw box.1 at by_user in
     let atom : a ≡ box.0.atom = rw box.1 at by_atom in
     may_enter R b c t box.0 kept box.1 (sym own ∙ is) (rw atom at head) free grows
@@ -96,7 +89,7 @@ pub may_solve : (R : Recorded) (from at : PointId) (left exit : Point) (d : ℕ)
     follow R from.0 at.0 ≡ None → IsOpen R left.owner →
     MayMake R (record { owner = left.owner; clause = left.clause; done = d; tuple = t; before = Some (record { point = from; exit = at }) })
 may_solve R from at left exit d t kept left_there exit_there is_exit some few by_box by done free grows =
-    let box = box_there R exit.owner some few in
+    let box = row_there R exit.owner some few in
     let called : from ≡ id_of box.0.from = rw box.1 at by_box in
     let p : Point = record { owner = left.owner; clause = left.clause; done = d; tuple = t; before = Some (record { point = from; exit = at }) } in
     record {
@@ -122,13 +115,6 @@ may_solve R from at left exit d t kept left_there exit_there is_exit some few by
       is_new = λ i q there alike. let same = alike_later q p q.before (record { point = from; exit = at }) alike in none-some i (sym free ∙ (follow-is R kept from.0 at.0 i).1 (q, same.0, there, same.1, same.2, same.3));
       is_open = grows;
     }
-
--- the clause of a point
-pub first_of_clause : (P : List Tuple) (R : Recorded) (p : Point) → IsInstanceOf P p.tuple p.clause → IsOfClauseIn P R p
-first_of_clause P R p i n b first owner there user = record { rule = i.0; there = i.1; instance = i.2 }
-
-pub later_of_clause : (P : List Tuple) (R : Recorded) (p : Point) (s : Step) → p.before ≡ Some s → IsOfClauseIn P R p
-later_of_clause P R p s later n b first owner there user = absurd (none-some s (sym first ∙ later))
 
 pub instance_of_tuple : (a b : Tuple) → IsInstance (as_term a) (as_term b) → IsTupleInstance a b
 instance_of_tuple a b i = (i.0, as_term-injective (apply_tuple i.0 b) a (sym (as_term-apply i.0 b) ∙ i.1))

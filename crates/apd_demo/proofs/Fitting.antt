@@ -3,7 +3,7 @@ use Rattle.std.proofs.Common.{◌≡◌, ◌≢◌, ℕ, Bool, true, false, Opti
 use Rattle.std.specs.Prelude.{if◌then◌else◌, nat_le}
 use Rattle.apd_answers.specs.Named.{ReplyIsNamed}
 use Rattle.apd_answers.specs.Questions.{Fits}
-use Rattle.apd_answers.specs.Repliers.{RepliesAreNamed, RepliesFit}
+use Rattle.apd_answers.specs.Repliers.{RepliesFit}
 use Rattle.apd_answers.specs.declared.question.Question.{Question}
 use Rattle.apd_answers.specs.declared.question.Question.TheVariants as asks
 use Rattle.apd_answers.specs.declared.question.Reply.{Reply}
@@ -45,6 +45,3 @@ named_so : (t : TreeNodes) (n : ℕ) (q : Question) → IfGiven (ReplyIsNamed n)
 named_so t n (asks.True a) = about_has (ReplyIsNamed n) tt tt t.count (node_of t a)
 named_so t n (asks.Covers tuple) = tt
 named_so t n (asks.Below callee caller) = tt
-
-pub tree_named : (t : TreeNodes) (least : ℕ) → RepliesAreNamed least (tree_reply t)
-tree_named t least n few q r named e = given (ReplyIsNamed n) (tree_reply t q) r (named_so t n q) e

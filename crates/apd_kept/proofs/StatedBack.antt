@@ -40,6 +40,7 @@ use Rattle.apd_known.specs.Told.{truth_told, values_told, word_told}
 use Rattle.apd_term.specs.Listed.{listed}
 use Rattle.apd_known.specs.Truths.{is_true_if_builtin, passes}
 use Rattle.apd_known.specs.declared.statements.Form.TheVariants.{Second}
+use Rattle.apd_record.proofs.Missing.{both_empty}
 use Rattle.apd_kept.specs.Kept.{apart_from, pair_term, reply_term, trust_term, variable_count}
 use Rattle.apd_kept.proofs.Clauses.{clause_back_from}
 use Rattle.apd_kept.proofs.Forms.{back, clause_apply, clause_back, list_ground, same_form, same_tuple_form, same_unknowns, there, three_back, two_back}
@@ -147,14 +148,10 @@ passes_by : (o : Option Builtin) (a : Term) → IsGround a → (IsSome o → IsT
 passes_by None a ground holds = refl
 passes_by (Some goal) a ground holds = rw (ground_test a ground, true_goal goal (arguments a) (holds refl)) refl
 
-none_left : (xs ys : List ℕ) → xs ++ ys ≡ [] → (xs ≡ []) × (ys ≡ [])
-none_left [] ys e = (refl, e)
-none_left (x ∷ xs) ys e = absurd (cc)
-
 pass_all : (ts : List Term) → flat_map variables ts ≡ [] → AllByRecursion IsTrueIfBuiltin ts → list_all is_true_if_builtin ts ≡ true
 pass_all [] ground holds = refl
 pass_all (t ∷ ts) ground holds =
-    let parts = none_left (variables t) (flat_map variables ts) ground in
+    let parts = both_empty (variables t) (flat_map variables ts) ground in
     rw (passes_by (builtin_of_atom t) t parts.0 holds.0, pass_all ts parts.1 holds.1) refl
 
 -- values under which a body is true, or that there are none

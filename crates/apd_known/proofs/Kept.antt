@@ -142,7 +142,3 @@ few_next at next s now t e further h =
 pub few_so_far : (at : ℕ) (s : Option Stated) (x : Stated) → s ≡ Some x → HasFew at s → x.statements ≤ at
 few_so_far at None x e h = absurd (cc)
 few_so_far at (Some s) x e h = let same : s ≡ x = cc in subst (λ (y : Stated). y.statements ≤ at) same h
-
--- and where all clauses are taken
-pub all_stated_pairs : (n : ℕ) (s : Option Stated) (x : Stated) → s ≡ Some x → SoFar n s → MayState n x.answers
-all_stated_pairs n s x e h = subst (SoFar n) e h

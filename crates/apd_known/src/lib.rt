@@ -15,4 +15,4 @@ pub use laws::one_statement_list;
 pub use scripted::{Scripted, fits_body};
 pub use statements::Form;
 pub use told::{truth_told, values_told, word_told};
-pub use values::{are_ground, are_true_if_builtin, unknown_count, variable_count};
+pub use values::{are_true_if_builtin, unknown_count, variable_count};

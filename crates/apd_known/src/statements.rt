@@ -10,8 +10,8 @@ ghost use Rattle.apd_known.specs.Statements.{is_rule, is_own_atom, body_stated, 
 
 use crate::indicators::predicate_from;
 use crate::told::{truth_told, values_told, word_told};
-use crate::values::{are_ground, are_true_if_builtin, unknown_count};
-use apd_answers::{Pair, Question, Reply, with_values};
+use crate::values::{are_true_if_builtin, unknown_count};
+use apd_answers::{Pair, Question, Reply, are_ground, with_values};
 use apd_causes::{BodyFault, OracleCause};
 use apd_clauses::{Kind, clause_of, kind_of};
 use apd_term::canonical::canonical;

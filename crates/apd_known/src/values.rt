@@ -5,7 +5,6 @@ ghost use Rattle.std.specs.List.{flat_map, fold, list_all};
 ghost use Rattle.apd_term.specs.Canonical.{by_appearance, with_new};
 ghost use Rattle.apd_term.specs.Term.{variables};
 ghost use Rattle.apd_answers.specs.Questions.{unknowns};
-ghost use Rattle.apd_arith.specs.Truths.{is_ground};
 ghost use Rattle.apd_known.specs.Truths.{is_true_if_builtin};
 
 use apd_arith::{Builtin, truth};
@@ -51,18 +50,6 @@ pub fn unknown_count(alloc: Global, tuple: &Tuple) -> Result<usize, AllocError>
         note_variables(&mut seen, atom)?;
     }
     Ok(seen.len())
-}
-
-/// Whether no term has a variable.
-pub fn are_ground(terms: &Atoms) -> bool
-    ensures { result ≡ list_all is_ground terms.now }
-{
-    'terms: for term in terms.as_slice() {
-        if !term.is_ground() {
-            return false;
-        }
-    }
-    true
 }
 
 /// Whether an atom of a built-in goal is ground and true; other atoms pass.

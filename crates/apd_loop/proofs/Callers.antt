@@ -20,6 +20,7 @@ use Rattle.apd_answers.specs.Store.{Store, SaysYes}
 use Rattle.apd_answers.specs.Bugs.{IsCall, earlier_atoms}
 use Rattle.apd_answers.specs.Findings.{Affirms, IsTrueBy}
 use Rattle.apd_divide.proofs.Solved.{AreSolved, solved-point, of_builtin, always-instance, point-is}
+use Rattle.apd_record.proofs.Keeping.{box_below}
 use Rattle.apd_loop.specs.Loop.{numbered, call_of, earlier_from, earlier_goals}
 use Rattle.apd_loop.specs.Known.{IsLeft, IsSolved}
 use Rattle.apd_loop.proofs.Order.{canonical-instance, user-canonical, not_builtin, all-map}
@@ -51,10 +52,6 @@ callee-owned R chain (suc k) h l m =
 row-is : (R : Recorded) (n : ℕ) (b : BoxRow) → box_at R n ≡ Some b → row_of R n ≡ b
 row-is R n b e = ap (λ o. unwrap_or o no_row) e
 
-box-within : (R : Recorded) (n : ℕ) (b : BoxRow) → box_at R n ≡ Some b → n ≤ length R.boxes
-box-within R zero b e = omega arith
-box-within R (suc n) b e = let l = slice_get_within R.boxes n b e in omega (arith, l)
-
 is_box : (R : Recorded) (n : ℕ) (b : BoxRow) → box_at R n ≡ Some b → 1 ≤ n
 is_box R zero b e = absurd (cc)
 is_box R (suc n) b e = omega arith
@@ -81,7 +78,7 @@ call-made R chain i caller o =
     record {
       caller_is_box = caller;
       is_box = is_box R callee o.row o.there;
-      there = box-within R callee o.row o.there;
+      there = box_below R callee o.row o.there;
       owner = ap (λ (x : Point). x.owner) p ∙ o.owner;
       of_clause = refl;
       of_goal = refl;

@@ -14,7 +14,8 @@ use Rattle.apd_divide.proofs.Weights.{le_false}
 use Rattle.apd_wrong.specs.Wrong.{is_passed, turn_about, turn_on, first_trusted}
 use Rattle.apd_loop.specs.declared.LoopEnd.{LoopEnd}
 use Rattle.apd_loop.specs.declared.LoopEnd.TheVariants.{Found}
-use Rattle.apd_loop.specs.Loop.{is_yes, Looping, whole, between, descending, rising, denied, within, earlier_goals, below, by_yes, inside, turn_in, loop}
+use Rattle.apd_loop.specs.Loop.{Looping, whole, between, descending, rising, denied, within, earlier_goals, below, by_yes, inside, turn_in, loop}
+use Rattle.apd_answers.specs.Questions.{is_yes}
 use Rattle.apd_loop.specs.Digits.{below_in, below_questions}
 use Rattle.apd_loop.proofs.Falling.{loop-falls}
 use Rattle.apd_loop.proofs.Driving.{drive, next_turn-goes}

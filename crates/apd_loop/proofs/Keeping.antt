@@ -14,7 +14,7 @@ use Rattle.apd_answers.specs.declared.question.Question.TheVariants as asking
 use Rattle.apd_answers.specs.declared.question.Reply.{Reply}
 use Rattle.apd_answers.specs.declared.question.Reply.TheVariants.{Yes, No, Values, Unknown}
 use Rattle.apd_answers.specs.Bugs.{earlier_atoms}
-use Rattle.apd_answers.specs.Questions.{Fits}
+use Rattle.apd_answers.specs.Questions.{Fits, is_yes}
 use Rattle.apd_answers.specs.Store.{Store, decided, is_doubted, with_pair, SomePair, TellsNo, TellsBelow, SaysYes, SaysNo, SaysBelow}
 use Rattle.apd_answers.specs.Dialogue.{Turn, asks, goes}
 use Rattle.apd_answers.specs.Findings.{Apart, said, through, Affirms, AllDescendByReplies}
@@ -35,7 +35,7 @@ use Rattle.apd_wrong.proofs.Next.{fraction-left}
 use Rattle.apd_wrong.proofs.Recorded.{tree-wrong}
 use Rattle.apd_loop.specs.declared.LoopEnd.{LoopEnd}
 use Rattle.apd_loop.specs.declared.LoopEnd.TheVariants.{Found, AllDescend}
-use Rattle.apd_loop.specs.Loop.{is_yes, Looping, whole, between, descending, rising, denied, within, Earlier, numbered, call_of, calls_in, earlier_goals, violation, below, by_yes, inside, turn_in, left_in}
+use Rattle.apd_loop.specs.Loop.{Looping, whole, between, descending, rising, denied, within, Earlier, numbered, call_of, calls_in, earlier_goals, violation, below, by_yes, inside, turn_in, left_in}
 use Rattle.apd_answers.specs.Fitting.{AllFit}
 use Rattle.apd_loop.specs.Known.{IsChain, IsAmong, IsLeft, IsDenied, IsTreeOfDenied, Rises, IsWithin, IsSegment, DescendsAfter, IsSaid}
 use Rattle.apd_loop.specs.Next.{IsViolationOrWrong, IsEndByReplies, ComesNext}

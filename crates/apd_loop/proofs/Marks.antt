@@ -10,10 +10,12 @@ use Rattle.indexmap.specs.IndexSet.{insert_key}
 use Rattle.apd_term.specs.Term.{Term, size, spell, variable}
 use Rattle.apd_term.specs.declared.term.Sym.{Sym}
 use Rattle.apd_term.specs.declared.term.Sym.TheVariants.{Var, Int, Fun}
-use Rattle.apd_loop.specs.declared.repeats.Part.{Part}
-use Rattle.apd_loop.specs.declared.repeats.Part.TheVariants.{Size}
-use Rattle.apd_loop.specs.Keys.{part_of, key, mark, AreShared, HasSize, IsNoted}
-use Rattle.apd_loop.proofs.EqualCalls.{key-injective, not_both, Tells}
+use Rattle.apd_marks.specs.Keys.{key, part_of}
+use Rattle.apd_marks.specs.declared.keys.Part.{Part}
+use Rattle.apd_marks.specs.declared.keys.Part.TheVariants.{Size}
+use Rattle.apd_marks.proofs.Distinct.{key-injective}
+use Rattle.apd_loop.specs.Keys.{mark, AreShared, HasSize, IsNoted}
+use Rattle.apd_loop.proofs.EqualCalls.{not_both, Tells}
 
 -- no symbol is a size
 key-no_size : (xs : List Sym) (n : ℕ) → map part_of xs ≡ Size n ∷ [] → ⊥

@@ -10,7 +10,7 @@ use Rattle.apd_answers.specs.declared.question.Asked.{Asked}
 use Rattle.apd_answers.specs.declared.finding.Finding.{Finding}
 use Rattle.apd_answers.specs.declared.oracle.AskEnd.{AskEnd}
 use Rattle.apd_answers.specs.declared.oracle.AskEnd.TheVariants.{Memory}
-use Rattle.apd_answers.specs.Questions.{FitsAsked}
+use Rattle.apd_answers.specs.Questions.{FitsAsked, is_yes}
 use Rattle.apd_answers.specs.Store.{Store, decided, with_pair, SaysNo}
 use Rattle.apd_answers.specs.Dialogue.{Turn, asks, goes, ends, unless_decided, settled, pursued, next_turn, Dialogue, onto, silent, replied, dialogue}
 use Rattle.apd_answers.specs.Oracle.{Call, asking, telling}
@@ -22,7 +22,7 @@ use Rattle.apd_divide.specs.Tree.{Tree, suspects}
 use Rattle.apd_wrong.specs.Wrong.{wrong}
 use Rattle.apd_loop.specs.declared.LoopEnd.{LoopEnd}
 use Rattle.apd_loop.specs.declared.LoopEnd.TheVariants.{Found}
-use Rattle.apd_loop.specs.Loop.{is_yes, Looping, within, by_yes, inside, left_in, loop}
+use Rattle.apd_loop.specs.Loop.{Looping, within, by_yes, inside, left_in, loop}
 use Rattle.apd_loop.specs.Turning.{IsAsked}
 use Rattle.apd_loop.proofs.Falling.{loop-falls}
 use Rattle.apd_loop.proofs.Order.{SaysTruth}

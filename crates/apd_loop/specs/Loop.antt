@@ -10,6 +10,7 @@ use Rattle.apd_record.specs.Reading.{call_atom, calling_point, row_of, exits_to}
 use Rattle.apd_answers.specs.declared.question.Question.TheVariants as asking
 use Rattle.apd_answers.specs.declared.question.Reply.{Reply}
 use Rattle.apd_answers.specs.declared.question.Reply.TheVariants as replies
+use Rattle.apd_answers.specs.Questions.{is_yes}
 use Rattle.apd_answers.specs.Store.{Store}
 use Rattle.apd_answers.specs.declared.question.Asked.{Asked}
 use Rattle.apd_answers.specs.declared.finding.Finding.{Finding}
@@ -69,12 +70,6 @@ violation R chain i =
 
 abbrev pub below : Recorded → List ℕ → ℕ → ℕ → Asked
 below R chain i j = record { question = asking.Below (call_of R chain i) (call_of R chain j); suspects = None }
-
-abbrev pub is_yes : Reply → Bool
-is_yes replies.Yes = true
-is_yes replies.No = false
-is_yes (replies.Values values) = false
-is_yes replies.Unknown = false
 
 abbrev pub by_yes : {S : Type 0} → S → S → Reply → S
 by_yes s t reply = if is_yes reply then s else t

@@ -15,7 +15,7 @@ use Rattle.apd_answers.specs.declared.question.Asked.{Asked}
 use Rattle.apd_answers.specs.declared.finding.Finding.TheVariants.{Uncovered}
 use Rattle.apd_answers.specs.declared.oracle.AskEnd.{AskEnd}
 use Rattle.apd_answers.specs.declared.oracle.AskEnd.TheVariants.{Memory}
-use Rattle.apd_answers.specs.Questions.{FitsAsked}
+use Rattle.apd_answers.specs.Questions.{FitsAsked, is_yes}
 use Rattle.apd_answers.specs.Store.{Store, decided, with_pair}
 use Rattle.apd_answers.specs.Dialogue.{asks, goes, ends, next_turn}
 use Rattle.apd_answers.specs.Oracle.{Call, asking, telling}
@@ -25,7 +25,7 @@ use Rattle.apd_answers.proofs.Decided.{decided-truth}
 use Rattle.apd_answers.proofs.Fitted.{added_decided, decides-uncounted}
 use Rattle.apd_answers.proofs.Going.{Goes-none, Goes-more, Goes-asked, Breaks-here, Breaks-more}
 use Rattle.apd_answers.proofs.Pursued.{known-asks}
-use Rattle.apd_missing.specs.Missing.{Unanswered, Looked, is_yes, first_open, is_undecided, first_undecided, followed, state_after, after_values, alone, covers, turn_of_ground, turn_of, missing}
+use Rattle.apd_missing.specs.Missing.{Unanswered, Looked, first_open, is_undecided, first_undecided, followed, state_after, after_values, alone, covers, turn_of_ground, turn_of, missing}
 use Rattle.apd_missing.specs.Known.{IsKnown}
 use Rattle.apd_missing.specs.Solving.{IsReplied, by_store, by_oracle, IsUnreplied, unasked, unanswered, unkept, untold, IsLooking, IsOpened, Goes_on, Judges}
 use Rattle.apd_missing.proofs.Kept.{keeps_added, closed_by_no, open_by_yes, AreDecided, decided_all_kept, decided_next, first_undecided-at, first_undecided-none}

@@ -31,6 +31,8 @@ use Rattle.apd_answers.proofs.Decided.{some_pair-added, some_pair-kept}
 use Rattle.apd_answers.proofs.Fitted.{fit_added, decided-covers}
 use Rattle.apd_answers.proofs.Pursued.{known-decided, known-asks, known-goes, known-ends}
 use Rattle.apd_answers.proofs.Tests.{both}
+use Rattle.apd_record.proofs.Lists.{get-below}
+use Rattle.apd_record.proofs.Keeping.{box_below}
 use Rattle.apd_missing.specs.Missing.{Unanswered, Looked, is_false_builtin, is_no, is_denied, is_closed, first_open, is_undecided, first_undecided, followed, state_after, after_values, alone, covers, turn_of_ground, turn_of, missing}
 use Rattle.apd_missing.specs.Known.{IsMissing, IsKnown, HasNext}
 use Rattle.apd_missing.specs.Next.{ComesNext}
@@ -64,18 +66,8 @@ undecided-is store (b ∷ body) a e =
     (λ t. let k : Some b ≡ Some a = rw t at e in let same : b ≡ a = cc in subst (λ x. is_undecided (decided store (asking.True x)) ≡ true) same (both (is_user_atom b) (is_undecided (decided store (asking.True b))) t).1)
     (λ t. undecided-is store body a (rw t at e))
 
--- a box that is there
-there_within : {X : Type 0} (xs : List X) (i : ℕ) (x : X) → slice_get xs i ≡ Some x → i < length xs
-there_within [] i x e = absurd (cc)
-there_within (y ∷ ys) zero x e = omega arith
-there_within (y ∷ ys) (suc i) x e = let h = there_within ys i x e in omega (arith, h)
-
-pub box_within : (R : Recorded) (n : ℕ) (b : BoxRow) → box_at R n ≡ Some b → n ≤ length R.boxes
-box_within R zero b e = absurd (cc)
-box_within R (suc n) b e = let h = there_within R.boxes n b e in omega (arith, h)
-
 pub lower_bound : (R : Recorded) (s t : Unanswered) (m : IsMissing R t.box_no t.goal) → s.box_no < t.box_no → length R.boxes - t.box_no < length R.boxes - s.box_no
-lower_bound R s t m l = let h = box_within R t.box_no m.row m.there in omega (arith, l, h)
+lower_bound R s t m l = let h = box_below R t.box_no m.row m.there in omega (arith, l, h)
 
 -- the state after
 pub after_next : (R : Recorded) (store : Store) (s : Unanswered) (next : Option Unanswered) → HasNext R store s next → IsKnown R store (state_after s next) × (length R.boxes - (state_after s next).box_no < length R.boxes - s.box_no)

@@ -103,12 +103,6 @@ after_values R s l Yes = s
 after_values R s l No = s
 after_values R s l Unknown = s
 
-abbrev pub is_yes : Reply → Bool
-is_yes Yes = true
-is_yes No = false
-is_yes (Values values) = false
-is_yes Unknown = false
-
 abbrev pub alone : Question → Asked
 alone question = record { question = question; suspects = None }
 

@@ -5,7 +5,7 @@ use apd_console::{Console, Line};
 use apd_io::{MemSink, MemSource};
 use apd_ports::Filter;
 use apd_rows::{BETWEEN, Builder, Row, Trial};
-use apd_words::{Asked, Subject, read_words};
+use apd_words::{Subject, Wanted, read_words};
 use std::alloc::{AllocError, Global};
 use std::str;
 
@@ -28,7 +28,7 @@ fn words_of(alloc: Global, list: &str) -> Result<Vec<String>, AllocError> {
     Ok(words)
 }
 
-fn put_asked(given: &mut Builder, asked: &Asked<'_>) {
+fn put_asked(given: &mut Builder, asked: &Wanted<'_>) {
     let ports = match asked.filter {
         Filter::Off => " off ",
         _ => " all ",

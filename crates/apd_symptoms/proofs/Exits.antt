@@ -1,5 +1,5 @@
 -- The exit that a command names is one of the program's own.
-use Rattle.std.proofs.Common.{◌≡◌, ℕ, zero, suc, ◌<◌, ◌≤◌, List, [], ◌∷◌, length, refl, ap, arith, inl, inr, true, false, Some, None, Err}
+use Rattle.std.proofs.Common.{◌≡◌, ℕ, zero, suc, ◌<◌, ◌≤◌, List, [], ◌∷◌, length, refl, ap, arith, inl, inr, true, false, Some, Err}
 use Rattle.std.specs.Prelude.{ℤ, pos, negsuc, map, slice_get}
 use Rattle.apd_divide.specs.Exits.{IsUserExit}
 use Rattle.apd_ports.specs.declared.point.PointId.{PointId}
@@ -32,20 +32,10 @@ slice_get-ids [] i p is = absurd (cc)
 slice_get-ids (x ∷ xs) zero p is = let same : id_of x ≡ p = cc in ap (λ (q : PointId). Some q.0) same
 slice_get-ids (x ∷ xs) (suc i) p is = slice_get-ids xs i p is
 
-slice_get-no_id : (xs : List ℕ) (i : ℕ) → slice_get (map id_of xs) i ≡ None → slice_get xs i ≡ None
-slice_get-no_id [] i is = refl
-slice_get-no_id (x ∷ xs) zero is = absurd (cc)
-slice_get-no_id (x ∷ xs) (suc i) is = slice_get-no_id xs i is
-
 pub numbered-ids : (xs : List ℕ) (k : ℤ) (p : PointId) → numbered (map id_of xs) k ≡ Some p → numbered xs k ≡ Some p.0
 numbered-ids xs (pos zero) p is = absurd (cc)
 numbered-ids xs (pos (suc i)) p is = slice_get-ids xs i p is
 numbered-ids xs (negsuc i) p is = absurd (cc)
-
-pub numbered-no_id : (xs : List ℕ) (k : ℤ) → numbered (map id_of xs) k ≡ None → numbered xs k ≡ None
-numbered-no_id xs (pos zero) is = refl
-numbered-no_id xs (pos (suc i)) is = slice_get-no_id xs i is
-numbered-no_id xs (negsuc i) is = refl
 
 -- the box is there
 row_at : (rows : List BoxRow) (i : ℕ) → i < length rows → (row : BoxRow) × (slice_get rows i ≡ Some row)

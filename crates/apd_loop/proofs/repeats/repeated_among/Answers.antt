@@ -5,7 +5,8 @@ use Rattle.indexmap.specs.IndexSet.{index_set_len}
 use Rattle.apd_term.specs.Term.{variable}
 use Rattle.apd_loop.specs.Loop.{start_from}
 use Rattle.apd_loop.specs.Keys.{mark}
-use Rattle.apd_loop.proofs.EqualCalls.{part_eq, place-found, place-new}
+use Rattle.apd_marks.proofs.Distinct.{part_eq}
+use Rattle.apd_loop.proofs.EqualCalls.{place-found, place-new}
 use Rattle.apd_loop.proofs.Marks.{tells-all}
 use Rattle.apd_loop.proofs.repeats.repeated_among.Goals as goal
 

@@ -37,7 +37,7 @@ fn same_tuple(a: &Tuple, b: &Tuple) -> bool
 }
 
 /// Whether two questions are one.
-pub fn same_question(a: &Question, b: &Question) -> bool
+pub(crate) fn same_question(a: &Question, b: &Question) -> bool
     ensures { result ≡ same_question a.now b.now }
 {
     match (a, b) {
@@ -49,7 +49,7 @@ pub fn same_question(a: &Question, b: &Question) -> bool
 }
 
 /// Whether two replies are one.
-pub fn same_reply(a: &Reply, b: &Reply) -> bool
+pub(crate) fn same_reply(a: &Reply, b: &Reply) -> bool
     ensures { result ≡ same_reply a.now b.now }
 {
     match (a, b) {

@@ -2,9 +2,8 @@ use Rattle.std.proofs.Common.{IsSome, refl, sym, ◌∙◌, ap, subst, unwrap_or
 use Rattle.std.specs.Prelude.{◌≡◌, Some}
 use Rattle.indexmap.specs.IndexMap.{get}
 use Rattle.std.specs.Prelude.{nat_eq}
-use Rattle.apd_clauses.proofs.Indexing.{taken}
-use Rattle.apd_answers.proofs.Telling.{forgotten}
-use Rattle.apd_answers.proofs.marks.forget.Goals as goal
+use Rattle.apd_marks.proofs.Noting.{forgotten, taken}
+use Rattle.apd_marks.proofs.places.forget.Goals as goal
 
 pub returns : goal.returns
 returns c =

@@ -1,0 +1,4 @@
+pub mod Mixing
+pub mod Places
+pub mod Keys
+pub mod Positions

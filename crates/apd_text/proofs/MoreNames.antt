@@ -24,7 +24,7 @@ use Rattle.apd_ports.specs.declared.event.Event.{Event}
 use Rattle.apd_ports.specs.declared.filter.Filter.{Filter}
 use Rattle.apd_ports.specs.declared.filter.Filter.TheVariants.{Off, All, Leap, Skip}
 use Rattle.apd_write.proofs.MoreNames.{written-more}
-use Rattle.apd_text.specs.Causes.{body_text, cause_text}
+use Rattle.apd_faults.specs.Names.{body_text, cause_text}
 use Rattle.apd_answers.specs.declared.question.Question.{Question}
 use Rattle.apd_answers.specs.declared.question.Question.TheVariants.{True, Covers, Below}
 use Rattle.apd_answers.specs.declared.question.Reply.{Reply}

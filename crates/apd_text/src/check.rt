@@ -4,8 +4,8 @@ ghost use Rattle.std.specs.Prelude.{◌≡◌, ◌++◌, IfOk, codes};
 ghost use Rattle.std.specs.Fmt.{decimal};
 ghost use Rattle.apd_text.specs.Entries.{why_name};
 
-use crate::line::numbered;
 use apd_base::Text;
+use apd_faults::numbered;
 use std::alloc::{AllocError, Global};
 
 /// Why a line of a log isn't good; the first reason that applies is told.

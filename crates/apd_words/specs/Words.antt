@@ -13,7 +13,7 @@ use Rattle.apd_divide.specs.declared.node.Strategy.{Strategy}
 use Rattle.apd_divide.specs.declared.node.Strategy.TheVariants.{Divide, Single, Top}
 use Rattle.apd_gen.specs.Nodes.{IsNodeCount}
 use Rattle.apd_gen.specs.declared.nodes.TheConstants.{MOST_NODES}
-use Rattle.apd_words.specs.declared.options.Asked.{Asked}
+use Rattle.apd_words.specs.declared.options.Wanted.{Wanted}
 use Rattle.apd_words.specs.declared.options.Subject as subjects
 use Rattle.apd_base.specs.declared.limits.TheConstants.{MOST_SHOWN, USUAL_BUDGET}
 
@@ -72,7 +72,7 @@ pub record Options : Type 0 where
   pub reference : Option (List ℕ)
 
 -- what was asked for, as options
-abbrev pub asked_options : Asked → Options
+abbrev pub asked_options : Wanted → Options
 asked_options a = record {
   subject = asked_subject a.subject;
   budget = a.budget;

@@ -7,4 +7,4 @@ mod limits;
 mod options;
 
 pub use laws::{a_tree_stands_alone, limits_keep_their_rules};
-pub use options::{Asked, Subject, read_words};
+pub use options::{Subject, Wanted, read_words};

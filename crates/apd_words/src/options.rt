@@ -29,7 +29,7 @@ pub enum Subject<'a> {
 
 /// What the words ask for.
 #[derive(Drop)]
-pub struct Asked<'a> {
+pub struct Wanted<'a> {
     /// What is debugged.
     pub subject: Subject<'a>,
     /// The most ports that a run shows, from 1 to 1,000,000.
@@ -170,7 +170,7 @@ fn options_from<'a>(
     oracle: Option<&'a str>,
     reference: Option<&'a str>,
     subject: Option<Subject<'a>>,
-) -> Option<Asked<'a>>
+) -> Option<Wanted<'a>>
     requires budget { IfSome budget (λ n. (0 < n) × (n ≤ MOST_SHOWN)) }
     requires answers { IfSome answers (λ n. (0 < n) × (n ≤ MOST_SHOWN)) }
     ensures options { let options = options_from budget answers filter strategy
@@ -180,7 +180,7 @@ fn options_from<'a>(
     ensures limits { IfSome result (λ a. AreLimits a.budget a.answers) }
 {
     match (budget, answers, strategy, subject) {
-        (Some(budget), Some(answers), Some(strategy), Some(subject)) => Some(Asked {
+        (Some(budget), Some(answers), Some(strategy), Some(subject)) => Some(Wanted {
             subject,
             budget,
             answers,
@@ -194,7 +194,7 @@ fn options_from<'a>(
 }
 
 /// The options that clap's matches give, where each limit keeps its rule, the strategy is known and something is debugged.
-fn options_in<'a>(matches: &ArgMatches<'a>) -> Option<Asked<'a>>
+fn options_in<'a>(matches: &ArgMatches<'a>) -> Option<Wanted<'a>>
     ensures options { let options = options_in (rows_of (found_of matches.now)) in
         MatchOption result (options ≡ None) (λ a. options ≡ Some (asked_options a)) }
     ensures limits { IfSome result (λ a. AreLimits a.budget a.answers) }
@@ -217,7 +217,7 @@ fn options_in<'a>(matches: &ArgMatches<'a>) -> Option<Asked<'a>>
 }
 
 /// The options that the words give, of which the first is the program's own name; none where they break their rules.
-pub fn read_words<'a>(alloc: Global, words: &'a [String]) -> Result<Option<Asked<'a>>, AllocError>
+pub fn read_words<'a>(alloc: Global, words: &'a [String]) -> Result<Option<Wanted<'a>>, AllocError>
     ensures options { let options = options_of (bytes_of words.entry.now) in
         IfOk result (λ o. MatchOption o (options ≡ None) (λ a. options ≡ Some (asked_options a))) }
     ensures limits { IfOk result (λ o. IfSome o (λ a. AreLimits a.budget a.answers)) }

@@ -3,7 +3,7 @@ use Rattle.std.proofs.Common.{◌≡◌, ◌↔◌, ◌⊎◌, inl, inr, ◌<◌
 use Rattle.std.specs.Prelude.{IsTrue, IfOk}
 use Rattle.std.specs.List.{AllByRecursion}
 use Rattle.std.specs.declared.alloc.AllocError.{AllocError}
-use Rattle.std.proofs.lemmas.List.{drop_all, drop_more}
+use Rattle.std.proofs.lemmas.List.{drop_more}
 use Rattle.apd_term.specs.Term.{Term}
 use Rattle.apd_term.specs.declared.instance.Instance.{Instance}
 use Rattle.apd_term.specs.declared.tuple.Tuple.{Tuple}
@@ -75,20 +75,11 @@ module _ (P : List Tuple) (R : Recorded) (store : Store) where
       → AreCandidates P R store (drop left cs) → AreCandidates P R store (drop (left - 1) cs)
   each-goes cs left c b l m e test goes rest = (before cs left c l m e).1 (test.0 goes, rest)
 
-  pub each-begins : (cs : List Instance) (n : ℕ) → length cs ≤ n → AreCandidates P R store (drop n cs)
-  each-begins cs n l = rw (drop_all n cs l) tt
-
   pub each-ends : (cs : List Instance) (left : ℕ) → left ≤ 0 → AreCandidates P R store (drop left cs) → true ≡ true ↔ AreCandidates P R store cs
   each-ends cs zero l all = (λ k. all, λ k. refl)
   each-ends cs (suc left) l all = absurd (omega (arith, l))
 
   -- All together.
-
-  pub too-few : (cs : List Instance) → length cs < 2 → false ≡ true ↔ AreCandidatesByReplies P R store cs
-  too-few cs l = (λ k. absurd (cc), λ w. absurd (let s = w.several in omega (arith, l, s)))
-
-  pub some-fails : (cs : List Instance) (b : Bool) → b ≡ true ↔ AreCandidates P R store cs → b ≡ false → false ≡ true ↔ AreCandidatesByReplies P R store cs
-  some-fails cs b test f = (λ k. absurd (cc), λ w. absurd (let u : true ≡ false = sym (test.1 w.each) ∙ f in cc))
 
   first-is : (cs : List Instance) (c : Instance) → 0 < length cs → c ≡ get_or cs 0 c → SaysNoToFirst store cs ↔ SaysNo store c.tuple.head
   first-is [] c l e = absurd (omega (arith, l))

@@ -65,8 +65,5 @@ module _ (test : Tuple → Bool) where
       let next : suc i ≡ i + 1 = omega arith in
       subst (λ (k : ℕ). list_all test (drop i (tuples_of cs)) ≡ (test c.tuple && list_all test (drop k (tuples_of cs)))) next (clause-more cs i c (at-place cs i c e))
 
-  pub clause-fails : (cs : List Clause) (i : ℕ) (c : Clause) (b : Bool) → clause_at cs (i + 1) ≡ Some c → b ≡ test c.tuple → b ≡ false → false ≡ list_all test (drop i (tuples_of cs))
-  clause-fails cs i c b e is fails = sym (more-at cs i c e ∙ rw (sym is ∙ fails) refl)
-
   pub clause-passes : (cs : List Clause) (i : ℕ) (c : Clause) (b : Bool) → clause_at cs (i + 1) ≡ Some c → b ≡ test c.tuple → b ≡ true → list_all test (drop i (tuples_of cs)) ≡ list_all test (drop (i + 1) (tuples_of cs))
   clause-passes cs i c b e is passes = more-at cs i c e ∙ rw (sym is ∙ passes) refl

@@ -5,7 +5,7 @@ use Rattle.std.specs.Prelude.{◌||◌, IsTrue, IfOk, IfSome, slice_get}
 use Rattle.std.specs.List.{list_any, AllByRecursion}
 use Rattle.std.specs.declared.alloc.AllocError.{AllocError}
 use Rattle.std.proofs.lemmas.List.{drop_more}
-use Rattle.apd_term.specs.Term.{IsAmong, Term, predicate_of}
+use Rattle.apd_term.specs.Term.{Term, predicate_of}
 use Rattle.apd_term.specs.declared.term.Pred.{Pred}
 use Rattle.apd_term.specs.Matching.{is_instance}
 use Rattle.apd_term.specs.Substitution.{IsInstance}
@@ -30,6 +30,7 @@ use Rattle.apd_answers.specs.Trust.{IsAnswered, IsGranted, is_trusted}
 use Rattle.apd_findings.specs.Calling.{IsBox}
 use Rattle.apd_findings.specs.Deciding.{is_instance_of, says_no, says_yes}
 use Rattle.apd_findings.specs.Granting.{IsAnsweredIn, is_exit_for}
+use Rattle.apd_index.proofs.Telling.{among-any, any-among}
 use Rattle.apd_findings.proofs.Tests.{instance_of-is, says_no-is, says_yes-is, stands-is}
 
 -- Exits.
@@ -44,23 +45,6 @@ point_tuple R e t l h = by R.points e l h
 
 point-is : (R : Recorded) (e : ℕ) (p : Point) → point_at R e ≡ Some p → point_of R e ≡ p
 point-is R e p h = ap (λ o. unwrap_or o no_point) h
-
-or-right : (a b : Bool) → b ≡ true → (a || b) ≡ true
-or-right true b h = refl
-or-right false b h = h
-
-pub any-among : (test : ℕ → Bool) (es : List ℕ) → list_any test es ≡ true → (e : ℕ) × IsAmong es e × (test e ≡ true)
-any-among test [] h = absurd (cc)
-any-among test (x ∷ es) h = by (test x) refl h (λ later. any-among test es later)
-  where
-    by : (b : Bool) → test x ≡ b → (b || list_any test es) ≡ true → (list_any test es ≡ true → (e : ℕ) × IsAmong es e × (test e ≡ true)) → (e : ℕ) × IsAmong (x ∷ es) e × (test e ≡ true)
-    by true t h rest = (x, inl refl, t)
-    by false t h rest = let k = rest h in (k.0, inr k.1, k.2)
-
-pub among-any : (test : ℕ → Bool) (es : List ℕ) (e : ℕ) → IsAmong es e → test e ≡ true → list_any test es ≡ true
-among-any test [] e m t = absurd m
-among-any test (x ∷ es) e (inl same) t = let here : test x ≡ true = subst (λ y. test y ≡ true) (sym same) t in rw here refl
-among-any test (x ∷ es) e (inr later) t = or-right (test x) (list_any test es) (among-any test es e later t)
 
 has_exit-is : (R : Recorded) (n : ℕ) (a : Term) → list_any (is_exit_for R a) (exits R n) ≡ true ↔ HasExit R n a
 has_exit-is R n a = (

@@ -1,15 +1,12 @@
 pub mod Instances
 pub mod Standing
 pub mod Tests
-pub mod Telling
 pub mod Clauses
 pub mod Covering
 pub mod Calls
 pub mod Each
 pub mod Granted
 pub mod Among
-pub mod Walking
-pub mod AtomIndexes
 pub mod Parting
 pub mod Numbers
 pub mod Marked

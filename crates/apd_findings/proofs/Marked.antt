@@ -1,9 +1,10 @@
 -- Numbers that are reached from one, marked as they are met.
-use Rattle.std.proofs.Common.{◌≡◌, ◌⊎◌, ◌↔◌, inl, inr, ℕ, zero, suc, ◌+◌, ◌-◌, ◌*◌, ◌<◌, ◌≤◌, Bool, true, false, List, [], ◌∷◌, ◌++◌, length, take, drop, get_or, Some, refl, sym, ◌∙◌, ap, subst, arith}
+use Rattle.std.proofs.Common.{◌≡◌, ◌⊎◌, ◌↔◌, inl, inr, ℕ, zero, suc, ◌+◌, ◌*◌, ◌<◌, ◌≤◌, Bool, true, false, List, [], ◌∷◌, ◌++◌, length, take, drop, get_or, Some, refl, sym, ◌∙◌, ap, subst, arith}
 use Rattle.std.specs.Prelude.{slice_set}
 use Rattle.std.proofs.lemmas.List.{take_more, drop_more, drop_all}
 use Rattle.apd_term.specs.Term.{IsAmong}
 use Rattle.apd_term.proofs.Among.{IsAmong-append, IsAmong-left, IsAmong-right}
+use Rattle.apd_index.proofs.Lists.{among-at}
 use Rattle.apd_findings.specs.Reaching.{AreWithin, HasSeen, IsMarked, Reaches, SomeMarked, here, on, unmarked}
 
 -- Marks.
@@ -62,27 +63,11 @@ none-marked count marks none first i l = (
 
 -- Some numbers, marked one after the other.
 
-pub among-at : (xs : List ℕ) (i n : ℕ) → i < length xs → n ≡ get_or xs i 0 → IsAmong xs n
-among-at [] i n l e = absurd (omega (arith, l))
-among-at (x ∷ xs) zero n l e = inl (sym e)
-among-at (x ∷ xs) (suc i) n l e = inr (among-at xs i n (omega (arith, l)) e)
-
 -- an element that is there doesn't depend on the default
 pub at-default : {X : Type 0} (xs : List X) (i : ℕ) (x d : X) → i < length xs → x ≡ get_or xs i x → x ≡ get_or xs i d
 at-default [] i x d l e = absurd (omega (arith, l))
 at-default (y ∷ xs) zero x d l e = e
 at-default (y ∷ xs) (suc i) x d l e = at-default xs i x d (omega (arith, l)) e
-
-pub seen-none : (seen : List Bool) (waiting : List ℕ) → HasSeen [] seen waiting seen waiting
-seen-none seen waiting = record {
-  count = refl;
-  kept = λ n h. h;
-  marked = λ n h. absurd h;
-  more = λ n h. inl h;
-  still = λ n h. h;
-  waits = λ n h. inl h;
-  steps = omega arith;
-}
 
 last-is : (xs : List ℕ) (x n : ℕ) → IsAmong (xs ++ x ∷ []) n → IsAmong xs n ⊎ (x ≡ n)
 last-is xs x n h = elim (IsAmong-append xs (x ∷ []) n h) [ inl a ↦ inl a | inr b ↦ elim b [ inl e ↦ inr e | inr z ↦ absurd z ] ]
@@ -181,14 +166,6 @@ module _ (lists : List (List ℕ)) (first : ℕ) (seen : List Bool) (waiting res
         | inl b ↦ inl (s.still n b)
         | inr e ↦ inr (λ m b. s.marked m (subst (λ k. IsAmong (get_or lists k []) m) (sym e) b))
       ]
-
-  pub reaching-steps : (seen_new : List Bool) (waiting_new : List ℕ) → HasSeen (get_or lists number []) seen rest seen_new waiting_new → 2 * unmarked seen_new + length waiting_new < 2 * unmarked seen + length waiting
-  reaching-steps seen_new waiting_new s = let t = s.steps in let g : length waiting ≡ length rest + 1 = ap length is ∙ length-last rest number in omega (arith, t, g)
-
-pub emptied : {X : Type 0} (xs ys : List X) (n : ℕ) → xs ≡ ys ++ [] → ys ≡ take (n - 1) xs → n ≡ 0 → xs ≡ []
-emptied xs ys n e f z =
-    let g : n - 1 ≡ 0 = omega (arith, z) in
-    e ∙ ap (λ zs. zs ++ []) (f ∙ ap (λ k. take k xs) g)
 
 pub reaching-all : (lists : List (List ℕ)) (first : ℕ) (seen : List Bool) (waiting : List ℕ) → IsReaching lists first seen waiting → waiting ≡ [] → (n : ℕ) → IsMarked seen n ↔ Reaches lists first n
 reaching-all lists first seen waiting h e n = (h.right n, all n)

@@ -2,54 +2,17 @@
 use Rattle.std.proofs.Common.{◌≡◌, ◌≢◌, ◌⊎◌, ◌↔◌, inl, inr, ℕ, zero, suc, ◌+◌, ◌-◌, ◌<◌, ◌≤◌, Bool, true, false, cond, not, if◌then◌else◌, ◌||◌, List, [], ◌∷◌, ◌++◌, map, length, drop, get_or, Some, None, ltb, refl, sym, ◌∙◌, ap, subst, arith}
 use Rattle.std.specs.Bool.{Decides}
 use Rattle.std.specs.List.{list_any, position, position_or_len}
-use Rattle.std.proofs.lemmas.Bool.Decides.{Decides-eqb, Decides-int_eq, nat_tests}
-use Rattle.std.proofs.lemmas.List.{drop_all, drop_more, map-append}
+use Rattle.std.proofs.lemmas.Bool.Decides.{nat_tests}
+use Rattle.std.proofs.lemmas.List.{drop_more, map-append}
 use Rattle.indexmap.specs.IndexSet.{insert_key}
 use Rattle.apd_term.specs.Canonical.{canonical}
-use Rattle.apd_term.specs.Term.{Term, spell}
+use Rattle.apd_term.specs.Term.{Term}
 use Rattle.apd_term.specs.declared.instance.Instance.{Instance}
-use Rattle.apd_term.specs.declared.term.Sym.{Sym}
-use Rattle.apd_term.specs.declared.term.Sym.TheVariants.{Var, Int, Fun}
-use Rattle.apd_term.proofs.Spelling.{spell-injective}
 use Rattle.apd_answers.specs.Findings.{IsHeadAmong}
-use Rattle.apd_findings.specs.declared.keys.Part.{Part}
-use Rattle.apd_findings.specs.declared.keys.Part.TheVariants.{Variable, Integer, Name}
-use Rattle.apd_findings.specs.contracts.keys.PartPartialEq.TheImpl.{eq-value}
-use Rattle.apd_findings.specs.Keys.{AreHeads, HasNumber, IsKeyAmong, IsNumber, key, part_of}
-
--- the program's `==` on parts
-pub part_eq : (a b : Part) → Decides (eq-value.it a b) (a ≡ b)
-part_eq (Variable v) (Variable w) = let d = Decides-eqb v w in (λ e. ap Variable (d.0 e), λ e. d.1 (cc))
-part_eq (Integer v) (Integer w) = let d = Decides-int_eq v w in (λ e. ap Integer (d.0 e), λ e. d.1 (cc))
-part_eq (Name f n) (Name g m) = let d = Decides-eqb f g in let k = Decides-eqb n m in grind (arith, nat_tests)
-part_eq _ _ = (λ e. (cc), λ e. (cc))
-
--- terms with one key are one
-part-injective : (a b : Sym) → part_of a ≡ part_of b → a ≡ b
-part-injective (Var v) (Var w) e = ap Var (cc)
-part-injective (Var v) (Int j) e = absurd (cc)
-part-injective (Var v) (Fun g m) e = absurd (cc)
-part-injective (Int i) (Var w) e = absurd (cc)
-part-injective (Int i) (Int j) e = ap Int (cc)
-part-injective (Int i) (Fun g m) e = absurd (cc)
-part-injective (Fun f n) (Var w) e = absurd (cc)
-part-injective (Fun f n) (Int j) e = absurd (cc)
-part-injective (Fun f n) (Fun g m) e =
-    let x : f.0 ≡ g.0 = cc in
-    let y : n ≡ m = cc in
-    ap (λ z. Fun (record { 0 = z }) n) x ∙ ap (Fun g) y
-
-map-injective : (xs ys : List Sym) → map part_of xs ≡ map part_of ys → xs ≡ ys
-map-injective [] [] e = refl
-map-injective [] (y ∷ ys) e = absurd (cc)
-map-injective (x ∷ xs) [] e = absurd (cc)
-map-injective (x ∷ xs) (y ∷ ys) e =
-    let h : part_of x ≡ part_of y = cc in
-    let t : map part_of xs ≡ map part_of ys = cc in
-    ap (λ z. z ∷ xs) (part-injective x y h) ∙ ap (λ zs. y ∷ zs) (map-injective xs ys t)
-
-pub key-injective : (a b : Term) → key a ≡ key b → a ≡ b
-key-injective a b e = spell-injective a b (map-injective (spell a) (spell b) e)
+use Rattle.apd_marks.specs.declared.keys.Part.{Part}
+use Rattle.apd_marks.specs.Keys.{key}
+use Rattle.apd_marks.proofs.Distinct.{key-injective}
+use Rattle.apd_findings.specs.Keys.{AreHeads, HasNumber, IsKeyAmong, IsNumber}
 
 -- Numbers.
 
@@ -208,9 +171,6 @@ module _ {X : Type 0} (f : X → List Part) (E : X → X → Bool) (same : (a b 
 
 -- Heads.
 
-pub no-heads : (ms : List (List Part)) (instances : List Instance) (n : ℕ) → ms ≡ [] → length instances ≤ n → AreHeads ms (drop n instances)
-no-heads ms instances n e l = rw (e, drop_all n instances l) (λ a. (λ h. h, λ h. h))
-
 key-behind : (ms : List (List Part)) (k j : List Part) → IsKeyAmong (ms ++ k ∷ []) j ↔ ((k ≡ j) ⊎ IsKeyAmong ms j)
 key-behind [] k j = (λ h. h, λ h. h)
 key-behind (m ∷ ms) k j = let r = key-behind ms k j in (
@@ -219,13 +179,6 @@ key-behind (m ∷ ms) k j = let r = key-behind ms k j in (
 )
 
 module _ {X : Type 0} (f : X → List Part) (E : X → X → Bool) (same : (a b : X) → Decides (E a b) (f a ≡ f b)) where
-  pub key-inserted : (ks : List X) (k : X) (j : List Part) → IsKeyAmong (map f (insert_key E ks k)) j → (f k ≡ j) ⊎ IsKeyAmong (map f ks) j
-  key-inserted ks k j = by (list_any (E k) ks)
-    where
-      by : (b : Bool) → IsKeyAmong (map f (if b then ks else ks ++ k ∷ [])) j → (f k ≡ j) ⊎ IsKeyAmong (map f ks) j
-      by true h = inr h
-      by false h = (key-behind (map f ks) (f k) j).0 (subst (λ (ms : List (List Part)). IsKeyAmong ms j) (map-append f ks (k ∷ [])) h)
-
   pub head-more : (ks : List X) (k : X) (later : List Instance) (c : Instance) → f k ≡ key (canonical c.tuple.head) → AreHeads (map f ks) later → AreHeads (map f (insert_key E ks k)) (c ∷ later)
   head-more ks k later c e heads a = by (list_any (E k) ks) refl
     where

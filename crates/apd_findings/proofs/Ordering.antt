@@ -14,7 +14,7 @@ use Rattle.apd_answers.specs.declared.question.Question.TheVariants as asks
 use Rattle.apd_answers.specs.declared.question.Reply.{Reply}
 use Rattle.apd_answers.specs.declared.question.Reply.TheVariants.{Yes, No}
 use Rattle.apd_answers.specs.declared.store.Pair.{Pair}
-use Rattle.apd_findings.specs.declared.keys.Part.{Part}
+use Rattle.apd_marks.specs.declared.keys.Part.{Part}
 use Rattle.apd_findings.specs.declared.orders.Orders.{Orders}
 use Rattle.apd_findings.specs.Keys.{HasNumber}
 use Rattle.apd_findings.specs.Ordering.{AreOrders, AreSaid, IsListed, IsNumbered, IsReached, IsSaid, Says, keys_of}
@@ -85,13 +85,6 @@ said-now r keeps pairs x y = by (is_kept_in pairs (asks.Below x y) r) refl
 
 none-listed : (keys : List (List Part)) (r : Reply) → AreSaid [] r keys []
 none-listed keys r = record { sound = λ low high a. absurd a; whole = λ x y h. absurd h }
-
-pub no-orders : (o : Orders) → o.keys.keys ≡ [] → o.above.items ≡ [] → o.denied.items ≡ [] → AreOrders [] o
-no-orders o e f g = record {
-  lists = record { above = rw (e, f) refl; denied = rw (e, g) refl };
-  yes = rw f (none-listed (keys_of o) Yes);
-  no = rw g (none-listed (keys_of o) No);
-}
 
 -- one more list, which is empty
 pub pushed-count : (lists lists_new : List (List ℕ)) (x : List ℕ) → lists_new ≡ lists ++ x ∷ [] → length lists_new ≡ length lists + 1

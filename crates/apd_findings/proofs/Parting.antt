@@ -1,33 +1,27 @@
--- What the pairs of a store say of atoms is found in the indexes that have it.
-use Rattle.std.proofs.Common.{◌≡◌, ◌⊎◌, inl, inr, map, ◌<◌, ◌≤◌, ◌+◌, ◌++◌, ◌&&◌, ℕ, zero, suc, Bool, true, false, List, [], ◌∷◌, length, take, Option, Some, None, Result, Ok, Err, refl, sym, ap, ◌∙◌, subst, arith, append_assoc}
+-- What the pairs of a store say of atoms is what the lists have that are kept of it.
+use Rattle.std.proofs.Common.{◌≡◌, ◌⊎◌, inl, inr, map, ◌<◌, ◌≤◌, ◌+◌, ◌++◌, ◌&&◌, ℕ, zero, suc, Bool, true, false, List, [], ◌∷◌, length, take, Result, Ok, Err, refl, sym, ap, ◌∙◌, subst, arith, append_assoc}
 use Rattle.std.specs.Prelude.{◌||◌, if◌then◌else◌, IfOk, IfSome, OnOk, slice_get}
 use Rattle.std.specs.List.{enumerate_from, list_any}
-use Rattle.std.specs.declared.alloc.AllocError.{AllocError}
 use Rattle.apd_term.specs.Canonical.{canonical}
+use Rattle.apd_term.specs.Matching.{is_instance}
 use Rattle.apd_term.specs.Substitution.{IsInstance, term_for}
 use Rattle.apd_term.specs.Tuple.{canonical_tuple}
-use Rattle.apd_term.proofs.Opposite.{is_instance-is}
-use Rattle.apd_term.proofs.Variants.{IsInstance-trans, IsInstance_from_variants}
 use Rattle.apd_term.specs.Term.{Term, apply}
 use Rattle.apd_term.specs.declared.tuple.Tuple.{Tuple}
-use Rattle.apd_answers.specs.Marks.{places_at}
+use Rattle.apd_term.proofs.Variants.{IsInstance-trans, IsInstance_from_variants}
 use Rattle.apd_answers.specs.Once.{AreNew, AreOnce}
-use Rattle.apd_answers.specs.Questions.{canonical_question, with_values}
-use Rattle.apd_answers.specs.Store.{SomePairIn, SomeTerm, Store, TellsNo, TellsYes, is_kept_in, same_question, same_reply, with_pair_in}
+use Rattle.apd_answers.specs.Questions.{canonical_question}
+use Rattle.apd_answers.specs.Store.{SomePairIn, SomeTerm, TellsNo, TellsYes, is_kept_in, same_question, same_reply, with_pair_in}
 use Rattle.apd_answers.specs.declared.question.Question.{Question}
 use Rattle.apd_answers.specs.declared.question.Question.TheVariants as asks
 use Rattle.apd_answers.specs.declared.question.Reply.{Reply}
 use Rattle.apd_answers.specs.declared.question.Reply.TheVariants.{Yes, No, Values, Unknown}
 use Rattle.apd_answers.specs.declared.store.Pair.{Pair}
 use Rattle.apd_answers.proofs.Tests.{both, same_question-equal, same_reply-equal}
-use Rattle.apd_findings.specs.AtomIndex.{IsFoundAbove, IsFoundBelow, IsOneOf, is_above, is_below}
-use Rattle.apd_findings.specs.Deciding.{says_no, says_yes}
-use Rattle.apd_findings.specs.Parted.{AreAffirmed, AreDenied, AreListed, affirmed_by, denied_by}
-use Rattle.apd_findings.specs.Positions.{IsLasting, all_marks}
-use Rattle.apd_findings.specs.declared.atom_index.AtomIndex.{AtomIndex}
-use Rattle.apd_findings.proofs.Granted.{among-any, any-among}
-use Rattle.apd_findings.proofs.Walking.{lasting-marks}
-use Rattle.apd_findings.proofs.Tests.{Same, says_no-is, says_yes-is}
+use Rattle.apd_index.specs.Retrieval.{has_general, has_special}
+use Rattle.apd_findings.specs.Deciding.{some_pair, tells_no, tells_yes}
+use Rattle.apd_findings.specs.Parted.{AreAffirmed, AreDenied, affirmed_by, denied_by}
+use Rattle.apd_findings.proofs.Tests.{Same, tells_no-is, tells_yes-is}
 
 -- The pairs of a store, put one after the other.
 
@@ -62,42 +56,33 @@ taken-all [] (suc i) l = refl
 taken-all (p ∷ ps) zero l = absurd (omega (arith, l))
 taken-all (p ∷ ps) (suc i) l = ap (λ (qs : List Pair). p ∷ qs) (taken-all ps i (omega (arith, l)))
 
--- Some pair.
+-- What some pair tells.
 
-pair-map : (P R : Question → Reply → Type 0) → ((q : Question) (r : Reply) → P q r → R q r) → (pairs : List Pair) → SomePairIn P pairs → SomePairIn R pairs
-pair-map P R f [] h = absurd h
-pair-map P R f (p ∷ pairs) (inl h) = inl (f p.question p.reply h)
-pair-map P R f (p ∷ pairs) (inr h) = inr (pair-map P R f pairs h)
+or-false : (a : Bool) → (a || false) ≡ a
+or-false true = refl
+or-false false = refl
 
-pair-front : (P : Question → Reply → Type 0) (pairs more : List Pair) → SomePairIn P pairs → SomePairIn P (pairs ++ more)
-pair-front P [] more h = absurd h
-pair-front P (p ∷ pairs) more (inl h) = inl h
-pair-front P (p ∷ pairs) more (inr h) = inr (pair-front P pairs more h)
+or-true : (a b : Bool) → (b ≡ true → a ≡ true) → a ≡ (a || b)
+or-true true b h = refl
+or-true false true h = h refl
+or-true false false h = refl
 
-pair-end : (P : Question → Reply → Type 0) (pairs : List Pair) (p : Pair) → P p.question p.reply → SomePairIn P (pairs ++ p ∷ [])
-pair-end P [] p h = inl h
-pair-end P (x ∷ pairs) p h = inr (pair-end P pairs p h)
+or-right : (a b : Bool) → b ≡ true → (a || b) ≡ true
+or-right true b h = refl
+or-right false b h = h
 
-pair-split : (P : Question → Reply → Type 0) (pairs more : List Pair) → SomePairIn P (pairs ++ more) → SomePairIn P pairs ⊎ SomePairIn P more
-pair-split P [] more h = inr h
-pair-split P (p ∷ pairs) more (inl h) = inl (inl h)
-pair-split P (p ∷ pairs) more (inr h) = elim (pair-split P pairs more h) [ inl g ↦ inl (inr g) | inr g ↦ inr g ]
+or-assoc : (a b c : Bool) → (a || (b || c)) ≡ ((a || b) || c)
+or-assoc true b c = refl
+or-assoc false b c = refl
 
--- Pairs, and one more.
+any-append : {X : Type 0} (test : X → Bool) (xs ys : List X) → list_any test (xs ++ ys) ≡ (list_any test xs || list_any test ys)
+any-append test [] ys = refl
+any-append test (x ∷ xs) ys = ap (λ b. test x || b) (any-append test xs ys) ∙ or-assoc (test x) (list_any test xs) (list_any test ys)
 
-pair-still : (P : Question → Reply → Type 0) (pairs : List Pair) (q : Question) (r : Reply) → SomePairIn P pairs → SomePairIn P (with_pair_in pairs q r)
-pair-still P pairs q r h = by (is_kept_in pairs q r)
-  where
-    by : (k : Bool) → SomePairIn P (if k then pairs else pairs ++ record { question = q; reply = r } ∷ [])
-    by true = h
-    by false = pair-front P pairs (record { question = q; reply = r } ∷ []) h
-
-pair-either : (P : Question → Reply → Type 0) (pairs : List Pair) (q : Question) (r : Reply) → SomePairIn P (with_pair_in pairs q r) → SomePairIn P pairs ⊎ P q r
-pair-either P pairs q r = by (is_kept_in pairs q r)
-  where
-    by : (k : Bool) → SomePairIn P (if k then pairs else pairs ++ record { question = q; reply = r } ∷ []) → SomePairIn P pairs ⊎ P q r
-    by true h = inl h
-    by false h = elim (pair-split P pairs (record { question = q; reply = r } ∷ []) h) [ inl g ↦ inl g | inr g ↦ elim g [ inl x ↦ inr x | inr z ↦ absurd z ] ]
+pair-any : (test : Question → Reply → Bool) (P : Question → Reply → Type 0) → ((q : Question) (r : Reply) → P q r → test q r ≡ true) → (pairs : List Pair) → SomePairIn P pairs → some_pair test pairs ≡ true
+pair-any test P h [] s = absurd s
+pair-any test P h (p ∷ pairs) (inl s) = let here = h p.question p.reply s in rw here refl
+pair-any test P h (p ∷ pairs) (inr s) = or-right (test p.question p.reply) (some_pair test pairs) (pair-any test P h pairs s)
 
 -- a pair that is kept is the same as one of them
 same-kept : (pairs : List Pair) (q : Question) (r : Reply) → is_kept_in pairs q r ≡ true → SomePairIn (Same q r) pairs
@@ -111,258 +96,110 @@ same-kept (p ∷ pairs) q r e = by (same_question (canonical_question p.question
         inl (same_question-equal (canonical_question p.question) (canonical_question q) h.0, same_reply-equal p.reply r h.1)
     by false f k later = inr (later k)
 
--- what the same pair tells, some pair tells where this one was put
-pair-told : (P : Question → Reply → Type 0) (pairs : List Pair) (q : Question) (r : Reply) → ((x : Question) (y : Reply) → Same q r x y → P x y) → SomePairIn P (with_pair_in pairs q r)
-pair-told P pairs q r h = by (is_kept_in pairs q r) refl
+-- what the same pair tells too, some pair tells with this one exactly where one did, or this one does
+some-with : (test : Question → Reply → Bool) (pairs : List Pair) (q : Question) (r : Reply) → ((x : Question) (y : Reply) → Same q r x y → test q r ≡ true → test x y ≡ true)
+    → some_pair test (with_pair_in pairs q r) ≡ (some_pair test pairs || test q r)
+some-with test pairs q r same = by (is_kept_in pairs q r) refl
   where
-    by : (k : Bool) → is_kept_in pairs q r ≡ k → SomePairIn P (if k then pairs else pairs ++ record { question = q; reply = r } ∷ [])
-    by true e = pair-map (Same q r) P h pairs (same-kept pairs q r e)
-    by false e = pair-end P pairs (record { question = q; reply = r }) (h q r (refl, refl))
+    by : (k : Bool) → is_kept_in pairs q r ≡ k → some_pair test (if k then pairs else pairs ++ record { question = q; reply = r } ∷ []) ≡ (some_pair test pairs || test q r)
+    by true e = or-true (some_pair test pairs) (test q r) (λ t. pair-any test (Same q r) (λ x y s. same x y s t) pairs (same-kept pairs q r e))
+    by false e =
+        any-append (λ (p : Pair). test p.question p.reply) pairs (record { question = q; reply = r } ∷ [])
+        ∙ ap (λ b. some_pair test pairs || b) (or-false (test q r))
 
 -- What the same pair tells.
 
-tells-variant : (a b : Term) → canonical b ≡ canonical a → (q : Question) (r : Reply) → Same (asks.True b) Yes q r → TellsYes a q r
-tells-variant a b e (asks.True d) r s =
+same-yes : (a : Term) (q : Question) (r : Reply) (x : Question) (y : Reply) → Same q r x y → TellsYes a q r → TellsYes a x y
+same-yes a (asks.True b) Yes (asks.True d) y s t =
     let f : asks.True (canonical d) ≡ asks.True (canonical b) = s.0 in
     let g : canonical d ≡ canonical b = cc in
-    subst (TellsYes a (asks.True d)) (sym s.1) (IsInstance_from_variants a d (sym (g ∙ e)))
-tells-variant a b e (asks.Covers t) r s = (let f : asks.Covers (canonical_tuple t) ≡ asks.True (canonical b) = s.0 in cc)
-tells-variant a b e (asks.Below x y) r s = (let f : asks.Below (canonical x) (canonical y) ≡ asks.True (canonical b) = s.0 in cc)
-
-denies-variant : (a b : Term) → canonical b ≡ canonical a → (q : Question) (r : Reply) → Same (asks.True b) No q r → TellsNo a q r
-denies-variant a b e (asks.True d) r s =
-    let f : asks.True (canonical d) ≡ asks.True (canonical b) = s.0 in
-    let g : canonical d ≡ canonical b = cc in
-    subst (TellsNo a (asks.True d)) (sym s.1) (IsInstance_from_variants d a (g ∙ e))
-denies-variant a b e (asks.Covers t) r s = (let f : asks.Covers (canonical_tuple t) ≡ asks.True (canonical b) = s.0 in cc)
-denies-variant a b e (asks.Below x y) r s = (let f : asks.Below (canonical x) (canonical y) ≡ asks.True (canonical b) = s.0 in cc)
-
--- an atom that values make part of a body
-one-instance : (ts : List Term) (x : Term) → IsOneOf ts x → SomeTerm (IsInstance x) ts
-one-instance [] x h = absurd h
-one-instance (t ∷ ts) x (inl e) = inl (IsInstance_from_variants x t (ap canonical (sym e)))
-one-instance (t ∷ ts) x (inr h) = inr (one-instance ts x h)
-
-values-variant : (x : Term) (t : Tuple) (values : List Term) → IsOneOf (with_values t values) x → (q : Question) (r : Reply) → Same (asks.Covers t) (Values values) q r → TellsYes x q r
-values-variant x t values o (asks.True d) r s = (let f : asks.True (canonical d) ≡ asks.Covers (canonical_tuple t) = s.0 in cc)
-values-variant x t values o (asks.Covers u) r s =
+    subst (TellsYes a (asks.True d)) (sym s.1) (IsInstance-trans a b d t (IsInstance_from_variants b d (sym g)))
+same-yes a (asks.True b) Yes (asks.Covers u) y s t = (let f : asks.Covers (canonical_tuple u) ≡ asks.True (canonical b) = s.0 in cc)
+same-yes a (asks.True b) Yes (asks.Below v w) y s t = (let f : asks.Below (canonical v) (canonical w) ≡ asks.True (canonical b) = s.0 in cc)
+same-yes a (asks.True b) No x y s t = absurd t
+same-yes a (asks.True b) (Values vs) x y s t = absurd t
+same-yes a (asks.True b) Unknown x y s t = absurd t
+same-yes a (asks.Covers t) Yes x y s k = absurd k
+same-yes a (asks.Covers t) No x y s k = absurd k
+same-yes a (asks.Covers t) (Values vs) (asks.True d) y s k = (let f : asks.True (canonical d) ≡ asks.Covers (canonical_tuple t) = s.0 in cc)
+same-yes a (asks.Covers t) (Values vs) (asks.Covers u) y s k =
     let f : asks.Covers (canonical_tuple u) ≡ asks.Covers (canonical_tuple t) = s.0 in
     let g : canonical_tuple u ≡ canonical_tuple t = cc in
-    subst (TellsYes x (asks.Covers u)) (sym s.1)
-    (subst (λ (v : Tuple). SomeTerm (IsInstance x) (map (apply (term_for (enumerate_from 1 values))) v.body)) (sym g) (one-instance (with_values t values) x o))
-values-variant x t values o (asks.Below y z) r s = (let f : asks.Below (canonical y) (canonical z) ≡ asks.Covers (canonical_tuple t) = s.0 in cc)
+    subst (TellsYes a (asks.Covers u)) (sym s.1) (subst (λ (v : Tuple). SomeTerm (IsInstance a) (map (apply (term_for (enumerate_from 1 vs))) v.body)) (sym g) k)
+same-yes a (asks.Covers t) (Values vs) (asks.Below v w) y s k = (let f : asks.Below (canonical v) (canonical w) ≡ asks.Covers (canonical_tuple t) = s.0 in cc)
+same-yes a (asks.Covers t) Unknown x y s k = absurd k
+same-yes a (asks.Below v w) Yes x y s t = absurd t
+same-yes a (asks.Below v w) No x y s t = absurd t
+same-yes a (asks.Below v w) (Values vs) x y s t = absurd t
+same-yes a (asks.Below v w) Unknown x y s t = absurd t
 
--- the atoms that a pair affirms, it tells of, and so it is where it was put
-pub tells-affirmed : (pairs : List Pair) (q : Question) (r : Reply) (x : Term) → IsOneOf (affirmed_by q r) x → SomePairIn (TellsYes x) (with_pair_in pairs q r)
-tells-affirmed pairs (asks.True b) Yes x (inl e) = pair-told (TellsYes x) pairs (asks.True b) Yes (tells-variant x b (ap canonical e))
-tells-affirmed pairs (asks.True b) Yes x (inr h) = absurd h
-tells-affirmed pairs (asks.True b) No x h = absurd h
-tells-affirmed pairs (asks.True b) (Values vs) x h = absurd h
-tells-affirmed pairs (asks.True b) Unknown x h = absurd h
-tells-affirmed pairs (asks.Covers t) Yes x h = absurd h
-tells-affirmed pairs (asks.Covers t) No x h = absurd h
-tells-affirmed pairs (asks.Covers t) (Values vs) x h = pair-told (TellsYes x) pairs (asks.Covers t) (Values vs) (values-variant x t vs h)
-tells-affirmed pairs (asks.Covers t) Unknown x h = absurd h
-tells-affirmed pairs (asks.Below y z) Yes x h = absurd h
-tells-affirmed pairs (asks.Below y z) No x h = absurd h
-tells-affirmed pairs (asks.Below y z) (Values vs) x h = absurd h
-tells-affirmed pairs (asks.Below y z) Unknown x h = absurd h
+same-no : (a : Term) (q : Question) (r : Reply) (x : Question) (y : Reply) → Same q r x y → TellsNo a q r → TellsNo a x y
+same-no a (asks.True b) Yes x y s t = absurd t
+same-no a (asks.True b) No (asks.True d) y s t =
+    let f : asks.True (canonical d) ≡ asks.True (canonical b) = s.0 in
+    let g : canonical d ≡ canonical b = cc in
+    subst (TellsNo a (asks.True d)) (sym s.1) (IsInstance-trans d b a (IsInstance_from_variants d b g) t)
+same-no a (asks.True b) No (asks.Covers u) y s t = (let f : asks.Covers (canonical_tuple u) ≡ asks.True (canonical b) = s.0 in cc)
+same-no a (asks.True b) No (asks.Below v w) y s t = (let f : asks.Below (canonical v) (canonical w) ≡ asks.True (canonical b) = s.0 in cc)
+same-no a (asks.True b) (Values vs) x y s t = absurd t
+same-no a (asks.True b) Unknown x y s t = absurd t
+same-no a (asks.Covers u) r x y s t = absurd t
+same-no a (asks.Below v w) r x y s t = absurd t
 
-pub tells-denied : (pairs : List Pair) (q : Question) (r : Reply) (x : Term) → IsOneOf (denied_by q r) x → SomePairIn (TellsNo x) (with_pair_in pairs q r)
-tells-denied pairs (asks.True b) Yes x h = absurd h
-tells-denied pairs (asks.True b) No x (inl e) = pair-told (TellsNo x) pairs (asks.True b) No (denies-variant x b (ap canonical e))
-tells-denied pairs (asks.True b) No x (inr h) = absurd h
-tells-denied pairs (asks.True b) (Values vs) x h = absurd h
-tells-denied pairs (asks.True b) Unknown x h = absurd h
-tells-denied pairs (asks.Covers t) r x h = absurd h
-tells-denied pairs (asks.Below y z) r x h = absurd h
+-- The atoms that a pair names tell what it tells.
 
--- An index with what one more pair says.
+affirmed-tell : (a : Term) (q : Question) (r : Reply) → has_general (affirmed_by q r) a ≡ tells_yes a q r
+affirmed-tell a (asks.True b) Yes = or-false (is_instance a b)
+affirmed-tell a (asks.True b) No = refl
+affirmed-tell a (asks.True b) (Values vs) = refl
+affirmed-tell a (asks.True b) Unknown = refl
+affirmed-tell a (asks.Covers t) Yes = refl
+affirmed-tell a (asks.Covers t) No = refl
+affirmed-tell a (asks.Covers t) (Values vs) = refl
+affirmed-tell a (asks.Covers t) Unknown = refl
+affirmed-tell a (asks.Below v w) r = refl
 
-one-at : (ys : List Term) (k : ℕ) (x : Term) → slice_get ys k ≡ Some x → IsOneOf ys x
-one-at [] k x e = absurd (cc)
-one-at (y ∷ ys) zero x e = inl (cc)
-one-at (y ∷ ys) (suc k) x e = inr (one-at ys k x e)
+denied-tell : (a : Term) (q : Question) (r : Reply) → has_special (denied_by q r) a ≡ tells_no a q r
+denied-tell a (asks.True b) Yes = refl
+denied-tell a (asks.True b) No = or-false (is_instance b a)
+denied-tell a (asks.True b) (Values vs) = refl
+denied-tell a (asks.True b) Unknown = refl
+denied-tell a (asks.Covers t) r = refl
+denied-tell a (asks.Below v w) r = refl
 
-at-either : (xs ys : List Term) (k : ℕ) (x : Term) → slice_get (xs ++ ys) k ≡ Some x → (slice_get xs k ≡ Some x) ⊎ IsOneOf ys x
-at-either [] ys k x e = inr (one-at ys k x e)
-at-either (y ∷ xs) ys zero x e = inl e
-at-either (y ∷ xs) ys (suc k) x e = at-either xs ys k x e
+module _ (pairs : List Pair) (q : Question) (r : Reply) (xs : List Term) where
+  pub affirmed-with : AreAffirmed pairs xs → AreAffirmed (with_pair_in pairs q r) (xs ++ affirmed_by q r)
+  affirmed-with h = λ a.
+      any-append (is_instance a) xs (affirmed_by q r)
+      ∙ ap (λ b. b || has_general (affirmed_by q r) a) (h a)
+      ∙ ap (λ b. some_pair (tells_yes a) pairs || b) (affirmed-tell a q r)
+      ∙ sym (some-with (tells_yes a) pairs q r (λ x y s t. (tells_yes-is a x y).1 (same-yes a q r x y s ((tells_yes-is a q r).0 t))))
 
-module _ (Tells : Term → Question → Reply → Type 0) (named_by : Question → Reply → List Term) (IsFound : AtomIndex → Term → Type 0) where
-  pub none-listed : (d : AtomIndex) → d.atoms ≡ [] → AreListed Tells named_by IsFound [] d
-  none-listed d e = record {
-    sound = λ k x f. absurd (let g : slice_get [] k ≡ Some x = subst (λ (xs : List Term). slice_get xs k ≡ Some x) e f in cc);
-    whole = λ x h. absurd h;
-  }
+  pub denied-with : AreDenied pairs xs → AreDenied (with_pair_in pairs q r) (xs ++ denied_by q r)
+  denied-with h = λ a.
+      any-append (λ (x : Term). is_instance x a) xs (denied_by q r)
+      ∙ ap (λ b. b || has_special (denied_by q r) a) (h a)
+      ∙ ap (λ b. some_pair (tells_no a) pairs || b) (denied-tell a q r)
+      ∙ sym (some-with (tells_no a) pairs q r (λ x y s t. (tells_no-is a x y).1 (same-no a q r x y s ((tells_no-is a q r).0 t))))
 
-  pub listed-with : (pairs : List Pair) (q : Question) (r : Reply) (d new : AtomIndex) → new.atoms ≡ d.atoms ++ named_by q r → ((x : Term) → IsFound d x → IsFound new x)
-      → ((x : Term) → IsOneOf (named_by q r) x → IsFound new x) → ((x : Term) → IsOneOf (named_by q r) x → SomePairIn (Tells x) (with_pair_in pairs q r))
-      → AreListed Tells named_by IsFound pairs d → AreListed Tells named_by IsFound (with_pair_in pairs q r) new
-  listed-with pairs q r d new is kept found tells h = record {
-    sound = λ k x e. elim (at-either d.atoms (named_by q r) k x (subst (λ (xs : List Term). slice_get xs k ≡ Some x) is e)) [
-      | inl f ↦ pair-still (Tells x) pairs q r (h.sound k x f)
-      | inr o ↦ tells x o
-    ];
-    whole = λ x s. elim (pair-either (λ y z. IsOneOf (named_by y z) x) pairs q r s) [ inl s' ↦ kept x (h.whole x s') | inr o ↦ found x o ];
-  }
-
-pub affirmed-with : (pairs : List Pair) (q : Question) (r : Reply) (d new : AtomIndex) → new.atoms ≡ d.atoms ++ affirmed_by q r → ((x : Term) → IsFoundBelow d x → IsFoundBelow new x)
-    → ((x : Term) → IsOneOf (affirmed_by q r) x → IsFoundBelow new x) → AreAffirmed pairs d → AreAffirmed (with_pair_in pairs q r) new
-affirmed-with pairs q r d new is kept found h = listed-with TellsYes affirmed_by IsFoundBelow pairs q r d new is kept found (tells-affirmed pairs q r) h
-
-pub denied-with : (pairs : List Pair) (q : Question) (r : Reply) (d new : AtomIndex) → new.atoms ≡ d.atoms ++ denied_by q r → ((x : Term) → IsFoundAbove d x → IsFoundAbove new x)
-    → ((x : Term) → IsOneOf (denied_by q r) x → IsFoundAbove new x) → AreDenied pairs d → AreDenied (with_pair_in pairs q r) new
-denied-with pairs q r d new is kept found h = listed-with TellsNo denied_by IsFoundAbove pairs q r d new is kept found (tells-denied pairs q r) h
-
-nothing-behind : (xs : List Term) → xs ≡ xs ++ []
+nothing-behind : (xs : List Term) → xs ++ [] ≡ xs
 nothing-behind [] = refl
 nothing-behind (x ∷ xs) = ap (λ ys. x ∷ ys) (nothing-behind xs)
 
 -- where there is memory
-pub affirmed-ok : {T E : Type 0} (o : Result T E) (q : Question) (r : Reply) (ats : List Term) (d new : AtomIndex) → OnOk o (new.atoms ≡ d.atoms ++ ats) → OnOk o ((x : Term) → IsFoundBelow d x → IsFoundBelow new x)
-    → OnOk o ((x : Term) → IsOneOf ats x → IsFoundBelow new x) → ats ≡ affirmed_by q r → OnOk o ((pairs : List Pair) → AreAffirmed pairs d → AreAffirmed (with_pair_in pairs q r) new)
-affirmed-ok (Ok u) q r ats d new is kept found e = λ pairs h.
-    affirmed-with pairs q r d new (subst (λ (xs : List Term). new.atoms ≡ d.atoms ++ xs) e is) kept (λ x o. found x (subst (λ (xs : List Term). IsOneOf xs x) (sym e) o)) h
-affirmed-ok (Err u) q r ats d new is kept found e = tt
+pub affirmed-ok : {T E : Type 0} (o : Result T E) (q : Question) (r : Reply) (ats xs new : List Term) → OnOk o (new ≡ xs ++ ats) → ats ≡ affirmed_by q r
+    → OnOk o ((pairs : List Pair) → AreAffirmed pairs xs → AreAffirmed (with_pair_in pairs q r) new)
+affirmed-ok (Ok u) q r ats xs new is e = λ pairs h. subst (AreAffirmed (with_pair_in pairs q r)) (sym (is ∙ ap (λ (ys : List Term). xs ++ ys) e)) (affirmed-with pairs q r xs h)
+affirmed-ok (Err u) q r ats xs new is e = tt
 
-pub denied-ok : {T E : Type 0} (o : Result T E) (q : Question) (r : Reply) (a : Term) (d new : AtomIndex) → OnOk o (new.atoms ≡ d.atoms ++ a ∷ []) → OnOk o ((x : Term) → IsFoundAbove d x → IsFoundAbove new x)
-    → OnOk o (IsFoundAbove new a) → denied_by q r ≡ a ∷ [] → OnOk o ((pairs : List Pair) → AreDenied pairs d → AreDenied (with_pair_in pairs q r) new)
-denied-ok (Ok u) q r a d new is kept found e = λ pairs h.
-    denied-with pairs q r d new (subst (λ (xs : List Term). new.atoms ≡ d.atoms ++ xs) (sym e) is) kept (λ x o. one x (subst (λ (xs : List Term). IsOneOf xs x) e o)) h
-  where
-    one : (x : Term) → IsOneOf (a ∷ []) x → IsFoundAbove new x
-    one x (inl g) = subst (IsFoundAbove new) g found
-    one x (inr z) = absurd z
-denied-ok (Err u) q r a d new is kept found e = tt
+pub denied-ok : {T E : Type 0} (o : Result T E) (q : Question) (r : Reply) (ats xs new : List Term) → OnOk o (new ≡ xs ++ ats) → denied_by q r ≡ ats
+    → OnOk o ((pairs : List Pair) → AreDenied pairs xs → AreDenied (with_pair_in pairs q r) new)
+denied-ok (Ok u) q r ats xs new is e = λ pairs h. subst (AreDenied (with_pair_in pairs q r)) (sym (is ∙ ap (λ (ys : List Term). xs ++ ys) (sym e))) (denied-with pairs q r xs h)
+denied-ok (Err u) q r ats xs new is e = tt
 
-pub denied-none : (pairs : List Pair) (q : Question) (r : Reply) (d : AtomIndex) → denied_by q r ≡ [] → AreDenied pairs d → AreDenied (with_pair_in pairs q r) d
-denied-none pairs q r d e h =
-    denied-with pairs q r d d (subst (λ (xs : List Term). d.atoms ≡ d.atoms ++ xs) (sym e) (nothing-behind d.atoms)) (λ x f. f)
-    (λ x o. absurd (subst (λ (xs : List Term). IsOneOf xs x) e o)) h
+pub denied-none : (pairs : List Pair) (q : Question) (r : Reply) (xs : List Term) → denied_by q r ≡ [] → AreDenied pairs xs → AreDenied (with_pair_in pairs q r) xs
+denied-none pairs q r xs e h = subst (AreDenied (with_pair_in pairs q r)) (ap (λ (ys : List Term). xs ++ ys) e ∙ nothing-behind xs) (denied-with pairs q r xs h)
 
--- What the store says.
-
-same-truth : (x y : Bool) → (x ≡ true → y ≡ true) → (y ≡ true → x ≡ true) → x ≡ y
-same-truth true y f g = sym (f refl)
-same-truth false true f g = absurd (let e : false ≡ true = g refl in cc)
-same-truth false false f g = refl
-
-term-map : (P R : Term → Type 0) → ((t : Term) → P t → R t) → (ts : List Term) → SomeTerm P ts → SomeTerm R ts
-term-map P R f [] h = absurd h
-term-map P R f (t ∷ ts) (inl h) = inl (f t h)
-term-map P R f (t ∷ ts) (inr h) = inr (term-map P R f ts h)
-
-some-one : (a : Term) (ts : List Term) → SomeTerm (IsInstance a) ts → (x : Term) × IsOneOf ts x × IsInstance a x
-some-one a [] h = absurd h
-some-one a (t ∷ ts) (inl h) = (t, inl refl, h)
-some-one a (t ∷ ts) (inr h) = let s = some-one a ts h in (s.0, inr s.1, s.2)
-
--- Yes to an atom is Yes to its instances, and No to one is No to what it is an instance of
-yes-below : (x a : Term) → IsInstance a x → (q : Question) (r : Reply) → TellsYes x q r → TellsYes a q r
-yes-below x a i (asks.True b) Yes t = IsInstance-trans a x b i t
-yes-below x a i (asks.True b) No t = absurd t
-yes-below x a i (asks.True b) (Values vs) t = absurd t
-yes-below x a i (asks.True b) Unknown t = absurd t
-yes-below x a i (asks.Covers u) Yes t = absurd t
-yes-below x a i (asks.Covers u) No t = absurd t
-yes-below x a i (asks.Covers u) (Values vs) t = term-map (IsInstance x) (IsInstance a) (λ b j. IsInstance-trans a x b i j) (with_values u vs) t
-yes-below x a i (asks.Covers u) Unknown t = absurd t
-yes-below x a i (asks.Below y z) Yes t = absurd t
-yes-below x a i (asks.Below y z) No t = absurd t
-yes-below x a i (asks.Below y z) (Values vs) t = absurd t
-yes-below x a i (asks.Below y z) Unknown t = absurd t
-
-no-above : (x a : Term) → IsInstance x a → (q : Question) (r : Reply) → TellsNo x q r → TellsNo a q r
-no-above x a i (asks.True b) Yes t = absurd t
-no-above x a i (asks.True b) No t = IsInstance-trans b x a t i
-no-above x a i (asks.True b) (Values vs) t = absurd t
-no-above x a i (asks.True b) Unknown t = absurd t
-no-above x a i (asks.Covers u) r t = absurd t
-no-above x a i (asks.Below y z) r t = absurd t
-
--- the atom that a pair names, where it tells of another
-yes-by-one : (a : Term) (q : Question) (r : Reply) → TellsYes a q r → (x : Term) × IsOneOf (affirmed_by q r) x × IsInstance a x
-yes-by-one a (asks.True b) Yes t = (b, inl refl, t)
-yes-by-one a (asks.True b) No t = absurd t
-yes-by-one a (asks.True b) (Values vs) t = absurd t
-yes-by-one a (asks.True b) Unknown t = absurd t
-yes-by-one a (asks.Covers u) Yes t = absurd t
-yes-by-one a (asks.Covers u) No t = absurd t
-yes-by-one a (asks.Covers u) (Values vs) t = some-one a (with_values u vs) t
-yes-by-one a (asks.Covers u) Unknown t = absurd t
-yes-by-one a (asks.Below y z) Yes t = absurd t
-yes-by-one a (asks.Below y z) No t = absurd t
-yes-by-one a (asks.Below y z) (Values vs) t = absurd t
-yes-by-one a (asks.Below y z) Unknown t = absurd t
-
-no-by-one : (a : Term) (q : Question) (r : Reply) → TellsNo a q r → (x : Term) × IsOneOf (denied_by q r) x × IsInstance x a
-no-by-one a (asks.True b) Yes t = absurd t
-no-by-one a (asks.True b) No t = (b, inl refl, t)
-no-by-one a (asks.True b) (Values vs) t = absurd t
-no-by-one a (asks.True b) Unknown t = absurd t
-no-by-one a (asks.Covers u) r t = absurd t
-no-by-one a (asks.Below y z) r t = absurd t
-
-some-named : (named_by : Question → Reply → List Term) (P : Question → Reply → Type 0) (R : Term → Type 0) → ((q : Question) (r : Reply) → P q r → (x : Term) × IsOneOf (named_by q r) x × R x)
-    → (pairs : List Pair) → SomePairIn P pairs → (x : Term) × SomePairIn (λ q r. IsOneOf (named_by q r) x) pairs × R x
-some-named named_by P R f [] h = absurd h
-some-named named_by P R f (p ∷ pairs) (inl h) = let s = f p.question p.reply h in (s.0, inl s.1, s.2)
-some-named named_by P R f (p ∷ pairs) (inr h) = let s = some-named named_by P R f pairs h in (s.0, inr s.1, s.2)
-
-module _ (pairs : List Pair) (d : AtomIndex) (a : Term) where
-  abbrev above_at : ℕ → Bool
-  above_at m = list_any (λ (k : ℕ). is_above a (slice_get d.atoms k)) (places_at d.places m)
-
-  abbrev below_at : ℕ → Bool
-  below_at m = list_any (λ (k : ℕ). is_below a (slice_get d.atoms k)) (places_at d.places m)
-
-  above-is : (o : Option Term) (x : Term) → o ≡ Some x → IsInstance a x → is_above a o ≡ true
-  above-is o x e i = ap (is_above a) e ∙ (is_instance-is a x).1 i
-
-  below-is : (o : Option Term) (x : Term) → o ≡ Some x → IsInstance x a → is_below a o ≡ true
-  below-is o x e i = ap (is_below a) e ∙ (is_instance-is x a).1 i
-
-  yes-there : AreAffirmed pairs d → list_any above_at (all_marks a) ≡ true → SomePairIn (TellsYes a) pairs
-  yes-there h e =
-      let m = any-among above_at (all_marks a) e in
-      let k = any-among (λ (j : ℕ). is_above a (slice_get d.atoms j)) (places_at d.places m.0) m.2 in
-      by k.0 (slice_get d.atoms k.0) refl k.2
-    where
-      by : (k : ℕ) (o : Option Term) → slice_get d.atoms k ≡ o → is_above a o ≡ true → SomePairIn (TellsYes a) pairs
-      by k None f t = absurd (cc)
-      by k (Some x) f t = pair-map (TellsYes x) (TellsYes a) (yes-below x a ((is_instance-is a x).0 t)) pairs (h.sound k x f)
-
-  yes-found : AreAffirmed pairs d → SomePairIn (TellsYes a) pairs → list_any above_at (all_marks a) ≡ true
-  yes-found h s =
-      let n = some-named affirmed_by (TellsYes a) (IsInstance a) (yes-by-one a) pairs s in
-      let f = h.whole n.0 n.1 in
-      among-any above_at (all_marks a) f.mark (lasting-marks a n.0 f.mark n.2 f.lasting)
-      (among-any (λ (j : ℕ). is_above a (slice_get d.atoms j)) (places_at d.places f.mark) f.at.place f.at.of_mark (above-is (slice_get d.atoms f.at.place) n.0 f.at.there n.2))
-
-  no-there : (m : ℕ) → AreDenied pairs d → below_at m ≡ true → SomePairIn (TellsNo a) pairs
-  no-there m h e =
-      let k = any-among (λ (j : ℕ). is_below a (slice_get d.atoms j)) (places_at d.places m) e in
-      by k.0 (slice_get d.atoms k.0) refl k.2
-    where
-      by : (k : ℕ) (o : Option Term) → slice_get d.atoms k ≡ o → is_below a o ≡ true → SomePairIn (TellsNo a) pairs
-      by k None f t = absurd (cc)
-      by k (Some x) f t = pair-map (TellsNo x) (TellsNo a) (no-above x a ((is_instance-is x a).0 t)) pairs (h.sound k x f)
-
-  no-found : (m : ℕ) → AreDenied pairs d → IsLasting a m → SomePairIn (TellsNo a) pairs → below_at m ≡ true
-  no-found m h lasting s =
-      let n = some-named denied_by (TellsNo a) (λ x. IsInstance x a) (no-by-one a) pairs s in
-      let at = h.whole n.0 n.1 m (lasting-marks n.0 a m n.2 lasting) in
-      among-any (λ (j : ℕ). is_below a (slice_get d.atoms j)) (places_at d.places m) at.place at.of_mark (below-is (slice_get d.atoms at.place) n.0 at.there n.2)
-
-pub yes-by-index : (store : Store) (d : AtomIndex) (a : Term) (r : Result Bool AllocError) → AreAffirmed store.pairs d
-    → IfOk r (λ b. b ≡ list_any (λ (m : ℕ). list_any (λ (k : ℕ). is_above a (slice_get d.atoms k)) (places_at d.places m)) (all_marks a)) → IfOk r (λ b. b ≡ says_yes store a)
-yes-by-index store d a (Ok b) h e =
-    e ∙ same-truth (list_any (above_at store.pairs d a) (all_marks a)) (says_yes store a) (λ t. (says_yes-is store a).1 (yes-there store.pairs d a h t)) (λ t. yes-found store.pairs d a h ((says_yes-is store a).0 t))
-yes-by-index store d a (Err x) h e = tt
-
-pub no-by-index : (store : Store) (d : AtomIndex) (a : Term) (r : Result Bool AllocError) → AreDenied store.pairs d
-    → IfOk r (λ b. (m : ℕ) × IsLasting a m × (b ≡ list_any (λ (k : ℕ). is_below a (slice_get d.atoms k)) (places_at d.places m))) → IfOk r (λ b. b ≡ says_no store a)
-no-by-index store d a (Ok b) h (m, lasting, e) =
-    e ∙ same-truth (below_at store.pairs d a m) (says_no store a) (λ t. (says_no-is store a).1 (no-there store.pairs d a m h t)) (λ t. no-found store.pairs d a m h lasting ((says_no-is store a).0 t))
-no-by-index store d a (Err x) h e = tt
+pub told-ok : {E : Type 0} (o : Result Bool E) (told says : Bool) → IfOk o (λ b. b ≡ told) → told ≡ says → IfOk o (λ b. b ≡ says)
+told-ok (Ok b) told says e is = e ∙ is
+told-ok (Err u) told says e is = tt

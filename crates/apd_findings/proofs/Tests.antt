@@ -26,6 +26,7 @@ use Rattle.apd_answers.specs.declared.question.Reply.{Reply}
 use Rattle.apd_answers.specs.declared.question.Reply.TheVariants.{Yes, No, Values, Unknown}
 use Rattle.apd_answers.specs.declared.store.Pair.{Pair}
 use Rattle.apd_answers.proofs.Tests.{same_question-equal, same_question-same}
+use Rattle.apd_term.proofs.Tuples.{apply-terms_of, as_term-apply, as_term-injective}
 use Rattle.apd_findings.specs.Deciding.{some_pair, tells_yes, tells_no, tells_same, says_yes, says_no, says_uncovered, says_same, says_below, says_not_below, affirms_by, affirms, as_term, is_tuple_instance, is_instance_of, is_false_builtin, is_denied_atom, is_denied, is_closed, covers_not, is_uncovered}
 use Rattle.apd_findings.proofs.Instances.{true_always, always_true}
 
@@ -66,7 +67,7 @@ never A untrue = (λ e. absurd (cc), λ a. absurd (untrue a))
 
 -- What store tell.
 
-tells_yes-is : (a : Term) (q : Question) (r : Reply) → tells_yes a q r ≡ true ↔ TellsYes a q r
+pub tells_yes-is : (a : Term) (q : Question) (r : Reply) → tells_yes a q r ≡ true ↔ TellsYes a q r
 tells_yes-is a (asks.True b) Yes = is_instance-is a b
 tells_yes-is a (asks.True b) No = never _ (λ h. h)
 tells_yes-is a (asks.True b) (Values vs) = never _ (λ h. h)
@@ -80,7 +81,7 @@ tells_yes-is a (asks.Below x y) No = never _ (λ h. h)
 tells_yes-is a (asks.Below x y) (Values vs) = never _ (λ h. h)
 tells_yes-is a (asks.Below x y) Unknown = never _ (λ h. h)
 
-tells_no-is : (a : Term) (q : Question) (r : Reply) → tells_no a q r ≡ true ↔ TellsNo a q r
+pub tells_no-is : (a : Term) (q : Question) (r : Reply) → tells_no a q r ≡ true ↔ TellsNo a q r
 tells_no-is a (asks.True b) Yes = never _ (λ h. h)
 tells_no-is a (asks.True b) No = is_instance-is b a
 tells_no-is a (asks.True b) (Values vs) = never _ (λ h. h)
@@ -175,32 +176,18 @@ affirms_by-is (Some goal) store a = stands-is a
 pub affirms-is : (store : Store) (a : Term) → affirms store a ≡ true ↔ Affirms store a
 affirms-is store a = affirms_by-is (builtin_of_atom a) store a
 
-apply_all-map : (s : ℕ → Term) (ts : List Term) → apply_all s (terms_of ts) ≡ terms_of (map (apply s) ts)
-apply_all-map s [] = refl
-apply_all-map s (t ∷ ts) = ap (more (apply s t)) (apply_all-map s ts)
-
 one_list : (ts us : List Term) → terms_of ts ≡ terms_of us → ts ≡ us
 one_list [] [] e = refl
 one_list [] (u ∷ us) e = cc
 one_list (t ∷ ts) [] e = cc
 one_list (t ∷ ts) (u ∷ us) e = let rest : ts ≡ us = one_list ts us (cc) in let first : t ≡ u = cc in cc
 
-as_term-apply : (s : ℕ → Term) (t : Tuple) → apply s (as_term t) ≡ as_term (apply_tuple s t)
-as_term-apply s t = ap (compound NIL) (apply_all-map s (t.head ∷ t.body))
-
 tuple_of : (a b : Term) (ts us : List Term) → a ≡ b → ts ≡ us → (let t : Tuple = record { head = a; body = ts } in t) ≡ record { head = b; body = us }
 tuple_of a b ts us e f = rw (e, f) refl
 
-one_tuple : (t u : Tuple) → as_term t ≡ as_term u → t ≡ u
-one_tuple t u e =
-    let all : t.head ∷ t.body ≡ u.head ∷ u.body = one_list (t.head ∷ t.body) (u.head ∷ u.body) (cc) in
-    let h : t.head ≡ u.head = cc in
-    let b : t.body ≡ u.body = cc in
-    tuple_of t.head u.head t.body u.body h b
-
 pub tuple_instance-is : (t c : Tuple) → is_tuple_instance t c ≡ true ↔ IsTupleInstance t c
 tuple_instance-is t c = (
-  λ e. (let i = (is_instance-is (as_term t) (as_term c)).0 e in (i.0, one_tuple (apply_tuple i.0 c) t (sym (as_term-apply i.0 c) ∙ i.1))),
+  λ e. (let i = (is_instance-is (as_term t) (as_term c)).0 e in (i.0, as_term-injective (apply_tuple i.0 c) t (sym (as_term-apply i.0 c) ∙ i.1))),
   λ h. (is_instance-is (as_term t) (as_term c)).1 (h.0, as_term-apply h.0 c ∙ ap as_term h.1),
 )
 

@@ -1,22 +1,11 @@
--- Keys: what stands for a term and its variants in a set. A set's keys are numbered from 0 in their order.
-use Rattle.std.specs.Prelude.{ℕ, zero, suc, ◌≡◌, ◌≢◌, ◌⊎◌, ◌↔◌, List, [], ◌∷◌, map}
-use Rattle.apd_term.specs.Term.{Term, spell}
+-- Keys of canonical forms: what stands for a term and its variants in a set. A set's keys are numbered from 0 in their order.
+use Rattle.std.specs.Prelude.{ℕ, zero, suc, ◌≡◌, ◌≢◌, ◌⊎◌, ◌↔◌, List, [], ◌∷◌}
+use Rattle.apd_term.specs.Term.{Term}
 use Rattle.apd_term.specs.Canonical.{canonical}
 use Rattle.apd_term.specs.declared.instance.Instance.{Instance}
-use Rattle.apd_term.specs.declared.term.Sym.{Sym}
-use Rattle.apd_term.specs.declared.term.Sym.TheVariants.{Var, Int, Fun}
+use Rattle.apd_marks.specs.Keys.{key}
+use Rattle.apd_marks.specs.declared.keys.Part.{Part}
 use Rattle.apd_answers.specs.Findings.{IsHeadAmong}
-use Rattle.apd_findings.specs.declared.keys.Part.{Part}
-use Rattle.apd_findings.specs.declared.keys.Part.TheVariants.{Variable, Integer, Name}
-
-abbrev pub part_of : Sym → Part
-part_of (Var v) = Variable v
-part_of (Int i) = Integer i
-part_of (Fun f n) = Name f.0 n
-
--- a term's key
-abbrev pub key : Term → List Part
-key t = map part_of (spell t)
 
 -- the key is one of these
 abbrev pub IsKeyAmong : List (List Part) → List Part → Type 0

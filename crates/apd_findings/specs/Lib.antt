@@ -5,6 +5,4 @@ pub mod Reaching
 pub mod Ordering
 pub mod Calling
 pub mod Granting
-pub mod Positions
-pub mod AtomIndex
 pub mod Parted

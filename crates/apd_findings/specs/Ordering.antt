@@ -7,7 +7,7 @@ use Rattle.apd_answers.specs.declared.question.Reply.TheVariants.{Yes, No}
 use Rattle.apd_answers.specs.declared.store.Pair.{Pair}
 use Rattle.apd_findings.specs.Keys.{HasNumber}
 use Rattle.apd_findings.specs.Reaching.{Reaches}
-use Rattle.apd_findings.specs.declared.keys.Part.{Part}
+use Rattle.apd_marks.specs.declared.keys.Part.{Part}
 use Rattle.apd_findings.specs.declared.orders.Orders.{Orders}
 
 -- the keys of the calls that have numbers

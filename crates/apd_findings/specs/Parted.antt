@@ -1,15 +1,14 @@
 -- The atoms that the pairs of a store affirm or deny, to be looked up.
-use Rattle.std.specs.Prelude.{ℕ, ◌≡◌, List, [], ◌∷◌, Some, slice_get}
+use Rattle.std.specs.Prelude.{◌≡◌, List, [], ◌∷◌}
 use Rattle.apd_term.specs.Term.{Term}
 use Rattle.apd_answers.specs.Questions.{with_values}
-use Rattle.apd_answers.specs.Store.{SomePairIn, TellsNo, TellsYes}
 use Rattle.apd_answers.specs.declared.question.Question.{Question}
 use Rattle.apd_answers.specs.declared.question.Question.TheVariants as asks
 use Rattle.apd_answers.specs.declared.question.Reply.{Reply}
 use Rattle.apd_answers.specs.declared.question.Reply.TheVariants.{Yes, No, Values}
 use Rattle.apd_answers.specs.declared.store.Pair.{Pair}
-use Rattle.apd_findings.specs.AtomIndex.{IsFoundAbove, IsFoundBelow, IsOneOf}
-use Rattle.apd_findings.specs.declared.atom_index.AtomIndex.{AtomIndex}
+use Rattle.apd_index.specs.Retrieval.{has_general, has_special}
+use Rattle.apd_findings.specs.Deciding.{some_pair, tells_no, tells_yes}
 
 -- the atoms of which a pair says that they are true, each with its instances
 abbrev pub affirmed_by : Question → Reply → List Term
@@ -22,13 +21,10 @@ abbrev pub denied_by : Question → Reply → List Term
 denied_by (asks.True a) No = a ∷ []
 denied_by _ _ = []
 
--- the index has what pairs say of atoms: they tell of each that it has, and each that they name is found
-pub record AreListed (Tells : Term → Question → Reply → Type 0) (named_by : Question → Reply → List Term) (IsFound : AtomIndex → Term → Type 0) (pairs : List Pair) (d : AtomIndex) : Type 0 where
-  pub sound : (k : ℕ) (x : Term) → slice_get d.atoms k ≡ Some x → SomePairIn (Tells x) pairs
-  pub whole : (x : Term) → SomePairIn (λ q r. IsOneOf (named_by q r) x) pairs → IsFound d x
+-- an atom is an instance of one of these exactly where some pair affirms it
+abbrev pub AreAffirmed : List Pair → List Term → Type 0
+AreAffirmed pairs xs = (a : Term) → has_general xs a ≡ some_pair (tells_yes a) pairs
 
-abbrev pub AreAffirmed : List Pair → AtomIndex → Type 0
-AreAffirmed pairs d = AreListed TellsYes affirmed_by IsFoundBelow pairs d
-
-abbrev pub AreDenied : List Pair → AtomIndex → Type 0
-AreDenied pairs d = AreListed TellsNo denied_by IsFoundAbove pairs d
+-- one of these is an instance of an atom exactly where some pair denies it
+abbrev pub AreDenied : List Pair → List Term → Type 0
+AreDenied pairs xs = (a : Term) → has_special xs a ≡ some_pair (tells_no a) pairs

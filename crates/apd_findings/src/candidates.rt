@@ -10,7 +10,7 @@ ghost use Rattle.apd_findings.specs.Keys.{AreHeads};
 
 use crate::always::stands;
 use crate::granting::is_granted;
-use crate::keys::{Keys, key_of};
+use crate::keys::{Keys, key_of_form};
 use crate::parted::Parted;
 use crate::wrong::is_instance_of;
 use apd_arith::Builtin;
@@ -30,7 +30,7 @@ fn is_head_among(
     requires { AreHeads (map (λ v. v.items) heads.now.keys) later.now }
     ensures { IfOk result (λ b. IsTrue b ↔ IsHeadAmong later.now atom.now) }
 {
-    Ok(heads.contains(&key_of(alloc, atom)?))
+    Ok(heads.contains(&key_of_form(alloc, atom)?))
 }
 
 /// Whether the atom is granted, or a variant of the head of one of the later instances.
@@ -131,7 +131,7 @@ fn are_candidates(
         if !is_candidate(alloc, program, record, answers, &heads, later, instance)? {
             return Ok(false);
         }
-        heads.insert_full(key_of(alloc, &instance.tuple.head)?)?;
+        heads.insert_full(key_of_form(alloc, &instance.tuple.head)?)?;
         left -= 1;
     }
     Ok(true)

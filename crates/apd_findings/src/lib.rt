@@ -3,7 +3,6 @@
 
 mod affirming;
 mod always;
-mod atom_index;
 mod calling;
 mod candidates;
 mod closing;
@@ -12,7 +11,6 @@ mod granting;
 mod keys;
 mod orders;
 mod parted;
-mod positions;
 mod reaching;
 mod wrong;
 

@@ -8,7 +8,7 @@ ghost use Rattle.apd_answers.specs.declared.question.Question.TheVariants.{Below
 ghost use Rattle.apd_answers.specs.declared.store.Pair.{Pair};
 ghost use Rattle.apd_findings.specs.Ordering.{AreOrders, HasLists, IsNumbered, IsReached, keys_of};
 
-use crate::keys::{Keys, key_of};
+use crate::keys::{Keys, key_of_form};
 use crate::reaching::{reached, some_marked};
 use apd_answers::{Question, Reply};
 use apd_base::ListOf;
@@ -43,7 +43,7 @@ impl Orders {
         requires { HasLists self.old }
         ensures { IfOk result (IsNumbered self.old self.new call.now) }
     {
-        let key = key_of(self.alloc, call)?;
+        let key = key_of_form(self.alloc, call)?;
         let (number, is_new) = self.keys.insert_full(key)?;
         if is_new {
             self.above.push(ListOf::new(self.alloc))?;
@@ -105,10 +105,10 @@ impl Orders {
         if callee.same(caller) {
             return Ok(true);
         }
-        let Some(high) = self.keys.get_index_of(&key_of(self.alloc, caller)?) else {
+        let Some(high) = self.keys.get_index_of(&key_of_form(self.alloc, caller)?) else {
             return Ok(false);
         };
-        let Some(low) = self.keys.get_index_of(&key_of(self.alloc, callee)?) else {
+        let Some(low) = self.keys.get_index_of(&key_of_form(self.alloc, callee)?) else {
             return Ok(false);
         };
         self.is_reached(low, high)

@@ -1,7 +1,7 @@
 //! A store, with what its pairs say of atoms and of calls, to be looked up.
 //!
 //! A store looks up the first pair that decides a question; what counts for a finding is whether some pair gives one reply. So the
-//! atoms that replies affirm and those that they deny are kept by their marks, and what was said of calls by the calls' numbers.
+//! atoms that replies affirm and those that they deny are kept in indexes, and what was said of calls by the calls' numbers.
 
 ghost use Rattle.std.specs.Prelude.{◌≡◌, ◌↔◌, ◌∷◌, [], List, IfOk, IsTrue, MatchOption, OnOk};
 ghost use Rattle.apd_term.specs.Canonical.{canonical};
@@ -14,9 +14,9 @@ ghost use Rattle.apd_answers.specs.declared.store.Pair.{Pair};
 ghost use Rattle.apd_findings.specs.Ordering.{AreOrders, HasLists};
 ghost use Rattle.apd_findings.specs.Parted.{AreAffirmed, AreDenied, affirmed_by, denied_by};
 
-use crate::atom_index::AtomIndex;
 use crate::orders::Orders;
 use apd_answers::{Answers, Question, Reply, with_values};
+use apd_index::{Generals, Specials};
 use apd_term::{Atoms, Flat, Tuple};
 use std::alloc::{AllocError, Global};
 use std::marker::Model;
@@ -26,9 +26,9 @@ use std::marker::Model;
 struct Parts {
     alloc: Global,
     /// The atoms that are true, with their instances.
-    affirmed: AtomIndex,
+    affirmed: Generals,
     /// The atoms that aren't.
-    denied: AtomIndex,
+    denied: Specials,
     orders: Orders,
 }
 
@@ -40,8 +40,8 @@ fn no_parts(alloc: Global) -> Parts
 {
     Parts {
         alloc,
-        affirmed: AtomIndex::new(alloc),
-        denied: AtomIndex::new(alloc),
+        affirmed: Generals::new(alloc),
+        denied: Specials::new(alloc),
         orders: Orders::new(alloc),
     }
 }
@@ -64,7 +64,7 @@ fn affirmed_by(alloc: Global, question: &Question, reply: &Reply) -> Result<Atom
 /// Puts the atoms that a pair affirms.
 fn affirm(
     alloc: Global,
-    affirmed: &mut AtomIndex,
+    affirmed: &mut Generals,
     question: &Question,
     reply: &Reply,
 ) -> Result<(), AllocError>
@@ -72,7 +72,7 @@ fn affirm(
         → AreAffirmed (with_pair_in pairs question.now reply.now) affirmed.new) }
 {
     let atoms = affirmed_by(alloc, question, reply)?;
-    affirmed.put_generals(alloc, atoms.as_slice())
+    affirmed.put_all(alloc, atoms.as_slice())
 }
 
 /// The atom of which a reply to a question says that it isn't true.
@@ -89,7 +89,7 @@ fn denied_by<'a>(question: &'a Question, reply: &Reply) -> Option<&'a Flat>
 /// Puts the atom that a pair denies.
 fn deny(
     alloc: Global,
-    denied: &mut AtomIndex,
+    denied: &mut Specials,
     question: &Question,
     reply: &Reply,
 ) -> Result<(), AllocError>
@@ -97,7 +97,7 @@ fn deny(
         → AreDenied (with_pair_in pairs question.now reply.now) denied.new) }
 {
     match denied_by(question, reply) {
-        Some(atom) => denied.put_special(alloc, atom),
+        Some(atom) => denied.put(alloc, atom),
         None => Ok(()),
     }
 }

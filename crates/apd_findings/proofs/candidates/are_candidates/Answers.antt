@@ -5,7 +5,8 @@ use Rattle.apd_answers.specs.Findings.{IsCandidate}
 use Rattle.std.proofs.lemmas.Slice.Eq.{slice_eq-Decides}
 use Rattle.apd_clauses.specs.Clauses.{tuples_of}
 use Rattle.apd_findings.proofs.Among.{each-fails, each-goes}
-use Rattle.apd_findings.proofs.Numbers.{head-before, part_eq}
+use Rattle.apd_marks.proofs.Distinct.{part_eq}
+use Rattle.apd_findings.proofs.Numbers.{head-before}
 use Rattle.apd_findings.proofs.candidates.are_candidates.Goals as goal
 
 pub returns-then-not-branch : goal.returns-then-not-branch
@@ -22,6 +23,6 @@ instances-preserved c = (
       (subst (λ (ds : List Instance). c.in_ok-is_candidate.field-0 ≡ true ↔ IsCandidate (tuples_of c.args.program.now) c.args.record.now c.args.answers.now ds c.index-instances-left.result)
       (take_rest c.args.instances.now c.instances.left) c.in_ok-is_candidate.ensures)
       c.if-not-branch.false c.instances.invariant.1,
-  head-before (λ v. v.items) _ (λ a b. slice_eq-Decides part_eq a.items b.items _ refl) c.instances.heads.keys c.insert_full.new.self.keys c.in_ok-key_of.field-0 c.args.instances.now c.instances.left c.index-instances-left.result
-      c.instances-test.true c.instances.invariant.0 c.index-instances-left.is c.in_ok-insert_full.ensures.keys c.in_ok-key_of.ensures c.instances.invariant.2,
+  head-before (λ v. v.items) _ (λ a b. slice_eq-Decides part_eq a.items b.items _ refl) c.instances.heads.keys c.insert_full.new.self.keys c.in_ok-key_of_form.field-0 c.args.instances.now c.instances.left c.index-instances-left.result
+      c.instances-test.true c.instances.invariant.0 c.index-instances-left.is c.in_ok-insert_full.ensures.keys c.in_ok-key_of_form.ensures c.instances.invariant.2,
 )

@@ -1,6 +1,7 @@
 use Rattle.std.proofs.Common.{◌<◌, ◌++◌, [], ◌∷◌, length, ap, subst, ◌∙◌, rules}
 use Rattle.apd_findings.specs.Reaching.{HasSeen}
-use Rattle.apd_findings.proofs.Marked.{at-default, emptied, nexts-within, number-within, reaching-all, reaching-first, reaching-more}
+use Rattle.apd_marks.proofs.Walking.{emptied}
+use Rattle.apd_findings.proofs.Marked.{at-default, nexts-within, number-within, reaching-all, reaching-first, reaching-more}
 use Rattle.apd_term.specs.Term.{IsAmong}
 use Rattle.apd_findings.proofs.reaching.reached.Goals as goal
 

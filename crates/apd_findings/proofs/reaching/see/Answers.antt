@@ -1,5 +1,6 @@
 use Rattle.std.proofs.Common.{◌<◌, length, get_or, refl, sym, ◌∙◌, arith, false}
-use Rattle.apd_findings.proofs.Marked.{among-at, at-default, see-again, see-new}
+use Rattle.apd_index.proofs.Lists.{among-at}
+use Rattle.apd_findings.proofs.Marked.{at-default, see-again, see-new}
 use Rattle.apd_findings.proofs.reaching.see.Goals.{then-not-index+in_ok-push, else-not-index}
 use Rattle.apd_findings.proofs.reaching.see.Goals as goal
 

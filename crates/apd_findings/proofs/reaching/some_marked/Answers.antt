@@ -1,5 +1,6 @@
 use Rattle.std.proofs.Common.{get_or, refl}
-use Rattle.apd_findings.proofs.Marked.{among-at, marked-found, marked-passed, none-found}
+use Rattle.apd_index.proofs.Lists.{among-at}
+use Rattle.apd_findings.proofs.Marked.{marked-found, marked-passed, none-found}
 use Rattle.apd_findings.proofs.reaching.some_marked.Goals as goal
 
 pub bounds-marks-number : goal.bounds-marks-number

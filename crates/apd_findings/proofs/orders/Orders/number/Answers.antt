@@ -1,6 +1,7 @@
 use Rattle.std.proofs.Common.{◌≡◌, ◌∙◌, ◌+◌, map, if◌then◌else◌, ap, sym, refl, length, arith}
 use Rattle.std.proofs.lemmas.Slice.Eq.{slice_eq-Decides}
-use Rattle.apd_findings.proofs.Numbers.{count-as, kept-as, part_eq, placed-as}
+use Rattle.apd_marks.proofs.Distinct.{part_eq}
+use Rattle.apd_findings.proofs.Numbers.{count-as, kept-as, placed-as}
 use Rattle.apd_findings.proofs.Ordering.{pushed-empty, pushed-count}
 use Rattle.apd_findings.proofs.orders.Orders.number.Goals as goal
 

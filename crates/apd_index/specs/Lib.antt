@@ -1,0 +1,3 @@
+pub mod Retrieval
+pub mod Rows
+pub mod Sharing

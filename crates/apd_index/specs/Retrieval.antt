@@ -1,0 +1,47 @@
+-- Atoms that are found by their marks.
+use Rattle.std.specs.Prelude.{ℕ, ◌≡◌, Bool, false, List, Option, None, Some, slice_get}
+use Rattle.std.specs.List.{list_any}
+use Rattle.apd_term.specs.Term.{Term, IsAmong}
+use Rattle.apd_term.specs.Matching.{is_instance}
+use Rattle.apd_marks.specs.Places.{Index, places_at}
+use Rattle.apd_marks.specs.Positions.{IsLasting, all_marks}
+
+-- some of the atoms is an instance of this one
+abbrev pub has_special : List Term → Term → Bool
+has_special xs a = list_any (λ (x : Term). is_instance x a) xs
+
+-- this one is an instance of some of the atoms
+abbrev pub has_general : List Term → Term → Bool
+has_general xs a = list_any (is_instance a) xs
+
+-- Of an atom at a place, where there may be none.
+
+abbrev pub is_below : Term → Option Term → Bool
+is_below a None = false
+is_below a (Some x) = is_instance x a
+
+abbrev pub is_above : Term → Option Term → Bool
+is_above a None = false
+is_above a (Some x) = is_instance a x
+
+-- each place that was noted is noted still
+abbrev pub AreKept : Index → Index → Type 0
+AreKept old new = (m k : ℕ) → IsAmong (places_at old m) k → IsAmong (places_at new m) k
+
+-- the place is noted for a mark of the atom that its instances have too; so it is for a mark of each instance
+pub record IsNotedBelow (places : Index) (k : ℕ) (x : Term) : Type 0 where
+  pub mark : ℕ
+  pub lasting : IsLasting x mark
+  pub noted : IsAmong (places_at places mark) k
+
+-- the place is noted for each mark of the atom; so it is for those of whatever the atom is an instance of
+abbrev pub IsNotedAbove : Index → ℕ → Term → Type 0
+IsNotedAbove places k x = (m : ℕ) → IsAmong (all_marks x) m → IsAmong (places_at places m) k
+
+-- What is noted of each atom of a list; a place may be noted where there is no atom.
+
+abbrev pub AreGenerals : List Term → Index → Type 0
+AreGenerals xs places = (k : ℕ) (x : Term) → slice_get xs k ≡ Some x → IsNotedBelow places k x
+
+abbrev pub AreSpecials : List Term → Index → Type 0
+AreSpecials xs places = (k : ℕ) (x : Term) → slice_get xs k ≡ Some x → IsNotedAbove places k x

@@ -1,0 +1,19 @@
+-- Rows of bits, a bit for each place.
+use Rattle.std.specs.Prelude.{ℕ, ◌≡◌, ◌/◌, ◌%◌, ◌==◌, Bool, true, List, get_or}
+use Rattle.std.specs.Int.{bit_at}
+use Rattle.apd_term.specs.Term.{IsAmong}
+
+-- the place's bit, in words of 64; words that are absent have none
+abbrev pub has_bit : List ℕ → ℕ → Bool
+has_bit row place = bit_at (get_or row (place / 64) 0) (place % 64) == 1
+
+abbrev pub HasBit : List ℕ → ℕ → Type 0
+HasBit row place = has_bit row place ≡ true
+
+-- the row has the bits of these places
+abbrev pub HasBits : List ℕ → List ℕ → Type 0
+HasBits row places = (k : ℕ) → IsAmong places k → HasBit row k
+
+-- each bit of the one the other has
+abbrev pub IsWithin : List ℕ → List ℕ → Type 0
+IsWithin row other = (k : ℕ) → HasBit row k → HasBit other k

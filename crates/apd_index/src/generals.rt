@@ -1,0 +1,142 @@
+//! Atoms that are looked up by their instances.
+
+ghost use Rattle.std.specs.Prelude.{◌≡◌, ◌++◌, ◌∷◌, [], IfOk, OnOk, slice_get};
+ghost use Rattle.std.specs.List.{list_any};
+ghost use Rattle.apd_marks.specs.Positions.{all_marks};
+ghost use Rattle.apd_marks.specs.Places.{places_at};
+ghost use Rattle.apd_index.specs.Retrieval.{AreGenerals, has_general, is_above};
+
+use crate::marked::narrow;
+use apd_answers::is_instance;
+use apd_marks::{Places, all_marks, note, with_mark};
+use apd_term::{Atoms, Flat};
+use indexmap::IndexMap;
+use std::alloc::{AllocError, Global};
+use std::marker::Model;
+
+/// Puts an atom at the end. Its place is noted first: where there is no atom, it is passed over.
+fn put(alloc: Global, atoms: &mut Atoms, places: &mut Places, atom: &Flat) -> Result<(), AllocError>
+    requires { AreGenerals atoms.old places.old }
+    ensures ok { OnOk result (atoms.new ≡ atoms.old ++ atom.now ∷ []) }
+    ensures noted { AreGenerals atoms.new places.new }
+{
+    let mark = narrow(alloc, places, atom)?;
+    let copy = atom.copy(alloc)?;
+    note(alloc, places, mark, atoms.len())?;
+    atoms.push(copy)
+}
+
+/// Puts atoms at the end.
+fn put_all(
+    alloc: Global,
+    atoms: &mut Atoms,
+    places: &mut Places,
+    more: &[Flat],
+) -> Result<(), AllocError>
+    requires { AreGenerals atoms.old places.old }
+    ensures ok { OnOk result (atoms.new ≡ atoms.old ++ more.now) }
+    ensures noted { AreGenerals atoms.new places.new }
+{
+    'more: for atom in more {
+        put(alloc, atoms, places, atom)?;
+    }
+    Ok(())
+}
+
+/// Whether the atom is an instance of the one at a place.
+fn is_above(alloc: Global, atoms: &Atoms, place: usize, atom: &Flat) -> Result<bool, AllocError>
+    ensures { IfOk result (λ b. b ≡ is_above atom.now (slice_get atoms.now place)) }
+{
+    match atoms.get(place) {
+        Some(general) => is_instance(alloc, atom, general),
+        None => Ok(false),
+    }
+}
+
+/// Whether the atom is an instance of the one at some of these places.
+fn some_above(
+    alloc: Global,
+    atoms: &Atoms,
+    places: &[usize],
+    atom: &Flat,
+) -> Result<bool, AllocError>
+    ensures { IfOk result (λ b. b ≡
+        list_any (λ k. is_above atom.now (slice_get atoms.now k)) places.now) }
+{
+    'places: for place in places {
+        if is_above(alloc, atoms, *place, atom)? {
+            return Ok(true);
+        }
+    }
+    Ok(false)
+}
+
+/// Whether the atom is an instance of the one at some place of one of its marks.
+fn some_marked(
+    alloc: Global,
+    atoms: &Atoms,
+    places: &Places,
+    atom: &Flat,
+) -> Result<bool, AllocError>
+    ensures { IfOk result (λ b. b ≡ list_any (λ m. list_any
+        (λ k. is_above atom.now (slice_get atoms.now k)) (places_at places.now m))
+        (all_marks atom.now)) }
+{
+    let marks = all_marks(alloc, atom)?;
+    'marks: for mark in marks.as_slice() {
+        if some_above(alloc, atoms, with_mark(places, *mark), atom)? {
+            return Ok(true);
+        }
+    }
+    Ok(false)
+}
+
+/// Atoms that are looked up by their instances. Contracts see their list.
+#[derive(Drop)]
+pub struct Generals {
+    atoms: Atoms,
+    /// The places of atoms, each by a mark that the atom's instances have too.
+    places: Places,
+}
+
+impl Model for Generals {
+    ghost use Rattle.std.specs.Prelude.{List};
+    ghost use Rattle.std.specs.Coded.{coded_list};
+    ghost use Rattle.apd_term.specs.Term.{Term};
+    ghost use Rattle.apd_term.specs.Spelling.{term_code};
+    ghost use Rattle.apd_index.specs.Retrieval.{AreGenerals};
+
+    ghost Value = { List Term };
+
+    ghost coded = { coded_list term_code };
+
+    ghost view = { λ d. d.atoms };
+
+    ghost invariant = { λ d. AreGenerals d.atoms d.places };
+}
+
+impl Generals {
+    /// No atoms.
+    pub fn new(alloc: Global) -> Generals
+        ensures { result ≡ [] }
+    {
+        Generals {
+            atoms: Atoms::new(alloc),
+            places: IndexMap::new(alloc),
+        }
+    }
+
+    /// Puts atoms at the end.
+    pub fn put_all(&mut self, alloc: Global, atoms: &[Flat]) -> Result<(), AllocError>
+        ensures { OnOk result (self.new ≡ self.old ++ atoms.now) }
+    {
+        put_all(alloc, &mut self.atoms, &mut self.places, atoms)
+    }
+
+    /// Whether the atom is an instance of some of these.
+    pub fn has_general(&self, alloc: Global, atom: &Flat) -> Result<bool, AllocError>
+        ensures { IfOk result (λ b. b ≡ has_general self.now atom.now) }
+    {
+        some_marked(alloc, &self.atoms, &self.places, atom)
+    }
+}

@@ -1,0 +1,123 @@
+//! Rows of bits, a bit for each place.
+
+ghost use Rattle.std.specs.Prelude.{◌≡◌, ◌<◌, ℕ, length, get_or, IfOk, OnOk};
+ghost use Rattle.apd_index.specs.Rows.{HasBit, HasBits, IsWithin, has_bit};
+
+use std::alloc::{AllocError, Global};
+use std::marker::Model;
+
+/// So many bits are in a word.
+const BITS: usize = 64;
+
+/// Makes the row so long that it has the word.
+fn grow(words: &mut Vec<u64>, word: usize) -> Result<(), AllocError>
+    ensures kept { IsWithin words.old.items words.new.items }
+    ensures ok { OnOk result (word < length words.new.items) }
+{
+    'words: while words.len() <= word {
+        words.push(0)?;
+    }
+    Ok(())
+}
+
+/// Sets the place's bit.
+fn set(words: &mut Vec<u64>, place: usize) -> Result<(), AllocError>
+    ensures kept { IsWithin words.old.items words.new.items }
+    ensures set { OnOk result (HasBit words.new.items place) }
+{
+    let word = place / BITS;
+    grow(words, word)?;
+    words[word] |= 1 << (place % BITS);
+    Ok(())
+}
+
+/// The bits of these places.
+fn of_places(alloc: Global, places: &[usize]) -> Result<Vec<u64>, AllocError>
+    ensures { IfOk result (λ words. HasBits words.items places.now) }
+{
+    let mut words = Vec::new(alloc);
+    'places: for place in places {
+        set(&mut words, *place)?;
+    }
+    Ok(words)
+}
+
+/// The word, which has no bits where it is absent.
+fn word_at(words: &[u64], word: usize) -> u64
+    ensures { result ≡ get_or words.now word 0 }
+{
+    if word >= words.len() {
+        return 0;
+    }
+    words[word]
+}
+
+/// Whether the place's bit is set.
+fn has(words: &[u64], place: usize) -> bool
+    ensures { result ≡ has_bit words.now place }
+{
+    word_at(words, place / BITS) >> (place % BITS) & 1 == 1
+}
+
+/// Leaves those bits that the other row has too.
+fn meet(words: &mut Vec<u64>, other: &[u64])
+    ensures { (k : ℕ) → HasBit words.old.items k → HasBit other.now k → HasBit words.new.items k }
+{
+    'words: for i in 0..words.len() {
+        words[i] &= word_at(other, i);
+    }
+}
+
+/// A bit for each place. Contracts see the words.
+#[derive(Drop)]
+pub(crate) struct Row {
+    words: Vec<u64>,
+}
+
+impl Model for Row {
+    ghost use Rattle.std.specs.Prelude.{List, ℕ};
+
+    ghost Value = { List ℕ };
+
+    ghost view = { λ r. r.words.items };
+}
+
+impl Row {
+    /// The bits of these places.
+    pub(crate) fn of(alloc: Global, places: &[usize]) -> Result<Row, AllocError>
+        ensures { IfOk result (λ row. HasBits row places.now) }
+    {
+        let words = of_places(alloc, places)?;
+        Ok(Row { words })
+    }
+
+    /// A row with the same bits.
+    pub(crate) fn copy(&self, alloc: Global) -> Result<Row, AllocError>
+        ensures { IfOk result (λ row. row ≡ self.now) }
+    {
+        let words = Vec::from_slice(alloc, self.words.as_slice())?;
+        Ok(Row { words })
+    }
+
+    /// Sets the place's bit.
+    pub(crate) fn set(&mut self, place: usize) -> Result<(), AllocError>
+        ensures kept { IsWithin self.old self.new }
+        ensures set { OnOk result (HasBit self.new place) }
+    {
+        set(&mut self.words, place)
+    }
+
+    /// Whether the place's bit is set.
+    pub(crate) fn has(&self, place: usize) -> bool
+        ensures { result ≡ has_bit self.now place }
+    {
+        has(self.words.as_slice(), place)
+    }
+
+    /// Leaves those bits that the other row has too.
+    pub(crate) fn meet(&mut self, other: &Row)
+        ensures { (k : ℕ) → HasBit self.old k → HasBit other.now k → HasBit self.new k }
+    {
+        meet(&mut self.words, other.words.as_slice());
+    }
+}

@@ -22,7 +22,7 @@ use std::alloc::{AllocError, Global};
 use std::marker::Model;
 
 /// The greatest number of nodes right below one.
-fn broadest(rows: &[Row]) -> u32
+fn broadest(rows: &[Row<'_>]) -> u32
     ensures { result ≡ broadest rows.now }
 {
     let mut most: u32 = 0;
@@ -55,7 +55,7 @@ fn lost_by(standing: Standing, weight: u32) -> u32
 }
 
 /// The suspect at a place stands as it is judged: it has fewer suspects, and so have those above it.
-fn mark(rows: &mut [Row], root: usize, node: usize, standing: Standing)
+fn mark(rows: &mut [Row<'_>], root: usize, node: usize, standing: Standing)
     requires kept { IsKept (kept_at rows.old root) }
     requires suspect { IsSome (cut_of (kept_at rows.old root) node) }
     requires there { node < length rows.old }
@@ -80,7 +80,7 @@ fn mark(rows: &mut [Row], root: usize, node: usize, standing: Standing)
 
 /// Judges suspects of these predicates true, the first in the order in which a node comes before those below it, until there is
 /// none.
-fn clear_below(rows: &mut [Row], root: usize, preds: &Preds)
+fn clear_below(rows: &mut [Row<'_>], root: usize, preds: &Preds)
     requires kept { IsKept (kept_at rows.old root) }
     requires there { root < length rows.old }
     ensures { let k = kept_at rows.old root in
@@ -92,7 +92,7 @@ fn clear_below(rows: &mut [Row], root: usize, preds: &Preds)
 }
 
 /// The instance of a row.
-fn instance_of(alloc: Global, row: &Row) -> Result<Instance, AllocError>
+fn instance_of(alloc: Global, row: &Row<'_>) -> Result<Instance, AllocError>
     ensures clause { IfOk result (λ i. i.clause ≡ row.now.clause) }
     ensures tuple { IfOk result (λ i. i.tuple ≡ row.now.tuple) }
 {
@@ -104,7 +104,7 @@ fn instance_of(alloc: Global, row: &Row) -> Result<Instance, AllocError>
 }
 
 /// Puts the instances of the nodes that were judged unknown, and aren't below one that was judged true, at the end.
-fn push_doubts(alloc: Global, rows: &[Row], instances: &mut Instances) -> Result<(), AllocError>
+fn push_doubts(alloc: Global, rows: &[Row<'_>], instances: &mut Instances) -> Result<(), AllocError>
     requires { rows.now ≡ rows_of (forest_from rows.now) }
     ensures { OnOk result (instances.new ≡ instances.old ++ doubts_of (forest_from rows.now)) }
 {
@@ -125,13 +125,13 @@ fn push_doubts(alloc: Global, rows: &[Row], instances: &mut Instances) -> Result
 
 /// The suspects of a proof tree. A node comes before those below it, and those below it stand right behind it.
 #[derive(Drop)]
-pub struct Suspects {
+pub struct Suspects<'a> {
     alloc: Global,
-    rows: Vec<Row>,
+    rows: Vec<Row<'a>>,
     root: usize,
 }
 
-impl Model for Suspects {
+impl<'a> Model for Suspects<'a> {
     ghost use Rattle.std.specs.Prelude.{◌≡◌, length, vec_len};
     ghost use Rattle.apd_divide.specs.Kept.{Kept, IsKept, kept_code};
 
@@ -144,15 +144,15 @@ impl Model for Suspects {
     ghost invariant = { λ s. IsKept (record { rows = s.rows.items; root = s.root }) × (vec_len s.rows ≡ length s.rows.items) };
 }
 
-impl Suspects {
+impl<'a> Suspects<'a> {
     /// The suspects of the proof tree of a recorded exit, with this label at its root. Want of memory too where the tree
     /// would have 2 ^ 32 nodes.
     pub fn build(
         alloc: Global,
-        recorded: &Record,
+        recorded: &'a Record,
         exit: PointId,
         label: &Flat,
-    ) -> Result<Suspects, AllocError>
+    ) -> Result<Suspects<'a>, AllocError>
         requires { IsLabelled recorded.now exit.0 label.now }
         ensures tree { IfOk result (λ s. tree_of s ≡ tree recorded.now exit.0 label.now) }
         ensures branching { IfOk result (λ s. broadest s.rows ≡
@@ -169,7 +169,7 @@ impl Suspects {
     }
 
     /// The rows of the trees below the root.
-    fn below(&self) -> &[Row]
+    fn below(&self) -> &[Row<'a>]
         ensures trees { result.now ≡ rows_of (children (tree_of self.now)) }
         ensures within { self.now.root + length result.now < length self.now.rows }
         ensures few { length self.now.rows < 2 ^ 32 }
@@ -178,14 +178,16 @@ impl Suspects {
         &self.rows[self.root + 1..self.root + row.span as usize]
     }
 
-    /// The label of a node of the built tree.
-    pub fn label(&self, node: NodeId) -> &Flat
+    /// The label of a node of the built tree. The only error is want of memory.
+    pub fn label(&self, node: NodeId) -> Result<Flat, AllocError>
         requires { node.0 < length self.now.rows }
-        ensures row { IfSome (slice_get self.now.rows node.0)
-            (λ (r : Row). result.now ≡ r.tuple.head) }
-        ensures suspect { IfSome (cut_of self.now node.0) (λ c. result.now ≡ label c.chosen) }
+        ensures row { IfOk result (λ l. IfSome (slice_get self.now.rows node.0)
+            (λ (r : Row). l ≡ r.tuple.head)) }
+        ensures suspect { IfOk result (λ l. IfSome (cut_of self.now node.0)
+            (λ c. l ≡ label c.chosen)) }
     {
-        self.rows[node.0 as usize].tuple.head()
+        let label = self.rows[node.0 as usize].tuple.head(self.alloc)?;
+        Ok(label)
     }
 
     /// How many suspects there are.

@@ -1,0 +1,97 @@
+//! Instances of nodes, which are read from the record where they are wanted.
+
+ghost use Rattle.std.specs.Prelude.{◌≡◌, ◌<◌, length, Some, IfOk};
+ghost use Rattle.apd_term.specs.Term.{predicate_of};
+ghost use Rattle.apd_record.specs.Reading.{point_of};
+
+use crate::reading::{head_at, tuple_at};
+use crate::spelled::Spelled;
+use apd_ports::PointId;
+use apd_record::Record;
+use apd_term::{Flat, Pred, Tuple};
+use std::alloc::{AllocError, Global};
+use std::boxed::Box;
+use std::marker::Model;
+
+/// Where a tuple is.
+#[derive(Drop)]
+pub enum TuplePlace<'a> {
+    /// It is that of this recorded exit, and its head has this predicate.
+    Recorded(&'a Record, PointId, Pred),
+    /// It is one of its own.
+    Own(Box<Spelled>),
+}
+
+/// The tuple of a node: that of a recorded exit isn't written out before it is wanted. Contracts see
+/// the tuple.
+#[derive(Drop)]
+pub struct NodeTuple<'a> {
+    place: TuplePlace<'a>,
+}
+
+impl<'a> Model for NodeTuple<'a> {
+    ghost use Rattle.apd_term.specs.declared.tuple.Tuple.{Tuple};
+    ghost use Rattle.apd_clauses.specs.Codes.{tuple_code};
+    ghost use Rattle.apd_divide.specs.Referring.{tuple_in, IsTupleThere};
+
+    ghost Value = { Tuple };
+
+    ghost coded = { tuple_code };
+
+    ghost view = { λ t. tuple_in t.place };
+
+    ghost invariant = { λ t. IsTupleThere t.place };
+}
+
+impl<'a> NodeTuple<'a> {
+    /// The tuple of a recorded exit, whose head has this predicate.
+    pub fn of_exit(recorded: &'a Record, exit: PointId, pred: Pred) -> NodeTuple<'a>
+        requires there { exit.0 < length recorded.now.points }
+        requires pred { predicate_of (point_of recorded.now exit.0).tuple.head ≡ Some pred }
+        ensures { result ≡ (point_of recorded.now exit.0).tuple }
+    {
+        NodeTuple {
+            place: TuplePlace::Recorded(recorded, exit, pred),
+        }
+    }
+
+    /// This tuple. The only error is want of memory.
+    pub fn of_tuple(alloc: Global, tuple: &Tuple) -> Result<NodeTuple<'a>, AllocError>
+        ensures { IfOk result (λ t. t ≡ tuple.now) }
+    {
+        let spelled = Box::new(alloc, Spelled::of_tuple(alloc, tuple)?)?;
+        Ok(NodeTuple {
+            place: TuplePlace::Own(spelled),
+        })
+    }
+
+    /// The predicate of the head; none where the head has none.
+    pub fn pred(&self) -> Option<Pred>
+        ensures { result ≡ predicate_of self.now.head }
+    {
+        match &self.place {
+            TuplePlace::Recorded(_, _, pred) => Some(*pred),
+            TuplePlace::Own(spelled) => spelled.head().pred(),
+        }
+    }
+
+    /// The head. The only error is want of memory.
+    pub fn head(&self, alloc: Global) -> Result<Flat, AllocError>
+        ensures { IfOk result (λ h. h ≡ self.now.head) }
+    {
+        match &self.place {
+            TuplePlace::Recorded(recorded, exit, _) => head_at(recorded, *exit),
+            TuplePlace::Own(spelled) => spelled.head().copy(alloc),
+        }
+    }
+
+    /// The tuple. The only error is want of memory.
+    pub fn tuple(&self, alloc: Global) -> Result<Tuple, AllocError>
+        ensures { IfOk result (λ t. t ≡ self.now) }
+    {
+        match &self.place {
+            TuplePlace::Recorded(recorded, exit, _) => tuple_at(recorded, *exit),
+            TuplePlace::Own(spelled) => spelled.tuple(alloc),
+        }
+    }
+}

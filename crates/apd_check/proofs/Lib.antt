@@ -1,9 +1,11 @@
 pub mod Atoms
+pub mod Callers
 pub mod Chains
 pub mod Descents
 pub mod Onward
 pub mod Ending
 pub mod Fits
 pub mod Histories
+pub mod Taking
 pub mod OneResult
 pub mod Right

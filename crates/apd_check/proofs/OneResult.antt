@@ -8,7 +8,7 @@ use Rattle.apd_claims.specs.declared.claim.Claim.{Claim}
 use Rattle.apd_claims.specs.declared.claim.Claim.TheVariants.{Runs, Ends, Tells, Asks, Replies, Finds, Descends as DescendsSo, Nothing, Garbled}
 use Rattle.apd_check.specs.declared.state.State.{State}
 use Rattle.apd_claims.specs.Saying.{Said}
-use Rattle.apd_check.specs.Checked.{Decided, IsReplyTo, IsJudged, IsChecked, after_claim, found_in}
+use Rattle.apd_check.specs.Checked.{Decided, IsReplyTo, IsJudged, IsFoundIn, IsJudgedBy, IsLineJudged, IsChecked, after_line, found_on, reason_for}
 use Rattle.apd_check.specs.declared.checked.Checked.{Checked}
 use Rattle.apd_check.specs.declared.checked.Checked.TheVariants.{Fails}
 use Rattle.apd_text.specs.declared.check.Why.{Why}
@@ -36,12 +36,19 @@ module _ (program : List Clause) where
   one-judged s Nothing a b p r = p ∙ sym r
   one-judged s Garbled a b p r = p ∙ sym r
 
+  one-judged_by : (s : State) (claim : Claim) (parted : Option (ℕ → Option Claim)) (a b : Option Why) → IsJudgedBy program s claim parted a → IsJudgedBy program s claim parted b → a ≡ b
+  one-judged_by s claim None a b p r = one-judged s claim a b p r
+  one-judged_by s claim (Some parted) a b p r = one-decided (IsFoundIn program s parted) (reason_for claim) a b p r
+
+  one-line : (s : State) (x : Said) (a b : Option Why) → IsLineJudged program s x a → IsLineJudged program s x b → a ≡ b
+  one-line s x a b p r = one-judged_by s x.claim x.parted a b p r
+
   pub one-checked : (s : State) (found : ℕ) (said : List Said) (a b : Checked) → IsChecked program s found said a → IsChecked program s found said b → a ≡ b
   one-checked s found [] a b p q = p ∙ sym q
-  one-checked s found (x ∷ xs) a b (inl p) (inl q) = one-checked (after_claim program s x.claim) (found + found_in x.claim) xs a b p.1 q.1
-  one-checked s found (x ∷ xs) a b (inl p) (inr q) = absurd (let e : None ≡ Some q.0 = one-judged s x.claim None (Some q.0) p.0 q.1 in cc)
-  one-checked s found (x ∷ xs) a b (inr p) (inl q) = absurd (let e : Some p.0 ≡ None = one-judged s x.claim (Some p.0) None p.1 q.0 in cc)
+  one-checked s found (x ∷ xs) a b (inl p) (inl q) = one-checked (after_line program s x) (found + found_on x) xs a b p.1 q.1
+  one-checked s found (x ∷ xs) a b (inl p) (inr q) = absurd (let e : None ≡ Some q.0 = one-line s x None (Some q.0) p.0 q.1 in cc)
+  one-checked s found (x ∷ xs) a b (inr p) (inl q) = absurd (let e : Some p.0 ≡ None = one-line s x (Some p.0) None p.1 q.0 in cc)
   one-checked s found (x ∷ xs) a b (inr p) (inr q) =
-      let e : Some p.0 ≡ Some q.0 = one-judged s x.claim (Some p.0) (Some q.0) p.1 q.1 in
+      let e : Some p.0 ≡ Some q.0 = one-line s x (Some p.0) (Some q.0) p.1 q.1 in
       let f : p.0 ≡ q.0 = cc in
       p.2 ∙ ap (Fails x.line) f ∙ sym q.2

@@ -1,5 +1,6 @@
 -- The lines of a log, one after the other.
-use Rattle.std.proofs.Common.{◌≡◌, inl, inr, ◌≤◌, ◌<◌, ◌+◌, Bool, false, ℕ, List, [], ◌∷◌, length, None, Some, refl, sym, subst, arith}
+use Rattle.std.proofs.Common.{◌≡◌, inl, inr, ◌≤◌, ◌<◌, ◌+◌, Bool, false, ℕ, List, [], ◌∷◌, length, Option, None, Some, refl, sym, subst, arith}
+use Rattle.std.specs.Option.{option_map}
 use Rattle.apd_base.specs.declared.limits.TheConstants.{MAX_FILE}
 use Rattle.apd_clauses.specs.declared.clause.Clause.{Clause}
 use Rattle.apd_console.specs.Lines.{lines_of}
@@ -13,15 +14,16 @@ use Rattle.apd_check.specs.declared.state.State.{State}
 use Rattle.apd_check.specs.declared.checked.Checked.{Checked}
 use Rattle.apd_check.specs.declared.checked.Checked.TheVariants.{Holds, Fails}
 use Rattle.apd_text.specs.declared.check.Why.{Why}
-use Rattle.apd_check.specs.Checked.{IsChecked, IsJudged, after_claim, found_in}
+use Rattle.apd_check.specs.Checked.{IsChecked, IsJudged, IsJudgedBy, after_by, after_claim}
 use Rattle.apd_claims.specs.Saying.{claim_at, goes_on, said_from}
+use Rattle.apd_claims.specs.Parting.{called_in, claim_parted}
 use Rattle.apd_claims.specs.Sayable.{IsSayable}
-use Rattle.apd_check.specs.Steps.{IsKept, Leads}
+use Rattle.apd_check.specs.Steps.{IsKept, Leads, Takes}
 use Rattle.apd_claims.proofs.Naming.{grown-twice}
 
 -- What is kept stays kept.
 
-kept-after : (program : List Clause) (s : State) (claim : Claim) → IsKept s → IsSayable claim → IsJudged program s claim None → IsKept (after_claim program s claim)
+pub kept-after : (program : List Clause) (s : State) (claim : Claim) → IsKept s → IsSayable claim → IsJudged program s claim None → IsKept (after_claim program s claim)
 kept-after program s (Runs q) kept may j = record { runnable = may; asked = tt }
 kept-after program s (Ends ran) kept may j = record { runnable = tt; asked = kept.asked }
 kept-after program s (Tells q r) kept may j = record { runnable = kept.runnable; asked = tt }
@@ -40,16 +42,22 @@ module _ (program : List Clause) (ops : Table) where
   abbrev pub IsFrom : {n : List (List ℕ)} → Reader n → State → ℕ → Bool → ℕ → List (List ℕ) → Checked → Type 0
   IsFrom reader s found in_group number lines r = IsChecked program s found (said_from reader ops in_group number lines) r
 
-  module _ (n : List (List ℕ)) (reader : Reader n) (s : State) (found : ℕ) (in_group : Bool) (number : ℕ) (line : List ℕ) (lines : List (List ℕ)) (claim : Claim) (is : claim ≡ claim_at reader ops in_group line lines) where
-    good-line : (t : State) (r : Checked) → Leads program s claim t None → IsFrom reader t (found + found_in claim) (goes_on in_group line) (number + 1) lines r → IsFrom reader s found in_group number (line ∷ lines) r
-    good-line t r leads h = inl (
-      subst (λ (c : Claim). IsJudged program s c None) is leads.0,
-      subst (λ (c : Claim). IsFrom reader (after_claim program s c) (found + found_in c) (goes_on in_group line) (number + 1) lines r) is
-          (subst (λ (x : State). IsFrom reader x (found + found_in claim) (goes_on in_group line) (number + 1) lines r) leads.1 h),
+  module _ (n : List (List ℕ)) (reader : Reader n) (s : State) (found : ℕ) (in_group : Bool) (number : ℕ) (line : List ℕ) (lines : List (List ℕ)) where
+    abbrev said_here : Claim
+    said_here = claim_at reader ops in_group line lines
+
+    abbrev parted_here : Option (ℕ → Option Claim)
+    parted_here = option_map (claim_parted reader ops) (called_in line)
+
+    good-line : (t : State) (more : ℕ) (r : Checked) → Takes program s said_here parted_here t more None → IsFrom reader t (found + more) (goes_on in_group line) (number + 1) lines r → IsFrom reader s found in_group number (line ∷ lines) r
+    good-line t more r takes h = inl (
+      takes.0,
+      subst (λ (k : ℕ). IsFrom reader (after_by program s said_here parted_here) (found + k) (goes_on in_group line) (number + 1) lines r) takes.2
+          (subst (λ (x : State). IsFrom reader x (found + more) (goes_on in_group line) (number + 1) lines r) takes.1 h),
     )
 
-    bad-line : (w : Why) → IsJudged program s claim (Some w) → IsFrom reader s found in_group number (line ∷ lines) (Fails number w)
-    bad-line w j = inr (w, subst (λ (c : Claim). IsJudged program s c (Some w)) is j, refl)
+    bad-line : (w : Why) → IsJudgedBy program s said_here parted_here (Some w) → IsFrom reader s found in_group number (line ∷ lines) (Fails number w)
+    bad-line w judged = inr (w, judged, refl)
 
   -- the lines that are left decide
   abbrev pub Decide : List ℕ → State → List (List ℕ) → State → ℕ → Bool → ℕ → List ℕ → Type 0
@@ -66,26 +74,27 @@ module _ (program : List Clause) (ops : Table) where
     pub Checking-start : (names : List (List ℕ)) → IsKept first → length text ≤ MAX_FILE → Checking names first 0 false 1 text
     Checking-start names kept short = record { kept = kept; few = omega arith; count = omega (arith, short); decide = λ n grew reader r h. h }
 
-    module _ (names later : List (List ℕ)) (grew : Grown names later) (s : State) (found : ℕ) (in_group : Bool) (number : ℕ) (rest line behind : List ℕ) (claim : Claim)
+    module _ (names later : List (List ℕ)) (grew : Grown names later) (s t : State) (found : ℕ) (in_group : Bool) (number : ℕ) (rest line behind : List ℕ) (more : ℕ) (why : Option Why)
         (before : Checking names s found in_group number rest) (split : lines_of rest ≡ line ∷ lines_of behind) (shorter : length behind < length rest)
-        (is : Lasting later (λ n. (reader : Reader n) → claim ≡ claim_at reader ops in_group line (lines_of behind))) where
-      pub Checking-more : (t : State) (more : ℕ) → IsSayable claim → Leads program s claim t None → more ≡ found_in claim → more ≤ 1 → Checking later t (found + more) (goes_on in_group line) (number + 1) behind
-      Checking-more t more may leads says one = record {
-        kept = kept-next program s t claim before.kept may leads;
+        (takes : Lasting later (λ n. (reader : Reader n) → Takes program s (claim_at reader ops in_group line (lines_of behind)) (option_map (claim_parted reader ops) (called_in line)) t more why)) where
+      pub Checking-more : why ≡ None → IsKept t → more ≤ 1 → Checking later t (found + more) (goes_on in_group line) (number + 1) behind
+      Checking-more is kept one = record {
+        kept = kept;
         few = let f = before.few in omega (arith, f, one);
         count = let c = before.count in omega (arith, c, shorter);
         decide = λ n g reader r h.
             before.decide n (grown-twice names later n grew g) reader r
             (subst (λ (ls : List (List ℕ)). IsFrom reader s found in_group number ls r) (sym split)
-            (good-line n reader s found in_group number line (lines_of behind) claim (is n g reader) t r leads
-            (subst (λ (k : ℕ). IsFrom reader t (found + k) (goes_on in_group line) (number + 1) (lines_of behind) r) says h)));
+            (good-line n reader s found in_group number line (lines_of behind) t more r
+            (subst (Takes program s (claim_at reader ops in_group line (lines_of behind)) (option_map (claim_parted reader ops) (called_in line)) t more) is (takes n g reader)) h));
       }
 
-      pub Checking-fails : (w : Why) → IsJudged program s claim (Some w) → Lasting later (λ n. (reader : Reader n) → IsFrom reader first 0 false 1 (lines_of text) (Fails number w))
-      Checking-fails w j = λ n g reader.
+      pub Checking-fails : (w : Why) → why ≡ Some w → Lasting later (λ n. (reader : Reader n) → IsFrom reader first 0 false 1 (lines_of text) (Fails number w))
+      Checking-fails w is = λ n g reader.
           before.decide n (grown-twice names later n grew g) reader (Fails number w)
           (subst (λ (ls : List (List ℕ)). IsFrom reader s found in_group number ls (Fails number w)) (sym split)
-          (bad-line n reader s found in_group number line (lines_of behind) claim (is n g reader) w j))
+          (bad-line n reader s found in_group number line (lines_of behind) w
+          (subst (Takes program s (claim_at reader ops in_group line (lines_of behind)) (option_map (claim_parted reader ops) (called_in line)) t more) is (takes n g reader))))
 
     pub Checking-end : (names : List (List ℕ)) (s : State) (found : ℕ) (in_group : Bool) (number : ℕ) (rest : List ℕ) → Checking names s found in_group number rest → lines_of rest ≡ []
         → Lasting names (λ n. (reader : Reader n) → IsFrom reader first 0 false 1 (lines_of text) (Holds found))

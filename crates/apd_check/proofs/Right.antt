@@ -24,8 +24,8 @@ use Rattle.apd_claims.specs.declared.claim.Claim.{Claim}
 use Rattle.apd_claims.specs.declared.claim.Claim.TheVariants.{Runs, Ends, Tells, Asks, Replies, Finds, Descends as DescendsSo, Nothing, Garbled}
 use Rattle.apd_check.specs.declared.state.State.{State}
 use Rattle.apd_claims.specs.Saying.{Said, said_in}
-use Rattle.apd_check.specs.Checked.{IsCheckOf, IsJudged, IsChecked, after_claim, after_all, first_state, known_after, found_in}
-use Rattle.apd_check.specs.Right.{AllRunAtoms, AsksAtoms, IsRight, AreRight, findings_in}
+use Rattle.apd_check.specs.Checked.{IsCheckOf, IsJudged, IsJudgedBy, IsChecked, after_by, after_claim, after_line, after_all, first_state, known_after, found_on}
+use Rattle.apd_check.specs.Right.{AllRunAtoms, AsksAtoms, RunsAtoms, IsRight, IsRightBy, AreRight, findings_in}
 use Rattle.apd_check.specs.declared.checked.Checked.TheVariants.{Holds, Fails}
 use Rattle.apd_check.proofs.Atoms.{said-atoms}
 use Rattle.apd_check.proofs.Histories.{after-sound, empty-sound}
@@ -67,9 +67,16 @@ module _ (program : List Clause) (m : Interpretation) where
   claim-before s Nothing h = h
   claim-before s Garbled h = h
 
+  by-before : (s : State) (claim : Claim) (parted : Option (ℕ → Option Claim)) → AreTrue (tuples_of program) m (after_by program s claim parted).known → AreTrue (tuples_of program) m s.known
+  by-before s claim None h = claim-before s claim h
+  by-before s claim (Some parted) h = h
+
+  line-before : (s : State) (x : Said) → AreTrue (tuples_of program) m (after_line program s x).known → AreTrue (tuples_of program) m s.known
+  line-before s x h = by-before s x.claim x.parted h
+
   all-before : (s : State) (said : List Said) → AreTrue (tuples_of program) m (after_all program s said).known → AreTrue (tuples_of program) m s.known
   all-before s [] h = h
-  all-before s (x ∷ xs) h = claim-before s x.claim (all-before (after_claim program s x.claim) xs h)
+  all-before s (x ∷ xs) h = line-before s x (all-before (after_line program s x) xs h)
 
   claim-right : (known : Store) (s : State) (claim : Claim) → IsSound (tuples_of program) s.history → (AreTrue (tuples_of program) m known → AreTrue (tuples_of program) m s.known) → IsJudged program s claim None → IsRight program m known s claim
   claim-right known s (Runs q) sound h j = tt
@@ -87,13 +94,25 @@ module _ (program : List Clause) (m : Interpretation) where
   claim-right known s Nothing sound h j = tt
   claim-right known s Garbled sound h j = tt
 
+  by-right : (known : Store) (s : State) (claim : Claim) (parted : Option (ℕ → Option Claim)) → IsSound (tuples_of program) s.history → (AreTrue (tuples_of program) m known → AreTrue (tuples_of program) m s.known)
+      → IsJudgedBy program s claim parted None → IsRightBy program m known s claim parted
+  by-right known s claim None sound h j = claim-right known s claim sound h j
+  by-right known s claim (Some parted) sound h j =
+      let f = j.1 in
+      (j.0, f.0, f.1, f.2, record { by_replies = f.3.by_replies; bug = λ are. finding-sound (tuples_of program) s.history m s.known f.0 (h are) sound f.3.by_replies })
+
+  by-sound : IsProgram program → (s : State) (claim : Claim) (parted : Option (ℕ → Option Claim)) → IsSound (tuples_of program) s.history → IfSome s.query AsksAtoms → RunsAtoms claim
+      → IsSound (tuples_of program) (after_by program s claim parted).history × IfSome (after_by program s claim parted).query AsksAtoms
+  by-sound is s claim None sound query atoms = after-sound program is s claim sound query atoms
+  by-sound is s claim (Some parted) sound query atoms = (sound, query)
+
   all-right : IsProgram program → (s : State) (found total : ℕ) (said : List Said) → IsSound (tuples_of program) s.history → IfSome s.query AsksAtoms → AllRunAtoms said → IsChecked program s found said (Holds total) → AreRight program m (after_all program s said).known s said
   all-right is s found total [] sound query atoms c = tt
   all-right is s found total (x ∷ xs) sound query atoms (inl c) =
-      let later : State = after_claim program s x.claim in
-      let kept = after-sound program is s x.claim sound query atoms.0 in (
-        claim-right (after_all program later xs).known s x.claim sound (λ are. claim-before s x.claim (all-before later xs are)) c.0,
-        all-right is later (found + found_in x.claim) total xs kept.0 kept.1 atoms.1 c.1,
+      let later : State = after_line program s x in
+      let kept = by-sound is s x.claim x.parted sound query atoms.0 in (
+        by-right (after_all program later xs).known s x.claim x.parted sound (λ are. line-before s x (all-before later xs are)) c.0,
+        all-right is later (found + found_on x) total xs kept.0 kept.1 atoms.1 c.1,
       )
   all-right is s found total (x ∷ xs) sound query atoms (inr c) = absurd (let e : Holds total ≡ Fails x.line c.0 = c.2 in cc)
 
@@ -103,5 +122,5 @@ module _ (program : List Clause) (m : Interpretation) where
 
 pub all-counted : (program : List Clause) (s : State) (found total : ℕ) (said : List Said) → IsChecked program s found said (Holds total) → total ≡ found + findings_in said
 all-counted program s found total [] c = let e : Holds total ≡ Holds found = c in let f : total ≡ found = cc in omega (arith, f)
-all-counted program s found total (x ∷ xs) (inl c) = let h = all-counted program (after_claim program s x.claim) (found + found_in x.claim) total xs c.1 in omega (arith, h)
+all-counted program s found total (x ∷ xs) (inl c) = let h = all-counted program (after_line program s x) (found + found_on x) total xs c.1 in omega (arith, h)
 all-counted program s found total (x ∷ xs) (inr c) = absurd (let e : Holds total ≡ Fails x.line c.0 = c.2 in cc)

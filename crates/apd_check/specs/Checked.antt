@@ -112,18 +112,57 @@ found_in (Finds finding line) = 1
 found_in (Descends calls) = 1
 found_in claim = 0
 
+-- why the line of a call isn't good: none of its parts were terms where that was tried, or no finding is right
+abbrev pub reason_for : Claim → Why
+reason_for Garbled = why.Text
+reason_for claim = why.Finding
+
+module _ (program : List Clause) where
+  -- a finding is said, and is right
+  abbrev pub IsFound : State → Option Claim → Type 0
+  IsFound s claim = (finding : Finding) × (line : ℕ) × (claim ≡ Some (Finds finding line)) × IsRightFinding program s finding line
+
+  -- the line of a call says one if it is parted at some place; the words between two calls may stand in their atoms too, and then it
+  -- can be read in several ways
+  abbrev pub IsFoundIn : State → (ℕ → Option Claim) → Type 0
+  IsFoundIn s parted = (place : ℕ) × IsFound s (parted place)
+
+  abbrev pub IsJudgedBy : State → Claim → Option (ℕ → Option Claim) → Option Why → Type 0
+  IsJudgedBy s claim None w = IsJudged program s claim w
+  IsJudgedBy s claim (Some parted) w = Decided (IsFoundIn s parted) (reason_for claim) w
+
+  -- a line is good in this state, or why it isn't; that of a call is good where it can be read as a finding that is right
+  abbrev pub IsLineJudged : State → Said → Option Why → Type 0
+  IsLineJudged s x w = IsJudgedBy s x.claim x.parted w
+
+  abbrev pub after_by : State → Claim → Option (ℕ → Option Claim) → State
+  after_by s claim None = after_claim program s claim
+  after_by s claim (Some parted) = s
+
+  -- the state behind a line
+  abbrev pub after_line : State → Said → State
+  after_line s x = after_by s x.claim x.parted
+
+abbrev pub found_by : Claim → Option (ℕ → Option Claim) → ℕ
+found_by claim None = found_in claim
+found_by claim (Some parted) = 1
+
+-- how many findings a line says, that of a call one
+abbrev pub found_on : Said → ℕ
+found_on x = found_by x.claim x.parted
+
 module _ (program : List Clause) where
   -- all is good from here on, where so many findings were met before; or the first that isn't is in this line, for this reason
   abbrev pub IsChecked : State → ℕ → List Said → Checked → Type 0
   IsChecked s found [] result = result ≡ checked.Holds found
   IsChecked s found (x ∷ xs) result =
-      (IsJudged program s x.claim None × IsChecked (after_claim program s x.claim) (found + found_in x.claim) xs result)
-      ⊎ ((w : Why) × IsJudged program s x.claim (Some w) × (result ≡ checked.Fails x.line w))
+      (IsLineJudged program s x None × IsChecked (after_line program s x) (found + found_on x) xs result)
+      ⊎ ((w : Why) × IsLineJudged program s x (Some w) × (result ≡ checked.Fails x.line w))
 
   -- the state behind all that is said
   abbrev pub after_all : State → List Said → State
   after_all s [] = s
-  after_all s (x ∷ xs) = after_all (after_claim program s x.claim) xs
+  after_all s (x ∷ xs) = after_all (after_line program s x) xs
 
 -- what the check of a log's text finds, by the operators that the program leaves and what is known beforehand
 abbrev pub IsCheckOf : {names : List (List ℕ)} → List Clause → Table → Reader names → Store → List ℕ → Checked → Type 0

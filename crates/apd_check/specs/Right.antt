@@ -1,5 +1,5 @@
 -- What a log that holds says of the program: each finding is a bug where the replies and the trust are true.
-use Rattle.std.specs.Prelude.{ℕ, ◌+◌, List, [], ◌∷◌, ⊤, All}
+use Rattle.std.specs.Prelude.{◌≡◌, ℕ, ◌+◌, List, [], ◌∷◌, Option, None, Some, ⊤, All}
 use Rattle.apd_causes.specs.declared.run.Query.{Query}
 use Rattle.apd_clauses.specs.declared.clause.Clause.{Clause}
 use Rattle.apd_clauses.specs.Clauses.{IsAtom, tuples_of}
@@ -14,7 +14,7 @@ use Rattle.apd_loop.specs.Loop.{calls_in}
 use Rattle.apd_claims.specs.declared.claim.Claim.{Claim}
 use Rattle.apd_claims.specs.declared.claim.Claim.TheVariants.{Runs, Finds, Descends as DescendsSo}
 use Rattle.apd_check.specs.declared.state.State.{State}
-use Rattle.apd_check.specs.Checked.{after_claim, found_in}
+use Rattle.apd_check.specs.Checked.{after_line, found_on}
 use Rattle.apd_claims.specs.Saying.{Said}
 
 module _ (program : List Clause) (m : Interpretation) (known : Store) where
@@ -33,9 +33,17 @@ module _ (program : List Clause) (m : Interpretation) (known : Store) where
   IsRight s (DescendsSo calls) = IsDescentFound s
   IsRight s claim = ⊤
 
+  -- the line of a call, parted at some place, says a finding that is a bug
+  abbrev pub IsRightSomewhere : State → (ℕ → Option Claim) → Type 0
+  IsRightSomewhere s parted = (place : ℕ) × (finding : Finding) × (line : ℕ) × (parted place ≡ Some (Finds finding line)) × IsBugFound s finding
+
+  abbrev pub IsRightBy : State → Claim → Option (ℕ → Option Claim) → Type 0
+  IsRightBy s claim None = IsRight s claim
+  IsRightBy s claim (Some parted) = IsRightSomewhere s parted
+
   abbrev pub AreRight : State → List Said → Type 0
   AreRight s [] = ⊤
-  AreRight s (x ∷ xs) = IsRight s x.claim × AreRight (after_claim program s x.claim) xs
+  AreRight s (x ∷ xs) = IsRightBy s x.claim x.parted × AreRight (after_line program s x) xs
 
 -- the goals of a query are atoms
 abbrev pub AsksAtoms : Query → Type 0
@@ -52,4 +60,4 @@ AllRunAtoms (x ∷ xs) = RunsAtoms x.claim × AllRunAtoms xs
 -- how many findings are said
 abbrev pub findings_in : List Said → ℕ
 findings_in [] = 0
-findings_in (x ∷ xs) = found_in x.claim + findings_in xs
+findings_in (x ∷ xs) = found_on x + findings_in xs

@@ -5,49 +5,43 @@ ghost use Rattle.apd_base.specs.declared.limits.TheConstants.{MAX_FILE};
 ghost use Rattle.apd_console.specs.Lines.{lines_of};
 ghost use Rattle.apd_read.specs.Reader.{Reader};
 ghost use Rattle.apd_term.specs.Growth.{Grown};
-ghost use Rattle.apd_talk.specs.Speech.{Lasting};
-ghost use Rattle.apd_check.specs.Checked.{IsCheckOf, IsChecked, found_in};
+ghost use Rattle.apd_talk.specs.Speech.{Lasting, with_names};
+ghost use Rattle.apd_check.specs.Checked.{IsCheckOf, IsChecked};
 ghost use Rattle.apd_claims.specs.Saying.{said_from};
 ghost use Rattle.apd_check.specs.Steps.{IsKept, KnowsDescent};
 ghost use Rattle.apd_claims.specs.Texts.{KeepsFew};
 
 use crate::checked::Checked;
 use crate::course::Course;
+use crate::lines::take_line;
+use crate::source::Source;
 use apd_answers::Answers;
-use apd_claims::{Claim, Place, claim_at, first_line, goes_on};
+use apd_base::Text;
+use apd_claims::{Place, first_line, goes_on};
 use apd_clauses::Program;
+use apd_io::Sink;
 use apd_ops::Ops;
+use apd_talk::Voice;
 use apd_term::names::Names;
+use apd_text::Log;
 use std::alloc::{AllocError, Global};
-
-/// How many findings a line says.
-fn found_in(claim: &Claim) -> u32
-    ensures found { result ≡ found_in claim.now }
-    ensures few { result ≤ 1 }
-{
-    match claim {
-        Claim::Finds(..) | Claim::Descends(_) => 1,
-        _ => 0,
-    }
-}
 
 /// Checks the lines of a text, of which the first has number 1.
 fn check_lines(
     alloc: Global,
-    program: &Program,
-    ops: &Ops,
+    source: &Source<'_>,
     names: &mut Names,
     course: &mut Course,
     text: &[u8],
 ) -> Result<Checked, AllocError>
     requires size { length text.now ≤ MAX_FILE }
     requires kept { IsKept course.old.state }
-    requires known { KnowsDescent program.now course.old.state course.old.descent }
+    requires known { KnowsDescent source.now.program.now course.old.state course.old.descent }
     ensures names { Grown names.old names.new }
     ensures few { KeepsFew names.old names.new }
     ensures checked { IfOk result (λ r. Lasting names.new (λ n. (reader : Reader n) →
-        IsChecked program.now course.old.state 0
-        (said_from reader ops.now false 1 (lines_of text.now)) r)) }
+        IsChecked source.now.program.now course.old.state 0
+        (said_from reader source.now.ops.now false 1 (lines_of text.now)) r)) }
 {
     let mut rest = text;
     let mut number: u32 = 1;
@@ -59,12 +53,11 @@ fn check_lines(
             rest: first.rest,
             in_group,
         };
-        let claim = claim_at(alloc, ops, names, &place)?;
-        let findings = found_in(&claim);
-        if let Some(why) = course.take(alloc, program, claim)? {
+        let taken = take_line(alloc, source, names, course, &place)?;
+        if let Some(why) = taken.why {
             return Ok(Checked::Fails { line: number, why });
         }
-        found += findings;
+        found += taken.found;
         number += 1;
         in_group = goes_on(in_group, first.line);
         rest = first.rest;
@@ -94,7 +87,55 @@ pub fn check(
         IsCheckOf program.now ops.now reader known text.now r)) }
 {
     let mut course = Course::first(alloc, known)?;
-    let checked = check_lines(alloc, program, ops, names, &mut course, text);
+    let source = Source { program, ops };
+    let checked = check_lines(alloc, &source, names, &mut course, text);
     drop(course);
     checked
+}
+
+/// What the check of a text finds, by the operators of a log, which gets its names.
+fn check_in(
+    alloc: Global,
+    program: &Program,
+    known: Answers,
+    text: &Text,
+    log: &mut Log,
+) -> Result<Checked, AllocError>
+    requires { length text.now ≤ MAX_FILE }
+    ensures names { Grown log.old.names log.new.names }
+    ensures few { KeepsFew log.old.names log.new.names }
+    ensures checked { IfOk result (λ r. Lasting log.new.names (λ n. (reader : Reader n) →
+        IsCheckOf program.now log.old.ops reader known text.now r)) }
+    ensures ops { log.new.ops ≡ log.old.ops }
+    ensures entries { log.new.entries ≡ log.old.entries }
+{
+    check(
+        alloc,
+        program,
+        &log.ops,
+        &mut log.names,
+        known,
+        text.bytes(),
+    )
+}
+
+/// What the check of a text finds, as [`check`] does it, by the operators that things are said with; nothing is said.
+///
+/// # Errors
+///
+/// As of [`check`].
+pub fn check_for<K: Sink>(
+    program: &Program,
+    known: Answers,
+    text: &Text,
+    voice: &mut Voice<K>,
+) -> Result<Checked, AllocError>
+    requires { length text.now ≤ MAX_FILE }
+    ensures names { Grown voice.old.log.names voice.new.log.names }
+    ensures few { KeepsFew voice.old.log.names voice.new.log.names }
+    ensures checked { IfOk result (λ r. Lasting voice.new.log.names (λ n. (reader : Reader n) →
+        IsCheckOf program.now voice.old.log.ops reader known text.now r)) }
+    ensures stays { voice.new ≡ with_names voice.old voice.new.log.names }
+{
+    check_in(voice.alloc, program, known, text, voice.log)
 }

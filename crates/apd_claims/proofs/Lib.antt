@@ -3,6 +3,7 @@ pub mod Commas
 pub mod Cutting
 pub mod Grouping
 pub mod Instances
+pub mod Lasting
 pub mod Naming
 pub mod Numbers
 pub mod Outside

@@ -16,6 +16,7 @@ use Rattle.apd_claims.specs.declared.form.Form.{Form}
 use Rattle.apd_claims.specs.declared.form.Form.TheVariants.{Query, End, Symptom, Framed, Call, Candidates, Candidate, Descent, Other, Unread}
 use Rattle.apd_claims.specs.Claims.{call_claim, claim_as, framed_claim, run_claim, symptom_claim, tuple_in}
 use Rattle.apd_claims.specs.Forms.{form_in, with_newline}
+use Rattle.apd_claims.specs.Parting.{called_in, claim_parted}
 use Rattle.apd_claims.specs.Parts.{Led, after, if_some, led_by}
 use Rattle.apd_claims.specs.Reading.{term_in}
 
@@ -79,16 +80,18 @@ module _ {names : List (List ℕ)} (reader : Reader names) (ops : Table) where
 abbrev pub goes_on : Bool → List ℕ → Bool
 goes_on in_group line = begins (codes "candidates: ") line || (in_group && is_candidate line)
 
--- what a line says, with its number
+-- what a line says, with its number; and what one of a call that isn't below its caller says if it is parted at a place
 pub record Said : Type 0 where
   pub line : ℕ
   pub claim : Claim
+  pub parted : Option (ℕ → Option Claim)
 
 -- what lines say, the first of which has number n
 abbrev pub said_from : {names : List (List ℕ)} → Reader names → Table → Bool → ℕ → List (List ℕ) → List Said
 said_from reader ops in_group n [] = []
 said_from reader ops in_group n (line ∷ lines) =
-    record { line = n; claim = claim_at reader ops in_group line lines } ∷ said_from reader ops (goes_on in_group line) (n + 1) lines
+    record { line = n; claim = claim_at reader ops in_group line lines; parted = option_map (claim_parted reader ops) (called_in line) }
+    ∷ said_from reader ops (goes_on in_group line) (n + 1) lines
 
 -- what a text says, line by line
 abbrev pub said_in : {names : List (List ℕ)} → Reader names → Table → List ℕ → List Said

@@ -62,7 +62,7 @@ fn led_first<'a>(bytes: &[u8], text: &'a [u8]) -> Option<Led<'a>>
 }
 
 /// The box of a call and its caller behind it, where the words between two calls stand first.
-fn box_first(text: &[u8]) -> Option<Led<'_>>
+pub(crate) fn box_first(text: &[u8]) -> Option<Led<'_>>
     ensures { MatchOption result (box_first text.now ≡ None)
         (λ a. box_first text.now ≡ Some (record { number = a.number; rest = a.rest.now })) }
 {

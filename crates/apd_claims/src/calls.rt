@@ -40,7 +40,7 @@ fn entry_of(
 }
 
 /// The two calls, where both texts are terms.
-fn called(
+pub(crate) fn called(
     alloc: Global,
     ops: &Ops,
     names: &mut Names,

@@ -11,11 +11,13 @@ mod form;
 mod forms;
 mod groups;
 mod lines;
+mod parting;
 mod parts;
 mod reading;
 mod saying;
 
 pub use claim::Claim;
 pub use lines::{FirstLine, first_line};
+pub use parting::{CallLine, lasting_text};
 pub use reading::MOST_READ_NAMES;
 pub use saying::{Place, claim_at, goes_on};

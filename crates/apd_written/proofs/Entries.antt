@@ -12,6 +12,7 @@ use Rattle.apd_claims.specs.declared.form.Form.TheVariants.{Framed}
 use Rattle.apd_claims.specs.declared.form.Frame.{Frame}
 use Rattle.apd_claims.specs.Claims.{claim_as, claim_of, entry_for, or_garbled, written}
 use Rattle.apd_claims.specs.Forms.{form_in, with_newline}
+use Rattle.apd_claims.specs.Parting.{called_by}
 use Rattle.apd_claims.specs.Reading.{term_in}
 use Rattle.apd_claims.specs.Saying.{claim_by, is_candidate}
 use Rattle.apd_written.specs.Says.{HasNoBreak, IsSaid, Says, no_line, one_line}
@@ -49,4 +50,4 @@ module _ {names : List (List ℕ)} (reader : Reader names) (ops : Table) where
 
   -- so the text of an entry that is read in another form says what that one does
   pub framed-says : (line text : List ℕ) (e : Entry) → IsFramed line e → text ≡ line ++ 10 ∷ [] → Says reader ops text (claim_of e ∷ [])
-  framed-says line text e f is = subst (λ t. Says reader ops t (claim_of e ∷ [])) (sym is) (one_line line (framed-said line e f) no_line)
+  framed-says line text e f is = subst (λ t. Says reader ops t (claim_of e ∷ [])) (sym is) (one_line line (ap (called_by line) f.form) (framed-said line e f) no_line)

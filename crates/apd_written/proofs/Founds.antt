@@ -22,6 +22,7 @@ use Rattle.apd_claims.specs.declared.form.Form.TheVariants.{Framed, Descent, Unr
 use Rattle.apd_claims.specs.declared.form.Frame.TheVariants.{Instance, Uncovered as OfGoal}
 use Rattle.apd_claims.specs.Forms.{form_in, placed_form}
 use Rattle.apd_claims.specs.Parts.{Led, if_some, led_by}
+use Rattle.apd_claims.specs.Parting.{called_by}
 use Rattle.apd_claims.specs.Reading.{as_clause}
 use Rattle.apd_claims.specs.Saying.{claim_by}
 use Rattle.apd_written.specs.Claims.{claims_of}
@@ -144,7 +145,7 @@ descent_form n l = ap (λ o. if_some o (λ (a : Led). Descent a.number) Unread) 
 
 pub descent-says : {names : List (List ℕ)} (reader : Reader names) (ops : Table) (n : ℕ) → n < 4294967296 → Says reader ops (text_of ops names (entry.AllDescend n)) (claims_of (entry.AllDescend n))
 descent-says {names} reader ops n l = subst (λ x. Says reader ops x (Descends n ∷ [])) (sym (descent_text ops names n))
-    (one_line (descent_line n)
+    (one_line (descent_line n) (ap (called_by (descent_line n)) (descent_form n l))
     (record {
       whole = break-append (codes "no bug: all ") (decimal n ++ codes " calls descend") (codes-break (codes "no bug: all ") refl) (break-append (decimal n) (codes " calls descend") (decimal-break n) (codes-break (codes " calls descend") refl));
       alone = refl;

@@ -19,6 +19,7 @@ use Rattle.apd_claims.specs.declared.claim.Claim.TheVariants.{Finds}
 use Rattle.apd_claims.specs.declared.form.Form.TheVariants as forms
 use Rattle.apd_claims.specs.Claims.{claim_as}
 use Rattle.apd_claims.specs.Forms.{form_in, with_newline}
+use Rattle.apd_claims.specs.Parting.{called_by}
 use Rattle.apd_claims.specs.Parts.{if_some}
 use Rattle.apd_claims.specs.Reading.{as_clause}
 use Rattle.apd_claims.specs.Sayable.{BeginsWithNone}
@@ -162,6 +163,7 @@ module _ {names : List (List ℕ)} (reader : Reader names) (ops : Table) (table 
     group-said short = record {
       whole = break-append (codes "candidates: ") (decimal (length cs)) (codes-break (codes "candidates: ") refl) (decimal-break (length cs));
       alone = refl;
+      no_call = ap (called_by (count_line (length cs))) (count-form (decimal (length cs)));
       opens = refl;
       are_candidates = are-candidates cs t;
       says = λ in_group lines h.

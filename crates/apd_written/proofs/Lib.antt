@@ -23,6 +23,7 @@ pub mod Replies
 pub mod Founds
 pub mod Violations
 pub mod Groups
+pub mod NoCalls
 pub mod Notes
 pub mod Refusals
 pub mod Kept

@@ -7,7 +7,7 @@ use Rattle.apd_term.specs.declared.term.Pred.{Pred}
 use Rattle.apd_ops.specs.Table.{Table}
 use Rattle.apd_read.specs.Reader.{Reader}
 use Rattle.apd_write.specs.NameTexts.{name_text}
-use Rattle.apd_text.specs.Causes.{indicator}
+use Rattle.apd_faults.specs.Names.{indicator}
 use Rattle.apd_text.specs.Dialogues.{told_text, reason_text}
 use Rattle.apd_text.specs.Entries.{in_line, text_of, why_name}
 use Rattle.apd_text.specs.declared.check.Why.{Why}

@@ -27,6 +27,7 @@ use Rattle.apd_claims.specs.Forms.{form_in}
 use Rattle.apd_claims.specs.Saying.{claim_by, is_candidate}
 use Rattle.apd_written.specs.Claims.{query_written}
 use Rattle.apd_written.specs.Says.{HasNoBreak, IsSaid, Says, no_line, quiet_line, one_line}
+use Rattle.apd_written.proofs.NoCalls.{no-call}
 use Rattle.apd_written.proofs.Saying.{break-append, says-append}
 use Rattle.apd_written.proofs.Digits.{AllDigitBytes, decimal-digits, decimal-some}
 use Rattle.apd_written.proofs.Breaks.{codes-break, decimal-break, written-break}
@@ -182,9 +183,9 @@ module _ {names : List (List ℕ)} (reader : Reader names) (ops : Table) where
   unfolding run_text head_text
   run-says filter q r table all t short =
       subst (λ x. Says reader ops (x ++ (shown_text ops names q.vars (before_events filter) 1 (shown_of r.passed) ++ end_text (ran_of r))) (Runs (query_written q) ∷ Ends (ran_of r) ∷ [])) head
-      (says-append reader ops (one_line (run_line ops names q) (run-said reader ops q table all t.query.goals first short_first) no_line)
+      (says-append reader ops (one_line (run_line ops names q) (no-call reader ops false (run_line ops names q) [] (Runs (query_written q)) tt (said.says false [])) said no_line)
       (says-append reader ops (shown-says q.vars (before_events filter) 1 (shown_of r.passed) t.query.variables)
-      (subst (λ x. Says reader ops x (Ends (ran_of r) ∷ [])) (sym (end_text-is (ran_of r))) (one_line (end_line (ran_of r)) (end-said reader ops (ran_of r) t.counts t.boxes) no_line))))
+      (subst (λ x. Says reader ops x (Ends (ran_of r) ∷ [])) (sym (end_text-is (ran_of r))) (one_line (end_line (ran_of r)) (no-call reader ops false (end_line (ran_of r)) [] (Ends (ran_of r)) tt (over.says false [])) over no_line))))
     where
       head : run_line ops names q ++ 10 ∷ [] ≡ (codes "run: " ++ joined (map (goal_text ops names) (goals_of q))) ++ codes "\n"
       head = refl
@@ -202,3 +203,9 @@ module _ {names : List (List ℕ)} (reader : Reader names) (ops : Table) where
           let whole : length ((run_line ops names q ++ 10 ∷ []) ++ behind) ≡ length (run_line ops names q ++ 10 ∷ []) + length behind = length-append (run_line ops names q ++ 10 ∷ []) behind in
           let line : length (run_line ops names q ++ 10 ∷ []) ≡ length (run_line ops names q) + 1 = length-append (run_line ops names q) (10 ∷ []) in
           omega (arith, short, whole, line)
+
+      said : IsSaid reader ops (run_line ops names q) (Runs (query_written q))
+      said = run-said reader ops q table all t.query.goals first short_first
+
+      over : IsSaid reader ops (end_line (ran_of r)) (Ends (ran_of r))
+      over = end-said reader ops (ran_of r) t.counts t.boxes

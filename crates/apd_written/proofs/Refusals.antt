@@ -16,7 +16,8 @@ use Rattle.apd_causes.specs.declared.faults.ReadFault.{ReadFault}
 use Rattle.apd_causes.specs.declared.faults.ReadFault.TheVariants as read
 use Rattle.apd_ops.specs.Table.{Table}
 use Rattle.apd_read.specs.Reader.{Reader}
-use Rattle.apd_text.specs.Causes.{indicator, token_name, read_name, op_name, body_text, cause_text, cause_place, oracle_cause_name}
+use Rattle.apd_faults.specs.Names.{indicator, token_name, read_name, op_name, body_text, cause_text, oracle_cause_name}
+use Rattle.apd_faults.specs.Places.{cause_place}
 use Rattle.apd_text.specs.Entries.{at_byte, in_line, refusal_text, text_of, usage}
 use Rattle.apd_text.specs.declared.entry.Refusal.{Refusal}
 use Rattle.apd_text.specs.declared.entry.Refusal.TheVariants as refusal

@@ -7,9 +7,10 @@ use Rattle.apd_read.specs.Reader.{Reader}
 use Rattle.apd_talk.specs.Utterance.{Utterance, entries_of, texts_of}
 use Rattle.apd_text.specs.declared.entry.Entry.{Entry}
 use Rattle.apd_claims.specs.declared.claim.Claim.{Claim}
+use Rattle.apd_claims.specs.declared.claim.Claim.TheVariants.{Finds}
 use Rattle.apd_claims.specs.Sayable.{BeginsWithNone}
 use Rattle.apd_written.specs.Claims.{all_claims}
-use Rattle.apd_written.specs.Says.{HasNoBreak, Says, AllSay, lines_before, AreCandidateLines, no_line, quiet_line, one_line, some_lines}
+use Rattle.apd_written.specs.Says.{HasNoBreak, Says, AllSay, lines_before, AreCandidateLines, no_line, quiet_line, one_line, call_line, some_lines}
 
 -- a line and those behind it
 pub line-first : (line rest : List ℕ) → HasNoBreak line → lines_of (line ++ 10 ∷ rest) ≡ line ∷ lines_of rest
@@ -32,7 +33,8 @@ module _ {names : List (List ℕ)} (reader : Reader names) (ops : Table) where
   pub says-append : {t u : List ℕ} {cs ds : List Claim} → Says reader ops t cs → Says reader ops u ds → Says reader ops (t ++ u) (cs ++ ds)
   says-append no_line k = k
   says-append {u = u} {ds = ds} (quiet_line line {rest} {cs} h s) k = subst (λ t. Says reader ops t (cs ++ ds)) (sym (append_assoc line (10 ∷ rest) u)) (quiet_line line h (says-append s k))
-  says-append {u = u} {ds = ds} (one_line line {rest} {c} {cs} h s) k = subst (λ t. Says reader ops t (c ∷ cs ++ ds)) (sym (append_assoc line (10 ∷ rest) u)) (one_line line h (says-append s k))
+  says-append {u = u} {ds = ds} (one_line line {rest} {c} {cs} n h s) k = subst (λ t. Says reader ops t (c ∷ cs ++ ds)) (sym (append_assoc line (10 ∷ rest) u)) (one_line line n h (says-append s k))
+  says-append {u = u} {ds = ds} (call_line line {rest} {finding} {at} {cs} h s) k = subst (λ t. Says reader ops t (Finds finding at ∷ cs ++ ds)) (sym (append_assoc line (10 ∷ rest) u)) (call_line line h (says-append s k))
   says-append {u = u} {ds = ds} (some_lines line candidates {rest} {c} {cs} h s) k =
       subst (λ t. Says reader ops t (c ∷ cs ++ ds)) (sym (append_assoc line (10 ∷ lines_before candidates rest) u ∙ ap (λ t. line ++ 10 ∷ t) (lines_before-append candidates rest u)))
       (some_lines line candidates h (says-append s k))
@@ -41,7 +43,8 @@ module _ {names : List (List ℕ)} (reader : Reader names) (ops : Table) where
   pub begins-none : {text : List ℕ} {cs : List Claim} → Says reader ops text cs → BeginsWithNone (lines_of text)
   begins-none no_line = tt
   begins-none (quiet_line line {rest} h s) = subst BeginsWithNone (sym (line-first line rest h.whole)) h.alone
-  begins-none (one_line line {rest} h s) = subst BeginsWithNone (sym (line-first line rest h.whole)) h.alone
+  begins-none (one_line line {rest} n h s) = subst BeginsWithNone (sym (line-first line rest h.whole)) h.alone
+  begins-none (call_line line {rest} h s) = subst BeginsWithNone (sym (line-first line rest h.whole)) h.alone
   begins-none (some_lines line candidates {rest} h s) = subst BeginsWithNone (sym (line-first line (lines_before candidates rest) h.whole)) h.alone
 
   pub utterances-say : (us : List (Utterance Entry)) → AllSay reader ops us → Says reader ops (texts_of us) (all_claims (entries_of us))

@@ -15,6 +15,7 @@ use Rattle.apd_claims.specs.declared.claim.Claim.TheVariants.{Garbled}
 use Rattle.apd_claims.specs.declared.form.Form.TheVariants as forms
 use Rattle.apd_claims.specs.Claims.{told}
 use Rattle.apd_claims.specs.Forms.{form_in}
+use Rattle.apd_claims.specs.Parting.{called_by}
 use Rattle.apd_claims.specs.Parts.{if_some}
 use Rattle.apd_claims.specs.Reading.{as_clause, term_in}
 use Rattle.apd_claims.specs.Saying.{claim_by}
@@ -58,10 +59,10 @@ module _ {names : List (List ℕ)} (reader : Reader names) (ops : Table) (table 
   unfolding text_of told_text
   wrong-says a exit t short =
       let line = codes "symptom: not true: " ++ atom_text ops names a in
-      one_line line (said-by false (codes "symptom: not true: ") a 17 refl t (codes-break (codes "symptom: not true: ") refl) (line-short line short) (wrong_form (atom_text ops names a)) refl) no_line
+      one_line line (ap (called_by line) (wrong_form (atom_text ops names a))) (said-by false (codes "symptom: not true: ") a 17 refl t (codes-break (codes "symptom: not true: ") refl) (line-short line short) (wrong_form (atom_text ops names a)) refl) no_line
 
   pub missing-says : (a : Term) (box_no : ℕ) → IsTellable ops names a → IsShort (text_of ops names (Symptom (Missing a box_no))) → Says reader ops (text_of ops names (Symptom (Missing a box_no))) (claims_of (Symptom (Missing a box_no)))
   unfolding text_of told_text
   missing-says a box_no t short =
       let line = codes "symptom: true: " ++ atom_text ops names a in
-      one_line line (said-by true (codes "symptom: true: ") a 13 refl t (codes-break (codes "symptom: true: ") refl) (line-short line short) (missing_form (atom_text ops names a)) refl) no_line
+      one_line line (ap (called_by line) (missing_form (atom_text ops names a))) (said-by true (codes "symptom: true: ") a 13 refl t (codes-break (codes "symptom: true: ") refl) (line-short line short) (missing_form (atom_text ops names a)) refl) no_line

@@ -1,7 +1,8 @@
 -- The line of a call that isn't below its caller says it.
-use Rattle.std.proofs.Common.{◌≡◌, ℕ, ◌+◌, ◌<◌, ◌≤◌, List, [], ◌∷◌, ◌++◌, length, refl, sym, ◌∙◌, ap, subst, append_assoc, arith, true, Option, Some, None}
+use Rattle.std.proofs.Common.{◌≡◌, ℕ, ◌+◌, ◌<◌, ◌≤◌, List, [], ◌∷◌, ◌++◌, length, take, refl, sym, ◌∙◌, ap, subst, append_assoc, arith, true, Some, None}
 use Rattle.std.specs.Prelude.{codes, if◌then◌else◌}
 use Rattle.std.specs.Fmt.{decimal}
+use Rattle.std.specs.Str.{bytes_eq}
 use Rattle.std.specs.Option.{option_map, option_and_then, option_or}
 use Rattle.std.proofs.lemmas.Bool.{le-leb}
 use Rattle.apd_base.specs.declared.limits.TheConstants.{MAX_FILE}
@@ -20,23 +21,20 @@ use Rattle.apd_text.specs.declared.entry.Entry.TheVariants as entry
 use Rattle.apd_claims.specs.declared.claim.Claim.TheVariants.{Finds}
 use Rattle.apd_claims.specs.declared.form.Calling.{Calling}
 use Rattle.apd_claims.specs.declared.form.Form.TheVariants.{Call, Unread}
-use Rattle.apd_claims.specs.declared.boxes.Quote.TheVariants.{Outside}
-use Rattle.apd_claims.specs.declared.claim.Claim.{Claim}
-use Rattle.apd_claims.specs.Claims.{call_between, call_claim, call_entry, may_end, or_garbled, written}
+use Rattle.apd_claims.specs.declared.parting.CallLine.{CallLine}
+use Rattle.apd_claims.specs.Claims.{call_entry, called, written}
 use Rattle.apd_claims.specs.Forms.{call_line_form, caller_form, form_in, goal_form, with_newline}
-use Rattle.apd_claims.specs.Parts.{Led, at_start, after, boxed_in, boxed_where, cut_last, if_some, led_by, onto_part}
+use Rattle.apd_claims.specs.Parting.{called_by, claim_parted, claim_with, is_callers}
+use Rattle.apd_claims.specs.Parts.{Led, at_start, after, box_first, cut_last, if_some, led_by, onto_part}
 use Rattle.apd_claims.specs.Reading.{as_clause, term_in}
-use Rattle.apd_claims.specs.Saying.{claim_by}
 use Rattle.apd_written.specs.Claims.{claims_of}
-use Rattle.apd_written.specs.Says.{HasNoBreak, Says, no_line, one_line}
+use Rattle.apd_written.specs.Says.{HasNoBreak, Says, call_line, no_line}
 use Rattle.apd_written.specs.Texts.{IsShort}
-use Rattle.apd_written.specs.Uttered.{BoxIsNoPrefix, IsViolationTellable}
+use Rattle.apd_written.specs.Uttered.{IsViolationTellable}
 use Rattle.apd_written.proofs.Saying.{break-append}
 use Rattle.apd_written.proofs.Breaks.{codes-break, decimal-break, written-break}
-use Rattle.apd_written.proofs.Parts.{HasNo, cut_last-at, cut_last-second, decimal-has_no, has_no-append, as-short, behind-two, drop-front, drop-rest, led, led-high, led-low, line-short}
-use Rattle.apd_written.proofs.Watching.{Free, free_start}
-use Rattle.apd_written.proofs.Watched.{written-end}
-use Rattle.apd_written.proofs.Parted.{boxed-parted}
+use Rattle.apd_written.proofs.Parts.{HasNo, cut_last-at, cut_last-second, decimal-has_no, has_no-append, as-short, behind-two, drop-front, drop-rest, led, led-high, led-low, line-short, same_bytes}
+use Rattle.apd_written.proofs.Parted.{dropped-front, led_first-back, taken-front}
 use Rattle.apd_written.proofs.Entries.{written-back}
 use Rattle.apd_written.proofs.Symptoms.{atom-read}
 
@@ -178,7 +176,7 @@ atoms-short clause line goal a b q p short =
       as-short p (drop-front 2 (codes ") called by ") p (drop-front 2 (decimal b) (codes ") called by " ++ p) (drop-front 2 (codes " (box ") behind_q (drop-front 2 q (codes " (box " ++ behind_q) called)))),
     )
 
-module _ {names : List (List ℕ)} (reader : Reader names) (ops : Table) (clause line goal a b : ℕ) (p q : Term) (table : IsTable ops) (all : AreNames names) (apart : BoxIsNoPrefix ops names) (v : IsViolationTellable ops names clause line goal a b p q) where
+module _ {names : List (List ℕ)} (reader : Reader names) (ops : Table) (clause line goal a b : ℕ) (p q : Term) (table : IsTable ops) (all : AreNames names) (v : IsViolationTellable ops names clause line goal a b p q) where
   abbrev whole : List ℕ
   whole = whole_of ops names clause line goal a b p q
 
@@ -188,21 +186,38 @@ module _ {names : List (List ℕ)} (reader : Reader names) (ops : Table) (clause
   abbrev made : Calling
   made = record { clause = clause; line = line; goal = goal; caller = a }
 
-  abbrev inner_text : List ℕ
-  inner_text = called_text (atom_text ops names q) b (atom_text ops names p)
+  abbrev q_text : List ℕ
+  q_text = atom_text ops names q
 
-  -- the atoms are parted where they were written
-  parted : boxed_in Outside inner_text ≡ Some (record { front = atom_text ops names q; led = led b (atom_text ops names p) })
-  parted = boxed-parted b v.callee_few (atom_text ops names p) (atom_text ops names q) Free (written-end true ops names all (λ e. apart) (canonical q) v.what.writable.named v.what.writable.in_range 999 Free free_start)
+  abbrev p_text : List ℕ
+  p_text = atom_text ops names p
 
-  call-said : IsShort whole → call_claim reader ops whole made inner_text ≡ Finds (Violation clause goal a b (canonical p) (canonical q)) line
-  call-said short =
-      let s = atoms-short clause line goal a b (atom_text ops names q) (atom_text ops names p) short in
-      let other : Option Claim = option_and_then (call_between reader ops (with_newline whole) made) (boxed_where (may_end reader ops) Outside [] inner_text) in
-      ap (λ o. or_garbled (option_or (option_and_then (call_between reader ops (with_newline whole) made) o) other)) parted
-      ∙ ap (λ o. or_garbled (option_or (option_and_then (written ops names (with_newline whole)) (if_some o (λ callee. option_map (call_entry made b callee) (term_in reader ops (atom_text ops names p))) None)) other)) (atom-read reader ops table all q v.what s.0)
-      ∙ ap (λ o. or_garbled (option_or (option_and_then (written ops names (with_newline whole)) (option_map (call_entry made b (canonical q)) o)) other)) (atom-read reader ops table all p v.by s.1)
-      ∙ ap (λ o. or_garbled (option_or o other)) (written-back ops names (with_newline whole) found (same_text ops names clause line goal a b p q))
+  -- what stands behind the call
+  abbrev behind : List ℕ
+  behind = codes " (box " ++ (decimal b ++ (codes ") called by " ++ p_text))
+
+  abbrev call : CallLine
+  call = record { calling = made; text = q_text ++ behind; whole = with_newline whole }
+
+  -- both atoms are read, and the caller's text is its own
+  both-read : IsShort whole → called reader ops made q_text (led b p_text) ≡ Some found
+  both-read short =
+      let s = atoms-short clause line goal a b q_text p_text short in
+      ap (λ o. if_some o (λ callee. option_map (call_entry made b callee) (term_in reader ops p_text)) None) (atom-read reader ops table all q v.what s.0)
+      ∙ ap (option_map (call_entry made b (canonical q))) (atom-read reader ops table all p v.by s.1)
+
+  callers-own : is_callers ops names p_text (Some found) ≡ true
+  callers-own = ap (λ t. bytes_eq (goal_text ops names t) p_text) (canonical-canonical p) ∙ same_bytes p_text
+
+  -- the line is parted where it was written
+  parted : IsShort whole → claim_parted reader ops call (length q_text) ≡ Some (Finds (Violation clause goal a b (canonical p) (canonical q)) line)
+  parted short =
+      ap (λ t. option_and_then (claim_with reader ops call (take (length q_text) (q_text ++ behind))) (box_first t)) (dropped-front q_text behind)
+      ∙ ap (option_and_then (claim_with reader ops call (take (length q_text) (q_text ++ behind)))) (led_first-back 41 (codes " called by ") b p_text refl v.callee_few)
+      ∙ ap (λ t. claim_with reader ops call t (led b p_text)) (taken-front q_text behind)
+      ∙ ap (λ o. if is_callers ops names p_text o then option_and_then (written ops names (with_newline whole)) o else None) (both-read short)
+      ∙ ap (λ c. if c then written ops names (with_newline whole) found else None) callers-own
+      ∙ written-back ops names (with_newline whole) found (same_text ops names clause line goal a b p q)
 
   pub violation-says : IsShort (text_of ops names (entry.Found (Violation clause goal a b p q) line))
       → Says reader ops (text_of ops names (entry.Found (Violation clause goal a b p q) line)) (claims_of (entry.Found (Violation clause goal a b p q) line))
@@ -213,12 +228,14 @@ module _ {names : List (List ℕ)} (reader : Reader names) (ops : Table) (clause
       let la : a < 4294967296 = v.caller_few in
       let lb : b < 4294967296 = v.callee_few in
       subst (λ t. Says reader ops t (Finds (Violation clause goal a b (canonical p) (canonical q)) line ∷ [])) (sym is)
-      (one_line whole
+      (call_line whole
       (record {
-        whole = front-break ops names clause line goal a b lc ll v.goal_few la lb (boxed_text (atom_text ops names q) b (atom_text ops names p) a)
-            (boxed-break ops names clause line goal a b lc ll v.goal_few la lb (atom_text ops names q) (atom_text ops names p) (written-break ops names (canonical q) 999) (written-break ops names (canonical p) 999));
+        whole = front-break ops names clause line goal a b lc ll v.goal_few la lb (boxed_text q_text b p_text a)
+            (boxed-break ops names clause line goal a b lc ll v.goal_few la lb q_text p_text (written-break ops names (canonical q) 999) (written-break ops names (canonical p) 999));
         alone = refl;
-        says = λ in_group lines. ap (claim_by reader ops in_group whole lines) (form ops names clause line goal a b lc ll v.goal_few la lb (atom_text ops names q) (atom_text ops names p))
-            ∙ call-said (line-short whole (subst IsShort is short));
+        call = call;
+        is = ap (called_by whole) (form ops names clause line goal a b lc ll v.goal_few la lb q_text p_text);
+        place = length q_text;
+        says = parted (line-short whole (subst IsShort is short));
       })
       no_line)

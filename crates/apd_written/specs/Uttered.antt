@@ -1,12 +1,11 @@
 -- What a session utters: entries with the texts that follow from them, and runs. And when each of these says its claims.
-use Rattle.std.specs.Prelude.{◌≡◌, ℕ, ◌⊎◌, ◌<◌, ◌≤◌, ◌^◌, ⊤, Bool, false, codes, List, [], ◌∷◌, Option, None, is_some}
+use Rattle.std.specs.Prelude.{◌≡◌, ℕ, ◌⊎◌, ◌<◌, ◌≤◌, ◌^◌, ⊤, List, [], ◌∷◌, Option, None}
 use Rattle.std.specs.List.{AllByRecursion}
 use Rattle.apd_causes.specs.declared.run.Query.{Query}
 use Rattle.apd_clauses.specs.declared.clause.Clause.{Clause}
-use Rattle.apd_ops.specs.Table.{Table, IsNoOperator, prefix_in}
+use Rattle.apd_ops.specs.Table.{Table, IsNoOperator}
 use Rattle.apd_ports.specs.declared.filter.Filter.{Filter}
 use Rattle.apd_term.specs.Canonical.{canonical}
-use Rattle.apd_term.specs.Names.{number_of}
 use Rattle.apd_term.specs.Term.{Term}
 use Rattle.apd_term.specs.declared.standard.TheConstants.{BELOW, COVERS, TRUE, TRUSTED}
 use Rattle.apd_reading_back.specs.Queries.{AreReadable}
@@ -58,28 +57,6 @@ AllUttered ops names program (u ∷ us) = IsUttered ops names program u × AllUt
 -- each text is no longer than a file may be
 abbrev pub AllShort : List (Utterance Entry) → Type 0
 AllShort us = AllByRecursion (λ (u : Utterance Entry). IsShort u.text) us
-
--- the name is a prefix operator
-abbrev pub is_prefix_name : Table → List (List ℕ) → List ℕ → Bool
-is_prefix_name ops names text = is_some (prefix_in ops (number_of names text))
-
--- `box` is no prefix operator
-abbrev pub BoxIsNoPrefix : Table → List (List ℕ) → Type 0
-BoxIsNoPrefix ops names = is_prefix_name ops names (codes "box") ≡ false
-
--- the entry is of a call that isn't below its caller
-abbrev pub IsCallFound : Entry → Type 0
-IsCallFound (entry.Found (Violation clause goal caller_no callee_no caller callee) line) = ⊤
-IsCallFound e = ⊥
-
-abbrev pub IsAnyCallFound : List Entry → Type 0
-IsAnyCallFound [] = ⊥
-IsAnyCallFound (e ∷ es) = IsCallFound e ⊎ IsAnyCallFound es
-
--- Where such a call is among the entries, `box` is no prefix operator: else the words between its atom and its caller's, as ` (box 1) called by `,
--- may stand in an atom too, and the line says more than one thing.
-abbrev pub AreCallsApart : Table → List (List ℕ) → List Entry → Type 0
-AreCallsApart ops names es = IsAnyCallFound es → BoxIsNoPrefix ops names
 
 -- none of the names of statements is an operator
 pub record AreNoOperators (ops : Table) : Type 0 where

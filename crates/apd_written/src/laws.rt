@@ -20,7 +20,7 @@ ghost use Rattle.apd_write.specs.Writing.{written};
 ghost use Rattle.apd_written.specs.Claims.{all_claims, claims_of, query_written};
 ghost use Rattle.apd_written.specs.Says.{HasNoBreak, Says};
 ghost use Rattle.apd_written.specs.Texts.{IsShort, IsTold, order_term, order_text};
-ghost use Rattle.apd_written.specs.Uttered.{AllUttered, AllWritten, AreCallsApart, BoxIsNoPrefix, IsCallFound, IsPlainEntry, IsWritten};
+ghost use Rattle.apd_written.specs.Uttered.{AllUttered, AllWritten, IsPlainEntry, IsWritten};
 
 /// No newline stands in what is written of a term.
 pub fn a_written_term_is_on_one_line()
@@ -50,18 +50,16 @@ pub fn entries_say_their_claims()
     ensures { (names : List (List ℕ)) (reader : Reader names) (ops : Table)
         (e : Entry) →
         IsTable ops → AreNames names → IsPlainEntry ops names e → IsWritten ops names e →
-        (IsCallFound e → BoxIsNoPrefix ops names) →
         IsShort (text_of ops names e) →
         Says reader ops (text_of ops names e) (claims_of e) }
 {}
 
 /// What is uttered says the claims of its entries, where their terms and the numbers that are read again can be written and read
-/// back. `box` is no prefix operator where a call is told that isn't below its caller.
+/// back. The line of a call that isn't below its caller may say other things too.
 pub fn what_is_uttered_says_its_claims()
     ensures { (names : List (List ℕ)) (reader : Reader names) (ops : Table) (program : List Clause)
         (us : List (Utterance Entry)) →
         IsTable ops → AreNames names → AllUttered ops names program us →
-        AllWritten ops names (entries_of us) → AreCallsApart ops names (entries_of us) →
-        IsShort (texts_of us) →
+        AllWritten ops names (entries_of us) → IsShort (texts_of us) →
         Says reader ops (texts_of us) (all_claims (entries_of us)) }
 {}

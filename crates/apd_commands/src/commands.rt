@@ -182,12 +182,8 @@ fn line_command(alloc: Global, read: LineRead) -> Result<Command, AllocError>
     }
 }
 
-/// The command that a line is, read with these operators.
-///
-/// # Errors
-///
-/// Where there was no memory; then, too, the names have only grown.
-pub fn read_command(
+/// The command that a line is, read with these operators. Where there is no memory, too, the names have only grown.
+pub(crate) fn read_command(
     alloc: Global,
     ops: &Ops,
     names: &mut Names,

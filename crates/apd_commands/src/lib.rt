@@ -3,5 +3,7 @@
 
 mod commands;
 mod filters;
+mod reading;
 
-pub use commands::{Command, read_command};
+pub use commands::Command;
+pub use reading::command_for;

@@ -22,6 +22,7 @@ Keeps-self p sound = record {
   names = Grown-self p.spoken.log.names;
   few = omega arith;
   ops = refl;
+  over = (refl, refl);
   sound = sound;
 }
 
@@ -30,6 +31,7 @@ Keeps-more p q r one two = record {
   names = Grown-more p.spoken.log.names q.spoken.log.names r.spoken.log.names one.names two.names;
   few = let a = one.few in let b = two.few in omega (arith, a, b);
   ops = two.ops ∙ one.ops;
+  over = (two.over.0 ∙ one.over.0, two.over.1 ∙ one.over.1);
   sound = two.sound;
 }
 
@@ -56,7 +58,7 @@ module _ {S K R : Type 0} (s : Source.Ghosts S) (k : Sink.Ghosts K) (r : Replier
 
   keeps-self : (d : Dialogue S K R s k r) → KeepsDialogue s k r d d
   keeps-self d = record {
-    same = record { console = refl; source = refl; sink = refl; log = refl; replier = refl };
+    same = record { console = refl; input = refl; log = refl; out = refl; replier = refl };
     keeps = λ sound. Keeps-self (moment_of s k r d) sound;
     keeps_place = λ free. free;
     replier = refl;
@@ -66,9 +68,9 @@ module _ {S K R : Type 0} (s : Source.Ghosts S) (k : Sink.Ghosts K) (r : Replier
   keeps-more d e f one two = record {
     same = record {
       console = two.same.console ∙ one.same.console;
-      source = two.same.source ∙ one.same.source;
-      sink = two.same.sink ∙ one.same.sink;
+      input = two.same.input ∙ one.same.input;
       log = two.same.log ∙ one.same.log;
+      out = two.same.out ∙ one.same.out;
       replier = two.same.replier ∙ one.same.replier;
     };
     keeps = λ sound. let first = one.keeps sound in Keeps-more (moment_of s k r d) (moment_of s k r e) (moment_of s k r f) first (two.keeps first.sound);
@@ -78,7 +80,7 @@ module _ {S K R : Type 0} (s : Source.Ghosts S) (k : Sink.Ghosts K) (r : Replier
 
   keeps-each : (d : Dialogue S K R s k r) (call : Call) (e : Dialogue S K R s k r) → dialogue_step s k r d call e → KeepsDialogue s k r d e
   keeps-each d call e is = record {
-    same = record { console = is.0; source = is.1; sink = is.2; log = is.3; replier = is.4 };
+    same = record { console = is.0; input = is.1; log = is.2; out = is.3; replier = is.4 };
     keeps = λ sound. is.8.keeps;
     keeps_place = is.8.keeps_place;
     replier = is.5;

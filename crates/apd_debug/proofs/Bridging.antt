@@ -1,5 +1,5 @@
 -- Where a question of a diagnosis waits, the lines are what they are where it is asked.
-use Rattle.std.proofs.Common.{◌≡◌, ℕ, zero, suc, List, [], ◌∷◌, refl, ap, sym, ◌∙◌, subst, arith, append_assoc, Bool, true, false, Option, None, Some}
+use Rattle.std.proofs.Common.{◌≡◌, ℕ, zero, suc, List, [], ◌∷◌, refl, ap, sym, ◌∙◌, subst, append_assoc, Bool, true, false, Option, None, Some}
 use Rattle.std.specs.Prelude.{Err}
 use Rattle.apd_answers.specs.Dialogue.{Diagnosis, Turn, asks, goes, ends, next_turn}
 use Rattle.apd_answers.specs.Store.{Store, with_pair}

@@ -10,7 +10,8 @@ use Rattle.apd_answers.specs.declared.question.Reply.{Reply}
 use Rattle.apd_answers.specs.Store.{Store}
 use Rattle.apd_divide.specs.Tree.{Tree}
 use Rattle.apd_divide.specs.declared.node.Strategy.{Strategy}
-use Rattle.apd_loop.specs.Loop.{Earlier, Looping, whole, between, descending, rising, denied, within, below, by_yes, call_of, earlier_from, earlier_goals, equal_from, inside, is_yes, loop, loop_start, numbered, repeated_or, start_from, turn_in}
+use Rattle.apd_loop.specs.Loop.{Earlier, Looping, whole, between, descending, rising, denied, within, below, by_yes, call_of, earlier_from, earlier_goals, equal_from, inside, loop, loop_start, numbered, repeated_or, start_from, turn_in}
+use Rattle.apd_answers.specs.Questions.{is_yes}
 use Rattle.apd_loop.specs.declared.LoopEnd.{LoopEnd}
 use Rattle.apd_loop.specs.declared.LoopEnd.TheVariants as loop_ends
 use Rattle.apd_ports.specs.declared.point.Point.{Point}

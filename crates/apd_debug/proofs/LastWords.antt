@@ -1,5 +1,5 @@
 -- The last words of a diagnosis.
-use Rattle.std.proofs.Common.{◌≡◌, ℕ, ◌≤◌, List, [], ◌∷◌, refl, sym, ◌∙◌, subst, Bool, true, false}
+use Rattle.std.proofs.Common.{◌≡◌, ℕ, List, [], ◌∷◌, refl, sym, ◌∙◌, subst, Bool, true, false}
 use Rattle.std.specs.Prelude.{Result, Ok, Err}
 use Rattle.apd_answers.specs.Dialogue.{Diagnosis}
 use Rattle.apd_answers.specs.declared.oracle.AskEnd.{AskEnd}
@@ -13,7 +13,7 @@ use Rattle.apd_debug.specs.Steps.{says_before}
 use Rattle.apd_debug.proofs.Bridging.{before}
 use Rattle.apd_ops.specs.Table.{Table}
 use Rattle.apd_talk.specs.Awaiting.{Closes}
-use Rattle.apd_talk.specs.Moment.{Moment, place}
+use Rattle.apd_talk.specs.Moment.{Moment, place, saying}
 use Rattle.apd_talk.specs.Speech.{Says, Speech, Spoken, begun, is_write_fault, one, plain}
 use Rattle.apd_talk.specs.Talk.{Breaks, Ends, Meaning, Place, Step, Talker, Talks, after_step, ending_of, replies}
 use Rattle.apd_talk.specs.Utterance.{Utterance, Utters, UttersFront}
@@ -27,10 +27,6 @@ use Rattle.apd_talk.proofs.Talking.{Breaks-more, Breaks-say, Breaks-step, Ends-m
 use Rattle.apd_term.specs.Growth.{Grown}
 use Rattle.apd_text.specs.declared.entry.Entry.{Entry}
 
--- the moment at which so much was said and no other line was heard
-abbrev pub said_at : Moment → Spoken → Moment
-said_at q said = record { console = q.console; left = q.left; read_faults = q.read_faults; spoken = said }
-
 -- what was said, by these operators
 said_all : {T : Type 0} (speech : Speech) (p q : Spoken) (t : T) (ops : Table) (names : List (List ℕ)) → p.log.ops ≡ ops → Grown p.log.names names → Says speech p q (Ok t) →
     Utters p.log.entries.list q.log.entries.list p.held q.held (speech ops names)
@@ -43,27 +39,27 @@ said_front speech p q t ops names same grew says = subst (λ (o : Table). Utters
 -- a step that is said
 module _ {S : Type 0} (talker : Talker Entry S) (start : Meaning Entry) (p : Place Entry) (q : Moment) (said : Spoken) (us : List (Utterance Entry)) where
   step_said : (next : S) (writes : said.write_faults ≡ q.spoken.write_faults) → Talks start p (place q) (after_step talker (record { utterances = us; next = next; quits = false })) →
-      Utters q.spoken.log.entries.list said.log.entries.list q.spoken.held said.held us → Talks start p (place (said_at q said)) (replies talker next)
+      Utters q.spoken.log.entries.list said.log.entries.list q.spoken.held said.held us → Talks start p (place (saying q said)) (replies talker next)
   step_said next writes talks says =
-      Talks-more start _ _ p (place q) (place (said_at q said)) talks
+      Talks-more start _ _ p (place q) (place (saying q said)) talks
       (Talks-step talker (record { utterances = us; next = next; quits = false }) q.console q.left q.spoken.held said.held q.read_faults q.spoken.write_faults said.write_faults q.spoken.log.entries.list said.log.entries.list refl says writes)
 
   step_quits : (next : S) (writes : said.write_faults ≡ q.spoken.write_faults) → Talks start p (place q) (after_step talker (record { utterances = us; next = next; quits = true })) →
-      Utters q.spoken.log.entries.list said.log.entries.list q.spoken.held said.held us → Ends start p (place (said_at q said)) Done
+      Utters q.spoken.log.entries.list said.log.entries.list q.spoken.held said.held us → Ends start p (place (saying q said)) Done
   step_quits next writes talks says =
-      Ends-more start _ p (place q) (place (said_at q said)) Done talks
+      Ends-more start _ p (place q) (place (saying q said)) Done talks
       (Ends-step talker (record { utterances = us; next = next; quits = true }) q.console q.left q.spoken.held said.held q.read_faults q.spoken.write_faults said.write_faults q.spoken.log.entries.list said.log.entries.list refl says writes)
 
   step_front : (next : S) (quits : Bool) (t : Trouble) → Talks start p (place q) (after_step talker (record { utterances = us; next = next; quits = quits })) → Counted (is_write_fault t) q.spoken.write_faults said.write_faults →
-      UttersFront begun q.spoken.log.entries.list said.log.entries.list q.spoken.held said.held us → Breaks begun start p (place (said_at q said)) t
+      UttersFront begun q.spoken.log.entries.list said.log.entries.list q.spoken.held said.held us → Breaks begun start p (place (saying q said)) t
   step_front next quits t talks writes says =
-      Breaks-more begun start _ p (place q) (place (said_at q said)) t talks
+      Breaks-more begun start _ p (place q) (place (saying q said)) t talks
       (Breaks-step begun talker (record { utterances = us; next = next; quits = quits }) q.console q.left q.spoken.held said.held q.read_faults q.spoken.write_faults said.write_faults q.spoken.log.entries.list said.log.entries.list t says writes)
 
 module _ {S D E : Type 0} (d : Diagnosis D E) (found : E → Entry) (state : Stand D → S) (ops : Table) (names : List (List ℕ)) (talker : Talker Entry S)
     (start : Meaning Entry) (p : Place Entry) (q : Moment) (said : Spoken) (store : Store) (count : ℕ) (same : q.spoken.log.ops ≡ ops) (grew : Grown q.spoken.log.names names) where
   abbrev Continued : Result Next Trouble → Type 0
-  Continued result = GoesOnSo talker (state (ready store count)) start p (place (said_at q said)) result
+  Continued result = GoesOnSo talker (state (ready store count)) start p (place (saying q said)) result
 
   goes_as : (n m : Next) → n ≡ m → Continued (Ok m) → Continued (Ok n)
   goes_as n m is so = subst (λ (k : Next). Continued (Ok k)) (sym is) so
@@ -93,7 +89,7 @@ module _ {S D E : Type 0} (d : Diagnosis D E) (found : E → Entry) (state : Sta
   -- nothing is said
   unsaid_on : (t : Trouble) (result : Result Next Trouble) → Breaks begun start p (place q) t → said ≡ q.spoken → result ≡ Err t → Continued result
   unsaid_on t result broke here is =
-      subst (λ (r : Result Next Trouble). Continued r) (sym is) (subst (λ (s : Spoken). Breaks begun start p (place (said_at q s)) t) (sym here) broke)
+      subst (λ (r : Result Next Trouble). Continued r) (sym is) (subst (λ (s : Spoken). Breaks begun start p (place (saying q s)) t) (sym here) broke)
 
   end_on : (end : AskEnd) (result : Result Next Trouble) → Diagnosed d found state ops names talker start p (place q) store count (Err end) → SaysEndIf (is_said end) end q.spoken said result → Continued result
   end_on ask_ends.Stopped (Ok n) so (says, is) =
@@ -114,18 +110,18 @@ module _ {S D E : Type 0} (d : Diagnosis D E) (found : E → Entry) (state : Sta
 
   -- whatever a diagnosis ended in
   pub last_on : (answer : Result E AskEnd) (result : Result Next Trouble) → Diagnosed d found state ops names talker start p (place q) store count answer → SaysLast found answer q.spoken said result →
-      GoesOnSo talker (state (ready store count)) start p (place (said_at q said)) result
+      GoesOnSo talker (state (ready store count)) start p (place (saying q said)) result
   last_on (Ok e) result so says = found_on e result so says
   last_on (Err end) result so says = end_on end result so says
 
 -- the first words
 pub Talks-before : {S : Type 0} (talker : Talker Entry S) (p : Moment) (said : Spoken) (us : List (Utterance Entry)) (st : Step Entry S) → said.write_faults ≡ p.spoken.write_faults →
-    Utters p.spoken.log.entries.list said.log.entries.list p.spoken.held said.held us → Talks (after_step talker (says_before us st)) (place p) (place (said_at p said)) (after_step talker st)
+    Utters p.spoken.log.entries.list said.log.entries.list p.spoken.held said.held us → Talks (after_step talker (says_before us st)) (place p) (place (saying p said)) (after_step talker st)
 Talks-before talker p said us st writes says =
     Talks-say _ _ p.console p.left p.spoken.held said.held p.read_faults p.spoken.write_faults said.write_faults p.spoken.log.entries.list said.log.entries.list us says writes (before talker us st)
 
 pub Breaks-before : {S : Type 0} (talker : Talker Entry S) (p : Moment) (said : Spoken) (us : List (Utterance Entry)) (st : Step Entry S) (t : Trouble) → Counted (is_write_fault t) p.spoken.write_faults said.write_faults →
-    UttersFront begun p.spoken.log.entries.list said.log.entries.list p.spoken.held said.held us → Breaks begun (after_step talker (says_before us st)) (place p) (place (said_at p said)) t
+    UttersFront begun p.spoken.log.entries.list said.log.entries.list p.spoken.held said.held us → Breaks begun (after_step talker (says_before us st)) (place p) (place (saying p said)) t
 Breaks-before talker p said us st t writes says =
     Breaks-say begun _ p.console p.left p.spoken.held said.held p.read_faults p.spoken.write_faults said.write_faults p.spoken.log.entries.list said.log.entries.list us t says writes
     (λ room more over. (after_step talker st room more over, before talker us st room more over))

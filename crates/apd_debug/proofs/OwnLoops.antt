@@ -9,7 +9,8 @@ use Rattle.apd_divide.proofs.Weights.{le_false}
 use Rattle.apd_divide.specs.Tree.{Tree}
 use Rattle.apd_divide.specs.declared.node.Strategy.{Strategy}
 use Rattle.apd_known.specs.Pairs.{MayAsk}
-use Rattle.apd_loop.specs.Loop.{Looping, whole, between, descending, rising, denied, within, below, by_yes, earlier_goals, inside, is_yes, turn_in}
+use Rattle.apd_loop.specs.Loop.{Looping, whole, between, descending, rising, denied, within, below, by_yes, earlier_goals, inside, turn_in}
+use Rattle.apd_answers.specs.Questions.{is_yes}
 use Rattle.apd_loop.specs.declared.LoopEnd.{LoopEnd}
 use Rattle.apd_loop.specs.declared.LoopEnd.TheVariants as loop_ends
 use Rattle.apd_record.specs.Recorded.{Recorded}

@@ -1,5 +1,5 @@
 -- A reply that is told.
-use Rattle.std.proofs.Common.{◌≡◌, ℕ, ◌≤◌, List, [], arith, Bool}
+use Rattle.std.proofs.Common.{◌≡◌, ℕ, List, [], arith, Bool}
 use Rattle.std.specs.Prelude.{Result, Ok, Err}
 use Rattle.apd_io.specs.Outside.{Counted}
 use Rattle.apd_answers.specs.declared.oracle.AskEnd.{AskEnd}
@@ -14,7 +14,6 @@ use Rattle.apd_talk.specs.Talk.{Breaks, Meaning, Talks, onto}
 use Rattle.apd_talk.specs.Utterance.{Utterance, Utters, UttersFront}
 use Rattle.apd_talk.specs.declared.talk.Ending.TheVariants.{Done}
 use Rattle.apd_talk.specs.declared.talk.Trouble.{Trouble}
-use Rattle.apd_talk.specs.declared.talk.Trouble.TheVariants as troubles
 use Rattle.apd_term.specs.Growth.{Grown}
 use Rattle.apd_text.specs.Named.{ReplyIsNamed}
 use Rattle.apd_text.specs.declared.entry.Entry.{Entry}

@@ -1,5 +1,5 @@
 -- What one line does while a question waits.
-use Rattle.std.proofs.Common.{◌≡◌, ℕ, ◌≤◌, List, [], refl, ap, sym, ◌∙◌, subst, arith, Bool, true, false, Option, None, Some}
+use Rattle.std.proofs.Common.{◌≡◌, ℕ, List, [], refl, ap, sym, ◌∙◌, subst, arith, Bool, true, false, Option, None, Some}
 use Rattle.std.specs.Prelude.{Result, Ok, Err}
 use Rattle.apd_base.specs.Counts.{Counted}
 use Rattle.apd_io.specs.Outside.{Counted as CountedOnce, Left}
@@ -8,7 +8,7 @@ use Rattle.apd_answers.specs.declared.oracle.AskEnd.{AskEnd}
 use Rattle.apd_answers.specs.declared.oracle.AskEnd.TheVariants as ends
 use Rattle.apd_answers.specs.declared.question.Asked.{Asked}
 use Rattle.apd_answers.specs.declared.question.Reply.{Reply}
-use Rattle.apd_console.specs.Console.{Kept, IsKept, HearsLine, HearsEnd, room_of}
+use Rattle.apd_console.specs.Console.{Kept, IsKept, HearsLine, HearsEnd}
 use Rattle.apd_console.specs.Console as console
 use Rattle.apd_console.specs.declared.line.Line.{Line}
 use Rattle.apd_console.specs.declared.line.LineEnd.{LineEnd}
@@ -20,7 +20,7 @@ use Rattle.apd_ops.specs.Table.{Table}
 use Rattle.apd_read.specs.Reader.{Reader}
 use Rattle.apd_talk.specs.Awaiting.{Hearing, Then, means}
 use Rattle.apd_talk.specs.Moment.{Keeps, Moment, place}
-use Rattle.apd_talk.specs.Speech.{Lasting, Says, Speech, Spoken as Speaking, begun, one}
+use Rattle.apd_talk.specs.Speech.{Lasting, Says, Spoken as Speaking, begun, one, with_names}
 use Rattle.apd_talk.specs.Speech as speech
 use Rattle.apd_talk.specs.Talk.{Meaning, Place, Talks, Breaks}
 use Rattle.apd_talk.specs.declared.talk.Trouble.{Trouble}
@@ -92,7 +92,7 @@ trouble_reads a b troubles.Memory same = same
 -- a moment, with another console and other names
 abbrev pub onward : Moment → Kept → Left → ℕ → List (List ℕ) → Moment
 onward p k left reads names =
-    record { console = k; left = left; read_faults = reads; spoken = record { log = record { names = names; ops = p.spoken.log.ops; entries = p.spoken.log.entries }; held = p.spoken.held; write_faults = p.spoken.write_faults } }
+    record { console = k; left = left; read_faults = reads; spoken = with_names p.spoken names; over = p.over }
 
 module _ (asked : Asked) (p : Moment) (k : Kept) (y : Left) (b : ℕ) (sound : IsKept k) where
   -- no line is heard
@@ -104,7 +104,7 @@ module _ (asked : Asked) (p : Moment) (k : Kept) (y : Left) (b : ℕ) (sound : I
 
   pub heard_end : (e : LineEnd) → HearsEnd p.console k p.left y e → CountedOnce (console.is_read_fault e) p.read_faults b → HasHeard HearsOne (waiting asked) p (onward p k y b p.spoken.log.names) (Err (end_of_line e))
   heard_end e hears counts = record {
-    keeps = record { names = Grown-self p.spoken.log.names; few = let s = hears.shrinks in omega (arith, s); ops = refl; sound = sound };
+    keeps = record { names = Grown-self p.spoken.log.names; few = let s = hears.shrinks in omega (arith, s); ops = refl; over = (refl, refl); sound = sound };
     keeps_place = λ some. some;
     follows = ends_so e hears counts;
     faults = record { read = line_counts p.read_faults b e counts; write = line_writes p.spoken.write_faults e };
@@ -116,6 +116,7 @@ module _ (asked : Asked) (p : Moment) (k : Kept) (y : Left) (b : ℕ) (sound : I
       names = Grown-line line p.spoken.log.names names grows;
       few = few_after line p.console k p.left y p.spoken.log.names names hears grows;
       ops = refl;
+      over = (refl, refl);
       sound = sound;
     }
 
@@ -177,13 +178,14 @@ module _ (asked : Asked) (p : Moment) (k : Kept) (y : Left) (b : ℕ) (sound : I
       -- a line that is refused
       module _ (reason : Reason) (so : said ≡ spoken.Bad reason) (q : Speaking) (room : KeepsPlace p.spoken q) where
         abbrev there : Moment
-        there = record { console = k; left = y; read_faults = b; spoken = q }
+        there = record { console = k; left = y; read_faults = b; spoken = q; over = p.over }
 
         bad_keeps : {T : Type 0} (result : Result T Trouble) → Says (one (BadReply reason)) (onward p k y b names).spoken q result → Keeps p there
         bad_keeps result refuses = record {
           names = subst (λ (l : List (List ℕ)). Grown p.spoken.log.names l) (sym refuses.names) (Grown-line line p.spoken.log.names names grows);
           few = rw refuses.names (few_after line p.console k p.left y p.spoken.log.names names hears grows);
           ops = refuses.ops;
+          over = (refl, refuses.over);
           sound = sound;
         }
 

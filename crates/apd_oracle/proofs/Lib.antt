@@ -1,3 +1,4 @@
+pub mod Bare
 pub mod Fitting
 pub mod Hearing
 pub mod Waiting

@@ -16,8 +16,8 @@ use Rattle.apd_lines.proofs.Growing.{Grown-length, Grown-more, Grown-same, Grown
 use Rattle.apd_ops.specs.Table.{Table}
 use Rattle.apd_read.specs.Reader.{Reader}
 use Rattle.apd_talk.specs.Awaiting.{Hearing, means, says_first}
-use Rattle.apd_talk.specs.Moment.{Keeps, Moment, place}
-use Rattle.apd_talk.specs.Speech.{Lasting, Says, Spoken as Speaking, begun, one}
+use Rattle.apd_talk.specs.Moment.{Keeps, Moment, place, saying}
+use Rattle.apd_talk.specs.Speech.{Lasting, Says, Spoken as Speaking, Stays, begun, one}
 use Rattle.apd_talk.specs.Talk.{Talks, onto}
 use Rattle.apd_talk.specs.Utterance.{Utterance}
 use Rattle.apd_talk.specs.declared.talk.Trouble.{Trouble}
@@ -40,6 +40,7 @@ Keeps-more p q r first second = record {
   names = Grown-more p.spoken.log.names q.spoken.log.names r.spoken.log.names first.names second.names;
   few = let a = first.few in let b = second.few in omega (arith, a, b);
   ops = second.ops ∙ first.ops;
+  over = (second.over.0 ∙ first.over.0, second.over.1 ∙ first.over.1);
   sound = second.sound;
 }
 
@@ -56,6 +57,7 @@ pub record IsWaiting (asked : Asked) (p q : Moment) : Type 0 where
   pub names : Grown p.spoken.log.names q.spoken.log.names
   pub few : length q.spoken.log.names + room_of q.console ≤ length p.spoken.log.names + room_of p.console
   pub ops : q.spoken.log.ops ≡ p.spoken.log.ops
+  pub over : (q.over ≡ p.over) × (q.spoken.over ≡ p.spoken.over)
   pub keeps_place : KeepsPlace p.spoken q.spoken
   pub can : CanHear q
   pub reads : q.read_faults ≡ p.read_faults
@@ -67,6 +69,7 @@ IsWaiting-start asked p can = record {
   names = Grown-self p.spoken.log.names;
   few = omega arith;
   ops = refl;
+  over = (refl, refl);
   keeps_place = λ some. some;
   can = can;
   reads = refl;
@@ -79,6 +82,7 @@ module _ (asked : Asked) (p q r : Moment) (before : IsWaiting asked p q) where
     names = Grown-more p.spoken.log.names q.spoken.log.names r.spoken.log.names before.names keeps.names;
     few = let a = before.few in let b = keeps.few in omega (arith, a, b);
     ops = keeps.ops ∙ before.ops;
+    over = (keeps.over.0 ∙ before.over.0, keeps.over.1 ∙ before.over.1);
     sound = keeps.sound;
   }
 
@@ -90,6 +94,7 @@ module _ (asked : Asked) (p q r : Moment) (before : IsWaiting asked p q) where
     names = (waited_keeps heard.keeps).names;
     few = (waited_keeps heard.keeps).few;
     ops = (waited_keeps heard.keeps).ops;
+    over = (waited_keeps heard.keeps).over;
     keeps_place = λ some. heard.keeps_place (before.keeps_place some);
     can = can_still_hear q r before.can heard.keeps.names heard.keeps.few;
     reads = heard.faults.read ∙ before.reads;
@@ -123,22 +128,19 @@ first_said : (us : List (Utterance Entry)) (h : Hearing Entry) (room : ℕ) (mor
 unfolding means
 first_said us h room more ends = refl
 
--- a moment, with other things said
-abbrev pub saying : Moment → Speaking → Moment
-saying p s = record { console = p.console; left = p.left; read_faults = p.read_faults; spoken = s }
-
-saying_keeps : (p : Moment) (s : Speaking) → IsKept p.console → s.log.names ≡ p.spoken.log.names → s.log.ops ≡ p.spoken.log.ops → Keeps p (saying p s)
-saying_keeps p s sound names ops = record {
-  names = Grown-same p.spoken.log.names s.log.names names;
-  few = let e : length s.log.names ≡ length p.spoken.log.names = ap length names in omega (arith, e);
-  ops = ops;
+saying_keeps : (p : Moment) (s : Speaking) → IsKept p.console → Stays p.spoken s → Keeps p (saying p s)
+saying_keeps p s sound stays = record {
+  names = Grown-same p.spoken.log.names s.log.names stays.names;
+  few = let same = stays.names in let e : length s.log.names ≡ length p.spoken.log.names = ap length same in omega (arith, e);
+  ops = stays.ops;
+  over = (refl, stays.over);
   sound = sound;
 }
 
 -- there is a reply without a line
 pub given_so : (o : Option Reply) (asked : Asked) (reply : Reply) (p : Moment) → IsKept p.console → o ≡ Some reply → HasHeard (HearsFrom o) (answering o asked) p p (Ok reply)
 given_so o asked reply p sound is = record {
-  keeps = record { names = Grown-self p.spoken.log.names; few = omega arith; ops = refl; sound = sound };
+  keeps = record { names = Grown-self p.spoken.log.names; few = omega arith; ops = refl; over = (refl, refl); sound = sound };
   keeps_place = λ some. some;
   follows = λ names grew reader after.
       subst (λ (o : Option Reply). HearsFrom o (means (answering o asked p.spoken.log.ops names reader after)) (place p) (place p) after (Ok reply)) (sym is)
@@ -149,7 +151,7 @@ given_so o asked reply p sound is = record {
 -- or no memory for one
 pub not_given : (o : Option Reply) (asked : Asked) (p : Moment) → IsKept p.console → HasHeard (HearsFrom o) (answering o asked) p p (Err ends.Memory)
 not_given o asked p sound = record {
-  keeps = record { names = Grown-self p.spoken.log.names; few = omega arith; ops = refl; sound = sound };
+  keeps = record { names = Grown-self p.spoken.log.names; few = omega arith; ops = refl; over = (refl, refl); sound = sound };
   keeps_place = λ some. some;
   follows = λ names grew reader after.
       heard_trouble_from o (means (answering o asked p.spoken.log.ops names reader after)) (place p) (place p) after troubles.Memory
@@ -172,7 +174,7 @@ module _ (replies : Question → Option Reply) (by_reference : Bool) where
   -- there was no memory for the question
   pub unasked : (asked : Asked) (count : ℕ) (p : Moment) → IsKept p.console → Calls replies (calls.asking asked (Err ends.Memory)) count by_reference p p
   unasked asked count p sound = record {
-    keeps = record { names = Grown-self p.spoken.log.names; few = omega arith; ops = refl; sound = sound };
+    keeps = record { names = Grown-self p.spoken.log.names; few = omega arith; ops = refl; over = (refl, refl); sound = sound };
     keeps_place = λ some. some;
     acts = (
       λ named names grew reader after.
@@ -184,7 +186,7 @@ module _ (replies : Question → Option Reply) (by_reference : Bool) where
   }
 
   module _ (count n : ℕ) (is : n ≡ risen count) (copy asked : Asked) (same : copy ≡ asked) (p : Moment) (s : Speaking) (sound : IsKept p.console) (standard : length standard_names ≤ length p.spoken.log.names)
-      (names_stay : s.log.names ≡ p.spoken.log.names) (ops_stay : s.log.ops ≡ p.spoken.log.ops) (place_stays : KeepsPlace p.spoken s) where
+      (stays : Stays p.spoken s) (place_stays : KeepsPlace p.spoken s) where
     abbrev given : Option Reply
     given = replies asked.question
 
@@ -195,7 +197,7 @@ module _ (replies : Question → Option Reply) (by_reference : Bool) where
     pub asked_front : {T : Type 0} (t : Trouble) → (EntryIsNamed (length p.spoken.log.names) (Asks n copy) → Says {T = T} (one (Asks n copy)) p.spoken s (Err t)) →
         Calls replies (calls.asking asked (Err (end_of_trouble t))) count by_reference p (saying p s)
     asked_front {T} t says_if = record {
-      keeps = saying_keeps p s sound names_stay ops_stay;
+      keeps = saying_keeps p s sound stays;
       keeps_place = place_stays;
       acts = (subst (λ (i : ℕ). IsAskedNamed → Follows (HearsFrom given) (asking replies i asked) p (saying p s) (Err (end_of_trouble t))) is follows, λ named. tt);
     }
@@ -203,7 +205,7 @@ module _ (replies : Question → Option Reply) (by_reference : Bool) where
         follows : IsAskedNamed → Follows (HearsFrom given) (asking replies n asked) p (saying p s) (Err (end_of_trouble t))
         follows named = λ names grew reader after.
             let says : Says {T = T} (one (Asks n asked)) p.spoken s (Err t) = rw same at (says_if (standard, rw same named)) in
-            let grown : Grown p.spoken.log.names names = subst (λ (l : List (List ℕ)). Grown l names) names_stay grew in
+            let grown : Grown p.spoken.log.names names = subst (λ (l : List (List ℕ)). Grown l names) stays.names grew in
             let h = answering given asked p.spoken.log.ops names reader after in
             heard_trouble_from given _ _ _ after t
             (Breaks-say begun _ p.console p.left p.spoken.held s.held p.read_faults p.spoken.write_faults s.write_faults p.spoken.log.entries.list s.log.entries.list (one (Asks n asked) p.spoken.log.ops names) t
@@ -216,20 +218,20 @@ module _ (replies : Question → Option Reply) (by_reference : Bool) where
       asked_follows named = λ names grew reader after.
           let says : Says (one (Asks n asked)) p.spoken s (Ok t) = rw same at (says_if (standard, rw same named)) in
           let later : Grown s.log.names names = Grown-more s.log.names r.spoken.log.names names heard.keeps.names grew in
-          let grown : Grown p.spoken.log.names names = subst (λ (l : List (List ℕ)). Grown l names) names_stay later in
+          let grown : Grown p.spoken.log.names names = subst (λ (l : List (List ℕ)). Grown l names) stays.names later in
           let h = answering given asked p.spoken.log.ops names reader after in
           HearsFrom-more given _ (means h) (place p) (place (saying p s)) (place r) after result
           (Talks-say _ _ p.console p.left p.spoken.held s.held p.read_faults p.spoken.write_faults s.write_faults p.spoken.log.entries.list s.log.entries.list (one (Asks n asked) p.spoken.log.ops names)
           (says.all names grown) says.cause (first_said (one (Asks n asked) p.spoken.log.ops names) h))
-          (subst (λ (ops : Table). HearsFrom given (means (answering given asked ops names reader after)) (place (saying p s)) (place r) after result) ops_stay (heard.follows names grew reader after))
+          (subst (λ (ops : Table). HearsFrom given (means (answering given asked ops names reader after)) (place (saying p s)) (place r) after result) stays.ops (heard.follows names grew reader after))
 
       pub asked_heard : (QuestionIsNamed (length s.log.names) asked.question → IfOk result (IsReply (length r.spoken.log.names) asked)) → Calls replies (calls.asking asked result) count by_reference p r
       asked_heard reply = record {
-        keeps = Keeps-more p (saying p s) r (saying_keeps p s sound names_stay ops_stay) heard.keeps;
+        keeps = Keeps-more p (saying p s) r (saying_keeps p s sound stays) heard.keeps;
         keeps_place = λ some. heard.keeps_place (place_stays some);
         acts = (
           subst (λ (i : ℕ). IsAskedNamed → Follows (HearsFrom given) (asking replies i asked) p r result) is asked_follows,
-          λ named. reply (subst (λ (l : List (List ℕ)). QuestionIsNamed (length l) asked.question) (sym names_stay) named),
+          λ named. reply (subst (λ (l : List (List ℕ)). QuestionIsNamed (length l) asked.question) (sym stays.names) named),
         );
       }
 
@@ -247,13 +249,12 @@ said_writes c d (Err t) counts = trouble_writes c d t counts
 
 pub said_so : (by_reference : Bool) (copy reply : Reply) (left : Option ℕ) (p s : Speaking) (said : Result (Unit {0}) Trouble) → copy ≡ reply → length standard_names ≤ length p.log.names →
     (EntryIsNamed (length p.log.names) (Replied copy left by_reference) → Says (one (Replied copy left by_reference)) p s said) →
-    s.log.names ≡ p.log.names → s.log.ops ≡ p.log.ops → KeepsPlace p s → CountsOnce speech.is_write_fault p.write_faults s.write_faults said → SaysReply by_reference reply left p s (answer_of said)
-said_so by_reference copy reply left p s said same standard says_if names ops room counts = record {
+    Stays p s → KeepsPlace p s → CountsOnce speech.is_write_fault p.write_faults s.write_faults said → SaysReply by_reference reply left p s (answer_of said)
+said_so by_reference copy reply left p s said same standard says_if stays room counts = record {
   said = said;
   answers = refl;
   says = λ named. rw same at (says_if (standard, rw same named));
-  names = names;
-  ops = ops;
+  stays = stays;
   keeps_place = room;
   faults = said_writes p.write_faults s.write_faults said counts;
 }
@@ -263,9 +264,8 @@ pub unsaid : (by_reference : Bool) (reply : Reply) (left : Option ℕ) (p : Spea
 unsaid by_reference reply left p = record {
   said = Err troubles.Memory;
   answers = refl;
-  says = λ named. Says-none (one (Replied reply left by_reference)) p p refl refl refl refl refl;
-  names = refl;
-  ops = refl;
+  says = λ named. Says-none (one (Replied reply left by_reference)) p p refl refl refl refl refl refl;
+  stays = record { names = refl; ops = refl; over = refl };
   keeps_place = λ some. some;
   faults = refl;
 }
@@ -287,7 +287,7 @@ told_reads a said result is = subst (λ (r : Result (Unit {0}) AskEnd). Counts i
 pub told_so : (replies : Question → Option Reply) (by_reference : Bool) (reply : Reply) (left : Option ℕ) (count : ℕ) (p : Moment) (s : Speaking) (result : Result (Unit {0}) AskEnd) → IsKept p.console →
     SaysReply by_reference reply left p.spoken s result → Calls replies (calls.telling reply left result) count by_reference p (saying p s)
 told_so replies by_reference reply left count p s result sound tells = record {
-  keeps = saying_keeps p s sound tells.names tells.ops;
+  keeps = saying_keeps p s sound tells.stays;
   keeps_place = tells.keeps_place;
   acts = ((refl, refl, refl), tells);
 }

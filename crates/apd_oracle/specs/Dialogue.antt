@@ -17,7 +17,7 @@ use Rattle.apd_console.specs.declared.line.LineEnd.TheVariants as line_ends
 use Rattle.apd_read.specs.Reader.{Reader}
 use Rattle.apd_talk.specs.Awaiting.{Closes, means}
 use Rattle.apd_talk.specs.Moment.{Keeps, Moment, place}
-use Rattle.apd_talk.specs.Speech.{Lasting, Says, Spoken, begun, one}
+use Rattle.apd_talk.specs.Speech.{Lasting, Says, Spoken, Stays, begun, one}
 use Rattle.apd_talk.specs.Talk.{Meaning, Place, Talks, Breaks}
 use Rattle.apd_talk.specs.declared.talk.Trouble.{Trouble}
 use Rattle.apd_talk.specs.declared.talk.Trouble.TheVariants as troubles
@@ -101,8 +101,7 @@ pub record SaysReply (by_reference : Bool) (reply : Reply) (left : Option ℕ) (
   pub said : Result (Unit {0}) Trouble
   pub answers : result ≡ answer_of said
   pub says : ReplyIsNamed (length p.log.names) reply → Says (one (Replied reply left by_reference)) p q said
-  pub names : q.log.names ≡ p.log.names
-  pub ops : q.log.ops ≡ p.log.ops
+  pub stays : Stays p q
   pub keeps_place : KeepsPlace p q
   pub faults : Counts is_write_fault p.write_faults q.write_faults result
 

@@ -6,26 +6,32 @@ ghost use Rattle.apd_base.specs.declared.limits.TheConstants.{MOST_NAMES};
 ghost use Rattle.apd_console.specs.Console.{room_of};
 ghost use Rattle.apd_term.specs.StandardNames.{standard_names};
 
-use crate::asking::{ask_question, tell_reply};
+use crate::lending::{ask_over, tell_over};
 use apd_answers::{AskEnd, Asked, Oracle, Replier, Reply};
 use apd_console::Console;
 use apd_io::{Sink, Source};
 use apd_text::Log;
 use std::alloc::Global;
 
-/// Whoever is asked by lines: questions go to a sink, replies are those of a replier, or else lines of a source, and both are
-/// kept in a log.
+/// Whoever is asked by lines: questions are said, replies are those of a replier, or else lines that are heard, and both are
+/// kept in the log.
 ///
-/// The names of the log, and the bytes that the console may still hand out, are together fewer than names may be.
+/// The names of the log, and the bytes that the console may still hand out, are together fewer than names may be. A desk, which
+/// refers to what itself refers to things, can't be lent to a value of which facts are stated; so it is lent part by part.
 #[derive(Drop)]
-pub struct Dialogue<'c, 's, 'k, 'l, 'r, S: Source, K: Sink, R: Replier> {
-    alloc: Global,
+pub struct Dialogue<'c, 's, 'l, 'k, 'r, S: Source, K: Sink, R: Replier> {
+    /// Where what is made takes its memory.
+    pub alloc: Global,
     /// How many questions were asked, as far as a u64 goes.
     pub asked: u64,
+    /// The lines that weren't heard yet.
     pub console: &'c mut Console,
-    pub source: &'s mut S,
-    pub sink: &'k mut K,
+    /// Where they come from.
+    pub input: &'s mut S,
+    /// What was said, with the names and the operators that it is written with.
     pub log: &'l mut Log,
+    /// Where the texts go.
+    pub out: &'k mut K,
     /// Who is asked before a line is heard.
     pub replier: &'r mut R,
     /// Whether his replies are marked as a reference program's.
@@ -39,31 +45,31 @@ pub struct Dialogue<'c, 's, 'k, 'l, 'r, S: Source, K: Sink, R: Replier> {
     pub ghost known: { R.names replier.now ≤ length log.now.names },
 }
 
-impl<'c, 's, 'k, 'l, 'r, S: Source, K: Sink, R: Replier> Dialogue<'c, 's, 'k, 'l, 'r, S, K, R> {
+impl<'c, 's, 'l, 'k, 'r, S: Source, K: Sink, R: Replier> Dialogue<'c, 's, 'l, 'k, 'r, S, K, R> {
     /// A dialogue in which so many questions were asked before, and this replier has the first word; his replies are marked as a reference
     /// program's or not.
     pub fn new(
         alloc: Global,
         asked: u64,
         console: &'c mut Console,
-        source: &'s mut S,
-        sink: &'k mut K,
+        input: &'s mut S,
         log: &'l mut Log,
+        out: &'k mut K,
         replier: &'r mut R,
         marked: bool,
-    ) -> Dialogue<'c, 's, 'k, 'l, 'r, S, K, R>
+    ) -> Dialogue<'c, 's, 'l, 'k, 'r, S, K, R>
         requires fits { length log.old.names + room_of console.old < MOST_NAMES }
         requires standard { length standard_names ≤ length log.old.names }
         requires known { R.names replier.old ≤ length log.old.names }
         ensures asked { result.asked ≡ asked }
         ensures console { (result.console.ghost_name ≡ console.entry.ghost_name)
             × (result.console.now ≡ console.old) }
-        ensures source { (result.source.ghost_name ≡ source.entry.ghost_name)
-            × (result.source.now ≡ source.old) }
-        ensures sink { (result.sink.ghost_name ≡ sink.entry.ghost_name)
-            × (result.sink.now ≡ sink.old) }
+        ensures input { (result.input.ghost_name ≡ input.entry.ghost_name)
+            × (result.input.now ≡ input.old) }
         ensures log { (result.log.ghost_name ≡ log.entry.ghost_name)
             × (result.log.now ≡ log.old) }
+        ensures out { (result.out.ghost_name ≡ out.entry.ghost_name)
+            × (result.out.now ≡ out.old) }
         ensures replier { (result.replier.ghost_name ≡ replier.entry.ghost_name)
             × (result.replier.now ≡ replier.old) }
         ensures marked { result.marked ≡ marked }
@@ -73,9 +79,9 @@ impl<'c, 's, 'k, 'l, 'r, S: Source, K: Sink, R: Replier> Dialogue<'c, 's, 'k, 'l
             alloc,
             asked,
             console,
-            source,
-            sink,
+            input,
             log,
+            out,
             replier,
             marked,
             by_reference: false,
@@ -86,31 +92,32 @@ impl<'c, 's, 'k, 'l, 'r, S: Source, K: Sink, R: Replier> Dialogue<'c, 's, 'k, 'l
 
 impl<S: Source, K: Sink, R: Replier> Oracle for Dialogue<'_, '_, '_, '_, '_, S, K, R> {
     ghost use Rattle.apd_oracle.specs.Dialogue.{Calls, counted, referred};
-    ghost use Rattle.apd_talk.specs.Moment.{moment};
+    ghost use Rattle.apd_talk.specs.Moment.{among};
+    ghost use Rattle.apd_talk.specs.Speech.{said};
 
     ghost end = { λ d. d.end };
 
-    ghost read_faults = { λ d. S.faults d.source.now };
+    ghost read_faults = { λ d. S.faults d.input.now };
 
-    ghost write_faults = { λ d. K.faults d.sink.now };
+    ghost write_faults = { λ d. K.faults d.out.now };
 
     ghost step = { λ d call e. (e.console.ghost_name ≡ d.console.ghost_name)
-        × (e.source.ghost_name ≡ d.source.ghost_name)
-        × (e.sink.ghost_name ≡ d.sink.ghost_name)
+        × (e.input.ghost_name ≡ d.input.ghost_name)
         × (e.log.ghost_name ≡ d.log.ghost_name)
+        × (e.out.ghost_name ≡ d.out.ghost_name)
         × (e.replier.ghost_name ≡ d.replier.ghost_name)
         × (e.replier.now ≡ d.replier.now)
         × (e.by_reference ≡ referred (R.replies d.replier.now) d.marked call d.by_reference)
         × (e.asked ≡ counted call d.asked)
         × Calls (R.replies d.replier.now) call d.asked d.by_reference
-        (moment S.Source K.Sink d.console.now d.source.now d.log.now d.sink.now)
-        (moment S.Source K.Sink e.console.now e.source.now e.log.now e.sink.now)
+        (among S.Source d.console.now d.input.now (said K.Sink d.log.now d.out.now))
+        (among S.Source e.console.now e.input.now (said K.Sink e.log.now e.out.now))
         × (e.marked ≡ d.marked) };
 
     fn ask(&mut self, asked: &Asked) -> Result<Reply, AskEnd> {
         let count = self.asked;
         self.asked = count.saturating_add(1);
-        let answer = ask_question(
+        let answer = ask_over(
             self.alloc,
             count,
             asked,
@@ -118,9 +125,9 @@ impl<S: Source, K: Sink, R: Replier> Oracle for Dialogue<'_, '_, '_, '_, '_, S, 
             self.marked,
             &mut self.by_reference,
             self.console,
-            self.source,
-            self.sink,
+            self.input,
             self.log,
+            self.out,
         );
         self.end = end_after(self.end, &answer);
         answer
@@ -128,13 +135,13 @@ impl<S: Source, K: Sink, R: Replier> Oracle for Dialogue<'_, '_, '_, '_, '_, S, 
 
     fn told(&mut self, reply: &Reply, left: Option<u32>) -> Result<(), AskEnd> {
         self.console.keeps_its_limits();
-        let answer = tell_reply(
+        let answer = tell_over(
             self.alloc,
             reply,
             left,
             self.by_reference,
-            self.sink,
             self.log,
+            self.out,
         );
         self.end = end_after(self.end, &answer);
         answer

@@ -3,6 +3,7 @@
 
 mod asking;
 mod dialogue;
+mod lending;
 mod spoken;
 mod values;
 

@@ -17,6 +17,7 @@ use Rattle.apd_clauses.specs.declared.clause.Clause.{Clause}
 use Rattle.apd_clauses.specs.Clauses.{tuples_of}
 use Rattle.apd_causes.specs.declared.run.Query.{Query}
 use Rattle.apd_trace.specs.Trace.{trace}
+use Rattle.apd_text.specs.declared.log.Log.{Log}
 use Rattle.apd_query.specs.declared.printer.Printer.{Printer}
 use Rattle.apd_query.specs.Printing.{Prints, next_number, counted}
 use Rattle.apd_query.specs.Runs.{one_text, next_admission, next_after, shown_text, run_for}
@@ -148,22 +149,22 @@ keeps_stops step kept keeps fault [] p q stops = absurd stops
 keeps_stops step kept keeps fault (x ∷ xs) p q (inl here) = keeps p x (Err fault) q here
 keeps_stops step kept keeps fault (x ∷ xs) p q (inr goes) = keeps_stops step kept keeps fault xs goes.0 q goes.2 ∙ keeps p x (Ok tt) goes.0 goes.1
 
--- the printer of a sink of type X
-abbrev pub printer_step : {X : Type 0} → (X → Option (List ℕ)) → (X → ℕ) → Printer X → Shown → Result (Unit {0}) HookFault → Printer X → Type 0
-printer_step held faults p x r q = (q.out.ghost_name ≡ p.out.ghost_name) × (q.ops.now ≡ p.ops.now) × (q.names.now ≡ p.names.now) × (q.vars.now ≡ p.vars.now)
+-- the step of a printer
+abbrev pub printer_step : {X : Type 0} → Printer X → Shown → Result (Unit {0}) HookFault → Printer X → Type 0
+printer_step p x r q = (q.voice.ghost_name ≡ p.voice.ghost_name) × (q.voice.now.log ≡ p.voice.now.log) × (q.voice.now.over ≡ p.voice.now.over) × (q.vars.now ≡ p.vars.now)
     × OnOk r (q.admit.now ≡ next_admission p.admit.now x)
-    × Prints p.ops.now p.names.now p.vars.now p.admit.now (held p.out.now) (held q.out.now) p.answers q.answers x r
-    × Counts is_write_fault (faults p.out.now) (faults q.out.now) r
+    × Prints p.voice.now.log.ops p.voice.now.log.names p.vars.now p.admit.now p.voice.now.held q.voice.now.held p.answers q.answers x r
+    × Counts is_write_fault p.voice.now.write_faults q.voice.now.write_faults r
 
-abbrev reads : {X : Type 0} (held : X → Option (List ℕ)) (faults : X → ℕ) → Reads (printer_step held faults)
-reads {X} held faults = record {
-  ops = λ (p : Printer X). p.ops.now;
-  names = λ (p : Printer X). p.names.now;
+abbrev reads : {X : Type 0} → Reads {H = Printer X} printer_step
+reads {X} = record {
+  ops = λ (p : Printer X). p.voice.now.log.ops;
+  names = λ (p : Printer X). p.voice.now.log.names;
   vars = λ (p : Printer X). p.vars.now;
   admission = λ (p : Printer X). p.admit.now;
-  held = λ (p : Printer X). held p.out.now;
+  held = λ (p : Printer X). p.voice.now.held;
   count = λ (p : Printer X). p.answers;
-  same = λ p x r q is. (is.1, is.2, is.3);
+  same = λ p x r q is. (ap (λ (l : Log). l.ops) is.1, ap (λ (l : Log). l.names) is.1, is.3);
   moves = λ p x q is. is.4;
   prints = λ p x r q is. is.5;
 }
@@ -171,38 +172,55 @@ reads {X} held faults = record {
 few_from : (count : ℕ) (xs : List Shown) → count ≡ 0 → answers_in xs ≤ 1000001 → count + answers_in xs < 2 ^ 64
 few_from count xs start few = omega (arith, start, few)
 
-first_number : {X : Type 0} (p : Printer X) (xs : List Shown) → p.answers ≡ 0 → shown_text p.ops.now p.names.now p.vars.now p.admit.now (p.answers + 1) xs ≡ shown_text p.ops.now p.names.now p.vars.now p.admit.now 1 xs
-first_number p xs start = ap (λ (n : ℕ). shown_text p.ops.now p.names.now p.vars.now p.admit.now (n + 1) xs) start
+first_number : {X : Type 0} (p : Printer X) (xs : List Shown) → p.answers ≡ 0 →
+    shown_text p.voice.now.log.ops p.voice.now.log.names p.vars.now p.admit.now (p.answers + 1) xs ≡ shown_text p.voice.now.log.ops p.voice.now.log.names p.vars.now p.admit.now 1 xs
+first_number p xs start = ap (λ (n : ℕ). shown_text p.voice.now.log.ops p.voice.now.log.names p.vars.now p.admit.now (n + 1) xs) start
 
-pub printed_all : {X : Type 0} (held : X → Option (List ℕ)) (faults : X → ℕ) (xs : List Shown) (p q : Printer X) → p.answers ≡ 0 → answers_in xs ≤ 1000001 → GoesThrough (printer_step held faults) p xs q →
-    Adds (held p.out.now) (held q.out.now) (shown_text p.ops.now p.names.now p.vars.now p.admit.now 1 xs)
-printed_all held faults xs p q start few goes =
-    subst (λ (t : List ℕ). Adds (held p.out.now) (held q.out.now) t) (first_number p xs start) (goes_through (printer_step held faults) (reads held faults) xs p q (few_from p.answers xs start few) goes)
+pub printed_all : {X : Type 0} (xs : List Shown) (p q : Printer X) → p.answers ≡ 0 → answers_in xs ≤ 1000001 → GoesThrough printer_step p xs q →
+    Adds p.voice.now.held q.voice.now.held (shown_text p.voice.now.log.ops p.voice.now.log.names p.vars.now p.admit.now 1 xs)
+printed_all xs p q start few goes = subst (λ (t : List ℕ). Adds p.voice.now.held q.voice.now.held t) (first_number p xs start) (goes_through printer_step reads xs p q (few_from p.answers xs start few) goes)
 
-pub printed_into : {X : Type 0} (held : X → Option (List ℕ)) (faults : X → ℕ) (xs : List Shown) (p q : Printer X) → p.answers ≡ 0 → answers_in xs ≤ 1000001 → GoesInto (printer_step held faults) p xs q →
-    AddsFront (held p.out.now) (held q.out.now) (shown_text p.ops.now p.names.now p.vars.now p.admit.now 1 xs)
-printed_into held faults xs p q start few goes =
-    subst (λ (t : List ℕ). AddsFront (held p.out.now) (held q.out.now) t) (first_number p xs start) (goes_into (printer_step held faults) (reads held faults) xs p q (few_from p.answers xs start few) goes)
+pub printed_into : {X : Type 0} (xs : List Shown) (p q : Printer X) → p.answers ≡ 0 → answers_in xs ≤ 1000001 → GoesInto printer_step p xs q →
+    AddsFront p.voice.now.held q.voice.now.held (shown_text p.voice.now.log.ops p.voice.now.log.names p.vars.now p.admit.now 1 xs)
+printed_into xs p q start few goes = subst (λ (t : List ℕ). AddsFront p.voice.now.held q.voice.now.held t) (first_number p xs start) (goes_into printer_step reads xs p q (few_from p.answers xs start few) goes)
 
-pub printed_till : {X : Type 0} (held : X → Option (List ℕ)) (faults : X → ℕ) (fault : HookFault) (xs : List Shown) (p q : Printer X) → p.answers ≡ 0 → answers_in xs ≤ 1000001 → StopsAt (printer_step held faults) fault p xs q →
-    AddsFront (held p.out.now) (held q.out.now) (shown_text p.ops.now p.names.now p.vars.now p.admit.now 1 xs)
-printed_till held faults fault xs p q start few stops =
-    subst (λ (t : List ℕ). AddsFront (held p.out.now) (held q.out.now) t) (first_number p xs start) (stops_at (printer_step held faults) (reads held faults) fault xs p q (few_from p.answers xs start few) stops)
+pub printed_till : {X : Type 0} (fault : HookFault) (xs : List Shown) (p q : Printer X) → p.answers ≡ 0 → answers_in xs ≤ 1000001 → StopsAt printer_step fault p xs q →
+    AddsFront p.voice.now.held q.voice.now.held (shown_text p.voice.now.log.ops p.voice.now.log.names p.vars.now p.admit.now 1 xs)
+printed_till fault xs p q start few stops =
+    subst (λ (t : List ℕ). AddsFront p.voice.now.held q.voice.now.held t) (first_number p xs start) (stops_at printer_step reads fault xs p q (few_from p.answers xs start few) stops)
 
-pub same_sink_all : {X : Type 0} (held : X → Option (List ℕ)) (faults : X → ℕ) (xs : List Shown) (p q : Printer X) → GoesThrough (printer_step held faults) p xs q → q.out.ghost_name ≡ p.out.ghost_name
-same_sink_all {X} held faults xs p q goes = keeps_through (printer_step held faults) (λ (p : Printer X). p.out.ghost_name) (λ p x r q is. is.0) xs p q goes
+-- the voice is the same one, over the same references, and its log is as before
+pub record SameVoice {X : Type 0} (p q : Printer X) : Type 0 where
+  pub name : q.voice.ghost_name ≡ p.voice.ghost_name
+  pub log : q.voice.now.log ≡ p.voice.now.log
+  pub over : q.voice.now.over ≡ p.voice.now.over
 
-pub same_sink_into : {X : Type 0} (held : X → Option (List ℕ)) (faults : X → ℕ) (xs : List Shown) (p q : Printer X) → GoesInto (printer_step held faults) p xs q → q.out.ghost_name ≡ p.out.ghost_name
-same_sink_into {X} held faults xs p q goes = keeps_into (printer_step held faults) (λ (p : Printer X). p.out.ghost_name) (λ p x r q is. is.0) xs p q goes
+pub same_all : {X : Type 0} (xs : List Shown) (p q : Printer X) → GoesThrough printer_step p xs q → SameVoice p q
+same_all {X} xs p q goes = record {
+  name = keeps_through printer_step (λ (p : Printer X). p.voice.ghost_name) (λ p x r q is. is.0) xs p q goes;
+  log = keeps_through printer_step (λ (p : Printer X). p.voice.now.log) (λ p x r q is. is.1) xs p q goes;
+  over = keeps_through printer_step (λ (p : Printer X). p.voice.now.over) (λ p x r q is. is.2) xs p q goes;
+}
 
-pub same_sink_till : {X : Type 0} (held : X → Option (List ℕ)) (faults : X → ℕ) (fault : HookFault) (xs : List Shown) (p q : Printer X) → StopsAt (printer_step held faults) fault p xs q → q.out.ghost_name ≡ p.out.ghost_name
-same_sink_till {X} held faults fault xs p q stops = keeps_stops (printer_step held faults) (λ (p : Printer X). p.out.ghost_name) (λ p x r q is. is.0) fault xs p q stops
+pub same_into : {X : Type 0} (xs : List Shown) (p q : Printer X) → GoesInto printer_step p xs q → SameVoice p q
+same_into {X} xs p q goes = record {
+  name = keeps_into printer_step (λ (p : Printer X). p.voice.ghost_name) (λ p x r q is. is.0) xs p q goes;
+  log = keeps_into printer_step (λ (p : Printer X). p.voice.now.log) (λ p x r q is. is.1) xs p q goes;
+  over = keeps_into printer_step (λ (p : Printer X). p.voice.now.over) (λ p x r q is. is.2) xs p q goes;
+}
+
+pub same_till : {X : Type 0} (fault : HookFault) (xs : List Shown) (p q : Printer X) → StopsAt printer_step fault p xs q → SameVoice p q
+same_till {X} fault xs p q stops = record {
+  name = keeps_stops printer_step (λ (p : Printer X). p.voice.ghost_name) (λ p x r q is. is.0) fault xs p q stops;
+  log = keeps_stops printer_step (λ (p : Printer X). p.voice.now.log) (λ p x r q is. is.1) fault xs p q stops;
+  over = keeps_stops printer_step (λ (p : Printer X). p.voice.now.over) (λ p x r q is. is.2) fault xs p q stops;
+}
 
 -- how many writes failed till one did
-pub counts_till : {X : Type 0} (held : X → Option (List ℕ)) (faults : X → ℕ) (fault : HookFault) (xs : List Shown) (p q : Printer X) → StopsAt (printer_step held faults) fault p xs q → Counted (is_write_fault fault) (faults p.out.now) (faults q.out.now)
-counts_till held faults fault [] p q stops = absurd stops
-counts_till held faults fault (x ∷ xs) p q (inl here) = here.6
-counts_till held faults fault (x ∷ xs) p q (inr goes) = subst (λ (n : ℕ). Counted (is_write_fault fault) n (faults q.out.now)) goes.1.6 (counts_till held faults fault xs goes.0 q goes.2)
+pub counts_till : {X : Type 0} (fault : HookFault) (xs : List Shown) (p q : Printer X) → StopsAt printer_step fault p xs q → Counted (is_write_fault fault) p.voice.now.write_faults q.voice.now.write_faults
+counts_till fault [] p q stops = absurd stops
+counts_till fault (x ∷ xs) p q (inl here) = here.6
+counts_till fault (x ∷ xs) p q (inr goes) = subst (λ (n : ℕ). Counted (is_write_fault fault) n q.voice.now.write_faults) goes.1.6 (counts_till fault xs goes.0 q goes.2)
 
 -- a run's answers are few
 pub few_answers : (program : List Clause) (q : Query) (budget answers : ℕ) → answers ≤ 1000000 → answers_in (shown_of (run_for program q budget answers).passed) ≤ 1000001

@@ -6,7 +6,7 @@ use Rattle.apd_answers.specs.Going.{at, Breaks, Reaches}
 use Rattle.apd_answers.specs.declared.oracle.AskEnd.{AskEnd}
 use Rattle.apd_answers.specs.declared.replier.Replier as Replier
 use Rattle.apd_answers.specs.Store.{Store}
-use Rattle.apd_console.specs.Console.{IsKept}
+use Rattle.apd_console.specs.Console.{IsKept, Kept}
 use Rattle.apd_debug.specs.Asking.{dialogue_step, moment_of}
 use Rattle.apd_debug.specs.Hearing.{HearsReplies}
 use Rattle.apd_debug.specs.Known.{KeepsNamed}
@@ -15,17 +15,21 @@ use Rattle.apd_debug.specs.Steps.{most_in_a_row}
 use Rattle.apd_debug.proofs.Asking.{conversing, keeps_dialogue}
 use Rattle.apd_debug.proofs.Going.{diagnosed_so, named_reached}
 use Rattle.apd_debug.proofs.Kept.{replies_kept}
+use Rattle.apd_io.specs.Outside.{Left}
 use Rattle.apd_io.specs.declared.sink.Sink as Sink
 use Rattle.apd_io.specs.declared.source.Source as Source
 use Rattle.apd_ops.specs.Table.{Table}
 use Rattle.apd_oracle.specs.declared.dialogue.Dialogue.{Dialogue}
 use Rattle.apd_query.specs.declared.state.State.{State}
 use Rattle.apd_read.specs.Reader.{Reader}
-use Rattle.apd_oracle.specs.Waiting.{replying}
+use Rattle.apd_talk.specs.Moment.{Moment}
+use Rattle.apd_talk.specs.Speech.{Spoken, bare}
+use Rattle.apd_oracle.specs.Waiting.{Replies, replying}
+use Rattle.apd_oracle.proofs.Bare.{bare_at}
 use Rattle.apd_term.specs.Growth.{Grown}
 use Rattle.apd_text.specs.Named.{EntryIsNamed}
 use Rattle.apd_text.specs.declared.entry.Entry.{Entry}
-use Rattle.apd_session.specs.Diagnosing.{Diagnoses, IsDiagnosed, answered}
+use Rattle.apd_session.specs.Diagnosing.{Answered, Diagnoses, IsDiagnosed, answered}
 use Rattle.apd_session.specs.Steps.{Method, by_loop, by_missing, by_wrong, first_word, situation, talker}
 
 -- where a question of a diagnosis waits, the session hears a line as a reply to it
@@ -70,3 +74,26 @@ module _ {D E : Type 0} (d : Method D E) (hears : HearsFor d) (this : Diagnosis 
         named = λ t. found_named t result went known;
         replies = replies_kept this entry IsKnown keeps_entry (dialogue_step s k r) (conversing s k r) (at store x from) pairs_now to result went known replies;
       }
+
+module _ {D E : Type 0} (d : Method D E) (this : Diagnosis D E) (x : D) (now : Answered) (p q : Moment) (result : Result E AskEnd) (over : (q.over ≡ p.over) × (q.spoken.over ≡ p.spoken.over)) where
+  over_references : (his : Replies) (before : Answered) → Diagnoses d his this x before now (bare_at p) (bare_at q) result → Diagnoses d his this x before now p q result
+  over_references his before is = record {
+    keeps = record {
+      names = is.keeps.names;
+      few = is.keeps.few;
+      ops = is.keeps.ops;
+      over = over;
+      sound = is.keeps.sound;
+    };
+    keeps_place = is.keeps_place;
+    course = is.course;
+    named = is.named;
+    replies = is.replies;
+  }
+
+  -- a diagnosis at a desk goes as it does over what the desk lends
+  pub at_a_desk : (his first : Replies) (before at_first : Answered) (console : Kept) (left : Left) (reads : ℕ) (spoken : Spoken) →
+      his ≡ first → before ≡ at_first → console ≡ p.console → left ≡ p.left → reads ≡ p.read_faults → spoken ≡ bare p.spoken →
+      Diagnoses d his this x before now (record { console = console; left = left; read_faults = reads; spoken = spoken; over = (0, (0, 0)) }) (bare_at q) result → Diagnoses d first this x at_first now p q result
+  at_a_desk his first before at_first console left reads spoken his_are before_is console_is left_is reads_are spoken_is is =
+      over_references first at_first (rw (his_are, before_is, console_is, left_is, reads_are, spoken_is) at is)

@@ -23,7 +23,6 @@ use Rattle.apd_answers.specs.Store.{Store, with_pair}
 use Rattle.apd_answers.specs.Dialogue.{Turn, asks, goes, ends, next_turn}
 use Rattle.apd_base.specs.Counts.{risen}
 use Rattle.apd_answers.specs.Questions.{FitsAsked}
-use Rattle.apd_answers.specs.Repliers.{RepliesFit}
 use Rattle.apd_divide.specs.declared.node.Strategy.{Strategy}
 use Rattle.apd_divide.specs.Recorded.{tree}
 use Rattle.apd_loop.specs.Loop.{left_in, loop_start}

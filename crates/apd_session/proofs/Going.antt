@@ -24,6 +24,7 @@ pub record IsGoing (s t : State) (p q : Moment) : Type 0 where
   pub names : Grown p.spoken.log.names q.spoken.log.names
   pub few : length q.spoken.log.names + room_of q.console ≤ length p.spoken.log.names + room_of p.console
   pub ops : q.spoken.log.ops ≡ p.spoken.log.ops
+  pub over : (q.over ≡ p.over) × (q.spoken.over ≡ p.spoken.over)
   pub can : CanConverse t q
 
 pub IsGoing-start : (s : State) (p : Moment) → CanConverse s p → IsGoing s s p p
@@ -32,6 +33,7 @@ IsGoing-start s p can = record {
   names = Grown-self p.spoken.log.names;
   few = omega arith;
   ops = refl;
+  over = (refl, refl);
   can = can;
 }
 
@@ -40,6 +42,7 @@ keeps_more s t p q r first second = record {
   names = Grown-more p.spoken.log.names q.spoken.log.names r.spoken.log.names first.names second.names;
   few = let a = first.few in let b = second.few in omega (arith, a, b);
   ops = second.ops ∙ first.ops;
+  over = (second.over.0 ∙ first.over.0, second.over.1 ∙ first.over.1);
   sound = second.sound;
 }
 
@@ -52,6 +55,7 @@ IsGoing-more s t r p q m before turn = record {
   names = (keeps_more s t p q m before turn.leads.keeps).names;
   few = (keeps_more s t p q m before turn.leads.keeps).few;
   ops = (keeps_more s t p q m before turn.leads.keeps).ops;
+  over = (keeps_more s t p q m before turn.leads.keeps).over;
   can = record {
     ready = turn.leads.ready;
     room = let a = before.can.room in let b = turn.leads.keeps.few in omega (arith, a, b);
@@ -91,7 +95,7 @@ can_begin s p ready few start =
     record { ready = ready; room = omega (arith, few, room); few = omega (arith, room); sound = kept_at_first p.console start }
 
 -- what is said before the first line, and then the lines of the input
-module _ (start : Start) (p m : Moment) (console : m.console ≡ p.console) (left : m.left ≡ p.left) (reads : m.read_faults ≡ p.read_faults) where
+module _ (start : Start) (p m : Moment) (console : m.console ≡ p.console) (left : m.left ≡ p.left) (reads : m.read_faults ≡ p.read_faults) (over : m.over ≡ p.over) where
   pub opens : {T : Type 0} (t : T) (q : Moment) (result : Result Ending Trouble) → Says (λ ops names. beginning_said ops names start.beginning) p.spoken m.spoken (Ok t) →
       Converses (conversation start.state) m q result → Converses (opening start) p q result
   opens t q result says rest = record {
@@ -99,6 +103,7 @@ module _ (start : Start) (p m : Moment) (console : m.console ≡ p.console) (lef
       names = subst (λ (l : List (List ℕ)). Grown l q.spoken.log.names) says.names rest.keeps.names;
       few = let a = rest.keeps.few in let e : length m.spoken.log.names ≡ length p.spoken.log.names = ap length says.names in let r : room_of m.console ≡ room_of p.console = ap room_of console in omega (arith, a, e, r);
       ops = rest.keeps.ops ∙ says.ops;
+      over = (rest.keeps.over.0 ∙ over, rest.keeps.over.1 ∙ says.over);
       sound = rest.keeps.sound;
     };
     course = λ names grew reader.
@@ -118,6 +123,7 @@ module _ (start : Start) (p m : Moment) (console : m.console ≡ p.console) (lef
       names = Grown-same p.spoken.log.names m.spoken.log.names says.names;
       few = let l : length m.spoken.log.names ≡ length p.spoken.log.names = ap length says.names in let r : room_of m.console ≡ room_of p.console = ap room_of console in omega (arith, l, r);
       ops = says.ops;
+      over = (over, says.over);
       sound = rw console sound;
     };
     course = λ names grew reader.

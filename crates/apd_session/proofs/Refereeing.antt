@@ -1,5 +1,5 @@
 -- Who is asked before the user, by what the file of a reference program gives.
-use Rattle.std.proofs.Common.{◌≡◌, ◌≢◌, ℕ, suc, ◌<◌, ◌≤◌, List, [], ◌∷◌, length, refl, ap, sym, ◌∙◌, arith, Bool, true, false, Option, Some, None, subst}
+use Rattle.std.proofs.Common.{◌≡◌, ℕ, suc, ◌<◌, ◌≤◌, List, [], ◌∷◌, length, refl, ap, sym, ◌∙◌, arith, Bool, true, false, Option, Some, None, subst}
 use Rattle.std.specs.Prelude.{IfOk, Result, Ok, Err, if◌then◌else◌, nat_lt}
 use Rattle.std.proofs.Math.Dec.{leb}
 use Rattle.std.proofs.lemmas.Bool.{le-leb, lt-leb}
@@ -22,7 +22,6 @@ use Rattle.apd_session.specs.declared.opening.Reviewed.{Reviewed}
 use Rattle.apd_session.specs.declared.opening.Stop.{Stop}
 use Rattle.apd_session.specs.declared.referring.Referring.{Referring}
 use Rattle.apd_session.specs.declared.referring.Referring.TheVariants.{Asks, Stops}
-use Rattle.apd_session.specs.declared.status.Status.TheVariants as status
 use Rattle.apd_term.specs.Growth.{Grown}
 use Rattle.apd_term.specs.Named.{AllTuplesNamed}
 use Rattle.apd_term.specs.StandardNames.{standard_names}

@@ -26,6 +26,7 @@ says_later f g p q (Ok t) same says = record {
   front = tt;
   names = says.names;
   ops = says.ops;
+  over = says.over;
   cause = says.cause;
 }
 says_later f g p q (Err e) same says = record {
@@ -33,6 +34,7 @@ says_later f g p q (Err e) same says = record {
   front = λ names grew. subst (λ (us : List (Utterance Entry)). UttersFront begun p.log.entries.list q.log.entries.list p.held q.held us) (same names grew) (says.front names grew);
   names = says.names;
   ops = says.ops;
+  over = says.over;
   cause = says.cause;
 }
 

@@ -9,7 +9,7 @@ use Rattle.apd_account.specs.Telling.{Telling, Runs, Begins, Asks, Replies, Find
 use Rattle.apd_account.proofs.Diagnosing.{question-is, replied-is}
 use Rattle.apd_answers.specs.Dialogue.{Diagnosis, Turn, asks, goes, ends, next_turn, pursued, settled, unless_decided}
 use Rattle.apd_answers.specs.Interpretation.{Interpretation}
-use Rattle.apd_answers.specs.Questions.{Fits}
+use Rattle.apd_answers.specs.Questions.{Fits, is_yes}
 use Rattle.apd_answers.specs.Store.{Store, decided, with_pair}
 use Rattle.apd_answers.specs.declared.finding.Finding.{Finding}
 use Rattle.apd_answers.specs.declared.question.Asked.{Asked}
@@ -20,7 +20,7 @@ use Rattle.apd_clauses.specs.declared.clause.Clause.{Clause}
 use Rattle.apd_divide.specs.Choice.{Cut, choice}
 use Rattle.apd_divide.specs.Tree.{Tree, label}
 use Rattle.apd_divide.specs.declared.node.Strategy.{Strategy}
-use Rattle.apd_loop.specs.Loop.{Looping, whole, between, descending, rising, denied, within, below, by_yes, earlier_goals, inside, is_yes, left_in, loop, turn_in}
+use Rattle.apd_loop.specs.Loop.{Looping, whole, between, descending, rising, denied, within, below, by_yes, earlier_goals, inside, left_in, loop, turn_in}
 use Rattle.apd_loop.specs.declared.LoopEnd.{LoopEnd}
 use Rattle.apd_loop.specs.declared.LoopEnd.TheVariants as loop_ends
 use Rattle.apd_missing.specs.Missing.{missing}

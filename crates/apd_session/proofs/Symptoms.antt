@@ -25,7 +25,7 @@ use Rattle.apd_debug.specs.NamedTrees.{AllPointsNamed, RecordIsNamed}
 use Rattle.apd_debug.specs.Stand.{ready}
 use Rattle.apd_debug.specs.Steps.{says_before}
 use Rattle.apd_debug.proofs.Bridging.{Diagnosed-more}
-use Rattle.apd_debug.proofs.LastWords.{Breaks-before, Talks-before, last_on, said_at}
+use Rattle.apd_debug.proofs.LastWords.{Breaks-before, Talks-before, last_on}
 use Rattle.apd_debug.proofs.NamedTrees.{run_record-named}
 use Rattle.apd_divide.specs.Exits.{IsLabelled, IsUserExit}
 use Rattle.apd_divide.specs.Recorded.{tree}
@@ -44,8 +44,8 @@ use Rattle.apd_loop.specs.declared.LoopEnd.TheVariants as loop_ends
 use Rattle.apd_symptoms.specs.Chains.{stopped_chain}
 use Rattle.apd_symptoms.specs.Symptoms.{exit_of, line_found}
 use Rattle.apd_symptoms.specs.Unanswered.{unanswered_box}
-use Rattle.apd_talk.specs.Moment.{Keeps, Moment, place}
-use Rattle.apd_talk.specs.Speech.{Says, Speech, Spoken, one, plain}
+use Rattle.apd_talk.specs.Moment.{Keeps, Moment, place, saying}
+use Rattle.apd_talk.specs.Speech.{Says, Spoken, Stays, one, plain}
 use Rattle.apd_talk.specs.Talk.{Meaning, Place, Talks, after_step}
 use Rattle.apd_talk.specs.declared.talk.Next.{Next}
 use Rattle.apd_talk.specs.declared.talk.Next.TheVariants.{Goes}
@@ -109,13 +109,14 @@ point_named n [] i p there named = absurd (cc)
 point_named n (x ∷ ps) zero p there named = let same : x ≡ p = cc in subst (λ (y : Point). TupleIsNamed n y.tuple) same named.0
 point_named n (x ∷ ps) (suc i) p there named = point_named n ps i p there named.1
 
--- saying the last words keeps names and operators
-last_keeps_end : (b : Bool) (end : AskEnd) (p q : Spoken) (result : Result Next Trouble) → SaysEndIf b end p q result → (q.log.names ≡ p.log.names) × (q.log.ops ≡ p.log.ops)
-last_keeps_end true end p q result (says, next) = (says.names, says.ops)
-last_keeps_end false end p q result (same, next) = (ap (λ (s : Spoken). s.log.names) same, ap (λ (s : Spoken). s.log.ops) same)
+-- saying the last words keeps names and operators, and the references
+last_keeps_end : (b : Bool) (end : AskEnd) (p q : Spoken) (result : Result Next Trouble) → SaysEndIf b end p q result → Stays p q
+last_keeps_end true end p q result (says, next) = record { names = says.names; ops = says.ops; over = says.over }
+last_keeps_end false end p q result (same, next) =
+    record { names = ap (λ (s : Spoken). s.log.names) same; ops = ap (λ (s : Spoken). s.log.ops) same; over = ap (λ (s : Spoken). s.over) same }
 
-pub last_keeps : {E : Type 0} (found : E → Entry) (answer : Result E AskEnd) (p q : Spoken) (result : Result Next Trouble) → SaysLast found answer p q result → (q.log.names ≡ p.log.names) × (q.log.ops ≡ p.log.ops)
-last_keeps found (Ok e) p q result (says, next) = (says.names, says.ops)
+pub last_keeps : {E : Type 0} (found : E → Entry) (answer : Result E AskEnd) (p q : Spoken) (result : Result Next Trouble) → SaysLast found answer p q result → Stays p q
+last_keeps found (Ok e) p q result (says, next) = record { names = says.names; ops = says.ops; over = says.over }
 last_keeps found (Err end) p q result says = last_keeps_end (is_said end) end p q result says
 
 -- a diagnosis after what was said before it
@@ -137,16 +138,17 @@ module _ {D E : Type 0} (d : Method D E) (s : State) (command : Command) (what :
   abbrev replied : Store
   replied = with_told s.replies what
 
-  keeps_said : {T : Type 0} (result : Result T Trouble) → Says (one symptom) p.spoken said result → Keeps p (said_at p said)
+  keeps_said : {T : Type 0} (result : Result T Trouble) → Says (one symptom) p.spoken said result → Keeps p (saying p said)
   keeps_said result says = record {
     names = Grown-same p.spoken.log.names said.log.names says.names;
     few = let l : length said.log.names ≡ length p.spoken.log.names = ap length says.names in omega (arith, l);
     ops = says.ops;
+    over = (refl, says.over);
     sound = sound;
   }
 
   -- it wasn't said to its end
-  pub symptom_breaks : {T : Type 0} (t : State) (trouble : Trouble) → Says {T = T} (one symptom) p.spoken said (Err trouble) → Leads (obeying s command) t p (said_at p said) (Err trouble)
+  pub symptom_breaks : {T : Type 0} (t : State) (trouble : Trouble) → Says {T = T} (one symptom) p.spoken said (Err trouble) → Leads (obeying s command) t p (saying p said) (Err trouble)
   symptom_breaks {T} t trouble says = record {
     keeps = keeps_said {T = T} (Err trouble) says;
     course = λ names grew reader.
@@ -160,47 +162,48 @@ module _ {D E : Type 0} (d : Method D E) (s : State) (command : Command) (what :
 
   -- it was said, and so was what the diagnosis came to
   pub symptom_leads : (this : Diagnosis D E) → d.diagnosis s ≡ this → (u : Unit {0}) (q : Moment) (last : Spoken) (now : Answered) (answer : Result E AskEnd) (result : Result Next Trouble) → Says (one symptom) p.spoken said (Ok u) →
-      Diagnoses d (first_word s.referee) this x (answered replied s.asked) now (said_at p said) q answer → SaysLast (d.found s) answer q.spoken last result →
-      IsPrepared (length p.spoken.log.names) s → Leads (obeying s command) (with_answers s now) p (said_at q last) result
+      Diagnoses d (first_word s.referee) this x (answered replied s.asked) now (saying p said) q answer → SaysLast (d.found s) answer q.spoken last result →
+      IsPrepared (length p.spoken.log.names) s → Leads (obeying s command) (with_answers s now) p (saying q last) result
   symptom_leads this same u q last now answer result says diagnosis concludes prepared =
       let kept = last_keeps (d.found s) answer q.spoken last result concludes in
       let grew_to : Grown p.spoken.log.names q.spoken.log.names = subst (λ (l : List (List ℕ)). Grown l q.spoken.log.names) says.names diagnosis.keeps.names in
-      let grew_last : Grown p.spoken.log.names last.log.names = subst (λ (l : List (List ℕ)). Grown p.spoken.log.names l) (sym kept.0) grew_to in
+      let grew_last : Grown p.spoken.log.names last.log.names = subst (λ (l : List (List ℕ)). Grown p.spoken.log.names l) (sym kept.names) grew_to in
       record {
         keeps = record {
           names = grew_last;
           few =
-              let l : length last.log.names ≡ length q.spoken.log.names = ap length kept.0 in
+              let l : length last.log.names ≡ length q.spoken.log.names = ap length kept.names in
               let m : length said.log.names ≡ length p.spoken.log.names = ap length says.names in
               let d = diagnosis.keeps.few in omega (arith, l, m, d);
-          ops = kept.1 ∙ diagnosis.keeps.ops ∙ says.ops;
+          ops = kept.ops ∙ diagnosis.keeps.ops ∙ says.ops;
+          over = (diagnosis.keeps.over.0, kept.over ∙ diagnosis.keeps.over.1 ∙ says.over);
           sound = diagnosis.keeps.sound;
         };
         course = λ names grew reader.
             let ops : Table = p.spoken.log.ops in
-            let on : Grown q.spoken.log.names names = subst (λ (l : List (List ℕ)). Grown l names) kept.0 grew in
+            let on : Grown q.spoken.log.names names = subst (λ (l : List (List ℕ)). Grown l names) kept.names grew in
             let grown : Grown p.spoken.log.names names = Grown-more p.spoken.log.names q.spoken.log.names names grew_to on in
             let st = carries_on d ops names s replied s.asked x in
-            let first : Talks (after_step (talker reader ops) (says_before (plain ops names symptom ∷ []) st)) (place p) (place (said_at p said)) (after_step (talker reader ops) st) =
+            let first : Talks (after_step (talker reader ops) (says_before (plain ops names symptom ∷ []) st)) (place p) (place (saying p said)) (after_step (talker reader ops) st) =
             Talks-before (talker reader ops) p said (plain ops names symptom ∷ []) st says.cause (says.all names grown) in
             let second = subst (λ (o : Table). Diagnosed (d.diagnosis s) (d.found s) (situation d s) o names (talker reader o)
-            (after_step (talker reader o) (carries_on d o names s replied s.asked x)) (place (said_at p said)) (place q) now.store now.asked answer) says.ops (diagnosis.course names on reader s refl same) in
+            (after_step (talker reader o) (carries_on d o names s replied s.asked x)) (place (saying p said)) (place q) now.store now.asked answer) says.ops (diagnosis.course names on reader s refl same) in
             rw (is ops names)
             (last_on (d.diagnosis s) (d.found s) (situation d s) ops names (talker reader ops) (after_step (talker reader ops) (says_before (plain ops names symptom ∷ []) st)) (place p) q last now.store now.asked
             (diagnosis.keeps.ops ∙ says.ops) on answer result
-            (diagnosed_after d reader ops s _ (after_step (talker reader ops) st) (place p) (place (said_at p said)) (place q) now.store now.asked answer first second) concludes);
+            (diagnosed_after d reader ops s _ (after_step (talker reader ops) st) (place p) (place (saying p said)) (place q) now.store now.asked answer first second) concludes);
         ready = leads_ready (with_answers s now) last.log.names result record {
           ready = IsReady-more (length p.spoken.log.names) (length last.log.names) (with_answers s now) (Grown-length p.spoken.log.names last.log.names grew_last) (ready_answered (length p.spoken.log.names) s now prepared.ready);
-          replies = rw kept.0 diagnosis.replies;
+          replies = rw kept.names diagnosis.replies;
           referee = let known = prepared.referee in let l = Grown-length p.spoken.log.names last.log.names grew_last in omega (arith, known, l);
         };
       }
 
 -- a command that is refused
-pub refused_leads : (s : State) (command : Command) (r : Refusal) (p q : Moment) → q.console ≡ p.console → q.left ≡ p.left → q.read_faults ≡ p.read_faults → ((ops : Table) (names : List (List ℕ)) → command_step ops names s command ≡ refused ops names s r) →
+pub refused_leads : (s : State) (command : Command) (r : Refusal) (p q : Moment) → q.console ≡ p.console → q.left ≡ p.left → q.read_faults ≡ p.read_faults → q.over ≡ p.over → ((ops : Table) (names : List (List ℕ)) → command_step ops names s command ≡ refused ops names s r) →
     IsKept p.console → (result : Result Next Trouble) → Says (one (Refused r)) p.spoken q.spoken result → IfOk result (λ n. n ≡ Goes) → IsPrepared (length p.spoken.log.names) s → Leads (obeying s command) s p q result
-refused_leads s command r p q console left reads is sound result says goes ready_before =
-    let leads = leads_by (λ ops names. refused ops names s r) p q console left reads sound s result says goes (λ ops names. refl) (λ ops names. refl) ready_before in
+refused_leads s command r p q console left reads over is sound result says goes ready_before =
+    let leads = leads_by (λ ops names. refused ops names s r) p q console left reads over sound s result says goes (λ ops names. refl) (λ ops names. refl) ready_before in
     record { keeps = leads.keeps; course = λ names grew reader. rw (is p.spoken.log.ops names) (leads.course names grew reader); ready = leads.ready }
 
 -- the last words of a diagnosis without a finding
@@ -219,24 +222,6 @@ says_found program f line p q u is says = (Says-ok (one (found_in program f)) p 
 
 pub front_found : {U : Type 0} (program : List Clause) (f : Finding) (line : ℕ) (p q : Spoken) (t : Trouble) → line ≡ line_found program f → Says {T = U} (one (Found f line)) p q (Err t) → SaysLast (found_in program) (Ok f) p q (Err t)
 front_found {U} program f line p q t is says = (Says-err {T = U} (one (found_in program f)) p q t (subst (λ (l : ℕ). Says {T = U} (one (Found f l)) p q (Err t)) is says), tt)
-
--- what was said from m was said from p, where they differ by nothing that is said
-pub Says-from : {T : Type 0} (speech : Speech) (p m q : Spoken) (result : Result T Trouble) → m.log.entries.list ≡ p.log.entries.list → m.held ≡ p.held → m.log.names ≡ p.log.names → m.log.ops ≡ p.log.ops → m.write_faults ≡ p.write_faults →
-    Says speech m q result → Says speech p q result
-Says-from speech p m q (Ok t) entries held same ops faults says = record {
-  all = λ names grew. rw (← entries, ← held, ← ops) (says.all names (rw same grew));
-  front = tt;
-  names = says.names ∙ same;
-  ops = says.ops ∙ ops;
-  cause = rw (← faults) says.cause;
-}
-Says-from speech p m q (Err e) entries held same ops faults says = record {
-  all = tt;
-  front = λ names grew. rw (← entries, ← held, ← ops) (says.front names (rw same grew));
-  names = says.names ∙ same;
-  ops = says.ops ∙ ops;
-  cause = rw (← faults) says.cause;
-}
 
 -- what is known of the last run
 pub run_kept : (n : ℕ) (s : State) (run : LastRun) → s.last ≡ Some run → IsReady n s → IsRunOf n s run

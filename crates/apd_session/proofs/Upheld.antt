@@ -54,7 +54,7 @@ use Rattle.apd_session.specs.Opening.{beginning_said, course_of, first_state, fu
 use Rattle.apd_session.specs.Roles.{Role, FileLoad, KnownReplies, Reference}
 use Rattle.apd_session.specs.Roles as roles
 use Rattle.apd_session.specs.Session.{World, transcript_of}
-use Rattle.apd_session.specs.Written.{WroteWhatHolds, AreKept, CanBeChecked, IsHeard, said_in}
+use Rattle.apd_session.specs.Written.{WroteWhatHolds, AreKept, CanBeChecked, IsHeard, uttered_in}
 use Rattle.apd_session.specs.Steps.{Situation, Waiting, ForCommand, ForWrong, ForMissing, ForLoop, by_loop, by_missing, by_wrong, command_step, query_said, ready_in, remarks, step_for, store_said, talker, warnings_for}
 use Rattle.apd_session.specs.declared.notes.Noted.{Noted}
 use Rattle.apd_session.specs.declared.notes.Noted.TheVariants as noted
@@ -92,7 +92,7 @@ use Rattle.apd_written.specs.Proper.{AreProperGoals}
 use Rattle.apd_written.proofs.Conditions.{all-written}
 use Rattle.apd_written.specs.Says.{Says}
 use Rattle.apd_written.specs.Texts.{AreAllowed, IsShort}
-use Rattle.apd_written.specs.Uttered.{AllUttered, AllWritten, AreCallsApart, IsPlainEntry}
+use Rattle.apd_written.specs.Uttered.{AllUttered, AllWritten, IsPlainEntry}
 use Rattle.apd_written.proofs.Uttered.{texts-say}
 
 none_more : (n : ℕ) → 0 + n ≡ n
@@ -300,20 +300,20 @@ module _ {names : List (List ℕ)} (reader : Reader names) (all : AreNames names
   askable-gives (Tree t) may known = absurd may
 
   abbrev Holds : List Clause → Table → Store → List (Utterance Entry) → Type 0
-  Holds program ops known us = LeavesMeanings ops → AreCallsApart ops names (entries_of us) → AreRunsInSize (entries_of us) → AllSayable ops names (entries_of us) → IsShort (texts_of us)
+  Holds program ops known us = LeavesMeanings ops → AreRunsInSize (entries_of us) → AllSayable ops names (entries_of us) → IsShort (texts_of us)
       → IsCheckOf program ops reader known (texts_of us) (checked.Holds (count_found (all_claims (entries_of us))))
 
   fine-holds : (program : List Clause) (strategy : Strategy) (ops : Table) (known : Store) (given : Question → Option Reply) (us : List (Utterance Entry)) → IsProgram program → IsTable ops → AllFit known → AreLinedBy (1 + MAX_FILE) program
       → AllTuplesNamed (length names) (tuples_of program) → AreReplies (length names) known → GiveNames (length names) given → IsFine program strategy names ops (account_with given known) us
       → AreRight nothing_intended program strategy (account_with given known) (entries_of us) → Holds program ops known us
-  fine-holds program strategy ops known given us is table fit lined named are gives f right meanings apart in_size sayable short =
+  fine-holds program strategy ops known given us is table fit lined named are gives f right meanings in_size sayable short =
       let standard = standard_few names all.standard in
       let own = begun-own program is strategy given known fit in
       let fairly = all-fair program is strategy nothing_intended (account_with given known) (entries_of us) own right f.in_turn in_size in
       let kept = all-named (length names) standard program is named strategy nothing_intended (account_with given known) (entries_of us) own (begun-named (length names) standard program is named strategy given known are gives) right f.in_turn in_size f.given in
       let numbered = all-numbered program is lined strategy nothing_intended ops names (account_with given known) (entries_of us) own right f.in_turn in_size tt sayable in
       let written : AllWritten ops names (entries_of us) = all-written ops names standard meanings (entries_of us) fairly.proper kept numbered sayable in
-      let said : Says reader ops (texts_of us) (all_claims (entries_of us)) = texts-say reader ops program us table all f.uttered written apart short in
+      let said : Says reader ops (texts_of us) (all_claims (entries_of us)) = texts-say reader ops program us table all f.uttered written short in
       let stands : Corresponds (account_with given known) (at_first known) = record { query = refl; history = refl; known = record { pairs = refl; trust = refl }; waits = tt } in
       let good : AreGood program (at_first known) (all_claims (entries_of us)) = entries-good program strategy nothing_intended (account_with given known) (at_first known) (entries_of us) stands right fairly.fair f.in_turn in
       subst (λ k. IsChecked program (at_first known) 0 (said_from reader ops false 1 (lines_of (texts_of us))) (checked.Holds k)) (none_more (count_found (all_claims (entries_of us))))
@@ -378,7 +378,7 @@ module _ {names : List (List ℕ)} (reader : Reader names) (all : AreNames names
   opening-holds files words = opening_has HoldsFor reader files (λ why last. tt) (λ ops b why table last. tt) opened-holds words
 
   written-holds : (words : List (List ℕ)) (world : World) → (x : IsHeard words reader world) → AreKept reader world.input world.ends x.ops x.start
-      → Holds x.start.state.program x.ops x.start.state.replies (said_in words reader world)
+      → Holds x.start.state.program x.ops x.start.state.replies (uttered_in words reader world)
   written-holds words world x kept =
       let allowed = subst Allows x.opens (opening-allows world.files words) in
       let known = subst OpeningMay x.opens (opening-may reader world.files (options_of words)) in
@@ -388,4 +388,4 @@ module _ {names : List (List ℕ)} (reader : Reader names) (all : AreNames names
 
 -- the law
 pub checked-holds : {names : List (List ℕ)} (reader : Reader names) (words : List (List ℕ)) (world : World) → WroteWhatHolds words reader world
-checked-holds reader words world all x = written-holds reader all words world x.heard x.kept x.meanings x.apart x.in_size x.sayable x.short
+checked-holds reader words world all x = written-holds reader all words world x.heard x.kept x.meanings x.in_size x.sayable x.short

@@ -4,6 +4,7 @@ use Rattle.apd_io.specs.Outside.{Left, Rose}
 use Rattle.apd_io.specs.declared.files.Files.{Ghosts as FilesGhosts}
 use Rattle.apd_io.specs.declared.source.Source.{Ghosts as SourceGhosts}
 use Rattle.apd_io.specs.declared.sink.Sink.{Ghosts as SinkGhosts}
+use Rattle.apd_talk.specs.Speech.{Spoken}
 
 -- of the input and the output: what is left and was taken, and what is held
 pub record Streams : Type 0 where
@@ -25,6 +26,15 @@ module _ {S K : Type 0} (source : SourceGhosts S) (sink : SinkGhosts K) where
 module _ {F S K : Type 0} (disk : FilesGhosts F) (source : SourceGhosts S) (sink : SinkGhosts K) where
   abbrev pub outside : F → S → K → Outside
   outside files input out = record { content = disk.content files; load_faults = disk.faults files; streams = streams source sink input out }
+
+-- the same where a voice has said what was said
+module _ {S : Type 0} (source : SourceGhosts S) where
+  abbrev pub streams_by : S → Spoken → Streams
+  streams_by input said = record { left = source.left input; read_faults = source.faults input; held = said.held; write_faults = said.write_faults }
+
+module _ {F S : Type 0} (disk : FilesGhosts F) (source : SourceGhosts S) where
+  abbrev pub outside_by : F → S → Spoken → Outside
+  outside_by files input said = record { content = disk.content files; load_faults = disk.faults files; streams = streams_by source input said }
 
 -- a call failed in between
 abbrev pub LoadFailed : Outside → Outside → Type 0

@@ -30,7 +30,6 @@ use Rattle.apd_upheld.specs.Good.{count_found}
 use Rattle.apd_written.specs.Claims.{all_claims}
 use Rattle.apd_written.specs.Conditions.{AllSayable, LeavesMeanings}
 use Rattle.apd_written.specs.Texts.{IsShort}
-use Rattle.apd_written.specs.Uttered.{AreCallsApart}
 
 -- the words and the files are such that the lines of the input are heard: with these operators, and from this start
 pub record IsHeard {names : List (List ℕ)} (words : List (List ℕ)) (reader : Reader names) (world : World) : Type 0 where
@@ -51,24 +50,22 @@ pub record AreKept {names : List (List ℕ)} (reader : Reader names) (input : Li
   pub referee : names_known start.state.referee ≤ length names
   pub lines : AllByRecursion (λ (line : Line). LineIsNamed (length names) (line_in reader ops line)) (hear MAX_INPUT input ends).lines
 
--- what a session says
-abbrev pub said_in : {names : List (List ℕ)} → List (List ℕ) → Reader names → World → List (Utterance Entry)
-said_in words reader world = (session_of words reader world).utterances
+-- what a session utters
+abbrev pub uttered_in : {names : List (List ℕ)} → List (List ℕ) → Reader names → World → List (Utterance Entry)
+uttered_in words reader world = (session_of words reader world).utterances
 
--- Lines are heard, whose names are kept, as are those of all that was read. The program leaves some names their
--- meanings, and where a call was found that isn't below its caller, `box` is no prefix operator. No run's query became too large; what
--- was said has few levels and the numbers of symbols; and it is no longer than a file may be.
+-- Lines are heard, whose names are kept, as are those of all that was read. The program leaves some names their meanings. No run's
+-- query became too large; what was said has few levels and the numbers of symbols; and it is no longer than a file may be.
 pub record CanBeChecked {names : List (List ℕ)} (words : List (List ℕ)) (reader : Reader names) (world : World) : Type 0 where
   pub heard : IsHeard words reader world
   pub kept : AreKept reader world.input world.ends heard.ops heard.start
   pub meanings : LeavesMeanings heard.ops
-  pub apart : AreCallsApart heard.ops names (entries_of (said_in words reader world))
-  pub in_size : AreRunsInSize (entries_of (said_in words reader world))
-  pub sayable : AllSayable heard.ops names (entries_of (said_in words reader world))
-  pub short : IsShort (texts_of (said_in words reader world))
+  pub in_size : AreRunsInSize (entries_of (uttered_in words reader world))
+  pub sayable : AllSayable heard.ops names (entries_of (uttered_in words reader world))
+  pub short : IsShort (texts_of (uttered_in words reader world))
 
 -- what a session wrote holds, where it can be checked: the check of its text, for the same program, operators and known replies, finds
 -- each line good, and as many findings as its entries claim
 abbrev pub WroteWhatHolds : {names : List (List ℕ)} → List (List ℕ) → Reader names → World → Type 0
 WroteWhatHolds {names} words reader world = AreNames names → (x : CanBeChecked words reader world)
-    → IsCheckOf x.heard.start.state.program x.heard.ops reader x.heard.start.state.replies (texts_of (said_in words reader world)) (Holds (count_found (all_claims (entries_of (said_in words reader world)))))
+    → IsCheckOf x.heard.start.state.program x.heard.ops reader x.heard.start.state.replies (texts_of (uttered_in words reader world)) (Holds (count_found (all_claims (entries_of (uttered_in words reader world)))))

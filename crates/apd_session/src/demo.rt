@@ -9,7 +9,7 @@ ghost use Rattle.apd_session.specs.Demo.{clause_found, demo_lines, first_clause,
 ghost use Rattle.apd_session.specs.Outcome.{IsSaid, status_shown};
 ghost use Rattle.apd_session.specs.Preparing.{IsStart};
 ghost use Rattle.apd_session.specs.Session.{demonstrates, shows};
-ghost use Rattle.apd_talk.specs.Speech.{Lasting, Says, plain, spoken};
+ghost use Rattle.apd_talk.specs.Speech.{Lasting, Says, plain};
 ghost use Rattle.apd_term.specs.Growth.{GrowsBy};
 
 use crate::hearing::hear;
@@ -21,9 +21,9 @@ use apd_base::Text;
 use apd_demo::TreeReplier;
 use apd_io::Sink;
 use apd_reference::Referee;
-use apd_talk::{Trouble, say};
+use apd_talk::{Trouble, Voice};
 use apd_term::Instance;
-use apd_text::{Entries, Entry, Log};
+use apd_text::{Entries, Entry};
 use std::alloc::{AllocError, Global};
 use std::mem::replace;
 
@@ -102,17 +102,13 @@ fn outcome_of(nodes: u32, entries: &Entries) -> Option<Entry>
 }
 
 /// Says what a demonstration came to, where the last entry tells what was found.
-fn say_outcome<K: Sink>(
-    alloc: Global,
-    nodes: u32,
-    out: &mut K,
-    log: &mut Log,
-) -> Result<(), Trouble>
-    ensures { Says (λ ops names. map (plain ops names) (outcome_of nodes log.old.entries.list))
-        (spoken K.Sink log.old out.old) (spoken K.Sink log.new out.new) result }
+fn say_outcome<K: Sink>(nodes: u32, voice: &mut Voice<K>) -> Result<(), Trouble>
+    ensures { Says (λ ops names.
+        map (plain ops names) (outcome_of nodes voice.old.log.entries.list))
+        voice.old voice.new result }
 {
-    match outcome_of(nodes, &log.entries) {
-        Some(entry) => say(alloc, out, log, entry),
+    match outcome_of(nodes, &voice.log().entries) {
+        Some(entry) => voice.say(entry),
         None => Ok(()),
     }
 }
@@ -157,27 +153,28 @@ fn is_done(status: Status) -> bool
 
 /// Hears the lines of a demonstration, and says what it came to where they were heard.
 fn show<K: Sink>(
-    alloc: Global,
     nodes: u32,
     start: &mut Start,
     lines: &mut KnownLines,
-    out: &mut K,
-    log: &mut Log,
+    voice: &mut Voice<K>,
 ) -> Status
-    requires empty { log.old.entries.list ≡ [] }
-    requires ready { IsStart (length log.old.names) start.old }
-    requires few { length log.old.names ≤ 1000000000 }
+    requires empty { voice.old.log.entries.list ≡ [] }
+    requires ready { IsStart (length voice.old.log.names) start.old }
+    requires few { length voice.old.log.names ≤ 1000000000 }
     requires lines { lines.old.bytes ≡ Some demo_lines }
-    ensures said { Lasting log.new.names (λ names. (reader : Reader names) →
-        IsSaid result (shows reader log.old.ops nodes start.old)
-        log.new (K.held out.old) (K.held out.new)) }
-    ensures names { GrowsBy MAX_INPUT log.old.names log.new.names }
-    ensures write { result ≡ Status.WriteFault → Rose (K.faults out.old) (K.faults out.new) }
-    ensures writes { result ≢ Status.WriteFault → K.faults out.new ≡ K.faults out.old }
+    ensures said { Lasting voice.new.log.names (λ names. (reader : Reader names) →
+        IsSaid result (shows reader voice.old.log.ops nodes start.old)
+        voice.new.log voice.old.held voice.new.held) }
+    ensures names { GrowsBy MAX_INPUT voice.old.log.names voice.new.log.names }
+    ensures write { result ≡ Status.WriteFault →
+        Rose voice.old.write_faults voice.new.write_faults }
+    ensures writes { result ≢ Status.WriteFault →
+        voice.new.write_faults ≡ voice.old.write_faults }
+    ensures over { voice.new.over ≡ voice.old.over }
 {
-    let heard = hear(alloc, start, lines, out, log);
+    let heard = hear(start, lines, voice);
     if is_done(heard) {
-        return status_shown(say_outcome(alloc, nodes, out, log));
+        return status_shown(say_outcome(nodes, voice));
     }
     heard
 }
@@ -193,26 +190,23 @@ fn status_shown(shown: Result<(), Trouble>) -> Status
 }
 
 /// Demonstrates a diagnosis of the program of a tree, by the operators of the log.
-pub(crate) fn play<K: Sink>(
-    alloc: Global,
-    nodes: u32,
-    start: &mut Start,
-    out: &mut K,
-    log: &mut Log,
-) -> Status
+pub(crate) fn play<K: Sink>(nodes: u32, start: &mut Start, voice: &mut Voice<K>) -> Status
     requires nodes { IsNodeCount nodes }
-    requires empty { log.old.entries.list ≡ [] }
-    requires ready { IsStart (length log.old.names) start.old }
-    requires few { length log.old.names ≤ 1000000000 }
-    ensures said { Lasting log.new.names (λ names. (reader : Reader names) →
-        IsSaid result (demonstrates reader log.old.ops nodes start.old)
-        log.new (K.held out.old) (K.held out.new)) }
-    ensures names { GrowsBy MAX_INPUT log.old.names log.new.names }
-    ensures write { result ≡ Status.WriteFault → Rose (K.faults out.old) (K.faults out.new) }
-    ensures writes { result ≢ Status.WriteFault → K.faults out.new ≡ K.faults out.old }
+    requires empty { voice.old.log.entries.list ≡ [] }
+    requires ready { IsStart (length voice.old.log.names) start.old }
+    requires few { length voice.old.log.names ≤ 1000000000 }
+    ensures said { Lasting voice.new.log.names (λ names. (reader : Reader names) →
+        IsSaid result (demonstrates reader voice.old.log.ops nodes start.old)
+        voice.new.log voice.old.held voice.new.held) }
+    ensures names { GrowsBy MAX_INPUT voice.old.log.names voice.new.log.names }
+    ensures write { result ≡ Status.WriteFault →
+        Rose voice.old.write_faults voice.new.write_faults }
+    ensures writes { result ≢ Status.WriteFault →
+        voice.new.write_faults ≡ voice.old.write_faults }
+    ensures over { voice.new.over ≡ voice.old.over }
 {
-    match prepare_demo(alloc, nodes, start) {
-        Ok(mut lines) => show(alloc, nodes, start, &mut lines, out, log),
+    match prepare_demo(voice.alloc(), nodes, start) {
+        Ok(mut lines) => show(nodes, start, &mut lines, voice),
         Err(AllocError) => Status::Memory,
     }
 }

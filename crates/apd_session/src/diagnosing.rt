@@ -12,7 +12,7 @@ ghost use Rattle.apd_divide.specs.Exits.{IsUserExit};
 ghost use Rattle.apd_record.specs.Reading.{point_of};
 ghost use Rattle.apd_session.specs.Steps.{found_in, wrong_of};
 ghost use Rattle.apd_symptoms.specs.Symptoms.{line_found};
-ghost use Rattle.apd_talk.specs.Speech.{Says, one, spoken};
+ghost use Rattle.apd_talk.specs.Speech.{Says, one};
 ghost use Rattle.apd_term.specs.Named.{IsNamed};
 ghost use Rattle.apd_text.specs.Named.{EntryIsNamed, RefusalIsNamed, ToldIsNamed};
 
@@ -23,24 +23,19 @@ use apd_loop::LoopEnd;
 use apd_ports::PointId;
 use apd_record::Record;
 use apd_symptoms::line_found;
-use apd_talk::{Ending, Next, Trouble, say, say_kept, say_last};
+use apd_talk::{Ending, Next, Trouble, Voice};
 use apd_term::{Flat, Tuple};
 use apd_text::{Entry, Log, Refusal, Told};
 use std::alloc::{AllocError, Global};
 
 /// Says why a command is refused.
-pub(crate) fn refuse<K: Sink>(
-    alloc: Global,
-    refusal: Refusal,
-    out: &mut K,
-    log: &mut Log,
-) -> Result<Next, Trouble>
-    requires { RefusalIsNamed (length log.old.names) refusal }
+pub(crate) fn refuse<K: Sink>(refusal: Refusal, voice: &mut Voice<K>) -> Result<Next, Trouble>
+    requires { RefusalIsNamed (length voice.old.log.names) refusal }
     ensures goes { IfOk result (λ next. next ≡ Next.Goes) }
     ensures says { Says (one (Entry.Refused refusal))
-        (spoken K.Sink log.old out.old) (spoken K.Sink log.new out.new) result }
+        voice.old voice.new result }
 {
-    say(alloc, out, log, Entry::Refused { refusal })?;
+    voice.say(Entry::Refused { refusal })?;
     Ok(Next::Goes)
 }
 
@@ -72,71 +67,65 @@ fn keep_told(alloc: Global, what: &Told, replies: &mut Answers) -> Result<(), Al
 
 /// Keeps a place in the log for what is said last of a diagnosis, keeps what its symptom says, and says it.
 pub(crate) fn keep_symptom<K: Sink>(
-    alloc: Global,
     what: Told,
     replies: &mut Answers,
-    out: &mut K,
-    log: &mut Log,
+    voice: &mut Voice<K>,
 ) -> Result<(), Trouble>
-    requires { ToldIsNamed (length log.old.names) what }
-    ensures place { OnOk result (0 < log.new.entries.spare) }
+    requires { ToldIsNamed (length voice.old.log.names) what }
+    ensures place { OnOk result (0 < voice.new.log.entries.spare) }
     ensures replies { OnOk result (replies.new ≡ with_told replies.old what) }
     ensures says { Says (one (Entry.Symptom what))
-        (spoken K.Sink log.old out.old) (spoken K.Sink log.new out.new) result }
+        voice.old voice.new result }
 {
-    log.entries.reserve(1)?;
-    keep_told(alloc, &what, replies)?;
-    say_kept(alloc, out, log, Entry::Symptom { what })
+    voice.reserve(1)?;
+    keep_told(voice.alloc(), &what, replies)?;
+    voice.say_kept(Entry::Symptom { what })
 }
 
 /// Keeps such a place, and that the head of an exit isn't true, and says that; gives the head.
 pub(crate) fn keep_wrong<K: Sink>(
-    alloc: Global,
     history: &Record,
     exit: PointId,
     replies: &mut Answers,
-    out: &mut K,
-    log: &mut Log,
+    voice: &mut Voice<K>,
 ) -> Result<Flat, Trouble>
     requires user { IsUserExit history.now exit.0 }
-    requires named { IsNamed (length log.old.names) (point_of history.now exit.0).tuple.head }
+    requires named { IsNamed (length voice.old.log.names) (point_of history.now exit.0).tuple.head }
     ensures head { IfOk result (λ h. h ≡ (point_of history.now exit.0).tuple.head) }
-    ensures place { OnOk result (0 < log.new.entries.spare) }
+    ensures place { OnOk result (0 < voice.new.log.entries.spare) }
     ensures replies { OnOk result (replies.new ≡
         with_told replies.old (wrong_of history.now exit.0)) }
     ensures says { Says (one (Entry.Symptom (wrong_of history.now exit.0)))
-        (spoken K.Sink log.old out.old) (spoken K.Sink log.new out.new) result }
+        voice.old voice.new result }
 {
     let Tuple { head, .. } = history.tuple(exit)?;
     let what = Told::Wrong {
-        atom: head.copy(alloc)?,
+        atom: head.copy(voice.alloc())?,
         exit,
     };
-    keep_symptom(alloc, what, replies, out, log)?;
+    keep_symptom(what, replies, voice)?;
     Ok(head)
 }
 
 /// Keeps such a place, and that an atom is true that the box of this number didn't give, and says that.
 pub(crate) fn keep_missing<K: Sink>(
-    alloc: Global,
     atom: &Flat,
     box_no: u32,
     replies: &mut Answers,
-    out: &mut K,
-    log: &mut Log,
+    voice: &mut Voice<K>,
 ) -> Result<(), Trouble>
-    requires { IsNamed (length log.old.names) atom.now }
-    ensures place { OnOk result (0 < log.new.entries.spare) }
+    requires { IsNamed (length voice.old.log.names) atom.now }
+    ensures place { OnOk result (0 < voice.new.log.entries.spare) }
     ensures replies { OnOk result (replies.new ≡
         with_told replies.old (Told.Missing atom.now box_no)) }
     ensures says { Says (one (Entry.Symptom (Told.Missing atom.now box_no)))
-        (spoken K.Sink log.old out.old) (spoken K.Sink log.new out.new) result }
+        voice.old voice.new result }
 {
     let what = Told::Missing {
-        atom: atom.copy(alloc)?,
+        atom: atom.copy(voice.alloc())?,
         box_no,
     };
-    keep_symptom(alloc, what, replies, out, log)
+    keep_symptom(what, replies, voice)
 }
 
 /// Whether something is said after a diagnosis that ends so.
@@ -207,13 +196,13 @@ pub(crate) fn has_few_entries(log: &Log)
 }
 
 /// Says how a diagnosis without a finding ended, in the place that was kept.
-fn say_end<K: Sink>(alloc: Global, end: AskEnd, out: &mut K, log: &mut Log) -> Result<Next, Trouble>
-    requires place { 0 < log.old.entries.spare }
+fn say_end<K: Sink>(end: AskEnd, voice: &mut Voice<K>) -> Result<Next, Trouble>
+    requires place { 0 < voice.old.log.entries.spare }
     ensures { SaysEnd end
-        (spoken K.Sink log.old out.old) (spoken K.Sink log.new out.new) result }
+        voice.old voice.new result }
 {
     if is_said(end) {
-        say_last(alloc, out, log, last_entry(end))?;
+        voice.say_last(last_entry(end))?;
         return Ok(next_after(end));
     }
     Err(trouble_of(end))
@@ -221,53 +210,49 @@ fn say_end<K: Sink>(alloc: Global, end: AskEnd, out: &mut K, log: &mut Log) -> R
 
 /// Says what a diagnosis ended in, in the place that was kept.
 pub(crate) fn conclude<K: Sink>(
-    alloc: Global,
     program: &Program,
     answer: Result<Finding, AskEnd>,
-    out: &mut K,
-    log: &mut Log,
+    voice: &mut Voice<K>,
 ) -> Result<Next, Trouble>
-    requires place { 0 < log.old.entries.spare }
+    requires place { 0 < voice.old.log.entries.spare }
     requires named { IfOk answer
-        (λ f. EntryIsNamed (length log.old.names) (found_in program.now f)) }
+        (λ f. EntryIsNamed (length voice.old.log.names) (found_in program.now f)) }
     ensures { SaysLast (found_in program.now) answer
-        (spoken K.Sink log.old out.old) (spoken K.Sink log.new out.new) result }
+        voice.old voice.new result }
 {
     match answer {
         Ok(finding) => {
             let line = line_found(program, &finding);
-            say_last(alloc, out, log, Entry::Found { finding, line })?;
+            voice.say_last(Entry::Found { finding, line })?;
             Ok(Next::Goes)
         }
-        Err(end) => say_end(alloc, end, out, log),
+        Err(end) => say_end(end, voice),
     }
 }
 
 /// Says what the diagnosis of a run that doesn't end came to, with a chain of so many calls, in the place that was kept.
 pub(crate) fn conclude_loop<K: Sink>(
-    alloc: Global,
     program: &Program,
     calls: u32,
     answer: Result<LoopEnd, AskEnd>,
-    out: &mut K,
-    log: &mut Log,
+    voice: &mut Voice<K>,
 ) -> Result<Next, Trouble>
-    requires place { 0 < log.old.entries.spare }
+    requires place { 0 < voice.old.log.entries.spare }
     requires named { IfOk answer (λ e.
-        EntryIsNamed (length log.old.names) (loop_entry (line_found program.now) calls e)) }
+        EntryIsNamed (length voice.old.log.names) (loop_entry (line_found program.now) calls e)) }
     ensures { SaysLast (loop_entry (line_found program.now) calls) answer
-        (spoken K.Sink log.old out.old) (spoken K.Sink log.new out.new) result }
+        voice.old voice.new result }
 {
     match answer {
         Ok(LoopEnd::Found(finding)) => {
             let line = line_found(program, &finding);
-            say_last(alloc, out, log, Entry::Found { finding, line })?;
+            voice.say_last(Entry::Found { finding, line })?;
             Ok(Next::Goes)
         }
         Ok(LoopEnd::AllDescend) => {
-            say_last(alloc, out, log, Entry::AllDescend { calls })?;
+            voice.say_last(Entry::AllDescend { calls })?;
             Ok(Next::Goes)
         }
-        Err(end) => say_end(alloc, end, out, log),
+        Err(end) => say_end(end, voice),
     }
 }

@@ -13,50 +13,48 @@ use crate::notes::say_closing;
 use crate::opening::{Beginning, Stop};
 use crate::status::{Status, status_of};
 use apd_io::Sink;
-use apd_talk::say;
-use apd_text::Log;
-use std::alloc::Global;
+use apd_talk::Voice;
 
 /// Says one thing and ends.
-pub(crate) fn end_with<K: Sink>(alloc: Global, stop: Stop, out: &mut K, log: &mut Log) -> Status
-    requires empty { log.old.entries.list ≡ [] }
-    requires ops { log.old.ops ≡ standard_table }
-    requires stop { IsStop (length log.old.names) stop }
-    ensures said { Lasting log.old.names (λ names.
-        IsSaid result (says_one names stop) log.new (K.held out.old) (K.held out.new)) }
-    ensures names { log.new.names ≡ log.old.names }
-    ensures write { result ≡ Status.WriteFault → Rose (K.faults out.old) (K.faults out.new) }
-    ensures writes { result ≢ Status.WriteFault → K.faults out.new ≡ K.faults out.old }
+pub(crate) fn end_with<K: Sink>(stop: Stop, voice: &mut Voice<K>) -> Status
+    requires empty { voice.old.log.entries.list ≡ [] }
+    requires ops { voice.old.log.ops ≡ standard_table }
+    requires stop { IsStop (length voice.old.log.names) stop }
+    ensures said { Lasting voice.old.log.names (λ names.
+        IsSaid result (says_one names stop) voice.new.log voice.old.held voice.new.held) }
+    ensures names { voice.new.log.names ≡ voice.old.log.names }
+    ensures write { result ≡ Status.WriteFault →
+        Rose voice.old.write_faults voice.new.write_faults }
+    ensures writes { result ≢ Status.WriteFault →
+        voice.new.write_faults ≡ voice.old.write_faults }
+    ensures over { voice.new.over ≡ voice.old.over }
     ensures is { Comes result stop.status }
 {
     let Stop { said, status } = stop;
-    match say(alloc, out, log, said) {
+    match voice.say(said) {
         Ok(()) => status,
         Err(trouble) => status_of(trouble),
     }
 }
 
 /// Says what there is to say of the program and why the session ends there, and ends so.
-pub(crate) fn end_before<K: Sink>(
-    alloc: Global,
-    beginning: &Beginning,
-    stop: Stop,
-    out: &mut K,
-    log: &mut Log,
-) -> Status
-    requires empty { log.old.entries.list ≡ [] }
-    requires beginning { IsBeginning (length log.old.names) beginning.now }
-    requires stop { IsStop (length log.old.names) stop }
-    ensures said { Lasting log.old.names (λ names. IsSaid result
-        (ends_before names log.old.ops beginning.now stop)
-        log.new (K.held out.old) (K.held out.new)) }
-    ensures names { log.new.names ≡ log.old.names }
-    ensures write { result ≡ Status.WriteFault → Rose (K.faults out.old) (K.faults out.new) }
-    ensures writes { result ≢ Status.WriteFault → K.faults out.new ≡ K.faults out.old }
+pub(crate) fn end_before<K: Sink>(beginning: &Beginning, stop: Stop, voice: &mut Voice<K>) -> Status
+    requires empty { voice.old.log.entries.list ≡ [] }
+    requires beginning { IsBeginning (length voice.old.log.names) beginning.now }
+    requires stop { IsStop (length voice.old.log.names) stop }
+    ensures said { Lasting voice.old.log.names (λ names. IsSaid result
+        (ends_before names voice.old.log.ops beginning.now stop)
+        voice.new.log voice.old.held voice.new.held) }
+    ensures names { voice.new.log.names ≡ voice.old.log.names }
+    ensures write { result ≡ Status.WriteFault →
+        Rose voice.old.write_faults voice.new.write_faults }
+    ensures writes { result ≢ Status.WriteFault →
+        voice.new.write_faults ≡ voice.old.write_faults }
+    ensures over { voice.new.over ≡ voice.old.over }
     ensures is { Comes result stop.status }
 {
     let Stop { said, status } = stop;
-    match say_closing(alloc, beginning, said, out, log) {
+    match say_closing(beginning, said, voice) {
         Ok(()) => status,
         Err(trouble) => status_of(trouble),
     }

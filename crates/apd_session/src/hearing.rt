@@ -1,7 +1,7 @@
 //! The lines of the input are heard, from the first state on.
 ghost use Rattle.std.specs.Prelude.{◌≡◌, ◌≤◌, [], length};
 ghost use Rattle.apd_console.specs.Console.{fresh};
-ghost use Rattle.apd_session.specs.Known.{streams};
+ghost use Rattle.apd_session.specs.Known.{streams_by};
 ghost use Rattle.apd_session.specs.Opening.{hears};
 ghost use Rattle.apd_session.specs.Outcome.{GoesOn};
 ghost use Rattle.apd_session.specs.Preparing.{IsStart};
@@ -14,49 +14,46 @@ use crate::status::{Status, status_after, status_of};
 use crate::turns::converse;
 use apd_console::Console;
 use apd_io::{Sink, Source};
-use apd_talk::{Ending, Trouble};
-use apd_text::Log;
-use std::alloc::Global;
+use apd_talk::{Desk, Ending, Trouble, Voice};
 
 /// Says what there is to say before the first line, and hears the lines of the input.
-fn begin<S: Source, K: Sink>(
-    alloc: Global,
+fn converse_from_start<S: Source, K: Sink>(
     start: &mut Start,
-    console: &mut Console,
-    input: &mut S,
-    out: &mut K,
-    log: &mut Log,
+    desk: &mut Desk<S, K>,
 ) -> Result<Ending, Trouble>
-    requires ready { IsStart (length log.old.names) start.old }
-    requires few { length log.old.names ≤ 1000000000 }
-    requires start { console.old ≡ fresh }
+    requires ready { IsStart (length desk.old.voice.now.log.names) start.old }
+    requires few { length desk.old.voice.now.log.names ≤ 1000000000 }
+    requires start { desk.old.console.now ≡ fresh }
     ensures { Converses (opening start.old)
-        (moment S.Source K.Sink console.old input.old log.old out.old)
-        (moment S.Source K.Sink console.new input.new log.new out.new) result }
+        (moment S.Source desk.old) (moment S.Source desk.new) result }
 {
-    say_beginning(alloc, &start.beginning, out, log)?;
-    converse(alloc, &mut start.state, console, input, out, log)
+    say_beginning(&start.beginning, desk.voice)?;
+    converse(&mut start.state, desk)
 }
 
 /// Goes on with the lines of the input, by the operators of the log.
 pub(crate) fn hear<S: Source, K: Sink>(
-    alloc: Global,
     start: &mut Start,
     input: &mut S,
-    out: &mut K,
-    log: &mut Log,
+    voice: &mut Voice<K>,
 ) -> Status
-    requires empty { log.old.entries.list ≡ [] }
-    requires ready { IsStart (length log.old.names) start.old }
-    requires few { length log.old.names ≤ 1000000000 }
-    ensures { GoesOn (hears log.old.ops start.old) log.old.names
-        (streams S.Source K.Sink input.old out.old)
-        (streams S.Source K.Sink input.new out.new) log.new result }
+    requires empty { voice.old.log.entries.list ≡ [] }
+    requires ready { IsStart (length voice.old.log.names) start.old }
+    requires few { length voice.old.log.names ≤ 1000000000 }
+    ensures goes_on { GoesOn (hears voice.old.log.ops start.old) voice.old.log.names
+        (streams_by S.Source input.old voice.old)
+        (streams_by S.Source input.new voice.new) voice.new.log result }
+    ensures over { voice.new.over ≡ voice.old.over }
 {
-    let Ok(mut console) = Console::new(alloc) else {
+    let Ok(mut console) = Console::new(voice.alloc()) else {
         return Status::Memory;
     };
-    match begin(alloc, start, &mut console, input, out, log) {
+    let mut desk = Desk {
+        console: &mut console,
+        input,
+        voice,
+    };
+    match converse_from_start(start, &mut desk) {
         Ok(ending) => status_after(ending),
         Err(trouble) => status_of(trouble),
     }

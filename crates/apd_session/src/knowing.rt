@@ -5,16 +5,15 @@ ghost use Rattle.apd_debug.specs.NamedStates.{AreReplies};
 ghost use Rattle.apd_kept.specs.Law.{HasShallowStatements, ReadsBackAs};
 ghost use Rattle.apd_known.specs.declared.file.Stated.{Stated};
 ghost use Rattle.apd_session.specs.Steps.{store_said};
-ghost use Rattle.apd_talk.specs.Speech.{Says, spoken};
+ghost use Rattle.apd_talk.specs.Speech.{Says};
 ghost use Rattle.apd_text.specs.Named.{HasStandardNames};
 
 use apd_answers::Answers;
 use apd_base::Text;
 use apd_io::Sink;
 use apd_kept::known_text;
-use apd_talk::{Next, Trouble, say};
-use apd_text::{Entry, Log};
-use std::alloc::Global;
+use apd_talk::{Next, Trouble, Voice};
+use apd_text::Entry;
 
 /// Says what is known, as an oracle file.
 ///
@@ -24,22 +23,19 @@ use std::alloc::Global;
 /// # Errors
 ///
 /// [`Trouble::Memory`] where there was no memory, [`Trouble::WriteFault`] where a write failed.
-pub(crate) fn tell<K: Sink>(
-    alloc: Global,
-    replies: &Answers,
-    out: &mut K,
-    log: &mut Log,
-) -> Result<Next, Trouble>
-    requires standard { HasStandardNames (length log.old.names) }
-    requires named { AreReplies (length log.old.names) replies.now }
+pub(crate) fn tell<K: Sink>(replies: &Answers, voice: &mut Voice<K>) -> Result<Next, Trouble>
+    requires standard { HasStandardNames (length voice.old.log.names) }
+    requires named { AreReplies (length voice.old.log.names) replies.now }
     ensures goes { IfOk result (λ next. next ≡ Next.Goes) }
-    ensures back { OnOk result (HasShallowStatements log.old.ops replies.now →
-        (s : Stated) × ReadsBackAs log.old.ops log.old.names replies.now s) }
+    ensures back { OnOk result (HasShallowStatements voice.old.log.ops replies.now →
+        (s : Stated) × ReadsBackAs voice.old.log.ops voice.old.log.names replies.now s) }
     ensures says { Says (λ ops names. store_said ops names replies.now)
-        (spoken K.Sink log.old out.old) (spoken K.Sink log.new out.new) result }
+        voice.old voice.new result }
 {
+    let alloc = voice.alloc();
+    let log = voice.log();
     let mut text = Text::new(alloc);
     known_text(alloc, replies, &log.ops, &log.names, &mut text)?;
-    say(alloc, out, log, Entry::Known { text })?;
+    voice.say(Entry::Known { text })?;
     Ok(Next::Goes)
 }

@@ -3,6 +3,7 @@
 ghost use Rattle.std.specs.Prelude.{◌≡◌, length, ◌≤◌};
 ghost use Rattle.apd_commands.specs.declared.commands.Command.TheVariants as command;
 ghost use Rattle.apd_console.specs.Console.{IsKept};
+ghost use Rattle.apd_debug.specs.Asking.{SameReferences, moment_of};
 ghost use Rattle.apd_debug.specs.NamedStates.{AreReplies, IsOwnChain, MayGoOn};
 ghost use Rattle.apd_debug.specs.NamedTrees.{RecordIsNamed};
 ghost use Rattle.apd_loop.specs.Known.{IsChain};
@@ -19,7 +20,6 @@ ghost use Rattle.apd_talk.specs.Moment.{moment};
 use crate::diagnosing::{conclude_loop, has_few_entries, is_program, keep_symptom, refuse};
 use apd_answers::{Answers, AskEnd, Replier};
 use apd_base::Ids;
-use apd_console::Console;
 use apd_divide::Strategy;
 use apd_io::{Sink, Source};
 use apd_loop::{LoopEnd, diagnose_loop};
@@ -28,13 +28,11 @@ use apd_query::State;
 use apd_record::Record;
 use apd_reference::Referee;
 use apd_symptoms::stopped_chain;
-use apd_talk::{Next, Trouble};
-use apd_text::{Log, Refusal, Told};
-use std::alloc::Global;
+use apd_talk::{Desk, Next, Trouble};
+use apd_text::{Refusal, Told};
 
 /// Diagnoses a run that was within these calls, over a dialogue.
 fn diagnose_over<S: Source, K: Sink, R: Replier>(
-    alloc: Global,
     history: &Record,
     calls: &Ids,
     strategy: Strategy,
@@ -47,60 +45,60 @@ fn diagnose_over<S: Source, K: Sink, R: Replier>(
     requires own { IsOwnChain history.now calls.now }
     requires start { MayGoOn history.now calls.now (loop_start history.now calls.now) }
     requires named { RecordIsNamed (length dialogue.old.log.now.names) history.now }
-    ensures console { dialogue.new.console.ghost_name ≡ dialogue.old.console.ghost_name }
-    ensures source { dialogue.new.source.ghost_name ≡ dialogue.old.source.ghost_name }
-    ensures sink { dialogue.new.sink.ghost_name ≡ dialogue.old.sink.ghost_name }
-    ensures log { dialogue.new.log.ghost_name ≡ dialogue.old.log.ghost_name }
-    ensures replier { (dialogue.new.replier.ghost_name ≡ dialogue.old.replier.ghost_name)
-        × (dialogue.new.replier.now ≡ dialogue.old.replier.now) }
+    ensures over { SameReferences S.Source K.Sink R.Replier dialogue.old dialogue.new }
+    ensures replier { dialogue.new.replier.now ≡ dialogue.old.replier.now }
     ensures diagnoses { Diagnoses by_loop
         (replying (R.replies dialogue.old.replier.now) dialogue.old.marked)
         (loop history.now calls.now strategy)
         (loop_start history.now calls.now)
         (answered replies.old dialogue.old.asked) (answered replies.new dialogue.new.asked)
-        (moment S.Source K.Sink dialogue.old.console.now dialogue.old.source.now
-        dialogue.old.log.now dialogue.old.sink.now)
-        (moment S.Source K.Sink dialogue.new.console.now dialogue.new.source.now
-        dialogue.new.log.now dialogue.new.sink.now) result }
+        (moment_of S.Source K.Sink R.Replier dialogue.old)
+        (moment_of S.Source K.Sink R.Replier dialogue.new) result }
 {
-    let answer = diagnose_loop(alloc, history, calls, strategy, replies, dialogue);
+    let answer = diagnose_loop(dialogue.alloc, history, calls, strategy, replies, dialogue);
     has_few_entries(dialogue.log);
     answer
 }
 
 /// Diagnoses a run that was within these calls, with questions to the user where the referee has no reply.
 fn diagnose<S: Source, K: Sink>(
-    alloc: Global,
     history: &Record,
     calls: &Ids,
     strategy: Strategy,
     replies: &mut Answers,
     asked: &mut u64,
     referee: &mut Referee,
-    console: &mut Console,
-    input: &mut S,
-    out: &mut K,
-    log: &mut Log,
+    desk: &mut Desk<S, K>,
 ) -> Result<LoopEnd, AskEnd>
-    requires hear { CanHear (moment S.Source K.Sink console.old input.old log.old out.old) }
-    requires sound { IsKept console.old }
-    requires referee { names_known referee.old ≤ length log.old.names }
-    requires replies { AreReplies (length log.old.names) replies.old }
+    requires hear { CanHear (moment S.Source desk.old) }
+    requires sound { IsKept desk.old.console.now }
+    requires referee { names_known referee.old ≤ length desk.old.voice.now.log.names }
+    requires replies { AreReplies (length desk.old.voice.now.log.names) replies.old }
     requires chain { IsChain history.now calls.now }
     requires own { IsOwnChain history.now calls.now }
     requires start { MayGoOn history.now calls.now (loop_start history.now calls.now) }
-    requires named { RecordIsNamed (length log.old.names) history.now }
+    requires named { RecordIsNamed (length desk.old.voice.now.log.names) history.now }
     ensures referee { referee.new ≡ referee.old }
     ensures diagnoses { Diagnoses by_loop (first_word referee.old)
         (loop history.now calls.now strategy)
         (loop_start history.now calls.now)
         (answered replies.old asked.old) (answered replies.new asked.new)
-        (moment S.Source K.Sink console.old input.old log.old out.old)
-        (moment S.Source K.Sink console.new input.new log.new out.new) result }
+        (moment S.Source desk.old)
+        (moment S.Source desk.new) result }
 {
     let marked = referee.is_marked();
-    let mut dialogue = Dialogue::new(alloc, *asked, console, input, out, log, referee, marked);
-    let answer = diagnose_over(alloc, history, calls, strategy, replies, &mut dialogue);
+    let voice = &mut *desk.voice;
+    let mut dialogue = Dialogue::new(
+        voice.alloc,
+        *asked,
+        desk.console,
+        desk.input,
+        voice.log,
+        voice.out,
+        referee,
+        marked,
+    );
+    let answer = diagnose_over(history, calls, strategy, replies, &mut dialogue);
     *asked = dialogue.asked;
     answer
 }
@@ -120,42 +118,34 @@ fn call_count(history: &Record, calls: &Ids) -> u32
 ///
 /// [`Trouble::Memory`] where there was no memory, [`Trouble::WriteFault`] where a write failed.
 pub(crate) fn no_end<S: Source, K: Sink>(
-    alloc: Global,
     state: &mut State,
-    console: &mut Console,
-    input: &mut S,
-    out: &mut K,
-    log: &mut Log,
+    desk: &mut Desk<S, K>,
 ) -> Result<Next, Trouble>
     requires { CanConverse state.old
-        (moment S.Source K.Sink console.old input.old log.old out.old) }
+        (moment S.Source desk.old) }
     ensures { Leads (obeying state.old command.Loop) state.new
-        (moment S.Source K.Sink console.old input.old log.old out.old)
-        (moment S.Source K.Sink console.new input.new log.new out.new) result }
+        (moment S.Source desk.old)
+        (moment S.Source desk.new) result }
 {
     let Some(run) = &state.last else {
-        return refuse(alloc, Refusal::NoRun, out, log);
+        return refuse(Refusal::NoRun, desk.voice);
     };
     let history = &run.history;
     let calls = match stopped_chain(history, run.end)? {
         Ok(calls) => calls,
-        Err(refusal) => return refuse(alloc, refusal, out, log),
+        Err(refusal) => return refuse(refusal, desk.voice),
     };
     is_program(&state.program);
     let count = call_count(history, &calls);
-    keep_symptom(alloc, Told::NoEnd(count), &mut state.replies, out, log)?;
+    keep_symptom(Told::NoEnd(count), &mut state.replies, desk.voice)?;
     let answer = diagnose(
-        alloc,
         history,
         &calls,
         state.strategy,
         &mut state.replies,
         &mut state.asked,
         &mut state.referee,
-        console,
-        input,
-        out,
-        log,
+        desk,
     );
-    conclude_loop(alloc, &state.program, count, answer, out, log)
+    conclude_loop(&state.program, count, answer, desk.voice)
 }

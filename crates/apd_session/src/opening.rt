@@ -31,7 +31,7 @@ use apd_query::State;
 use apd_reference::Referee;
 use apd_term::Names;
 use apd_text::Entry;
-use apd_words::{Asked, Subject, read_words};
+use apd_words::{Subject, Wanted, read_words};
 use std::alloc::{AllocError, Global};
 
 /// A session ends.
@@ -109,7 +109,7 @@ pub(crate) enum Opening {
 }
 
 /// The first state of a session.
-fn first_state(asked: Asked<'_>, program: Program, replies: Answers, referee: Referee) -> State
+fn first_state(asked: Wanted<'_>, program: Program, replies: Answers, referee: Referee) -> State
     ensures { result ≡ first_state program (asked_options asked.entry) replies referee }
 {
     State {
@@ -179,7 +179,7 @@ fn close(loaded: Loaded, statements: Option<u32>, stop: Stop) -> Opening
 /// user, and a log is checked, where the words name them. The only error is want of memory.
 fn open_knowing<F: Files>(
     alloc: Global,
-    asked: Asked<'_>,
+    asked: Wanted<'_>,
     loaded: Loaded,
     statements: Option<u32>,
     replies: Answers,
@@ -229,7 +229,7 @@ fn open_knowing<F: Files>(
 /// user, where the words name them. The only error is want of memory.
 fn open_program<F: Files>(
     alloc: Global,
-    asked: Asked<'_>,
+    asked: Wanted<'_>,
     loaded: Loaded,
     files: &mut F,
     names: &mut Names,
@@ -260,7 +260,7 @@ fn open_program<F: Files>(
 /// What a session begins with, by the text of what is debugged. The only error is want of memory.
 fn open_text<F: Files>(
     alloc: Global,
-    asked: Asked<'_>,
+    asked: Wanted<'_>,
     text: &Text,
     files: &mut F,
     names: &mut Names,
@@ -291,7 +291,7 @@ fn open_text<F: Files>(
 /// What a session begins with, by what the words ask for. The only error is want of memory.
 fn open_asked<F: Files>(
     alloc: Global,
-    asked: Asked<'_>,
+    asked: Wanted<'_>,
     files: &mut F,
     names: &mut Names,
 ) -> Result<Opening, AllocError>

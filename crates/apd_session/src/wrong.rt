@@ -3,6 +3,7 @@
 ghost use Rattle.std.specs.Prelude.{◌≡◌, ◌≤◌, length};
 ghost use Rattle.apd_commands.specs.declared.commands.Command.TheVariants as command;
 ghost use Rattle.apd_console.specs.Console.{IsKept};
+ghost use Rattle.apd_debug.specs.Asking.{SameReferences, moment_of};
 ghost use Rattle.apd_debug.specs.NamedStates.{AreReplies};
 ghost use Rattle.apd_answers.specs.Store.{SaysNo};
 ghost use Rattle.apd_debug.specs.NamedTrees.{HasOwnLabels, TreeIsNamed};
@@ -19,7 +20,6 @@ ghost use Rattle.apd_wrong.specs.Wrong.{wrong};
 
 use crate::diagnosing::{conclude, has_few_entries, is_program, keep_wrong, refuse};
 use apd_answers::{Answers, AskEnd, Finding, Replier};
-use apd_console::Console;
 use apd_divide::Strategy;
 use apd_io::{Sink, Source};
 use apd_oracle::Dialogue;
@@ -28,92 +28,97 @@ use apd_query::State;
 use apd_record::Record;
 use apd_reference::Referee;
 use apd_symptoms::exit_of;
-use apd_talk::{Next, Trouble};
+use apd_talk::{Desk, Next, Trouble};
 use apd_term::Flat;
-use apd_text::{Log, Refusal};
+use apd_text::Refusal;
 use apd_wrong::diagnose_wrong;
-use std::alloc::Global;
+
+/// An exit, and its label, which isn't true.
+#[derive(Drop)]
+struct WrongExit {
+    exit: PointId,
+    label: Flat,
+}
 
 /// Diagnoses an exit whose label isn't true, over a dialogue.
 fn diagnose_over<S: Source, K: Sink, R: Replier>(
-    alloc: Global,
     history: &Record,
-    exit: PointId,
-    label: &Flat,
+    symptom: &WrongExit,
     strategy: Strategy,
     replies: &mut Answers,
     dialogue: &mut Dialogue<S, K, R>,
 ) -> Result<Finding, AskEnd>
     requires sound { IsKept dialogue.old.console.now }
     requires replies { AreReplies (length dialogue.old.log.now.names) replies.old }
-    requires labelled { IsLabelled history.now exit.0 label.now }
-    requires symptom { SaysNo replies.old label.now }
-    requires own { HasOwnLabels (tree history.now exit.0 label.now) }
+    requires labelled { IsLabelled history.now symptom.now.exit.0 symptom.now.label }
+    requires symptom { SaysNo replies.old symptom.now.label }
+    requires own { HasOwnLabels (tree history.now symptom.now.exit.0 symptom.now.label) }
     requires named { TreeIsNamed (length dialogue.old.log.now.names)
-        (tree history.now exit.0 label.now) }
-    ensures console { dialogue.new.console.ghost_name ≡ dialogue.old.console.ghost_name }
-    ensures source { dialogue.new.source.ghost_name ≡ dialogue.old.source.ghost_name }
-    ensures sink { dialogue.new.sink.ghost_name ≡ dialogue.old.sink.ghost_name }
-    ensures log { dialogue.new.log.ghost_name ≡ dialogue.old.log.ghost_name }
-    ensures replier { (dialogue.new.replier.ghost_name ≡ dialogue.old.replier.ghost_name)
-        × (dialogue.new.replier.now ≡ dialogue.old.replier.now) }
+        (tree history.now symptom.now.exit.0 symptom.now.label) }
+    ensures over { SameReferences S.Source K.Sink R.Replier dialogue.old dialogue.new }
+    ensures replier { dialogue.new.replier.now ≡ dialogue.old.replier.now }
     ensures diagnoses { Diagnoses by_wrong
         (replying (R.replies dialogue.old.replier.now) dialogue.old.marked)
         (wrong strategy)
-        (tree history.now exit.0 label.now)
+        (tree history.now symptom.now.exit.0 symptom.now.label)
         (answered replies.old dialogue.old.asked) (answered replies.new dialogue.new.asked)
-        (moment S.Source K.Sink dialogue.old.console.now dialogue.old.source.now
-        dialogue.old.log.now dialogue.old.sink.now)
-        (moment S.Source K.Sink dialogue.new.console.now dialogue.new.source.now
-        dialogue.new.log.now dialogue.new.sink.now) result }
+        (moment_of S.Source K.Sink R.Replier dialogue.old)
+        (moment_of S.Source K.Sink R.Replier dialogue.new) result }
 {
-    let answer = diagnose_wrong(alloc, history, exit, label, strategy, replies, dialogue);
+    let WrongExit { exit, label } = symptom;
+    let answer = diagnose_wrong(
+        dialogue.alloc,
+        history,
+        *exit,
+        label,
+        strategy,
+        replies,
+        dialogue,
+    );
     has_few_entries(dialogue.log);
     answer
 }
 
 /// Diagnoses an exit whose label isn't true, with questions to the user where the referee has no reply.
 fn diagnose<S: Source, K: Sink>(
-    alloc: Global,
     history: &Record,
-    exit: PointId,
-    label: &Flat,
+    symptom: &WrongExit,
     strategy: Strategy,
     replies: &mut Answers,
     asked: &mut u64,
     referee: &mut Referee,
-    console: &mut Console,
-    input: &mut S,
-    out: &mut K,
-    log: &mut Log,
+    desk: &mut Desk<S, K>,
 ) -> Result<Finding, AskEnd>
-    requires hear { CanHear (moment S.Source K.Sink console.old input.old log.old out.old) }
-    requires sound { IsKept console.old }
-    requires referee { names_known referee.old ≤ length log.old.names }
-    requires replies { AreReplies (length log.old.names) replies.old }
-    requires labelled { IsLabelled history.now exit.0 label.now }
-    requires symptom { SaysNo replies.old label.now }
-    requires own { HasOwnLabels (tree history.now exit.0 label.now) }
-    requires named { TreeIsNamed (length log.old.names) (tree history.now exit.0 label.now) }
+    requires hear { CanHear (moment S.Source desk.old) }
+    requires sound { IsKept desk.old.console.now }
+    requires referee { names_known referee.old ≤ length desk.old.voice.now.log.names }
+    requires replies { AreReplies (length desk.old.voice.now.log.names) replies.old }
+    requires labelled { IsLabelled history.now symptom.now.exit.0 symptom.now.label }
+    requires symptom { SaysNo replies.old symptom.now.label }
+    requires own { HasOwnLabels (tree history.now symptom.now.exit.0 symptom.now.label) }
+    requires named { TreeIsNamed (length desk.old.voice.now.log.names)
+        (tree history.now symptom.now.exit.0 symptom.now.label) }
     ensures referee { referee.new ≡ referee.old }
     ensures diagnoses { Diagnoses by_wrong (first_word referee.old)
         (wrong strategy)
-        (tree history.now exit.0 label.now)
+        (tree history.now symptom.now.exit.0 symptom.now.label)
         (answered replies.old asked.old) (answered replies.new asked.new)
-        (moment S.Source K.Sink console.old input.old log.old out.old)
-        (moment S.Source K.Sink console.new input.new log.new out.new) result }
+        (moment S.Source desk.old)
+        (moment S.Source desk.new) result }
 {
     let marked = referee.is_marked();
-    let mut dialogue = Dialogue::new(alloc, *asked, console, input, out, log, referee, marked);
-    let answer = diagnose_over(
-        alloc,
-        history,
-        exit,
-        label,
-        strategy,
-        replies,
-        &mut dialogue,
+    let voice = &mut *desk.voice;
+    let mut dialogue = Dialogue::new(
+        voice.alloc,
+        *asked,
+        desk.console,
+        desk.input,
+        voice.log,
+        voice.out,
+        referee,
+        marked,
     );
+    let answer = diagnose_over(history, symptom, strategy, replies, &mut dialogue);
     *asked = dialogue.asked;
     answer
 }
@@ -124,44 +129,36 @@ fn diagnose<S: Source, K: Sink>(
 ///
 /// [`Trouble::Memory`] where there was no memory, [`Trouble::WriteFault`] where a write failed.
 pub(crate) fn wrong<S: Source, K: Sink>(
-    alloc: Global,
     state: &mut State,
     box_no: i64,
     exit: i64,
-    console: &mut Console,
-    input: &mut S,
-    out: &mut K,
-    log: &mut Log,
+    desk: &mut Desk<S, K>,
 ) -> Result<Next, Trouble>
     requires { CanConverse state.old
-        (moment S.Source K.Sink console.old input.old log.old out.old) }
+        (moment S.Source desk.old) }
     ensures { Leads (obeying state.old (command.Wrong box_no exit)) state.new
-        (moment S.Source K.Sink console.old input.old log.old out.old)
-        (moment S.Source K.Sink console.new input.new log.new out.new) result }
+        (moment S.Source desk.old)
+        (moment S.Source desk.new) result }
 {
     let Some(run) = &state.last else {
-        return refuse(alloc, Refusal::NoRun, out, log);
+        return refuse(Refusal::NoRun, desk.voice);
     };
     let history = &run.history;
     let exit = match exit_of(history, box_no, exit) {
         Ok(exit) => exit,
-        Err(refusal) => return refuse(alloc, refusal, out, log),
+        Err(refusal) => return refuse(refusal, desk.voice),
     };
     is_program(&state.program);
-    let label = keep_wrong(alloc, history, exit, &mut state.replies, out, log)?;
+    let label = keep_wrong(history, exit, &mut state.replies, desk.voice)?;
+    let symptom = WrongExit { exit, label };
     let answer = diagnose(
-        alloc,
         history,
-        exit,
-        &label,
+        &symptom,
         state.strategy,
         &mut state.replies,
         &mut state.asked,
         &mut state.referee,
-        console,
-        input,
-        out,
-        log,
+        desk,
     );
-    conclude(alloc, &state.program, answer, out, log)
+    conclude(&state.program, answer, desk.voice)
 }

@@ -15,7 +15,7 @@ use Rattle.apd_text.specs.EntryList.{EntryList}
 use Rattle.apd_text.specs.Named.{EntryIsNamed}
 use Rattle.apd_text.proofs.MoreNames.{text_of-more}
 use Rattle.apd_text.specs.declared.entry.Entry.{Entry}
-use Rattle.apd_talk.specs.Speech.{is_write_fault, Lasting, Says, Speech, Spoken, begun, one, plain}
+use Rattle.apd_talk.specs.Speech.{is_write_fault, Lasting, Says, Speech, Spoken, begun, one, plain, with_entries}
 
 -- one speech after another
 abbrev pub both : Speech → Speech → Speech
@@ -28,23 +28,25 @@ Says-nothing p t = record {
   front = tt;
   names = refl;
   ops = refl;
+  over = refl;
   cause = refl;
 }
 
 -- there was no memory, and nothing was said
-pub Says-none : {T : Type 0} (speech : Speech) (p q : Spoken) → q.log.entries.list ≡ p.log.entries.list → q.held ≡ p.held → q.log.names ≡ p.log.names → q.log.ops ≡ p.log.ops → q.write_faults ≡ p.write_faults → Says {T = T} speech p q (Err Memory)
-Says-none speech p q entries held names ops same = record {
+pub Says-none : {T : Type 0} (speech : Speech) (p q : Spoken) → q.log.entries.list ≡ p.log.entries.list → q.held ≡ p.held → q.log.names ≡ p.log.names → q.log.ops ≡ p.log.ops → q.write_faults ≡ p.write_faults → q.over ≡ p.over → Says {T = T} speech p q (Err Memory)
+Says-none speech p q entries held names ops same over = record {
   all = tt;
   front = λ all grew. rw held (UttersFront-none begun p.log.entries.list q.log.entries.list p.held (speech p.log.ops all) entries);
   names = names;
   ops = ops;
+  over = over;
   cause = same;
 }
 
 -- an entry is in the log, and its text was printed
 pub Says-one : {T : Type 0} (e : Entry) (p q : Spoken) (t : T) (text : List ℕ) → EntryIsNamed (length p.log.names) e → text ≡ text_of p.log.ops p.log.names e → q.log.entries.list ≡ p.log.entries.list ++ e ∷ [] → Adds p.held q.held text →
-    q.log.names ≡ p.log.names → q.log.ops ≡ p.log.ops → q.write_faults ≡ p.write_faults → Says (one e) p q (Ok t)
-Says-one e p q t text named is pushed adds names ops same = record {
+    q.log.names ≡ p.log.names → q.log.ops ≡ p.log.ops → q.write_faults ≡ p.write_faults → q.over ≡ p.over → Says (one e) p q (Ok t)
+Says-one e p q t text named is pushed adds names ops same over = record {
   all = λ all grew.
       rw grew.1
       (Utters-one p.log.entries.list q.log.entries.list p.held q.held (plain p.log.ops (p.log.names ++ grew.0) e) pushed
@@ -52,13 +54,14 @@ Says-one e p q t text named is pushed adds names ops same = record {
   front = tt;
   names = names;
   ops = ops;
+  over = over;
   cause = same;
 }
 
 -- the front of its text was printed
 pub Says-front : {T : Type 0} (e : Entry) (p q : Spoken) (text : List ℕ) → EntryIsNamed (length p.log.names) e → text ≡ text_of p.log.ops p.log.names e → q.log.entries.list ≡ p.log.entries.list ++ e ∷ [] → AddsFront p.held q.held text →
-    q.log.names ≡ p.log.names → q.log.ops ≡ p.log.ops → p.write_faults ≤ q.write_faults → Rose p.write_faults q.write_faults → Says {T = T} (one e) p q (Err WriteFault)
-Says-front e p q text named is pushed adds names ops later rose = record {
+    q.log.names ≡ p.log.names → q.log.ops ≡ p.log.ops → p.write_faults ≤ q.write_faults → Rose p.write_faults q.write_faults → q.over ≡ p.over → Says {T = T} (one e) p q (Err WriteFault)
+Says-front e p q text named is pushed adds names ops later rose over = record {
   all = tt;
   front = λ all grew.
       rw grew.1
@@ -66,24 +69,24 @@ Says-front e p q text named is pushed adds names ops later rose = record {
       (subst (λ (t : List ℕ). AddsFront p.held q.held t) (is ∙ sym (text_of-more p.log.ops p.log.names grew.0 e named)) adds));
   names = names;
   ops = ops;
+  over = over;
   cause = (rose, later);
 }
 
 -- there was no memory for its text
-pub Says-unprinted : {T : Type 0} (e : Entry) (p q : Spoken) → q.log.entries.list ≡ p.log.entries.list ++ e ∷ [] → q.held ≡ p.held → q.log.names ≡ p.log.names → q.log.ops ≡ p.log.ops → q.write_faults ≡ p.write_faults → Says {T = T} (one e) p q (Err Memory)
-Says-unprinted e p q pushed held names ops same = record {
+pub Says-unprinted : {T : Type 0} (e : Entry) (p q : Spoken) → q.log.entries.list ≡ p.log.entries.list ++ e ∷ [] → q.held ≡ p.held → q.log.names ≡ p.log.names → q.log.ops ≡ p.log.ops → q.write_faults ≡ p.write_faults → q.over ≡ p.over → Says {T = T} (one e) p q (Err Memory)
+Says-unprinted e p q pushed held names ops same over = record {
   all = tt;
   front = λ all grew.
       let text = text_of p.log.ops all e in
       rw held (UttersFront-one begun p.log.entries.list q.log.entries.list p.held p.held (plain p.log.ops all e) pushed (text, record { shown = []; parts = refl; adds = Adds-self p.held }));
   names = names;
   ops = ops;
+  over = over;
   cause = same;
 }
 
 -- places for entries change nothing of what is said
-abbrev pub with_entries : Spoken → EntryList → Spoken
-with_entries p e = record { log = record { names = p.log.names; ops = p.log.ops; entries = e }; held = p.held; write_faults = p.write_faults }
 
 pub Says-with : {T : Type 0} (speech : Speech) (p q : Spoken) (e : EntryList) (result : Result T Trouble) → e.list ≡ p.log.entries.list → Says speech (with_entries p e) q result → Says speech p q result
 Says-with speech p q e (Ok t) same says = record {
@@ -91,6 +94,7 @@ Says-with speech p q e (Ok t) same says = record {
   front = tt;
   names = says.names;
   ops = says.ops;
+  over = says.over;
   cause = says.cause;
 }
 Says-with speech p q e (Err t) same says = record {
@@ -98,6 +102,7 @@ Says-with speech p q e (Err t) same says = record {
   front = λ all grew. subst (λ (l : List Entry). UttersFront begun l q.log.entries.list p.held q.held (speech p.log.ops all)) same (says.front all grew);
   names = says.names;
   ops = says.ops;
+  over = says.over;
   cause = says.cause;
 }
 
@@ -128,6 +133,7 @@ Says-more us vs p q r t (Ok u) first second = record {
   front = tt;
   names = second.names ∙ first.names;
   ops = second.ops ∙ first.ops;
+  over = second.over ∙ first.over;
   cause = second.cause ∙ first.cause;
 }
 Says-more us vs p q r t (Err e) first second = record {
@@ -137,14 +143,15 @@ Says-more us vs p q r t (Err e) first second = record {
       (later_front vs p q r e first.names first.ops second all grew);
   names = second.names ∙ first.names;
   ops = second.ops ∙ first.ops;
+  over = second.over ∙ first.over;
   cause = cause_after p.write_faults q.write_faults r.write_faults e first.cause second.cause;
 }
 
 pub Says-err : {T U : Type 0} (us : Speech) (p q : Spoken) (e : Trouble) → Says {T = T} us p q (Err e) → Says {T = U} us p q (Err e)
-Says-err us p q e says = record { all = tt; front = says.front; names = says.names; ops = says.ops; cause = says.cause }
+Says-err us p q e says = record { all = tt; front = says.front; names = says.names; ops = says.ops; over = says.over; cause = says.cause }
 
 pub Says-ok : {T U : Type 0} (us : Speech) (p q : Spoken) (t : T) (u : U) → Says us p q (Ok t) → Says us p q (Ok u)
-Says-ok us p q t u says = record { all = says.all; front = tt; names = says.names; ops = says.ops; cause = says.cause }
+Says-ok us p q t u says = record { all = says.all; front = tt; names = says.names; ops = says.ops; over = says.over; cause = says.cause }
 
 -- the front of one thing is a front of it with more
 pub Says-less : {T U : Type 0} (us vs : Speech) (p q : Spoken) (e : Trouble) → Says {T = T} us p q (Err e) → Says {T = U} (both us vs) p q (Err e)
@@ -153,6 +160,7 @@ Says-less us vs p q e says = record {
   front = λ all grew. UttersFront-less begun p.log.entries.list q.log.entries.list p.held q.held (us p.log.ops all) (vs p.log.ops all) (says.front all grew);
   names = says.names;
   ops = says.ops;
+  over = says.over;
   cause = says.cause;
 }
 
@@ -163,6 +171,7 @@ Says-as us vs p q (Ok t) same says = record {
   front = tt;
   names = says.names;
   ops = says.ops;
+  over = says.over;
   cause = says.cause;
 }
 Says-as us vs p q (Err e) same says = record {
@@ -170,5 +179,6 @@ Says-as us vs p q (Err e) same says = record {
   front = λ all grew. subst (λ (l : List (Utterance Entry)). UttersFront begun p.log.entries.list q.log.entries.list p.held q.held l) (same p.log.ops all) (says.front all grew);
   names = says.names;
   ops = says.ops;
+  over = says.over;
   cause = says.cause;
 }

@@ -9,14 +9,14 @@ use Rattle.apd_session.proofs.demo.play.Goals as goal
 
 pub returns-in-Err-clause-said : goal.returns-in-Err-clause-said
 returns-in-Err-clause-said g c = λ names grew reader.
-    none_shown (demonstrates reader c.args.log.now.ops c.args.nodes c.args.start.now) c.args.log.now (g.K.Sink.held c.args.out.now) c.requires.empty refl
+    none_shown (demonstrates reader c.args.voice.now.log.ops c.args.nodes c.args.start.now) c.args.voice.now.log c.args.voice.now.held c.requires.empty refl
 
 pub returns-in-Err-clause-names : goal.returns-in-Err-clause-names
 returns-in-Err-clause-names g c = grows_none 16777216 _ _ refl
 
 pub show-requires-clause-ready : goal.show-requires-clause-ready
-show-requires-clause-ready g c = subst (IsStart (length c.args.log.now.names)) (sym c.in-Ok.ensures.tree) (tree_start (length c.args.log.now.names) c.args.nodes c.args.start.now c.requires.ready)
+show-requires-clause-ready g c = subst (IsStart (length c.args.voice.now.log.names)) (sym c.in-Ok.ensures.tree) (tree_start (length c.args.voice.now.log.names) c.args.nodes c.args.start.now c.requires.ready)
 
 pub returns-in-Ok-clause-said : goal.returns-in-Ok-clause-said
 returns-in-Ok-clause-said g c = λ names grew reader.
-    subst (λ (start : Start). IsSaid c.show.result (shows reader c.args.log.now.ops c.args.nodes start) c.show.new.log (g.K.Sink.held c.args.out.now) (g.K.Sink.held c.show.new.out)) (c.in-Ok.ensures.tree) (c.show.ensures.said names grew reader)
+    subst (λ (start : Start). IsSaid c.show.result (shows reader c.args.voice.now.log.ops c.args.nodes start) c.show.new.voice.log c.args.voice.now.held c.show.new.voice.held) (c.in-Ok.ensures.tree) (c.show.ensures.said names grew reader)

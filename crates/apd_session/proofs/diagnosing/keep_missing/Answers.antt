@@ -9,7 +9,7 @@ use Rattle.apd_session.proofs.diagnosing.keep_missing.Goals as goal
 pub returns-in_err-copy-clause-says : goal.returns-in_err-copy-clause-says
 returns-in_err-copy-clause-says g c =
     let e = err_from_is_err_and c.from_residual.result c.from_residual.ensures.1 in
-    rw (e.1, e.2) (Says-none (one (Symptom (Missing c.args.atom.now c.args.box_no))) _ _ refl refl refl refl refl)
+    rw (e.1, e.2) (Says-none (one (Symptom (Missing c.args.atom.now c.args.box_no))) _ _ refl refl refl refl refl refl)
 
 pub keep_symptom-requires : goal.keep_symptom-requires
 keep_symptom-requires g c = rw c.in_ok-copy.ensures c.requires

@@ -13,12 +13,12 @@ tuple-requires g c = point_below _ _ c.requires.user.point c.requires.user.there
 pub returns-in_err-head-clause-says : goal.returns-in_err-head-clause-says
 returns-in_err-head-clause-says g c =
     let e = err_from_is_err_and c.from_residual.result c.from_residual.ensures.1 in
-    rw (e.1, e.2) (Says-none (one (Symptom (wrong_of c.args.history.now c.args.exit.0))) _ _ refl refl refl refl refl)
+    rw (e.1, e.2) (Says-none (one (Symptom (wrong_of c.args.history.now c.args.exit.0))) _ _ refl refl refl refl refl refl)
 
 pub returns-in_err-copy-clause-says : goal.returns-in_err-copy-clause-says
 returns-in_err-copy-clause-says g c =
     let e = err_from_is_err_and c.from_residual-in_err-copy.result c.from_residual-in_err-copy.ensures.1 in
-    rw (e.1, e.2) (Says-none (one (Symptom (wrong_of c.args.history.now c.args.exit.0))) _ _ refl refl refl refl refl)
+    rw (e.1, e.2) (Says-none (one (Symptom (wrong_of c.args.history.now c.args.exit.0))) _ _ refl refl refl refl refl refl)
 
 pub keep_symptom-requires : goal.keep_symptom-requires
 keep_symptom-requires g c =

@@ -7,7 +7,7 @@ use Rattle.apd_session.proofs.Turning.{ready_filters}
 use Rattle.apd_session.proofs.filtering.set_filter.Goals as goal
 
 pub returns-in_err-told-clause-says : goal.returns-in_err-told-clause-says
-returns-in_err-told-clause-says g c = let p = err_from_is_err_and c.from_residual.result c.from_residual.ensures.1 in rw (p.1, p.2) (Says-none (one (TraceSet c.args.filter)) _ _ refl refl refl refl refl)
+returns-in_err-told-clause-says g c = let p = err_from_is_err_and c.from_residual.result c.from_residual.ensures.1 in rw (p.1, p.2) (Says-none (one (TraceSet c.args.filter)) _ _ refl refl refl refl refl refl)
 
 pub say-requires : goal.say-requires
 say-requires g c = rw c.in_ok-told.ensures (c.requires.ready.standard, c.requires.named)
@@ -21,4 +21,4 @@ pub returns-clause-says : goal.returns-clause-says
 returns-clause-says g c = Says-ok (one (TraceSet c.args.filter)) _ _ _ _ (rw c.in_ok-told.ensures at c.in_ok-say.ensures)
 
 pub returns-clause-ready : goal.returns-clause-ready
-returns-clause-ready g c = ready_filters (length c.args.log.now.names) c.args.state.now c.args.filter c.requires.ready
+returns-clause-ready g c = ready_filters (length c.args.voice.now.log.names) c.args.state.now c.args.filter c.requires.ready

@@ -10,21 +10,13 @@ use Rattle.apd_session.specs.Steps.{by_loop, history_of}
 use Rattle.apd_session.proofs.Dialogues.{diagnoses, hears_loop}
 use Rattle.apd_session.proofs.looping.diagnose_over.Goals as goal
 
-pub returns-clause-console : goal.returns-clause-console
-returns-clause-console g c = (keeps_dialogue g.S.Source g.K.Sink g.R.Replier (loop c.args.history.now c.args.calls.now c.args.strategy) (at c.args.replies.now (loop_start c.args.history.now c.args.calls.now) c.args.dialogue.now) c.diagnose_loop-answer.new.answers c.diagnose_loop-answer.new.oracle c.diagnose_loop-answer.result c.diagnose_loop-answer.ensures.reached).same.console
-
-pub returns-clause-source : goal.returns-clause-source
-returns-clause-source g c = (keeps_dialogue g.S.Source g.K.Sink g.R.Replier (loop c.args.history.now c.args.calls.now c.args.strategy) (at c.args.replies.now (loop_start c.args.history.now c.args.calls.now) c.args.dialogue.now) c.diagnose_loop-answer.new.answers c.diagnose_loop-answer.new.oracle c.diagnose_loop-answer.result c.diagnose_loop-answer.ensures.reached).same.source
-
-pub returns-clause-sink : goal.returns-clause-sink
-returns-clause-sink g c = (keeps_dialogue g.S.Source g.K.Sink g.R.Replier (loop c.args.history.now c.args.calls.now c.args.strategy) (at c.args.replies.now (loop_start c.args.history.now c.args.calls.now) c.args.dialogue.now) c.diagnose_loop-answer.new.answers c.diagnose_loop-answer.new.oracle c.diagnose_loop-answer.result c.diagnose_loop-answer.ensures.reached).same.sink
-
-pub returns-clause-log : goal.returns-clause-log
-returns-clause-log g c = (keeps_dialogue g.S.Source g.K.Sink g.R.Replier (loop c.args.history.now c.args.calls.now c.args.strategy) (at c.args.replies.now (loop_start c.args.history.now c.args.calls.now) c.args.dialogue.now) c.diagnose_loop-answer.new.answers c.diagnose_loop-answer.new.oracle c.diagnose_loop-answer.result c.diagnose_loop-answer.ensures.reached).same.log
+pub returns-clause-over : goal.returns-clause-over
+returns-clause-over g c =
+    let kept = keeps_dialogue g.S.Source g.K.Sink g.R.Replier (loop c.args.history.now c.args.calls.now c.args.strategy) (at c.args.replies.now (loop_start c.args.history.now c.args.calls.now) c.args.dialogue.now) c.diagnose_loop-answer.new.answers c.diagnose_loop-answer.new.oracle c.diagnose_loop-answer.result c.diagnose_loop-answer.ensures.reached in
+    record { console = kept.same.console; input = kept.same.input; log = kept.same.log; out = kept.same.out; replier = kept.same.replier }
 
 pub returns-clause-replier : goal.returns-clause-replier
-returns-clause-replier g c =
-    let kept = (keeps_dialogue g.S.Source g.K.Sink g.R.Replier (loop c.args.history.now c.args.calls.now c.args.strategy) (at c.args.replies.now (loop_start c.args.history.now c.args.calls.now) c.args.dialogue.now) c.diagnose_loop-answer.new.answers c.diagnose_loop-answer.new.oracle c.diagnose_loop-answer.result c.diagnose_loop-answer.ensures.reached) in (kept.same.replier, kept.replier)
+returns-clause-replier g c = (keeps_dialogue g.S.Source g.K.Sink g.R.Replier (loop c.args.history.now c.args.calls.now c.args.strategy) (at c.args.replies.now (loop_start c.args.history.now c.args.calls.now) c.args.dialogue.now) c.diagnose_loop-answer.new.answers c.diagnose_loop-answer.new.oracle c.diagnose_loop-answer.result c.diagnose_loop-answer.ensures.reached).replier
 
 pub returns-clause-diagnoses : goal.returns-clause-diagnoses
 returns-clause-diagnoses g c =

@@ -11,25 +11,17 @@ use Rattle.apd_session.specs.Steps.{by_missing}
 use Rattle.apd_session.proofs.Dialogues.{diagnoses, hears_missing}
 use Rattle.apd_session.proofs.missing.diagnose_over.Goals as goal
 
-pub returns-clause-console : goal.returns-clause-console
-returns-clause-console g c = (keeps_dialogue g.S.Source g.K.Sink g.R.Replier (missing (tuples_of c.args.program.now) c.args.history.now) (at c.args.replies.now (record { box_no = c.args.box_no; goal = c.args.atom.now }) c.args.dialogue.now) c.diagnose_missing-answer.new.answers c.diagnose_missing-answer.new.oracle c.diagnose_missing-answer.result c.diagnose_missing-answer.ensures.reached).same.console
-
-pub returns-clause-source : goal.returns-clause-source
-returns-clause-source g c = (keeps_dialogue g.S.Source g.K.Sink g.R.Replier (missing (tuples_of c.args.program.now) c.args.history.now) (at c.args.replies.now (record { box_no = c.args.box_no; goal = c.args.atom.now }) c.args.dialogue.now) c.diagnose_missing-answer.new.answers c.diagnose_missing-answer.new.oracle c.diagnose_missing-answer.result c.diagnose_missing-answer.ensures.reached).same.source
-
-pub returns-clause-sink : goal.returns-clause-sink
-returns-clause-sink g c = (keeps_dialogue g.S.Source g.K.Sink g.R.Replier (missing (tuples_of c.args.program.now) c.args.history.now) (at c.args.replies.now (record { box_no = c.args.box_no; goal = c.args.atom.now }) c.args.dialogue.now) c.diagnose_missing-answer.new.answers c.diagnose_missing-answer.new.oracle c.diagnose_missing-answer.result c.diagnose_missing-answer.ensures.reached).same.sink
-
-pub returns-clause-log : goal.returns-clause-log
-returns-clause-log g c = (keeps_dialogue g.S.Source g.K.Sink g.R.Replier (missing (tuples_of c.args.program.now) c.args.history.now) (at c.args.replies.now (record { box_no = c.args.box_no; goal = c.args.atom.now }) c.args.dialogue.now) c.diagnose_missing-answer.new.answers c.diagnose_missing-answer.new.oracle c.diagnose_missing-answer.result c.diagnose_missing-answer.ensures.reached).same.log
+pub returns-clause-over : goal.returns-clause-over
+returns-clause-over g c =
+    let kept = keeps_dialogue g.S.Source g.K.Sink g.R.Replier (missing (tuples_of c.args.program.now) c.args.history.now) (at c.args.replies.now (record { box_no = c.args.symptom.now.box_no; goal = c.args.symptom.now.atom.now }) c.args.dialogue.now) c.diagnose_missing-answer.new.answers c.diagnose_missing-answer.new.oracle c.diagnose_missing-answer.result c.diagnose_missing-answer.ensures.reached in
+    record { console = kept.same.console; input = kept.same.input; log = kept.same.log; out = kept.same.out; replier = kept.same.replier }
 
 pub returns-clause-replier : goal.returns-clause-replier
-returns-clause-replier g c =
-    let kept = (keeps_dialogue g.S.Source g.K.Sink g.R.Replier (missing (tuples_of c.args.program.now) c.args.history.now) (at c.args.replies.now (record { box_no = c.args.box_no; goal = c.args.atom.now }) c.args.dialogue.now) c.diagnose_missing-answer.new.answers c.diagnose_missing-answer.new.oracle c.diagnose_missing-answer.result c.diagnose_missing-answer.ensures.reached) in (kept.same.replier, kept.replier)
+returns-clause-replier g c = (keeps_dialogue g.S.Source g.K.Sink g.R.Replier (missing (tuples_of c.args.program.now) c.args.history.now) (at c.args.replies.now (record { box_no = c.args.symptom.now.box_no; goal = c.args.symptom.now.atom.now }) c.args.dialogue.now) c.diagnose_missing-answer.new.answers c.diagnose_missing-answer.new.oracle c.diagnose_missing-answer.result c.diagnose_missing-answer.ensures.reached).replier
 
 pub returns-clause-diagnoses : goal.returns-clause-diagnoses
 returns-clause-diagnoses g c =
-    diagnoses by_missing hears_missing (missing (tuples_of c.args.program.now) c.args.history.now) (IsKnownGoal (tuples_of c.args.program.now)) (λ s. missing-keeps (tuples_of c.args.program.now) c.args.history.now (line_found s.program)) g.S.Source g.K.Sink g.R.Replier (record { box_no = c.args.box_no; goal = c.args.atom.now }) c.args.replies.now c.diagnose_missing-answer.new.answers c.args.dialogue.now c.diagnose_missing-answer.new.oracle
+    diagnoses by_missing hears_missing (missing (tuples_of c.args.program.now) c.args.history.now) (IsKnownGoal (tuples_of c.args.program.now)) (λ s. missing-keeps (tuples_of c.args.program.now) c.args.history.now (line_found s.program)) g.S.Source g.K.Sink g.R.Replier (record { box_no = c.args.symptom.now.box_no; goal = c.args.symptom.now.atom.now }) c.args.replies.now c.diagnose_missing-answer.new.answers c.args.dialogue.now c.diagnose_missing-answer.new.oracle
     c.diagnose_missing-answer.result c.diagnose_missing-answer.ensures.reached c.has_few_entries.ensures (record {
       standard = c.args.dialogue.now.standard;
       program = c.requires.program;

@@ -1,5 +1,5 @@
 use Rattle.std.proofs.lemmas.Result.{err_from_is_err_and}
-use Rattle.apd_talk.specs.Speech.{Speech, spoken}
+use Rattle.apd_talk.specs.Speech.{Speech}
 use Rattle.apd_session.specs.Opening.{known_said, reference_said}
 use Rattle.apd_talk.proofs.Speaking.{Says-less, Says-more}
 use Rattle.apd_session.proofs.notes.say_further.Goals as goal
@@ -14,4 +14,4 @@ pub returns : goal.returns
 returns g c =
     let known : Speech = λ ops names. known_said ops names c.args.beginning.now.statements in
     let reference : Speech = λ ops names. reference_said ops names c.args.beginning.now.reference in
-    Says-more known reference _ (spoken g.K.Sink c.say_known.new.log c.say_known.new.out) _ _ c.say_reference.result c.in_ok-say_known.ensures c.say_reference.ensures
+    Says-more known reference _ c.say_known.new.voice _ _ c.say_reference.result c.in_ok-say_known.ensures c.say_reference.ensures

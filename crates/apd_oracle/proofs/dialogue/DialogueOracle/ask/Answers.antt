@@ -8,12 +8,12 @@ returns-clause-step g c = (
   refl,
   refl,
   refl,
-  c.ask_question-answer.ensures.same,
-  c.ask_question-answer.ensures.by,
+  c.ask_over-answer.ensures.same,
+  c.ask_over-answer.ensures.by,
   c.saturating_add-self.ensures,
-  c.ask_question-answer.ensures.calls,
+  c.ask_over-answer.ensures.calls,
   refl,
 )
 
 pub returns-clause-cause : goal.returns-clause-cause
-returns-clause-cause g c = record { end_is = c.end_after-self.ensures; read = c.ask_question-answer.ensures.faults.read; write = c.ask_question-answer.ensures.faults.write }
+returns-clause-cause g c = record { end_is = c.end_after-self.ensures; read = c.ask_over-answer.ensures.faults.read; write = c.ask_over-answer.ensures.faults.write }

@@ -11,6 +11,6 @@ returns g c = OnTrue_from c.admits_nothing.result _ (λ is e.
       refl,
       refl,
       sym nothing.1,
-      prints_nothing c.args.self.now.ops.now c.args.self.now.names.now c.args.self.now.vars.now c.args.self.now.admit.now _ c.args.self.now.answers e nothing.0,
+      prints_nothing c.args.self.now.voice.now.log.ops c.args.self.now.voice.now.log.names c.args.self.now.vars.now c.args.self.now.admit.now _ c.args.self.now.answers e nothing.0,
       refl,
     ))

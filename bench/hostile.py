@@ -55,6 +55,14 @@ def general(number):
     return "q(" + ",".join(f"_{next(names)}" if number >> bit & 1 else "1" for bit in range(16)) + ")"
 
 
+def repeated(number):
+    """An atom of six variables, of which two or more are the same one."""
+    sames = [mask for mask in range(64) if mask.bit_count() > 1]
+    mask, names = sames[number % len(sames)], {}
+    places = [names.setdefault(6 if mask >> bit & 1 else bit, len(names) + 1) for bit in range(6)]
+    return "q(" + ",".join(f"_{place}" for place in places) + ")"
+
+
 def signs(number):
     """An atom of 16 numbers that differ in their signs alone: by marks without signs all these share one."""
     return "q(" + ",".join("-1" if number >> bit & 1 else "1" for bit in range(16)) + ")"
@@ -138,6 +146,8 @@ class Logs:
         vectors = self.filled("", lambda n: f"symptom: not true: {vector(spread(n))}\n", 0.5) + f"symptom: not true: {vector(65535)}\n"
         head = "q(" + ",".join(f"X{n}" for n in range(16)) + ").\n"
         yield "wrong instances that few arguments tell", head, self.filled(vectors, lambda n: WRONG + general(spread(n) & 0x5555) + "\n")
+        apart = self.filled("", lambda n: f"symptom: not true: q({n},a,b,c,d,e)\n", 0.5) + "symptom: not true: q(z,z,z,z,z,z)\n"
+        yield "wrong instances in which a variable stands twice", "q(A,B,C,D,E,F).\n", self.filled(apart, lambda n: WRONG + repeated(n) + "\n")
         free = self.filled("", lambda n: f"symptom: true: q(_1,{n})\n", 0.5)
         frees = free.count("\n")
         yield "uncovered goals by symptoms that begin with variables", SAME, self.filled(free, lambda n: f"bug: uncovered goal: q(a,{n % frees})\n")

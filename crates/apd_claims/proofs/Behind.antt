@@ -10,14 +10,14 @@ use Rattle.apd_read.specs.Reader.{Reader}
 use Rattle.apd_term.specs.Growth.{Grown}
 use Rattle.apd_talk.specs.Speech.{Lasting}
 use Rattle.apd_claims.specs.Claims.{is_operator_read, may_end}
-use Rattle.apd_claims.specs.Parts.{Boxed, Led, box_outside, box_where, boxed_behind, boxed_where, parts_words, quote_after, word_after}
+use Rattle.apd_parts.specs.Parts.{Boxed, Led, box_outside, box_where, boxed_behind, boxed_where, parts_words, quote_after, word_after}
 use Rattle.apd_claims.specs.Reading.{term_in}
 use Rattle.apd_claims.specs.Texts.{KeepsFew}
-use Rattle.apd_claims.specs.declared.boxes.Quote.{Quote}
-use Rattle.apd_claims.specs.declared.boxes.Quote.TheVariants.{Outside}
+use Rattle.apd_parts.specs.declared.boxes.Quote.{Quote}
+use Rattle.apd_parts.specs.declared.boxes.Quote.TheVariants.{Outside}
 use Rattle.apd_claims.specs.declared.claim.Claim.{Claim}
 use Rattle.apd_claims.proofs.Naming.{grown-none, grown-twice}
-use Rattle.apd_claims.proofs.Outside.{boxed_with, with-byte, with-none}
+use Rattle.apd_parts.proofs.Outside.{boxed_with, with-byte, with-none}
 
 -- the bytes from one place to another
 abbrev pub between : List ℕ → ℕ → ℕ → List ℕ

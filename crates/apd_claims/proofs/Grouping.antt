@@ -6,7 +6,7 @@ use Rattle.apd_term.specs.declared.instance.Instance.{Instance}
 use Rattle.apd_ops.specs.Table.{Table}
 use Rattle.apd_read.specs.Reader.{Reader}
 use Rattle.apd_claims.specs.Forms.{with_newline}
-use Rattle.apd_claims.specs.Parts.{if_some}
+use Rattle.apd_parts.specs.Parts.{if_some}
 use Rattle.apd_claims.specs.Saying.{candidates_text, instance_in, instances_in, is_candidate}
 use Rattle.apd_claims.specs.Sayable.{BeginsWithNone}
 

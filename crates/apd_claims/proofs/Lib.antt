@@ -1,11 +1,7 @@
 pub mod Behind
 pub mod Commas
-pub mod Cutting
 pub mod Grouping
 pub mod Instances
 pub mod Lasting
 pub mod Naming
-pub mod Numbers
-pub mod Outside
 pub mod ReadTexts
-pub mod Splitting

@@ -32,7 +32,7 @@ use Rattle.apd_claims.specs.declared.form.Numbered.{Numbered}
 use Rattle.apd_claims.specs.declared.form.Frame.{Frame}
 use Rattle.apd_claims.specs.declared.form.Frame.TheVariants.{Truth, Cover, Order, Reply as Answer, Instance as WrongOne, Uncovered}
 use Rattle.apd_claims.specs.Claims.{asked, call_entry, claim_of, entry_for, fact, goals_in, is_text, pair_in, replied, reply_in, tuple_in, written}
-use Rattle.apd_claims.specs.Parts.{if_some}
+use Rattle.apd_parts.specs.Parts.{if_some}
 use Rattle.apd_claims.specs.Saying.{group_entry, instance_with}
 
 -- Terms.

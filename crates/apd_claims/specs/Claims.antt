@@ -33,8 +33,8 @@ use Rattle.apd_claims.specs.declared.form.Numbered.{Numbered}
 use Rattle.apd_claims.specs.declared.form.Frame.{Frame}
 use Rattle.apd_claims.specs.declared.form.Frame.TheVariants.{Truth, Cover, Order, Reply as Answer, Instance, Uncovered}
 use Rattle.apd_claims.specs.Forms.{with_newline}
-use Rattle.apd_claims.specs.Parts.{Boxed, Led, boxed_in, boxed_where, if_some}
-use Rattle.apd_claims.specs.declared.boxes.Quote.TheVariants.{Outside}
+use Rattle.apd_parts.specs.Parts.{Boxed, Led, boxed_in, boxed_where, if_some}
+use Rattle.apd_parts.specs.declared.boxes.Quote.TheVariants.{Outside}
 use Rattle.apd_claims.specs.Reading.{as_clause, reading, term_in}
 
 -- Terms.

@@ -13,7 +13,7 @@ use Rattle.apd_claims.specs.declared.form.Numbered.{Numbered}
 use Rattle.apd_claims.specs.declared.form.Frame.TheVariants.{Truth, Cover, Order, Reply, Instance, Uncovered}
 use Rattle.apd_claims.specs.declared.form.Form.{Form}
 use Rattle.apd_claims.specs.declared.form.Form.TheVariants.{Query, End, Symptom, Framed, Call, Candidates, Candidate, Descent, Other, Unread}
-use Rattle.apd_claims.specs.Parts.{Counted, Led, Parts, after, before, counted, cut, cut_last, if_some, led_by, number_64}
+use Rattle.apd_parts.specs.Parts.{Counted, Led, Parts, after, before, counted, cut, cut_last, if_some, led_by, number_64}
 
 -- the line and its newline
 abbrev pub with_newline : List ℕ → List ℕ

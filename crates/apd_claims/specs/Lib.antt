@@ -1,4 +1,3 @@
-pub mod Parts
 pub mod Forms
 pub mod Reading
 pub mod Claims

@@ -14,7 +14,7 @@ use Rattle.apd_text.specs.declared.entry.Entry.{Entry}
 use Rattle.apd_text.specs.declared.entry.Entry.TheVariants as entries
 use Rattle.apd_claims.specs.Claims.{called, written}
 use Rattle.apd_claims.specs.Forms.{form_in, with_newline}
-use Rattle.apd_claims.specs.Parts.{Led, box_first}
+use Rattle.apd_parts.specs.Parts.{Led, box_first}
 use Rattle.apd_claims.specs.declared.claim.Claim.{Claim}
 use Rattle.apd_claims.specs.declared.form.Form.{Form}
 use Rattle.apd_claims.specs.declared.form.Form.TheVariants.{Call}

@@ -17,7 +17,7 @@ use Rattle.apd_claims.specs.declared.form.Form.TheVariants.{Query, End, Symptom,
 use Rattle.apd_claims.specs.Claims.{call_claim, claim_as, framed_claim, run_claim, symptom_claim, tuple_in}
 use Rattle.apd_claims.specs.Forms.{form_in, with_newline}
 use Rattle.apd_claims.specs.Parting.{called_in, claim_parted}
-use Rattle.apd_claims.specs.Parts.{Led, after, if_some, led_by}
+use Rattle.apd_parts.specs.Parts.{Led, after, if_some, led_by}
 use Rattle.apd_claims.specs.Reading.{term_in}
 
 abbrev pub begins : List ℕ → List ℕ → Bool

@@ -11,7 +11,7 @@ ghost use Rattle.apd_talk.specs.Speech.{Lasting};
 ghost use Rattle.apd_text.specs.Named.{EntryIsNamed};
 ghost use Rattle.apd_claims.specs.Claims.{claim_as, claim_of, entry_for, framed_claim, is_text, or_garbled, query_claim, run_claim, symptom_claim, told, written};
 ghost use Rattle.apd_claims.specs.Forms.{with_newline};
-ghost use Rattle.apd_claims.specs.Parts.{if_some};
+ghost use Rattle.apd_parts.specs.Parts.{if_some};
 ghost use Rattle.apd_claims.specs.Reading.{as_clause};
 ghost use Rattle.apd_claims.specs.Sayable.{IsSayable};
 ghost use Rattle.apd_claims.specs.Texts.{KeepsFew};

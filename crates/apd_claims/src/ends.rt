@@ -5,9 +5,9 @@ ghost use Rattle.apd_claims.specs.Forms.{boxed_in, counts_in, end_form, failed_i
 ghost use Rattle.apd_claims.specs.Sayable.{FormIsSayable, IsShown};
 
 use crate::form::Form;
-use crate::parts::{after, led_by};
 use apd_base::{MOST_SHOWN, Text};
 use apd_causes::{Ran, RunEnd, RunError};
+use apd_parts::{after, led_by};
 use apd_text::end_line;
 use std::alloc::{AllocError, Global};
 

@@ -2,13 +2,13 @@
 
 ghost use Rattle.std.specs.Prelude.{◌≡◌, ◌++◌, codes, IfOk, MatchOption};
 ghost use Rattle.apd_claims.specs.Forms.{bug_form, call_form, descent_form, form_in, found_form, framed_reply, instance_form, kind_form, question_form, reply_form, talked_form, told_form};
-ghost use Rattle.apd_claims.specs.Parts.{counted};
+ghost use Rattle.apd_parts.specs.Parts.{counted};
 ghost use Rattle.apd_claims.specs.Sayable.{FormIsSayable};
 
 use crate::ends::end_form;
 use crate::form::{Calling, Form, Frame, Numbered};
-use crate::parts::{after, before, counted, cut, cut_last, led_by, number_64};
 use apd_base::Text;
+use apd_parts::{after, before, counted, cut, cut_last, led_by, number_64};
 use std::alloc::{AllocError, Global};
 
 /// What is said of a term.

@@ -1,7 +1,6 @@
 //! What the lines of a written log say, read from their bytes.
 #![tactic(auto)]
 
-mod boxes;
 mod calls;
 mod claim;
 mod claims;
@@ -10,14 +9,11 @@ mod entries;
 mod form;
 mod forms;
 mod groups;
-mod lines;
 mod parting;
-mod parts;
 mod reading;
 mod saying;
 
 pub use claim::Claim;
-pub use lines::{FirstLine, first_line};
 pub use parting::{CallLine, lasting_text};
 pub use reading::MOST_READ_NAMES;
 pub use saying::{Place, claim_at, goes_on};

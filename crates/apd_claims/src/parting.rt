@@ -10,16 +10,15 @@ ghost use Rattle.apd_claims.specs.Parting.{IsOld, called_in, caller_at, claim_pa
 ghost use Rattle.apd_claims.specs.Sayable.{IsSayable};
 ghost use Rattle.apd_claims.specs.Texts.{KeepsFew};
 
-use crate::boxes::box_first;
 use crate::calls::called;
 use crate::claim::Claim;
 use crate::claims::{with_newline, written};
 use crate::form::{Calling, Form};
 use crate::forms::form_in;
-use crate::parts::Led;
 use apd_answers::Finding;
 use apd_base::Text;
 use apd_ops::Ops;
+use apd_parts::{Led, box_first};
 use apd_term::canonical::canonical;
 use apd_term::names::Names;
 use apd_term::{Flat, Sym};

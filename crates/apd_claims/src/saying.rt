@@ -18,8 +18,8 @@ use crate::claims::{claim_as, framed_claim, run_claim, symptom_claim, with_newli
 use crate::form::Form;
 use crate::forms::form_in;
 use crate::groups::group_claim;
-use crate::parts::after;
 use apd_ops::Ops;
+use apd_parts::after;
 use apd_term::names::Names;
 use apd_text::Entry;
 use std::alloc::{AllocError, Global};

@@ -4,7 +4,7 @@ use Rattle.std.specs.Prelude.{◌==◌, if◌then◌else◌, nat_eq}
 use Rattle.std.specs.Option.{option_map, option_and_then, option_or}
 use Rattle.std.proofs.lemmas.Bool.Decides.{nat_tests}
 use Rattle.std.proofs.Common.{arith}
-use Rattle.apd_claims.specs.Parts.{Parts, Led, after, at_start, onto_part, cut, cut_last, before, if_last, last_part, number_32, led_with, led_at, led_by, uncounted, counted_if, counted_with, counted_at, counted, if_some}
+use Rattle.apd_parts.specs.Parts.{Parts, Led, after, at_start, onto_part, cut, cut_last, before, if_last, last_part, number_32, led_with, led_at, led_by, uncounted, counted_if, counted_with, counted_at, counted, if_some}
 
 after-splits : (bs text rest : List ℕ) → after bs text ≡ Some rest → text ≡ bs ++ rest
 after-splits [] text rest e = let same : text ≡ rest = cc in same

@@ -21,7 +21,7 @@ use Rattle.apd_claims.specs.declared.claim.Claim.TheVariants.{Descends}
 use Rattle.apd_claims.specs.declared.form.Form.TheVariants.{Framed, Descent, Unread}
 use Rattle.apd_claims.specs.declared.form.Frame.TheVariants.{Instance, Uncovered as OfGoal}
 use Rattle.apd_claims.specs.Forms.{form_in, placed_form}
-use Rattle.apd_claims.specs.Parts.{Led, if_some, led_by}
+use Rattle.apd_parts.specs.Parts.{Led, if_some, led_by}
 use Rattle.apd_claims.specs.Parting.{called_by}
 use Rattle.apd_claims.specs.Reading.{as_clause}
 use Rattle.apd_claims.specs.Saying.{claim_by}

@@ -20,7 +20,7 @@ use Rattle.apd_claims.specs.declared.form.Form.TheVariants as forms
 use Rattle.apd_claims.specs.Claims.{claim_as}
 use Rattle.apd_claims.specs.Forms.{form_in, with_newline}
 use Rattle.apd_claims.specs.Parting.{called_by}
-use Rattle.apd_claims.specs.Parts.{if_some}
+use Rattle.apd_parts.specs.Parts.{if_some}
 use Rattle.apd_claims.specs.Reading.{as_clause}
 use Rattle.apd_claims.specs.Sayable.{BeginsWithNone}
 use Rattle.apd_claims.specs.Saying.{candidates_text, claim_by, group_claim, group_entry, group_text, instance_at, instance_in, instance_with, instances_in}

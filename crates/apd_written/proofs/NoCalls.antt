@@ -9,10 +9,10 @@ use Rattle.apd_term.specs.Term.{Term}
 use Rattle.apd_claims.specs.Claims.{call_between, call_entry, call_in, claim_of, is_text, may_end, or_garbled, written}
 use Rattle.apd_claims.specs.Forms.{form_in, with_newline}
 use Rattle.apd_claims.specs.Parting.{called_by, called_in}
-use Rattle.apd_claims.specs.Parts.{Boxed, boxed_in, boxed_where, if_some}
+use Rattle.apd_parts.specs.Parts.{Boxed, boxed_in, boxed_where, if_some}
 use Rattle.apd_claims.specs.Reading.{term_in}
 use Rattle.apd_claims.specs.Saying.{claim_at, claim_by}
-use Rattle.apd_claims.specs.declared.boxes.Quote.TheVariants.{Outside}
+use Rattle.apd_parts.specs.declared.boxes.Quote.TheVariants.{Outside}
 use Rattle.apd_claims.specs.declared.claim.Claim.{Claim}
 use Rattle.apd_claims.specs.declared.claim.Claim.TheVariants.{Runs, Ends, Tells, Asks, Replies, Finds, Descends, Nothing, Garbled}
 use Rattle.apd_claims.specs.declared.form.Calling.{Calling}

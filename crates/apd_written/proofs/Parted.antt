@@ -6,7 +6,7 @@ use Rattle.std.specs.Fmt.{decimal}
 use Rattle.std.specs.List.{list_all}
 use Rattle.std.specs.Option.{option_map, option_and_then}
 use Rattle.std.proofs.lemmas.Fmt.{decimal_is_IsNumeral}
-use Rattle.apd_claims.specs.Parts.{after, digits_first, led_first, led_with, number_32}
+use Rattle.apd_parts.specs.Parts.{after, digits_first, led_first, led_with, number_32}
 use Rattle.apd_written.proofs.Parts.{after-self, all_digits, led, number-back}
 
 digits-count : (ds : List ℕ) (b : ℕ) (more : List ℕ) → list_all is_ascii_digit ds ≡ true → is_ascii_digit b ≡ false → digits_first (ds ++ b ∷ more) ≡ length ds

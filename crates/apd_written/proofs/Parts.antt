@@ -14,7 +14,7 @@ use Rattle.std.proofs.lemmas.Bool.Decides.{nat_tests}
 use Rattle.std.proofs.lemmas.Fmt.{decimal_is_IsNumeral, decimal_nonempty}
 use Rattle.std.proofs.lemmas.Str.Parse.{digit_from_value}
 use Rattle.apd_base.specs.declared.limits.TheConstants.{MAX_FILE}
-use Rattle.apd_claims.specs.Parts.{Led, after, at_start, onto_part, cut, cut_last, before, last_part, number_in, led_with, led_at, led_by, uncounted, counted_with, counted_at, counted, if_some}
+use Rattle.apd_parts.specs.Parts.{Led, after, at_start, onto_part, cut, cut_last, before, last_part, number_in, led_with, led_at, led_by, uncounted, counted_with, counted_at, counted, if_some}
 use Rattle.apd_written.specs.Texts.{IsShort}
 
 same_byte : (b : ℕ) → nat_eq b b ≡ true

@@ -27,7 +27,7 @@ use Rattle.apd_claims.specs.declared.form.Frame.TheVariants.{Truth, Cover}
 use Rattle.apd_claims.specs.declared.form.Numbered.{Numbered}
 use Rattle.apd_claims.specs.Claims.{asked as asked_entry, entry_for}
 use Rattle.apd_claims.specs.Forms.{asked_form, counted_form, form_in, kind_form}
-use Rattle.apd_claims.specs.Parts.{counted, if_some, uncounted}
+use Rattle.apd_parts.specs.Parts.{counted, if_some, uncounted}
 use Rattle.apd_claims.specs.Reading.{term_in}
 use Rattle.apd_written.specs.Claims.{canonical_asked, claims_of}
 use Rattle.apd_written.specs.Says.{HasNoBreak, Says}

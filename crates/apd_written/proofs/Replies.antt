@@ -29,7 +29,7 @@ use Rattle.apd_claims.specs.declared.form.Form.TheVariants.{Framed}
 use Rattle.apd_claims.specs.declared.form.Frame.TheVariants.{Reply as Answer}
 use Rattle.apd_claims.specs.Claims.{replied, reply_in}
 use Rattle.apd_claims.specs.Forms.{form_in, framed_reply, reply_form}
-use Rattle.apd_claims.specs.Parts.{before, counted, if_some, last_part}
+use Rattle.apd_parts.specs.Parts.{before, counted, if_some, last_part}
 use Rattle.apd_claims.specs.Reading.{as_clause, term_in}
 use Rattle.apd_written.specs.Claims.{claims_of}
 use Rattle.apd_written.specs.Says.{HasNoBreak, Says}

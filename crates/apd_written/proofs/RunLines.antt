@@ -24,7 +24,7 @@ use Rattle.apd_claims.specs.declared.claim.Claim.TheVariants.{Runs, Garbled}
 use Rattle.apd_claims.specs.declared.form.Form.TheVariants.{Query as IsQuery}
 use Rattle.apd_claims.specs.Claims.{query_told, query_claim, run_claim}
 use Rattle.apd_claims.specs.Forms.{form_in}
-use Rattle.apd_claims.specs.Parts.{if_some}
+use Rattle.apd_parts.specs.Parts.{if_some}
 use Rattle.apd_claims.specs.Reading.{as_clause, reading}
 use Rattle.apd_claims.specs.Saying.{claim_by}
 use Rattle.apd_written.specs.Claims.{query_written}

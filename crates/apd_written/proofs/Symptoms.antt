@@ -16,7 +16,7 @@ use Rattle.apd_claims.specs.declared.form.Form.TheVariants as forms
 use Rattle.apd_claims.specs.Claims.{told}
 use Rattle.apd_claims.specs.Forms.{form_in}
 use Rattle.apd_claims.specs.Parting.{called_by}
-use Rattle.apd_claims.specs.Parts.{if_some}
+use Rattle.apd_parts.specs.Parts.{if_some}
 use Rattle.apd_claims.specs.Reading.{as_clause, term_in}
 use Rattle.apd_claims.specs.Saying.{claim_by}
 use Rattle.apd_written.specs.Claims.{claims_of}

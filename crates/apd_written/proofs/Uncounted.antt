@@ -15,7 +15,7 @@ use Rattle.apd_answers.specs.declared.question.Question.TheVariants as asks
 use Rattle.apd_text.specs.ClauseTerms.{clause_term}
 use Rattle.apd_text.specs.Dialogues.{asked_text, atom_text}
 use Rattle.apd_write.specs.Writing.{written}
-use Rattle.apd_claims.specs.Parts.{Parts, cut, cut_last, number_32, led_with, led_at, uncounted, counted_if, counted_with, counted_at, counted, if_some}
+use Rattle.apd_parts.specs.Parts.{Parts, cut, cut_last, number_32, led_with, led_at, uncounted, counted_if, counted_with, counted_at, counted, if_some}
 use Rattle.apd_written.specs.Uttered.{IsQuestionWritten}
 use Rattle.apd_written.proofs.Endings.{cut-splits, cut_last-splits}
 use Rattle.apd_written.proofs.Watching.{Watch, Free, Square, SquareDigits, SquareSpace, SquareWord, Quoted, Slashed, Coded, Found, step, watched, watched-append, turn-calm, calm-by, other_byte, IsCalm, IsEnd, free_start}

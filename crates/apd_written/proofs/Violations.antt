@@ -25,7 +25,7 @@ use Rattle.apd_claims.specs.declared.parting.CallLine.{CallLine}
 use Rattle.apd_claims.specs.Claims.{call_entry, called, written}
 use Rattle.apd_claims.specs.Forms.{call_line_form, caller_form, form_in, goal_form, with_newline}
 use Rattle.apd_claims.specs.Parting.{called_by, claim_parted, claim_with, is_callers}
-use Rattle.apd_claims.specs.Parts.{Led, at_start, after, box_first, cut_last, if_some, led_by, onto_part}
+use Rattle.apd_parts.specs.Parts.{Led, at_start, after, box_first, cut_last, if_some, led_by, onto_part}
 use Rattle.apd_claims.specs.Reading.{as_clause, term_in}
 use Rattle.apd_written.specs.Claims.{claims_of}
 use Rattle.apd_written.specs.Says.{HasNoBreak, Says, call_line, no_line}

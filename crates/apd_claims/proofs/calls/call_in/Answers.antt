@@ -2,8 +2,8 @@ use Rattle.std.proofs.Common.{sym, ◌∙◌, []}
 use Rattle.std.specs.Option.{option_and_then}
 use Rattle.std.proofs.lemmas.Result.{IfOk-weaker}
 use Rattle.apd_claims.specs.Claims.{call_between, may_end}
-use Rattle.apd_claims.specs.Parts.{boxed_in, boxed_where}
-use Rattle.apd_claims.specs.declared.boxes.Quote.TheVariants.{Outside}
+use Rattle.apd_parts.specs.Parts.{boxed_in, boxed_where}
+use Rattle.apd_parts.specs.declared.boxes.Quote.TheVariants.{Outside}
 use Rattle.apd_claims.proofs.Behind.{nothing-first, something-first}
 use Rattle.apd_claims.proofs.Naming.{grown-twice}
 use Rattle.apd_claims.proofs.calls.call_in.Goals as goal

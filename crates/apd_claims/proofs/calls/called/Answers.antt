@@ -1,7 +1,7 @@
 use Rattle.std.proofs.Common.{None, ap, ◌∙◌}
 use Rattle.std.specs.Option.{option_map}
 use Rattle.apd_claims.specs.Claims.{call_entry}
-use Rattle.apd_claims.specs.Parts.{if_some}
+use Rattle.apd_parts.specs.Parts.{if_some}
 use Rattle.apd_claims.specs.Reading.{term_in}
 use Rattle.apd_claims.proofs.Naming.{calls-named, grown-twice}
 use Rattle.apd_claims.proofs.calls.called.Goals as goal

@@ -1,7 +1,7 @@
 use Rattle.std.proofs.Common.{ap, length, ◌∙◌}
 use Rattle.std.proofs.lemmas.Result.{IfOk-weaker}
 use Rattle.apd_claims.specs.Claims.{query_claim}
-use Rattle.apd_claims.specs.Parts.{if_some}
+use Rattle.apd_parts.specs.Parts.{if_some}
 use Rattle.apd_claims.specs.Reading.{reading}
 use Rattle.apd_claims.specs.declared.claim.Claim.TheVariants.{Garbled}
 use Rattle.apd_claims.proofs.ReadTexts.{few-symbols}

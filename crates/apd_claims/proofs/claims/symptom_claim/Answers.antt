@@ -1,6 +1,6 @@
 use Rattle.std.proofs.Common.{ap, ◌∙◌}
 use Rattle.apd_claims.specs.Claims.{told}
-use Rattle.apd_claims.specs.Parts.{if_some}
+use Rattle.apd_parts.specs.Parts.{if_some}
 use Rattle.apd_claims.specs.declared.claim.Claim.TheVariants.{Garbled}
 use Rattle.apd_claims.proofs.claims.symptom_claim.Goals as goal
 

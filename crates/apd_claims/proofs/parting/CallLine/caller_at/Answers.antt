@@ -1,7 +1,7 @@
 use Rattle.std.proofs.Common.{ap}
 use Rattle.std.specs.Option.{option_map}
 use Rattle.std.proofs.lemmas.List.{take_rest}
-use Rattle.apd_claims.specs.Parts.{Led}
+use Rattle.apd_parts.specs.Parts.{Led}
 use Rattle.apd_claims.proofs.parting.CallLine.caller_at.Goals as goal
 
 pub returns-in-Some : goal.returns-in-Some

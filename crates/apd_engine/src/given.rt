@@ -98,7 +98,7 @@ pub fn made(
     ensures more { OnOk result (Grows frames.old.tuples frames.new.tuples) }
 {
     if unread.points {
-        if !frames.fits()? {
+        if !frames.measure()? {
             return Ok(None);
         }
         return Ok(Some(Given::Point));

@@ -13,6 +13,11 @@ use Rattle.apd_unify.specs.declared.store.Cell.{Cell}
 use Rattle.apd_cells.specs.Stored.{Stored}
 use Rattle.apd_cells.specs.Store.{term_at, SizeWithin}
 use Rattle.apd_tuples.specs.Tuples.{tuple_of}
+use Rattle.apd_tuples.specs.declared.spots.Fact.TheVariants.{Nothing, Ground as Known}
+use Rattle.apd_trace.specs.declared.frame.Frame.{Frame}
+use Rattle.apd_frames.specs.declared.measuring.Measure.TheVariants.{Ground}
+use Rattle.apd_frames.specs.Measures.{MeasuresInnermost}
+use Rattle.apd_following.specs.Followed.{HoldsInnermost}
 use Rattle.apd_following.proofs.Keeping.{alone}
 
 pub size_alone : (s : Stored) (goal : Cell) (limit n : ℕ) (o : Option ℕ) → SizeWithin (term_at s goal.0) limit o → o ≡ Some n → n ≡ size (canonical_tuple (tuple_of s goal [])).head
@@ -56,3 +61,12 @@ ground_next s cs i d l e g =
 pub ground_whole : (s : Stored) (head : Cell) (cs : List Cell) (i : ℕ) → length cs ≤ i → flat_map variables (goal_terms s (take i cs)) ≡ [] → IsGround (term_at s head.0) → variables_of_tuple (tuple_of s head cs) ≡ []
 ground_whole s head cs i l e g =
     ap (λ vs. vs ++ flat_map variables (goal_terms s cs)) g ∙ ap (λ xs. flat_map variables (goal_terms s xs)) (sym (take_all i cs l)) ∙ e
+
+-- what is known of the innermost frame's instance
+pub holds_nothing : (F : List Frame) → HoldsInnermost Nothing F
+holds_nothing [] = tt
+holds_nothing (f ∷ F) = tt
+
+pub holds_ground : (F : List Frame) → MeasuresInnermost Ground F → HoldsInnermost Known F
+holds_ground [] h = tt
+holds_ground (f ∷ F) h = ground_canonical f.tuple h.1

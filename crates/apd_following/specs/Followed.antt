@@ -6,6 +6,8 @@ use Rattle.apd_term.specs.Canonical.{canonical}
 use Rattle.apd_term.specs.Tuple.{canonical_tuple}
 use Rattle.apd_term.specs.declared.tuple.Tuple.{Tuple}
 use Rattle.apd_clauses.specs.Codes.{tuple_code}
+use Rattle.apd_tuples.specs.declared.spots.Fact.{Fact}
+use Rattle.apd_tuples.specs.Tuples.{Holds}
 use Rattle.apd_following.specs.declared.following.KeptFrame.{KeptFrame}
 use Rattle.apd_trace.specs.Frames.{next_goal}
 use Rattle.apd_trace.specs.declared.frame.Frame.{Frame}
@@ -30,6 +32,11 @@ followed_code =
     (λ f. (f.current, (f.saved, f.tuples)))
     (λ p. record { current = p.0; saved = p.1.0; tuples = p.1.1 })
     (λ _. refl)
+
+-- what is known of the innermost frame's tuple is so
+abbrev pub HoldsInnermost : Fact → List Frame → Type 0
+HoldsInnermost fact [] = Unit {0}
+HoldsInnermost fact (f ∷ F) = Holds fact (canonical_tuple f.tuple)
 
 -- the innermost frame's tuple stands behind the others, in canonical form, with this number and so many goals; and the rest of what is told of the frame
 pub record IsKept (n : KeptFrame) (F : List Frame) (old new : List Tuple) : Type 0 where

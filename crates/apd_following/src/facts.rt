@@ -1,13 +1,17 @@
 //! What is known of a tuple when it is kept.
 
-ghost use Rattle.std.specs.Prelude.{◌≡◌, ◌<◌, [], length, IfOk};
+ghost use Rattle.std.specs.Prelude.{◌≡◌, ◌<◌, List, [], length, IfOk};
 ghost use Rattle.std.specs.Bool.{OnTrue};
 ghost use Rattle.apd_term.specs.Tuple.{canonical_tuple, variables_of_tuple};
+ghost use Rattle.apd_trace.specs.declared.frame.Frame.{Frame};
+ghost use Rattle.apd_frames.specs.Measures.{MeasuresInnermost};
+ghost use Rattle.apd_following.specs.Followed.{HoldsInnermost};
 ghost use Rattle.apd_tuples.specs.Spots.{HavePlaces};
 ghost use Rattle.apd_tuples.specs.Tuples.{tuple_of, Holds};
 
 use apd_base::MOST_INSTANCE_SYMBOLS;
 use apd_frames::links::LinkRef;
+use apd_frames::measuring::Measure;
 use apd_tuples::spots::Fact;
 use apd_unify::store::{Cell, Store};
 use std::alloc::AllocError;
@@ -60,4 +64,15 @@ pub fn fact_of_instance(store: &Store, link: &LinkRef<'_>) -> Result<Fact, Alloc
         return Ok(Fact::Ground);
     }
     Ok(Fact::Nothing)
+}
+
+/// What is known of an instance that was measured.
+pub fn fact_of_measure(measure: Measure) -> Fact
+    ensures { (F : List Frame) → MeasuresInnermost measure F → HoldsInnermost result F }
+{
+    match measure {
+        Measure::Ground => Fact::Ground,
+        Measure::TooLarge => Fact::Nothing,
+        Measure::Fits => Fact::Nothing,
+    }
 }

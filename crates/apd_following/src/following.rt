@@ -12,17 +12,19 @@ ghost use Rattle.apd_trace.specs.Renaming.{AreAlike};
 ghost use Rattle.apd_frames.specs.Kept.{Calls, Enters, IsKey, MayCall, Takes, ahead_of, exit_in, fits, newest_of};
 ghost use Rattle.apd_trace.specs.declared.frame.Called.{Called};
 ghost use Rattle.apd_term.specs.Term.{predicate_of};
+ghost use Rattle.apd_frames.specs.Measures.{MeasuresInnermost};
 ghost use Rattle.apd_frames.specs.Solves.{solution_as, Keeps};
 ghost use Rattle.apd_following.specs.Tied.{IsTied};
 ghost use Rattle.apd_tuples.specs.Spots.{HavePlaces};
 ghost use Rattle.apd_tuples.specs.Tuples.{kept_tuples, tuple_of, AreThere, Holds};
-ghost use Rattle.apd_following.specs.Followed.{IsKept, KeepsGoal, KeepsInstance, kept_of};
+ghost use Rattle.apd_following.specs.Followed.{HoldsInnermost, IsKept, KeepsGoal, KeepsInstance, kept_of};
 
-use crate::facts::{fact_of_goal, fact_of_instance};
+use crate::facts::{fact_of_goal, fact_of_instance, fact_of_measure};
 use crate::tie::Tie;
 use apd_frames::ahead::Ahead;
 use apd_frames::builtin::Solved;
 use apd_frames::linked::Linked;
+use apd_frames::measuring::Measure;
 use apd_frames::reading::next_goal;
 use apd_term::{Pred, Sym, Tuple};
 use apd_trace::{Called, Look};
@@ -154,6 +156,23 @@ impl Following {
         self.linked.fits()
     }
 
+    /// The same. Sizes of long terms are kept on the way, so that later looks needn't count them.
+    pub fn measure(&mut self) -> Result<bool, AllocError>
+        ensures fits { IfOk result (λ b. b ≡ fits self.old.current) }
+        ensures kept { self.new ≡ self.old }
+    {
+        let seen = self.measured(false)?;
+        Ok(seen.fits())
+    }
+
+    /// What is seen of the innermost frame's instance, of its variables too where that is asked for.
+    fn measured(&mut self, looks: bool) -> Result<Measure, AllocError>
+        ensures measured { IfOk result (λ m. MeasuresInnermost m self.old.current) }
+        ensures kept { self.new ≡ self.old }
+    {
+        self.linked.measure(looks)
+    }
+
     /// The predicate of the innermost frame's next goal; none where it calls none.
     pub fn predicate(&self) -> Option<Pred>
         ensures { (n : ℕ) (g : Called) → Calls self.now.current n g →
@@ -272,10 +291,11 @@ impl Following {
             (λ o. KeepsInstance o self.old.current self.old.tuples self.new.tuples) }
         ensures err { OnErr result (self.new.tuples ≡ self.old.tuples) }
     {
-        if !self.fits()? {
+        let seen = self.measured(true)?;
+        if !seen.fits() {
             return Ok(None);
         }
-        let kept = self.keep_any()?;
+        let kept = self.keep_with(fact_of_measure(seen))?;
         Ok(Some(kept))
     }
 
@@ -287,10 +307,32 @@ impl Following {
             (λ n. IsKept n self.old.current self.old.tuples self.new.tuples) }
         ensures err { OnErr result (self.new.tuples ≡ self.old.tuples) }
     {
+        let fact = self.fact()?;
+        self.keep_with(fact)
+    }
+
+    /// What is known of the innermost frame's instance.
+    fn fact(&self) -> Result<Fact, AllocError>
+        ensures { IfOk result (λ f. HoldsInnermost f self.now.current) }
+    {
+        match self.linked.links.get(self.linked.innermost) {
+            None => Ok(Fact::Nothing),
+            Some(link) => fact_of_instance(&self.linked.store, &link),
+        }
+    }
+
+    /// Keeps the innermost frame's instance, of which this is known, and tells of the frame.
+    fn keep_with(&mut self, fact: Fact) -> Result<KeptFrame, AllocError>
+        requires some { 0 < length self.old.current }
+        requires fact { HoldsInnermost fact self.old.current }
+        ensures frames { kept_of self.new ≡ kept_of self.old }
+        ensures kept { IfOk result
+            (λ n. IsKept n self.old.current self.old.tuples self.new.tuples) }
+        ensures err { OnErr result (self.new.tuples ≡ self.old.tuples) }
+    {
         match self.linked.links.get(self.linked.innermost) {
             None => unreachable!(),
             Some(link) => {
-                let fact = fact_of_instance(&self.linked.store, &link)?;
                 let (tie, spots) = (&mut self.tie, &mut self.spots);
                 let tuple = keep_at(tie, spots, &self.linked.store, link.head, link.goals, fact)?;
                 Ok(KeptFrame {

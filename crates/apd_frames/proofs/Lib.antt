@@ -13,3 +13,4 @@ pub mod Bounds
 pub mod Valued
 pub mod Settled
 pub mod Framed
+pub mod Seeing

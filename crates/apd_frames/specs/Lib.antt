@@ -5,4 +5,5 @@ pub mod Values
 pub mod Links
 pub mod Instances
 pub mod Linked
+pub mod Measures
 pub mod Framed

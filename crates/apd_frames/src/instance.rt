@@ -93,7 +93,7 @@ pub fn instantiate(
 }
 
 /// A head and [`MOST_GOALS`] goals of so many symbols have no more together than an instance may have.
-const MOST_OF_EACH: usize = 15_384;
+pub(crate) const MOST_OF_EACH: usize = 15_384;
 
 /// Whether a link's instance has no more symbols than it may have. No more than these are passed, and
 /// none where the store tells that no term is long.
@@ -115,21 +115,6 @@ pub fn is_within(store: &Store, link: &LinkRef<'_>) -> Result<bool, AllocError>
         left -= size;
     }
     Ok(true)
-}
-
-/// Keeps the sizes of long terms in a link's instance, so that [`is_within`] needn't count them.
-pub fn keep_sizes(store: &mut Store, link: &LinkRef<'_>) -> Result<(), AllocError>
-    requires { IsThere store.old link.now }
-    ensures { store.new ≡ store.old }
-{
-    if store.are_within(MOST_OF_EACH) {
-        return Ok(());
-    }
-    store.keep_sizes(link.head, MOST_INSTANCE_SYMBOLS)?;
-    'goals: for goal in link.goals {
-        store.keep_sizes(*goal, MOST_INSTANCE_SYMBOLS)?;
-    }
-    Ok(())
 }
 
 /// The tuple of a link's instance in canonical form, with all bindings applied; none exactly where it

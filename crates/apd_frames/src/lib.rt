@@ -10,6 +10,7 @@ pub mod frames;
 pub mod instance;
 pub mod linked;
 pub mod links;
+pub mod measuring;
 pub mod reading;
 pub mod settling;
 mod small;

@@ -10,14 +10,16 @@ ghost use Rattle.apd_frames.specs.Kept.{Calls, Enters, IsIn, IsKey, MayCall, Tak
 ghost use Rattle.apd_trace.specs.declared.frame.Called.{Called};
 ghost use Rattle.apd_term.specs.Term.{predicate_of};
 ghost use Rattle.apd_frames.specs.Links.{link_of, instance_of};
-ghost use Rattle.apd_frames.specs.Linked.{entered_link, ArePlaced, IsBranchAt};
+ghost use Rattle.apd_frames.specs.Linked.{entered_link, IsBranchAt};
+ghost use Rattle.apd_frames.specs.Measures.{MeasuresInnermost};
 ghost use Rattle.apd_frames.specs.Framed.{frames_of, AreFramed, BeginsEmpty, GoesBack, IsSame, KeepsStore};
 ghost use Rattle.apd_frames.specs.Solves.{solution_as, Keeps};
 
 use crate::ahead::Ahead;
 use crate::builtin::Solved;
-use crate::instance::{canonical_within, instantiate, is_within, keep_sizes, load_all};
+use crate::instance::{canonical_within, instantiate, is_within, load_all};
 use crate::links::{Branch, LinkRef, Links};
+use crate::measuring::{Measure, measured};
 use crate::reading::{ahead, goal_depth, left, look, next_goal};
 use crate::settling::{predicate_at, settle};
 use apd_cells::scratch::Scratch;
@@ -74,17 +76,6 @@ fn entered<'a>(
         done: 0,
         point,
         around,
-    }
-}
-
-/// Keeps the sizes of long terms in the instance of the link with this number, for [`Linked::fits`] to know.
-fn keep_innermost(store: &mut Store, links: &Links, number: usize) -> Result<(), AllocError>
-    requires { ArePlaced (length store.old.cells) links.now }
-    ensures { store.new ≡ store.old }
-{
-    match links.get(number) {
-        None => Ok(()),
-        Some(link) => keep_sizes(store, &link),
     }
 }
 
@@ -217,6 +208,20 @@ impl Linked {
         }
     }
 
+    /// The same, and where that is asked for and all goals are solved, whether it has variables. Sizes of long terms are
+    /// kept on the way, so that later looks needn't count them.
+    pub fn measure(&mut self, looks: bool) -> Result<Measure, AllocError>
+        requires { AreFramed self.old }
+        ensures measured { IfOk result
+            (λ m. MeasuresInnermost m (frames_of self.old).current) }
+        ensures same { IsSame self.old self.new }
+    {
+        match self.links.get(self.innermost) {
+            None => Ok(Measure::Fits),
+            Some(link) => measured(&mut self.store, &link, looks),
+        }
+    }
+
     /// The predicate of the innermost frame's next goal; none where it calls none.
     pub fn predicate(&self) -> Option<Pred>
         requires { AreFramed self.now }
@@ -273,7 +278,6 @@ impl Linked {
         let goals = self.goals.as_slice();
         let link = entered(box_no, depth, clause, head, goals, point, self.innermost);
         self.innermost = self.links.push(&link)?;
-        keep_innermost(&mut self.store, &self.links, self.innermost)?;
         Ok(true)
     }
 
@@ -299,7 +303,6 @@ impl Linked {
         let depth = goal_depth(&self.links, self.innermost);
         let link = entered(box_no, depth, BUILTIN, goal, &[], point, self.innermost);
         self.innermost = self.links.push(&link)?;
-        keep_innermost(&mut self.store, &self.links, self.innermost)?;
         Ok(solved)
     }
 
@@ -334,7 +337,6 @@ impl Linked {
             return Ok(());
         };
         self.innermost = number;
-        keep_innermost(&mut self.store, &self.links, self.innermost)?;
         Ok(())
     }
 

@@ -6,10 +6,10 @@ use Rattle.apd_engine.proofs.Telling.{makes_kept, tells_point}
 use Rattle.apd_engine.proofs.given.made.Goals as goal
 
 pub returns-then-not-branch-clause-made : goal.returns-then-not-branch-clause-made
-returns-then-not-branch-clause-made c = not-false (is_large_of c.args.frames.now.current) (sym c.in_ok-fits.ensures ∙ c.if-not-branch.true)
+returns-then-not-branch-clause-made c = not-false (is_large_of c.args.frames.now.current) (sym c.in_ok-measure.ensures.fits ∙ c.if-not-branch.true)
 
 pub returns-then-unread-clause-made : goal.returns-then-unread-clause-made
-returns-then-unread-clause-made c = tells_point c.args.frames.now.tuples c.args.unread c.args.frames.now.current c.args.before c.if-unread.true c.requires (sym c.in_ok-fits.ensures ∙ c.if-not-branch.false)
+returns-then-unread-clause-made c = tells_point c.measure.new.self.tuples c.args.unread c.args.frames.now.current c.args.before c.if-unread.true c.requires (sym c.in_ok-measure.ensures.fits ∙ c.if-not-branch.false)
 
 pub returns-in-Some-clause-made : goal.returns-in-Some-clause-made
 returns-in-Some-clause-made c =

@@ -50,29 +50,6 @@ returns-in_err-self-clause-framed c =
     subst (λ ls. IsFramed c.instantiate.new.store ls c.args.self.now.innermost c.args.self.now.branches) (sym c.in_err-self.ensures.err)
     (framed_kept c.args.self.now.store c.instantiate.new.store c.args.self.now.links c.args.self.now.innermost c.args.self.now.branches c.instantiate.ensures.kept c.instantiate.ensures.cells c.requires.framed)
 
-pub keep_innermost-requires : goal.keep_innermost-requires
-keep_innermost-requires c =
-    let i : Instance = instance_of c.in-Some-2.head c.as_slice-goals.result.now in
-    let inst : IsInstantiated i c.args.self.now.store c.instantiate.new.store c.in-Some.goal.0 c.in_ok-head.ensures.answer.variant =
-    instance_there c.instantiate.new.goals.items c.as_slice-goals.result.now c.in_ok-head.field-0 c.in-Some-2.head c.args.self.now.store c.instantiate.new.store c.in-Some.goal.0 c.in_ok-head.ensures.answer.variant
-    c.as_slice-goals.ensures.value c.in-Some-2.is c.in_ok-head.ensures.answer.is in
-    let g : Called = record { box_no = c.args.box_no; caller = 0; depth = c.goal_depth-depth.result; atom = variable 0 } in
-    (entered_framed c.args.self.now.store c.args.self.now.links c.args.self.now.innermost c.args.self.now.branches (frames_of c.args.self.now) refl c.requires.framed g c.args.rule.now c.args.clause c.args.point c.instantiate.new.store c.instantiate.ensures.kept c.instantiate.ensures.cells
-    (link_of c.entered-link.result) i c.push.new.self c.in_ok-self.field-0 inst.inside (c.entered-link.ensures g (record { box = refl; deep = refl }))
-    c.in_ok-self.ensures.ok c.in_ok-self.ensures.number).placed
-
-pub returns-in_err-keep_innermost-clause-framed : goal.returns-in_err-keep_innermost-clause-framed
-returns-in_err-keep_innermost-clause-framed c =
-    let i : Instance = instance_of c.in-Some-2.head c.as_slice-goals.result.now in
-    let inst : IsInstantiated i c.args.self.now.store c.instantiate.new.store c.in-Some.goal.0 c.in_ok-head.ensures.answer.variant =
-    instance_there c.instantiate.new.goals.items c.as_slice-goals.result.now c.in_ok-head.field-0 c.in-Some-2.head c.args.self.now.store c.instantiate.new.store c.in-Some.goal.0 c.in_ok-head.ensures.answer.variant
-    c.as_slice-goals.ensures.value c.in-Some-2.is c.in_ok-head.ensures.answer.is in
-    let g : Called = record { box_no = c.args.box_no; caller = 0; depth = c.goal_depth-depth.result; atom = variable 0 } in
-    subst (λ s. IsFramed s c.push.new.self c.in_ok-self.field-0 c.args.self.now.branches) (sym c.keep_innermost.ensures)
-    (entered_framed c.args.self.now.store c.args.self.now.links c.args.self.now.innermost c.args.self.now.branches (frames_of c.args.self.now) refl c.requires.framed g c.args.rule.now c.args.clause c.args.point c.instantiate.new.store c.instantiate.ensures.kept c.instantiate.ensures.cells
-    (link_of c.entered-link.result) i c.push.new.self c.in_ok-self.field-0 inst.inside (c.entered-link.ensures g (record { box = refl; deep = refl }))
-    c.in_ok-self.ensures.ok c.in_ok-self.ensures.number)
-
 pub returns-clause-framed : goal.returns-clause-framed
 returns-clause-framed c =
     let i : Instance = instance_of c.in-Some-2.head c.as_slice-goals.result.now in
@@ -80,7 +57,6 @@ returns-clause-framed c =
     instance_there c.instantiate.new.goals.items c.as_slice-goals.result.now c.in_ok-head.field-0 c.in-Some-2.head c.args.self.now.store c.instantiate.new.store c.in-Some.goal.0 c.in_ok-head.ensures.answer.variant
     c.as_slice-goals.ensures.value c.in-Some-2.is c.in_ok-head.ensures.answer.is in
     let g : Called = record { box_no = c.args.box_no; caller = 0; depth = c.goal_depth-depth.result; atom = variable 0 } in
-    subst (λ s. IsFramed s c.push.new.self c.in_ok-self.field-0 c.args.self.now.branches) (sym c.keep_innermost.ensures)
     (entered_framed c.args.self.now.store c.args.self.now.links c.args.self.now.innermost c.args.self.now.branches (frames_of c.args.self.now) refl c.requires.framed g c.args.rule.now c.args.clause c.args.point c.instantiate.new.store c.instantiate.ensures.kept c.instantiate.ensures.cells
     (link_of c.entered-link.result) i c.push.new.self c.in_ok-self.field-0 inst.inside (c.entered-link.ensures g (record { box = refl; deep = refl }))
     c.in_ok-self.ensures.ok c.in_ok-self.ensures.number)
@@ -91,10 +67,6 @@ returns-clause-enters c = λ g calls.
     let inst : IsInstantiated i c.args.self.now.store c.instantiate.new.store c.in-Some.goal.0 c.in_ok-head.ensures.answer.variant =
     instance_there c.instantiate.new.goals.items c.as_slice-goals.result.now c.in_ok-head.field-0 c.in-Some-2.head c.args.self.now.store c.instantiate.new.store c.in-Some.goal.0 c.in_ok-head.ensures.answer.variant
     c.as_slice-goals.ensures.value c.in-Some-2.is c.in_ok-head.ensures.answer.is in
-    subst
-    (λ s. HasEntered (entering (frames_of c.args.self.now).current g c.args.rule.now c.args.clause c.args.point) (frames_of c.args.self.now)
-    (view_of s c.push.new.self c.in_ok-self.field-0 c.args.self.now.branches))
-    (sym c.keep_innermost.ensures)
     (enters_so c.args.self.now.store c.args.self.now.links c.args.self.now.innermost c.args.self.now.branches (frames_of c.args.self.now) refl c.requires.framed g c.args.rule.now c.args.clause c.args.point c.instantiate.new.store c.instantiate.ensures.kept c.instantiate.ensures.cells
     c.in-Some.goal i c.in_ok-head.ensures.answer.variant (link_of c.entered-link.result) c.push.new.self c.in_ok-self.field-0
     c.in-Some.ensures c.instantiate.ensures.numbered c.in_ok-head.ensures.answer.renamed inst

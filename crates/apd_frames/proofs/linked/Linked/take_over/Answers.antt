@@ -11,28 +11,10 @@ push_handed-requires c = λ l e.
     (innermost_some c.args.self.now.store c.args.self.now.links c.args.self.now.innermost c.args.self.now.branches (frames_of c.args.self.now) l refl c.requires.framed e)
     c.requires.takes
 
-pub keep_innermost-requires : goal.keep_innermost-requires
-keep_innermost-requires c =
-    let h : HasHanded c.in-Some.number c.args.self.now.links c.push_handed.new.self c.args.self.now.innermost c.args.point =
-    subst (λ o. Hands o c.args.self.now.links c.push_handed.new.self c.args.self.now.innermost c.args.point) c.in-Some.is c.in_ok-number.ensures.ok in
-    (takes_framed c.args.self.now.store c.args.self.now.links c.args.self.now.innermost c.args.self.now.branches (frames_of c.args.self.now) h.link (handed_link h.link c.args.point) c.args.point c.in-Some.number c.push_handed.new.self c.requires.framed
-    (innermost_some c.args.self.now.store c.args.self.now.links c.args.self.now.innermost c.args.self.now.branches (frames_of c.args.self.now) h.link refl c.requires.framed h.is)
-    refl h.more h.number).placed
-
 pub returns-clause-framed : goal.returns-clause-framed
 returns-clause-framed c =
     let h : HasHanded c.in-Some.number c.args.self.now.links c.push_handed.new.self c.args.self.now.innermost c.args.point =
     subst (λ o. Hands o c.args.self.now.links c.push_handed.new.self c.args.self.now.innermost c.args.point) c.in-Some.is c.in_ok-number.ensures.ok in
-    subst (λ s. IsFramed s c.push_handed.new.self c.in-Some.number c.args.self.now.branches) (sym c.keep_innermost.ensures)
-    (takes_framed c.args.self.now.store c.args.self.now.links c.args.self.now.innermost c.args.self.now.branches (frames_of c.args.self.now) h.link (handed_link h.link c.args.point) c.args.point c.in-Some.number c.push_handed.new.self c.requires.framed
-    (innermost_some c.args.self.now.store c.args.self.now.links c.args.self.now.innermost c.args.self.now.branches (frames_of c.args.self.now) h.link refl c.requires.framed h.is)
-    refl h.more h.number)
-
-pub returns-in_err-keep_innermost-clause-framed : goal.returns-in_err-keep_innermost-clause-framed
-returns-in_err-keep_innermost-clause-framed c =
-    let h : HasHanded c.in-Some.number c.args.self.now.links c.push_handed.new.self c.args.self.now.innermost c.args.point =
-    subst (λ o. Hands o c.args.self.now.links c.push_handed.new.self c.args.self.now.innermost c.args.point) c.in-Some.is c.in_ok-number.ensures.ok in
-    subst (λ s. IsFramed s c.push_handed.new.self c.in-Some.number c.args.self.now.branches) (sym c.keep_innermost.ensures)
     (takes_framed c.args.self.now.store c.args.self.now.links c.args.self.now.innermost c.args.self.now.branches (frames_of c.args.self.now) h.link (handed_link h.link c.args.point) c.args.point c.in-Some.number c.push_handed.new.self c.requires.framed
     (innermost_some c.args.self.now.store c.args.self.now.links c.args.self.now.innermost c.args.self.now.branches (frames_of c.args.self.now) h.link refl c.requires.framed h.is)
     refl h.more h.number)
@@ -41,8 +23,7 @@ pub returns-clause-taken : goal.returns-clause-taken
 returns-clause-taken c =
     let h : HasHanded c.in-Some.number c.args.self.now.links c.push_handed.new.self c.args.self.now.innermost c.args.point =
     subst (λ o. Hands o c.args.self.now.links c.push_handed.new.self c.args.self.now.innermost c.args.point) c.in-Some.is c.in_ok-number.ensures.ok in
-    ap (λ s. view_of s c.push_handed.new.self c.in-Some.number c.args.self.now.branches) c.keep_innermost.ensures
-    ∙ takes_over c.args.self.now.store c.args.self.now.links c.args.self.now.innermost c.args.self.now.branches (frames_of c.args.self.now) h.link c.args.point c.in-Some.number c.push_handed.new.self refl c.requires.framed
+    takes_over c.args.self.now.store c.args.self.now.links c.args.self.now.innermost c.args.self.now.branches (frames_of c.args.self.now) h.link c.args.point c.in-Some.number c.push_handed.new.self refl c.requires.framed
     (innermost_some c.args.self.now.store c.args.self.now.links c.args.self.now.innermost c.args.self.now.branches (frames_of c.args.self.now) h.link refl c.requires.framed h.is)
     h.more h.number
 

@@ -1,4 +1,4 @@
-use Rattle.std.proofs.Common.{◌∙◌, ap, arith, length, refl, sym}
+use Rattle.std.proofs.Common.{◌∙◌, ap, arith, length, refl, subst, sym}
 use Rattle.std.proofs.lemmas.List.{length-map}
 use Rattle.apd_unify.specs.declared.store.Cell.{Cell}
 use Rattle.apd_cells.specs.Store.{term_at}
@@ -6,17 +6,17 @@ use Rattle.apd_frames.specs.Framed.{frames_of}
 use Rattle.apd_frames.specs.Linked.{frame_in, frames_at}
 use Rattle.apd_frames.specs.Links.{link_of}
 use Rattle.apd_frames.proofs.Current.{IsInnermost, innermost_none, innermost_some}
-use Rattle.apd_following.specs.Followed.{Followed, kept_of}
+use Rattle.apd_following.specs.Followed.{Followed, HoldsInnermost, kept_of}
 use Rattle.apd_tuples.specs.Tuples.{kept_tuple, kept_tuples}
 use Rattle.apd_tuples.proofs.Spanning.{on_err_always}
 use Rattle.apd_following.proofs.Keeping.{have_places, keeps_so}
-use Rattle.apd_following.proofs.following.Following.keep_any.Goals as goal
+use Rattle.apd_following.proofs.following.Following.keep_with.Goals as goal
 
 pub unreachable-requires : goal.unreachable-requires
 unreachable-requires c =
     let e = ap length (innermost_none c.self.inside.linked.store c.self.inside.linked.links c.self.inside.linked.innermost c.self.inside.linked.branches (frames_of c.self.inside.linked) refl c.in-None.ensures) in
     let n = ap (λ (f : Followed). length f.current) c.self.view_is in
-    omega (arith, c.requires, e, n)
+    omega (arith, c.requires.some, e, n)
 
 pub keep_at-requires-clause-tied : goal.keep_at-requires-clause-tied
 keep_at-requires-clause-tied c = c.self.invariant.1
@@ -24,14 +24,9 @@ keep_at-requires-clause-tied c = c.self.invariant.1
 pub keep_at-requires-clause-there : goal.keep_at-requires-clause-there
 keep_at-requires-clause-there c = c.self.invariant.2
 
-pub fact_of_instance-requires-clause-head : goal.fact_of_instance-requires-clause-head
-fact_of_instance-requires-clause-head c =
-    (innermost_some c.self.inside.linked.store c.self.inside.linked.links c.self.inside.linked.innermost c.self.inside.linked.branches (frames_of c.self.inside.linked) (link_of c.in-Some.link) refl c.self.invariant.0 c.in-Some.ensures).inside.head
-
-pub fact_of_instance-requires-clause-goals : goal.fact_of_instance-requires-clause-goals
-fact_of_instance-requires-clause-goals c =
-    have_places (length c.self.inside.linked.store.cells) c.in-Some.link.goals.now
-    (innermost_some c.self.inside.linked.store c.self.inside.linked.links c.self.inside.linked.innermost c.self.inside.linked.branches (frames_of c.self.inside.linked) (link_of c.in-Some.link) refl c.self.invariant.0 c.in-Some.ensures).inside.goals
+pub keep_at-requires-clause-fact : goal.keep_at-requires-clause-fact
+keep_at-requires-clause-fact c =
+    subst (HoldsInnermost c.args.fact) (sym (ap (λ (f : Followed). f.current) c.self.view_is) ∙ (innermost_some c.self.inside.linked.store c.self.inside.linked.links c.self.inside.linked.innermost c.self.inside.linked.branches (frames_of c.self.inside.linked) (link_of c.in-Some.link) refl c.self.invariant.0 c.in-Some.ensures).is) c.requires.fact
 
 pub keep_at-requires-clause-head : goal.keep_at-requires-clause-head
 keep_at-requires-clause-head c =
@@ -50,7 +45,7 @@ returns-in_err-tuple-in-Some-clause-frames c = ap kept_of c.self.view_is
 
 pub returns-in_err-tuple-in-Some-clause-err : goal.returns-in_err-tuple-in-Some-clause-err
 returns-in_err-tuple-in-Some-clause-err c =
-    on_err_always c.from_residual-in_err-tuple-in-Some.result _
+    on_err_always c.from_residual.result _
     (c.in_err-tuple-in-Some.ensures.err ∙ ap (λ (f : Followed). f.tuples) c.self.view_is)
 
 pub invariant_of-self : goal.invariant_of-self

@@ -1,12 +1,12 @@
 -- Bits of a row that are set, and that are left.
-use Rattle.std.proofs.Common.{◌≡◌, ◌≢◌, inl, inr, ℕ, zero, suc, ◌*◌, ◌/◌, ◌%◌, ◌^◌, ◌<◌, ◌==◌, ◌++◌, min, true, List, [], ◌∷◌, length, get_or, set, refl, sym, ap, ◌∙◌, subst, arith, eq-eqb}
+use Rattle.std.proofs.Common.{◌≡◌, ◌≢◌, ◌⊎◌, inl, inr, ℕ, zero, suc, ◌+◌, ◌*◌, ◌/◌, ◌%◌, ◌^◌, ◌<◌, ◌≤◌, ◌==◌, ◌++◌, min, true, List, [], ◌∷◌, length, get_or, set, refl, sym, ap, ◌∙◌, subst, arith, eq-eqb}
 use Rattle.std.specs.Prelude.{bit_and, bit_or}
-use Rattle.std.specs.Int.{bit_at, w64}
+use Rattle.std.specs.Int.{bit_at, bit_not, w64}
 use Rattle.std.proofs.lemmas.Bool.{eqb-true}
 use Rattle.std.proofs.lemmas.Bool.Decides.{eqb_tells}
 use Rattle.std.proofs.lemmas.List.{get_or-set_other, get_or-set_same}
-use Rattle.std.proofs.lemmas.Nat.Bits.{bit_at_and, bit_at_set_other, bit_at_set_same}
-use Rattle.apd_index.specs.Rows.{HasBit, IsWithin}
+use Rattle.std.proofs.lemmas.Nat.Bits.{bit_at-zero, bit_at_and, bit_at_clear_other, bit_at_set_other, bit_at_set_same}
+use Rattle.apd_index.specs.Rows.{HasBit, IsClear, IsWithin, IsWithinBut}
 
 -- A bit of a word.
 
@@ -61,6 +61,25 @@ module _ (words : List ℕ) (place : ℕ) (l : place / 64 < length words) where
   bits-still k h =
       either words (place / 64) (with_bit (get_or words (place / 64) 0) (place % 64)) k l (λ g s. bit-still (get_or words (place / 64) 0) (place % 64) (k % 64) (within place) s) h
 
+  pub bits-only : IsWithinBut changed words place
+  bits-only k h = elim (eqb_tells k place) [
+    | inl e ↦ inr e.1
+    | inr n ↦ inl (elim (eqb_tells (k / 64) (place / 64)) [
+      | inl e ↦ same-word e.1 (λ f. n.1 (same-place e.1 f))
+      | inr m ↦ subst (λ (w : ℕ). IsSet w (k % 64)) (get_or-set_other words (place / 64) (k / 64) (with_bit (get_or words (place / 64) 0) (place % 64)) 0 m.1) h
+    ])
+  ]
+    where
+      same-place : k / 64 ≡ place / 64 → k % 64 ≡ place % 64 → k ≡ place
+      same-place e f = omega (arith, e, f)
+
+      same-word : k / 64 ≡ place / 64 → k % 64 ≢ place % 64 → HasBit words k
+      same-word e n =
+          let now : IsSet (with_bit (get_or words (place / 64) 0) (place % 64)) (k % 64) =
+          subst (λ (w : ℕ). IsSet w (k % 64)) (ap (λ (j : ℕ). get_or changed j 0) e ∙ get_or-set_same words (place / 64) (with_bit (get_or words (place / 64) 0) (place % 64)) 0 l) h in
+          subst (λ (j : ℕ). IsSet (get_or words j 0) (k % 64)) (sym e)
+          (subst (λ (d : ℕ). (d == 1) ≡ true) (bit_at_set_other w64 (get_or words (place / 64) 0) (place % 64) (within place) (k % 64) n) now)
+
 -- the bits of a word are left that another row has too
 pub bits-met : (words other : List ℕ) (i k : ℕ) → i < length words → HasBit words k → HasBit other k → HasBit (set words i (bit_and (get_or words i 0) (get_or other i 0))) k
 bits-met words other i k l h o = elim (eqb_tells (k / 64) i) [
@@ -68,6 +87,47 @@ bits-met words other i k l h o = elim (eqb_tells (k / 64) i) [
       (bit-both (get_or words i 0) (get_or other i 0) (k % 64) (subst (λ (j : ℕ). IsSet (get_or words j 0) (k % 64)) e.1 h) (subst (λ (j : ℕ). IsSet (get_or other j 0) (k % 64)) e.1 o))
   | inr n ↦ there words i (bit_and (get_or words i 0) (get_or other i 0)) k l n.1 h
 ]
+
+-- the bits of other places are left where a place's bit is cleared
+pub bits-cleared : (words : List ℕ) (place k : ℕ) → place / 64 < length words → k ≢ place → HasBit words k → HasBit (set words (place / 64) (bit_and (get_or words (place / 64) 0) (bit_not w64 (1 * 2 ^ (place % 64) % 2 ^ 64)))) k
+bits-cleared words place k l n h = elim (eqb_tells (k / 64) (place / 64)) [
+  | inl e ↦
+      let other : k % 64 ≢ place % 64 = λ same. n (omega (arith, e.1, same)) in
+      here words (place / 64) (bit_and (get_or words (place / 64) 0) (bit_not w64 (1 * 2 ^ (place % 64) % 2 ^ 64))) k l e.1
+      (subst (λ (d : ℕ). (d == 1) ≡ true) (sym (bit_at_clear_other w64 (get_or words (place / 64) 0) (place % 64) (within place) (k % 64) (within k) other))
+      (subst (λ (j : ℕ). IsSet (get_or words j 0) (k % 64)) e.1 h))
+  | inr m ↦ there words (place / 64) (bit_and (get_or words (place / 64) 0) (bit_not w64 (1 * 2 ^ (place % 64) % 2 ^ 64))) k l m.1 h
+]
+
+-- A row without bits.
+
+-- so many words are zero
+abbrev pub AreZeros : List ℕ → ℕ → Type 0
+AreZeros words i = (j : ℕ) → j < i → get_or words j 0 ≡ 0
+
+pub zeros-go : (words : List ℕ) (i : ℕ) → get_or words i 0 ≡ 0 → AreZeros words i → AreZeros words (i + 1)
+zeros-go words i here so_far j l = elim (eqb_tells j i) [
+  | inl e ↦ ap (λ (k : ℕ). get_or words k 0) e.1 ∙ here
+  | inr n ↦ let earlier : j < i = omega (arith, l, n.1) in so_far j earlier
+]
+
+past-end : (words : List ℕ) (j : ℕ) → length words ≤ j → get_or words j 0 ≡ 0
+past-end [] zero l = refl
+past-end [] (suc j) l = refl
+past-end (w ∷ words) zero l = absurd (omega (arith, l))
+past-end (w ∷ words) (suc j) l = past-end words j (omega (arith, l))
+
+pub all-clear : (words : List ℕ) (i : ℕ) → length words ≤ i → AreZeros words i → IsClear words
+all-clear words i l zeros k = ap (λ (word : ℕ). bit_at word (k % 64) == 1) nothing ∙ ap (λ (bit : ℕ). bit == 1) (bit_at-zero (k % 64))
+  where
+    nothing : get_or words (k / 64) 0 ≡ 0
+    nothing = elim (within-or-past (k / 64) (length words)) [ inl w ↦ zeros (k / 64) (omega (arith, w, l)) | inr p ↦ past-end words (k / 64) p ]
+      where
+        within-or-past : (a b : ℕ) → (a < b) ⊎ (b ≤ a)
+        within-or-past zero zero = inr (omega arith)
+        within-or-past zero (suc b) = inl (omega arith)
+        within-or-past (suc a) zero = inr (omega arith)
+        within-or-past (suc a) (suc b) = elim (within-or-past a b) [ inl w ↦ inl (omega (arith, w)) | inr p ↦ inr (omega (arith, p)) ]
 
 -- A row that is longer.
 
@@ -79,3 +139,6 @@ zero-behind (w ∷ words) (suc i) = zero-behind words i
 
 pub longer-has : (words new : List ℕ) → new ≡ words ++ 0 ∷ [] → IsWithin words new
 longer-has words new e k h = subst (λ (ws : List ℕ). HasBit ws k) (sym e) (subst (λ (w : ℕ). IsSet w (k % 64)) (sym (zero-behind words (k / 64))) h)
+
+pub longer-only : (words new : List ℕ) → new ≡ words ++ 0 ∷ [] → IsWithin new words
+longer-only words new e k h = subst (λ (w : ℕ). IsSet w (k % 64)) (zero-behind words (k / 64)) (subst (λ (ws : List ℕ). HasBit ws k) e h)

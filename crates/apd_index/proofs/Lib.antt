@@ -4,3 +4,7 @@ pub mod Noting
 pub mod Retrieval
 pub mod Bits
 pub mod Shared
+pub mod Parts
+pub mod Passing
+pub mod Mixed
+pub mod Agreeing

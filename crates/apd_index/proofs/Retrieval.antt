@@ -5,11 +5,12 @@ use Rattle.std.specs.List.{list_any}
 use Rattle.std.proofs.lemmas.List.{take_more}
 use Rattle.apd_term.specs.Term.{Term, IsAmong}
 use Rattle.apd_term.specs.Matching.{is_instance}
+use Rattle.apd_term.specs.Substitution.{IsInstance}
 use Rattle.apd_term.proofs.Opposite.{is_instance-is}
 use Rattle.apd_marks.specs.Places.{Index, places_at}
 use Rattle.apd_marks.specs.Positions.{IsLasting, all_marks}
 use Rattle.apd_index.specs.Retrieval.{AreGenerals, AreKept, AreSpecials, IsNotedAbove, IsNotedBelow, has_general, has_special, is_above, is_below}
-use Rattle.apd_index.specs.Rows.{HasBit, has_bit}
+use Rattle.apd_index.specs.Rows.{HasBit, IsClear, has_bit}
 use Rattle.apd_index.proofs.Telling.{among-any, any-among, any-there, same-truth, there-any}
 use Rattle.apd_marks.proofs.Walking.{lasting-marks}
 
@@ -109,12 +110,16 @@ module _ (xs : List Term) (places : Index) (a : Term) where
     special-there : list_any below_at ps ≡ true → has_special xs a ≡ true
     special-there h = let k = any-among below_at ps h in at-below xs a k.0 (both-right (has_bit row k.0) (is_below a (slice_get xs k.0)) k.2)
 
-    -- these have each place that is noted for all marks of the atom that its instances have too
-    special-found : ((k : ℕ) → ((m : ℕ) → IsLasting a m → IsAmong (places_at places m) k) → IsAmong ps k × HasBit row k) → AreSpecials xs places → has_special xs a ≡ true → list_any below_at ps ≡ true
-    special-found all noted h =
+    -- these have the place of each instance of the atom
+    special-found : ((k : ℕ) (x : Term) → slice_get xs k ≡ Some x → IsInstance x a → IsAmong ps k × HasBit row k) → has_special xs a ≡ true → list_any below_at ps ≡ true
+    special-found all h =
         let t = any-there (λ (y : Term). is_instance y a) xs h in
-        let k = all t.0 (λ m lasting. noted t.0 t.1 t.2 m (lasting-marks t.1 a m ((is_instance-is t.1 a).0 t.3) lasting)) in
+        let k = all t.0 t.1 t.2 ((is_instance-is t.1 a).0 t.3) in
         among-any below_at ps t.0 k.0 (both-true (has_bit row t.0) (is_below a (slice_get xs t.0)) k.1 (ap (is_below a) t.2 ∙ t.3))
+
+-- an instance of an atom is noted for all marks of that one that its instances have too
+pub lasting-noted : (xs : List Term) (places : Index) (a x : Term) (k : ℕ) → AreSpecials xs places → slice_get xs k ≡ Some x → IsInstance x a → (m : ℕ) → IsLasting a m → IsAmong (places_at places m) k
+lasting-noted xs places a x k noted e i m lasting = noted k x e m (lasting-marks x a m i lasting)
 
 -- where there is memory
 
@@ -123,9 +128,19 @@ pub general-is : {E : Type 0} (r : Result Bool E) (xs : List Term) (places : Ind
 general-is (Ok b) xs places a noted e = e ∙ same-truth (list_any (above_at xs places a) (all_marks a)) (has_general xs a) (general-there xs places a) (general-found xs places a noted)
 general-is (Err u) xs places a noted e = tt
 
-pub special-is : {E : Type 0} (r : Result Bool E) (xs : List Term) (places : Index) (a : Term) (ps row : List ℕ) → AreSpecials xs places
-    → ((k : ℕ) → ((m : ℕ) → IsLasting a m → IsAmong (places_at places m) k) → IsAmong ps k × HasBit row k)
+-- no place is found where no bit is left
+pub none-left : (f : ℕ → Bool) (row ps : List ℕ) → IsClear row → list_any (λ (k : ℕ). has_bit row k && f k) ps ≡ false
+none-left f row [] clear = refl
+none-left f row (k ∷ ps) clear = rw (clear k) (none-left f row ps clear)
+
+pub special-is : {E : Type 0} (r : Result Bool E) (xs : List Term) (places : Index) (a : Term) (ps row : List ℕ)
+    → ((k : ℕ) (x : Term) → slice_get xs k ≡ Some x → IsInstance x a → IsAmong ps k × HasBit row k)
     → IfOk r (λ b. b ≡ list_any (λ (k : ℕ). has_bit row k && is_below a (slice_get xs k)) ps) → IfOk r (λ b. b ≡ has_special xs a)
-special-is (Ok b) xs places a ps row noted all e =
-    e ∙ same-truth (list_any (below_at xs places a ps row) ps) (has_special xs a) (special-there xs places a ps row) (special-found xs places a ps row all noted)
-special-is (Err u) xs places a ps row noted all e = tt
+special-is (Ok b) xs places a ps row all e =
+    e ∙ same-truth (list_any (below_at xs places a ps row) ps) (has_special xs a) (special-there xs places a ps row) (special-found xs places a ps row all)
+special-is (Err u) xs places a ps row all e = tt
+
+pub nothing-left : (xs : List Term) (places : Index) (a : Term) (ps row : List ℕ) → ((k : ℕ) (x : Term) → slice_get xs k ≡ Some x → IsInstance x a → IsAmong ps k × HasBit row k) → IsClear row → false ≡ has_special xs a
+nothing-left xs places a ps row all clear =
+    sym (none-left (λ (k : ℕ). is_below a (slice_get xs k)) row ps clear)
+    ∙ same-truth (list_any (below_at xs places a ps row) ps) (has_special xs a) (special-there xs places a ps row) (special-found xs places a ps row all)

@@ -1,3 +1,5 @@
 pub mod Retrieval
 pub mod Rows
 pub mod Sharing
+pub mod Subterms
+pub mod Columns

@@ -1,5 +1,5 @@
 -- Rows of bits, a bit for each place.
-use Rattle.std.specs.Prelude.{ℕ, ◌≡◌, ◌/◌, ◌%◌, ◌==◌, Bool, true, List, get_or}
+use Rattle.std.specs.Prelude.{ℕ, ◌≡◌, ◌/◌, ◌%◌, ◌==◌, Bool, true, false, List, get_or, ◌⊎◌}
 use Rattle.std.specs.Int.{bit_at}
 use Rattle.apd_term.specs.Term.{IsAmong}
 
@@ -14,6 +14,17 @@ HasBit row place = has_bit row place ≡ true
 abbrev pub HasBits : List ℕ → List ℕ → Type 0
 HasBits row places = (k : ℕ) → IsAmong places k → HasBit row k
 
+-- the row has no bits
+abbrev pub IsClear : List ℕ → Type 0
+IsClear row = (k : ℕ) → has_bit row k ≡ false
+
 -- each bit of the one the other has
 abbrev pub IsWithin : List ℕ → List ℕ → Type 0
 IsWithin row other = (k : ℕ) → HasBit row k → HasBit other k
+
+-- each bit of the one the other has, or it is that of the place
+abbrev pub IsWithinBut : List ℕ → List ℕ → ℕ → Type 0
+IsWithinBut row other place = (k : ℕ) → HasBit row k → HasBit other k ⊎ (k ≡ place)
+
+abbrev pub HasNoBits : List ℕ → Type 0
+HasNoBits row = (k : ℕ) → ¬ HasBit row k

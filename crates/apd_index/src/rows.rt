@@ -1,7 +1,7 @@
 //! Rows of bits, a bit for each place.
 
-ghost use Rattle.std.specs.Prelude.{◌≡◌, ◌<◌, ℕ, length, get_or, IfOk, OnOk};
-ghost use Rattle.apd_index.specs.Rows.{HasBit, HasBits, IsWithin, has_bit};
+ghost use Rattle.std.specs.Prelude.{◌≡◌, ◌≢◌, ◌<◌, ℕ, length, get_or, IfOk, IsTrue, OnOk};
+ghost use Rattle.apd_index.specs.Rows.{HasBit, HasBits, IsClear, IsWithin, has_bit, HasNoBits, IsWithinBut};
 
 use std::alloc::{AllocError, Global};
 use std::marker::Model;
@@ -12,6 +12,7 @@ const BITS: usize = 64;
 /// Makes the row so long that it has the word.
 fn grow(words: &mut Vec<u64>, word: usize) -> Result<(), AllocError>
     ensures kept { IsWithin words.old.items words.new.items }
+    ensures only { IsWithin words.new.items words.old.items }
     ensures ok { OnOk result (word < length words.new.items) }
 {
     'words: while words.len() <= word {
@@ -23,12 +24,35 @@ fn grow(words: &mut Vec<u64>, word: usize) -> Result<(), AllocError>
 /// Sets the place's bit.
 fn set(words: &mut Vec<u64>, place: usize) -> Result<(), AllocError>
     ensures kept { IsWithin words.old.items words.new.items }
+    ensures only { IsWithinBut words.new.items words.old.items place }
     ensures set { OnOk result (HasBit words.new.items place) }
 {
     let word = place / BITS;
     grow(words, word)?;
     words[word] |= 1 << (place % BITS);
     Ok(())
+}
+
+/// Clears the place's bit.
+fn clear(words: &mut Vec<u64>, place: usize)
+    ensures { (k : ℕ) → k ≢ place → HasBit words.old.items k → HasBit words.new.items k }
+{
+    let word = place / BITS;
+    if word < words.len() {
+        words[word] &= !(1 << (place % BITS));
+    }
+}
+
+/// Whether no bit is set.
+fn is_clear(words: &[u64]) -> bool
+    ensures { IsTrue result → IsClear words.now }
+{
+    'words: for word in words {
+        if *word != 0 {
+            return false;
+        }
+    }
+    true
 }
 
 /// The bits of these places.
@@ -70,7 +94,7 @@ fn meet(words: &mut Vec<u64>, other: &[u64])
 
 /// A bit for each place. Contracts see the words.
 #[derive(Drop)]
-pub(crate) struct Row {
+pub struct Row {
     words: Vec<u64>,
 }
 
@@ -83,6 +107,15 @@ impl Model for Row {
 }
 
 impl Row {
+    /// No bits.
+    pub fn new(alloc: Global) -> Row
+        ensures { HasNoBits result }
+    {
+        Row {
+            words: Vec::new(alloc),
+        }
+    }
+
     /// The bits of these places.
     pub(crate) fn of(alloc: Global, places: &[usize]) -> Result<Row, AllocError>
         ensures { IfOk result (λ row. HasBits row places.now) }
@@ -100,15 +133,30 @@ impl Row {
     }
 
     /// Sets the place's bit.
-    pub(crate) fn set(&mut self, place: usize) -> Result<(), AllocError>
+    pub fn set(&mut self, place: usize) -> Result<(), AllocError>
         ensures kept { IsWithin self.old self.new }
+        ensures only { IsWithinBut self.new self.old place }
         ensures set { OnOk result (HasBit self.new place) }
     {
         set(&mut self.words, place)
     }
 
+    /// Clears the place's bit.
+    pub(crate) fn clear(&mut self, place: usize)
+        ensures { (k : ℕ) → k ≢ place → HasBit self.old k → HasBit self.new k }
+    {
+        clear(&mut self.words, place);
+    }
+
+    /// Whether no bit is set.
+    pub(crate) fn is_clear(&self) -> bool
+        ensures { IsTrue result → IsClear self.now }
+    {
+        is_clear(self.words.as_slice())
+    }
+
     /// Whether the place's bit is set.
-    pub(crate) fn has(&self, place: usize) -> bool
+    pub fn has(&self, place: usize) -> bool
         ensures { result ≡ has_bit self.now place }
     {
         has(self.words.as_slice(), place)

@@ -1,12 +1,18 @@
 //! Atoms that are looked up by what they are instances of.
 
-ghost use Rattle.std.specs.Prelude.{◌≡◌, ◌++◌, ◌∷◌, ◌&&◌, [], IfOk, OnOk, slice_get};
+ghost use Rattle.std.specs.Prelude.{◌≡◌, ◌++◌, ◌∷◌, ◌&&◌, [], ℕ, IfOk, OnErr, OnOk, slice_get};
 ghost use Rattle.std.specs.List.{list_any};
+ghost use Rattle.apd_term.specs.Term.{IsAmong};
+ghost use Rattle.apd_marks.specs.Places.{places_at};
+ghost use Rattle.apd_marks.specs.Positions.{marks_of};
+ghost use Rattle.apd_index.specs.Columns.{IsAlike};
 ghost use Rattle.apd_index.specs.Retrieval.{AreSpecials, has_special, is_below};
-ghost use Rattle.apd_index.specs.Rows.{has_bit};
+ghost use Rattle.apd_index.specs.Rows.{HasBit, has_bit};
 ghost use Rattle.apd_index.specs.Sharing.{HasRows};
 
+use crate::columns::{Columns, note};
 use crate::marked::narrow;
+use crate::repeats::strike_unequal;
 use crate::rows::Row;
 use crate::sharing::{Rows, alike, note_all};
 use apd_answers::is_instance;
@@ -27,6 +33,7 @@ fn put(
     requires noted { AreSpecials atoms.old places.old }
     requires rows { HasRows places.old rows.old }
     ensures ok { OnOk result (atoms.new ≡ atoms.old ++ atom.now ∷ []) }
+    ensures err { OnErr result (atoms.new ≡ atoms.old) }
     ensures noted { AreSpecials atoms.new places.new }
     ensures rows { HasRows places.new rows.new }
 {
@@ -34,6 +41,25 @@ fn put(
     let copy = atom.copy(alloc)?;
     note_all(alloc, places, rows, marks.as_slice(), atoms.len())?;
     atoms.push(copy)
+}
+
+/// A row with the bit of each of the mark's places that may have an instance of the atom, by what it has at positions.
+fn likely(
+    alloc: Global,
+    places: &Places,
+    rows: &Rows,
+    columns: &Columns,
+    mark: u64,
+    atom: &Flat,
+) -> Result<Row, AllocError>
+    requires { HasRows places.now rows.now }
+    ensures { IfOk result (λ row. (k : ℕ) → IsAmong (places_at places.now mark) k
+        → ((m : ℕ) → IsAmong (marks_of atom.now) m → IsAmong (places_at places.now m) k)
+        → IsAlike columns.now atom.now k → HasBit row k) }
+{
+    let mut row = alike(alloc, places, rows, mark, atom)?;
+    strike_unequal(alloc, columns, atom, &mut row)?;
+    Ok(row)
 }
 
 /// Whether the atom at a place is an instance of this one.
@@ -90,6 +116,8 @@ pub struct Specials {
     places: Places,
     /// The same for marks that many share, as rows of bits.
     rows: Rows,
+    /// What atoms have at their positions.
+    columns: Columns,
 }
 
 impl Model for Specials {
@@ -97,6 +125,7 @@ impl Model for Specials {
     ghost use Rattle.std.specs.Coded.{coded_list};
     ghost use Rattle.apd_term.specs.Term.{Term};
     ghost use Rattle.apd_term.specs.Spelling.{term_code};
+    ghost use Rattle.apd_index.specs.Columns.{HasColumns};
     ghost use Rattle.apd_index.specs.Retrieval.{AreSpecials};
     ghost use Rattle.apd_index.specs.Sharing.{HasRows};
 
@@ -106,7 +135,8 @@ impl Model for Specials {
 
     ghost view = { λ d. d.atoms };
 
-    ghost invariant = { λ d. AreSpecials d.atoms d.places × HasRows d.places d.rows };
+    ghost invariant = { λ d. AreSpecials d.atoms d.places × HasRows d.places d.rows
+        × HasColumns d.atoms d.columns };
 }
 
 impl Specials {
@@ -118,6 +148,7 @@ impl Specials {
             atoms: Atoms::new(alloc),
             places: IndexMap::new(alloc),
             rows: IndexMap::new(alloc),
+            columns: IndexMap::new(alloc),
         }
     }
 
@@ -125,13 +156,15 @@ impl Specials {
     pub fn put(&mut self, alloc: Global, atom: &Flat) -> Result<(), AllocError>
         ensures { OnOk result (self.new ≡ self.old ++ atom.now ∷ []) }
     {
+        let place = self.atoms.len();
         put(
             alloc,
             &mut self.atoms,
             &mut self.places,
             &mut self.rows,
             atom,
-        )
+        )?;
+        note(alloc, &mut self.columns, place, atom)
     }
 
     /// Whether some of these is an instance of the atom.
@@ -140,7 +173,10 @@ impl Specials {
     {
         let mark = narrow(alloc, &self.places, atom)?;
         let places = with_mark(&self.places, mark);
-        let row = alike(alloc, &self.places, &self.rows, mark, atom)?;
+        let row = likely(alloc, &self.places, &self.rows, &self.columns, mark, atom)?;
+        if row.is_clear() {
+            return Ok(false);
+        }
         some_below(alloc, &self.atoms, &row, places, atom)
     }
 }

@@ -3,7 +3,10 @@ use Rattle.apd_index.specs.Rows.{IsWithin}
 use Rattle.apd_index.proofs.rows.grow.Given as goal
 
 abbrev pub invariant-words : goal.invariant-words
-invariant-words l = IsWithin l.fn.words.items l.words.items
+invariant-words l = record {
+  kept : IsWithin l.fn.words.items l.words.items;
+  only : IsWithin l.words.items l.fn.words.items;
+}
 
 abbrev pub decreases-words : goal.decreases-words
 decreases-words l = l.word + 1 - length l.words.items

@@ -1,0 +1,79 @@
+-- Subterms with marks of their positions (path indexing, Stickel 1989), and digests, of which equal terms have the same.
+use Rattle.std.specs.Prelude.{ℕ, ◌≡◌, ◌⊎◌, ◌-◌, ◌==◌, ◌++◌, if◌then◌else◌, List, [], ◌∷◌, length, map, reverse}
+use Rattle.std.specs.List.{fold}
+use Rattle.apd_term.specs.Term.{Term, Terms, variable, integer, compound, none, more, list_of}
+use Rattle.apd_term.specs.declared.term.Sym.{Sym}
+use Rattle.apd_term.specs.declared.term.Sym.TheVariants.{Var, Int, Fun}
+use Rattle.apd_marks.specs.Mixing.{mixed}
+use Rattle.apd_marks.specs.Positions.{top}
+use Rattle.apd_index.specs.declared.positions.Parent.{Parent}
+
+-- a subterm, and the mark of its position
+pub record Subterm : Type 0 where
+  pub position : ℕ
+  pub term : Term
+
+-- the mark of the position that is n-th from the end below a symbol with this mark
+abbrev pub position_below : ℕ → ℕ → ℕ
+position_below mark n = mixed mark (Var n)
+
+-- the subterms in prefix order, with the term itself; n is where it stands, from the end
+abbrev mutual
+  pub subterms_at : ℕ → ℕ → Term → List Subterm
+  subterms_at mark n (variable v) = record { position = position_below mark n; term = variable v } ∷ []
+  subterms_at mark n (integer i) = record { position = position_below mark n; term = integer i } ∷ []
+  subterms_at mark n (compound f ts) =
+      record { position = position_below mark n; term = compound f ts } ∷ subterms_below (mixed (position_below mark n) (Fun f (length (list_of ts)))) ts
+
+  pub subterms_below : ℕ → Terms → List Subterm
+  subterms_below mark none = []
+  subterms_below mark (more t ts) = subterms_at mark (length (list_of (more t ts))) t ++ subterms_below mark ts
+
+abbrev pub subterms : Term → List Subterm
+subterms t = subterms_below top (more t none)
+
+-- the term is the one at a position with this mark
+abbrev pub Stands : List Subterm → ℕ → Term → Type 0
+Stands [] position t = ⊥
+Stands (s ∷ ss) position t = ((s.position ≡ position) × (s.term ≡ t)) ⊎ Stands ss position t
+
+abbrev pub IsAt : Term → ℕ → Term → Type 0
+IsAt x position t = Stands (subterms x) position t
+
+abbrev pub positions : Term → List ℕ
+positions x = map (λ (s : Subterm). s.position) (subterms x)
+
+-- digests mixed into a mark
+abbrev pub joined : ℕ → List ℕ → ℕ
+joined mark digests = fold (λ (m d : ℕ). mixed m (Var d)) mark digests
+
+-- a digest is mixed from the symbol and the digests of the arguments, from the last one; these tell how many they are
+abbrev mutual
+  pub digest : Term → ℕ
+  digest (variable v) = mixed 1 (Var v)
+  digest (integer i) = mixed 1 (Int i)
+  digest (compound f ts) = joined (mixed 1 (Fun f 0)) (reverse (digests_of ts))
+
+  pub digests_of : Terms → List ℕ
+  digests_of none = []
+  digests_of (more t ts) = digest t ∷ digests_of ts
+
+abbrev pub digests : Term → List ℕ
+digests x = map (λ (s : Subterm). digest s.term) (subterms x)
+
+-- the symbol without the number of its arguments
+abbrev pub bare : Sym → Sym
+bare (Var v) = Var v
+bare (Int i) = Int i
+bare (Fun f n) = Fun f 0
+
+-- The walk: a parent is a symbol's mark, with how many of the terms below it are still to be read. The last parent is the innermost.
+
+abbrev pub waiting : ℕ → ℕ → List Parent → List Parent
+waiting mark n parents = if n == 0 then parents else parents ++ record { mark = mark; left = n } ∷ []
+
+-- the parents after a symbol was read as the next one of a parent
+abbrev pub onward : Parent → Sym → List Parent → List Parent
+onward f (Var v) parents = waiting f.mark (f.left - 1) parents
+onward f (Int i) parents = waiting f.mark (f.left - 1) parents
+onward f (Fun g n) parents = waiting (mixed (position_below f.mark f.left) (Fun g n)) n (waiting f.mark (f.left - 1) parents)

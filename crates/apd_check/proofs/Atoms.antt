@@ -22,13 +22,13 @@ use Rattle.apd_text.specs.declared.entry.Entry.{Entry}
 use Rattle.apd_text.specs.declared.entry.Entry.TheVariants as entries
 use Rattle.apd_claims.specs.declared.claim.Claim.{Claim}
 use Rattle.apd_claims.specs.declared.claim.Claim.TheVariants.{Garbled}
-use Rattle.apd_claims.specs.declared.boxes.Quote.TheVariants.{Outside}
+use Rattle.apd_parts.specs.declared.boxes.Quote.TheVariants.{Outside}
 use Rattle.apd_claims.specs.declared.form.Calling.{Calling}
 use Rattle.apd_claims.specs.declared.form.Form.{Form}
 use Rattle.apd_claims.specs.declared.form.Form.TheVariants.{Query as Goals, End, Symptom, Framed, Call, Candidates, Candidate, Descent, Other, Unread}
 use Rattle.apd_claims.specs.Claims.{call_between, call_in, called, claim_as, claim_of, entry_for, is_text, may_end, or_garbled, query_claim, query_told, told, written}
 use Rattle.apd_claims.specs.Forms.{form_in, with_newline}
-use Rattle.apd_claims.specs.Parts.{Boxed, boxed_in, boxed_where, if_some}
+use Rattle.apd_parts.specs.Parts.{Boxed, boxed_in, boxed_where, if_some}
 use Rattle.apd_claims.specs.Reading.{as_clause, reading, term_in}
 use Rattle.apd_check.specs.Right.{AllRunAtoms, RunsAtoms}
 use Rattle.apd_claims.specs.Saying.{claim_by, goes_on, group_entry, group_text, instances_in, said_from, said_in}

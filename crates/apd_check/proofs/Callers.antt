@@ -28,7 +28,7 @@ use Rattle.apd_findings.specs.Calling.{IsBox}
 use Rattle.apd_talk.specs.Speech.{Lasting}
 use Rattle.apd_claims.specs.Claims.{call_entry, claim_of, is_text, written}
 use Rattle.apd_claims.specs.Parting.{caller_at, claim_parted, claim_with, is_callers}
-use Rattle.apd_claims.specs.Parts.{Led, box_first, if_some}
+use Rattle.apd_parts.specs.Parts.{Led, box_first, if_some}
 use Rattle.apd_claims.specs.Reading.{term_in}
 use Rattle.apd_claims.specs.Texts.{KeepsFew}
 use Rattle.apd_claims.specs.declared.claim.Claim.{Claim}

@@ -133,6 +133,19 @@ fn is_box(record: &Record, box_no: u32) -> bool
     0 < box_no && box_no <= record.boxes()
 }
 
+/// Computes ahead what tells of each call whether it isn't below the caller of this one. What was told stays as it is.
+pub(crate) fn prepare(state: &mut State, call: &CallLine) -> Result<(), AllocError>
+    ensures { state.new ≡ state.old }
+{
+    let caller = call.calling.caller;
+    state.history.is_kept();
+    if !is_box(&state.history, caller) {
+        return Ok(());
+    }
+    let atom = state.history.call_atom(caller)?;
+    state.known.prepare(&atom)
+}
+
 /// Whether it does, by the caller's atom in the record.
 pub(crate) fn is_found(
     alloc: Global,

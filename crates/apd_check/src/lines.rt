@@ -12,7 +12,7 @@ ghost use Rattle.apd_claims.specs.Texts.{KeepsFew};
 ghost use Rattle.apd_check.specs.Checked.{found_in, reason_for};
 ghost use Rattle.apd_check.specs.Steps.{IsKept, KnowsDescent, Stays, Takes};
 
-use crate::calls::is_found;
+use crate::calls::{is_found, prepare};
 use crate::checked::Why;
 use crate::course::Course;
 use crate::source::Source;
@@ -118,6 +118,7 @@ pub(crate) fn take_line(
     let Some(call) = CallLine::of(alloc, place.line)? else {
         return take_claim(alloc, source, names, course, place);
     };
+    prepare(&mut course.state, &call)?;
     let found = is_found(alloc, source, names, &course.state, &call)?;
     let why = judge_call(alloc, source.ops, names, place, found)?;
     Ok(Taken { found: 1, why })

@@ -1,11 +1,13 @@
 -- Numbers that are reached from one, marked as they are met.
 use Rattle.std.proofs.Common.{◌≡◌, ◌⊎◌, ◌↔◌, inl, inr, ℕ, zero, suc, ◌+◌, ◌*◌, ◌<◌, ◌≤◌, Bool, true, false, List, [], ◌∷◌, ◌++◌, length, take, drop, get_or, Some, refl, sym, ◌∙◌, ap, subst, arith}
 use Rattle.std.specs.Prelude.{slice_set}
+use Rattle.std.proofs.lemmas.Bool.{cases_eq}
 use Rattle.std.proofs.lemmas.List.{take_more, drop_more, drop_all}
 use Rattle.apd_term.specs.Term.{IsAmong}
 use Rattle.apd_term.proofs.Among.{IsAmong-append, IsAmong-left, IsAmong-right}
+use Rattle.apd_index.specs.Rows.{HasBit, HasNoBits, IsWithin, IsWithinBut, has_bit}
 use Rattle.apd_index.proofs.Lists.{among-at}
-use Rattle.apd_findings.specs.Reaching.{AreWithin, HasSeen, IsMarked, Reaches, SomeMarked, here, on, unmarked}
+use Rattle.apd_findings.specs.Reaching.{AreWithin, HasSeen, HasSome, IsMarked, Reaches, here, on, unmarked}
 
 -- Marks.
 
@@ -40,17 +42,17 @@ length-mark [] i = refl
 length-mark (m ∷ marks) zero = refl
 length-mark (m ∷ marks) (suc i) = let h = length-mark marks i in omega (arith, h)
 
-pub mark-there : (marks : List Bool) (i : ℕ) → i < length marks → get_or marks i false ≡ true → IsMarked marks i
+mark-there : (marks : List Bool) (i : ℕ) → i < length marks → get_or marks i false ≡ true → IsMarked marks i
 mark-there [] i l e = absurd (omega (arith, l))
 mark-there (m ∷ marks) zero l e = ap Some e
 mark-there (m ∷ marks) (suc i) l e = mark-there marks i (omega (arith, l)) e
 
-pub marked-is : (marks : List Bool) (i : ℕ) → IsMarked marks i → get_or marks i false ≡ true
+marked-is : (marks : List Bool) (i : ℕ) → IsMarked marks i → get_or marks i false ≡ true
 marked-is [] i e = absurd (cc)
 marked-is (m ∷ marks) zero e = cc
 marked-is (m ∷ marks) (suc i) e = marked-is marks i e
 
-pub marked-within : (marks : List Bool) (i : ℕ) → IsMarked marks i → i < length marks
+marked-within : (marks : List Bool) (i : ℕ) → IsMarked marks i → i < length marks
 marked-within [] i e = absurd (cc)
 marked-within (m ∷ marks) zero e = omega arith
 marked-within (m ∷ marks) (suc i) e = let h = marked-within marks i e in omega (arith, h)
@@ -177,27 +179,61 @@ reaching-all lists first seen waiting h e n = (h.right n, all n)
     all n here = h.start
     all n (on a b r i) = closed a b (all a r) i
 
--- One of some numbers is marked.
+-- The bits of the marked numbers.
 
-module _ (marks : List Bool) where
-  pub marked-found : (xs : List ℕ) (i x : ℕ) → i < length xs → x ≡ get_or xs i 0 → x < length marks → get_or marks x false ≡ true → true ≡ true ↔ SomeMarked marks xs
-  marked-found xs i x l e w m = (λ k. (x, among-at xs i x l e, mark-there marks x w m), λ k. refl)
+-- the bits of those before a place
+abbrev pub HasMarks : List ℕ → List Bool → ℕ → Type 0
+HasMarks row marks i = (n : ℕ) → HasBit row n ↔ (IsMarked marks n × (n < i))
 
-  pub marked-passed : (xs : List ℕ) (i x : ℕ) → i < length xs → x ≡ get_or xs i 0 → get_or marks x false ≡ false → SomeMarked marks xs ↔ SomeMarked marks (drop i xs) → SomeMarked marks xs ↔ SomeMarked marks (drop (i + 1) xs)
-  marked-passed xs i x l e m so_far = (λ s. later (so_far.0 s), λ s. so_far.1 (earlier s))
+pub no-marks : (row : List ℕ) (marks : List Bool) → HasNoBits row → HasMarks row marks 0
+no-marks row marks none n = (λ b. absurd (none n b), λ m. absurd (let l = m.1 in omega (arith, l)))
+
+module _ (row : List ℕ) (marks : List Bool) (i : ℕ) (h : HasMarks row marks i) where
+  pub mark-put : (new : List ℕ) → i < length marks → get_or marks i false ≡ true → IsWithin row new → IsWithinBut new row i → HasBit new i → HasMarks new marks (i + 1)
+  mark-put new l e kept only set n = (
+    λ b. elim (only n b) [
+      | inl o ↦ (let m = (h n).0 o in let k = m.1 in (m.0, omega (arith, k)))
+      | inr is ↦ (subst (IsMarked marks) (sym is) (mark-there marks i l e), omega (arith, is))
+    ],
+    λ m. elim (cases_eq n i) [
+      | inl is ↦ subst (HasBit new) (sym is) set
+      | inr other ↦ kept n ((h n).1 (m.0, (let k = m.1 in omega (arith, k, other))))
+    ],
+  )
+
+  pub mark-passed : get_or marks i false ≡ false → HasMarks row marks (i + 1)
+  mark-passed e n = (
+    λ b. let m = (h n).0 b in let k = m.1 in (m.0, omega (arith, k)),
+    λ m. elim (cases_eq n i) [
+      | inl is ↦ absurd (let t : true ≡ false = sym (marked-is marks n m.0) ∙ ap (λ j. get_or marks j false) is ∙ e in cc)
+      | inr other ↦ (h n).1 (m.0, (let k = m.1 in omega (arith, k, other)))
+    ],
+  )
+
+  pub all-marks : length marks ≤ i → (n : ℕ) → HasBit row n ↔ IsMarked marks n
+  all-marks l n = (λ b. ((h n).0 b).0, λ m. (h n).1 (m, (let w = marked-within marks n m in omega (arith, l, w))))
+
+-- The row has the bit of one of some numbers.
+
+module _ (row : List ℕ) where
+  pub some-found : (xs : List ℕ) (i x : ℕ) → i < length xs → x ≡ get_or xs i 0 → has_bit row x ≡ true → true ≡ true ↔ HasSome row xs
+  some-found xs i x l e b = (λ k. (x, among-at xs i x l e, b), λ k. refl)
+
+  pub some-passed : (xs : List ℕ) (i x : ℕ) → i < length xs → x ≡ get_or xs i 0 → has_bit row x ≡ false → HasSome row xs ↔ HasSome row (drop i xs) → HasSome row xs ↔ HasSome row (drop (i + 1) xs)
+  some-passed xs i x l e b so_far = (λ s. later (so_far.0 s), λ s. so_far.1 (earlier s))
     where
       is : drop i xs ≡ x ∷ drop (i + 1) xs
       is = drop_more xs i 0 l ∙ ap (λ y. y ∷ drop (i + 1) xs) (sym e)
 
-      pass : (n : ℕ) → (x ≡ n) ⊎ IsAmong (drop (i + 1) xs) n → IsMarked marks n → IsAmong (drop (i + 1) xs) n
-      pass n (inl k) g = absurd (let t : true ≡ false = sym (marked-is marks n g) ∙ ap (λ y. get_or marks y false) (sym k) ∙ m in cc)
+      pass : (n : ℕ) → (x ≡ n) ⊎ IsAmong (drop (i + 1) xs) n → HasBit row n → IsAmong (drop (i + 1) xs) n
+      pass n (inl k) g = absurd (let t : true ≡ false = sym g ∙ ap (has_bit row) (sym k) ∙ b in cc)
       pass n (inr a) g = a
 
-      later : SomeMarked marks (drop i xs) → SomeMarked marks (drop (i + 1) xs)
+      later : HasSome row (drop i xs) → HasSome row (drop (i + 1) xs)
       later s = (s.0, pass s.0 (subst (λ ys. IsAmong ys s.0) is s.1) s.2, s.2)
 
-      earlier : SomeMarked marks (drop (i + 1) xs) → SomeMarked marks (drop i xs)
+      earlier : HasSome row (drop (i + 1) xs) → HasSome row (drop i xs)
       earlier s = (s.0, subst (λ ys. IsAmong ys s.0) (sym is) (inr s.1), s.2)
 
-  pub none-found : (xs : List ℕ) (i : ℕ) → length xs ≤ i → SomeMarked marks xs ↔ SomeMarked marks (drop i xs) → false ≡ true ↔ SomeMarked marks xs
-  none-found xs i l so_far = (λ k. absurd (cc), λ s. absurd (let none : SomeMarked marks [] = subst (SomeMarked marks) (drop_all i xs l) (so_far.0 s) in none.1))
+  pub none-found : (xs : List ℕ) (i : ℕ) → length xs ≤ i → HasSome row xs ↔ HasSome row (drop i xs) → false ≡ true ↔ HasSome row xs
+  none-found xs i l so_far = (λ k. absurd (cc), λ s. absurd (let none : HasSome row [] = subst (HasSome row) (drop_all i xs l) (so_far.0 s) in none.1))

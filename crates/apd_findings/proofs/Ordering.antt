@@ -1,8 +1,11 @@
 -- Orders of calls by their numbers tell what follows of calls that aren't below another.
-use Rattle.std.proofs.Common.{◌≡◌, ◌≢◌, ◌↔◌, ◌⊎◌, inl, inr, ◌<◌, ◌+◌, ◌++◌, get_or, ℕ, zero, suc, Bool, true, false, if◌then◌else◌, List, [], ◌∷◌, length, map, Result, Ok, Err, refl, sym, ap, ◌∙◌, subst, arith}
-use Rattle.std.specs.Prelude.{IsTrue, IfOk, slice_set}
+use Rattle.std.proofs.Common.{◌≡◌, ◌≢◌, ◌↔◌, ◌⊎◌, inl, inr, ◌<◌, ◌+◌, ◌++◌, get_or, ℕ, zero, suc, Bool, true, false, cond, if◌then◌else◌, List, [], ◌∷◌, length, map, Option, Some, Result, Ok, Err, refl, sym, ap, ◌∙◌, subst, arith}
+use Rattle.std.specs.Prelude.{IsTrue, IfOk, IfSome, nat_eq, slice_set}
 use Rattle.std.specs.declared.alloc.AllocError.{AllocError}
-use Rattle.std.proofs.lemmas.Bool.{cases_eq}
+use Rattle.std.specs.Map.{lookup}
+use Rattle.std.proofs.lemmas.Bool.{cases_eq, eqb-true}
+use Rattle.std.proofs.lemmas.Option.{IfSome_then}
+use Rattle.indexmap.specs.IndexMap.{get}
 use Rattle.apd_term.specs.Term.{Term, IsAmong}
 use Rattle.apd_term.specs.Canonical.{canonical}
 use Rattle.apd_term.proofs.Among.{IsAmong-append, IsAmong-left, IsAmong-right}
@@ -14,11 +17,13 @@ use Rattle.apd_answers.specs.declared.question.Question.TheVariants as asks
 use Rattle.apd_answers.specs.declared.question.Reply.{Reply}
 use Rattle.apd_answers.specs.declared.question.Reply.TheVariants.{Yes, No}
 use Rattle.apd_answers.specs.declared.store.Pair.{Pair}
+use Rattle.apd_marks.specs.Places.{Index}
 use Rattle.apd_marks.specs.declared.keys.Part.{Part}
+use Rattle.apd_index.specs.Rows.{HasBit, has_bit}
 use Rattle.apd_findings.specs.declared.orders.Orders.{Orders}
 use Rattle.apd_findings.specs.Keys.{HasNumber}
 use Rattle.apd_findings.specs.Ordering.{AreOrders, AreSaid, IsListed, IsNumbered, IsReached, IsSaid, Says, keys_of}
-use Rattle.apd_findings.specs.Reaching.{AreWithin, IsMarked, Reaches, SomeMarked, here, on}
+use Rattle.apd_findings.specs.Reaching.{AreReached, AreWithin, HasReached, HasSome, Reaches, here, on}
 use Rattle.apd_findings.proofs.Marked.{at-default}
 use Rattle.apd_findings.proofs.Numbers.{like-number, same-form, same-number, within-number}
 use Rattle.apd_findings.proofs.Tests.{says_below-is, says_not_below-is}
@@ -115,11 +120,31 @@ numbered-said pairs r keys keys_new lists lists_new kept is h = record {
       record { low = w.low; high = w.high; is_low = kept x w.low w.is_low; is_high = kept y w.high w.is_high; among = subst (λ ns. IsAmong ns w.high) (sym (is w.low)) w.among };
 }
 
+-- what is reached is the same where the lists are
+same-reached : (lists more : List (List ℕ)) (rows : Index) → ((i : ℕ) → get_or more i [] ≡ get_or lists i []) → AreReached lists rows → AreReached more rows
+same-reached lists more rows is h first = IfSome_then (get nat_eq rows first) (h first) (λ row r n. (λ b. reach lists more is n ((r n).0 b), λ k. (r n).1 (reach more lists (λ i. sym (is i)) n k)))
+  where
+    reach : (old new : List (List ℕ)) → ((i : ℕ) → get_or new i [] ≡ get_or old i []) → (n : ℕ) → Reaches old first n → Reaches new first n
+    reach old new e n here = here
+    reach old new e n (on a b r i) = on a b (reach old new e a r) (subst (λ ns. IsAmong ns b) (sym (e a)) i)
+
+no-rows : (lists : List (List ℕ)) (rows : Index) → rows.entries ≡ [] → AreReached lists rows
+no-rows lists rows e first = subst (λ (o : Option (List ℕ)). IfSome o (HasReached lists first)) (sym (ap (λ es. lookup (nat_eq first) es) e)) tt
+
+pub none-said : (o : Orders) → o.keys.keys ≡ [] → o.above.items ≡ [] → o.denied.items ≡ [] → o.reached.entries ≡ [] → AreOrders [] o
+none-said o k a d r = record {
+  lists = record { above = ap length a ∙ sym (ap (λ ks. length (map (λ v. v.items) ks)) k); denied = ap length d ∙ sym (ap (λ ks. length (map (λ v. v.items) ks)) k) };
+  yes = subst (λ ls. AreSaid [] Yes (keys_of o) ls) (sym a) (none-listed (keys_of o) Yes);
+  no = subst (λ ls. AreSaid [] No (keys_of o) ls) (sym d) (none-listed (keys_of o) No);
+  rows = no-rows o.above.items o.reached r;
+}
+
 numbered : (pairs : List Pair) (old new : Orders) (call : Term) (n : ℕ) → IsNumbered old new call n → AreOrders pairs old → AreOrders pairs new
 numbered pairs old new call n k h = record {
   lists = k.lists;
   yes = numbered-said pairs Yes (keys_of old) (keys_of new) old.above.items new.above.items k.kept k.above h.yes;
   no = numbered-said pairs No (keys_of old) (keys_of new) old.denied.items new.denied.items k.kept k.denied h.no;
+  rows = subst (AreReached new.above.items) (sym k.rows) (same-reached old.above.items new.above.items old.reached k.above h.rows);
 }
 
 -- a pair that doesn't give this reply
@@ -206,8 +231,8 @@ module _ (pairs : List Pair) (old mid now : Orders) (x y : Term) (low high : ℕ
   there : AreOrders pairs now
   there = numbered pairs mid now y high second (numbered pairs old mid x low first h)
 
-  pub put-yes : (new : Orders) → new.keys ≡ now.keys → new.denied ≡ now.denied → IsPushed now.above.items low high new.above.items → AreOrders (with_pair_in pairs (asks.Below x y) Yes) new
-  put-yes new e f p =
+  pub put-yes : (new : Orders) → new.keys ≡ now.keys → new.denied ≡ now.denied → new.reached.entries ≡ [] → IsPushed now.above.items low high new.above.items → AreOrders (with_pair_in pairs (asks.Below x y) Yes) new
+  put-yes new e f g p =
       let k : keys_of new ≡ keys_of now = ap (λ s. map (λ v. v.items) s.keys) e in
       record {
         lists = record { above = p.count ∙ there.lists.above ∙ ap length (sym k); denied = ap (λ v. length v.items) f ∙ there.lists.denied ∙ ap length (sym k) };
@@ -215,32 +240,35 @@ module _ (pairs : List Pair) (old mid now : Orders) (x y : Term) (low high : ℕ
             (pushed-said pairs Yes keeps-yes x y (keys_of now) now.above.items new.above.items low high (second.kept x low first.number) second.number p there.yes);
         no = subst (λ ks. AreSaid (with_pair_in pairs (asks.Below x y) Yes) No ks new.denied.items) (sym k)
             (subst (λ v. AreSaid (with_pair_in pairs (asks.Below x y) Yes) No (keys_of now) v.items) (sym f)
-            (kept-said pairs (asks.Below x y) Yes No (keys_of now) now.denied.items (λ s t g. (let z : Yes ≡ No = g.0 in cc)) there.no));
+            (kept-said pairs (asks.Below x y) Yes No (keys_of now) now.denied.items (λ s t k. (let z : Yes ≡ No = k.0 in cc)) there.no));
+        rows = no-rows new.above.items new.reached g;
       }
 
-  pub put-no : (new : Orders) → new.keys ≡ now.keys → new.above ≡ now.above → IsPushed now.denied.items low high new.denied.items → AreOrders (with_pair_in pairs (asks.Below x y) No) new
-  put-no new e f p =
+  pub put-no : (new : Orders) → new.keys ≡ now.keys → new.above ≡ now.above → new.reached ≡ now.reached → IsPushed now.denied.items low high new.denied.items → AreOrders (with_pair_in pairs (asks.Below x y) No) new
+  put-no new e f g p =
       let k : keys_of new ≡ keys_of now = ap (λ s. map (λ v. v.items) s.keys) e in
       record {
         lists = record { above = ap (λ v. length v.items) f ∙ there.lists.above ∙ ap length (sym k); denied = p.count ∙ there.lists.denied ∙ ap length (sym k) };
         yes = subst (λ ks. AreSaid (with_pair_in pairs (asks.Below x y) No) Yes ks new.above.items) (sym k)
             (subst (λ v. AreSaid (with_pair_in pairs (asks.Below x y) No) Yes (keys_of now) v.items) (sym f)
-            (kept-said pairs (asks.Below x y) No Yes (keys_of now) now.above.items (λ s t g. (let z : No ≡ Yes = g.0 in cc)) there.yes));
+            (kept-said pairs (asks.Below x y) No Yes (keys_of now) now.above.items (λ s t k. (let z : No ≡ Yes = k.0 in cc)) there.yes));
         no = subst (λ ks. AreSaid (with_pair_in pairs (asks.Below x y) No) No ks new.denied.items) (sym k)
             (pushed-said pairs No keeps-no x y (keys_of now) now.denied.items new.denied.items low high (second.kept x low first.number) second.number p there.no);
+        rows = subst (AreReached new.above.items) (sym g) (subst (λ v. AreReached v.items now.reached) (sym f) there.rows);
       }
 
-  pub put-yes-as : (r : Reply) (new : Orders) → r ≡ Yes → new.keys ≡ now.keys → new.denied ≡ now.denied → IsPushed now.above.items low high new.above.items → AreOrders (with_pair_in pairs (asks.Below x y) r) new
-  put-yes-as r new is e f p = subst (λ (k : Reply). AreOrders (with_pair_in pairs (asks.Below x y) k) new) (sym is) (put-yes new e f p)
+  pub put-yes-as : (r : Reply) (new : Orders) → r ≡ Yes → new.keys ≡ now.keys → new.denied ≡ now.denied → new.reached.entries ≡ [] → IsPushed now.above.items low high new.above.items → AreOrders (with_pair_in pairs (asks.Below x y) r) new
+  put-yes-as r new is e f g p = subst (λ (k : Reply). AreOrders (with_pair_in pairs (asks.Below x y) k) new) (sym is) (put-yes new e f g p)
 
-  pub put-no-as : (r : Reply) (new : Orders) → r ≡ No → new.keys ≡ now.keys → new.above ≡ now.above → IsPushed now.denied.items low high new.denied.items → AreOrders (with_pair_in pairs (asks.Below x y) r) new
-  put-no-as r new is e f p = subst (λ (k : Reply). AreOrders (with_pair_in pairs (asks.Below x y) k) new) (sym is) (put-no new e f p)
+  pub put-no-as : (r : Reply) (new : Orders) → r ≡ No → new.keys ≡ now.keys → new.above ≡ now.above → new.reached ≡ now.reached → IsPushed now.denied.items low high new.denied.items → AreOrders (with_pair_in pairs (asks.Below x y) r) new
+  put-no-as r new is e f g p = subst (λ (k : Reply). AreOrders (with_pair_in pairs (asks.Below x y) k) new) (sym is) (put-no new e f g p)
 
   pub put-other : (r : Reply) → r ≢ Yes → r ≢ No → AreOrders (with_pair_in pairs (asks.Below x y) r) now
   put-other r e f = record {
     lists = there.lists;
     yes = kept-said pairs (asks.Below x y) r Yes (keys_of now) now.above.items (λ s t g. e g.0) there.yes;
     no = kept-said pairs (asks.Below x y) r No (keys_of now) now.denied.items (λ s t g. f g.0) there.no;
+    rows = there.rows;
   }
 
 pub low-within : (o : Orders) (mid now : Orders) (x y : Term) (low high : ℕ) → IsNumbered o mid x low → IsNumbered mid now y high → (low < length now.above.items) × (low < length now.denied.items)
@@ -261,6 +289,7 @@ put-else pairs q r o other h = record {
   lists = h.lists;
   yes = kept-said pairs q r Yes (keys_of o) o.above.items (other Yes) h.yes;
   no = kept-said pairs q r No (keys_of o) o.denied.items (other No) h.no;
+  rows = h.rows;
 }
 
 -- What is reached.
@@ -331,13 +360,41 @@ pub apart-by : (o : Orders) (q p : Term) (low high : ℕ) (r : Result Bool Alloc
 apart-by o q p low high (Ok b) e f is_low is_high h = λ store orders. let k = apart-is store o orders q p low high e f is_low is_high in (λ t. k.0 (h.0 t), λ a. h.1 (k.1 a))
 apart-by o q p low high (Err x) e f is_low is_high h = tt
 
--- The marks of what is reached.
+-- The rows of what is reached.
 
-pub reached-here : (above denied : List (List ℕ)) (seen : List Bool) (low high : ℕ) → ((n : ℕ) → IsMarked seen n ↔ Reaches above high n) → IsMarked seen low → true ≡ true ↔ IsReached above denied low high
-reached-here above denied seen low high marks m = (λ e. inl ((marks low).0 m), λ k. refl)
+pub met-here : (above denied : List (List ℕ)) (row : List ℕ) (low : ℕ) → HasBit row low → (high : ℕ) → HasReached above high row → true ≡ true ↔ IsReached above denied low high
+met-here above denied row low b high h = (λ e. inl ((h low).0 b), λ k. refl)
 
-pub reached-denied : (above denied : List (List ℕ)) (seen : List Bool) (low high : ℕ) (b : Bool) → ((n : ℕ) → IsMarked seen n ↔ Reaches above high n) → ¬ IsMarked seen low → b ≡ true ↔ SomeMarked seen (get_or denied low []) → b ≡ true ↔ IsReached above denied low high
-reached-denied above denied seen low high b marks unmarked h = (
-  λ e. let s = h.0 e in inr (s.0, s.1, (marks s.0).0 s.2),
-  λ k. elim k [ inl r ↦ absurd (unmarked ((marks low).1 r)) | inr r ↦ h.1 (r.0, r.1, (marks r.0).1 r.2) ],
+pub met-denied : (above denied : List (List ℕ)) (row : List ℕ) (low : ℕ) (b : Bool) → has_bit row low ≡ false → b ≡ true ↔ HasSome row (get_or denied low []) → (high : ℕ) → HasReached above high row → b ≡ true ↔ IsReached above denied low high
+met-denied above denied row low b unset some high h = (
+  λ e. let s = some.0 e in inr (s.0, s.1, (h s.0).0 s.2),
+  λ k. elim k [ inl r ↦ absurd (let t : true ≡ false = sym ((h low).1 r) ∙ unset in cc) | inr r ↦ some.1 (r.0, r.1, (h r.0).1 r.2) ],
 )
+
+pub row-is : (lists : List (List ℕ)) (rows : Index) (high : ℕ) (row : List ℕ) → AreReached lists rows → get nat_eq rows high ≡ Some row → HasReached lists high row
+row-is lists rows high row h e = subst (λ (o : Option (List ℕ)). IfSome o (HasReached lists high)) e (h high)
+
+-- one more row
+pub row-kept : (lists : List (List ℕ)) (old new : Index) (high : ℕ) (row : List ℕ) → ((n : ℕ) → get nat_eq new n ≡ cond (nat_eq high n) (Some row) (get nat_eq old n)) → HasReached lists high row → AreReached lists old → AreReached lists new
+row-kept lists old new high row e r h first = subst (λ (o : Option (List ℕ)). IfSome o (HasReached lists first)) (sym (e first)) (by (nat_eq high first) refl)
+  where
+    by : (t : Bool) → nat_eq high first ≡ t → IfSome (cond t (Some row) (get nat_eq old first)) (HasReached lists first)
+    by true is = subst (λ n. HasReached lists n row) (eqb-true high first is) r
+    by false is = h first
+
+pub same-rows : (lists : List (List ℕ)) (old new : Index) → new.entries ≡ old.entries → AreReached lists old → AreReached lists new
+same-rows lists old new e h first = subst (λ (o : Option (List ℕ)). IfSome o (HasReached lists first)) (ap (λ es. lookup (nat_eq first) es) (sym e)) (h first)
+
+pub other-rows : (pairs : List Pair) (old new : Orders) → new.keys ≡ old.keys → new.above ≡ old.above → new.denied ≡ old.denied → AreReached old.above.items new.reached → AreOrders pairs old → AreOrders pairs new
+other-rows pairs old new k a d r h = record {
+  lists = record { above = ap (λ v. length v.items) a ∙ h.lists.above ∙ sym keys; denied = ap (λ v. length v.items) d ∙ h.lists.denied ∙ sym keys };
+  yes = subst (λ ks. AreSaid pairs Yes ks new.above.items) (sym is) (subst (λ v. AreSaid pairs Yes (keys_of old) v.items) (sym a) h.yes);
+  no = subst (λ ks. AreSaid pairs No ks new.denied.items) (sym is) (subst (λ v. AreSaid pairs No (keys_of old) v.items) (sym d) h.no);
+  rows = subst (λ v. AreReached v.items new.reached) (sym a) r;
+}
+  where
+    is : keys_of new ≡ keys_of old
+    is = ap (λ s. map (λ v. v.items) s.keys) k
+
+    keys : length (keys_of new) ≡ length (keys_of old)
+    keys = ap length is

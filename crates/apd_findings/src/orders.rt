@@ -1,19 +1,21 @@
 //! What replies say of which calls are below which, by numbers of calls.
 
-ghost use Rattle.std.specs.Prelude.{◌≡◌, ◌↔◌, ◌<◌, List, [], length, IfOk, OnOk, IsTrue};
+ghost use Rattle.std.specs.Prelude.{◌≡◌, ◌↔◌, ◌<◌, List, [], ℕ, length, IfOk, OnOk, IsTrue};
 ghost use Rattle.apd_term.specs.Canonical.{canonical};
 ghost use Rattle.apd_answers.specs.Findings.{Apart};
 ghost use Rattle.apd_answers.specs.Store.{Store, with_pair_in};
 ghost use Rattle.apd_answers.specs.declared.question.Question.TheVariants.{Below};
 ghost use Rattle.apd_answers.specs.declared.store.Pair.{Pair};
 ghost use Rattle.apd_findings.specs.Ordering.{AreOrders, HasLists, IsNumbered, IsReached, keys_of};
+ghost use Rattle.apd_findings.specs.Reaching.{HasReached};
 
 use crate::keys::{Keys, key_of_form};
-use crate::reaching::{reached, some_marked};
+use crate::reaching::{has_some, reached};
 use apd_answers::{Question, Reply};
 use apd_base::ListOf;
+use apd_index::Row;
 use apd_term::Flat;
-use indexmap::IndexSet;
+use indexmap::{IndexMap, IndexSet};
 use std::alloc::{AllocError, Global};
 
 /// Calls by their numbers, from 0: of each those that it was said to be below, and those that it was said not to be below.
@@ -23,6 +25,8 @@ pub(crate) struct Orders {
     keys: Keys,
     above: Vec<ListOf<usize>>,
     denied: Vec<ListOf<usize>>,
+    /// Of callers that were asked about since the last call was said to be below another: the numbers that are reached from each.
+    reached: IndexMap<usize, Row>,
 }
 
 impl Orders {
@@ -35,6 +39,7 @@ impl Orders {
             keys: IndexSet::new(alloc),
             above: Vec::new(alloc),
             denied: Vec::new(alloc),
+            reached: IndexMap::new(alloc),
         }
     }
 
@@ -61,7 +66,10 @@ impl Orders {
         let low = self.number(callee)?;
         let high = self.number(caller)?;
         match reply {
-            Reply::Yes => self.above[low].push(high),
+            Reply::Yes => {
+                self.reached = IndexMap::new(self.alloc);
+                self.above[low].push(high)
+            }
             Reply::No => self.denied[low].push(high),
             _ => Ok(()),
         }
@@ -79,6 +87,43 @@ impl Orders {
         }
     }
 
+    /// Computes ahead what is reached from a number, unless it is kept.
+    fn keep_reached(&mut self, high: usize) -> Result<(), AllocError>
+        requires high { high < length (keys_of self.old) }
+        requires orders { (pairs : List Pair) × AreOrders pairs self.old }
+        ensures { (pairs : List Pair) → AreOrders pairs self.old → AreOrders pairs self.new }
+    {
+        if self.reached.contains_key(&high) {
+            return Ok(());
+        }
+        let row = reached(self.alloc, self.above.as_slice(), high)?;
+        self.reached.insert(high, row)?;
+        Ok(())
+    }
+
+    /// Computes ahead what is reached from a caller, if it has a number.
+    pub(crate) fn prepare(&mut self, caller: &Flat) -> Result<(), AllocError>
+        requires { (pairs : List Pair) × AreOrders pairs self.old }
+        ensures { (pairs : List Pair) → AreOrders pairs self.old → AreOrders pairs self.new }
+    {
+        match self.keys.get_index_of(&key_of_form(self.alloc, caller)?) {
+            Some(high) => self.keep_reached(high),
+            None => Ok(()),
+        }
+    }
+
+    /// Whether the row, of what is reached from some number, has this one or one that is denied to it.
+    fn is_met(&self, row: &Row, low: usize) -> bool
+        requires { low < length self.now.denied.items }
+        ensures { (high : ℕ) → HasReached self.now.above.items high row.now → IsTrue result ↔
+            IsReached self.now.above.items self.now.denied.items low high }
+    {
+        if row.has(low) {
+            return true;
+        }
+        has_some(row, self.denied[low].as_slice())
+    }
+
     /// Whether some call that the one was said not to be below, or the call itself, is reached from the other.
     fn is_reached(&self, low: usize, high: usize) -> Result<bool, AllocError>
         requires low { low < length (keys_of self.now) }
@@ -87,11 +132,11 @@ impl Orders {
         ensures { IfOk result (λ b. IsTrue b ↔
             IsReached self.now.above.items self.now.denied.items low high) }
     {
-        let seen = reached(self.alloc, self.above.as_slice(), high)?;
-        if seen[low] {
-            return Ok(true);
+        if let Some(row) = self.reached.get(&high) {
+            return Ok(self.is_met(row, low));
         }
-        Ok(some_marked(seen.as_slice(), self.denied[low].as_slice()))
+        let row = reached(self.alloc, self.above.as_slice(), high)?;
+        Ok(self.is_met(&row, low))
     }
 
     /// Whether it follows from the store whose orders these are that the one call isn't below the other.

@@ -238,6 +238,16 @@ impl Parted {
         self.all.has(&question, &Reply::Yes)
     }
 
+    /// Computes ahead what tells of each call whether it isn't below this one, and keeps it. The store stays as it is.
+    pub fn prepare(&mut self, caller: &Flat) -> Result<(), AllocError>
+        ensures { self.new ≡ self.old }
+    {
+        if !self.whole {
+            return Ok(());
+        }
+        self.parts.orders.prepare(caller)
+    }
+
     /// Whether it follows from the store that the one call isn't below the other.
     pub fn is_apart(&self, callee: &Flat, caller: &Flat) -> Result<bool, AllocError>
         requires callee { canonical callee.now ≡ callee.now }

@@ -1,10 +1,12 @@
 //! Which numbers are reached from one, where from each number some lead on.
 
 ghost use Rattle.std.specs.Prelude.{◌≡◌, ◌↔◌, ◌<◌, ℕ, length, IfOk, OnOk, IsTrue};
+ghost use Rattle.apd_index.specs.Rows.{HasBit};
 ghost use Rattle.apd_term.specs.Term.{IsAmong};
-ghost use Rattle.apd_findings.specs.Reaching.{AreWithin, HasSeen, IsMarked, Reaches, SomeMarked};
+ghost use Rattle.apd_findings.specs.Reaching.{AreWithin, HasReached, HasSeen, HasSome, IsMarked, Reaches};
 
 use apd_base::ListOf;
+use apd_index::Row;
 use std::alloc::{AllocError, Global};
 
 /// As many marks as are told, of which the one at this place is set.
@@ -34,11 +36,7 @@ fn see(nexts: &[usize], seen: &mut Vec<bool>, waiting: &mut Vec<usize>) -> Resul
 }
 
 /// Marks of the numbers that are reached from the first one.
-pub(crate) fn reached(
-    alloc: Global,
-    lists: &[ListOf<usize>],
-    first: usize,
-) -> Result<Vec<bool>, AllocError>
+fn marked(alloc: Global, lists: &[ListOf<usize>], first: usize) -> Result<Vec<bool>, AllocError>
     requires first { first < length lists.now }
     requires within { AreWithin lists.now }
     ensures { IfOk result (λ seen. (length seen.items ≡ length lists.now) ×
@@ -53,13 +51,39 @@ pub(crate) fn reached(
     Ok(seen)
 }
 
-/// Whether one of these numbers is marked.
-pub(crate) fn some_marked(marks: &[bool], numbers: &[usize]) -> bool
-    requires { (n : ℕ) → IsAmong numbers.now n → n < length marks.now }
-    ensures { IsTrue result ↔ SomeMarked marks.now numbers.now }
+/// The bits of the marked numbers.
+fn row_of(alloc: Global, marks: &[bool]) -> Result<Row, AllocError>
+    ensures { IfOk result (λ row. (i : ℕ) → HasBit row i ↔ IsMarked marks.now i) }
+{
+    let mut row = Row::new(alloc);
+    'numbers: for i in 0..marks.len() {
+        if marks[i] {
+            row.set(i)?;
+        }
+    }
+    Ok(row)
+}
+
+/// The bits of the numbers that are reached from the first one.
+pub(crate) fn reached(
+    alloc: Global,
+    lists: &[ListOf<usize>],
+    first: usize,
+) -> Result<Row, AllocError>
+    requires first { first < length lists.now }
+    requires within { AreWithin lists.now }
+    ensures { IfOk result (HasReached lists.now first) }
+{
+    let marks = marked(alloc, lists, first)?;
+    row_of(alloc, marks.as_slice())
+}
+
+/// Whether the row has the bit of one of these numbers.
+pub(crate) fn has_some(row: &Row, numbers: &[usize]) -> bool
+    ensures { IsTrue result ↔ HasSome row.now numbers.now }
 {
     'numbers: for number in numbers {
-        if marks[*number] {
+        if row.has(*number) {
             return true;
         }
     }

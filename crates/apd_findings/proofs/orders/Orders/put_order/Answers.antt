@@ -16,13 +16,13 @@ index_mut-requires-in-No c =
 pub returns-in-Yes : goal.returns-in-Yes
 returns-in-Yes c =
     on_ok_weaker c.push.result (λ grown pairs h.
-    put-yes-as pairs c.args.self.now c.number.new.self c.number-2.new.self c.args.callee.now c.args.caller.now c.in_ok-low.low c.in_ok-high.high c.in_ok-low.ensures c.in_ok-high.ensures h c.args.reply.now _ c.in-Yes.is refl refl
+    put-yes-as pairs c.args.self.now c.number.new.self c.number-2.new.self c.args.callee.now c.args.caller.now c.in_ok-low.low c.in_ok-high.high c.in_ok-low.ensures c.in_ok-high.ensures h c.args.reply.now _ c.in-Yes.is refl refl c.new.ensures.empty
     (pushed c.number-2.new.self.above.items c.in_ok-low.low c.in_ok-high.high c.index_mut.result.now c.push.new.self (low-within c.args.self.now c.number.new.self c.number-2.new.self c.args.callee.now c.args.caller.now c.in_ok-low.low c.in_ok-high.high c.in_ok-low.ensures c.in_ok-high.ensures).0 c.index_mut.ensures.value grown)) c.push.ensures.ok
 
 pub returns-in-No : goal.returns-in-No
 returns-in-No c =
     on_ok_weaker c.push-in-No.result (λ grown pairs h.
-    put-no-as pairs c.args.self.now c.number.new.self c.number-2.new.self c.args.callee.now c.args.caller.now c.in_ok-low.low c.in_ok-high.high c.in_ok-low.ensures c.in_ok-high.ensures h c.args.reply.now _ c.in-No.is refl refl
+    put-no-as pairs c.args.self.now c.number.new.self c.number-2.new.self c.args.callee.now c.args.caller.now c.in_ok-low.low c.in_ok-high.high c.in_ok-low.ensures c.in_ok-high.ensures h c.args.reply.now _ c.in-No.is refl refl refl
     (pushed c.number-2.new.self.denied.items c.in_ok-low.low c.in_ok-high.high c.index_mut-in-No.result.now c.push-in-No.new.self (low-within c.args.self.now c.number.new.self c.number-2.new.self c.args.callee.now c.args.caller.now c.in_ok-low.low c.in_ok-high.high c.in_ok-low.ensures c.in_ok-high.ensures).1 c.index_mut-in-No.ensures.value grown)) c.push-in-No.ensures.ok
 
 pub returns-in_default : goal.returns-in_default

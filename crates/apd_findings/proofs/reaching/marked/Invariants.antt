@@ -1,7 +1,7 @@
 use Rattle.std.proofs.Common.{◌*◌, ◌+◌, length}
 use Rattle.apd_findings.specs.Reaching.{unmarked}
 use Rattle.apd_findings.proofs.Marked.{IsReaching}
-use Rattle.apd_findings.proofs.reaching.reached.Given as goal
+use Rattle.apd_findings.proofs.reaching.marked.Given as goal
 
 abbrev pub invariant-numbers : goal.invariant-numbers
 invariant-numbers l = IsReaching l.lists l.first l.seen.items l.waiting.items

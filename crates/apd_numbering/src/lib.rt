@@ -1,0 +1,4 @@
+//! Names by another numbering; no code that runs.
+#![tactic(auto)]
+
+pub mod laws;

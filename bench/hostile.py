@@ -28,7 +28,6 @@ MANY = "".join(f"p({n}, X) :- q(X).\n" for n in range(20000))
 
 WRONG = "bug: wrong instance of clause 1, line 1: "
 CALL = "bug: call not below its caller: clause 1, line 1, goal 1: "
-APART = "bug: call not below its caller: clause 1, line 1, goal 2: n(1) (box 3) called by n(0) (box 1)\n"
 
 
 def asked(question, reply):
@@ -37,6 +36,12 @@ def asked(question, reply):
 
 def below(low, high, reply="yes"):
     return asked(f"below? {low}, {high}", reply)
+
+
+def apart(number):
+    """A call of the program that counts isn't below its caller."""
+    called = f"n({number + 1}) (box {2 * number + 3}) called by n({number}) (box {2 * number + 1})"
+    return f"bug: call not below its caller: clause 1, line 1, goal 2: {called}\n"
 
 
 def spread(number):
@@ -148,6 +153,12 @@ class Logs:
         yield "wrong instances that few arguments tell", head, self.filled(vectors, lambda n: WRONG + general(spread(n) & 0x5555) + "\n")
         apart = self.filled("", lambda n: f"symptom: not true: q({n},a,b,c,d,e)\n", 0.5) + "symptom: not true: q(z,z,z,z,z,z)\n"
         yield "wrong instances in which a variable stands twice", "q(A,B,C,D,E,F).\n", self.filled(apart, lambda n: WRONG + repeated(n) + "\n")
+        paired = self.filled("", lambda n: f"symptom: not true: q(a,a,b,b,c,c,d,d,{n},e)\n", 0.5) + "symptom: not true: q(z,z,z,z,z,z,z,z,z,z)\n"
+        five = WRONG + "q(_1,_1,_2,_2,_3,_3,_4,_4,_5,_5)\n"
+        yield "wrong instances of five pairs of which the last differs", "q(A,B,C,D,E,F,G,H,I,J).\n", self.filled(paired, five)
+        same = self.filled("", lambda n: f"symptom: not true: q(a,a,a,a,a,a,a,a,a,{n})\n", 0.5) + "symptom: not true: q(z,z,z,z,z,z,z,z,z,z)\n"
+        one = WRONG + "q(_1,_1,_1,_1,_1,_1,_1,_1,_1,_1)\n"
+        yield "wrong instances of one variable ten times", "q(A,B,C,D,E,F,G,H,I,J).\n", self.filled(same, one)
         free = self.filled("", lambda n: f"symptom: true: q(_1,{n})\n", 0.5)
         frees = free.count("\n")
         yield "uncovered goals by symptoms that begin with variables", SAME, self.filled(free, lambda n: f"bug: uncovered goal: q(a,{n % frees})\n")
@@ -160,9 +171,11 @@ class Logs:
         heads = self.filled("symptom: true: p(yes)\n", lambda n: f"symptom: not true: p({n})\n", 0.3)
         pairs = heads.count("\n") - 1
         yield "groups of two candidates", OPEN, self.filled(heads, lambda n: self.two(n % pairs))
+        unequal = self.filled("symptom: true: p(yes)\n", lambda n: f"symptom: not true: p(f({n},a))\n", 0.5) + "symptom: not true: p(f(z,z))\n"
+        yield "groups of two candidates in which a variable stands twice", OPEN, self.filled(unequal, self.two("f(_1,_1)"))
 
-    def two(self, number):
-        return f"candidates: 2\ncandidate: clause 1: p({number}) :- p(last)\ncandidate: clause 1: p(last) :- p(yes)\n"
+    def two(self, argument):
+        return f"candidates: 2\ncandidate: clause 1: p({argument}) :- p(last)\ncandidate: clause 1: p(last) :- p(yes)\n"
 
     def group(self):
         lines = self.filled("", lambda n: f"candidate: clause 1: p({n}) :- p(last)\n", 0.9) + "candidate: clause 1: p(last) :- p(0)\n"
@@ -181,18 +194,38 @@ class Logs:
         calls = pairs.count("reply")
         long_run = f"run: n(0)\nend: budget, {3 * calls + 1} ports, 0 answers\n"
         yield "a long chain that descends", COUNT, long_run + pairs + f"no bug: all {calls + 1} calls descend\n"
+
+    def calls_apart(self):
+        """Calls that aren't below their callers by chains of replies."""
         run = "run: n(0)\nend: budget, 10 ports, 0 answers\n"
         steps = self.filled("", lambda n: below(f"z({n})", f"z({n + 1})"), 0.5)
         count = steps.count("reply")
         ends = below("n(1)", f"z({count})", "no")
         up = run + below("n(0)", "z(0)") + steps + ends
         down = run + "".join(below(f"z({n})", f"z({n + 1})") for n in reversed(range(count))) + below("n(0)", "z(0)") + ends
-        yield "a call apart by many replies, in their order", COUNT, up + APART
-        yield "a call apart by many replies, against their order", COUNT, down + APART
-        yield "a call apart by many replies, again and again", COUNT, self.filled(up, APART)
+        yield "a call apart by many replies, in their order", COUNT, up + apart(0)
+        yield "a call apart by many replies, against their order", COUNT, down + apart(0)
+        yield "a call apart by many replies, again and again", COUNT, self.filled(up, apart(0))
+        steps = self.filled("", lambda n: below(f"z({n})", f"z({n + 1})"), 0.4)
+        short = run + below("n(0)", "z(0)") + steps + below("n(1)", f"z({steps.count('reply')})", "no")
+        yield "a call apart by many replies, each time behind one more", COUNT, self.filled(short, lambda n: below(f"y({n})", "y") + apart(0))
+        calls = self.room // 376
+        told = "".join(below(f"n({n})", "z(0)") + below(f"n({n + 1})", "end", "no") for n in range(calls))
+        yield "calls apart by many replies, of many callers", COUNT, self.callers(calls, told)
+        calls = self.room // 230
+        told = "".join(below(f"n({n})", f"n({n + 1})") for n in range(calls)) + below(f"n({calls})", "z(0)")
+        yield "calls apart by many replies, each below the next one", COUNT, self.callers(calls, told)
+
+    def callers(self, calls, told):
+        """A chain of calls, what is told of so many calls of a run, and that none of them is below its caller."""
+        found = "".join(apart(n) for n in range(calls))
+        share = 1 - (len(told) + len(found) + 100) / self.room
+        run = f"run: n(0)\nend: budget, {3 * calls + 1} ports, 0 answers\n"
+        steps = self.filled(run, lambda n: below(f"z({n})", f"z({n + 1})"), share)
+        return steps + below(f"z({steps.count('reply')})", "end") + told + found
 
     def all(self):
-        for found in (self.texts, self.replies, self.findings, self.chains):
+        for found in (self.texts, self.replies, self.findings, self.chains, self.calls_apart):
             yield from found()
 
 

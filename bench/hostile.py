@@ -174,6 +174,14 @@ class Logs:
         unequal = self.filled("symptom: true: p(yes)\n", lambda n: f"symptom: not true: p(f({n},a))\n", 0.5) + "symptom: not true: p(f(z,z))\n"
         yield "groups of two candidates in which a variable stands twice", OPEN, self.filled(unequal, self.two("f(_1,_1)"))
 
+    def huge(self):
+        """Findings of one denial that is huge."""
+        text = self.filled("", "a", 0.25)
+        yield "wrong instances by one huge denial", "q(X).\n", self.filled(f'symptom: not true: q("{text}")\n', WRONG + "q(_1)\n")
+        half = text[: len(text) // 2]
+        twice = f'symptom: not true: q("{half}","{half}")\n'
+        yield "wrong instances by one huge denial, of a variable that stands twice", "q(X,Y).\n", self.filled(twice, WRONG + "q(_1,_1)\n")
+
     def two(self, argument):
         return f"candidates: 2\ncandidate: clause 1: p({argument}) :- p(last)\ncandidate: clause 1: p(last) :- p(yes)\n"
 
@@ -225,7 +233,7 @@ class Logs:
         return steps + below(f"z({steps.count('reply')})", "end") + told + found
 
     def all(self):
-        for found in (self.texts, self.replies, self.findings, self.chains, self.calls_apart):
+        for found in (self.texts, self.replies, self.findings, self.huge, self.chains, self.calls_apart):
             yield from found()
 
 

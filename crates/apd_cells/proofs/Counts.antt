@@ -1,5 +1,5 @@
 -- Counting the symbols of a term, part by part.
-use Rattle.std.proofs.Common.{◌≡◌, ◌⊎◌, inl, inr, ℕ, ◌+◌, ◌-◌, ◌<◌, List, [], ◌∷◌, ◌++◌, length, get_or, sym, ◌∙◌, ap, subst, arith, append_assoc, refl}
+use Rattle.std.proofs.Common.{◌≡◌, ◌≢◌, ◌⊎◌, inl, inr, ℕ, ◌+◌, ◌-◌, ◌<◌, List, [], ◌∷◌, ◌++◌, length, get_or, sym, ◌∙◌, ap, subst, arith, append_assoc, refl}
 use Rattle.std.specs.List.{flat_map}
 use Rattle.std.specs.Prelude.{max}
 use Rattle.std.proofs.lemmas.List.{length-append}
@@ -27,6 +27,11 @@ extent_behind s c at e l same h = record {
   long = h.long ∙ ap size same;
   below = λ v o. h.below v (subst (Occurs v) (sym same) o);
 }
+
+-- a cell that leads to another one has a variable
+pub led_elsewhere : (s : Stored) (c at : ℕ) → (at ≡ c) ⊎ IsVariable (get_or s.cells c (Var 0)) → at ≢ c → IsVariable (get_or s.cells c (Var 0))
+led_elsewhere s c at (inl same) other = absurd (other same)
+led_elsewhere s c at (inr is) other = is
 
 -- a term whose extent is above no variable has none
 none_among : (vs : List ℕ) → ((v : ℕ) → IsAmong vs v → ⊥) → vs ≡ []
@@ -61,6 +66,14 @@ passes_known s here next rest e h r l i x is =
       some = omega (arith, x.long, size_positive t);
       below = λ v o. x.below v (subst (λ vs. IsAmong vs v) (flat_map-variables t) o);
     })
+
+-- a run has no fewer symbols than the term that its first cell leads to
+pub over_limit : (s : Stored) (here : Run) (limit : ℕ) → IsStore s.cells s.variables s.trail → AreRuns s.cells (here ∷ []) → 0 < here.left
+    → IsVariable (get_or s.cells here.at (Var 0)) → limit < size (term_at s here.at) → limit < length (runs_symbols s (here ∷ []))
+over_limit s here limit h r l i o =
+    let t = term_at s here.at in
+    let k = elsewhere s here.at here.left h r.0 l i in
+    omega (arith, o, length-spell t, ap length k.0, length-append (spell t) (run_symbols s (here.at + 1) (here.left - 1)), length-append (run_symbols s here.at here.left) [])
 
 -- what was counted of a term, with these symbols left
 pub record IsCounted (t : Term) (e : Extent) (left : List Sym) : Type 0 where

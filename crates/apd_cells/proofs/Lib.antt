@@ -19,6 +19,7 @@ pub mod Keeping
 pub mod Numbering
 pub mod Sizing
 pub mod Counts
+pub mod Measuring
 pub mod Ordered
 pub mod Placing
 pub mod Seen

@@ -16,7 +16,7 @@ use Rattle.apd_cells.specs.declared.heap.Note.{Note}
 use Rattle.apd_cells.specs.Heap.{IsVariable}
 use Rattle.apd_cells.specs.Stored.{Stored}
 use Rattle.apd_cells.specs.Store.{meaning, term_at, binding_of, IsStore}
-use Rattle.apd_cells.specs.Work.{IsRun, AreRuns, run_symbols, runs_symbols, IsWalk, walk_symbols, GoesTo, PassesOn}
+use Rattle.apd_cells.specs.Work.{IsRun, AreRuns, Leads, run_symbols, runs_symbols, IsWalk, walk_symbols, GoesTo, PassesOn}
 use Rattle.apd_cells.specs.declared.walk.Run.{Run}
 use Rattle.apd_cells.specs.declared.walk.Walk.{Walk}
 use Rattle.apd_cells.proofs.Meaning.{HasCells-of, meaning-free}
@@ -76,13 +76,6 @@ pub image-self : (s : Stored) (x : Sym) → ((v : ℕ) → x ≡ Var v → bindi
 image-self s (Var v) f = ap spell (meaning-free s.cells s.trail v (f v refl))
 image-self s (Int i) f = refl
 image-self s (Fun g n) f = refl
-
--- where a cell leads, as the heap says it
-pub record Leads (s : Stored) (c at : ℕ) : Type 0 where
-  pub inside : at < length s.cells
-  pub same : term_at s at ≡ term_at s c
-  pub end : (v : ℕ) → get_or s.cells at (Var 0) ≡ Var v → binding_of s.trail v ≡ Free
-  pub start : (at ≡ c) ⊎ IsVariable (get_or s.cells c (Var 0))
 
 -- one term is written at a cell
 pub run_one : (s : Stored) (c : ℕ) → c < length s.cells → run_symbols s c 1 ≡ spell (term_at s c)

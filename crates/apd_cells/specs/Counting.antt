@@ -1,10 +1,11 @@
 -- Counting the symbols of a term.
-use Rattle.std.specs.Prelude.{◌≡◌, ℕ, ◌<◌, ◌≤◌, Option, Some, None, List, ◌++◌, length}
+use Rattle.std.specs.Prelude.{◌≡◌, ℕ, ◌<◌, ◌≤◌, Option, Some, None, List, [], ◌∷◌, ◌++◌, length}
 use Rattle.std.specs.List.{flat_map}
 use Rattle.apd_term.specs.declared.term.Sym.{Sym}
 use Rattle.apd_term.specs.Spelling.{variable_in}
 use Rattle.apd_term.specs.Term.{IsAmong, size}
 use Rattle.apd_cells.specs.declared.counting.Count.{Count}
+use Rattle.apd_cells.specs.declared.counting.Part.{Part}
 use Rattle.apd_cells.specs.declared.known.Extent.{Extent}
 use Rattle.apd_cells.specs.declared.walk.Run.{Run}
 use Rattle.apd_cells.specs.Known.{HasExtent}
@@ -30,3 +31,13 @@ pub record PassesPart (s : Stored) (old : List Run) (e : Extent) (new : List Run
 abbrev pub CountedWithin : Stored → ℕ → ℕ → Option Count → Type 0
 CountedWithin s c limit None = limit < size (term_at s c)
 CountedWithin s c limit (Some n) = HasExtent s c n.extent × (n.extent.size ≤ limit)
+
+-- the same of the extent alone
+abbrev pub MeasuredWithin : Stored → ℕ → ℕ → Option Extent → Type 0
+MeasuredWithin s c limit None = limit < size (term_at s c)
+MeasuredWithin s c limit (Some e) = HasExtent s c e × (e.size ≤ limit)
+
+-- some symbols of a run were passed, or it has more than the limit
+abbrev pub MeasuresPart : Stored → Run → ℕ → Option Part → Type 0
+MeasuresPart s here limit None = limit < length (runs_symbols s (here ∷ []))
+MeasuresPart s here limit (Some p) = PassesPart s (here ∷ []) p.extent (p.next ∷ [])

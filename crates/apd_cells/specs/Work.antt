@@ -1,11 +1,14 @@
 -- What a walk over terms has still to pass.
-use Rattle.std.specs.Prelude.{◌≡◌, ℕ, ◌<◌, ◌≤◌, Option, Some, None, List, [], ◌∷◌, ◌++◌, length, take, drop, map}
+use Rattle.std.specs.Prelude.{◌≡◌, ◌⊎◌, ℕ, ◌<◌, ◌≤◌, Option, Some, None, List, [], ◌∷◌, ◌++◌, length, take, drop, map, get_or}
 use Rattle.std.specs.List.{flat_map}
 use Rattle.apd_term.specs.declared.term.Sym.{Sym}
+use Rattle.apd_term.specs.declared.term.Sym.TheVariants.{Var}
 use Rattle.apd_term.specs.Spelling.{variable_in}
 use Rattle.apd_term.specs.Term.{Term, IsAmong, apply, spell, read_all}
 use Rattle.apd_cells.specs.Stored.{Stored}
-use Rattle.apd_cells.specs.Store.{meaning}
+use Rattle.apd_cells.specs.declared.heap.Binding.TheVariants.{Free}
+use Rattle.apd_cells.specs.Heap.{IsVariable}
+use Rattle.apd_cells.specs.Store.{binding_of, meaning, term_at}
 use Rattle.apd_cells.specs.declared.walk.Run.{Run}
 use Rattle.apd_cells.specs.declared.walk.Walk.{Walk}
 
@@ -49,6 +52,13 @@ Passes (Some x) before after = before ≡ x ∷ after
 abbrev pub GoesTo : Run → List Run → Option Run → List Run → Type 0
 GoesTo here old None new = (new ≡ []) × ((s : Stored) → runs_symbols s (here ∷ old) ≡ [])
 GoesTo here old (Some r) new = (0 < r.left) × (((s : Stored) → runs_symbols s (here ∷ old) ≡ runs_symbols s (r ∷ new)) × ((cells : List Sym) → AreRuns cells (here ∷ old) → AreRuns cells (r ∷ new)))
+
+-- a cell leads to another through variables that are bound, as far as they are
+pub record Leads (s : Stored) (c at : ℕ) : Type 0 where
+  pub inside : at < length s.cells
+  pub same : term_at s at ≡ term_at s c
+  pub end : (v : ℕ) → get_or s.cells at (Var 0) ≡ Var v → binding_of s.trail v ≡ Free
+  pub start : (at ≡ c) ⊎ IsVariable (get_or s.cells c (Var 0))
 
 -- the first symbol of the runs was passed
 pub record PassesOn (s : Stored) (old : List Run) (x : Sym) (new : List Run) : Type 0 where

@@ -1,16 +1,13 @@
 //! How many symbols terms have, with all bindings applied.
 
-ghost use Rattle.std.specs.Prelude.{◌≡◌, ◌∷◌, ◌<◌, ◌^◌, length, IfOk, IfSome};
-ghost use Rattle.apd_cells.specs.Counting.{CountedWithin, IsOfSymbol, PassesPart};
-ghost use Rattle.apd_cells.specs.Heap.{IsVariable};
-ghost use Rattle.apd_cells.specs.Known.{HasExtent};
-ghost use Rattle.apd_cells.specs.Store.{symbol_at, IsSound};
+ghost use Rattle.std.specs.Prelude.{◌≡◌, [], ◌∷◌, ◌<◌, length, IfOk};
+ghost use Rattle.apd_cells.specs.Counting.{CountedWithin, IsOfSymbol, MeasuredWithin, MeasuresPart, PassesPart};
 ghost use Rattle.apd_cells.specs.Work.{AreRuns};
 
 use crate::heap::Heap;
 use crate::known::Extent;
 use crate::stack::Stack;
-use crate::walk::{Run, arity_of, next_run, pass};
+use crate::walk::{Run, arity_of, next_run, pass_from};
 use apd_term::Sym;
 use std::alloc::{AllocError, Global};
 
@@ -41,36 +38,25 @@ fn extent_of(symbol: Sym) -> Result<Extent, AllocError>
     }
 }
 
-/// The extent of the term that the variable at a cell leads to, where it is known.
-fn known_behind(heap: &Heap, at: usize) -> Option<Extent>
-    requires { at < length heap.now.cells }
-    ensures known { IfSome result
-        (λ e. IsVariable (symbol_at heap.now at) × HasExtent heap.now at e) }
-    ensures store { IsSound heap.now }
-    ensures fits { length heap.now.cells < 2 ^ 64 }
-{
-    let to = heap.follow(at);
-    if to == at {
-        return None;
-    }
-    heap.known(to)
-}
-
-/// Passes the first symbol of a run, behind the bindings, or the first term, where its extent is known.
+/// Passes the first symbol of a run, behind the bindings, or the first term, where a binding leads to it and its
+/// extent is known.
 fn pass_part(heap: &Heap, rest: &mut Stack<Run>, here: Run) -> Result<Part, AllocError>
     requires right { AreRuns heap.now.cells (here ∷ rest.old) }
     requires some { 0 < here.left }
     ensures { IfOk result
         (λ p. PassesPart heap.now (here ∷ rest.old) p.extent (p.next ∷ rest.new)) }
 {
-    if let Some(extent) = known_behind(heap, here.at) {
-        let next = Run {
-            at: here.at + 1,
-            left: here.left - 1,
-        };
-        return Ok(Part { extent, next });
+    let at = heap.follow(here.at);
+    if at != here.at && arity_of(heap.symbol(at)) > 0 {
+        if let Some(extent) = heap.known(at) {
+            let next = Run {
+                at: here.at + 1,
+                left: here.left - 1,
+            };
+            return Ok(Part { extent, next });
+        }
     }
-    let passed = pass(heap, rest, here)?;
+    let passed = pass_from(heap, rest, here, at)?;
     Ok(Part {
         extent: extent_of(passed.symbol)?,
         next: passed.next,
@@ -105,34 +91,92 @@ pub fn counted_within(
 }
 
 /// The extent of a term is kept where it takes more steps than these to count it.
-const FEW_STEPS: u64 = 4;
+const FEW_STEPS: u64 = 2;
 
-/// Counts the term that the variable at a cell leads to, and keeps its extent if that takes long.
-fn keep_behind(heap: &mut Heap, alloc: Global, at: usize, limit: u64) -> Result<(), AllocError>
+/// The extent of the term at a cell; none exactly where its size is over the limit. It is kept if it takes long to count
+/// it.
+fn kept_within(
+    heap: &mut Heap,
+    alloc: Global,
+    at: usize,
+    limit: u64,
+) -> Result<Option<Extent>, AllocError>
     requires { at < length heap.old.cells }
-    ensures { heap.new ≡ heap.old }
+    ensures extent { IfOk result (MeasuredWithin heap.old at limit) }
+    ensures same { heap.new ≡ heap.old }
 {
-    let to = heap.follow(at);
-    if to == at || arity_of(heap.symbol(to)) == 0 || heap.known(to).is_some() {
-        return Ok(());
+    if let Some(extent) = heap.known(at) {
+        if extent.size > limit {
+            return Ok(None);
+        }
+        return Ok(Some(extent));
     }
-    let Some(count) = counted_within(heap, alloc, to, limit)? else {
-        return Ok(());
+    let Some(count) = counted_within(heap, alloc, at, limit)? else {
+        return Ok(None);
     };
-    if count.steps <= FEW_STEPS {
-        return Ok(());
+    if count.steps > FEW_STEPS {
+        heap.keep(at, count.extent)?;
     }
-    heap.keep(to, count.extent)
+    Ok(Some(count.extent))
 }
 
-/// The same for each variable that is written in the term at a cell.
-pub fn keep_sizes(heap: &mut Heap, alloc: Global, at: usize, limit: u64) -> Result<(), AllocError>
-    requires { at < length heap.old.cells }
-    ensures { heap.new ≡ heap.old }
+/// Passes the first symbol of a run, or the first term, where a binding leads to it; none only where that is over the
+/// limit.
+fn measure_part(
+    heap: &mut Heap,
+    alloc: Global,
+    here: Run,
+    limit: u64,
+) -> Result<Option<Part>, AllocError>
+    requires right { AreRuns heap.old.cells (here ∷ []) }
+    requires some { 0 < here.left }
+    ensures part { IfOk result (MeasuresPart heap.old here limit) }
+    ensures same { heap.new ≡ heap.old }
 {
-    let end = heap.end(at);
-    'cells: for cell in at..end {
-        keep_behind(heap, alloc, cell, limit)?;
+    let at = heap.follow(here.at);
+    let symbol = heap.symbol(at);
+    let arity = arity_of(symbol);
+    if at == here.at || arity == 0 {
+        let extent = extent_of(symbol)?;
+        let next = Run {
+            at: here.at + 1,
+            left: here.left - 1 + arity,
+        };
+        return Ok(Some(Part { extent, next }));
     }
-    Ok(())
+    let Some(extent) = kept_within(heap, alloc, at, limit)? else {
+        return Ok(None);
+    };
+    let next = Run {
+        at: here.at + 1,
+        left: here.left - 1,
+    };
+    Ok(Some(Part { extent, next }))
+}
+
+/// The same as [`counted_within`] tells, and the extents of long terms that bindings lead to are kept, so that later
+/// counts needn't pass them.
+pub fn measured_within(
+    heap: &mut Heap,
+    alloc: Global,
+    at: usize,
+    limit: u64,
+) -> Result<Option<Extent>, AllocError>
+    requires { at < length heap.old.cells }
+    ensures extent { IfOk result (MeasuredWithin heap.old at limit) }
+    ensures same { heap.new ≡ heap.old }
+{
+    let mut here = Run { at, left: 1 };
+    let mut extent = Extent { size: 0, above: 0 };
+    'parts: while here.left > 0 {
+        let Some(part) = measure_part(heap, alloc, here, limit - extent.size)? else {
+            return Ok(None);
+        };
+        if part.extent.size > limit - extent.size {
+            return Ok(None);
+        }
+        extent = extent.and(part.extent);
+        here = part.next;
+    }
+    Ok(Some(extent))
 }

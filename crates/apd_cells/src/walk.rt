@@ -1,9 +1,9 @@
 //! A walk over the symbols of a term, with all bindings applied.
 
-ghost use Rattle.std.specs.Prelude.{◌≡◌, [], ◌∷◌, ◌<◌, length, IfOk, OnOk};
+ghost use Rattle.std.specs.Prelude.{◌≡◌, [], ◌∷◌, ◌<◌, ◌^◌, length, IfOk, OnOk};
 ghost use Rattle.apd_term.specs.Term.{arity_of, spell};
 ghost use Rattle.apd_cells.specs.Store.{term_at};
-ghost use Rattle.apd_cells.specs.Work.{AreRuns, IsWalk, walk_symbols, Passes, PassesOn, GoesTo, HasSameVariables};
+ghost use Rattle.apd_cells.specs.Work.{AreRuns, IsWalk, Leads, walk_symbols, Passes, PassesOn, GoesTo, HasSameVariables};
 
 use crate::heap::Heap;
 use crate::stack::Stack;
@@ -58,15 +58,21 @@ pub fn next_run(rest: &mut Stack<Run>, here: Run) -> Option<Run>
     Some(next)
 }
 
-/// Passes the first symbol of a run, behind the bindings.
+/// Passes the first symbol of a run, whose first cell leads to this one.
 #[inline(always)]
-pub(crate) fn pass(heap: &Heap, rest: &mut Stack<Run>, here: Run) -> Result<Passed, AllocError>
+pub(crate) fn pass_from(
+    heap: &Heap,
+    rest: &mut Stack<Run>,
+    here: Run,
+    at: usize,
+) -> Result<Passed, AllocError>
     requires right { AreRuns heap.now.cells (here ∷ rest.old) }
     requires some { 0 < here.left }
+    requires leads { Leads heap.now here.at at }
+    requires fits { length heap.now.cells < 2 ^ 64 }
     ensures { IfOk result
         (λ p. PassesOn heap.now (here ∷ rest.old) p.symbol (p.next ∷ rest.new)) }
 {
-    let at = heap.follow(here.at);
     let symbol = heap.symbol(at);
     let arity = arity_of(symbol);
     if at == here.at || arity == 0 {
@@ -87,6 +93,18 @@ pub(crate) fn pass(heap: &Heap, rest: &mut Stack<Run>, here: Run) -> Result<Pass
         left: arity,
     };
     Ok(Passed { symbol, next })
+}
+
+/// Passes the first symbol of a run, behind the bindings.
+#[inline(always)]
+pub(crate) fn pass(heap: &Heap, rest: &mut Stack<Run>, here: Run) -> Result<Passed, AllocError>
+    requires right { AreRuns heap.now.cells (here ∷ rest.old) }
+    requires some { 0 < here.left }
+    ensures { IfOk result
+        (λ p. PassesOn heap.now (here ∷ rest.old) p.symbol (p.next ∷ rest.new)) }
+{
+    let at = heap.follow(here.at);
+    pass_from(heap, rest, here, at)
 }
 
 impl Walk {

@@ -149,14 +149,8 @@ impl Following {
         self.linked.newest()
     }
 
-    /// Whether the innermost frame's instance is small enough for a point. No term is written.
-    pub fn fits(&self) -> Result<bool, AllocError>
-        ensures { IfOk result (λ b. b ≡ fits self.now.current) }
-    {
-        self.linked.fits()
-    }
-
-    /// The same. Sizes of long terms are kept on the way, so that later looks needn't count them.
+    /// Whether the innermost frame's instance is small enough for a point. No term is written. Sizes of long terms are kept on
+    /// the way, so that later looks needn't count them.
     pub fn measure(&mut self) -> Result<bool, AllocError>
         ensures fits { IfOk result (λ b. b ≡ fits self.old.current) }
         ensures kept { self.new ≡ self.old }

@@ -3,6 +3,7 @@
 
 mod active;
 mod beside;
+mod few;
 mod guesses;
 mod kept;
 pub mod laws;

@@ -5,6 +5,7 @@ ghost use Rattle.std.specs.Bool.{OnTrue};
 ghost use Rattle.apd_term.specs.Term.{arguments, IsGround, Occurs, size};
 ghost use Rattle.apd_term.specs.Canonical.{shifted};
 ghost use Rattle.apd_cells.specs.Arguments.{HasOne, HasTwo};
+ghost use Rattle.apd_cells.specs.Counting.{MeasuredWithin};
 ghost use Rattle.apd_cells.specs.First.{AreApart, key_of, first_symbol};
 ghost use Rattle.apd_cells.specs.Live.{store_of};
 ghost use Rattle.apd_cells.specs.Numbered.{IsNumbered};
@@ -14,9 +15,10 @@ ghost use Rattle.apd_unify.specs.Unified.{IsUnification};
 
 use crate::unify::{Pairs, unify};
 use apd_cells::arguments::{only_argument, two_arguments};
-use apd_cells::counting::keep_sizes;
+use apd_cells::counting::measured_within;
 use apd_cells::first::{are_clashing, first_symbol, key_at, key_of};
 use apd_cells::heap::Heap;
+use apd_cells::known::Extent;
 use apd_cells::live::Live;
 use apd_cells::reading::{Looking, is_ground_within, resolved, size_within};
 use apd_cells::scratch::{Scratch, numbered_within};
@@ -196,13 +198,14 @@ impl Store {
         is_ground_within(&self.heap, self.alloc, cell.0, limit)
     }
 
-    /// Counts the terms that stand for the variables of what is written at a cell, and keeps the sizes of
-    /// long ones, if they aren't over the limit, so that later counts needn't pass them.
-    pub fn keep_sizes(&mut self, cell: Cell, limit: u64) -> Result<(), AllocError>
+    /// The extent of the term at a cell; none exactly where its size is over the limit. What is counted of long terms
+    /// is kept, so that later counts needn't pass them.
+    pub fn measure(&mut self, cell: Cell, limit: u64) -> Result<Option<Extent>, AllocError>
         requires { cell.0 < length self.old.cells }
-        ensures { self.new ≡ self.old }
+        ensures extent { IfOk result (MeasuredWithin self.old cell.0 limit) }
+        ensures same { self.new ≡ self.old }
     {
-        keep_sizes(&mut self.heap, self.alloc, cell.0, limit)
+        measured_within(&mut self.heap, self.alloc, cell.0, limit)
     }
 
     /// Whether no cell's term has more symbols than this; false says nothing.

@@ -40,13 +40,28 @@ pub fn call_of_p(alloc: Global) -> Result<Flat, AllocError>
     call_of(alloc, P)
 }
 
-/// The list of one term.
-fn one(alloc: Global, atom: Flat) -> Result<Atoms, AllocError>
-    ensures { IfOk result (λ atoms. atoms ≡ atom ∷ []) }
+/// The list of the call of a predicate with a variable.
+fn one(alloc: Global, name: NameId) -> Result<Atoms, AllocError>
+    ensures { IfOk result (λ atoms. atoms ≡ call_of name.0 ∷ []) }
 {
+    let atom = call_of(alloc, name)?;
     let mut atoms = Atoms::new(alloc);
     atoms.push(atom)?;
     Ok(atoms)
+}
+
+/// The head with the call of a predicate as its one goal.
+fn with_goal(alloc: Global, head: Flat, name: NameId) -> Result<Tuple, AllocError>
+    ensures { IfOk result (λ t. t ≡ record { head = head; body = call_of name.0 ∷ [] }) }
+{
+    match one(alloc, name) {
+        Ok(body) => Ok(Tuple { head, body }),
+        Err(fault) => {
+            // Dropped by a call, here and below: else each of its parts is a step to check.
+            drop(head);
+            Err(fault)
+        }
+    }
 }
 
 /// The query, which shows its variable.
@@ -54,23 +69,18 @@ fn query(alloc: Global) -> Result<Query, AllocError>
     ensures { IfOk result (λ q. q.tuple ≡ query) }
 {
     let shown = [Sym::Fun(CELL, 2), Sym::Var(1), Sym::Fun(NIL, 0)];
-    Ok(Query {
-        tuple: Tuple {
-            head: Flat::copy_of(alloc, &shown)?,
-            body: one(alloc, call_of_r(alloc)?)?,
-        },
-        vars: VarNames::new(alloc),
-    })
+    let head = Flat::copy_of(alloc, &shown)?;
+    let tuple = with_goal(alloc, head, R)?;
+    let vars = VarNames::new(alloc);
+    Ok(Query { tuple, vars })
 }
 
 /// The first clause.
 fn rule(alloc: Global) -> Result<Tuple, AllocError>
     ensures { IfOk result (λ t. t ≡ rule) }
 {
-    Ok(Tuple {
-        head: call_of_r(alloc)?,
-        body: one(alloc, call_of_p(alloc)?)?,
-    })
+    let head = call_of_r(alloc)?;
+    with_goal(alloc, head, P)
 }
 
 /// The second clause.
@@ -83,13 +93,31 @@ fn fact(alloc: Global) -> Result<Tuple, AllocError>
     })
 }
 
+/// The query begins.
+fn begin(alloc: Global, recorded: &mut Record) -> Result<(), AllocError>
+    ensures { OnOk result (recorded.new ≡ begun query) }
+{
+    let query = query(alloc)?;
+    let begun = recorded.begin(&query);
+    drop(query);
+    match begun {
+        Ok(()) => Ok(()),
+        Err(fault) => Err(fault),
+    }
+}
+
 /// The query calls `r`.
 fn call_r(alloc: Global, recorded: &mut Record) -> Result<(), AllocError>
     ensures { OnOk result (recorded.new ≡ r_called) }
 {
-    recorded.begin(&query(alloc)?)?;
-    let _box = recorded.open_box(&call_of_r(alloc)?, PointId(0), true)?;
-    Ok(())
+    begin(alloc, recorded)?;
+    let atom = call_of_r(alloc)?;
+    let opened = recorded.open_box(&atom, PointId(0), true);
+    drop(atom);
+    match opened {
+        Ok(_) => Ok(()),
+        Err(fault) => Err(fault),
+    }
 }
 
 /// The rule is entered.
@@ -112,8 +140,13 @@ fn call_p(alloc: Global, recorded: &mut Record) -> Result<(), AllocError>
     requires { recorded.old ≡ r_entered }
     ensures { OnOk result (recorded.new ≡ p_called) }
 {
-    let _box = recorded.open_box(&call_of_p(alloc)?, PointId(1), true)?;
-    Ok(())
+    let atom = call_of_p(alloc)?;
+    let opened = recorded.open_box(&atom, PointId(1), true);
+    drop(atom);
+    match opened {
+        Ok(_) => Ok(()),
+        Err(fault) => Err(fault),
+    }
 }
 
 /// The fact is entered, and solves its goal.
@@ -171,7 +204,6 @@ pub fn made(alloc: Global) -> Result<Record, AllocError>
     match record_run(alloc, &mut recorded) {
         Ok(()) => Ok(recorded),
         Err(fault) => {
-            // Dropped by a call: else each of its fields is dropped by itself, in as many steps to check.
             drop(recorded);
             Err(fault)
         }
@@ -182,8 +214,15 @@ pub fn made(alloc: Global) -> Result<Record, AllocError>
 pub fn symptom(alloc: Global, atom: &Flat) -> Result<Answers, AllocError>
     ensures { IfOk result (λ answers. SaysNo answers atom.now) }
 {
-    let mut answers = Answers::new(alloc);
     let question = Question::True(atom.copy(alloc)?);
-    answers.add(&question, &Reply::No)?;
-    Ok(answers)
+    let mut answers = Answers::new(alloc);
+    let added = answers.add(&question, &Reply::No);
+    drop(question);
+    match added {
+        Ok(()) => Ok(answers),
+        Err(fault) => {
+            drop(answers);
+            Err(fault)
+        }
+    }
 }

@@ -39,11 +39,14 @@ fn has_room(names: &Names) -> bool
 
 /// The program that a file is.
 fn loaded(alloc: Global, files: &mut impl Files, name: &str, names: &mut Names) -> Option<Loaded> {
-    let text = files.load(alloc, name).ok()?;
     if !has_room(names) {
         return None;
     }
-    load(alloc, text.bytes(), names).ok()
+    let text = files.load(alloc, name).ok()?;
+    let loaded = load(alloc, text.bytes(), names);
+    // Dropped by a call, here and below: else each part is a step to check.
+    drop(text);
+    loaded.ok()
 }
 
 /// An oracle with the replies that are known beforehand.
@@ -53,12 +56,16 @@ fn scripted(
     ops: &Ops,
     names: &mut Names,
 ) -> Option<Scripted> {
-    let text = files.load(alloc, REPLIES).ok()?;
     if !has_room(names) {
         return None;
     }
-    let stated = oracle_file(alloc, text.bytes(), ops, names).ok()?;
-    Some(Scripted::new(alloc, stated.answers))
+    let text = files.load(alloc, REPLIES).ok()?;
+    let stated = oracle_file(alloc, text.bytes(), ops, names);
+    drop(text);
+    match stated {
+        Ok(stated) => Some(Scripted::new(alloc, stated.answers)),
+        Err(_) => None,
+    }
 }
 
 /// The head of an exit.
@@ -78,9 +85,10 @@ fn found(alloc: Global, recorded: &Record, exit: PointId, oracle: &mut Noting) -
 {
     let label = label_of(recorded, exit)?;
     let Ok(mut answers) = symptom(alloc, &label) else {
+        drop(label);
         return None;
     };
-    match diagnose_wrong(
+    let found = diagnose_wrong(
         alloc,
         recorded,
         exit,
@@ -88,10 +96,28 @@ fn found(alloc: Global, recorded: &Record, exit: PointId, oracle: &mut Noting) -
         Strategy::Divide,
         &mut answers,
         oracle,
-    ) {
+    );
+    drop(answers);
+    drop(label);
+    match found {
         Ok(finding) => Some(finding),
         Err(_) => None,
     }
+}
+
+/// Notes what is found of an exit, whose label isn't true.
+fn note_found(
+    alloc: Global,
+    program: &Program,
+    recorded: &Record,
+    exit: PointId,
+    oracle: &mut Noting,
+) -> Option<()>
+    requires { IsUserExit recorded.now exit.0 }
+{
+    let finding = found(alloc, recorded, exit, oracle)?;
+    let line = line_found(program, &finding);
+    oracle.said.push(Entry::Found { finding, line }).ok()
 }
 
 /// What is asked and replied where the first exit of the first box isn't true, and then what is found.
@@ -102,13 +128,20 @@ fn said(
     scripted: Scripted,
 ) -> Option<Vec<Entry>> {
     let Ok(exit) = exit_of(recorded, 1, 1) else {
+        drop(scripted);
         return None;
     };
     let mut oracle = Noting::new(alloc, scripted);
-    let finding = found(alloc, recorded, exit, &mut oracle)?;
-    let line = line_found(program, &finding);
-    oracle.said.push(Entry::Found { finding, line }).ok()?;
-    Some(oracle.said)
+    let noted = note_found(alloc, program, recorded, exit, &mut oracle);
+    let Noting { scripted, said, .. } = oracle;
+    drop(scripted);
+    match noted {
+        Some(()) => Some(said),
+        None => {
+            drop(said);
+            None
+        }
+    }
 }
 
 /// The texts of the entries.
@@ -128,7 +161,21 @@ fn recorded_run(
     names: &mut Names,
 ) -> Option<Record> {
     let run = loaded(alloc, files, RUN, names)?;
-    replayed(alloc, program, &run.program)
+    let recorded = replayed(alloc, program, &run.program);
+    drop(run);
+    recorded
+}
+
+/// What is said in the diagnosis of a run that was recorded.
+fn said_of(
+    alloc: Global,
+    files: &mut impl Files,
+    loaded: &Loaded,
+    recorded: &Record,
+    names: &mut Names,
+) -> Option<Vec<Entry>> {
+    let scripted = scripted(alloc, files, &loaded.ops, names)?;
+    said(alloc, &loaded.program, recorded, scripted)
 }
 
 /// What is said in the diagnosis of the run.
@@ -139,14 +186,36 @@ fn dialogue(
     names: &mut Names,
 ) -> Option<Vec<Entry>> {
     let recorded = recorded_run(alloc, files, &loaded.program, names)?;
-    let scripted = scripted(alloc, files, &loaded.ops, names)?;
-    said(alloc, &loaded.program, &recorded, scripted)
+    let said = said_of(alloc, files, loaded, &recorded, names);
+    drop(recorded);
+    said
+}
+
+/// What is said in the diagnosis, as a text.
+fn dialogue_text(
+    alloc: Global,
+    files: &mut impl Files,
+    loaded: &Loaded,
+    names: &mut Names,
+) -> Option<Text> {
+    let said = dialogue(alloc, files, loaded, names)?;
+    let text = text_of_all(alloc, said.as_slice(), names, &loaded.ops);
+    drop(said);
+    text
+}
+
+/// The same, of the program in its file.
+fn program_text(alloc: Global, files: &mut impl Files, names: &mut Names) -> Option<Text> {
+    let loaded = loaded(alloc, files, PROGRAM, names)?;
+    let text = dialogue_text(alloc, files, &loaded, names);
+    drop(loaded);
+    text
 }
 
 /// What is said in the diagnosis. None where a file isn't there or isn't what it should be, or for want of memory.
 pub fn insertion_sort(alloc: Global, files: &mut impl Files) -> Option<Text> {
     let mut names = Names::standard(alloc).ok()?;
-    let loaded = loaded(alloc, files, PROGRAM, &mut names)?;
-    let said = dialogue(alloc, files, &loaded, &mut names)?;
-    text_of_all(alloc, said.as_slice(), &names, &loaded.ops)
+    let text = program_text(alloc, files, &mut names);
+    drop(names);
+    text
 }

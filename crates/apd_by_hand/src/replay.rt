@@ -1,8 +1,10 @@
 //! The record of a run that never goes back, made of the instances of clauses that it enters.
 
-ghost use Rattle.std.specs.Prelude.{◌≡◌, ◌+◌, ◌<◌, ◌≤◌, List, length, IfSome, OnSome};
-ghost use Rattle.apd_by_hand.specs.Newest.{IsNewest, IsSolvedBy, StaysSound};
+ghost use Rattle.std.specs.Prelude.{◌≡◌, ◌+◌, ◌<◌, ◌≤◌, List, length, IfSome, None, OnSome, Some};
+ghost use Rattle.apd_by_hand.specs.Newest.{IsInstanceOf, IsNewest, IsSolvedBy, StaysSound};
 ghost use Rattle.apd_clauses.specs.Clauses.{IsAtom, tuples_of};
+ghost use Rattle.apd_ports.specs.declared.point.Point.{Point};
+ghost use Rattle.apd_record.specs.Recorded.{point_at};
 ghost use Rattle.apd_record.specs.Sound.{IsOfClauseIn, IsSound, MayMake, MayOpen};
 ghost use Rattle.apd_term.specs.Canonical.{canonical};
 ghost use Rattle.apd_term.specs.declared.tuple.Tuple.{Tuple};
@@ -30,19 +32,32 @@ fn canonical_atom(alloc: Global, goal: &Flat) -> Option<Flat>
     Some(atom)
 }
 
+/// The call of the next goal of the point with this number, where it may be called.
+fn called_by(alloc: Global, recorded: &Record, from: PointId, caller: &Point) -> Option<Flat>
+    requires number { from.0 < length recorded.now.points }
+    requires point { point_at recorded.now from.0 ≡ Some caller.now }
+    requires owner { caller.now.owner ≤ length recorded.now.boxes }
+    ensures { IfSome result (λ atom. MayOpen recorded.now atom from.0) }
+{
+    recorded.is_kept();
+    if is_complete(recorded, caller.owner) || recorded.child(from).is_some() {
+        return None;
+    }
+    let goal = next_goal(caller)?;
+    let atom = canonical_atom(alloc, goal)?;
+    Some(atom)
+}
+
 /// The call of the next goal of a point, where it may be called.
 fn called(alloc: Global, recorded: &Record, from: PointId) -> Option<Flat>
     requires { from.0 < length recorded.now.points }
     ensures { IfSome result (λ atom. MayOpen recorded.now atom from.0) }
 {
-    recorded.is_kept();
     let caller = point_of(recorded, from)?;
-    if is_complete(recorded, caller.owner) || recorded.child(from).is_some() {
-        return None;
-    }
-    let goal = next_goal(&caller)?;
-    let atom = canonical_atom(alloc, goal)?;
-    Some(atom)
+    let atom = called_by(alloc, recorded, from, &caller);
+    // Dropped by a call, here and below: else each of its parts is a step to check.
+    drop(caller);
+    atom
 }
 
 /// Calls the next goal of the newest point.
@@ -53,13 +68,49 @@ fn call(alloc: Global, recorded: &mut Record, newest: PointId) -> Option<()>
 {
     let atom = called(alloc, recorded, newest)?;
     if recorded.boxes() == u32::MAX {
+        drop(atom);
         return None;
     }
     let is_user = Builtin::of_atom(&atom).is_none();
-    match recorded.open_box(&atom, newest, is_user) {
+    let opened = recorded.open_box(&atom, newest, is_user);
+    drop(atom);
+    match opened {
         Ok(_) => Some(()),
         Err(_) => None,
     }
+}
+
+/// The clause of the program that the newest box enters by this instance, where it may.
+fn clause_entered(
+    alloc: Global,
+    recorded: &Record,
+    owner: u32,
+    program: &Program,
+    tuple: &Tuple,
+) -> Option<u32>
+    requires { owner ≡ length recorded.now.boxes }
+    ensures may { IfSome result (λ n. MayMake recorded.now
+        (record { owner = owner; clause = n; done = 0; tuple = tuple.now; before = None })) }
+    ensures clause { IfSome result (IsInstanceOf (tuples_of program.now) tuple.now) }
+{
+    recorded.is_kept();
+    if owner == 0 || is_complete(recorded, owner) {
+        return None;
+    }
+    let is_user = recorded.is_user(owner);
+    let clause = number_of(alloc, program, tuple)?;
+    if !is_user || recorded.first_point(owner, clause).is_some() {
+        return None;
+    }
+    let Ok(call) = recorded.call_atom(owner) else {
+        return None;
+    };
+    let fits = is_instance(alloc, &tuple.head, &call).unwrap_or(false);
+    drop(call);
+    if !fits {
+        return None;
+    }
+    Some(clause)
 }
 
 /// The point at which the newest box enters a clause of the program by this instance, where it may.
@@ -67,29 +118,20 @@ fn entered(alloc: Global, recorded: &Record, program: &Program, tuple: Tuple) ->
     ensures may { IfSome result (MayMake recorded.now) }
     ensures clause { IfSome result (IsOfClauseIn (tuples_of program.now) recorded.now) }
 {
-    recorded.is_kept();
     let owner = recorded.boxes();
-    if owner == 0 || is_complete(recorded, owner) {
-        return None;
+    match clause_entered(alloc, recorded, owner, program, &tuple) {
+        Some(clause) => Some(Point {
+            owner,
+            clause,
+            done: 0,
+            tuple,
+            before: None,
+        }),
+        None => {
+            drop(tuple);
+            None
+        }
     }
-    let is_user = recorded.is_user(owner);
-    let Ok(call) = recorded.call_atom(owner) else {
-        return None;
-    };
-    let clause = number_of(alloc, program, &tuple)?;
-    if !is_user || recorded.first_point(owner, clause).is_some() {
-        return None;
-    }
-    if !is_instance(alloc, &tuple.head, &call).unwrap_or(false) {
-        return None;
-    }
-    Some(Point {
-        owner,
-        clause,
-        done: 0,
-        tuple,
-        before: None,
-    })
 }
 
 /// The tuple of the point with its next goal made into this atom by a substitution.
@@ -106,33 +148,55 @@ fn with_solved(alloc: Global, point: &Point, atom: &Flat) -> Option<Tuple>
     }
 }
 
+/// The point that the point of a call comes to by its exit, where it may.
+fn solved_by(alloc: Global, recorded: &Record, exit: PointId, last: &Point) -> Option<Point>
+    requires number { exit.0 < length recorded.now.points }
+    requires point { point_at recorded.now exit.0 ≡ Some last.now }
+    requires owner { last.now.owner ≤ length recorded.now.boxes }
+    ensures may { IfSome result (MayMake recorded.now) }
+    ensures clause { IfSome result (λ p. (P : List Tuple) → IsOfClauseIn P recorded.now p) }
+{
+    recorded.is_kept();
+    if last.owner == 0 || has_goal(last) {
+        return None;
+    }
+    let from = recorded.from(last.owner);
+    let left = point_of(recorded, from)?;
+    if left.done == u8::MAX {
+        drop(left);
+        return None;
+    }
+    if is_complete(recorded, left.owner) || recorded.follow(from, exit).is_some() {
+        drop(left);
+        return None;
+    }
+    let made = with_solved(alloc, &left, &last.tuple.head);
+    let owner = left.owner;
+    let clause = left.clause;
+    let done = left.done + 1;
+    drop(left);
+    match made {
+        Some(tuple) => Some(Point {
+            owner,
+            clause,
+            done,
+            tuple,
+            before: Some(Step { point: from, exit }),
+        }),
+        None => None,
+    }
+}
+
 /// The point that the point of a call comes to when the call exits, where it may.
 fn solved(alloc: Global, recorded: &Record, exit: PointId) -> Option<Point>
     requires { exit.0 < length recorded.now.points }
     ensures may { IfSome result (MayMake recorded.now) }
     ensures clause { IfSome result (λ p. (P : List Tuple) → IsOfClauseIn P recorded.now p) }
 {
-    recorded.is_kept();
     let last = point_of(recorded, exit)?;
-    if last.owner == 0 || has_goal(&last) {
-        return None;
-    }
-    let from = recorded.from(last.owner);
-    let left = point_of(recorded, from)?;
-    if left.done == u8::MAX {
-        return None;
-    }
-    if is_complete(recorded, left.owner) || recorded.follow(from, exit).is_some() {
-        return None;
-    }
-    let tuple = with_solved(alloc, &left, &last.tuple.head)?;
-    Some(Point {
-        owner: left.owner,
-        clause: left.clause,
-        done: left.done + 1,
-        tuple,
-        before: Some(Step { point: from, exit }),
-    })
+    let solved = solved_by(alloc, recorded, exit, &last);
+    drop(last);
+    solved
 }
 
 /// Puts a point behind the newest one, and answers with its number.
@@ -192,10 +256,13 @@ fn leave_all(alloc: Global, recorded: &mut Record, newest: PointId) -> Option<Po
     let mut last = newest;
     'boxes: for _ in 0..recorded.boxes() {
         let point = point_of(recorded, last)?;
-        if point.owner == 0 || has_goal(&point) {
+        let owner = point.owner;
+        let goes_on = has_goal(&point);
+        drop(point);
+        if owner == 0 || goes_on {
             return Some(last);
         }
-        last = leave(alloc, recorded, last, point.owner)?;
+        last = leave(alloc, recorded, last, owner)?;
     }
     Some(last)
 }

@@ -221,6 +221,8 @@ fn call_in(
     if first.is_some() {
         return Ok(first);
     }
+    // Dropped by a call: else each part of each kind of claim is a step to check.
+    drop(first);
     claim_behind(alloc, ops, names, whole, calling, text)
 }
 

@@ -66,7 +66,11 @@ fn claim_of(entry: Entry) -> Claim
         Entry::Replied { reply, .. } => Claim::Replies(reply),
         Entry::Found { finding, line } => Claim::Finds(finding, line),
         Entry::AllDescend { calls } => Claim::Descends(calls),
-        _ => Claim::Nothing,
+        other => {
+            // Dropped by a call, here and below: else each part of each kind of entry is a step to check.
+            drop(other);
+            Claim::Nothing
+        }
     }
 }
 
@@ -76,6 +80,7 @@ fn said_if(is_text: bool, entry: Entry) -> Option<Claim>
     ensures sayable { IfSome result IsSayable }
 {
     if !is_text {
+        drop(entry);
         return None;
     }
     Some(claim_of(entry))
@@ -97,8 +102,13 @@ pub(crate) fn written(
     let Some(entry) = entry else {
         return Ok(None);
     };
-    let same = is_text(alloc, ops, names, text, &entry)?;
-    Ok(said_if(same, entry))
+    match is_text(alloc, ops, names, text, &entry) {
+        Ok(same) => Ok(said_if(same, entry)),
+        Err(AllocError) => {
+            drop(entry);
+            Err(AllocError)
+        }
+    }
 }
 
 /// What is said, where it is the text of an entry.
@@ -156,8 +166,8 @@ pub(crate) fn framed_claim(
 {
     let term = read_term(alloc, ops, names, text)?;
     let _count = names.count();
-    let entry = entry_of(alloc, frame, term)?;
     let whole = with_newline(alloc, line)?;
+    let entry = entry_of(alloc, frame, term)?;
     claim_as(alloc, ops, names, whole.bytes(), entry)
 }
 

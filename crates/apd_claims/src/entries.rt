@@ -90,13 +90,16 @@ fn reply_in(alloc: Global, term: &Flat) -> Result<Option<Reply>, AllocError>
 }
 
 /// A question, with its numbers.
-fn asked(alloc: Global, place: Numbered, question: &Question) -> Result<Entry, AllocError>
-    ensures { IfOk result (λ e. e ≡ asked place question.now) }
+fn asked(alloc: Global, place: Numbered, question: Question) -> Result<Entry, AllocError>
+    ensures { IfOk result (λ e. e ≡ asked place question) }
 {
+    let form = question.canonical(alloc);
+    // Dropped by a call: else each part of each kind of question is a step to check.
+    drop(question);
     Ok(Entry::Question {
         number: place.number,
         asked: Asked {
-            question: question.canonical(alloc)?,
+            question: form?,
             suspects: place.suspects,
         },
     })
@@ -107,7 +110,7 @@ fn cover_entry(alloc: Global, place: Numbered, term: &Flat) -> Result<Entry, All
     ensures { IfOk result (λ e. entry_for (Frame.Cover place) term.now ≡ Some e) }
 {
     let tuple = tuple_in(alloc, term)?;
-    asked(alloc, place, &Question::Covers(tuple))
+    asked(alloc, place, Question::Covers(tuple))
 }
 
 /// The question of two terms.
@@ -115,7 +118,7 @@ fn order_entry(alloc: Global, place: Numbered, term: &Flat) -> Result<Option<Ent
     ensures { IfOk result (λ e. e ≡ entry_for (Frame.Order place) term.now) }
 {
     match pair_in(alloc, term)? {
-        Some(question) => Ok(Some(asked(alloc, place, &question)?)),
+        Some(question) => Ok(Some(asked(alloc, place, question)?)),
         None => Ok(None),
     }
 }
@@ -157,7 +160,7 @@ pub(crate) fn entry_for(
     ensures { IfOk result (λ e. e ≡ entry_for frame term) }
 {
     match frame {
-        Frame::Truth(place) => Ok(Some(asked(alloc, place, &Question::True(term))?)),
+        Frame::Truth(place) => Ok(Some(asked(alloc, place, Question::True(term))?)),
         Frame::Cover(place) => Ok(Some(cover_entry(alloc, place, &term)?)),
         Frame::Order(place) => order_entry(alloc, place, &term),
         Frame::Reply { left, by_reference } => reply_entry(alloc, left, by_reference, &term),

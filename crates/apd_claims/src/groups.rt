@@ -162,7 +162,7 @@ pub(crate) fn group_claim(
 {
     let instances = instances_in(alloc, ops, names, rest)?;
     let _count = names.count();
-    let entry = group_entry(instances);
     let text = group_text(alloc, line, rest)?;
+    let entry = group_entry(instances);
     claim_as(alloc, ops, names, text.bytes(), entry)
 }

@@ -184,10 +184,18 @@ impl CallLine {
         ensures sayable { IfOk result (λ o. IfSome o IsSayable) }
     {
         let entry = called(alloc, ops, names, self.calling, call, led)?;
-        if !is_callers(alloc, ops, names, led.rest, &entry)? {
-            return Ok(None);
+        match is_callers(alloc, ops, names, led.rest, &entry) {
+            Ok(true) => written(alloc, ops, names, self.whole.bytes(), entry),
+            Ok(false) => {
+                // Dropped by a call, here and below: else each part of each kind of entry is a step to check.
+                drop(entry);
+                Ok(None)
+            }
+            Err(AllocError) => {
+                drop(entry);
+                Err(AllocError)
+            }
         }
-        written(alloc, ops, names, self.whole.bytes(), entry)
     }
 
     /// What the line says if it is parted at this place.

@@ -150,12 +150,26 @@ fn with_statement(
     requires { stated.statements < MAX_FILE }
     ensures { IfOk result (λ s. s ≡ statement_added stated (term_stated stated.form term.now)) }
 {
-    match term_stated(alloc, stated.form, term)? {
-        Err(cause) => Ok(Err(cause)),
-        Ok(said) => {
-            keep(&mut stated.answers, &said)?;
+    match term_stated(alloc, stated.form, term) {
+        Ok(Ok(said)) => {
+            let kept = keep(&mut stated.answers, &said);
+            // Dropped by calls, here and below: an end of the scope would drop the store part by
+            // part, in as many steps to check.
+            drop(said);
+            if kept.is_err() {
+                drop(stated);
+                return Err(AllocError);
+            }
             stated.statements += 1;
             Ok(Ok(stated))
+        }
+        Ok(Err(cause)) => {
+            drop(stated);
+            Ok(Err(cause))
+        }
+        Err(AllocError) => {
+            drop(stated);
+            Err(AllocError)
         }
     }
 }
@@ -201,6 +215,7 @@ fn state_clauses(
         let read = match read_clause(alloc, ops, names, text, tokens, at) {
             Ok(read) => read,
             Err(fault) => {
+                drop(stated);
                 let line = line_of(text, &mut last, place_of_fault(fault));
                 return Err(unread(line, fault));
             }

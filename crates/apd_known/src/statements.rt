@@ -1,11 +1,12 @@
 //! What a clause of an oracle file states.
 
-ghost use Rattle.std.specs.Prelude.{◌≡◌, IfOk};
+ghost use Rattle.std.specs.Prelude.{◌≡◌, true, IfOk};
 ghost use Rattle.apd_term.specs.Term.{predicate_of};
 ghost use Rattle.apd_term.specs.declared.standard.TheConstants as names;
 ghost use Rattle.apd_clauses.specs.Bodies.{clause_from};
 ghost use Rattle.apd_clauses.specs.Kinds.{◌∕◌};
 ghost use Rattle.apd_clauses.specs.Predicates.{is_pred};
+ghost use Rattle.apd_known.specs.declared.statements.Form.{Form};
 ghost use Rattle.apd_known.specs.Statements.{is_rule, is_own_atom, body_stated, cover_stated, of_reply, order_stated, reply_stated, solution_stated, term_stated, trust_stated, truth_in, truth_stated, values_stated};
 
 use crate::indicators::predicate_from;
@@ -164,6 +165,37 @@ fn cover_stated(alloc: Global, clause: &Flat, reply: Option<Reply>) -> Result<St
     }
 }
 
+/// What a clause of the predicate `true/2` states.
+fn truth_clause(alloc: Global, form: Form, term: &Flat) -> Result<Stated, AllocError>
+    requires { is_pred (predicate_of term.now) (names.TRUE ∕ 2) ≡ true }
+    ensures { IfOk result (λ s. s ≡ reply_stated form term.now) }
+{
+    let atom = term.arg(alloc, 0)?;
+    let word = term.arg(alloc, 1)?;
+    Ok(truth_stated(atom, truth_in(form, &word)))
+}
+
+/// What a clause of the predicate `covers/2` states.
+fn cover_clause(alloc: Global, term: &Flat) -> Result<Stated, AllocError>
+    requires { is_pred (predicate_of term.now) (names.COVERS ∕ 2) ≡ true }
+    ensures { (form : Form) → IfOk result (λ s. s ≡ reply_stated form term.now) }
+{
+    let clause = term.arg(alloc, 0)?;
+    let reply = term.arg(alloc, 1)?;
+    cover_stated(alloc, &clause, values_told(alloc, &reply)?)
+}
+
+/// What a clause of the predicate `below/3` states.
+fn order_clause(alloc: Global, term: &Flat) -> Result<Stated, AllocError>
+    requires { is_pred (predicate_of term.now) (names.BELOW ∕ 3) ≡ true }
+    ensures { (form : Form) → IfOk result (λ s. s ≡ reply_stated form term.now) }
+{
+    let callee = term.arg(alloc, 0)?;
+    let caller = term.arg(alloc, 1)?;
+    let word = term.arg(alloc, 2)?;
+    order_stated(alloc, &callee, &caller, word_told(&word))
+}
+
 /// The question and the reply that a clause states, or the first cause why it states none.
 #[tactic(auto, unfolding(crate::specs::Statements::reply_stated))]
 fn reply_stated(alloc: Global, form: Form, term: &Flat) -> Result<Stated, AllocError>
@@ -175,32 +207,19 @@ fn reply_stated(alloc: Global, form: Form, term: &Flat) -> Result<Stated, AllocE
                 name: TRUE,
                 arity: 2,
             },
-        ) => {
-            let atom = term.arg(alloc, 0)?;
-            let word = term.arg(alloc, 1)?;
-            Ok(truth_stated(atom, truth_in(form, &word)))
-        }
+        ) => truth_clause(alloc, form, term),
         Some(
             Pred {
                 name: COVERS,
                 arity: 2,
             },
-        ) => {
-            let clause = term.arg(alloc, 0)?;
-            let reply = term.arg(alloc, 1)?;
-            cover_stated(alloc, &clause, values_told(alloc, &reply)?)
-        }
+        ) => cover_clause(alloc, term),
         Some(
             Pred {
                 name: BELOW,
                 arity: 3,
             },
-        ) => {
-            let callee = term.arg(alloc, 0)?;
-            let caller = term.arg(alloc, 1)?;
-            let word = term.arg(alloc, 2)?;
-            order_stated(alloc, &callee, &caller, word_told(&word))
-        }
+        ) => order_clause(alloc, term),
         _ => Ok(Err(OracleCause::NotAStatement)),
     }
 }

@@ -169,10 +169,18 @@ pub fn run_query<K: Sink>(
         voice.old voice.new result }
 {
     let mut history = Record::new(voice.alloc());
-    let ran = say_run(state, &query, voice, &mut history)?;
-    Ok(LastRun {
-        query,
-        history,
-        end: ran.end,
-    })
+    match say_run(state, &query, voice, &mut history) {
+        Ok(ran) => Ok(LastRun {
+            query,
+            history,
+            end: ran.end,
+        }),
+        Err(trouble) => {
+            // Dropped by calls: an end of the scope would drop them field by field, in as many
+            // steps to check.
+            drop(query);
+            drop(history);
+            Err(trouble)
+        }
+    }
 }

@@ -1,5 +1,5 @@
 use Rattle.apd_by_hand.proofs.Making.{is_labelled}
 use Rattle.apd_by_hand.proofs.two_clauses.found_in.Goals as goal
 
-pub diagnose_wrong-requires-clause-labelled : goal.diagnose_wrong-requires-clause-labelled
-diagnose_wrong-requires-clause-labelled c = rw (c.requires, c.in_ok-label.ensures) is_labelled
+pub found_of-found-requires : goal.found_of-found-requires
+found_of-found-requires c = rw (c.requires, c.in_ok-label.ensures) is_labelled

@@ -81,6 +81,10 @@ pub(crate) fn run_again(
         &mut history,
     ) {
         Ok(ran) => Ok(Again { ran, history }),
-        Err(_) => Err(AllocError),
+        Err(_) => {
+            // Dropped by a call: else each part of it is a step to check.
+            drop(history);
+            Err(AllocError)
+        }
     }
 }

@@ -102,7 +102,10 @@ impl Search<'_> {
             return Ok(false);
         }
         let claim = call.claim_at(alloc, source.ops, names, place)?;
-        is_right(alloc, source.program, self.state, &claim)
+        let right = is_right(alloc, source.program, self.state, &claim);
+        // Dropped by a call: else each part of each kind of claim is a step to check.
+        drop(claim);
+        right
     }
 
     /// Whether it does at some place.

@@ -108,6 +108,8 @@ impl Course {
         ensures { IfOk result (GoesOn program.now self.old claim self.new) }
     {
         if let Some(calls) = descent_said(&claim) {
+            // Dropped by a call: else each part of each kind of claim is a step to check.
+            drop(claim);
             return self.descend(alloc, program, calls);
         }
         self.descent = known_after(&claim, self.descent);

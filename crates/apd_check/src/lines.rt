@@ -92,7 +92,10 @@ fn judge_call(
         return Ok(None);
     }
     let claim = claim_at(alloc, ops, names, place)?;
-    Ok(Some(reason_for(&claim)))
+    let reason = reason_for(&claim);
+    // Dropped by a call: else each part of each kind of claim is a step to check.
+    drop(claim);
+    Ok(Some(reason))
 }
 
 /// A line of a log.

@@ -13,13 +13,14 @@ use crate::fitting::fits;
 use crate::judging::{judge_descent, judge_finding};
 use crate::questions::judge_question;
 use crate::state::State;
-use apd_answers::{Answers, Asked, Question, Reply};
+use apd_answers::{Answers, Asked, Finding, Question, Reply};
 use apd_causes::{Query, Ran};
 use apd_claims::Claim;
 use apd_clauses::Program;
-use apd_findings::Parted;
+use apd_findings::{Parted, prepare};
 use apd_record::Record;
 use std::alloc::{AllocError, Global};
+use std::mem::replace;
 
 /// Whether two runs ended alike, with the same counts.
 fn is_same_run(a: Ran, b: Ran) -> bool
@@ -46,9 +47,11 @@ impl State {
     fn run(&mut self, alloc: Global, program: &Program, query: Query)
         ensures { self.new ≡ after_claim program.now self.old (claims.Runs query) }
     {
-        self.query = Some(query);
-        self.history = Record::new(alloc);
-        self.waiting = None;
+        // Dropped by calls, here and below: an assignment would drop what was there part by part, in
+        // as many steps to check.
+        drop(self.query.replace(query));
+        drop(replace(&mut self.history, Record::new(alloc)));
+        drop(self.waiting.take());
     }
 
     /// The run of the query ended so: it is made again.
@@ -62,10 +65,11 @@ impl State {
         };
         let again = run_again(alloc, program, query, ran)?;
         if !is_same_run(again.ran, ran) {
+            drop(again);
             return Ok(Some(Why::End));
         }
-        self.query = None;
-        self.history = again.history;
+        drop(self.query.take());
+        drop(replace(&mut self.history, again.history));
         Ok(None)
     }
 
@@ -85,7 +89,7 @@ impl State {
             return Ok(judged);
         }
         self.known.add(question, reply)?;
-        self.waiting = None;
+        drop(self.waiting.take());
         Ok(None)
     }
 
@@ -95,9 +99,10 @@ impl State {
     {
         let judged = judge_question(&asked.question);
         if judged.is_some() {
+            drop(asked);
             return judged;
         }
-        self.waiting = Some(asked);
+        drop(self.waiting.replace(asked));
         None
     }
 
@@ -118,8 +123,30 @@ impl State {
             return Ok(Some(Why::Unfit));
         }
         self.known.add(&asked.question, reply)?;
-        self.waiting = None;
+        drop(self.waiting.take());
         Ok(None)
+    }
+
+    /// Computes ahead what tells whether a finding follows from the replies. What was told stays as it is.
+    fn prepare(&mut self, finding: &Finding) -> Result<(), AllocError>
+        ensures { self.new ≡ self.old }
+    {
+        prepare(&mut self.known, finding)
+    }
+
+    /// This is found, with this line of its clause.
+    fn find(
+        &mut self,
+        alloc: Global,
+        program: &Program,
+        finding: &Finding,
+        line: u32,
+    ) -> Result<Option<Why>, AllocError>
+        ensures { IfOk result
+            (Leads program.now self.old (claims.Finds finding.now line) self.new) }
+    {
+        self.prepare(finding)?;
+        judge_finding(alloc, program, self, finding, line)
     }
 
     /// A line says this: the state behind it, or why it isn't good.
@@ -139,10 +166,23 @@ impl State {
                 Ok(None)
             }
             Claim::Ends(ran) => self.end(alloc, program, ran),
-            Claim::Tells(question, reply) => self.tell(program, &question, &reply),
+            Claim::Tells(question, reply) => {
+                let told = self.tell(program, &question, &reply);
+                drop(question);
+                drop(reply);
+                told
+            }
             Claim::Asks(asked) => Ok(self.ask(program, asked)),
-            Claim::Replies(reply) => self.reply(alloc, program, &reply),
-            Claim::Finds(finding, line) => judge_finding(alloc, program, self, &finding, line),
+            Claim::Replies(reply) => {
+                let replied = self.reply(alloc, program, &reply);
+                drop(reply);
+                replied
+            }
+            Claim::Finds(finding, line) => {
+                let judged = self.find(alloc, program, &finding, line);
+                drop(finding);
+                judged
+            }
             Claim::Descends(calls) => judge_descent(alloc, program, self, calls),
             Claim::Nothing => Ok(None),
             Claim::Garbled => Ok(Some(Why::Text)),

@@ -15,6 +15,28 @@ use apd_record::Record;
 use apd_term::Flat;
 use std::alloc::{AllocError, Global};
 
+/// The atom that the store is to deny if the finding follows from the replies.
+fn denied_in(finding: &Finding) -> Option<&Flat> {
+    match finding {
+        Finding::WrongInstance { tuple, .. } => Some(&tuple.head),
+        Finding::Candidates(instances) => match instances.get(0) {
+            Some(instance) => Some(&instance.tuple.head),
+            None => None,
+        },
+        _ => None,
+    }
+}
+
+/// Computes ahead what tells whether the finding follows from the replies, and keeps it. The store stays as it is.
+pub fn prepare(answers: &mut Parted, finding: &Finding) -> Result<(), AllocError>
+    ensures { answers.new ≡ answers.old }
+{
+    match denied_in(finding) {
+        Some(atom) => answers.prepare_atom(atom),
+        None => Ok(()),
+    }
+}
+
 /// Whether the finding follows from the replies, for a program and the record of a run.
 pub fn is_by_replies(
     alloc: Global,

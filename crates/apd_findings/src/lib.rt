@@ -18,7 +18,7 @@ pub use always::is_always_true;
 pub use calling::{Called, is_violation};
 pub use candidates::are_candidates_by_replies;
 pub use closing::is_uncovered;
-pub use finding::{do_descend, is_by_replies};
+pub use finding::{do_descend, is_by_replies, prepare};
 pub use granting::is_granted;
 pub use parted::Parted;
 pub use wrong::is_wrong;

@@ -238,6 +238,13 @@ impl Parted {
         self.all.has(&question, &Reply::Yes)
     }
 
+    /// Computes ahead what tells whether the store says that the atom isn't true, and keeps it. The store stays as it is.
+    pub fn prepare_atom(&mut self, atom: &Flat) -> Result<(), AllocError>
+        ensures { self.new ≡ self.old }
+    {
+        self.parts.denied.prepare(self.parts.alloc, atom)
+    }
+
     /// Computes ahead what tells of each call whether it isn't below this one, and keeps it. The store stays as it is.
     pub fn prepare(&mut self, caller: &Flat) -> Result<(), AllocError>
         ensures { self.new ≡ self.old }

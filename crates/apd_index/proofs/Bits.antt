@@ -1,12 +1,12 @@
 -- Bits of a row that are set, and that are left.
 use Rattle.std.proofs.Common.{◌≡◌, ◌≢◌, ◌⊎◌, inl, inr, ℕ, zero, suc, ◌+◌, ◌*◌, ◌/◌, ◌%◌, ◌^◌, ◌<◌, ◌≤◌, ◌==◌, ◌++◌, min, true, List, [], ◌∷◌, length, get_or, set, refl, sym, ap, ◌∙◌, subst, arith, eq-eqb}
-use Rattle.std.specs.Prelude.{bit_and, bit_or}
+use Rattle.std.specs.Prelude.{bit_and, bit_or, bit_xor}
 use Rattle.std.specs.Int.{bit_at, bit_not, w64}
 use Rattle.std.proofs.lemmas.Bool.{eqb-true}
 use Rattle.std.proofs.lemmas.Bool.Decides.{eqb_tells}
 use Rattle.std.proofs.lemmas.List.{get_or-set_other, get_or-set_same}
-use Rattle.std.proofs.lemmas.Nat.Bits.{bit_at-zero, bit_at_and, bit_at_clear_other, bit_at_set_other, bit_at_set_same}
-use Rattle.apd_index.specs.Rows.{HasBit, IsClear, IsWithin, IsWithinBut}
+use Rattle.std.proofs.lemmas.Nat.Bits.{bit_at-lt, bit_at-zero, bit_at_and, bit_at_clear_other, bit_at_set_other, bit_at_set_same, bit_at_xor}
+use Rattle.apd_index.specs.Rows.{HasBit, IsClear, IsClearNear, IsWithin, IsWithinBut}
 
 -- A bit of a word.
 
@@ -88,6 +88,25 @@ bits-met words other i k l h o = elim (eqb_tells (k / 64) i) [
   | inr n ↦ there words i (bit_and (get_or words i 0) (get_or other i 0)) k l n.1 h
 ]
 
+bit-but : (a b bit : ℕ) → IsSet a bit → ¬ IsSet b bit → IsSet (bit_and a (bit_xor a b)) bit
+bit-but a b bit g n =
+    eq-eqb (bit_at (bit_and a (bit_xor a b)) bit) 1
+    (bit_at_and a (bit_xor a b) bit ∙ ap (λ x. min x (bit_at (bit_xor a b) bit)) one ∙ ap (λ y. min 1 y) (bit_at_xor a b bit ∙ ap (λ x. (x + bit_at b bit) % 2) one ∙ ap (λ y. (1 + y) % 2) none))
+  where
+    one : bit_at a bit ≡ 1
+    one = eqb-true (bit_at a bit) 1 g
+
+    none : bit_at b bit ≡ 0
+    none = elim (eqb_tells (bit_at b bit) 1) [ inl e ↦ absurd (n e.0) | inr m ↦ let l = bit_at-lt b bit in let d = m.1 in omega (arith, l, d) ]
+
+-- the bits of a word are left that another row hasn't
+pub bits-left-out : (words other : List ℕ) (i k : ℕ) → i < length words → HasBit words k → ¬ HasBit other k → HasBit (set words i (bit_and (get_or words i 0) (bit_xor (get_or words i 0) (get_or other i 0)))) k
+bits-left-out words other i k l h n = elim (eqb_tells (k / 64) i) [
+  | inl e ↦ here words i (bit_and (get_or words i 0) (bit_xor (get_or words i 0) (get_or other i 0))) k l e.1
+      (bit-but (get_or words i 0) (get_or other i 0) (k % 64) (subst (λ (j : ℕ). IsSet (get_or words j 0) (k % 64)) e.1 h) (λ o. n (subst (λ (j : ℕ). IsSet (get_or other j 0) (k % 64)) (sym e.1) o)))
+  | inr m ↦ there words i (bit_and (get_or words i 0) (bit_xor (get_or words i 0) (get_or other i 0))) k l m.1 h
+]
+
 -- the bits of other places are left where a place's bit is cleared
 pub bits-cleared : (words : List ℕ) (place k : ℕ) → place / 64 < length words → k ≢ place → HasBit words k → HasBit (set words (place / 64) (bit_and (get_or words (place / 64) 0) (bit_not w64 (1 * 2 ^ (place % 64) % 2 ^ 64)))) k
 bits-cleared words place k l n h = elim (eqb_tells (k / 64) (place / 64)) [
@@ -128,6 +147,11 @@ all-clear words i l zeros k = ap (λ (word : ℕ). bit_at word (k % 64) == 1) no
         within-or-past zero (suc b) = inl (omega arith)
         within-or-past (suc a) zero = inr (omega arith)
         within-or-past (suc a) (suc b) = elim (within-or-past a b) [ inl w ↦ inl (omega (arith, w)) | inr p ↦ inr (omega (arith, p)) ]
+
+-- no bit of a word that is zero is set
+pub near-clear : (words : List ℕ) (place n : ℕ) → n ≡ get_or words (place / 64) 0 → n ≡ 0 → IsClearNear words place
+near-clear words place n is none k same =
+    ap (λ (word : ℕ). bit_at word (k % 64) == 1) (ap (λ (j : ℕ). get_or words j 0) same ∙ sym is ∙ none) ∙ ap (λ (bit : ℕ). bit == 1) (bit_at-zero (k % 64))
 
 -- A row that is longer.
 

@@ -8,3 +8,5 @@ pub mod Parts
 pub mod Passing
 pub mod Mixed
 pub mod Agreeing
+pub mod Skipping
+pub mod Placing

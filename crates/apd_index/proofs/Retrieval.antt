@@ -1,16 +1,17 @@
 -- Atoms of a list are found by their marks.
-use Rattle.std.proofs.Common.{◌≡◌, ◌⊎◌, inl, inr, ℕ, zero, suc, ◌+◌, ◌<◌, ◌++◌, ◌&&◌, Bool, true, false, List, [], ◌∷◌, length, take, get_or, Option, None, Some, Result, Ok, Err, refl, sym, ap, ◌∙◌, subst, append_assoc}
-use Rattle.std.specs.Prelude.{IfOk, OnErr, OnOk, slice_get}
+use Rattle.std.proofs.Common.{◌≡◌, ◌⊎◌, inl, inr, ℕ, zero, suc, ◌+◌, ◌/◌, ◌<◌, ◌≤◌, ◌++◌, ◌&&◌, Bool, true, false, List, [], ◌∷◌, length, take, get_or, Option, None, Some, Result, Ok, Err, refl, sym, ap, ◌∙◌, subst, append_assoc}
+use Rattle.std.specs.Prelude.{IfOk, MatchBool, OnErr, OnOk, slice_get}
 use Rattle.std.specs.List.{list_any}
 use Rattle.std.proofs.lemmas.List.{take_more}
+use Rattle.std.proofs.lemmas.Option.{slice_get_past}
 use Rattle.apd_term.specs.Term.{Term, IsAmong}
 use Rattle.apd_term.specs.Matching.{is_instance}
 use Rattle.apd_term.specs.Substitution.{IsInstance}
 use Rattle.apd_term.proofs.Opposite.{is_instance-is}
 use Rattle.apd_marks.specs.Places.{Index, places_at}
 use Rattle.apd_marks.specs.Positions.{IsLasting, all_marks}
-use Rattle.apd_index.specs.Retrieval.{AreGenerals, AreKept, AreSpecials, IsNotedAbove, IsNotedBelow, has_general, has_special, is_above, is_below}
-use Rattle.apd_index.specs.Rows.{HasBit, IsClear, has_bit}
+use Rattle.apd_index.specs.Retrieval.{AreGenerals, AreKept, AreSpecials, IsNoted, IsNotedAbove, IsNotedBelow, NoneLeft, SomeLeft, has_general, has_special, is_above, is_below, is_left_below}
+use Rattle.apd_index.specs.Rows.{HasBit, IsClearNear, has_bit}
 use Rattle.apd_index.proofs.Telling.{among-any, any-among, any-there, same-truth, there-any}
 use Rattle.apd_marks.proofs.Walking.{lasting-marks}
 
@@ -26,8 +27,8 @@ last-at (y ∷ xs) a x (suc k) e = elim (last-at xs a x k e) [ inl h ↦ inl h |
 pub below-kept : (xs : List Term) (old new : Index) → AreKept old new → AreGenerals xs old → AreGenerals xs new
 below-kept xs old new kept h k x e = let n = h k x e in record { mark = n.mark; lasting = n.lasting; noted = kept n.mark k n.noted }
 
-pub above-kept : (xs : List Term) (old new : Index) → AreKept old new → AreSpecials xs old → AreSpecials xs new
-above-kept xs old new kept h k x e m a = kept m k (h k x e m a)
+pub above-kept : (xs : List Term) (old new : Index) (large larger : List ℕ) → AreKept old new → ((k : ℕ) → IsAmong large k → IsAmong larger k) → AreSpecials xs old large → AreSpecials xs new larger
+above-kept xs old new large larger kept still h k x e = elim (h k x e) [ inl above ↦ inl (λ m a. kept m k (above m a)) | inr l ↦ inr (still k l) ]
 
 module _ (xs : List Term) (places : Index) (a : Term) where
   below-more : (m : ℕ) → IsLasting a m → IsAmong (places_at places m) (length xs) → AreGenerals xs places → AreGenerals (xs ++ a ∷ []) places
@@ -36,10 +37,10 @@ module _ (xs : List Term) (places : Index) (a : Term) where
     | inr f ↦ subst (λ (n : ℕ). IsNotedBelow places n x) f.0 (subst (IsNotedBelow places (length xs)) f.1 (record { mark = m; lasting = lasting; noted = noted }))
   ]
 
-  above-more : IsNotedAbove places (length xs) a → AreSpecials xs places → AreSpecials (xs ++ a ∷ []) places
-  above-more noted h k x e = elim (last-at xs a x k e) [
+  above-more : (large : List ℕ) → IsNoted places large (length xs) a → AreSpecials xs places large → AreSpecials (xs ++ a ∷ []) places large
+  above-more large noted h k x e = elim (last-at xs a x k e) [
     | inl f ↦ h k x f
-    | inr f ↦ subst (λ (n : ℕ). IsNotedAbove places n x) f.0 (subst (IsNotedAbove places (length xs)) f.1 noted)
+    | inr f ↦ subst (λ (n : ℕ). IsNoted places large n x) f.0 (subst (IsNoted places large (length xs)) f.1 noted)
   ]
 
 -- where there was memory to push, and where there wasn't
@@ -51,9 +52,9 @@ pub below-pushed : {T E : Type 0} (r : Result T E) (xs new : List Term) (places 
     → IsAmong (places_at places m) (length xs) → AreGenerals xs places → AreGenerals new places
 below-pushed r xs new places a m ok err lasting noted h = either-way r (λ ys. AreGenerals ys places) xs (xs ++ a ∷ []) new ok err h (below-more xs places a m lasting noted h)
 
-pub above-pushed : {T E : Type 0} (r : Result T E) (xs new : List Term) (places : Index) (a : Term) → OnOk r (new ≡ xs ++ a ∷ []) → OnErr r (new ≡ xs)
-    → IsNotedAbove places (length xs) a → AreSpecials xs places → AreSpecials new places
-above-pushed r xs new places a ok err noted h = either-way r (λ ys. AreSpecials ys places) xs (xs ++ a ∷ []) new ok err h (above-more xs places a noted h)
+pub above-pushed : {T E : Type 0} (r : Result T E) (xs new : List Term) (places : Index) (large : List ℕ) (a : Term) → OnOk r (new ≡ xs ++ a ∷ []) → OnErr r (new ≡ xs)
+    → IsNoted places large (length xs) a → AreSpecials xs places large → AreSpecials new places large
+above-pushed r xs new places large a ok err noted h = either-way r (λ ys. AreSpecials ys places large) xs (xs ++ a ∷ []) new ok err h (above-more xs places a large noted h)
 
 -- some of the atoms were put
 pub put-more : (xs more now new : List Term) (i : ℕ) (a : Term) → i < length more → a ≡ get_or more i a → now ≡ xs ++ take i more → new ≡ now ++ a ∷ [] → new ≡ xs ++ take (i + 1) more
@@ -102,24 +103,36 @@ module _ (xs : List Term) (places : Index) (a : Term) where
       among-any above_at (all_marks a) n.mark (lasting-marks a t.1 n.mark ((is_instance-is a t.1).0 t.3) n.lasting)
       (among-any (λ (j : ℕ). is_above a (slice_get xs j)) (places_at places n.mark) t.0 n.noted (ap (is_above a) t.2 ∙ t.3))
 
-  -- the same where it is looked only at places that have their bit in a row
-  module _ (ps row : List ℕ) where
-    abbrev below_at : ℕ → Bool
-    below_at k = has_bit row k && is_below a (slice_get xs k)
-
-    special-there : list_any below_at ps ≡ true → has_special xs a ≡ true
-    special-there h = let k = any-among below_at ps h in at-below xs a k.0 (both-right (has_bit row k.0) (is_below a (slice_get xs k.0)) k.2)
-
-    -- these have the place of each instance of the atom
-    special-found : ((k : ℕ) (x : Term) → slice_get xs k ≡ Some x → IsInstance x a → IsAmong ps k × HasBit row k) → has_special xs a ≡ true → list_any below_at ps ≡ true
-    special-found all h =
-        let t = any-there (λ (y : Term). is_instance y a) xs h in
-        let k = all t.0 t.1 t.2 ((is_instance-is t.1 a).0 t.3) in
-        among-any below_at ps t.0 k.0 (both-true (has_bit row t.0) (is_below a (slice_get xs t.0)) k.1 (ap (is_below a) t.2 ∙ t.3))
-
 -- an instance of an atom is noted for all marks of that one that its instances have too
-pub lasting-noted : (xs : List Term) (places : Index) (a x : Term) (k : ℕ) → AreSpecials xs places → slice_get xs k ≡ Some x → IsInstance x a → (m : ℕ) → IsLasting a m → IsAmong (places_at places m) k
-lasting-noted xs places a x k noted e i m lasting = noted k x e m (lasting-marks x a m i lasting)
+pub lasting-above : (places : Index) (a x : Term) (k : ℕ) → IsNotedAbove places k x → IsInstance x a → (m : ℕ) → IsLasting a m → IsAmong (places_at places m) k
+lasting-above places a x k above i m lasting = above m (lasting-marks x a m i lasting)
+
+-- The same where it is looked only at places that have their bit in a row.
+module _ (xs : List Term) (row : List ℕ) (a : Term) where
+  special-there : SomeLeft xs row a → has_special xs a ≡ true
+  special-there h = at-below xs a h.0 (both-right (has_bit row h.0) (is_below a (slice_get xs h.0)) h.1)
+
+  -- each instance of the atom has its bit
+  special-found : ((k : ℕ) (x : Term) → slice_get xs k ≡ Some x → IsInstance x a → HasBit row k) → has_special xs a ≡ true → SomeLeft xs row a
+  special-found all h =
+      let t = any-there (λ (y : Term). is_instance y a) xs h in
+      (t.0, both-true (has_bit row t.0) (is_below a (slice_get xs t.0)) (all t.0 t.1 t.2 ((is_instance-is t.1 a).0 t.3)) (ap (is_below a) t.2 ∙ t.3))
+
+  pub special-told : (b : Bool) → ((k : ℕ) (x : Term) → slice_get xs k ≡ Some x → IsInstance x a → HasBit row k) → MatchBool b (SomeLeft xs row a) (NoneLeft xs row a) → b ≡ has_special xs a
+  special-told true all h = sym (special-there h)
+  special-told false all none = same-truth false (has_special xs a) (λ e. absurd (cc)) (λ yes. let some = special-found all yes in sym (none some.0) ∙ some.1)
+
+  -- no bit near a place, and places that were looked at
+
+  pub near-none : (place k : ℕ) → IsClearNear row place → k / 64 ≡ place / 64 → is_left_below xs row a k ≡ false
+  near-none place k clear same = rw (clear k same) refl
+
+  pub past-none : (k : ℕ) → length xs ≤ k → is_left_below xs row a k ≡ false
+  past-none k l = ap (λ (o : Option Term). has_bit row k && is_below a o) (slice_get_past xs k l) ∙ and-false (has_bit row k)
+    where
+      and-false : (b : Bool) → (b && false) ≡ false
+      and-false true = refl
+      and-false false = refl
 
 -- where there is memory
 
@@ -128,19 +141,8 @@ pub general-is : {E : Type 0} (r : Result Bool E) (xs : List Term) (places : Ind
 general-is (Ok b) xs places a noted e = e ∙ same-truth (list_any (above_at xs places a) (all_marks a)) (has_general xs a) (general-there xs places a) (general-found xs places a noted)
 general-is (Err u) xs places a noted e = tt
 
--- no place is found where no bit is left
-pub none-left : (f : ℕ → Bool) (row ps : List ℕ) → IsClear row → list_any (λ (k : ℕ). has_bit row k && f k) ps ≡ false
-none-left f row [] clear = refl
-none-left f row (k ∷ ps) clear = rw (clear k) (none-left f row ps clear)
-
-pub special-is : {E : Type 0} (r : Result Bool E) (xs : List Term) (places : Index) (a : Term) (ps row : List ℕ)
-    → ((k : ℕ) (x : Term) → slice_get xs k ≡ Some x → IsInstance x a → IsAmong ps k × HasBit row k)
-    → IfOk r (λ b. b ≡ list_any (λ (k : ℕ). has_bit row k && is_below a (slice_get xs k)) ps) → IfOk r (λ b. b ≡ has_special xs a)
-special-is (Ok b) xs places a ps row all e =
-    e ∙ same-truth (list_any (below_at xs places a ps row) ps) (has_special xs a) (special-there xs places a ps row) (special-found xs places a ps row all)
-special-is (Err u) xs places a ps row all e = tt
-
-pub nothing-left : (xs : List Term) (places : Index) (a : Term) (ps row : List ℕ) → ((k : ℕ) (x : Term) → slice_get xs k ≡ Some x → IsInstance x a → IsAmong ps k × HasBit row k) → IsClear row → false ≡ has_special xs a
-nothing-left xs places a ps row all clear =
-    sym (none-left (λ (k : ℕ). is_below a (slice_get xs k)) row ps clear)
-    ∙ same-truth (list_any (below_at xs places a ps row) ps) (has_special xs a) (special-there xs places a ps row) (special-found xs places a ps row all)
+pub special-is : {E : Type 0} (r : Result Bool E) (xs : List Term) (a : Term) (row : List ℕ)
+    → ((k : ℕ) (x : Term) → slice_get xs k ≡ Some x → IsInstance x a → HasBit row k)
+    → IfOk r (λ b. MatchBool b (SomeLeft xs row a) (NoneLeft xs row a)) → IfOk r (λ b. b ≡ has_special xs a)
+special-is (Ok b) xs a row all e = special-told xs row a b all e
+special-is (Err u) xs a row all e = tt

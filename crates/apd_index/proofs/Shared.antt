@@ -1,15 +1,13 @@
 -- Rows of marks have the bits of the marks' places.
 use Rattle.std.proofs.Common.{◌≡◌, inl, inr, ℕ, ◌++◌, Bool, true, false, List, [], ◌∷◌, Option, None, Some, Result, Ok, Err, refl, sym, ap, ◌∙◌, subst, eq-eqb}
-use Rattle.std.specs.Prelude.{if◌then◌else◌, nat_eq, IfSome, OnErr, OnOk}
+use Rattle.std.specs.Prelude.{if◌then◌else◌, nat_eq, IfSome, OnOk}
 use Rattle.std.proofs.lemmas.Bool.{eqb-true}
 use Rattle.indexmap.specs.IndexMap.{get}
 use Rattle.apd_term.specs.Term.{IsAmong}
 use Rattle.apd_term.proofs.Among.{IsAmong-append}
 use Rattle.apd_marks.specs.Places.{HaveSamePlaces, Index, Notes, places_at}
-use Rattle.apd_index.specs.Retrieval.{AreKept}
 use Rattle.apd_index.specs.Rows.{HasBit, HasBits}
 use Rattle.apd_index.specs.Sharing.{HasRows, IsIn}
-use Rattle.apd_index.proofs.Noting.{notes-kept, notes-one, same-kept}
 
 abbrev IsInRow : ℕ → Option (List ℕ) → Type 0
 IsInRow k o = IfSome o (λ (row : List ℕ). HasBit row k)
@@ -39,7 +37,7 @@ module _ (old new : Index) (mark : ℕ) (row : List ℕ) (h : HasRow old mark ro
 
 -- A place is noted for a mark in whose row it is.
 module _ (old new rows : Index) (mark place : ℕ) where
-  noted-rows : Notes old mark place new → IsIn rows mark place → HasRows old rows → HasRows new rows
+  pub noted-rows : Notes old mark place new → IsIn rows mark place → HasRows old rows → HasRows new rows
   noted-rows notes set h m k a = by (nat_eq mark m) refl (subst (λ (ps : List ℕ). IsAmong ps k) (notes m) a)
     where
       by : (t : Bool) → nat_eq mark m ≡ t → IsAmong (if t then places_at old m ++ place ∷ [] else places_at old m) k → IsIn rows m k
@@ -49,15 +47,9 @@ module _ (old new rows : Index) (mark place : ℕ) where
       ]
       by false e b = h m k b
 
-  pub rows-after : {T E : Type 0} (r : Result T E) → OnOk r (Notes old mark place new) → OnErr r (HaveSamePlaces old new) → IsIn rows mark place → HasRows old rows → HasRows new rows
-  rows-after (Ok u) ok err set h = noted-rows ok set h
-  rows-after (Err u) ok err set h = λ m k a. h m k (subst (λ (ps : List ℕ). IsAmong ps k) (err m) a)
+  pub same-rows : HaveSamePlaces old new → HasRows old rows → HasRows new rows
+  same-rows same h = λ m k a. h m k (subst (λ (ps : List ℕ). IsAmong ps k) (same m) a)
 
--- where there was memory, and where there wasn't
-pub kept-after : {T E : Type 0} (r : Result T E) (old new : Index) (mark place : ℕ) → OnOk r (Notes old mark place new) → OnErr r (HaveSamePlaces old new) → AreKept old new
-kept-after (Ok u) old new mark place ok err = notes-kept old new mark place ok
-kept-after (Err u) old new mark place ok err = same-kept old new err
-
-pub noted-after : {T E : Type 0} (r : Result T E) (old new : Index) (mark place : ℕ) → OnOk r (Notes old mark place new) → OnOk r (IsAmong (places_at new mark) place)
-noted-after (Ok u) old new mark place ok = notes-one old new mark place ok
-noted-after (Err u) old new mark place ok = tt
+pub on_ok_always : {T E P : Type 0} (r : Result T E) → P → OnOk r P
+on_ok_always (Ok u) p = p
+on_ok_always (Err u) p = tt

@@ -1,6 +1,6 @@
 -- Columns by positions: what atoms of a list have there, as digests. Where a variable stands twice in an atom, its instances have
 -- equal terms at the two positions: an equality constraint of term indexing (Graf, Term Indexing, 1996).
-use Rattle.std.specs.Prelude.{ℕ, ◌≡◌, ◌⊎◌, ◌<◌, List, [], Some, get_or, length, nat_eq, slice_get, unwrap_or}
+use Rattle.std.specs.Prelude.{ℕ, ◌≡◌, ◌⊎◌, ◌<◌, ◌-◌, List, [], Some, IfSome, get_or, length, nat_eq, slice_get, unwrap_or}
 use Rattle.std.specs.declared.hash.FoldHasher.{FoldHasher}
 use Rattle.std.specs.declared.hash.BuildHasherDefault.{BuildHasherDefault}
 use Rattle.indexmap.specs.IndexMap.{get, IndexMap}
@@ -8,6 +8,9 @@ use Rattle.apd_term.specs.Term.{Term, variable}
 use Rattle.apd_term.specs.declared.term.Sym.TheVariants.{Var}
 use Rattle.apd_marks.specs.Mixing.{mixed}
 use Rattle.apd_index.specs.declared.columns.Entry.{Entry}
+use Rattle.apd_index.specs.declared.unlike.Repeat.{Repeat}
+use Rattle.apd_index.specs.declared.unlike.Unlike.{Unlike}
+use Rattle.apd_index.specs.Rows.{HasBit}
 use Rattle.apd_index.specs.Subterms.{IsAt, digest}
 
 abbrev pub Table : Type 0
@@ -65,6 +68,37 @@ Agree ones others place = (e f : Entry) → IsIn ones e → IsIn others f → e.
 abbrev pub IsAlike : Table → Term → ℕ → Type 0
 IsAlike columns a place = (p q v : ℕ) → IsAt a p (variable v) → IsAt a q (variable v) → Agree (column_at columns p) (column_at columns q) place
 
+-- the last entry is of the place
+abbrev pub EndsAt : List Entry → ℕ → Type 0
+EndsAt column place = (e : Entry) × (slice_get column (length column - 1) ≡ Some e) × (e.place ≡ place)
+
+-- each entry that was there is there still
+abbrev pub KeepsEntries : Table → Table → Type 0
+KeepsEntries old new = (p : ℕ) (e : Entry) → IsIn (column_at old p) e → IsIn (column_at new p) e
+
+-- Pairs of positions. What differs once does so when the columns get more entries.
+
+-- the row has bits of places alone for which the two columns have different tags
+abbrev pub AreUnlike : List Entry → List Entry → List ℕ → Type 0
+AreUnlike ones others row = (k : ℕ) → HasBit row k → ¬ Agree ones others k
+
+abbrev pub IsUnlike : Table → Unlike → Type 0
+IsUnlike columns u = AreUnlike (column_at columns u.one) (column_at columns u.other) u.row
+
+abbrev pub Unlikes : Type 0
+Unlikes = IndexMap ℕ Unlike (BuildHasherDefault FoldHasher)
+
+-- what is kept of pairs is right
+abbrev pub HasUnlikes : Table → Unlikes → Type 0
+HasUnlikes columns unlikes = (key : ℕ) → IfSome (get nat_eq unlikes key) (IsUnlike columns)
+
+-- the atom has the same variable at two positions
+abbrev pub IsRepeat : Term → Repeat → Type 0
+IsRepeat a r = (v : ℕ) × IsAt a r.one (variable v) × IsAt a r.other (variable v)
+
+abbrev pub AreRepeats : Term → List Repeat → Type 0
+AreRepeats a rs = (i : ℕ) (r : Repeat) → slice_get rs i ≡ Some r → IsRepeat a r
+
 -- The first positions of variables.
 
 abbrev pub Firsts : Type 0
@@ -73,3 +107,7 @@ Firsts = IndexMap ℕ ℕ (BuildHasherDefault FoldHasher)
 -- at most this position of the variable is new
 abbrev pub PutsFirst : Firsts → ℕ → ℕ → Firsts → Type 0
 PutsFirst old v position new = (w p : ℕ) → get nat_eq new w ≡ Some p → (get nat_eq old w ≡ Some p) ⊎ ((v ≡ w) × (position ≡ p))
+
+-- at most the variable's first position with this one is new
+abbrev pub PutsRepeat : Firsts → ℕ → ℕ → List Repeat → List Repeat → Type 0
+PutsRepeat firsts v position old new = (i : ℕ) (r : Repeat) → slice_get new i ≡ Some r → (slice_get old i ≡ Some r) ⊎ ((get nat_eq firsts v ≡ Some r.one) × (position ≡ r.other))

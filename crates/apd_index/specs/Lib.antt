@@ -3,3 +3,4 @@ pub mod Rows
 pub mod Sharing
 pub mod Subterms
 pub mod Columns
+pub mod Skips

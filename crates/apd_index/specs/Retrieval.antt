@@ -1,10 +1,11 @@
 -- Atoms that are found by their marks.
-use Rattle.std.specs.Prelude.{ℕ, ◌≡◌, Bool, false, List, Option, None, Some, slice_get}
+use Rattle.std.specs.Prelude.{ℕ, ◌≡◌, ◌⊎◌, ◌&&◌, Bool, true, false, List, Option, None, Some, slice_get}
 use Rattle.std.specs.List.{list_any}
 use Rattle.apd_term.specs.Term.{Term, IsAmong}
 use Rattle.apd_term.specs.Matching.{is_instance}
 use Rattle.apd_marks.specs.Places.{Index, places_at}
 use Rattle.apd_marks.specs.Positions.{IsLasting, all_marks}
+use Rattle.apd_index.specs.Rows.{has_bit}
 
 -- some of the atoms is an instance of this one
 abbrev pub has_special : List Term → Term → Bool
@@ -38,10 +39,26 @@ pub record IsNotedBelow (places : Index) (k : ℕ) (x : Term) : Type 0 where
 abbrev pub IsNotedAbove : Index → ℕ → Term → Type 0
 IsNotedAbove places k x = (m : ℕ) → IsAmong (all_marks x) m → IsAmong (places_at places m) k
 
+-- that, or the place is noted as that of a large atom
+abbrev pub IsNoted : Index → List ℕ → ℕ → Term → Type 0
+IsNoted places large k x = IsNotedAbove places k x ⊎ IsAmong large k
+
 -- What is noted of each atom of a list; a place may be noted where there is no atom.
 
 abbrev pub AreGenerals : List Term → Index → Type 0
 AreGenerals xs places = (k : ℕ) (x : Term) → slice_get xs k ≡ Some x → IsNotedBelow places k x
 
-abbrev pub AreSpecials : List Term → Index → Type 0
-AreSpecials xs places = (k : ℕ) (x : Term) → slice_get xs k ≡ Some x → IsNotedAbove places k x
+abbrev pub AreSpecials : List Term → Index → List ℕ → Type 0
+AreSpecials xs places large = (k : ℕ) (x : Term) → slice_get xs k ≡ Some x → IsNoted places large k x
+
+-- Of the places that have their bit in a row.
+
+-- the atom there is an instance of this one
+abbrev pub is_left_below : List Term → List ℕ → Term → ℕ → Bool
+is_left_below xs row a k = has_bit row k && is_below a (slice_get xs k)
+
+abbrev pub SomeLeft : List Term → List ℕ → Term → Type 0
+SomeLeft xs row a = (k : ℕ) × (is_left_below xs row a k ≡ true)
+
+abbrev pub NoneLeft : List Term → List ℕ → Term → Type 0
+NoneLeft xs row a = (k : ℕ) → is_left_below xs row a k ≡ false

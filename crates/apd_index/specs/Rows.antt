@@ -18,6 +18,10 @@ HasBits row places = (k : ℕ) → IsAmong places k → HasBit row k
 abbrev pub IsClear : List ℕ → Type 0
 IsClear row = (k : ℕ) → has_bit row k ≡ false
 
+-- no place that shares a word with this one has its bit
+abbrev pub IsClearNear : List ℕ → ℕ → Type 0
+IsClearNear row place = (k : ℕ) → k / 64 ≡ place / 64 → has_bit row k ≡ false
+
 -- each bit of the one the other has
 abbrev pub IsWithin : List ℕ → List ℕ → Type 0
 IsWithin row other = (k : ℕ) → HasBit row k → HasBit other k

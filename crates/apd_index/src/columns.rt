@@ -1,7 +1,7 @@
 //! Columns by positions: for each atom with its place a tag for what it has there.
 
-ghost use Rattle.std.specs.Prelude.{◌≡◌, length, IfOk, IsTrue};
-ghost use Rattle.apd_index.specs.Columns.{AddsAtMost, AddsOf, AddsPaired, AreDistinct, column_at, tagged};
+ghost use Rattle.std.specs.Prelude.{◌≡◌, ◌≢◌, ℕ, length, IfOk, IsFalse, IsTrue, OnOk};
+ghost use Rattle.apd_index.specs.Columns.{AddsAtMost, AddsOf, AddsPaired, AreDistinct, EndsAt, KeepsEntries, column_at, tagged};
 
 use crate::digests::digests_of;
 use crate::positions::positions_of;
@@ -29,63 +29,80 @@ fn tagged(digest: u64, place: usize) -> u64
     mixed(digest, Sym::Var(place as u64))
 }
 
-/// Puts an entry at the end of a position's column; after want of memory it may be missing.
-fn put(alloc: Global, columns: &mut Columns, position: u64, entry: Entry) -> Result<(), AllocError>
-    ensures { AddsAtMost columns.old position entry columns.new }
+/// Whether the last of these entries is of the place.
+fn ends_at(entries: &[Entry], place: usize) -> bool
+    ensures { IsFalse result → ¬ EndsAt entries.now place }
+{
+    let count = entries.len();
+    if count == 0 {
+        return false;
+    }
+    entries[count - 1].place == place
+}
+
+/// Puts an entry at the end of a position's column, and tells whether the one before is of another place; after want of memory it
+/// may be missing.
+fn put(
+    alloc: Global,
+    columns: &mut Columns,
+    position: u64,
+    entry: Entry,
+) -> Result<bool, AllocError>
+    ensures adds { AddsAtMost columns.old position entry columns.new }
+    ensures keeps { KeepsEntries columns.old columns.new }
+    ensures others { (p : ℕ) → position ≢ p
+        → column_at columns.new p ≡ column_at columns.old p }
+    ensures ends { OnOk result (EndsAt (column_at columns.new position) entry.place) }
+    ensures fresh { IfOk result (λ b. IsTrue b
+        → ¬ EndsAt (column_at columns.old position) entry.place) }
 {
     if let Some(column) = columns.get_mut(&position) {
-        return column.push(entry);
+        let is_again = ends_at(column.as_slice(), entry.place);
+        column.push(entry)?;
+        return Ok(!is_again);
     }
     let mut column = ListOf::new(alloc);
     column.push(entry)?;
     columns.insert(position, column)?;
-    Ok(())
+    Ok(true)
 }
 
-/// Puts an entry of a place for each of the positions, by its digest.
+/// Puts an entry of a place for each of the positions, by its digest, until a column ends with one of this place already. Tells
+/// whether none did, so that no two positions have one mark.
 fn put_all(
     alloc: Global,
     columns: &mut Columns,
     positions: &[u64],
     digests: &[u64],
     place: usize,
-) -> Result<(), AllocError>
+) -> Result<bool, AllocError>
     requires { length positions.now ≡ length digests.now }
-    ensures { AddsPaired columns.old positions.now digests.now place columns.new }
+    ensures adds { AddsPaired columns.old positions.now digests.now place columns.new }
+    ensures keeps { KeepsEntries columns.old columns.new }
+    ensures distinct { IfOk result (λ b. IsTrue b → AreDistinct positions.now) }
 {
     'positions: for i in 0..positions.len() {
         let tag = tagged(digests[i], place);
-        put(alloc, columns, positions[i], Entry { place, tag })?;
-    }
-    Ok(())
-}
-
-/// Whether no number stands twice.
-fn are_distinct(alloc: Global, numbers: &[u64]) -> Result<bool, AllocError>
-    ensures { IfOk result (λ b. IsTrue b → AreDistinct numbers.now) }
-{
-    let mut places = IndexMap::<u64, usize>::with_capacity(alloc, numbers.len())?;
-    'numbers: for i in 0..numbers.len() {
-        if places.insert(numbers[i], i)?.is_some() {
+        if !put(alloc, columns, positions[i], Entry { place, tag })? {
             return Ok(false);
         }
     }
     Ok(true)
 }
 
-/// Notes what an atom with a place has at its positions, but where two of these share a mark: then it has no entries.
+/// Notes what an atom with a place has at its positions, and tells whether no two of these share a mark: else what was noted may be
+/// that of another position.
 pub(crate) fn note(
     alloc: Global,
     columns: &mut Columns,
     place: usize,
     atom: &Flat,
-) -> Result<(), AllocError>
-    ensures { AddsOf columns.old atom.now place columns.new }
+) -> Result<bool, AllocError>
+    ensures adds { IfOk result (λ b. IsTrue b
+        → AddsOf columns.old atom.now place columns.new) }
+    ensures keeps { KeepsEntries columns.old columns.new }
 {
     let positions = positions_of(alloc, atom)?;
-    if !are_distinct(alloc, positions.as_slice())? {
-        return Ok(());
-    }
     let digests = digests_of(alloc, atom)?;
     put_all(
         alloc,

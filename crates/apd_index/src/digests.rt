@@ -13,7 +13,7 @@ use std::alloc::{AllocError, Global};
 const FRESH: u64 = 1;
 
 /// How many arguments the symbol has.
-fn arity_of(symbol: Sym) -> usize
+pub(crate) fn arity_of(symbol: Sym) -> usize
     ensures { result ≡ arity_of symbol }
 {
     match symbol {

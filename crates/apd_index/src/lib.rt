@@ -4,12 +4,16 @@
 mod columns;
 mod digests;
 mod generals;
+mod kept;
+mod large;
 mod marked;
 mod positions;
 mod repeats;
 mod rows;
 mod sharing;
+mod skips;
 mod specials;
+mod unlike;
 
 pub use generals::Generals;
 pub use rows::Row;

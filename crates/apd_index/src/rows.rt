@@ -1,7 +1,7 @@
 //! Rows of bits, a bit for each place.
 
-ghost use Rattle.std.specs.Prelude.{◌≡◌, ◌≢◌, ◌<◌, ℕ, length, get_or, IfOk, IsTrue, OnOk};
-ghost use Rattle.apd_index.specs.Rows.{HasBit, HasBits, IsClear, IsWithin, has_bit, HasNoBits, IsWithinBut};
+ghost use Rattle.std.specs.Prelude.{◌≡◌, ◌≢◌, ◌<◌, ℕ, length, get_or, IfOk, IsFalse, IsTrue, OnOk};
+ghost use Rattle.apd_index.specs.Rows.{HasBit, HasBits, IsClear, IsClearNear, IsWithin, has_bit, HasNoBits, IsWithinBut};
 
 use std::alloc::{AllocError, Global};
 use std::marker::Model;
@@ -55,14 +55,23 @@ fn is_clear(words: &[u64]) -> bool
     true
 }
 
+/// Sets the bits of these places.
+fn set_all(words: &mut Vec<u64>, places: &[usize]) -> Result<(), AllocError>
+    ensures kept { IsWithin words.old.items words.new.items }
+    ensures set { OnOk result (HasBits words.new.items places.now) }
+{
+    'places: for place in places {
+        set(words, *place)?;
+    }
+    Ok(())
+}
+
 /// The bits of these places.
 fn of_places(alloc: Global, places: &[usize]) -> Result<Vec<u64>, AllocError>
     ensures { IfOk result (λ words. HasBits words.items places.now) }
 {
     let mut words = Vec::new(alloc);
-    'places: for place in places {
-        set(&mut words, *place)?;
-    }
+    set_all(&mut words, places)?;
     Ok(words)
 }
 
@@ -89,6 +98,16 @@ fn meet(words: &mut Vec<u64>, other: &[u64])
 {
     'words: for i in 0..words.len() {
         words[i] &= word_at(other, i);
+    }
+}
+
+/// Leaves those bits that the other row hasn't.
+fn leave_out(words: &mut Vec<u64>, other: &[u64])
+    ensures { (k : ℕ) → HasBit words.old.items k → ¬ HasBit other.now k → HasBit words.new.items k }
+{
+    'words: for i in 0..words.len() {
+        let word = words[i];
+        words[i] = word & (word ^ word_at(other, i));
     }
 }
 
@@ -141,6 +160,14 @@ impl Row {
         set(&mut self.words, place)
     }
 
+    /// Sets the bits of these places.
+    pub(crate) fn set_all(&mut self, places: &[usize]) -> Result<(), AllocError>
+        ensures kept { IsWithin self.old self.new }
+        ensures set { OnOk result (HasBits self.new places.now) }
+    {
+        set_all(&mut self.words, places)
+    }
+
     /// Clears the place's bit.
     pub(crate) fn clear(&mut self, place: usize)
         ensures { (k : ℕ) → k ≢ place → HasBit self.old k → HasBit self.new k }
@@ -160,6 +187,20 @@ impl Row {
         ensures { result ≡ has_bit self.now place }
     {
         has(self.words.as_slice(), place)
+    }
+
+    /// Whether one of the 64 places that share a word with this one has its bit set.
+    pub(crate) fn has_near(&self, place: usize) -> bool
+        ensures { IsFalse result → IsClearNear self.now place }
+    {
+        word_at(self.words.as_slice(), place / BITS) != 0
+    }
+
+    /// Leaves those bits that the other row hasn't.
+    pub(crate) fn leave_out(&mut self, other: &Row)
+        ensures { (k : ℕ) → HasBit self.old k → ¬ HasBit other.now k → HasBit self.new k }
+    {
+        leave_out(&mut self.words, other.words.as_slice());
     }
 
     /// Leaves those bits that the other row has too.

@@ -1,15 +1,16 @@
 //! Rows for the marks that many places share: which places have all of an atom's marks is told by the `and` of their rows.
 
-ghost use Rattle.std.specs.Prelude.{ℕ, IfOk, OnOk};
+ghost use Rattle.std.specs.Prelude.{ℕ, IfOk, OnErr, OnOk};
 ghost use Rattle.apd_term.specs.Term.{IsAmong};
-ghost use Rattle.apd_marks.specs.Places.{places_at};
+ghost use Rattle.apd_marks.specs.Places.{HaveSamePlaces, Notes, places_at};
 ghost use Rattle.apd_marks.specs.Positions.{marks_of};
 ghost use Rattle.apd_index.specs.Retrieval.{AreKept};
 ghost use Rattle.apd_index.specs.Rows.{HasBit, HasBits};
 ghost use Rattle.apd_index.specs.Sharing.{HasRows, IsIn, IsInAll};
 
 use crate::rows::Row;
-use apd_marks::{Places, marks_of, note, with_mark};
+use apd_base::ListOf;
+use apd_marks::{Places, marks_of, with_mark};
 use apd_term::Flat;
 use indexmap::IndexMap;
 use std::alloc::{AllocError, Global};
@@ -20,41 +21,49 @@ pub(crate) type Rows = IndexMap<u64, Row>;
 /// A mark that so many places have gets a row.
 const MANY: usize = 64;
 
-/// A row with the bits of these places, and of one more.
-fn row_with(alloc: Global, places: &[usize], place: usize) -> Result<Row, AllocError>
-    ensures places { IfOk result (λ row. HasBits row places.now) }
-    ensures place { IfOk result (λ row. HasBit row place) }
-{
-    let mut row = Row::of(alloc, places)?;
-    row.set(place)?;
-    Ok(row)
-}
-
-/// Sets the place's bit in the mark's row. There is one where many places have the mark.
-fn put_bit(
+/// Notes one more place of a mark, and counts them. After want of memory each mark has the places that it had.
+fn note_counted(
     alloc: Global,
-    rows: &mut Rows,
-    places: &Places,
+    places: &mut Places,
     mark: u64,
     place: usize,
-) -> Result<(), AllocError>
+) -> Result<usize, AllocError>
+    ensures ok { OnOk result (Notes places.old mark place places.new) }
+    ensures err { OnErr result (HaveSamePlaces places.old places.new) }
+{
+    if let Some(of_mark) = places.get_mut(&mark) {
+        of_mark.push(place)?;
+        return Ok(of_mark.len());
+    }
+    let mut of_mark = ListOf::new(alloc);
+    of_mark.push(place)?;
+    places.insert(mark, of_mark)?;
+    Ok(1)
+}
+
+/// Sets the place's bit in the mark's row, where it has one.
+fn put_bit(rows: &mut Rows, places: &Places, mark: u64, place: usize) -> Result<(), AllocError>
     requires { HasRows places.now rows.old }
     ensures rows { HasRows places.now rows.new }
     ensures set { OnOk result (IsIn rows.new mark place) }
 {
-    if let Some(row) = rows.get_mut(&mark) {
-        return row.set(place);
+    match rows.get_mut(&mark) {
+        Some(row) => row.set(place),
+        None => Ok(()),
     }
-    let of_mark = with_mark(places, mark);
-    if of_mark.len() < MANY {
-        return Ok(());
-    }
-    let row = row_with(alloc, of_mark, place)?;
+}
+
+/// Gives the mark a row.
+fn put_row(alloc: Global, rows: &mut Rows, places: &Places, mark: u64) -> Result<(), AllocError>
+    requires { HasRows places.now rows.old }
+    ensures { HasRows places.now rows.new }
+{
+    let row = Row::of(alloc, with_mark(places, mark))?;
     rows.insert(mark, row)?;
     Ok(())
 }
 
-/// Notes a place for the mark, in its row too.
+/// Notes a place for the mark, in its row too. It gets one with so many places.
 fn note_shared(
     alloc: Global,
     places: &mut Places,
@@ -67,8 +76,11 @@ fn note_shared(
     ensures kept { AreKept places.old places.new }
     ensures noted { OnOk result (IsAmong (places_at places.new mark) place) }
 {
-    put_bit(alloc, rows, places, mark, place)?;
-    note(alloc, places, mark, place)
+    put_bit(rows, places, mark, place)?;
+    if note_counted(alloc, places, mark, place)? == MANY {
+        return put_row(alloc, rows, places, mark);
+    }
+    Ok(())
 }
 
 /// Notes a place for each of the marks; after want of memory, for some of them.

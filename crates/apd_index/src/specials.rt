@@ -1,46 +1,51 @@
 //! Atoms that are looked up by what they are instances of.
 
-ghost use Rattle.std.specs.Prelude.{◌≡◌, ◌++◌, ◌∷◌, ◌&&◌, [], ℕ, IfOk, OnErr, OnOk, slice_get};
-ghost use Rattle.std.specs.List.{list_any};
+ghost use Rattle.std.specs.Prelude.{◌≡◌, ◌++◌, ◌∷◌, ◌<◌, ◌≤◌, ◌/◌, [], ℕ, IfOk, MatchBool, OnErr, OnOk, slice_get};
 ghost use Rattle.apd_term.specs.Term.{IsAmong};
 ghost use Rattle.apd_marks.specs.Places.{places_at};
 ghost use Rattle.apd_marks.specs.Positions.{marks_of};
-ghost use Rattle.apd_index.specs.Columns.{IsAlike};
-ghost use Rattle.apd_index.specs.Retrieval.{AreSpecials, has_special, is_below};
-ghost use Rattle.apd_index.specs.Rows.{HasBit, has_bit};
+ghost use Rattle.apd_index.specs.Columns.{HasUnlikes, IsAlike};
+ghost use Rattle.apd_index.specs.Retrieval.{AreSpecials, NoneLeft, SomeLeft, has_special, is_below, is_left_below};
+ghost use Rattle.apd_index.specs.Rows.{HasBit};
 ghost use Rattle.apd_index.specs.Sharing.{HasRows};
 
-use crate::columns::{Columns, note};
+use crate::columns::Columns;
+use crate::kept::Kept;
+use crate::large::{note_atom, note_positions};
 use crate::marked::narrow;
-use crate::repeats::strike_unequal;
+use crate::repeats::{prepare, strike_unequal};
 use crate::rows::Row;
-use crate::sharing::{Rows, alike, note_all};
-use apd_answers::is_instance;
-use apd_marks::{Places, all_marks, with_mark};
-use apd_term::{Atoms, Flat};
+use crate::sharing::{Rows, alike};
+use crate::unlike::Unlikes;
+use apd_base::ListOf;
+use apd_marks::Places;
+use apd_term::Flat;
 use indexmap::IndexMap;
 use std::alloc::{AllocError, Global};
 use std::marker::Model;
 
+/// Atoms that are kept with the skips of their symbols.
+type KeptAtoms = ListOf<Kept>;
+
 /// Puts an atom at the end. Its place is noted first: where there is no atom, it is passed over.
 fn put(
     alloc: Global,
-    atoms: &mut Atoms,
+    atoms: &mut KeptAtoms,
     places: &mut Places,
     rows: &mut Rows,
+    large: &mut Vec<usize>,
     atom: &Flat,
 ) -> Result<(), AllocError>
-    requires noted { AreSpecials atoms.old places.old }
+    requires noted { AreSpecials atoms.old places.old large.old.items }
     requires rows { HasRows places.old rows.old }
     ensures ok { OnOk result (atoms.new ≡ atoms.old ++ atom.now ∷ []) }
     ensures err { OnErr result (atoms.new ≡ atoms.old) }
-    ensures noted { AreSpecials atoms.new places.new }
+    ensures noted { AreSpecials atoms.new places.new large.new.items }
     ensures rows { HasRows places.new rows.new }
 {
-    let marks = all_marks(alloc, atom)?;
-    let copy = atom.copy(alloc)?;
-    note_all(alloc, places, rows, marks.as_slice(), atoms.len())?;
-    atoms.push(copy)
+    let kept = Kept::of(alloc, atom)?;
+    note_atom(alloc, places, rows, large, atoms.len(), atom)?;
+    atoms.push(kept)
 }
 
 /// A row with the bit of each of the mark's places that may have an instance of the atom, by what it has at positions.
@@ -49,25 +54,27 @@ fn likely(
     places: &Places,
     rows: &Rows,
     columns: &Columns,
+    unlikes: &Unlikes,
     mark: u64,
     atom: &Flat,
 ) -> Result<Row, AllocError>
-    requires { HasRows places.now rows.now }
+    requires rows { HasRows places.now rows.now }
+    requires unlikes { HasUnlikes columns.now unlikes.now }
     ensures { IfOk result (λ row. (k : ℕ) → IsAmong (places_at places.now mark) k
         → ((m : ℕ) → IsAmong (marks_of atom.now) m → IsAmong (places_at places.now m) k)
         → IsAlike columns.now atom.now k → HasBit row k) }
 {
     let mut row = alike(alloc, places, rows, mark, atom)?;
-    strike_unequal(alloc, columns, atom, &mut row)?;
+    strike_unequal(alloc, columns, unlikes, atom, &mut row)?;
     Ok(row)
 }
 
 /// Whether the atom at a place is an instance of this one.
-fn is_below(alloc: Global, atoms: &Atoms, place: usize, atom: &Flat) -> Result<bool, AllocError>
+fn is_below(alloc: Global, atoms: &KeptAtoms, place: usize, atom: &Flat) -> Result<bool, AllocError>
     ensures { IfOk result (λ b. b ≡ is_below atom.now (slice_get atoms.now place)) }
 {
     match atoms.get(place) {
-        Some(special) => is_instance(alloc, special, atom),
+        Some(special) => special.is_instance(alloc, atom),
         None => Ok(false),
     }
 }
@@ -75,13 +82,12 @@ fn is_below(alloc: Global, atoms: &Atoms, place: usize, atom: &Flat) -> Result<b
 /// The same, where the row has the place's bit.
 fn is_left_below(
     alloc: Global,
-    atoms: &Atoms,
+    atoms: &KeptAtoms,
     row: &Row,
     place: usize,
     atom: &Flat,
 ) -> Result<bool, AllocError>
-    ensures { IfOk result (λ b. b ≡
-        (has_bit row.now place && is_below atom.now (slice_get atoms.now place))) }
+    ensures { IfOk result (λ b. b ≡ is_left_below atoms.now row.now atom.now place) }
 {
     if !row.has(place) {
         return Ok(false);
@@ -89,21 +95,30 @@ fn is_left_below(
     is_below(alloc, atoms, place, atom)
 }
 
-/// Whether the atom at some of these places that have their bit in the row is an instance of this one.
-fn some_below(
-    alloc: Global,
-    atoms: &Atoms,
-    row: &Row,
-    places: &[usize],
-    atom: &Flat,
-) -> Result<bool, AllocError>
-    ensures { IfOk result (λ b. b ≡ list_any
-        (λ k. has_bit row.now k && is_below atom.now (slice_get atoms.now k)) places.now) }
+/// The first place behind those that share a word of bits with this one.
+fn next_word(place: usize) -> usize
+    requires { place < 18446744073709551615 }
+    ensures further { place < result }
+    ensures near { (k : ℕ) → place ≤ k → k < result → k / 64 ≡ place / 64 }
 {
-    'places: for place in places {
-        if is_left_below(alloc, atoms, row, *place, atom)? {
+    (place / 64 * 64).saturating_add(64)
+}
+
+/// Whether the atom at some place that has its bit in the row is an instance of this one.
+fn some_below(alloc: Global, atoms: &KeptAtoms, row: &Row, atom: &Flat) -> Result<bool, AllocError>
+    ensures { IfOk result (λ b. MatchBool b (SomeLeft atoms.now row.now atom.now)
+        (NoneLeft atoms.now row.now atom.now)) }
+{
+    let mut place = 0;
+    'places: while place < atoms.len() {
+        if !row.has_near(place) {
+            place = next_word(place);
+            continue;
+        }
+        if is_left_below(alloc, atoms, row, place, atom)? {
             return Ok(true);
         }
+        place += 1;
     }
     Ok(false)
 }
@@ -111,13 +126,17 @@ fn some_below(
 /// Atoms that are looked up by what they are instances of. Contracts see their list.
 #[derive(Drop)]
 pub struct Specials {
-    atoms: Atoms,
+    atoms: KeptAtoms,
     /// The places of atoms by each of their marks.
     places: Places,
     /// The same for marks that many share, as rows of bits.
     rows: Rows,
+    /// The places of large atoms, of which nothing is noted otherwise.
+    large: Vec<usize>,
     /// What atoms have at their positions.
     columns: Columns,
+    /// Where atoms have unequal terms at two positions, of the pairs of positions that were asked about.
+    unlikes: Unlikes,
 }
 
 impl Model for Specials {
@@ -125,7 +144,7 @@ impl Model for Specials {
     ghost use Rattle.std.specs.Coded.{coded_list};
     ghost use Rattle.apd_term.specs.Term.{Term};
     ghost use Rattle.apd_term.specs.Spelling.{term_code};
-    ghost use Rattle.apd_index.specs.Columns.{HasColumns};
+    ghost use Rattle.apd_index.specs.Columns.{HasColumns, HasUnlikes};
     ghost use Rattle.apd_index.specs.Retrieval.{AreSpecials};
     ghost use Rattle.apd_index.specs.Sharing.{HasRows};
 
@@ -135,8 +154,9 @@ impl Model for Specials {
 
     ghost view = { λ d. d.atoms };
 
-    ghost invariant = { λ d. AreSpecials d.atoms d.places × HasRows d.places d.rows
-        × HasColumns d.atoms d.columns };
+    ghost invariant = { λ d. AreSpecials d.atoms d.places d.large.items
+        × (HasRows d.places d.rows × (HasColumns d.atoms d.columns
+        × HasUnlikes d.columns d.unlikes)) };
 }
 
 impl Specials {
@@ -145,10 +165,12 @@ impl Specials {
         ensures { result ≡ [] }
     {
         Specials {
-            atoms: Atoms::new(alloc),
+            atoms: KeptAtoms::new(alloc),
             places: IndexMap::new(alloc),
             rows: IndexMap::new(alloc),
+            large: Vec::new(alloc),
             columns: IndexMap::new(alloc),
+            unlikes: IndexMap::new(alloc),
         }
     }
 
@@ -162,9 +184,17 @@ impl Specials {
             &mut self.atoms,
             &mut self.places,
             &mut self.rows,
+            &mut self.large,
             atom,
         )?;
-        note(alloc, &mut self.columns, place, atom)
+        note_positions(alloc, &mut self.columns, &mut self.unlikes, place, atom)
+    }
+
+    /// Computes ahead what tells whether some of these is an instance of the atom, and keeps it. The list stays as it is.
+    pub fn prepare(&mut self, alloc: Global, atom: &Flat) -> Result<(), AllocError>
+        ensures { self.new ≡ self.old }
+    {
+        prepare(alloc, &self.columns, &mut self.unlikes, atom)
     }
 
     /// Whether some of these is an instance of the atom.
@@ -172,11 +202,16 @@ impl Specials {
         ensures { IfOk result (λ b. b ≡ has_special self.now atom.now) }
     {
         let mark = narrow(alloc, &self.places, atom)?;
-        let places = with_mark(&self.places, mark);
-        let row = likely(alloc, &self.places, &self.rows, &self.columns, mark, atom)?;
-        if row.is_clear() {
-            return Ok(false);
-        }
-        some_below(alloc, &self.atoms, &row, places, atom)
+        let mut row = likely(
+            alloc,
+            &self.places,
+            &self.rows,
+            &self.columns,
+            &self.unlikes,
+            mark,
+            atom,
+        )?;
+        row.set_all(self.large.as_slice())?;
+        some_below(alloc, &self.atoms, &row, atom)
     }
 }

@@ -7,4 +7,4 @@ pub returns-then-found-clause-why : goal.returns-then-found-clause-why
 returns-then-found-clause-why c = λ n grew reader. why-found _ _ c.if-found.true
 
 pub returns-clause-why : goal.returns-clause-why
-returns-clause-why c = λ n grew reader. why-not _ _ _ c.if-found.false (c.reason_for.ensures ∙ ap reason_for (c.in_ok-claim.ensures.claim n grew reader))
+returns-clause-why c = λ n grew reader. why-not _ _ _ c.if-found.false (c.reason_for-reason.ensures ∙ ap reason_for (c.in_ok-claim.ensures.claim n grew reader))

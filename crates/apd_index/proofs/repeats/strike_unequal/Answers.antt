@@ -1,34 +1,12 @@
-use Rattle.std.proofs.Common.{◌≡◌, ◌<◌, arith, get_or, length, ◌∙◌}
-use Rattle.std.proofs.lemmas.Grind.{get_or_default_zero}
-use Rattle.apd_term.specs.Term.{variable}
-use Rattle.apd_term.specs.declared.term.Sym.TheVariants.{Var}
-use Rattle.apd_index.specs.Subterms.{IsAt}
-use Rattle.apd_index.proofs.Agreeing.{firsts-go}
-use Rattle.apd_index.proofs.Parts.{as-many, variable-at}
+use Rattle.std.proofs.Common.{subst, sym}
+use Rattle.apd_index.specs.Columns.{AreRepeats}
+use Rattle.apd_index.specs.declared.unlike.Repeat.{Repeat}
+use Rattle.apd_index.proofs.Agreeing.{repeat-agrees}
 use Rattle.apd_index.proofs.repeats.strike_unequal.Goals as goal
 
-pub index-requires : goal.index-requires
-index-requires c =
-    let same = as-many c.args.atom.now c.symbols-symbols.result.now c.in_ok-positions.positions.items c.symbols-symbols.ensures c.in_ok-positions.ensures in
-    omega (arith, same, c.in_ok-positions.positions.ok.0)
-
-pub returns-in_err-compare : goal.returns-in_err-compare
-returns-in_err-compare c = λ k h a.
-    let same = as-many c.args.atom.now c.symbols-symbols.result.now c.in_ok-positions.positions.items c.symbols-symbols.ensures c.in_ok-positions.ensures in
-    let within : c.symbols.i < length c.in_ok-positions.positions.items = omega (arith, same) in
-    let at : c.index.result.now ≡ get_or c.in_ok-positions.positions.items c.symbols.i 0 = c.index.ensures ∙ get_or_default_zero c.in_ok-positions.positions.items c.symbols.i c.index.result.now within in
-    let here : IsAt c.args.atom.now c.index.result.now (variable c.in-Var.v) =
-    variable-at c.args.atom.now c.symbols-symbols.result.now c.in_ok-positions.positions.items c.symbols.i c.in-Var.v c.index.result.now (Var 0) c.symbols-symbols.ensures c.in_ok-positions.ensures (omega arith) c.in-Var.is at in
-    c.compare.ensures.row k (c.symbols.invariant.left k h a) (λ p e. a p c.index.result.now c.in-Var.v (c.symbols.invariant.firsts c.in-Var.v p e) here)
-
-pub symbols-preserved : goal.symbols-preserved
-symbols-preserved c =
-    let same = as-many c.args.atom.now c.symbols-symbols.result.now c.in_ok-positions.positions.items c.symbols-symbols.ensures c.in_ok-positions.ensures in
-    let within : c.symbols.i < length c.in_ok-positions.positions.items = omega (arith, same) in
-    let at : c.index.result.now ≡ get_or c.in_ok-positions.positions.items c.symbols.i 0 = c.index.ensures ∙ get_or_default_zero c.in_ok-positions.positions.items c.symbols.i c.index.result.now within in
-    let here : IsAt c.args.atom.now c.index.result.now (variable c.in-Var.v) =
-    variable-at c.args.atom.now c.symbols-symbols.result.now c.in_ok-positions.positions.items c.symbols.i c.in-Var.v c.index.result.now (Var 0) c.symbols-symbols.ensures c.in_ok-positions.ensures (omega arith) c.in-Var.is at in
-    record {
-      firsts = firsts-go c.args.atom.now c.symbols.firsts c.compare.new.firsts c.in-Var.v c.index.result.now c.compare.ensures.firsts here c.symbols.invariant.firsts;
-      left = λ k h a. c.compare.ensures.row k (c.symbols.invariant.left k h a) (λ p e. a p c.index.result.now c.in-Var.v (c.symbols.invariant.firsts c.in-Var.v p e) here);
-    }
+pub repeats-preserved : goal.repeats-preserved
+repeats-preserved c = λ k h a.
+    let none : Repeat = record { one = 0; other = 0 } in
+    let rs = c.as_slice-repeat-items.result.now in
+    let are : AreRepeats c.args.atom.now rs = subst (AreRepeats c.args.atom.now) (sym c.as_slice-repeat-items.ensures.value) c.in_ok-repeats.ensures in
+    c.strike_repeat.ensures k (c.repeats.invariant k h a) (repeat-agrees c.args.atom.now c.args.columns.now rs c.repeats.repeat-index k none are c.repeats-test.true a)

@@ -1,16 +1,16 @@
-use Rattle.std.proofs.Common.{ℕ, List, ap, ◌∙◌, sym, subst}
-use Rattle.apd_term.specs.Term.{IsAmong}
-use Rattle.apd_marks.specs.Places.{places_at}
-use Rattle.apd_marks.specs.Positions.{all_marks}
+use Rattle.std.proofs.Common.{ℕ, sym, subst}
+use Rattle.apd_term.specs.Term.{Term}
+use Rattle.apd_index.specs.Retrieval.{IsNoted}
 use Rattle.apd_index.proofs.Retrieval.{above-kept, above-pushed}
 use Rattle.apd_index.proofs.specials.put.Goals as goal
 
-pub returns-in_err-note_all-clause-noted : goal.returns-in_err-note_all-clause-noted
-returns-in_err-note_all-clause-noted c = above-kept c.args.atoms.now c.args.places.now c.note_all.new.places c.note_all.ensures.kept c.requires.noted
+pub returns-in_err-note_atom-clause-noted : goal.returns-in_err-note_atom-clause-noted
+returns-in_err-note_atom-clause-noted c =
+    above-kept c.args.atoms.now c.args.places.now c.note_atom.new.places c.args.large.now.items c.note_atom.new.large.items c.note_atom.ensures.kept c.note_atom.ensures.still c.requires.noted
 
 pub returns-clause-noted : goal.returns-clause-noted
 returns-clause-noted c =
-    above-pushed c.push.result c.args.atoms.now c.push.new.self c.note_all.new.places c.in_ok-copy.copy c.push.ensures.ok c.push.ensures.err
-    (λ m a. subst (λ (n : ℕ). IsAmong (places_at c.note_all.new.places m) n) c.len.ensures
-    (c.in_ok-note_all.ensures.noted m (subst (λ (ms : List ℕ). IsAmong ms m) (sym (c.as_slice.ensures.value ∙ c.in_ok-marks.ensures ∙ ap all_marks (sym c.in_ok-copy.ensures))) a)))
-    (above-kept c.args.atoms.now c.args.places.now c.note_all.new.places c.note_all.ensures.kept c.requires.noted)
+    above-pushed c.push.result c.args.atoms.now c.push.new.self c.note_atom.new.places c.note_atom.new.large.items c.in_ok-kept.kept c.push.ensures.ok c.push.ensures.err
+    (subst (λ (n : ℕ). IsNoted c.note_atom.new.places c.note_atom.new.large.items n c.in_ok-kept.kept) c.len.ensures
+    (subst (λ (x : Term). IsNoted c.note_atom.new.places c.note_atom.new.large.items c.len.result x) (sym c.in_ok-kept.ensures) c.in_ok-note_atom.ensures.noted))
+    (above-kept c.args.atoms.now c.args.places.now c.note_atom.new.places c.args.large.now.items c.note_atom.new.large.items c.note_atom.ensures.kept c.note_atom.ensures.still c.requires.noted)

@@ -1,11 +1,9 @@
-use Rattle.std.proofs.Common.{ℕ, ◌≡◌, ◌&&◌, drop}
-use Rattle.std.specs.Prelude.{slice_get}
-use Rattle.std.specs.List.{list_any}
-use Rattle.apd_index.specs.Retrieval.{is_below}
-use Rattle.apd_index.specs.Rows.{has_bit}
+use Rattle.std.proofs.Common.{◌≡◌, ◌<◌, ◌-◌, ℕ, false, length}
+use Rattle.apd_index.specs.Retrieval.{is_left_below}
 use Rattle.apd_index.proofs.specials.some_below.Given as goal
 
 abbrev pub invariant-places : goal.invariant-places
-invariant-places l =
-    list_any (λ (k : ℕ). has_bit l.row k && is_below l.atom (slice_get l.atoms k)) l.places
-    ≡ list_any (λ (k : ℕ). has_bit l.row k && is_below l.atom (slice_get l.atoms k)) (drop l.place-index l.places)
+invariant-places l = (k : ℕ) → k < l.place → is_left_below l.atoms l.row l.atom k ≡ false
+
+abbrev pub decreases-places : goal.decreases-places
+decreases-places l = length l.atoms - l.place

@@ -18,6 +18,6 @@ returns-then-not-may_be-clause-found c = λ n grew reader. (
 )
 
 pub returns-clause-found : goal.returns-clause-found
-returns-clause-found c = IfOk-weaker c.is_right.result _ _ (λ b is n grew reader.
+returns-clause-found c = IfOk-weaker c.is_right-right.result _ _ (λ b is n grew reader.
     subst (λ (o : Option Claim). IsTrue b ↔ IsFound c.args.self.now.source.program.now c.args.self.now.state.now o) (c.in_ok-claim.ensures.claim n grew reader) is)
-    c.is_right.ensures
+    c.is_right-right.ensures

@@ -1,19 +1,14 @@
-use Rattle.std.proofs.Common.{◌≡◌, List, false, subst}
+use Rattle.std.proofs.Common.{◌≡◌, List, ℕ, subst}
 use Rattle.std.specs.Prelude.{IfOk}
 use Rattle.apd_term.specs.Term.{Term}
 use Rattle.apd_index.specs.Retrieval.{has_special}
+use Rattle.apd_index.specs.Rows.{HasBits}
 use Rattle.apd_index.proofs.Agreeing.{all-left}
-use Rattle.apd_index.proofs.Retrieval.{nothing-left, special-is}
+use Rattle.apd_index.proofs.Retrieval.{special-is}
 use Rattle.apd_index.proofs.specials.Specials.has_special.Goals as goal
-
-pub returns-then-is_clear : goal.returns-then-is_clear
-returns-then-is_clear c = subst (λ (xs : List Term). false ≡ has_special xs c.args.atom.now) c.self.view_is
-    (nothing-left c.self.inside.atoms c.self.inside.places c.args.atom.now c.with_mark-places.result.now c.in_ok-row.row
-    (all-left c.self.inside.atoms c.self.inside.places c.self.inside.columns c.args.atom.now c.in_ok-mark.mark c.with_mark-places.result.now c.in_ok-row.row c.self.invariant.0 c.self.invariant.2 c.with_mark-places.ensures
-    c.in_ok-mark.ensures c.in_ok-row.ensures) (c.is_clear.ensures c.if-is_clear.true))
 
 pub returns : goal.returns
 returns c = subst (λ (xs : List Term). IfOk c.some_below.result (λ b. b ≡ has_special xs c.args.atom.now)) c.self.view_is
-    (special-is c.some_below.result c.self.inside.atoms c.self.inside.places c.args.atom.now c.with_mark-places.result.now c.in_ok-row.row
-    (all-left c.self.inside.atoms c.self.inside.places c.self.inside.columns c.args.atom.now c.in_ok-mark.mark c.with_mark-places.result.now c.in_ok-row.row c.self.invariant.0 c.self.invariant.2 c.with_mark-places.ensures
-    c.in_ok-mark.ensures c.in_ok-row.ensures) c.some_below.ensures)
+    (special-is c.some_below.result c.self.inside.atoms c.args.atom.now c.set_all.new.self
+    (all-left c.self.inside.atoms c.self.inside.places c.self.inside.large.items c.self.inside.columns c.args.atom.now c.in_ok-mark.mark c.in_ok-row.row c.set_all.new.self c.self.invariant.0 c.self.invariant.1.1.0
+    c.in_ok-mark.ensures c.in_ok-row.ensures c.set_all.ensures.kept (subst (λ (ks : List ℕ). HasBits c.set_all.new.self ks) c.as_slice.ensures.value c.in_ok-set_all.ensures.set)) c.some_below.ensures)

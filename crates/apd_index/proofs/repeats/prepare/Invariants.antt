@@ -1,0 +1,5 @@
+use Rattle.apd_index.specs.Columns.{HasUnlikes}
+use Rattle.apd_index.proofs.repeats.prepare.Given as goal
+
+abbrev pub invariant-repeats : goal.invariant-repeats
+invariant-repeats l = HasUnlikes l.columns l.unlikes

@@ -45,16 +45,18 @@ use Rattle.apd_account.specs.Right.{AreRight}
 use Rattle.apd_check.specs.Checked.{first_state as at_first, IsChecked, IsCheckOf}
 use Rattle.apd_check.specs.declared.checked.Checked.{Checked}
 use Rattle.apd_check.specs.declared.checked.Checked.TheVariants as checked
-use Rattle.apd_claims.specs.Saying.{said_from}
+use Rattle.apd_claims.specs.Saying.{said_from, said_in}
 use Rattle.apd_commands.specs.Commands.{command_in}
 use Rattle.apd_commands.specs.declared.commands.Command.{Command}
 use Rattle.apd_commands.specs.declared.commands.Command.TheVariants as command
+use Rattle.apd_numbering.specs.Said.{AllSaidNamed}
+use Rattle.apd_numbering.proofs.HeldElsewhere.{written-named}
 use Rattle.apd_session.specs.Headline.{nothing_intended}
 use Rattle.apd_session.specs.Opening.{beginning_said, course_of, first_state, further_said, known_said, load_said, opening_after, opening_by, opening_of, opening_with, prepared, reference_said, referred, reviewed_said, subject_text}
 use Rattle.apd_session.specs.Roles.{Role, FileLoad, KnownReplies, Reference}
 use Rattle.apd_session.specs.Roles as roles
 use Rattle.apd_session.specs.Session.{World, transcript_of}
-use Rattle.apd_session.specs.Written.{WroteWhatHolds, AreKept, CanBeChecked, IsHeard, uttered_in}
+use Rattle.apd_session.specs.Written.{WroteWhatHolds, AreKept, IsHeard, uttered_in}
 use Rattle.apd_session.specs.Steps.{Situation, Waiting, ForCommand, ForWrong, ForMissing, ForLoop, by_loop, by_missing, by_wrong, command_step, query_said, ready_in, remarks, step_for, store_said, talker, warnings_for}
 use Rattle.apd_session.specs.declared.notes.Noted.{Noted}
 use Rattle.apd_session.specs.declared.notes.Noted.TheVariants as noted
@@ -301,7 +303,7 @@ module _ {names : List (List ℕ)} (reader : Reader names) (all : AreNames names
 
   abbrev Holds : List Clause → Table → Store → List (Utterance Entry) → Type 0
   Holds program ops known us = LeavesMeanings ops → AreRunsInSize (entries_of us) → AllSayable ops names (entries_of us) → IsShort (texts_of us)
-      → IsCheckOf program ops reader known (texts_of us) (checked.Holds (count_found (all_claims (entries_of us))))
+      → IsCheckOf program ops reader known (texts_of us) (checked.Holds (count_found (all_claims (entries_of us)))) × AllSaidNamed (length names) (said_in reader ops (texts_of us))
 
   fine-holds : (program : List Clause) (strategy : Strategy) (ops : Table) (known : Store) (given : Question → Option Reply) (us : List (Utterance Entry)) → IsProgram program → IsTable ops → AllFit known → AreLinedBy (1 + MAX_FILE) program
       → AllTuplesNamed (length names) (tuples_of program) → AreReplies (length names) known → GiveNames (length names) given → IsFine program strategy names ops (account_with given known) us
@@ -315,9 +317,11 @@ module _ {names : List (List ℕ)} (reader : Reader names) (all : AreNames names
       let written : AllWritten ops names (entries_of us) = all-written ops names standard meanings (entries_of us) fairly.proper kept numbered sayable in
       let said : Says reader ops (texts_of us) (all_claims (entries_of us)) = texts-say reader ops program us table all f.uttered written short in
       let stands : Corresponds (account_with given known) (at_first known) = record { query = refl; history = refl; known = record { pairs = refl; trust = refl }; waits = tt } in
-      let good : AreGood program (at_first known) (all_claims (entries_of us)) = entries-good program strategy nothing_intended (account_with given known) (at_first known) (entries_of us) stands right fairly.fair f.in_turn in
-      subst (λ k. IsChecked program (at_first known) 0 (said_from reader ops false 1 (lines_of (texts_of us))) (checked.Holds k)) (none_more (count_found (all_claims (entries_of us))))
-      (says-checked reader ops program (at_first known) 0 1 false said good)
+      let good : AreGood program (at_first known) (all_claims (entries_of us)) = entries-good program strategy nothing_intended (account_with given known) (at_first known) (entries_of us) stands right fairly.fair f.in_turn in (
+        subst (λ k. IsChecked program (at_first known) 0 (said_from reader ops false 1 (lines_of (texts_of us))) (checked.Holds k)) (none_more (count_found (all_claims (entries_of us))))
+            (says-checked reader ops program (at_first known) 0 1 false said good),
+        written-named names reader ops program us table all f.uttered written short,
+      )
 
   -- as many answers are allowed as may be, where a session opens
   abbrev Allows : Opening → Type 0
@@ -377,7 +381,7 @@ module _ {names : List (List ℕ)} (reader : Reader names) (all : AreNames names
   opening-holds : (files : Role → FileLoad) (words : List (List ℕ)) → HoldsFor (opening_of reader files (options_of words))
   opening-holds files words = opening_has HoldsFor reader files (λ why last. tt) (λ ops b why table last. tt) opened-holds words
 
-  written-holds : (words : List (List ℕ)) (world : World) → (x : IsHeard words reader world) → AreKept reader world.input world.ends x.ops x.start
+  pub written-holds : (words : List (List ℕ)) (world : World) → (x : IsHeard words reader world) → AreKept reader world.input world.ends x.ops x.start
       → Holds x.start.state.program x.ops x.start.state.replies (uttered_in words reader world)
   written-holds words world x kept =
       let allowed = subst Allows x.opens (opening-allows world.files words) in
@@ -388,4 +392,4 @@ module _ {names : List (List ℕ)} (reader : Reader names) (all : AreNames names
 
 -- the law
 pub checked-holds : {names : List (List ℕ)} (reader : Reader names) (words : List (List ℕ)) (world : World) → WroteWhatHolds words reader world
-checked-holds reader words world all x = written-holds reader all words world x.heard x.kept x.meanings x.in_size x.sayable x.short
+checked-holds reader words world all x = (written-holds reader all words world x.heard x.kept x.meanings x.in_size x.sayable x.short).0

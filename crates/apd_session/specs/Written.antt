@@ -6,11 +6,14 @@ use Rattle.apd_answers.specs.Store.{Store}
 use Rattle.apd_answers.specs.declared.store.Pair.{Pair}
 use Rattle.apd_base.specs.declared.limits.TheConstants.{MAX_INPUT}
 use Rattle.apd_check.specs.Checked.{IsCheckOf}
+use Rattle.apd_check.specs.declared.checked.Checked.{Checked}
 use Rattle.apd_check.specs.declared.checked.Checked.TheVariants.{Holds}
 use Rattle.apd_clauses.specs.Clauses.{tuples_of}
 use Rattle.apd_console.specs.Lines.{InputEnd, hear}
 use Rattle.apd_console.specs.declared.line.Line.{Line}
 use Rattle.apd_lines.specs.Lines.{LineIsNamed, line_in}
+use Rattle.apd_numbering.specs.Given.{IsGivenOf}
+use Rattle.apd_numbering.specs.Lists.{BeginAlike}
 use Rattle.apd_ops.specs.Table.{Table}
 use Rattle.apd_read.specs.Reader.{Reader}
 use Rattle.apd_reading_back.specs.Law.{AreNames}
@@ -23,6 +26,7 @@ use Rattle.apd_session.specs.Session.{World, session_of}
 use Rattle.apd_session.specs.declared.opening.Course.TheVariants.{Hears}
 use Rattle.apd_session.specs.declared.opening.Opening.TheVariants.{Open}
 use Rattle.apd_session.specs.declared.opening.Start.{Start}
+use Rattle.apd_talk.specs.Speech.{Lasting}
 use Rattle.apd_talk.specs.Utterance.{Utterance, entries_of, texts_of}
 use Rattle.apd_text.specs.declared.entry.Entry.{Entry}
 use Rattle.apd_upheld.specs.Fair.{AreRunsInSize}
@@ -69,3 +73,11 @@ pub record CanBeChecked {names : List (List ℕ)} (words : List (List ℕ)) (rea
 abbrev pub WroteWhatHolds : {names : List (List ℕ)} → List (List ℕ) → Reader names → World → Type 0
 WroteWhatHolds {names} words reader world = AreNames names → (x : CanBeChecked words reader world)
     → IsCheckOf x.heard.start.state.program x.heard.ops reader x.heard.start.state.replies (texts_of (uttered_in words reader world)) (Holds (count_found (all_claims (entries_of (uttered_in words reader world)))))
+
+-- And whoever numbers names otherwise finds that: under any other names that begin with those of the program, its operators and the
+-- known replies, what the check finds, whatever names come later, is that each line is good, and as many findings.
+abbrev pub WroteWhatHoldsElsewhere : {names : List (List ℕ)} → List (List ℕ) → Reader names → World → Type 0
+WroteWhatHoldsElsewhere {names} words reader world = AreNames names → (x : CanBeChecked words reader world) → (n : ℕ)
+    → IsGivenOf n x.heard.start.state.program x.heard.ops x.heard.start.state.replies → (others : List (List ℕ)) → BeginAlike n names others → (result : Checked)
+    → Lasting others (λ later. (other : Reader later) → IsCheckOf x.heard.start.state.program x.heard.ops other x.heard.start.state.replies (texts_of (uttered_in words reader world)) result)
+    → result ≡ Holds (count_found (all_claims (entries_of (uttered_in words reader world))))

@@ -68,6 +68,17 @@ def repeated(number):
     return "q(" + ",".join(f"_{place}" for place in places) + ")"
 
 
+def grid(arguments):
+    """An atom of 24 terms, each of 24 arguments."""
+    return "q(" + ",".join("f(" + ",".join(arguments[row : row + 24]) + ")" for row in range(0, 576, 24)) + ")"
+
+
+def paired(number):
+    """Such an atom of variables, of which those from one on are the same one."""
+    from_one = number * 7 % 570
+    return grid([f"_{min(place, from_one) + 1}" for place in range(576)])
+
+
 def signs(number):
     """An atom of 16 numbers that differ in their signs alone: by marks without signs all these share one."""
     return "q(" + ",".join("-1" if number >> bit & 1 else "1" for bit in range(16)) + ")"
@@ -174,8 +185,35 @@ class Logs:
         unequal = self.filled("symptom: true: p(yes)\n", lambda n: f"symptom: not true: p(f({n},a))\n", 0.5) + "symptom: not true: p(f(z,z))\n"
         yield "groups of two candidates in which a variable stands twice", OPEN, self.filled(unequal, self.two("f(_1,_1)"))
 
+    def strings(self, length):
+        """Strings of so many letters that are drawn."""
+        return lambda n: "".join(self.draw.choices("abcdefghijklmnopqrstuvwxyz", k=length))
+
     def huge(self):
-        """Findings of one denial that is huge."""
+        """Denials that are large, and findings of them."""
+        front = "symptom: not true: "
+        yield "one denial that is huge", "q(X).\n", self.filled(front + 'q("', "a", 0.999) + '")\n'
+        yield "one denial that is huge, of letters by chance", "q(X).\n", front + f'q("{self.strings(int(self.room * 0.999) - 30)(0)}")\n'
+        yield "one denial that is huge, a list", "q(X).\n", self.filled(front + "q([a", ",a", 0.999) + "])\n"
+        for length in (8000, 2000, 200, 20):
+            text = self.strings(length)
+            yield f"denials of {length} letters", "q(X).\n", self.filled("", lambda n: front + f'q("{text(n)}")\n')
+            yield f"denials of {length} letters, each of another name", "q(X).\n", self.filled("", lambda n: front + f'q{n}("{text(n)}")\n')
+        text = self.strings(2000)
+        denied = self.filled("", lambda n: front + f'q("{text(n)}",a)\n', 0.99) + front + "q(b,b)\n"
+        yield "denials of 2000 letters, and a finding in which a variable stands twice", "q(X,Y).\n", denied + WRONG + "q(_1,_1)\n"
+        large = self.filled("", lambda n: front + f'q("{text(n) * 4 + text(n)[:200]}",{n})\n', 0.5) + front + "q(a,z)\n"
+        yield "wrong instances behind large denials", "q(X,Y).\n", self.filled(large, WRONG + "q(_1,z)\n")
+        for length, title in ((4200, "large denials"), (4000, "denials"), (200, "short denials")):
+            alike = "[" + "1," * length + "1]"
+            last = self.filled("", lambda n: front + f"q({alike},{n})\n", 0.5) + front + f"q({alike},f(z))\n"
+            yield f"wrong instances by the last of {title} that begin alike", "q(X,Y).\n", self.filled(last, WRONG + f"q({alike},f(_1))\n")
+        long = "[" + "1," * (self.room // 4 - 100) + "1]"
+        yield "a wrong instance as long as its denial", "q(X,Y).\n", front + f"q({long},b)\n" + WRONG + f"q({long},_1)\n"
+        grids = self.filled("", lambda n: front + grid(self.draw.choices("ab", k=576)) + "\n", 0.5) + front + grid(["c"] * 576) + "\n"
+        yield "wrong instances of many pairs of positions", f"q({','.join(f'A{n}' for n in range(24))}).\n", self.filled(grids, lambda n: WRONG + paired(n) + "\n")
+        mixed = self.filled(front + "q(z,z,z,z,z,z)\n", lambda n: front + f"q({n},a,b,c,d,e)\n" + WRONG + repeated(n) + "\n")
+        yield "wrong instances in which a variable stands twice, each behind one more denial", "q(A,B,C,D,E,F).\n", mixed
         text = self.filled("", "a", 0.25)
         yield "wrong instances by one huge denial", "q(X).\n", self.filled(f'symptom: not true: q("{text}")\n', WRONG + "q(_1)\n")
         half = text[: len(text) // 2]

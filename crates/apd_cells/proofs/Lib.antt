@@ -25,3 +25,4 @@ pub mod Placing
 pub mod Seen
 pub mod Noticing
 pub mod Search
+pub mod Standing

@@ -1,6 +1,7 @@
 pub mod Store
 pub mod Stored
 pub mod Flat
+pub mod Kept
 pub mod Known
 pub mod Heap
 pub mod Work
@@ -11,3 +12,4 @@ pub mod Ordered
 pub mod Arguments
 pub mod Live
 pub mod Noticed
+pub mod Slots

@@ -2,18 +2,23 @@
 
 ghost use Rattle.std.specs.Prelude.{◌≡◌, ℕ, ◌+◌, ◌<◌, ◌≤◌, ◌^◌, ◌⊎◌, [], length, get_or, min, max, IfOk, IfSome, OnOk, OnErr, MatchOption};
 ghost use Rattle.std.specs.Bool.{OnTrue};
-ghost use Rattle.apd_term.specs.Term.{Occurs, size, spell};
+ghost use Rattle.apd_term.specs.Term.{IsWhole, Occurs, size, spell, term_of};
 ghost use Rattle.apd_term.specs.declared.term.Sym.TheVariants.{Var};
 ghost use Rattle.apd_cells.specs.Flat.{compound_in};
 ghost use Rattle.apd_cells.specs.Known.{HasExtent};
 ghost use Rattle.apd_cells.specs.Heap.{IsVariable};
 ghost use Rattle.apd_cells.specs.Live.{store_of};
+ghost use Rattle.apd_cells.specs.Slots.{AreSlots, HasLoaded};
 ghost use Rattle.apd_cells.specs.declared.heap.Binding.TheVariants.{Free, At};
 ghost use Rattle.apd_cells.specs.Store.{term_at, written, symbol_at, binding_of, MayBind, bound, loaded, before_note, at_mark, IsSound, IsEnd, IsTwin};
 
 use crate::front::{Front, above_term, greater, smaller};
-use crate::known::{Extent, Known, above_all, forget_above, forget_since, known_at, make_place};
+use crate::kept::{KeptBinding, KeptNote};
+use crate::known::{
+    Extent, Known, above_all, forget_above, forget_since, known_at, make_place, narrow,
+};
 use crate::live::Live;
+use crate::slots::{Slot, append_for};
 use crate::stack::Stack;
 use crate::symbols::append;
 use apd_term::term::term_end;
@@ -38,12 +43,13 @@ pub enum Note {
     Bound(u64, usize),
 }
 
-/// Terms in cells, with their bindings.
+/// Terms in cells, with their bindings. Where a call answers an error, it is want of memory, or there would be
+/// 2 ^ 31 cells or variables.
 #[derive(Drop)]
 pub struct Heap {
     cells: Vec<Sym>,
-    bindings: Vec<Binding>,
-    trail: Stack<Note>,
+    bindings: Vec<KeptBinding>,
+    trail: Stack<KeptNote>,
     /// No binding's term has a variable from this number on.
     touched: usize,
     /// A front of the cells: those before the newest load, or none.
@@ -57,7 +63,7 @@ pub struct Heap {
     /// The same of terms with variables.
     open_terms: Stack<Known>,
     /// The place of each cell in one of the two. What is left of earlier places says nothing.
-    places: Vec<usize>,
+    places: Vec<u32>,
 }
 
 impl Model for Heap {
@@ -173,7 +179,7 @@ impl Heap {
     {
         let mut at = from;
         'bindings: while let Sym::Var(v) = self.cells[at] {
-            match self.bindings[v as usize] {
+            match self.bindings[v as usize].get() {
                 Binding::Free => return at,
                 Binding::At(next) => at = next,
             }
@@ -210,7 +216,7 @@ impl Heap {
         if v as usize >= self.bindings.len() {
             return None;
         }
-        match self.bindings[v as usize] {
+        match self.bindings[v as usize].get() {
             Binding::Free => None,
             Binding::At(to) => Some(to),
         }
@@ -261,7 +267,7 @@ impl Heap {
     pub fn known(&self, at: usize) -> Option<Extent>
         ensures { IfSome result (HasExtent self.now at) }
     {
-        let place = *self.places.get(at)?;
+        let place = *self.places.get(at)? as usize;
         if let Some(extent) = known_at(&self.ground_terms, place, at) {
             return Some(extent);
         }
@@ -276,7 +282,7 @@ impl Heap {
         let since = self.trail.len();
         make_place(&mut self.places, at)?;
         if extent.above == 0 {
-            self.places[at] = self.ground_terms.len();
+            self.places[at] = narrow(self.ground_terms.len())?;
             self.ground_terms.push(Known {
                 cell: at,
                 extent,
@@ -285,7 +291,7 @@ impl Heap {
             return Ok(());
         }
         let above = above_all(&self.open_terms, extent.above);
-        self.places[at] = self.open_terms.len();
+        self.places[at] = narrow(self.open_terms.len())?;
         self.open_terms.push(Known {
             cell: at,
             extent: Extent {
@@ -306,9 +312,10 @@ impl Heap {
         let count = self.bindings.len();
         let above = above_term(self.front, to, count);
         let compound = compound_at(self.cells.as_slice(), to);
-        self.trail.push(Note::Bound(v, to))?;
+        let note = KeptNote::bound(v, to)?;
+        self.trail.push(note)?;
         let _notes = self.trail.len();
-        self.bindings[v as usize] = Binding::At(to);
+        self.bindings[v as usize] = KeptBinding::at(to);
         self.compounds += compound;
         self.touched = greater(self.touched, above);
         forget_above(&mut self.open_terms, v);
@@ -326,8 +333,35 @@ impl Heap {
     {
         let cells = self.cells.len();
         let variables = self.bindings.len();
-        self.trail.push(Note::Loaded(cells, variables))?;
+        let note = KeptNote::loaded(cells, variables)?;
+        self.trail.push(note)?;
         if let Err(e) = append(&mut self.cells, &mut self.bindings, t, base) {
+            self.cells.truncate(cells);
+            self.bindings.truncate(variables);
+            let _ = self.trail.pop();
+            return Err(e);
+        }
+        self.front = Front { cells, variables };
+        self.longest = greater(self.longest, self.cells.len() - cells);
+        Ok(cells)
+    }
+
+    /// Puts a term of a clause behind the others, with what stands for its variables in their places. After want of
+    /// memory nothing has changed but what stands for variables.
+    pub fn load_for(&mut self, symbols: &[Sym], slots: &mut Vec<Slot>) -> Result<usize, AllocError>
+        requires whole { IsWhole symbols.now }
+        requires slots { AreSlots self.old.cells self.old.variables slots.old.items }
+        ensures cell { IfOk result (λ c. c ≡ length self.old.cells) }
+        ensures ok { OnOk result
+            (HasLoaded self.old self.new slots.old.items slots.new.items (term_of symbols.now)) }
+        ensures store { IsSound self.old }
+        ensures err { OnErr result (self.new ≡ self.old) }
+    {
+        let cells = self.cells.len();
+        let variables = self.bindings.len();
+        let note = KeptNote::loaded(cells, variables)?;
+        self.trail.push(note)?;
+        if let Err(e) = append_for(&mut self.cells, &mut self.bindings, slots, symbols) {
             self.cells.truncate(cells);
             self.bindings.truncate(variables);
             let _ = self.trail.pop();
@@ -352,9 +386,11 @@ impl Heap {
         let notes = self.trail.len();
         forget_since(&mut self.ground_terms, notes);
         forget_since(&mut self.open_terms, notes);
-        match self.trail.pop() {
-            None => {}
-            Some(Note::Loaded(cells, variables)) => {
+        let Some(newest) = self.trail.pop() else {
+            return;
+        };
+        match newest.get() {
+            Note::Loaded(cells, variables) => {
                 self.cells.truncate(cells);
                 self.bindings.truncate(variables);
                 self.front = Front {
@@ -363,8 +399,8 @@ impl Heap {
                 };
                 self.touched = smaller(self.touched, variables);
             }
-            Some(Note::Bound(v, to)) => {
-                self.bindings[v as usize] = Binding::Free;
+            Note::Bound(v, to) => {
+                self.bindings[v as usize] = KeptBinding::free();
                 self.compounds -= compound_at(self.cells.as_slice(), to);
             }
         }

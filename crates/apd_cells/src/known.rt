@@ -97,8 +97,19 @@ pub fn above_all(known: &Stack<Known>, above: u64) -> u64
     }
 }
 
+/// The greatest place that is kept.
+const MOST: usize = 4_294_967_295;
+
+/// The place as it is kept; want of memory where it is too great.
+pub fn narrow(place: usize) -> Result<u32, AllocError> {
+    if place > MOST {
+        return Err(AllocError);
+    }
+    Ok(place as u32)
+}
+
 /// Makes room for the place of a cell.
-pub fn make_place(places: &mut Vec<usize>, cell: usize) -> Result<(), AllocError>
+pub fn make_place(places: &mut Vec<u32>, cell: usize) -> Result<(), AllocError>
     ensures { OnOk result (cell < length places.new.items) }
 {
     'room: while places.len() <= cell {

@@ -1,6 +1,6 @@
 //! Symbols of terms that are put behind others.
 
-ghost use Rattle.std.specs.Prelude.{◌≡◌, ℕ, ◌+◌, ◌<◌, ◌^◌, ◌++◌, length, max, OnOk, take};
+ghost use Rattle.std.specs.Prelude.{◌≡◌, ℕ, ◌+◌, ◌<◌, ◌^◌, ◌++◌, length, max, IfOk, OnOk, take};
 ghost use Rattle.apd_term.specs.Term.{Occurs, spell, variables};
 ghost use Rattle.apd_term.specs.Canonical.{shifted};
 ghost use Rattle.apd_term.specs.declared.term.Sym.TheVariants.{Var};
@@ -8,32 +8,39 @@ ghost use Rattle.apd_term.specs.Spelling.{variable_in};
 ghost use Rattle.apd_cells.specs.Heap.{HasMore, raised};
 ghost use Rattle.apd_cells.specs.Store.{above};
 
-use crate::heap::Binding;
+use crate::front::greater;
+use crate::kept::KeptBinding;
 use apd_term::{Flat, Sym};
 use std::alloc::AllocError;
 
-/// Free variables behind those that are there, so that this one is there too.
-fn make_room(bindings: &mut Vec<Binding>, v: u64) -> Result<(), AllocError>
+/// Free variables behind those that are there, until there are so many.
+pub(crate) fn make_room(bindings: &mut Vec<KeptBinding>, count: usize) -> Result<(), AllocError>
     ensures more { HasMore bindings.old.items bindings.new.items }
     ensures ok { OnOk result
-        (length bindings.new.items ≡ max (length bindings.old.items) (v + 1)) }
+        (length bindings.new.items ≡ max (length bindings.old.items) count) }
 {
-    let v = v as usize;
-    'room: while bindings.len() <= v {
-        bindings.push(Binding::Free)?;
+    'room: while bindings.len() < count {
+        bindings.push(KeptBinding::free())?;
     }
     Ok(())
 }
 
-/// The same for the variable that a symbol is, if it is one.
-fn make_room_for(bindings: &mut Vec<Binding>, symbol: Sym) -> Result<(), AllocError>
-    ensures more { HasMore bindings.old.items bindings.new.items }
-    ensures ok { OnOk result
-        (length bindings.new.items ≡ above (length bindings.old.items) (variable_in symbol)) }
+/// The greatest number that a variable may have.
+const MOST: u64 = 4_294_967_294;
+
+/// The number or one more than the variable that a symbol is, whichever is greater; want of memory where that is
+/// too great.
+pub(crate) fn above_symbol(symbol: Sym, there: usize) -> Result<usize, AllocError>
+    ensures { IfOk result (λ n. n ≡ above there (variable_in symbol)) }
 {
     match symbol {
-        Sym::Var(v) => make_room(bindings, v),
-        _ => Ok(()),
+        Sym::Var(v) => {
+            if v > MOST {
+                return Err(AllocError);
+            }
+            Ok(greater(there, v as usize + 1))
+        }
+        _ => Ok(there),
     }
 }
 
@@ -48,10 +55,35 @@ fn raised(symbol: Sym, base: u64) -> Sym
     }
 }
 
+/// Puts the symbols of a term behind the cells, the variables raised by `base`, and tells how many variables there are
+/// then, with `there` of them before.
+fn append_symbols(
+    cells: &mut Vec<Sym>,
+    there: usize,
+    t: &Flat,
+    base: u64,
+) -> Result<usize, AllocError>
+    requires { (v : ℕ) → Occurs v t.now → base + v < 2 ^ 64 }
+    ensures cells { OnOk result
+        (cells.new.items ≡ cells.old.items ++ spell (shifted base t.now)) }
+    ensures count { IfOk result (λ n. n ≡ above there (variables (shifted base t.now))) }
+    ensures front { take (length cells.old.items) cells.new.items ≡ cells.old.items }
+{
+    let symbols = t.symbols();
+    cells.reserve(symbols.len())?;
+    let mut count = there;
+    for symbol in symbols {
+        let moved = raised(*symbol, base);
+        count = above_symbol(moved, count)?;
+        cells.push_reserved(moved);
+    }
+    Ok(count)
+}
+
 /// Puts the term behind the cells, its variables raised by `base`.
 pub fn append(
     cells: &mut Vec<Sym>,
-    bindings: &mut Vec<Binding>,
+    bindings: &mut Vec<KeptBinding>,
     t: &Flat,
     base: u64,
 ) -> Result<(), AllocError>
@@ -63,10 +95,7 @@ pub fn append(
     ensures front { take (length cells.old.items) cells.new.items ≡ cells.old.items }
     ensures more { HasMore bindings.old.items bindings.new.items }
 {
-    for symbol in t.symbols() {
-        let moved = raised(*symbol, base);
-        make_room_for(bindings, moved)?;
-        cells.push(moved)?;
-    }
+    let count = append_symbols(cells, bindings.len(), t, base)?;
+    make_room(bindings, count)?;
     Ok(())
 }

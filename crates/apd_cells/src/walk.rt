@@ -28,9 +28,9 @@ pub struct Walk {
 
 /// What a walk has passed: a symbol, and the run that it is in then.
 #[derive(Clone, Copy)]
-pub(crate) struct Passed {
-    pub(crate) symbol: Sym,
-    pub(crate) next: Run,
+pub struct Passed {
+    pub symbol: Sym,
+    pub next: Run,
 }
 
 /// How many terms stand under a symbol.
@@ -60,7 +60,7 @@ pub fn next_run(rest: &mut Stack<Run>, here: Run) -> Option<Run>
 
 /// Passes the first symbol of a run, whose first cell leads to this one.
 #[inline(always)]
-pub(crate) fn pass_from(
+pub fn pass_from(
     heap: &Heap,
     rest: &mut Stack<Run>,
     here: Run,

@@ -1,9 +1,9 @@
 -- What entering a clause makes, by the store's unifier and its own numbers.
-use Rattle.std.proofs.Common.{◌≡◌, ℕ, ◌+◌, List, ◌∷◌, refl, sym, ◌∙◌, subst, Option, Some, None}
+use Rattle.std.proofs.Common.{◌≡◌, ℕ, ◌+◌, List, ◌∷◌, refl, sym, ◌∙◌, ap, subst, Option, Some, None}
 use Rattle.apd_term.specs.Term.{Term, variable}
 use Rattle.apd_term.specs.Canonical.{by_appearance, place_of}
 use Rattle.apd_term.specs.Substitution.{term_for, followed_by}
-use Rattle.apd_term.specs.Tuple.{variables_of_tuple, canonical_tuple}
+use Rattle.apd_term.specs.Tuple.{variables_of_tuple, canonical_tuple, apply_tuple}
 use Rattle.apd_term.specs.declared.tuple.Tuple.{Tuple}
 use Rattle.apd_term.proofs.Applying.{apply-followed_by}
 use Rattle.apd_unify.specs.Unifier.{IsAnswer, IsUnifier, HasNoUnifier}
@@ -16,10 +16,10 @@ use Rattle.apd_trace.specs.declared.frame.Called.{Called}
 use Rattle.apd_trace.specs.Renaming.{AreRenamed, IsBelow}
 use Rattle.apd_trace.proofs.Clauses.{canonical_back}
 use Rattle.apd_trace.proofs.Entered.{entering_by_any}
-use Rattle.apd_term.proofs.Tuples.{apply_tuple-variable}
+use Rattle.apd_term.proofs.Tuples.{apply_tuple-followed_by}
 use Rattle.apd_cells.specs.Stored.{Stored}
 use Rattle.apd_frames.specs.Links.{Instance}
-use Rattle.apd_frames.specs.Instances.{IsVariant, Instantiates, InstantiatesVariant}
+use Rattle.apd_frames.specs.Instances.{IsVariant, InstantiatesVariant}
 
 none_without : (a b : Term) (x : Option (List (ℕ × Term))) → IsAnswer a b x → HasNoUnifier a b → x ≡ None
 none_without a b None h none = refl
@@ -53,18 +53,20 @@ module _ (F : List Frame) (g : Called) (r : Tuple) (c m : ℕ) (goal : Term) (is
         → G ≡ apply_frames (term_for s) (entered g (shifted_tuple q t) c m ∷ F) → AreRenamed (entering F g r c m) (Some G)
     enters_some t s G v h e = subst (λ z. AreRenamed (entering F g r c m) (Some z)) (sym e) (enters_any t (Some s) v h)
 
--- a clause itself, and its canonical form
-pub variant_self : (r : Tuple) → IsVariant r r
-variant_self r = record { there = variable; back = variable; makes = apply_tuple-variable r; unmakes = apply_tuple-variable r }
-
+-- the canonical form of a clause, and a variant of a variant
 pub variant_canonical : (r t : Tuple) → t ≡ canonical_tuple r → IsVariant r t
 variant_canonical r t e =
     let b = canonical_back r in
     rw e (record { there = λ v. variable (place_of (by_appearance (variables_of_tuple r)) v); back = b.0; makes = refl; unmakes = b.1 })
 
--- the instance of the clause itself, or of its canonical form
-pub instantiates_self : (o : Option Instance) (old new : Stored) (goal : ℕ) (r : Tuple) → Instantiates o old new goal r → InstantiatesVariant o old new goal r
-instantiates_self o old new goal r h = record { variant = r; renamed = variant_self r; is = h }
+variant_trans : (r t u : Tuple) → IsVariant r t → IsVariant t u → IsVariant r u
+variant_trans r t u h k = record {
+  there = followed_by h.there k.there;
+  back = followed_by k.back h.back;
+  makes = sym (apply_tuple-followed_by h.there k.there r) ∙ ap (apply_tuple k.there) h.makes ∙ k.makes;
+  unmakes = sym (apply_tuple-followed_by k.back h.back u) ∙ ap (apply_tuple h.back) k.unmakes ∙ h.unmakes;
+}
 
-pub instantiates_canonical : (o : Option Instance) (old new : Stored) (goal : ℕ) (r t : Tuple) → t ≡ canonical_tuple r → Instantiates o old new goal t → InstantiatesVariant o old new goal r
-instantiates_canonical o old new goal r t e h = record { variant = t; renamed = variant_canonical r t e; is = h }
+-- an instance of the canonical form is one of the clause
+pub instantiates_canonical : (o : Option Instance) (old new : Stored) (goal : ℕ) (r t : Tuple) → t ≡ canonical_tuple r → InstantiatesVariant o old new goal t → InstantiatesVariant o old new goal r
+instantiates_canonical o old new goal r t e h = record { variant = h.variant; renamed = variant_trans r t h.variant (variant_canonical r t e) h.renamed; is = h.is }

@@ -41,7 +41,7 @@ grown_more old s new t base h is k o =
 pub grown_same : (old s new : Stored) → HasGrown old s → new ≡ s → HasGrown old new
 grown_same old s new h is = subst (HasGrown old) (sym is) h
 
-terms_same : (s new : Stored) (cs : List Cell) → AreInside (length s.cells) cs → ((c : ℕ) → c < length s.cells → term_at new c ≡ term_at s c) → terms_in new cs ≡ terms_in s cs
+pub terms_same : (s new : Stored) (cs : List Cell) → AreInside (length s.cells) cs → ((c : ℕ) → c < length s.cells → term_at new c ≡ term_at s c) → terms_in new cs ≡ terms_in s cs
 terms_same s new [] h o = refl
 terms_same s new (c ∷ cs) h o = ap (λ t. t ∷ terms_in new cs) (o c.0 h.0) ∙ ap (λ ts. term_at s c.0 ∷ ts) (terms_same s new cs h.1 o)
 
@@ -86,53 +86,6 @@ pub among_atom : (ts : List Term) (i v : ℕ) (d : Term) → i < length ts → I
 among_atom [] i v d lt m = absurd (omega arith)
 among_atom (t ∷ ts) zero v d lt m = IsAmong-left (variables t) (flat_map variables ts) v m
 among_atom (t ∷ ts) (suc i) v d lt m = IsAmong-right (variables t) (flat_map variables ts) v (among_atom ts i v d (omega arith) m)
-
--- variables that were raised above all others are free
-pub raised_free : (s : Stored) (t : Term) (base : ℕ) → IsNumbered s → base ≡ s.variables → raised_in s base t ≡ shifted s.variables t
-raised_free s t base h e =
-    apply-followed_by (λ v. variable (base + v)) (meaning s.cells s.trail) t
-    ∙ apply-same (followed_by (λ v. variable (base + v)) (meaning s.cells s.trail)) (λ v. variable (s.variables + v))
-    (λ v. h.unused (base + v) (omega arith) ∙ ap (λ b. variable (b + v)) e) t
-
--- the rule's head was loaded and unified with the goal
-module _ (old s1 s2 : Stored) (goal head base : ℕ) (rule : Tuple) (numbers : IsNumbered old) (is : base ≡ old.variables) (l : goal < length old.cells)
-    (first : s1 ≡ loaded old rule.head base) (others : (c : ℕ) → c < length old.cells → term_at s1 c ≡ term_at old c)
-    (made : term_at s1 head ≡ apply (meaning old.cells old.trail) (shifted base rule.head)) where
-  head_there : term_at s1 head ≡ shifted old.variables rule.head
-  head_there = made ∙ raised_free old rule.head base numbers is
-
-  pub not_instantiated : HasNoUnifier (term_at s1 goal) (term_at s1 head) → HasNoUnifier (term_at old goal) (shifted_tuple old.variables rule).head
-  not_instantiated h = subst (λ t. HasNoUnifier t (shifted old.variables rule.head)) (others goal l) (subst (HasNoUnifier (term_at s1 goal)) head_there h)
-
-  module _ (u : IsUnified s1 s2 goal head) (same : s2.cells ≡ s1.cells) where
-    means_there : (v : ℕ) → meaning s2.cells s2.trail v ≡ apply (term_for u.pairs) (meaning old.cells old.trail v)
-    means_there v = u.means v ∙ ap (apply (term_for u.pairs)) (ap (λ (z : Stored). meaning z.cells z.trail v) first ∙ meaning-loaded old rule.head base v)
-
-    raised_there : (t : Term) → raised_in s2 base t ≡ apply (term_for u.pairs) (shifted old.variables t)
-    raised_there t =
-        apply-same (meaning s2.cells s2.trail) (followed_by (meaning old.cells old.trail) (term_for u.pairs)) means_there (shifted base t)
-        ∙ sym (apply-followed_by (meaning old.cells old.trail) (term_for u.pairs) (shifted base t))
-        ∙ ap (apply (term_for u.pairs)) (raised_free old t base numbers is)
-
-    body_there : (ts : List Term) → map (raised_in s2 base) ts ≡ map (apply (term_for u.pairs)) (map (shifted old.variables) ts)
-    body_there [] = refl
-    body_there (t ∷ ts) = ap (λ x. x ∷ map (raised_in s2 base) ts) (raised_there t) ∙ ap (λ xs. apply (term_for u.pairs) (shifted old.variables t) ∷ xs) (body_there ts)
-
-    cells_there : length s2.cells ≡ length old.cells + length (spell (shifted base rule.head))
-    cells_there = ap length same ∙ ap (λ (z : Stored). length z.cells) first ∙ length-append old.cells (spell (shifted base rule.head))
-
-    pub instantiated : (s3 : Stored) (i : Instance) → head < length s2.cells → HasGrown s2 s3 → terms_in s3 i.goals ≡ map (raised_in s2 base) rule.body → AreInside (length s3.cells) i.goals → i.head.0 ≡ head
-        → IsInstantiated i old s3 goal rule
-    instantiated s3 i inside grown body goals here =
-        let f = term_for u.pairs in record {
-          pairs = u.pairs;
-          unifier = subst (λ t. IsUnifier t (shifted old.variables rule.head) u.pairs) (others goal l) (subst (λ t. IsUnifier (term_at s1 goal) t u.pairs) head_there u.unifier);
-          made = λ c m. grown.others c (omega (arith, m, cells_there)) ∙ u.made c ∙ ap (apply f) (others c m);
-          tuple =
-              ap (λ t. tuple_of t (terms_in s3 i.goals)) (ap (term_at s3) here ∙ grown.others head inside ∙ u.made head ∙ ap (apply f) head_there)
-              ∙ ap (tuple_of (apply f (shifted old.variables rule.head))) (body ∙ body_there rule.body);
-          inside = record { head = omega (arith, here, inside, grown.cells); goals = goals };
-        }
 
 -- a term whose variables are free is loaded as it is
 pub loaded_free : (s : Stored) (t : Term) → ((v : ℕ) → Occurs v t → meaning s.cells s.trail v ≡ variable v) → raised_in s 0 t ≡ t

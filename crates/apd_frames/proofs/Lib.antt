@@ -14,3 +14,4 @@ pub mod Valued
 pub mod Settled
 pub mod Framed
 pub mod Seeing
+pub mod Bodies

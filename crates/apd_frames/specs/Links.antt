@@ -1,6 +1,7 @@
 -- Links, and how they are kept: the cells of all links' goals stand in one list.
 use Rattle.std.specs.Prelude.{ℕ, zero, suc, ◌+◌, ◌≤◌, List, [], ◌∷◌, length, map, take, drop, Option, None, slice_get}
 use Rattle.apd_unify.specs.declared.store.Cell.{Cell}
+use Rattle.apd_frames.specs.declared.links.Branch.{Branch}
 use Rattle.apd_frames.specs.declared.links.Row.{Row}
 use Rattle.apd_frames.specs.declared.links.LinkRef.{LinkRef}
 
@@ -107,3 +108,7 @@ handed_row r n m =
       point = m;
       around = r.around;
     }
+
+-- a branch by its numbers
+abbrev pub branch_in : ℕ → ℕ → ℕ → Branch
+branch_in mark links innermost = record { mark = record { 0 = mark }; links = links; innermost = innermost }

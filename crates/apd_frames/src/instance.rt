@@ -4,20 +4,30 @@ ghost use Rattle.std.specs.Prelude.{◌≡◌, ℕ, ◌+◌, ◌<◌, ◌≤◌,
 ghost use Rattle.std.specs.List.{flat_map};
 ghost use Rattle.apd_term.specs.Term.{variables, IsAmong};
 ghost use Rattle.apd_cells.specs.Numbered.{IsNumbered};
+ghost use Rattle.apd_cells.specs.Slots.{AreSlots};
 ghost use Rattle.apd_cells.specs.Store.{term_at, Keeps};
 ghost use Rattle.apd_clauses.specs.Clauses.{IsRunnable};
-ghost use Rattle.apd_frames.specs.Kept.{IsSmall};
 ghost use Rattle.apd_frames.specs.Links.{link_of};
 ghost use Rattle.apd_frames.specs.Linked.{IsThere};
-ghost use Rattle.apd_frames.specs.Instances.{terms_in, tuple_in, raised_in, with_goals, AreInside, CanonicalWithin, IsWithin, HasGrown, Instantiates, InstantiatesVariant};
+ghost use Rattle.apd_frames.specs.Instances.{terms_in, tuple_in, raised_in, with_goals, AreInside, CanonicalWithin, IsWithin, HasBody, HasGrown, InstantiatesVariant};
 
 use crate::links::LinkRef;
 use crate::small::has_small_variables;
 use apd_base::{MOST_GOALS, MOST_INSTANCE_SYMBOLS};
 use apd_cells::scratch::Scratch;
+use apd_cells::slots::Slot;
 use apd_term::{Atoms, Flat, Tuple, canonical_tuple};
 use apd_unify::store::{Cell, Store};
 use std::alloc::{AllocError, Global};
+
+/// What is made of the clause that was entered last, kept from clause to clause for its memory.
+#[derive(Drop)]
+pub struct Made {
+    /// The cells of its goals.
+    pub goals: Vec<Cell>,
+    /// What stands for its variables.
+    pub slots: Vec<Slot>,
+}
 
 /// Loads the terms, their variables raised by `base`, and leaves their cells alone in `cells`.
 pub fn load_all(
@@ -40,38 +50,62 @@ pub fn load_all(
     Ok(())
 }
 
-/// The instance of a clause whose variables have small numbers, as [`instantiate`] makes it. They are raised above all
-/// others.
+/// Loads the goals of a clause, with what stands for its variables in their places, and leaves their cells alone in
+/// `cells`.
+fn load_body(
+    store: &mut Store,
+    cells: &mut Vec<Cell>,
+    slots: &mut Vec<Slot>,
+    body: &[Flat],
+) -> Result<(), AllocError>
+    requires { AreSlots store.old.cells store.old.variables slots.old.items }
+    ensures loaded { OnOk result
+        (HasBody store.old store.new slots.old.items slots.new.items body.now cells.new.items) }
+    ensures kept { Keeps store.old store.new }
+    ensures more { length store.old.cells ≤ length store.new.cells }
+{
+    cells.clear();
+    'goals: for goal in body {
+        let cell = store.load_for(goal, slots)?;
+        cells.push(cell)?;
+    }
+    Ok(())
+}
+
+/// The instance of a clause whose variables have small numbers, as [`instantiate`] makes it.
 fn instantiate_small(
     store: &mut Store,
-    goals: &mut Vec<Cell>,
+    made: &mut Made,
     goal: Cell,
     rule: &Tuple,
 ) -> Result<Option<Cell>, AllocError>
     requires goal { goal.0 < length store.old.cells }
-    requires small { IsSmall rule.now }
     ensures kept { Keeps store.old store.new }
     ensures cells { length store.old.cells ≤ length store.new.cells }
     ensures numbered { IsNumbered store.old }
-    ensures answer { IfOk result
-        (λ o. Instantiates (with_goals goals.new.items o) store.old store.new goal.0 rule.now) }
+    ensures answer { IfOk result (λ o. InstantiatesVariant
+        (with_goals made.new.goals.items o) store.old store.new goal.0 rule.now) }
 {
-    let base = store.variables() as u64;
-    let head = store.load(&rule.head, base)?;
-    if !store.unify(goal, head)? {
+    let _variables = store.variables();
+    if !store.unify_head(goal, &rule.head, &mut made.slots)? {
         return Ok(None);
     }
-    load_all(store, goals, rule.body.as_slice(), base)?;
-    Ok(Some(head))
+    load_body(
+        store,
+        &mut made.goals,
+        &mut made.slots,
+        rule.body.as_slice(),
+    )?;
+    Ok(Some(goal))
 }
 
-/// The clause's instance for the goal at a cell, where its head unifies with it: the head's cell, with
-/// the goals' cells alone in `goals`. The clause's canonical form is taken where its variables have
-/// great numbers. After none or want of memory more terms may be there, and some variables may be
+/// The clause's instance for the goal at a cell, where its head unifies with it: the goal's own cell, which has the
+/// head's term then, with the cells of the clause's goals alone in `made`. The clause's canonical form is taken where
+/// its variables have great numbers. After none or want of memory more terms may be there, and some variables may be
 /// bound.
 pub fn instantiate(
     store: &mut Store,
-    goals: &mut Vec<Cell>,
+    made: &mut Made,
     alloc: Global,
     goal: Cell,
     rule: &Tuple,
@@ -81,15 +115,15 @@ pub fn instantiate(
     ensures kept { Keeps store.old store.new }
     ensures cells { length store.old.cells ≤ length store.new.cells }
     ensures numbered { IsNumbered store.old }
-    ensures answer { IfOk result
-        (λ o. InstantiatesVariant (with_goals goals.new.items o) store.old store.new goal.0 rule.now) }
+    ensures answer { IfOk result (λ o. InstantiatesVariant
+        (with_goals made.new.goals.items o) store.old store.new goal.0 rule.now) }
 {
     let _variables = store.variables();
     if has_small_variables(rule) {
-        return instantiate_small(store, goals, goal, rule);
+        return instantiate_small(store, made, goal, rule);
     }
     let canonical = canonical_tuple(alloc, rule)?;
-    instantiate_small(store, goals, goal, &canonical)
+    instantiate_small(store, made, goal, &canonical)
 }
 
 /// A head and [`MOST_GOALS`] goals of so many symbols have no more together than an instance may have.

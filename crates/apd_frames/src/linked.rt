@@ -17,8 +17,8 @@ ghost use Rattle.apd_frames.specs.Solves.{solution_as, Keeps};
 
 use crate::ahead::Ahead;
 use crate::builtin::Solved;
-use crate::instance::{canonical_within, instantiate, is_within, load_all};
-use crate::links::{Branch, LinkRef, Links};
+use crate::instance::{Made, canonical_within, instantiate, is_within, load_all};
+use crate::links::{Branch, KeptBranch, LinkRef, Links};
 use crate::measuring::{Measure, measured};
 use crate::reading::{ahead, goal_depth, left, look, next_goal};
 use crate::settling::{predicate_at, settle};
@@ -37,10 +37,9 @@ pub struct Linked {
     pub store: Store,
     pub links: Links,
     pub innermost: usize,
-    pub branches: Stack<Branch>,
+    pub branches: Stack<KeptBranch>,
     scratch: Scratch,
-    /// The goals of the clause that was entered last, kept from clause to clause for its memory.
-    goals: Vec<Cell>,
+    made: Made,
 }
 
 /// The branch at a store and its links.
@@ -113,7 +112,10 @@ impl Linked {
             innermost: 1,
             branches: Stack::new(alloc),
             scratch: Scratch::new(alloc),
-            goals,
+            made: Made {
+                goals,
+                slots: Vec::new(alloc),
+            },
         })
     }
 
@@ -270,12 +272,12 @@ impl Linked {
             return Ok(false);
         }
         let mark = self.store.mark();
-        let Some(head) = instantiate(&mut self.store, &mut self.goals, alloc, goal, rule)? else {
+        let Some(head) = instantiate(&mut self.store, &mut self.made, alloc, goal, rule)? else {
             self.store.undo(mark);
             return Ok(false);
         };
         let depth = goal_depth(&self.links, self.innermost);
-        let goals = self.goals.as_slice();
+        let goals = self.made.goals.as_slice();
         let link = entered(box_no, depth, clause, head, goals, point, self.innermost);
         self.innermost = self.links.push(&link)?;
         Ok(true)
@@ -351,7 +353,8 @@ impl Linked {
         ensures store { self.new.store ≡ self.old.store }
     {
         let branch = here(&self.store, &self.links, self.innermost);
-        self.branches.push(branch)?;
+        let kept = KeptBranch::of(branch)?;
+        self.branches.push(kept)?;
         Ok(())
     }
 
@@ -367,7 +370,8 @@ impl Linked {
     {
         match self.branches.top() {
             None => unreachable!(),
-            Some(branch) => {
+            Some(newest) => {
+                let branch = newest.get();
                 self.store.undo(branch.mark);
                 self.links.keep(branch.links);
                 self.innermost = branch.innermost;

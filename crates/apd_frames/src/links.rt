@@ -48,6 +48,23 @@ pub struct Branch {
     pub innermost: usize,
 }
 
+/// A branch as it is kept. Clauses see the branch.
+#[derive(Drop)]
+pub struct KeptBranch {
+    mark: u32,
+    links: u32,
+    innermost: u32,
+}
+
+impl Model for KeptBranch {
+    ghost use Rattle.apd_frames.specs.declared.links.Branch.{Branch};
+    ghost use Rattle.apd_frames.specs.Links.{branch_in};
+
+    ghost Value = { Branch };
+
+    ghost view = { λ b. branch_in b.mark b.links b.innermost };
+}
+
 /// Links, numbered from 1. Clauses see their list, the newest first.
 #[derive(Drop)]
 pub struct Links {
@@ -151,6 +168,34 @@ fn cells_of(rows: &[Row]) -> usize
     match rows.last() {
         None => 0,
         Some(row) => row.cells as usize,
+    }
+}
+
+impl KeptBranch {
+    /// The branch as it is kept; want of memory where a number is too great.
+    pub fn of(branch: Branch) -> Result<KeptBranch, AllocError>
+        ensures { IfOk result (λ b. b ≡ branch) }
+    {
+        let mark = narrow(branch.mark.0)?;
+        let links = narrow(branch.links)?;
+        let innermost = narrow(branch.innermost)?;
+        Ok(KeptBranch {
+            mark,
+            links,
+            innermost,
+        })
+    }
+
+    /// The branch.
+    #[inline(always)]
+    pub fn get(&self) -> Branch
+        ensures { result ≡ self.now }
+    {
+        Branch {
+            mark: Mark(self.mark as usize),
+            links: self.links as usize,
+            innermost: self.innermost as usize,
+        }
     }
 }
 

@@ -1,4 +1,5 @@
 pub mod Ways
+pub mod Packed
 pub mod Moments
 pub mod Bindings
 pub mod Variables

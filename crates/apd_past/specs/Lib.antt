@@ -1,4 +1,5 @@
 pub mod Slots
+pub mod Cells
 pub mod Done
 pub mod Linked
 pub mod History

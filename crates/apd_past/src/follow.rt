@@ -29,7 +29,7 @@ fn had_at(live: &Live<'_>, at: usize) -> Had
 {
     let mut next = at;
     'notes: while next < live.notes.len() {
-        match live.notes[next] {
+        match live.notes[next].get() {
             Note::Loaded(cells, variables) => return Had { cells, variables },
             Note::Bound(..) => next += 1,
         }
@@ -70,7 +70,7 @@ impl Mirror {
         ensures follows { OnOk result (Follows self.new (at_mark (at + 1) (store_of live.now))) }
         ensures kept { KeepsMoments self.old.past self.new.past }
     {
-        match live.notes[at] {
+        match live.notes[at].get() {
             Note::Bound(v, to) => {
                 self.bind(v, to)?;
                 Ok(())

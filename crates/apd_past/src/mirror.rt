@@ -1,20 +1,16 @@
 //! A past that follows a store: what is loaded and bound there is loaded and bound here, under other
 //! names, and what is taken back there is freed here.
 
-ghost use Rattle.std.specs.Prelude.{◌≡◌, ℕ, ◌∷◌, [], ◌+◌, ◌<◌, ◌≤◌, length, drop, map, OnOk};
-ghost use Rattle.std.specs.List.{flat_map};
-ghost use Rattle.apd_term.specs.declared.term.Sym.TheVariants.{Var};
-ghost use Rattle.apd_term.specs.Spelling.{variable_in};
-ghost use Rattle.apd_term.specs.Term.{IsAmong};
+ghost use Rattle.std.specs.Prelude.{◌≡◌, ℕ, ◌∷◌, [], ◌+◌, ◌<◌, ◌≤◌, length, drop, OnOk};
 ghost use Rattle.apd_cells.specs.Stored.{Stored};
 ghost use Rattle.apd_cells.specs.Store.{before_note, bound, IsSound};
 ghost use Rattle.apd_past.specs.Follows.{Follows, MayFollowBinding, MayFollowLoad, with_load};
 ghost use Rattle.apd_past.specs.History.{KeepsMoments};
-ghost use Rattle.apd_past.specs.Mirror.{renamed_symbol};
 ghost use Rattle.apd_past.specs.Names.{AreGoodNames, ArePlacedFrom, HasMoreNames};
 
 use crate::past::{Past, PastCell, narrow};
 use apd_cells::heap::Note;
+use apd_cells::kept::KeptNote;
 use apd_cells::stack::Stack;
 use apd_term::Sym;
 use std::alloc::{AllocError, Global};
@@ -28,9 +24,7 @@ pub struct Mirror {
     /// What the store's variables are called.
     pub names: Vec<u32>,
     /// The notes of the store's trail.
-    pub notes: Stack<Note>,
-    /// The symbols of the term that was loaded last, kept for its memory.
-    symbols: Vec<Sym>,
+    pub notes: Stack<KeptNote>,
 }
 
 /// Names for the variables up to so many.
@@ -49,36 +43,14 @@ fn add_names(past: &mut Past, names: &mut Vec<u32>, count: usize) -> Result<(), 
     Ok(())
 }
 
-/// The symbol with its variable renamed.
-fn renamed_symbol(names: &[u32], symbol: Sym) -> Sym
-    requires { (v : ℕ) → symbol ≡ Var v → v < length names.now }
-    ensures { result ≡ renamed_symbol names.now symbol }
-{
-    match symbol {
-        Sym::Var(v) => Sym::Var(names[v as usize] as u64),
-        other => other,
-    }
-}
-
-/// Writes the symbols with their variables renamed.
-fn rename(names: &[u32], symbols: &[Sym], renamed: &mut Vec<Sym>) -> Result<(), AllocError>
-    requires { (v : ℕ) → IsAmong (flat_map variable_in symbols.now) v → v < length names.now }
-    ensures { OnOk result (renamed.new.items ≡ map (renamed_symbol names.now) symbols.now) }
-{
-    renamed.clear();
-    for symbol in symbols {
-        renamed.push(renamed_symbol(names, *symbol))?;
-    }
-    Ok(())
-}
-
 /// So many more cells are at one place and behind it.
 fn add_places(places: &mut Vec<PastCell>, first: PastCell, count: usize) -> Result<(), AllocError>
     ensures { OnOk result (ArePlacedFrom places.old.items places.new.items first.0 count) }
 {
+    let _last = narrow((first.0 as u64).saturating_add(count as u64))?;
+    places.reserve(count)?;
     'cells: for done in 0..count {
-        let at = narrow((first.0 as u64).saturating_add(done as u64))?;
-        places.push(PastCell(at))?;
+        places.push_reserved(PastCell(first.0 + done as u32));
     }
     Ok(())
 }
@@ -93,7 +65,6 @@ impl Mirror {
             places: Vec::new(alloc),
             names: Vec::new(alloc),
             notes: Stack::new(alloc),
-            symbols: Vec::new(alloc),
         }
     }
 
@@ -107,7 +78,7 @@ impl Mirror {
         let Some(newest) = self.notes.top() else {
             return Ok(());
         };
-        match *newest {
+        match newest.get() {
             Note::Bound(..) => {
                 self.past.unbind()?;
                 let _ = self.notes.pop();
@@ -131,8 +102,9 @@ impl Mirror {
     {
         let name = self.names[v as usize] as u64;
         let place = self.places[to];
+        let note = KeptNote::bound(v, to)?;
         self.past.bind(name, place)?;
-        self.notes.push(Note::Bound(v, to))
+        self.notes.push(note)
     }
 
     /// Follows the store where a term with these symbols is loaded, with so many variables then.
@@ -143,11 +115,10 @@ impl Mirror {
             Follows self.new (with_load s symbols.now variables)) }
         ensures kept { KeepsMoments self.old.past self.new.past }
     {
-        let note = Note::Loaded(self.places.len(), self.names.len());
+        let note = KeptNote::loaded(self.places.len(), self.names.len())?;
         self.past.is_sound();
         add_names(&mut self.past, &mut self.names, variables)?;
-        rename(self.names.as_slice(), symbols, &mut self.symbols)?;
-        let first = self.past.load(self.symbols.as_slice())?;
+        let first = self.past.load_renamed(self.names.as_slice(), symbols)?;
         add_places(&mut self.places, first, symbols.len())?;
         self.notes.push(note)?;
         Ok(())

@@ -1,12 +1,16 @@
 //! Cells that are never dropped, and what variables were bound to at each moment.
 
-ghost use Rattle.std.specs.Prelude.{◌≡◌, ℕ, ◌∷◌, [], ◌<◌, ◌≤◌, ◌^◌, length, get_or, drop, None, Some, IfOk, OnOk, OnErr, MatchOption};
+ghost use Rattle.std.specs.List.{flat_map};
+ghost use Rattle.std.specs.Prelude.{◌≡◌, ℕ, ◌∷◌, [], ◌<◌, ◌≤◌, ◌^◌, length, get_or, drop, map, None, Some, IfOk, OnOk, OnErr, MatchOption};
 ghost use Rattle.apd_term.specs.declared.term.Sym.TheVariants.{Var};
-ghost use Rattle.apd_term.specs.Term.{IsTerms};
+ghost use Rattle.apd_term.specs.Spelling.{variable_in};
+ghost use Rattle.apd_term.specs.Term.{IsAmong, IsTerms};
 ghost use Rattle.apd_cells.specs.declared.heap.Binding.TheVariants.{Free, At};
 ghost use Rattle.apd_cells.specs.Store.{term_at, binding_of, bound, MayBind, IsSound};
+ghost use Rattle.apd_past.specs.Mirror.{name, renamed_symbol};
 ghost use Rattle.apd_past.specs.History.{at_moment, present, unbound, with_done, with_one_variable, with_terms};
 
+use crate::cells::Cells;
 use crate::deeds::Deeds;
 use crate::slot::Slot;
 use apd_cells::stack::Stack;
@@ -27,7 +31,7 @@ pub struct Moment(pub u32);
 /// there would be 2 ^ 32 cells, variables or moments.
 #[derive(Drop)]
 pub struct Past {
-    cells: Vec<Sym>,
+    cells: Cells,
     deeds: Deeds,
     /// The variables that are bound at present.
     bound: Stack<u32>,
@@ -40,9 +44,9 @@ impl Model for Past {
 
     ghost coded = { history_code };
 
-    ghost view = { λ p. record { cells = p.cells.items; variables = p.deeds.variables; deeds = p.deeds.deeds } };
+    ghost view = { λ p. record { cells = p.cells; variables = p.deeds.variables; deeds = p.deeds.deeds } };
 
-    ghost invariant = { λ p. IsPast p.cells.items p.deeds.variables p.deeds.deeds p.bound };
+    ghost invariant = { λ p. IsPast p.cells p.deeds.variables p.deeds.deeds p.bound };
 }
 
 /// The greatest number that is kept.
@@ -65,7 +69,7 @@ impl Past {
         ensures { result ≡ record { cells = []; variables = 0; deeds = [] } }
     {
         Past {
-            cells: Vec::new(alloc),
+            cells: Cells::new(alloc),
             deeds: Deeds::new(alloc),
             bound: Stack::new(alloc),
         }
@@ -115,7 +119,7 @@ impl Past {
         ensures store { (m : ℕ) → IsSound (at_moment m self.now) }
         ensures fits { length self.now.cells < 2 ^ 64 }
     {
-        self.cells[at]
+        self.cells.get(at)
     }
 
     /// The cell that a variable was bound to at a moment; none exactly where it was free.
@@ -153,7 +157,28 @@ impl Past {
     {
         let cell = narrow(self.cells.len() as u64)?;
         self.deeds.add_variables(symbols)?;
-        self.cells.extend_from_slice(symbols)?;
+        self.cells.extend(symbols)?;
+        Ok(PastCell(cell))
+    }
+
+    /// Puts whole terms behind the others, as [`Past::load`] does, of these symbols with their variables renamed. The
+    /// names are of variables that are there.
+    pub fn load_renamed(&mut self, names: &[u32], symbols: &[Sym]) -> Result<PastCell, AllocError>
+        requires whole { IsTerms (map (renamed_symbol names.now) symbols.now) }
+        requires named { (v : ℕ) → IsAmong (flat_map variable_in symbols.now) v →
+            v < length names.now }
+        requires there { (v : ℕ) → v < length names.now →
+            name names.now v < self.old.variables }
+        ensures cell { IfOk result (λ c. c.0 ≡ length self.old.cells) }
+        ensures ok { OnOk result
+            (self.new ≡ with_terms self.old (map (renamed_symbol names.now) symbols.now)) }
+        ensures others { (m c : ℕ) → c < length self.old.cells →
+            term_at (at_moment m self.new) c ≡ term_at (at_moment m self.old) c }
+        ensures deeds { self.new.deeds ≡ self.old.deeds }
+        ensures err { OnErr result (self.new ≡ self.old) }
+    {
+        let cell = narrow(self.cells.len() as u64)?;
+        self.cells.extend_renamed(names, symbols)?;
         Ok(PastCell(cell))
     }
 

@@ -94,8 +94,9 @@ fn put_places(
         (there.new.items ≡ there.old.items ++ placed_all places.now cells.now) }
     ensures more { HasMore there.old.items there.new.items }
 {
+    there.reserve(cells.len())?;
     'cells: for cell in cells {
-        there.push(place_of(places, *cell))?;
+        there.push_reserved(place_of(places, *cell));
     }
     Ok(())
 }

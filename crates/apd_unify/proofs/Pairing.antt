@@ -33,7 +33,7 @@ rest_of s p =
 pub split_pairs : (s : Stored) (p : Pairs) → IsPairs s.cells p → 0 < p.left → pairs_of s p ≡ (term_at s p.a, term_at s p.b) ∷ rest_of s p
 split_pairs s p r l = zip_split (apply (meaning s.cells s.trail)) p.left (read_all (drop p.a s.cells)) (read_all (drop p.b s.cells)) l r.left_run.enough r.right_run.enough
 
-past_run : (cells : List Sym) (c n : ℕ) → IsTerms (drop c cells) → IsRun cells c n → 0 < n → IsRun cells (c + size (written cells c)) (n - 1)
+pub past_run : (cells : List Sym) (c n : ℕ) → IsTerms (drop c cells) → IsRun cells c n → 0 < n → IsRun cells (c + size (written cells c)) (n - 1)
 past_run cells c n h r l =
     let m = run_inside cells c n r l in
     record {

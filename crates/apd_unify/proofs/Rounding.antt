@@ -65,6 +65,7 @@ equations_bound s v to (p ∷ ps) =
 -- what holds while pairs are left that are to be made equal
 pub record Unifying (old s : Stored) (a b : ℕ) (ps : List Pairs) : Type 0 where
   pub same_cells : s.cells ≡ old.cells
+  pub same_variables : s.variables ≡ old.variables
   pub keeps : Keeps old s
   pub right : ArePairs s.cells ps
   pub found : List (ℕ × Term)
@@ -87,6 +88,7 @@ unifying_first s a b p ps l m is e =
     let k = split_pairs s q (record { left_run = run_one-is s a l; right_run = run_one-is s b m }) (omega arith) in
     rw (is, e) (record {
       same_cells = refl;
+      same_variables = refl;
       keeps = Keeps-self s;
       right = (record { left_run = run_one-is s a l; right_run = run_one-is s b m }, tt);
       found = [];
@@ -99,6 +101,7 @@ unifying_first s a b p ps l m is e =
 pub unifying_on : (old s : Stored) (a b : ℕ) (here next : Pairs) (ps qs : List Pairs) → Unifying old s a b (here ∷ ps) → GoesOn here ps (Some next) qs → Unifying old s a b (next ∷ qs)
 unifying_on old s a b here next ps qs h g = record {
   same_cells = h.same_cells;
+  same_variables = h.same_variables;
   keeps = h.keeps;
   right = g.1.1 s.cells h.right;
   found = h.found;
@@ -150,6 +153,7 @@ unifying_equal old s a b p next ps x y h d same k =
     record {
       kept = record {
         same_cells = h.same_cells;
+        same_variables = h.same_variables;
         keeps = h.keeps;
         right = (k.right, h.right.1);
         found = h.found;
@@ -171,6 +175,7 @@ unifying_decomposed old s a b p next ps qs x y n h d store k w =
     record {
       kept = record {
         same_cells = h.same_cells;
+        same_variables = h.same_variables;
         keeps = h.keeps;
         right = w.right;
         found = h.found;
@@ -205,6 +210,7 @@ bound_proceeds old s a b p next ps x y v to h d l i k =
     record {
       kept = record {
         same_cells = h.same_cells;
+        same_variables = h.same_variables;
         keeps = Keeps-bound old s v to h.keeps;
         right = (k.right, h.right.1);
         found = extended h.found v t;

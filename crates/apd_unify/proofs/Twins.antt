@@ -51,6 +51,7 @@ unifying_twin old s a b p next ps h k =
     record {
       kept = record {
         same_cells = h.same_cells;
+        same_variables = h.same_variables;
         keeps = h.keeps;
         right = (k.past.right, h.right.1);
         found = h.found;

@@ -10,10 +10,13 @@ ghost use Rattle.apd_cells.specs.First.{AreApart, key_of, first_symbol};
 ghost use Rattle.apd_cells.specs.Live.{store_of};
 ghost use Rattle.apd_cells.specs.Numbered.{IsNumbered};
 ghost use Rattle.apd_cells.specs.Ordered.{Numbers};
+ghost use Rattle.apd_cells.specs.Slots.{AreSlots};
 ghost use Rattle.apd_cells.specs.Store.{term_at, under_bindings, loaded, at_mark, Keeps, IsSound, SizeWithin};
+ghost use Rattle.apd_unify.specs.Heads.{HasGone, IsLoadedFor, Matches};
 ghost use Rattle.apd_unify.specs.Unified.{IsUnification};
 
-use crate::unify::{Pairs, unify};
+use crate::heads::{Solver, unify_head};
+use crate::unify::unify;
 use apd_cells::arguments::{only_argument, two_arguments};
 use apd_cells::counting::measured_within;
 use apd_cells::first::{are_clashing, first_symbol, key_at, key_of};
@@ -22,7 +25,9 @@ use apd_cells::known::Extent;
 use apd_cells::live::Live;
 use apd_cells::reading::{Looking, is_ground_within, resolved, size_within};
 use apd_cells::scratch::{Scratch, numbered_within};
+use apd_cells::slots::Slot;
 use apd_cells::stack::Stack;
+use apd_cells::walk::Run;
 use apd_term::{Flat, Sym};
 use std::alloc::{AllocError, Global};
 use std::marker::Model;
@@ -40,8 +45,8 @@ pub struct Mark(pub usize);
 #[derive(Drop)]
 pub struct Store {
     heap: Heap,
-    looking: Looking,
-    pairs: Stack<Pairs>,
+    solver: Solver,
+    runs: Stack<Run>,
     alloc: Global,
 }
 
@@ -62,8 +67,11 @@ impl Store {
     {
         Store {
             heap: Heap::new(alloc),
-            looking: Looking::new(alloc),
-            pairs: Stack::new(alloc),
+            solver: Solver {
+                looking: Looking::new(alloc),
+                pairs: Stack::new(alloc),
+            },
+            runs: Stack::new(alloc),
             alloc,
         }
     }
@@ -95,7 +103,54 @@ impl Store {
         ensures cells { self.new.cells ≡ self.old.cells }
         ensures kept { Keeps self.old self.new }
     {
-        unify(&mut self.heap, &mut self.looking, &mut self.pairs, a.0, b.0)
+        unify(
+            &mut self.heap,
+            &mut self.solver.looking,
+            &mut self.solver.pairs,
+            a.0,
+            b.0,
+        )
+    }
+
+    /// Applies a most general unifier of the term at a cell and the head of a clause, whose variables are none of the
+    /// store's, to the terms of all cells, and tells what stands for the clause's variables then; false exactly where they
+    /// have none. The head isn't loaded: only what variables of the goal are bound to. After false or want of memory more terms
+    /// may be there, and some variables may be bound.
+    pub fn unify_head(
+        &mut self,
+        goal: Cell,
+        head: &Flat,
+        slots: &mut Vec<Slot>,
+    ) -> Result<bool, AllocError>
+        requires { goal.0 < length self.old.cells }
+        ensures answer { IfOk result
+            (λ r. Matches r self.old self.new [] slots.new.items goal.0 head.now) }
+        ensures gone { OnOk result (HasGone self.old self.new [] slots.new.items) }
+        ensures sound { IsSound self.old }
+        ensures kept { Keeps self.old self.new }
+        ensures more { length self.old.cells ≤ length self.new.cells }
+    {
+        let _variables = self.heap.variables();
+        unify_head(
+            &mut self.heap,
+            &mut self.solver,
+            &mut self.runs,
+            slots,
+            goal.0,
+            head,
+        )
+    }
+
+    /// Loads a term of the clause, with what stands for its variables in their places.
+    pub fn load_for(&mut self, t: &Flat, slots: &mut Vec<Slot>) -> Result<Cell, AllocError>
+        requires { AreSlots self.old.cells self.old.variables slots.old.items }
+        ensures ok { IfOk result
+            (λ c. IsLoadedFor self.old self.new slots.old.items slots.new.items t.now c.0) }
+        ensures kept { Keeps self.old self.new }
+        ensures more { length self.old.cells ≤ length self.new.cells }
+    {
+        let cell = self.heap.load_for(t.symbols(), slots)?;
+        Ok(Cell(cell))
     }
 
     /// How many cells there are.

@@ -228,6 +228,7 @@ pub fn unify(
     requires b { b < length heap.old.cells }
     ensures answer { IfOk result (λ r. IsUnification r heap.old heap.new a b) }
     ensures cells { heap.new.cells ≡ heap.old.cells }
+    ensures variables { heap.new.variables ≡ heap.old.variables }
     ensures kept { Keeps heap.old heap.new }
 {
     pairs.clear();

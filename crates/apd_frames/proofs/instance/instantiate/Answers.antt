@@ -1,25 +1,14 @@
 use Rattle.std.proofs.lemmas.Result.{IfOk-weaker}
 use Rattle.apd_cells.proofs.Bindings.{Keeps-self}
 use Rattle.apd_frames.specs.Instances.{with_goals}
-use Rattle.apd_frames.proofs.Numbers.{IsSmall-canonical}
-use Rattle.apd_frames.proofs.Entering.{instantiates_self, instantiates_canonical}
+use Rattle.apd_frames.proofs.Entering.{instantiates_canonical}
 use Rattle.apd_frames.proofs.instance.instantiate.Goals as goal
-
-pub returns-then-has_small_variables-clause-answer :
-    goal.returns-then-has_small_variables-clause-answer
-returns-then-has_small_variables-clause-answer c =
-    IfOk-weaker c.instantiate_small.result _ _
-    (λ o h. instantiates_self (with_goals c.instantiate_small.new.goals.items o) c.args.store.now c.instantiate_small.new.store c.args.goal.0 c.args.rule.now h)
-    c.instantiate_small.ensures.answer
 
 pub returns-in_err-canonical-clause-kept : goal.returns-in_err-canonical-clause-kept
 returns-in_err-canonical-clause-kept c = Keeps-self c.args.store.now
 
-pub instantiate_small-requires-2-clause-small : goal.instantiate_small-requires-2-clause-small
-instantiate_small-requires-2-clause-small c = IsSmall-canonical c.args.rule.now c.in_ok-canonical.canonical c.requires.runnable.short c.in_ok-canonical.ensures
-
 pub returns-clause-answer : goal.returns-clause-answer
 returns-clause-answer c =
     IfOk-weaker c.instantiate_small-2.result _ _
-    (λ o h. instantiates_canonical (with_goals c.instantiate_small-2.new.goals.items o) c.args.store.now c.instantiate_small-2.new.store c.args.goal.0 c.args.rule.now c.in_ok-canonical.canonical c.in_ok-canonical.ensures h)
+    (λ o h. instantiates_canonical (with_goals c.instantiate_small-2.new.made.goals.items o) c.args.store.now c.instantiate_small-2.new.store c.args.goal.0 c.args.rule.now c.in_ok-canonical.canonical c.in_ok-canonical.ensures h)
     c.instantiate_small-2.ensures.answer

@@ -1,4 +1,4 @@
-use Rattle.std.proofs.Common.{arith, length, refl, subst}
+use Rattle.std.proofs.Common.{◌∙◌, arith, length, refl, subst, sym}
 use Rattle.std.proofs.lemmas.List.{length-reverse}
 use Rattle.apd_cells.specs.Live.{store_of}
 use Rattle.apd_past.proofs.CatchingUp.{had_all, had_loaded, quiet_more}
@@ -9,7 +9,7 @@ pub returns-in-Loaded : goal.returns-in-Loaded
 returns-in-Loaded c =
     let s = store_of c.args.live.now in
     had_loaded s c.args.at c.notes.next c.in-Loaded.cells c.in-Loaded.variables c.requires.sound
-    (subst (IsStep s c.notes.next) c.in-Loaded.is (step_at s c.args.live.now.notes.now c.notes.next _ refl c.notes-test.true)) c.notes.invariant.quiet
+    (subst (IsStep s c.notes.next) (sym c.get.ensures ∙ c.in-Loaded.is) (step_at s c.args.live.now.notes.now c.notes.next c.index-live-next.result refl c.notes-test.true)) c.notes.invariant.quiet
 
 pub notes-preserved : goal.notes-preserved
 notes-preserved c =
@@ -17,7 +17,7 @@ notes-preserved c =
     record {
       within = omega (arith, c.notes-test.true);
       quiet = quiet_more s c.args.at c.notes.next c.in-Bound.field-0 c.in-Bound.field-1 c.requires.sound
-          (subst (IsStep s c.notes.next) c.in-Bound.is (step_at s c.args.live.now.notes.now c.notes.next _ refl c.notes-test.true)) c.notes.invariant.quiet;
+          (subst (IsStep s c.notes.next) (sym c.get.ensures ∙ c.in-Bound.is) (step_at s c.args.live.now.notes.now c.notes.next c.index-live-next.result refl c.notes-test.true)) c.notes.invariant.quiet;
     }
 
 pub returns : goal.returns

@@ -1,10 +1,11 @@
-use Rattle.std.proofs.Common.{◌≡◌, ◌+◌, ap, get_or, length, subst, sym, refl, arith, ◌∙◌, inl, inr}
+use Rattle.std.proofs.Common.{◌≡◌, ◌∷◌, ◌+◌, ap, get_or, length, subst, sym, refl, arith, ◌∙◌, inl, inr}
 use Rattle.apd_cells.specs.Stored.{Stored}
 use Rattle.apd_cells.specs.Store.{MayBind}
 use Rattle.apd_cells.proofs.Following.{viewed}
 use Rattle.apd_cells.proofs.Sizing.{sized_bound}
 use Rattle.apd_cells.proofs.Touching.{heap_bound, marked_bound_by}
 use Rattle.apd_cells.specs.declared.heap.Binding.TheVariants.{At}
+use Rattle.apd_cells.specs.declared.heap.Note.TheVariants.{Bound}
 use Rattle.std.proofs.lemmas.List.{length-set}
 use Rattle.apd_term.specs.declared.term.Sym.TheVariants.{Var}
 use Rattle.apd_cells.specs.Flat.{compound_count, compound_in, AreShort}
@@ -15,17 +16,19 @@ pub invariant_of-self-2 : goal.invariant_of-self-2
 invariant_of-self-2 c =
     let may : MayBind c.self.inside.cells.items (length c.self.inside.bindings.items) c.self.inside.trail c.args.v c.args.to =
     subst (λ (s : Stored). MayBind s.cells s.variables s.trail c.args.v c.args.to) (sym c.self.view_is) c.requires in
-    let count : c.len-count.result ≡ length c.self.inside.bindings.items = omega arith in (
-      heap_bound c.self.inside.cells.items c.self.inside.bindings.items c.self.inside.trail c.push.new.self c.args.v c.args.to c.self.invariant.0 may c.in_ok-push.ensures.ok,
+    let count : c.len-count.result ≡ length c.self.inside.bindings.items = omega arith in
+    let pushed : c.push.new.self ≡ Bound c.args.v c.args.to ∷ c.self.inside.trail = c.in_ok-push.ensures.ok ∙ ap (λ n. n ∷ c.self.inside.trail) c.in_ok-note.ensures.note in
+    rw c.at.ensures (
+      heap_bound c.self.inside.cells.items c.self.inside.bindings.items c.self.inside.trail c.push.new.self c.args.v c.args.to c.self.invariant.0 may pushed,
       marked_bound_by c.self.inside.cells.items (length c.self.inside.bindings.items) c.self.inside.trail c.push.new.self c.self.inside.touched _ c.above_term-above.result
-          c.self.inside.front c.args.v c.args.to c.self.invariant.0.kept c.self.invariant.1 may.inside c.in_ok-push.ensures.ok c.greater-self-inside.ensures
+          c.self.inside.front c.args.v c.args.to c.self.invariant.0.kept c.self.invariant.1 may.inside pushed c.greater-self-inside.ensures
           (elim c.above_term-above.ensures [ inl p ↦ inl p | inr q ↦ inr (q ∙ count) ]),
       compound_bound c.self.inside.cells.items c.self.inside.trail c.push.new.self c.args.v c.args.to c.self.inside.compounds c.compound_at-compound.result
-          may.inside c.self.invariant.2 c.in_ok-push.ensures.ok (c.compound_at-compound.ensures ∙ ap (λ xs. compound_in (get_or xs c.args.to (Var 0))) c.as_slice.ensures.value),
-      subst (λ z. AreShort c.self.inside.cells.items z c.self.inside.longest) (sym c.in_ok-push.ensures.ok) c.self.invariant.3,
+          may.inside c.self.invariant.2 pushed (c.compound_at-compound.ensures ∙ ap (λ xs. compound_in (get_or xs c.args.to (Var 0))) c.as_slice.ensures.value),
+      subst (λ z. AreShort c.self.inside.cells.items z c.self.inside.longest) (sym pushed) c.self.invariant.3,
       sized_bound (viewed c.self.inside.cells.items c.self.inside.bindings.items c.self.inside.trail) _ c.args.v c.args.to
           c.self.inside.ground_terms c.self.inside.open_terms c.forget_above.new.known
-          (rw (c.in_ok-push.ensures.ok, length-set c.self.inside.bindings.items c.args.v (At c.args.to)) refl) c.self.invariant.4
+          (rw (pushed, length-set c.self.inside.bindings.items c.args.v (At c.args.to)) refl) c.self.invariant.4
           (c.forget_above.ensures (viewed c.self.inside.cells.items c.self.inside.bindings.items c.self.inside.trail)),
     )
 
@@ -35,5 +38,5 @@ overflow_add-self c =
     subst (λ (s : Stored). MayBind s.cells s.variables s.trail c.args.v c.args.to) (sym c.self.view_is) c.requires in
     let later : c.self.inside.compounds + c.compound_at-compound.result ≡ compound_count c.self.inside.cells.items c.push.new.self =
     compound_bound c.self.inside.cells.items c.self.inside.trail c.push.new.self c.args.v c.args.to c.self.inside.compounds c.compound_at-compound.result
-    may.inside c.self.invariant.2 c.in_ok-push.ensures.ok (c.compound_at-compound.ensures ∙ ap (λ xs. compound_in (get_or xs c.args.to (Var 0))) c.as_slice.ensures.value) in
+    may.inside c.self.invariant.2 (c.in_ok-push.ensures.ok ∙ ap (λ n. n ∷ c.self.inside.trail) c.in_ok-note.ensures.note) (c.compound_at-compound.ensures ∙ ap (λ xs. compound_in (get_or xs c.args.to (Var 0))) c.as_slice.ensures.value) in
     omega (arith, later, compounds_within c.self.inside.cells.items c.push.new.self, c.len-notes.ensures, c.len-notes.type_inv)

@@ -1,4 +1,4 @@
-use Rattle.std.proofs.Common.{◌≡◌, ◌-◌, ◌∙◌, length, arith, refl, sym}
+use Rattle.std.proofs.Common.{◌≡◌, ◌∷◌, ◌-◌, ◌∙◌, ap, length, arith, refl, sym}
 use Rattle.std.specs.Prelude.{max}
 use Rattle.apd_term.specs.Term.{spell}
 use Rattle.apd_term.specs.Canonical.{shifted}
@@ -15,7 +15,7 @@ invariant_of-self-2 c =
     let f : c.len-variables.result ≡ length c.self.inside.bindings.items = omega arith in
     let longest : c.greater-self-inside.result ≡ max c.self.inside.longest (length c.append.new.cells.items - length c.self.inside.cells.items) =
     omega (arith, c.greater-self-inside.ensures) in
-    let g = c.in_ok-push.ensures.ok ∙ rw (e, f) refl in (
+    let g = c.in_ok-push.ensures.ok ∙ ap (λ n. n ∷ c.self.inside.trail) c.in_ok-note.ensures ∙ rw (e, f) refl in (
       heap_loaded c.self.inside.cells.items c.append.new.cells.items c.self.inside.bindings.items c.append.new.bindings.items
           c.self.inside.trail c.push.new.self c.args.t.now c.args.base
           c.self.invariant.0 c.in_default.ensures.cells c.in_default.ensures.variables c.in_default.ensures.more g,

@@ -1,4 +1,4 @@
-use Rattle.std.proofs.Common.{◌≡◌, ◌∷◌, ◌∙◌, ap, arith, get_or, length, refl, subst}
+use Rattle.std.proofs.Common.{◌≡◌, ◌∷◌, ◌∙◌, ap, arith, get_or, length, refl, subst, sym}
 use Rattle.std.proofs.lemmas.List.{length-set}
 use Rattle.apd_term.specs.declared.term.Sym.TheVariants.{Var}
 use Rattle.apd_cells.proofs.Following.{viewed}
@@ -11,41 +11,42 @@ use Rattle.apd_cells.specs.declared.heap.Binding.TheVariants.{Free}
 use Rattle.apd_cells.specs.declared.heap.Note.TheVariants.{Bound, Loaded}
 use Rattle.apd_cells.proofs.heap.Heap.undo_note.Goals as goal
 
-pub invariant_of-self-in-Some-Loaded : goal.invariant_of-self-in-Some-Loaded
-invariant_of-self-in-Some-Loaded c =
-    let newest = c.in-Some-Loaded.ensures ∙ ap (λ n. n ∷ c.pop.new.self) c.in-Some-Loaded.field-0-is in
+pub invariant_of-self-in-Loaded : goal.invariant_of-self-in-Loaded
+invariant_of-self-in-Loaded c =
+    let newest : c.self.inside.trail ≡ Loaded c.in-Loaded.cells c.in-Loaded.variables ∷ c.pop.new.self = c.in-Some.ensures ∙ ap (λ n. n ∷ c.pop.new.self) (sym c.get.ensures ∙ c.in-Loaded.is) in
     let here = viewed c.self.inside.cells.items c.self.inside.bindings.items c.self.inside.trail in (
-      rw (c.truncate.ensures.items, c.truncate-in-Some-Loaded.ensures.items)
+      rw (c.truncate.ensures.items, c.truncate-in-Loaded.ensures.items)
           (heap_before_load c.self.inside.cells.items c.self.inside.bindings.items c.self.inside.trail c.pop.new.self
-          c.in-Some-Loaded.cells c.in-Some-Loaded.variables c.self.invariant.0 newest),
+          c.in-Loaded.cells c.in-Loaded.variables c.self.invariant.0 newest),
       rw c.truncate.ensures.items
           (marked_unloaded_by c.self.inside.cells.items (length c.self.inside.bindings.items) c.self.inside.trail c.pop.new.self c.self.inside.touched _
-          c.in-Some-Loaded.cells c.in-Some-Loaded.variables c.self.inside.front _
+          c.in-Loaded.cells c.in-Loaded.variables c.self.inside.front _
           c.self.invariant.0.kept c.self.invariant.1 newest refl c.smaller-self-inside.ensures),
       c.self.invariant.2 ∙ ap (compound_count c.self.inside.cells.items) newest ∙ rw c.truncate.ensures.items refl,
-      rw c.truncate.ensures.items (short_unloaded c.self.inside.cells.items c.self.inside.trail c.pop.new.self c.in-Some-Loaded.cells c.in-Some-Loaded.variables c.self.inside.longest newest c.self.invariant.3),
-      rw (c.truncate.ensures.items, c.truncate-in-Some-Loaded.ensures.items)
-          (sized_before here _ (Loaded c.in-Some-Loaded.cells c.in-Some-Loaded.variables) c.pop.new.self
+      rw c.truncate.ensures.items (short_unloaded c.self.inside.cells.items c.self.inside.trail c.pop.new.self c.in-Loaded.cells c.in-Loaded.variables c.self.inside.longest newest c.self.invariant.3),
+      rw (c.truncate.ensures.items, c.truncate-in-Loaded.ensures.items)
+          (sized_before here _ (Loaded c.in-Loaded.cells c.in-Loaded.variables) c.pop.new.self
           c.self.inside.ground_terms c.self.inside.open_terms c.forget_since.new.known c.forget_since-2.new.known newest
           (before_load here c.self.inside.cells.items c.self.inside.bindings.items c.self.inside.trail c.pop.new.self
-          c.in-Some-Loaded.cells c.in-Some-Loaded.variables refl c.self.invariant.0 newest)
+          c.in-Loaded.cells c.in-Loaded.variables refl c.self.invariant.0 newest)
           c.self.invariant.4 (forgets here c.len-notes.result c.self.inside.ground_terms c.forget_since.new.known c.len-notes.ensures c.forget_since.ensures) (forgets here c.len-notes.result c.self.inside.open_terms c.forget_since-2.new.known c.len-notes.ensures c.forget_since-2.ensures)),
     )
 
-pub invariant_of-self-in-Some-Bound : goal.invariant_of-self-in-Some-Bound
-invariant_of-self-in-Some-Bound c =
-    let newest : c.self.inside.trail ≡ Bound c.in-Some-Bound.v c.in-Some-Bound.to ∷ c.pop.new.self = c.in-Some-Bound.ensures ∙ ap (λ n. n ∷ c.pop.new.self) c.in-Some-Bound.field-0-is in
-    let here = viewed c.self.inside.cells.items c.self.inside.bindings.items c.self.inside.trail in (
-      heap_unbound c.self.inside.cells.items c.self.inside.bindings.items c.self.inside.trail c.pop.new.self c.in-Some-Bound.v c.in-Some-Bound.to c.self.invariant.0 newest,
-      marked_unbound c.self.inside.cells.items c.self.inside.trail c.pop.new.self c.self.inside.touched c.in-Some-Bound.v c.in-Some-Bound.to c.self.inside.front c.self.invariant.1 newest,
+pub invariant_of-self-in-Bound : goal.invariant_of-self-in-Bound
+invariant_of-self-in-Bound c =
+    let newest : c.self.inside.trail ≡ Bound c.in-Bound.v c.in-Bound.to ∷ c.pop.new.self = c.in-Some.ensures ∙ ap (λ n. n ∷ c.pop.new.self) (sym c.get.ensures ∙ c.in-Bound.is) in
+    let here = viewed c.self.inside.cells.items c.self.inside.bindings.items c.self.inside.trail in
+    rw c.free.ensures (
+      heap_unbound c.self.inside.cells.items c.self.inside.bindings.items c.self.inside.trail c.pop.new.self c.in-Bound.v c.in-Bound.to c.self.invariant.0 newest,
+      marked_unbound c.self.inside.cells.items c.self.inside.trail c.pop.new.self c.self.inside.touched c.in-Bound.v c.in-Bound.to c.self.inside.front c.self.invariant.1 newest,
       omega (
         arith,
         c.self.invariant.2,
         ap (compound_count c.self.inside.cells.items) newest,
-        c.compound_at.ensures ∙ ap (λ xs. compound_in (get_or xs c.in-Some-Bound.to (Var 0))) c.as_slice.ensures.value,
+        c.compound_at.ensures ∙ ap (λ xs. compound_in (get_or xs c.in-Bound.to (Var 0))) c.as_slice.ensures.value,
       ),
       subst (λ z. AreShort c.self.inside.cells.items z c.self.inside.longest) newest c.self.invariant.3,
-      sized_before here _ (Bound c.in-Some-Bound.v c.in-Some-Bound.to) c.pop.new.self c.self.inside.ground_terms c.self.inside.open_terms c.forget_since.new.known c.forget_since-2.new.known
-          newest (rw (newest, length-set c.self.inside.bindings.items c.in-Some-Bound.v Free) refl) c.self.invariant.4 (forgets here c.len-notes.result c.self.inside.ground_terms c.forget_since.new.known c.len-notes.ensures c.forget_since.ensures)
+      sized_before here _ (Bound c.in-Bound.v c.in-Bound.to) c.pop.new.self c.self.inside.ground_terms c.self.inside.open_terms c.forget_since.new.known c.forget_since-2.new.known
+          newest (rw (newest, length-set c.self.inside.bindings.items c.in-Bound.v Free) refl) c.self.invariant.4 (forgets here c.len-notes.result c.self.inside.ground_terms c.forget_since.new.known c.len-notes.ensures c.forget_since.ensures)
           (forgets here c.len-notes.result c.self.inside.open_terms c.forget_since-2.new.known c.len-notes.ensures c.forget_since-2.ensures),
     )

@@ -38,7 +38,7 @@ pub returns-in_default-2-clause-enters : goal.returns-in_default-2-clause-enters
 returns-in_default-2-clause-enters c = λ g calls.
     enters_back c.args.self.now.store c.args.self.now.links c.args.self.now.innermost c.args.self.now.branches (frames_of c.args.self.now) refl c.requires.framed g c.args.rule.now c.args.clause c.args.point
     c.in-Some.goal c.in_ok-head.ensures.answer.variant c.undo.new.self c.in-Some.ensures c.instantiate.ensures.numbered c.in_ok-head.ensures.answer.renamed
-    (no_instance c.instantiate.new.goals.items c.in_ok-head.field-0 c.args.self.now.store c.instantiate.new.store c.in-Some.goal.0 c.in_ok-head.ensures.answer.variant c.in_default-2.not-Some c.in_ok-head.ensures.answer.is)
+    (no_instance c.instantiate.new.made.goals.items c.in_ok-head.field-0 c.args.self.now.store c.instantiate.new.store c.in-Some.goal.0 c.in_ok-head.ensures.answer.variant c.in_default-2.not-Some c.in_ok-head.ensures.answer.is)
     (undone c.args.self.now.store c.instantiate.new.store c.undo.new.self c.mark-mark.result.0 c.instantiate.ensures.kept c.mark-mark.ensures c.undo.ensures)
 
 pub goal_depth-depth-requires : goal.goal_depth-depth-requires
@@ -54,7 +54,7 @@ pub returns-clause-framed : goal.returns-clause-framed
 returns-clause-framed c =
     let i : Instance = instance_of c.in-Some-2.head c.as_slice-goals.result.now in
     let inst : IsInstantiated i c.args.self.now.store c.instantiate.new.store c.in-Some.goal.0 c.in_ok-head.ensures.answer.variant =
-    instance_there c.instantiate.new.goals.items c.as_slice-goals.result.now c.in_ok-head.field-0 c.in-Some-2.head c.args.self.now.store c.instantiate.new.store c.in-Some.goal.0 c.in_ok-head.ensures.answer.variant
+    instance_there c.instantiate.new.made.goals.items c.as_slice-goals.result.now c.in_ok-head.field-0 c.in-Some-2.head c.args.self.now.store c.instantiate.new.store c.in-Some.goal.0 c.in_ok-head.ensures.answer.variant
     c.as_slice-goals.ensures.value c.in-Some-2.is c.in_ok-head.ensures.answer.is in
     let g : Called = record { box_no = c.args.box_no; caller = 0; depth = c.goal_depth-depth.result; atom = variable 0 } in
     (entered_framed c.args.self.now.store c.args.self.now.links c.args.self.now.innermost c.args.self.now.branches (frames_of c.args.self.now) refl c.requires.framed g c.args.rule.now c.args.clause c.args.point c.instantiate.new.store c.instantiate.ensures.kept c.instantiate.ensures.cells
@@ -65,7 +65,7 @@ pub returns-clause-enters : goal.returns-clause-enters
 returns-clause-enters c = λ g calls.
     let i : Instance = instance_of c.in-Some-2.head c.as_slice-goals.result.now in
     let inst : IsInstantiated i c.args.self.now.store c.instantiate.new.store c.in-Some.goal.0 c.in_ok-head.ensures.answer.variant =
-    instance_there c.instantiate.new.goals.items c.as_slice-goals.result.now c.in_ok-head.field-0 c.in-Some-2.head c.args.self.now.store c.instantiate.new.store c.in-Some.goal.0 c.in_ok-head.ensures.answer.variant
+    instance_there c.instantiate.new.made.goals.items c.as_slice-goals.result.now c.in_ok-head.field-0 c.in-Some-2.head c.args.self.now.store c.instantiate.new.store c.in-Some.goal.0 c.in_ok-head.ensures.answer.variant
     c.as_slice-goals.ensures.value c.in-Some-2.is c.in_ok-head.ensures.answer.is in
     (enters_so c.args.self.now.store c.args.self.now.links c.args.self.now.innermost c.args.self.now.branches (frames_of c.args.self.now) refl c.requires.framed g c.args.rule.now c.args.clause c.args.point c.instantiate.new.store c.instantiate.ensures.kept c.instantiate.ensures.cells
     c.in-Some.goal i c.in_ok-head.ensures.answer.variant (link_of c.entered-link.result) c.push.new.self c.in_ok-self.field-0

@@ -1,4 +1,4 @@
-use Rattle.std.proofs.Common.{◌+◌, refl, subst, sym}
+use Rattle.std.proofs.Common.{◌+◌, ◌∙◌, refl, subst, sym}
 use Rattle.apd_cells.specs.declared.heap.Note.TheVariants.{Bound, Loaded}
 use Rattle.apd_cells.specs.Store.{at_mark}
 use Rattle.apd_past.specs.Follows.{Follows}
@@ -11,7 +11,7 @@ pub bind-requires : goal.bind-requires
 bind-requires c =
     let s = store_of c.args.live.now in
     let p : IsStep s c.args.at (Bound c.in-Bound.v c.in-Bound.to) =
-    subst (IsStep s c.args.at) c.in-Bound.is (step_at s c.args.live.now.notes.now c.args.at _ refl c.requires.there) in
+    subst (IsStep s c.args.at) (sym c.get.ensures ∙ c.in-Bound.is) (step_at s c.args.live.now.notes.now c.args.at c.index-live-at.result refl c.requires.there) in
     record {
       store = at_mark c.args.at s;
       sound = sound_at_mark c.args.at s c.requires.sound;
@@ -23,7 +23,7 @@ pub returns-in_ok-bind-in-Bound-clause-follows : goal.returns-in_ok-bind-in-Boun
 returns-in_ok-bind-in-Bound-clause-follows c =
     let s = store_of c.args.live.now in
     let p : IsStep s c.args.at (Bound c.in-Bound.v c.in-Bound.to) =
-    subst (IsStep s c.args.at) c.in-Bound.is (step_at s c.args.live.now.notes.now c.args.at _ refl c.requires.there) in
+    subst (IsStep s c.args.at) (sym c.get.ensures ∙ c.in-Bound.is) (step_at s c.args.live.now.notes.now c.args.at c.index-live-at.result refl c.requires.there) in
     subst (Follows c.bind.new.self) (sym (binding_step s c.args.at c.in-Bound.v c.in-Bound.to c.requires.sound p).made)
     (c.in_ok-bind-in-Bound.ensures.follows (at_mark c.args.at s) c.requires.follows)
 
@@ -31,7 +31,7 @@ pub symbols_between-symbols-requires : goal.symbols_between-symbols-requires
 symbols_between-symbols-requires c =
     let s = store_of c.args.live.now in
     let p : IsStep s c.args.at (Loaded c.in-Loaded.cells c.in-Loaded.field-1) =
-    subst (IsStep s c.args.at) c.in-Loaded.is (step_at s c.args.live.now.notes.now c.args.at _ refl c.requires.there) in
+    subst (IsStep s c.args.at) (sym c.get.ensures ∙ c.in-Loaded.is) (step_at s c.args.live.now.notes.now c.args.at c.index-live-at.result refl c.requires.there) in
     record {
       from = loaded_within s c.args.at c.in-Loaded.cells c.in-Loaded.field-1 c.had_at-had.result c.requires.sound p c.had_at-had.ensures;
       to = had_within s (c.args.at + 1) c.had_at-had.result c.had_at-had.ensures;
@@ -41,7 +41,7 @@ pub load-requires : goal.load-requires
 load-requires c =
     let s = store_of c.args.live.now in
     let p : IsStep s c.args.at (Loaded c.in-Loaded.cells c.in-Loaded.field-1) =
-    subst (IsStep s c.args.at) c.in-Loaded.is (step_at s c.args.live.now.notes.now c.args.at _ refl c.requires.there) in
+    subst (IsStep s c.args.at) (sym c.get.ensures ∙ c.in-Loaded.is) (step_at s c.args.live.now.notes.now c.args.at c.index-live-at.result refl c.requires.there) in
     let l =
     loading s c.args.at c.in-Loaded.cells c.in-Loaded.field-1 c.had_at-had.result c.symbols_between-symbols.result.now c.requires.sound p
     c.had_at-had.ensures c.symbols_between-symbols.ensures in
@@ -56,7 +56,7 @@ pub returns-in_ok-load-in-Loaded-clause-follows : goal.returns-in_ok-load-in-Loa
 returns-in_ok-load-in-Loaded-clause-follows c =
     let s = store_of c.args.live.now in
     let p : IsStep s c.args.at (Loaded c.in-Loaded.cells c.in-Loaded.field-1) =
-    subst (IsStep s c.args.at) c.in-Loaded.is (step_at s c.args.live.now.notes.now c.args.at _ refl c.requires.there) in
+    subst (IsStep s c.args.at) (sym c.get.ensures ∙ c.in-Loaded.is) (step_at s c.args.live.now.notes.now c.args.at c.index-live-at.result refl c.requires.there) in
     let l =
     loading s c.args.at c.in-Loaded.cells c.in-Loaded.field-1 c.had_at-had.result c.symbols_between-symbols.result.now c.requires.sound p
     c.had_at-had.ensures c.symbols_between-symbols.ensures in

@@ -11,15 +11,15 @@ returns-in_default-clause-present c =
 
 pub push-requires : goal.push-requires
 push-requires c =
-    first_below c.self.inside.cells.items c.self.inside.deeds.variables c.self.inside.deeds.deeds c.self.inside.bound c.in-Some.variable.now (drop 1 c.self.inside.bound)
+    first_below c.self.inside.cells c.self.inside.deeds.variables c.self.inside.deeds.deeds c.self.inside.bound c.in-Some.variable.now (drop 1 c.self.inside.bound)
     c.self.invariant c.in-Some.ensures
 
 pub invariant_of-self-2 : goal.invariant_of-self-2
 invariant_of-self-2 c =
     let f =
-    past_first c.self.inside.cells.items c.self.inside.deeds.variables c.self.inside.deeds.deeds c.self.inside.bound c.in-Some.variable.now (drop 1 c.self.inside.bound)
+    past_first c.self.inside.cells c.self.inside.deeds.variables c.self.inside.deeds.deeds c.self.inside.bound c.in-Some.variable.now (drop 1 c.self.inside.bound)
     c.self.invariant c.in-Some.ensures in
     let v = c.in-Some.variable.now in
-    subst (λ (d : Done). IsPast c.self.inside.cells.items d.variables d.deeds c.pop.new.self) (sym (c.in_ok-push.ensures.ok ∙ ap (with_deed c.self.inside.deeds v) c.none.ensures))
-    (past_done c.self.inside.cells.items c.self.inside.deeds.variables c.self.inside.deeds.deeds _ c.self.inside.bound c.pop.new.self v None c.self.invariant
+    subst (λ (d : Done). IsPast c.self.inside.cells d.variables d.deeds c.pop.new.self) (sym (c.in_ok-push.ensures.ok ∙ ap (with_deed c.self.inside.deeds v) c.none.ensures))
+    (past_done c.self.inside.cells c.self.inside.deeds.variables c.self.inside.deeds.deeds _ c.self.inside.bound c.pop.new.self v None c.self.invariant
     (f.cell, f.is) refl (left_of c.pop.result c.self.inside.bound c.pop.new.self v (drop 1 c.self.inside.bound) c.pop.ensures c.in-Some.ensures ∙ f.rest))

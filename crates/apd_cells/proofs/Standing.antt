@@ -1,0 +1,303 @@
+-- What stands for the variables of a clause, while terms of it are put behind the cells.
+use Rattle.std.proofs.Common.{◌≡◌, ◌≢◌, inl, inr, ℕ, zero, suc, ◌+◌, ◌<◌, ◌≤◌, ◌==◌, if◌then◌else◌, List, [], ◌∷◌, ◌++◌, length, get_or, map, take, set, refl, sym, ◌∙◌, ap, subst, arith, append_assoc}
+use Rattle.std.specs.List.{flat_map}
+use Rattle.std.proofs.Math.Seq.{get_or-append_seam}
+use Rattle.std.proofs.lemmas.Bool.{cases_eq}
+use Rattle.std.proofs.lemmas.Bool.Decides.{nat_tests}
+use Rattle.std.proofs.lemmas.List.{append-nil, get_or_append_left, get_or-set_same, get_or-set_other, length-append, map-append, take_all, take_more}
+use Rattle.std.proofs.lemmas.List.Concat.{flat_map-append}
+use Rattle.apd_term.specs.declared.term.Sym.{Sym}
+use Rattle.apd_term.specs.declared.term.Sym.TheVariants.{Var, Int, Fun}
+use Rattle.apd_term.specs.Term.{Term, variable, apply, spell, variables, arity_of, IsAmong, Occurs}
+use Rattle.apd_term.specs.Spelling.{image, variable_in}
+use Rattle.apd_term.specs.Canonical.{shifted}
+use Rattle.apd_term.proofs.Among.{IsAmong-left, IsAmong-right, IsAmong-append}
+use Rattle.apd_term.proofs.Applying.{apply-same, apply-variable}
+use Rattle.apd_term.proofs.Spelling.{spell-apply, flat_map-variables}
+use Rattle.apd_cells.specs.Slots.{slot_at, cell_of, IsSet, HasRoom, HasSet, IsSingle, IsOwn, IsSlot, AreSlots, IsNewer, AreNewer, put_symbol, single_term, put_for, Places, HasPlaced}
+use Rattle.apd_cells.specs.Store.{above}
+use Rattle.apd_cells.specs.declared.slots.Slot.{Slot}
+use Rattle.apd_cells.specs.declared.slots.Slot.TheVariants.{New, Own, Given}
+use Rattle.apd_cells.proofs.Appending.{above-append, front_of}
+use Rattle.apd_cells.proofs.Loading.{above-ge, above-gt}
+
+new_one : (xs : List Slot) (v : ℕ) → slot_at (xs ++ New ∷ []) v ≡ slot_at xs v
+new_one [] zero = refl
+new_one [] (suc v) = refl
+new_one (x ∷ xs) zero = refl
+new_one (x ∷ xs) (suc v) = new_one xs v
+
+pub room_one : (old mid new : List Slot) → HasRoom old mid → new ≡ mid ++ New ∷ [] → HasRoom old new
+room_one old mid new h e = λ v. ap (λ s. slot_at s v) e ∙ new_one mid v ∙ h v
+
+pub set_at : (old mid : List Slot) (v : ℕ) (x : Slot) → HasRoom old mid → v < length mid → HasSet old (set mid v x) v x
+set_at old mid v x h l = record {
+  here = get_or-set_same mid v x New l;
+  others = λ w n. get_or-set_other mid v w x New (λ e. n (sym e)) ∙ h w;
+}
+
+-- more cells
+pub single_more : (cells more : List Sym) (c : ℕ) → IsSingle cells c → IsSingle (cells ++ more) c
+single_more cells more c h = record {
+  inside = omega (arith, h.inside, length-append cells more);
+  one = ap arity_of (get_or_append_left cells more (Var 0) c h.inside) ∙ h.one;
+}
+
+own_more : (cells more : List Sym) (n n' : ℕ) (owner : ℕ → ℕ) (v c : ℕ) → c < length cells → n ≤ n' → IsOwn cells n owner v c → IsOwn (cells ++ more) n' owner v c
+own_more cells more n n' owner v c i l h = record {
+  number = h.number;
+  is = get_or_append_left cells more (Var 0) c i ∙ h.is;
+  below = omega (arith, h.below);
+  owned = h.owned;
+}
+
+slot_more : (cells more : List Sym) (n n' : ℕ) (owner : ℕ → ℕ) (v : ℕ) (x : Slot) → n ≤ n' → IsSlot cells n owner v x → IsSlot (cells ++ more) n' owner v x
+slot_more cells more n n' owner v New l h = tt
+slot_more cells more n n' owner v (Own c) l h = (single_more cells more c h.0, own_more cells more n n' owner v c h.0.inside l h.1)
+slot_more cells more n n' owner v (Given c) l h = single_more cells more c h
+
+pub slots_more : (cells more : List Sym) (n n' : ℕ) (slots : List Slot) → n ≤ n' → AreSlots cells n slots → AreSlots (cells ++ more) n' slots
+slots_more cells more n n' slots l h = record {
+  owner = h.owner;
+  each = λ v. slot_more cells more n n' h.owner v (slot_at slots v) l (h.each v);
+}
+
+single_of : (cells : List Sym) (n : ℕ) (owner : ℕ → ℕ) (v : ℕ) (x : Slot) → IsSlot cells n owner v x → IsSet x → IsSingle cells (cell_of x)
+single_of cells n owner v New h s = absurd s
+single_of cells n owner v (Own c) h s = h.0
+single_of cells n owner v (Given c) h s = h
+
+-- a slot that is set is of a cell
+pub single_at : (cells : List Sym) (n : ℕ) (slots : List Slot) (v : ℕ) → AreSlots cells n slots → IsSet (slot_at slots v) → IsSingle cells (cell_of (slot_at slots v))
+single_at cells n slots v h s = single_of cells n h.owner v (slot_at slots v) (h.each v) s
+
+newer_same : (n : ℕ) (cells : List Sym) (x : Slot) → IsNewer n cells x x
+newer_same n cells New = tt
+newer_same n cells (Own c) = refl
+newer_same n cells (Given c) = refl
+
+pub newer_self : (n : ℕ) (cells : List Sym) (slots : List Slot) → AreNewer n cells slots slots
+newer_self n cells slots = λ v. newer_same n cells (slot_at slots v)
+
+stays : (n : ℕ) (cells : List Sym) (x y : Slot) → IsNewer n cells x y → IsSet x → y ≡ x
+stays n cells New y h s = absurd s
+stays n cells (Own c) y h s = h
+stays n cells (Given c) y h s = h
+
+newer_then : (cells more : List Sym) (n m k : ℕ) (owner : ℕ → ℕ) (v : ℕ) (a b c : Slot) → n ≤ m → IsSlot cells k owner v b → IsNewer n cells a b → IsNewer m (cells ++ more) b c
+    → IsNewer n (cells ++ more) a c
+newer_then cells more n m k owner v New New New l s h j = tt
+newer_then cells more n m k owner v New New (Own d) l s h j = λ q e. (let r = j q e in omega arith)
+newer_then cells more n m k owner v New New (Given d) l s h j = absurd j
+newer_then cells more n m k owner v New (Own d) c l s h j =
+    subst (IsNewer n (cells ++ more) New) (sym j) (λ q e. h q (sym (get_or_append_left cells more (Var 0) d s.0.inside) ∙ e))
+newer_then cells more n m k owner v New (Given d) c l s h j = absurd h
+newer_then cells more n m k owner v (Own d) b c l s h j = stays m (cells ++ more) b c j (subst IsSet (sym h) tt) ∙ h
+newer_then cells more n m k owner v (Given d) b c l s h j = stays m (cells ++ more) b c j (subst IsSet (sym h) tt) ∙ h
+
+pub newer_trans : (cells more : List Sym) (n m k : ℕ) (a b c : List Slot) → n ≤ m → AreSlots cells k b → AreNewer n cells a b → AreNewer m (cells ++ more) b c → AreNewer n (cells ++ more) a c
+newer_trans cells more n m k a b c l s h j =
+    λ v. newer_then cells more n m k s.owner v (slot_at a v) (slot_at b v) (slot_at c v) l (s.each v) (h v) (j v)
+
+-- a symbol that is no variable is put as it is
+pub place_fixed : (cells : List Sym) (n : ℕ) (slots : List Slot) (x : Sym) → AreSlots cells n slots → ((v : ℕ) → ¬ (x ≡ Var v)) → Places cells n slots slots x x
+place_fixed cells n slots (Var v) h f = absurd (f v refl)
+place_fixed cells n slots (Int i) h f = record {
+  slots = slots_more cells (Int i ∷ []) n n slots (omega arith) h;
+  newer = newer_self n (cells ++ Int i ∷ []) slots;
+  put = refl;
+  set = λ v e. absurd (f v e);
+}
+place_fixed cells n slots (Fun g k) h f = record {
+  slots = slots_more cells (Fun g k ∷ []) n n slots (omega arith) h;
+  newer = newer_self n (cells ++ Fun g k ∷ []) slots;
+  put = refl;
+  set = λ v e. absurd (f v e);
+}
+
+var_is : (v w : ℕ) → Var v ≡ Var w → v ≡ w
+var_is v w e = cc
+
+-- what stands for a variable is put for it
+pub place_set : (cells : List Sym) (n : ℕ) (slots : List Slot) (v : ℕ) (y : Sym) → AreSlots cells n slots → IsSet (slot_at slots v) → y ≡ get_or cells (cell_of (slot_at slots v)) (Var 0)
+    → Places cells n slots slots (Var v) y
+place_set cells n slots v y h s e = record {
+  slots = slots_more cells (y ∷ []) n (above n (variable_in y)) slots (above-ge n (variable_in y)) h;
+  newer = newer_self n (cells ++ y ∷ []) slots;
+  put = e ∙ sym (get_or_append_left cells (y ∷ []) (Var 0) (cell_of (slot_at slots v)) (single_at cells n slots v h s).inside);
+  set = λ w q. subst (λ j. IsSet (slot_at slots j)) (var_is v w q) s;
+}
+
+-- the owner of one more number
+abbrev pub with_owner : (ℕ → ℕ) → ℕ → ℕ → ℕ → ℕ
+with_owner owner n v m = if m == n then v else owner m
+
+owner_same : (owner : ℕ → ℕ) (n v m : ℕ) → m ≡ n → with_owner owner n v m ≡ v
+owner_same owner n v m h = grind (arith, nat_tests)
+
+owner_other : (owner : ℕ → ℕ) (n v m : ℕ) → m ≢ n → with_owner owner n v m ≡ owner m
+owner_other owner n v m h = grind (arith, nat_tests)
+
+slot_owner : (cells : List Sym) (n : ℕ) (owner : ℕ → ℕ) (v w : ℕ) (x : Slot) → IsSlot cells n owner w x → IsSlot cells n (with_owner owner n v) w x
+slot_owner cells n owner v w New h = tt
+slot_owner cells n owner v w (Own c) h = (
+  h.0,
+  record {
+    number = h.1.number;
+    is = h.1.is;
+    below = h.1.below;
+    owned = owner_other owner n v h.1.number (λ e. (let l = h.1.below in absurd (omega arith))) ∙ h.1.owned;
+  },
+)
+slot_owner cells n owner v w (Given c) h = h
+
+-- a variable for which nothing stood has one of its own
+new_slots : (cells : List Sym) (n : ℕ) (slots new : List Slot) (v : ℕ) → AreSlots cells n slots → HasSet slots new v (Own (length cells)) → AreSlots (cells ++ Var n ∷ []) (above n (n ∷ [])) new
+new_slots cells n slots new v h k = record {
+  owner = with_owner h.owner n v;
+  each = λ w. elim (cases_eq v w) [
+    | inl e ↦ subst (IsSlot (cells ++ Var n ∷ []) (above n (n ∷ [])) (with_owner h.owner n v) w) (sym (ap (slot_at new) (sym e) ∙ k.here)) (own w e)
+    | inr d ↦ subst (IsSlot (cells ++ Var n ∷ []) (above n (n ∷ [])) (with_owner h.owner n v) w) (sym (k.others w d))
+        (slot_more cells (Var n ∷ []) n (above n (n ∷ [])) (with_owner h.owner n v) w (slot_at slots w) (above-ge n (n ∷ [])) (slot_owner cells n h.owner v w (slot_at slots w) (h.each w)))
+  ];
+}
+  where
+    there : get_or (cells ++ Var n ∷ []) (length cells) (Var 0) ≡ Var n
+    there = get_or-append_seam cells (Var n) [] (Var 0)
+
+    own : (w : ℕ) → v ≡ w → IsSlot (cells ++ Var n ∷ []) (above n (n ∷ [])) (with_owner h.owner n v) w (Own (length cells))
+    own w e = (
+      record { inside = omega (arith, length-append cells (Var n ∷ [])); one = ap arity_of there },
+      record { number = n; is = there; below = above-gt n (n ∷ []) n (inl refl); owned = owner_same h.owner n v n refl ∙ e },
+    )
+
+newer_set : (n : ℕ) (cells : List Sym) (a b : Slot) (x y : Slot) → a ≡ x → b ≡ y → IsNewer n cells x y → IsNewer n cells a b
+newer_set n cells a b x y e f h = subst (λ z. IsNewer n cells z b) (sym e) (subst (IsNewer n cells x) (sym f) h)
+
+pub place_new : (cells : List Sym) (n : ℕ) (slots new : List Slot) (v : ℕ) → AreSlots cells n slots → slot_at slots v ≡ New → HasSet slots new v (Own (length cells)) → Places cells n slots new (Var v) (Var n)
+place_new cells n slots new v h e k = record {
+  slots = new_slots cells n slots new v h k;
+  newer = λ w. elim (cases_eq v w) [
+    | inl q ↦ newer_set n (cells ++ Var n ∷ []) (slot_at slots w) (slot_at new w) New (Own (length cells)) (ap (slot_at slots) (sym q) ∙ e) (ap (slot_at new) (sym q) ∙ k.here)
+        (λ m is. (let r : n ≡ m = var_is n m (sym there ∙ is) in omega arith))
+    | inr d ↦ newer_set n (cells ++ Var n ∷ []) (slot_at slots w) (slot_at new w) (slot_at slots w) (slot_at slots w) refl (k.others w d) (newer_same n (cells ++ Var n ∷ []) (slot_at slots w))
+  ];
+  put = sym (ap (λ z. get_or (cells ++ Var n ∷ []) (cell_of z) (Var 0)) k.here ∙ there);
+  set = λ w q. subst IsSet (sym (ap (slot_at new) (sym (var_is v w q)) ∙ k.here)) tt;
+}
+  where
+    there : get_or (cells ++ Var n ∷ []) (length cells) (Var 0) ≡ Var n
+    there = get_or-append_seam cells (Var n) [] (Var 0)
+
+-- some symbols were put behind the cells
+pub record Placing (cells cells' : List Sym) (n n' : ℕ) (old new : List Slot) (xs : List Sym) : Type 0 where
+  pub put : cells' ≡ cells ++ map (put_symbol cells' new) xs
+  pub count : n' ≡ above n (flat_map variable_in (map (put_symbol cells' new) xs))
+  pub slots : AreSlots cells' n' new
+  pub newer : AreNewer n cells' old new
+  pub set : (v : ℕ) → IsAmong (flat_map variable_in xs) v → IsSet (slot_at new v)
+
+pub placing_first : (cells cells' : List Sym) (n : ℕ) (slots : List Slot) → AreSlots cells n slots → cells' ≡ cells → Placing cells cells' n n slots slots []
+placing_first cells cells' n slots h e = rw e (record {
+  put = sym (append-nil cells);
+  count = refl;
+  slots = h;
+  newer = newer_self n cells slots;
+  set = λ v m. absurd m;
+})
+
+same_put : (cells : List Sym) (y : Sym) (n : ℕ) (old new : List Slot) (k m : ℕ) (x : Sym) → AreSlots cells k old → AreNewer m (cells ++ y ∷ []) old new
+    → ((v : ℕ) → IsAmong (variable_in x) v → IsSet (slot_at old v)) → put_symbol (cells ++ y ∷ []) new x ≡ put_symbol cells old x
+same_put cells y n old new k m (Var v) h l s =
+    let set = s v (inl refl) in
+    ap (λ z. get_or (cells ++ y ∷ []) (cell_of z) (Var 0)) (stays m (cells ++ y ∷ []) (slot_at old v) (slot_at new v) (l v) set)
+    ∙ get_or_append_left cells (y ∷ []) (Var 0) (cell_of (slot_at old v)) (single_at cells k old v h set).inside
+same_put cells y n old new k m (Int i) h l s = refl
+same_put cells y n old new k m (Fun f j) h l s = refl
+
+same_puts : (cells : List Sym) (y : Sym) (n : ℕ) (old new : List Slot) (k m : ℕ) (xs : List Sym) → AreSlots cells k old → AreNewer m (cells ++ y ∷ []) old new
+    → ((v : ℕ) → IsAmong (flat_map variable_in xs) v → IsSet (slot_at old v)) → map (put_symbol (cells ++ y ∷ []) new) xs ≡ map (put_symbol cells old) xs
+same_puts cells y n old new k m [] h l s = refl
+same_puts cells y n old new k m (x ∷ xs) h l s =
+    ap (λ z. z ∷ map (put_symbol (cells ++ y ∷ []) new) xs)
+    (same_put cells y n old new k m x h l (λ v i. s v (IsAmong-left (variable_in x) (flat_map variable_in xs) v i)))
+    ∙ ap (λ zs. put_symbol cells old x ∷ zs) (same_puts cells y n old new k m xs h l (λ v i. s v (IsAmong-right (variable_in x) (flat_map variable_in xs) v i)))
+
+variable_of_one : (x : Sym) (v : ℕ) → IsAmong (variable_in x) v → x ≡ Var v
+variable_of_one (Var w) v (inl e) = ap Var e
+variable_of_one (Var w) v (inr b) = absurd b
+variable_of_one (Int i) v m = absurd m
+variable_of_one (Fun f n) v m = absurd m
+
+set_stays : (n : ℕ) (cells : List Sym) (old new : List Slot) (v : ℕ) → AreNewer n cells old new → IsSet (slot_at old v) → IsSet (slot_at new v)
+set_stays n cells old new v l s = subst IsSet (sym (stays n cells (slot_at old v) (slot_at new v) (l v) s)) s
+
+-- one more symbol
+more_put : (cells mid : List Sym) (n m : ℕ) (old ms new : List Slot) (xs : List Sym) (x y : Sym) → Placing cells mid n m old ms xs → Places mid m ms new x y
+    → Placing cells (mid ++ y ∷ []) n (above m (variable_in y)) old new (xs ++ x ∷ [])
+more_put cells mid n m old ms new xs x y h p =
+    let l : n ≤ m = omega (arith, h.count, above-ge n (flat_map variable_in (map (put_symbol mid ms) xs))) in
+    let f = put_symbol (mid ++ y ∷ []) new in
+    let same = same_puts mid y n ms new m m xs h.slots p.newer h.set in
+    let puts : map f (xs ++ x ∷ []) ≡ map (put_symbol mid ms) xs ++ y ∷ [] = map-append f xs (x ∷ []) ∙ ap (λ z. z ++ f x ∷ []) same ∙ ap (λ z. map (put_symbol mid ms) xs ++ z ∷ []) (sym p.put) in
+    record {
+      put = ap (λ z. z ++ y ∷ []) h.put ∙ append_assoc cells (map (put_symbol mid ms) xs) (y ∷ []) ∙ ap (λ z. cells ++ z) (sym puts);
+      count = ap (λ k. above k (variable_in y)) h.count
+          ∙ sym (above-append n (flat_map variable_in (map (put_symbol mid ms) xs)) (variable_in y))
+          ∙ ap (above n)
+          (ap (λ z. flat_map variable_in (map (put_symbol mid ms) xs) ++ z) (sym (append-nil (variable_in y)))
+          ∙ sym (flat_map-append variable_in (map (put_symbol mid ms) xs) (y ∷ [])) ∙ ap (flat_map variable_in) (sym puts));
+      slots = p.slots;
+      newer = newer_trans mid (y ∷ []) n m m old ms new l h.slots h.newer p.newer;
+      set = λ v i. elim (IsAmong-append (flat_map variable_in xs) (flat_map variable_in (x ∷ [])) v (subst (λ r. IsAmong r v) (flat_map-append variable_in xs (x ∷ [])) i)) [
+        | inl a ↦ set_stays m (mid ++ y ∷ []) ms new v p.newer (h.set v a)
+        | inr b ↦ p.set v (variable_of_one x v (subst (λ r. IsAmong r v) (append-nil (variable_in x)) b))
+      ];
+    }
+
+pub placing_more : (cells mid new : List Sym) (n m k : ℕ) (old ms slots : List Slot) (symbols : List Sym) (i : ℕ) (x y : Sym)
+    → Placing cells mid n m old ms (take i symbols) → i < length symbols → get_or symbols i (Var 0) ≡ x → Places mid m ms slots x y
+    → k ≡ above m (variable_in y) → new ≡ mid ++ y ∷ [] → Placing cells new n k old slots (take (i + 1) symbols)
+placing_more cells mid new n m k old ms slots symbols i x y h l e p c q =
+    let t : take (i + 1) symbols ≡ take i symbols ++ x ∷ [] = take_more symbols i (Var 0) l ∙ ap (λ z. take i symbols ++ z ∷ []) e in
+    rw (q, c, t) (more_put cells mid n m old ms slots (take i symbols) x y h p)
+
+pub placing_front : (cells new : List Sym) (n m : ℕ) (old slots : List Slot) (xs : List Sym) → Placing cells new n m old slots xs → take (length cells) new ≡ cells
+placing_front cells new n m old slots xs h = front_of cells new (map (put_symbol new slots) xs) h.put
+
+spell_single : (x : Sym) → arity_of x ≡ 0 → spell (single_term x) ≡ x ∷ []
+spell_single (Var v) e = refl
+spell_single (Int i) e = refl
+spell_single (Fun f n) e = ap (λ k. Fun f k ∷ []) (sym e)
+
+image_put : (cells : List Sym) (n : ℕ) (slots : List Slot) (x : Sym) → AreSlots cells n slots → ((v : ℕ) → IsAmong (variable_in x) v → IsSet (slot_at slots v))
+    → image (put_for cells slots) x ≡ put_symbol cells slots x ∷ []
+image_put cells n slots (Var v) h s = spell_single (get_or cells (cell_of (slot_at slots v)) (Var 0)) (single_at cells n slots v h (s v (inl refl))).one
+image_put cells n slots (Int i) h s = refl
+image_put cells n slots (Fun f k) h s = refl
+
+images_put : (cells : List Sym) (n : ℕ) (slots : List Slot) (xs : List Sym) → AreSlots cells n slots → ((v : ℕ) → IsAmong (flat_map variable_in xs) v → IsSet (slot_at slots v))
+    → flat_map (image (put_for cells slots)) xs ≡ map (put_symbol cells slots) xs
+images_put cells n slots [] h s = refl
+images_put cells n slots (x ∷ xs) h s =
+    ap (λ z. z ++ flat_map (image (put_for cells slots)) xs) (image_put cells n slots x h (λ v i. s v (IsAmong-left (variable_in x) (flat_map variable_in xs) v i)))
+    ∙ ap (λ zs. put_symbol cells slots x ∷ zs) (images_put cells n slots xs h (λ v i. s v (IsAmong-right (variable_in x) (flat_map variable_in xs) v i)))
+
+pub shifted_zero : (t : Term) → shifted 0 t ≡ t
+shifted_zero t = apply-same (λ v. variable (0 + v)) variable (λ v. ap variable (omega arith)) t ∙ apply-variable t
+
+pub placed_all : (cells new : List Sym) (n m : ℕ) (old slots : List Slot) (symbols : List Sym) (i : ℕ) (t : Term) → Placing cells new n m old slots (take i symbols) → length symbols ≤ i → symbols ≡ spell t
+    → HasPlaced cells new n m old slots t
+placed_all cells new n m old slots symbols i t g l is =
+    let h : Placing cells new n m old slots (spell t) = subst (Placing cells new n m old slots) (take_all i symbols l ∙ is) g in
+    let set : (v : ℕ) → Occurs v t → IsSet (slot_at slots v) = λ v o. h.set v (subst (λ r. IsAmong r v) (sym (flat_map-variables t)) o) in
+    let u = apply (put_for new slots) t in
+    let e : map (put_symbol new slots) (spell t) ≡ spell (shifted 0 u) =
+    sym (images_put new m slots (spell t) h.slots h.set) ∙ sym (spell-apply (put_for new slots) t) ∙ ap spell (sym (shifted_zero u)) in
+    record {
+      put = h.put ∙ ap (λ z. cells ++ z) e;
+      count = h.count ∙ ap (above n) (ap (flat_map variable_in) e ∙ flat_map-variables (shifted 0 u));
+      slots = h.slots;
+      newer = h.newer;
+      set = set;
+    }

@@ -1,0 +1,35 @@
+use Rattle.std.proofs.Common.{◌≡◌, ◌∷◌, ◌-◌, ◌∙◌, ap, length, arith, refl, sym}
+use Rattle.std.specs.Prelude.{max}
+use Rattle.apd_term.specs.Term.{apply, spell, term_of}
+use Rattle.apd_term.specs.Canonical.{shifted}
+use Rattle.apd_cells.specs.Slots.{put_for}
+use Rattle.apd_cells.proofs.Following.{viewed}
+use Rattle.apd_cells.proofs.Loading.{heap_loaded, viewed_loaded}
+use Rattle.apd_cells.proofs.Sizing.{sized_loaded}
+use Rattle.apd_cells.proofs.Touching.{marked_loaded}
+use Rattle.apd_cells.proofs.Flat.{compound_loaded, short_loaded}
+use Rattle.apd_cells.proofs.heap.Heap.load_for.Goals as goal
+
+pub invariant_of-self-2 : goal.invariant_of-self-2
+invariant_of-self-2 c =
+    let e : c.len-cells.result ≡ length c.self.inside.cells.items = omega arith in
+    let f : c.len-variables.result ≡ length c.self.inside.bindings.items = omega arith in
+    let longest : c.greater-self-inside.result ≡ max c.self.inside.longest (length c.append_for.new.cells.items - length c.self.inside.cells.items) =
+    omega (arith, c.greater-self-inside.ensures) in
+    let t = apply (put_for c.append_for.new.cells.items c.append_for.new.slots.items) (term_of c.args.symbols.now) in
+    let put = c.in_default.ensures.put in
+    let g = c.in_ok-push.ensures.ok ∙ ap (λ n. n ∷ c.self.inside.trail) c.in_ok-note.ensures ∙ rw (e, f) refl in (
+      heap_loaded c.self.inside.cells.items c.append_for.new.cells.items c.self.inside.bindings.items c.append_for.new.bindings.items
+          c.self.inside.trail c.push.new.self t 0
+          c.self.invariant.0 put.put put.count c.in_default.ensures.more g,
+      marked_loaded c.self.inside.cells.items c.append_for.new.cells.items (spell (shifted 0 t)) (length c.self.inside.bindings.items)
+          c.self.inside.trail c.push.new.self c.self.inside.touched c.self.inside.front _
+          c.self.invariant.0.kept c.self.invariant.1 put.put g (rw (e, f) refl),
+      c.self.invariant.2 ∙ sym (compound_loaded c.self.inside.cells.items c.append_for.new.cells.items c.self.inside.trail c.push.new.self _ c.in_default.ensures.front g),
+      short_loaded c.self.inside.cells.items c.append_for.new.cells.items c.self.inside.trail c.push.new.self (length c.self.inside.bindings.items) c.self.inside.longest _ c.in_default.ensures.front g
+          c.self.invariant.3 longest,
+      sized_loaded (viewed c.self.inside.cells.items c.self.inside.bindings.items c.self.inside.trail) _ t 0
+          c.self.inside.ground_terms c.self.inside.open_terms c.self.invariant.0.kept
+          (viewed_loaded (viewed c.self.inside.cells.items c.self.inside.bindings.items c.self.inside.trail) c.self.inside.cells.items c.append_for.new.cells.items
+          c.self.inside.bindings.items c.append_for.new.bindings.items c.self.inside.trail c.push.new.self t 0 refl put.put put.count g) c.self.invariant.4,
+    )

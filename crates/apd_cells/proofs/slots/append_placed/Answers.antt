@@ -1,0 +1,29 @@
+use Rattle.std.proofs.Common.{arith, get_or, refl, subst, sym}
+use Rattle.apd_term.specs.Term.{term_of}
+use Rattle.apd_term.specs.declared.term.Sym.TheVariants.{Var}
+use Rattle.apd_cells.specs.Slots.{Places}
+use Rattle.apd_cells.proofs.Standing.{placing_first, placing_more, placed_all}
+use Rattle.apd_cells.proofs.slots.append_placed.Goals as goal
+
+pub loop-symbol-init : goal.loop-symbol-init
+loop-symbol-init c = record {
+  done = placing_first c.args.cells.now.items c.reserve.new.self.items c.args.there c.args.slots.now.items c.requires.slots c.reserve.ensures.items;
+  room = omega (arith, c.in_ok-reserve.ensures.ok);
+}
+
+pub loop-symbol-preserved : goal.loop-symbol-preserved
+loop-symbol-preserved c = record {
+  done = placing_more c.args.cells.now.items c.loop-symbol.cells.items c.push_reserved.new.self.items
+      c.args.there c.loop-symbol.count c.in_ok-count.count
+      c.args.slots.now.items c.loop-symbol.slots.items c.place.new.slots.items
+      c.args.symbols.now c.loop-symbol.symbol-index (get_or c.args.symbols.now c.loop-symbol.symbol-index (Var 0)) c.in_ok-put.put
+      c.loop-symbol.invariant.done c.loop-symbol-test.true refl
+      (subst (λ cs. Places cs c.loop-symbol.count c.loop-symbol.slots.items c.place.new.slots.items (get_or c.args.symbols.now c.loop-symbol.symbol-index (Var 0)) c.in_ok-put.put) c.as_slice.ensures.value c.in_ok-put.ensures)
+      c.in_ok-count.ensures c.push_reserved.ensures.items;
+  room = omega (arith, c.loop-symbol.invariant.room, c.push_reserved.ensures.len, c.push_reserved.ensures.capacity, c.loop-symbol-test.true);
+}
+
+pub returns-clause-put : goal.returns-clause-put
+returns-clause-put c =
+    placed_all c.args.cells.now.items c.loop-symbol.cells.items c.args.there c.loop-symbol.count c.args.slots.now.items c.loop-symbol.slots.items
+    c.args.symbols.now c.loop-symbol.symbol-index (term_of c.args.symbols.now) c.loop-symbol.invariant.done c.loop-symbol-test.false (sym c.requires.whole)

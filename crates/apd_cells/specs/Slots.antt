@@ -1,0 +1,143 @@
+-- What stands for the variables of a clause while it is entered: for each nothing yet, a variable of its own, or a term
+-- that was there.
+use Rattle.std.specs.Prelude.{◌≡◌, ◌≢◌, ℕ, ◌<◌, ◌≤◌, List, [], ◌∷◌, ◌++◌, length, get_or}
+use Rattle.apd_term.specs.declared.term.Sym.{Sym}
+use Rattle.apd_term.specs.declared.term.Sym.TheVariants.{Var, Int, Fun}
+use Rattle.apd_term.specs.Term.{Term, variable, integer, compound, none, apply, spell, variables, arity_of, Occurs}
+use Rattle.apd_term.specs.Spelling.{variable_in}
+use Rattle.apd_term.specs.Canonical.{shifted}
+use Rattle.apd_cells.specs.Stored.{Stored}
+use Rattle.apd_cells.specs.Store.{above, term_at, loaded, symbol_at}
+use Rattle.apd_cells.specs.declared.slots.Slot.{Slot}
+use Rattle.apd_cells.specs.declared.slots.Slot.TheVariants.{New, Own, Given}
+
+-- what stands for a variable
+abbrev pub slot_at : List Slot → ℕ → Slot
+slot_at slots v = get_or slots v New
+
+-- the cell, 0 where there is none
+abbrev pub cell_of : Slot → ℕ
+cell_of New = 0
+cell_of (Own c) = c
+cell_of (Given c) = c
+
+abbrev pub IsSet : Slot → Type 0
+IsSet New = ⊥
+IsSet (Own c) = Unit {0}
+IsSet (Given c) = Unit {0}
+
+-- the same stands for each variable
+abbrev pub HasRoom : List Slot → List Slot → Type 0
+HasRoom old new = (v : ℕ) → slot_at new v ≡ slot_at old v
+
+-- x stands for v, and the same as before for the others
+pub record HasSet (old new : List Slot) (v : ℕ) (x : Slot) : Type 0 where
+  pub here : slot_at new v ≡ x
+  pub others : (w : ℕ) → v ≢ w → slot_at new w ≡ slot_at old w
+
+-- one symbol is written at a cell
+pub record IsSingle (cells : List Sym) (c : ℕ) : Type 0 where
+  pub inside : c < length cells
+  pub one : arity_of (get_or cells c (Var 0)) ≡ 0
+
+-- a variable is written at the cell, one of the first n, which is v's own
+pub record IsOwn (cells : List Sym) (n : ℕ) (owner : ℕ → ℕ) (v c : ℕ) : Type 0 where
+  pub number : ℕ
+  pub is : get_or cells c (Var 0) ≡ Var number
+  pub below : number < n
+  pub owned : owner number ≡ v
+
+abbrev pub IsSlot : List Sym → ℕ → (ℕ → ℕ) → ℕ → Slot → Type 0
+IsSlot cells n owner v New = Unit {0}
+IsSlot cells n owner v (Own c) = IsSingle cells c × IsOwn cells n owner v c
+IsSlot cells n owner v (Given c) = IsSingle cells c
+
+-- the slots are of cells at which one symbol is written, and no variable is two variables' own
+pub record AreSlots (cells : List Sym) (n : ℕ) (slots : List Slot) : Type 0 where
+  pub owner : ℕ → ℕ
+  pub each : (v : ℕ) → IsSlot cells n owner v (slot_at slots v)
+
+-- what stands for a variable goes on to stand for it, and one for which nothing stood may have a variable of its own that
+-- isn't one of the first n
+abbrev pub IsNewer : ℕ → List Sym → Slot → Slot → Type 0
+IsNewer n cells New New = Unit {0}
+IsNewer n cells New (Own c) = (m : ℕ) → get_or cells c (Var 0) ≡ Var m → n ≤ m
+IsNewer n cells New (Given c) = ⊥
+IsNewer n cells (Own c) x = x ≡ Own c
+IsNewer n cells (Given c) x = x ≡ Given c
+
+abbrev pub AreNewer : ℕ → List Sym → List Slot → List Slot → Type 0
+AreNewer n cells old new = (v : ℕ) → IsNewer n cells (slot_at old v) (slot_at new v)
+
+-- the same, or a term may stand for it that was there
+abbrev pub IsLater : ℕ → List Sym → Slot → Slot → Type 0
+IsLater n cells New New = Unit {0}
+IsLater n cells New (Own c) = (m : ℕ) → get_or cells c (Var 0) ≡ Var m → n ≤ m
+IsLater n cells New (Given c) = Unit {0}
+IsLater n cells (Own c) x = x ≡ Own c
+IsLater n cells (Given c) x = x ≡ Given c
+
+abbrev pub AreLater : ℕ → List Sym → List Slot → List Slot → Type 0
+AreLater n cells old new = (v : ℕ) → IsLater n cells (slot_at old v) (slot_at new v)
+
+-- the symbol that is put for one of the clause
+abbrev pub put_symbol : List Sym → List Slot → Sym → Sym
+put_symbol cells slots (Var v) = get_or cells (cell_of (slot_at slots v)) (Var 0)
+put_symbol cells slots (Int i) = Int i
+put_symbol cells slots (Fun f n) = Fun f n
+
+-- the term of one symbol
+abbrev pub single_term : Sym → Term
+single_term (Var v) = variable v
+single_term (Int i) = integer i
+single_term (Fun f n) = compound f none
+
+-- the term that is put for a variable of the clause
+abbrev pub put_for : List Sym → List Slot → ℕ → Term
+put_for cells slots v = single_term (get_or cells (cell_of (slot_at slots v)) (Var 0))
+
+-- y is put behind the cells for x, where there are n variables
+pub record Places (cells : List Sym) (n : ℕ) (old new : List Slot) (x y : Sym) : Type 0 where
+  pub slots : AreSlots (cells ++ y ∷ []) (above n (variable_in y)) new
+  pub newer : AreNewer n (cells ++ y ∷ []) old new
+  pub put : y ≡ put_symbol (cells ++ y ∷ []) new x
+  pub set : (v : ℕ) → x ≡ Var v → IsSet (slot_at new v)
+
+-- a clause's term was put behind the cells, where there were n variables and are n'
+pub record HasPlaced (cells cells' : List Sym) (n n' : ℕ) (old new : List Slot) (t : Term) : Type 0 where
+  pub put : cells' ≡ cells ++ spell (shifted 0 (apply (put_for cells' new) t))
+  pub count : n' ≡ above n (variables (shifted 0 (apply (put_for cells' new) t)))
+  pub slots : AreSlots cells' n' new
+  pub newer : AreNewer n cells' old new
+  pub set : (v : ℕ) → Occurs v t → IsSet (slot_at new v)
+
+-- a clause's term was loaded with what stands for its variables in their places
+pub record HasLoaded (s s' : Stored) (old new : List Slot) (t : Term) : Type 0 where
+  pub is : s' ≡ loaded s (apply (put_for s'.cells new) t) 0
+  pub slots : AreSlots s'.cells s'.variables new
+  pub newer : AreNewer s.variables s'.cells old new
+  pub set : (v : ℕ) → Occurs v t → IsSet (slot_at new v)
+
+-- what stands for a variable, which is variable n where nothing does
+abbrev pub value_of : Stored → ℕ → Slot → Term
+value_of s n New = variable n
+value_of s n (Own c) = term_at s c
+value_of s n (Given c) = term_at s c
+
+abbrev pub value_in : Stored → (ℕ → ℕ) → List Slot → ℕ → Term
+value_in s g slots v = value_of s (g v) (slot_at slots v)
+
+-- numbers for the variables of a clause, each another
+pub record Numbering : Type 0 where
+  pub of : ℕ → ℕ
+  pub back : ℕ → ℕ
+  pub same : (v : ℕ) → back (of v) ≡ v
+
+-- a variable has its own one's number, and one above all of the store where it has none
+abbrev pub IsNumberOf : Stored → ℕ → Slot → Type 0
+IsNumberOf s n New = s.variables ≤ n
+IsNumberOf s n (Own c) = symbol_at s c ≡ Var n
+IsNumberOf s n (Given c) = s.variables ≤ n
+
+abbrev pub Fits : Numbering → Stored → List Slot → Type 0
+Fits g s slots = (v : ℕ) → IsNumberOf s (g.of v) (slot_at slots v)

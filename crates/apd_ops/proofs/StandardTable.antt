@@ -19,7 +19,7 @@ and_second : (a b : Bool) → (a && b) ≡ true → b ≡ true
 and_second true b h = h
 and_second false b h = absurd cc
 
-all_of : (test : Entry → Bool) (es : List Entry) (e : Entry) → list_all test es ≡ true → Among e es → test e ≡ true
+pub all_of : (test : Entry → Bool) (es : List Entry) (e : Entry) → list_all test es ≡ true → Among e es → test e ≡ true
 all_of test [] e h a = absurd a
 all_of test (x ∷ xs) e h a = elim a [
   | inl same ↦ ap test (sym same) ∙ and_first (test x) (list_all test xs) h
@@ -61,10 +61,10 @@ no_clash e g all there same right left =
     not_all (e.1.0 == g.1.0) (groups_right e.1.1) (groups_left g.1.1) (eq-eqb e.1.0 g.1.0 same) right (ap groups_left left)
     (all_of (apart_from e) standard_infixes g all there)
 
-in_prefixes : (f : ℕ) (m : Meaning) → prefix_in standard_table f ≡ Some m → Among (f, m) standard_prefixes
+pub in_prefixes : (f : ℕ) (m : Meaning) → prefix_in standard_table f ≡ Some m → Among (f, m) standard_prefixes
 in_prefixes f m h = lookup_among f standard_prefixes m (sym (meaning_at standard_prefixes f) ∙ h)
 
-in_infixes : (f : ℕ) (m : Meaning) → infix_in standard_table f ≡ Some m → Among (f, m) standard_infixes
+pub in_infixes : (f : ℕ) (m : Meaning) → infix_in standard_table f ≡ Some m → Among (f, m) standard_infixes
 in_infixes f m h = lookup_among f standard_infixes m (sym (meaning_at standard_infixes f) ∙ h)
 
 pub standard_is_table : IsTable standard_table

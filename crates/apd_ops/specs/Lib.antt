@@ -1,4 +1,5 @@
 pub mod Operators
 pub mod Table
+pub mod Ending
 pub mod Standard
 pub mod Definition

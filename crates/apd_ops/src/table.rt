@@ -11,7 +11,7 @@ ghost use Rattle.apd_ops.specs.Table.{prefix_in, infix_in, IsTable, IsMade, IsRe
 use crate::op::{MOST_PRIORITY, OpFault, OpKind};
 use crate::standard::{infixes, prefixes};
 use apd_term::NameId;
-use apd_term::standard::{BAR, COMMA, CURLY, NIL};
+use apd_term::standard::{BAR, BIT_NOT, COMMA, CURLY, NIL};
 use indexmap::IndexMap;
 use std::alloc::{AllocError, Global};
 use std::marker::Model;
@@ -23,11 +23,14 @@ pub struct Ops {
     infixes: IndexMap<u32, (u16, OpKind)>,
     /// The name that a meaning was given to last.
     newest: NameId,
+    /// No name with a greater number is an operator. Most names are none, and are told so without a look into the tables.
+    last: u32,
 }
 
 impl Model for Ops {
     ghost use Rattle.std.specs.FinMap.{from_entries};
-    ghost use Rattle.apd_ops.specs.Table.{Table, table_code, IsTable};
+    ghost use Rattle.apd_ops.specs.Ending.{IsKept};
+    ghost use Rattle.apd_ops.specs.Table.{Table, table_code};
 
     ghost Value = { Table };
 
@@ -35,7 +38,7 @@ impl Model for Ops {
 
     ghost view = { λ s. record { prefixes = from_entries s.prefixes.entries; infixes = from_entries s.infixes.entries } };
 
-    ghost invariant = { λ s. IsTable (record { prefixes = from_entries s.prefixes.entries; infixes = from_entries s.infixes.entries }) };
+    ghost invariant = { λ s. IsKept s.prefixes.entries s.infixes.entries s.last };
 }
 
 fn is_fixed(name: NameId) -> bool
@@ -104,6 +107,7 @@ impl Ops {
             prefixes: prefixes(alloc)?,
             infixes: infixes(alloc)?,
             newest: COMMA,
+            last: BIT_NOT.0,
         })
     }
 
@@ -111,6 +115,9 @@ impl Ops {
     pub fn prefix(&self, name: NameId) -> Option<(u16, OpKind)>
         ensures { result ≡ prefix_in self.now name.0 }
     {
+        if name.0 > self.last {
+            return None;
+        }
         self.prefixes.get(&name.0).copied()
     }
 
@@ -118,6 +125,9 @@ impl Ops {
     pub fn infix(&self, name: NameId) -> Option<(u16, OpKind)>
         ensures { result ≡ infix_in self.now name.0 }
     {
+        if name.0 > self.last {
+            return None;
+        }
         self.infixes.get(&name.0).copied()
     }
 
@@ -162,6 +172,7 @@ impl Ops {
         ensures unchanged { OnErr result (self.new ≡ self.old) }
     {
         self.newest = name;
+        self.last = self.last.max(name.0);
         if new.1.is_prefix() {
             set_meaning(&mut self.prefixes, new, name.0)?;
         } else {

@@ -133,10 +133,10 @@ pub record Standing (ops : Table) (names : List (List ℕ)) (whole : List ℕ) (
 whole_read : (s : List Sym) → IsWhole s → read_all s ≡ term_of s ∷ []
 whole_read s is = ap read_all (sym is ∙ sym (append-nil (spell (term_of s)))) ∙ read_all-spell (term_of s) []
 
-pub Standing-start : (ops : Table) (names : List (List ℕ)) (max : ℕ) (s : List Sym) → IsWhole s → Standing ops names (written ops names (term_of s) max) [] [] (place.Whole max) s
-Standing-start ops names max s is = record {
+pub Standing-start : (ops : Table) (names : List (List ℕ)) (max : ℕ) (out : List ℕ) (s : List Sym) → IsWhole s → Standing ops names (out ++ written ops names (term_of s) max) [] out (place.Whole max) s
+Standing-start ops names max out s is = record {
   terms = rw (whole_read s is) (append-nil (spell (term_of s)) ∙ is);
-  expects = rw (whole_read s is) (record { count = refl; text = sym (append-nil (written ops names (term_of s) max)) });
+  expects = rw (whole_read s is) (record { count = refl; text = ap (λ (x : List ℕ). out ++ x) (sym (append-nil (written ops names (term_of s) max))) });
 }
 
 pub Standing-end : (ops : Table) (names : List (List ℕ)) (whole : List ℕ) (frames : List Frame) (out : List ℕ) (here : Place) (s : List Sym) → s ≡ [] → Standing ops names whole frames out here s → ⊥

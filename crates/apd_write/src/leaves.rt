@@ -5,13 +5,14 @@ ghost use Rattle.apd_write.specs.Pending.{is_negative_symbol, is_nil_symbol, is_
 ghost use Rattle.apd_write.specs.Writing.{in_parentheses};
 
 use crate::names::write_name;
+use crate::numbers::{write_integer, write_number};
 use crate::pending::Place;
 use apd_base::Text;
 use apd_ops::Ops;
 use apd_term::Sym;
 use apd_term::names::Names;
 use apd_term::standard::NIL;
-use std::alloc::{AllocError, Global};
+use std::alloc::AllocError;
 
 /// Whether the symbol is an atom that is an operator.
 fn is_operator(ops: &Ops, symbol: Sym) -> bool
@@ -33,35 +34,26 @@ fn is_negative(symbol: Sym) -> bool
 }
 
 /// Writes a variable, an integer or a name.
-fn write_symbol(alloc: Global, names: &Names, symbol: Sym, out: &mut Text) -> Result<(), AllocError>
+fn write_symbol(names: &Names, symbol: Sym, out: &mut Text) -> Result<(), AllocError>
     ensures { OnOk result (out.new ≡ out.old ++ leaf_text names.now symbol) }
 {
     match symbol {
         Sym::Var(v) => {
-            let digits = v.to_string(alloc)?;
             out.push(b'_')?;
-            out.extend(digits.as_bytes())?;
+            write_number(v, out)?;
         }
-        Sym::Int(i) => {
-            let digits = i.to_string(alloc)?;
-            out.extend(digits.as_bytes())?;
-        }
+        Sym::Int(i) => write_integer(i, out)?,
         Sym::Fun(name, _) => write_name(names.text(name), out)?,
     }
     Ok(())
 }
 
 /// Writes it in parentheses.
-fn write_enclosed(
-    alloc: Global,
-    names: &Names,
-    symbol: Sym,
-    out: &mut Text,
-) -> Result<(), AllocError>
+fn write_enclosed(names: &Names, symbol: Sym, out: &mut Text) -> Result<(), AllocError>
     ensures { OnOk result (out.new ≡ out.old ++ in_parentheses (leaf_text names.now symbol)) }
 {
     out.push(b'(')?;
-    write_symbol(alloc, names, symbol, out)?;
+    write_symbol(names, symbol, out)?;
     out.push(b')')?;
     Ok(())
 }
@@ -76,12 +68,12 @@ fn is_nil(symbol: Sym) -> bool
 }
 
 /// Writes the end of a list whose rest is the symbol: what isn't `[]` stands behind the bar.
-fn write_rest(alloc: Global, names: &Names, symbol: Sym, out: &mut Text) -> Result<(), AllocError>
+fn write_rest(names: &Names, symbol: Sym, out: &mut Text) -> Result<(), AllocError>
     ensures { OnOk result (out.new ≡ out.old ++ leaf_rest names.now symbol) }
 {
     if !is_nil(symbol) {
         out.push(b'|')?;
-        write_symbol(alloc, names, symbol, out)?;
+        write_symbol(names, symbol, out)?;
     }
     out.push(b']')?;
     Ok(())
@@ -89,7 +81,6 @@ fn write_rest(alloc: Global, names: &Names, symbol: Sym, out: &mut Text) -> Resu
 
 /// Writes a symbol without arguments in its place.
 pub(crate) fn write_leaf(
-    alloc: Global,
     ops: &Ops,
     names: &Names,
     symbol: Sym,
@@ -99,13 +90,11 @@ pub(crate) fn write_leaf(
     ensures { OnOk result (out.new ≡ out.old ++ leaf_in ops.now names.now place symbol) }
 {
     match place {
-        Place::Left(_) if is_negative(symbol) => write_enclosed(alloc, names, symbol, out),
+        Place::Left(_) if is_negative(symbol) => write_enclosed(names, symbol, out),
         Place::Left(_) | Place::Right(_) if is_operator(ops, symbol) => {
-            write_enclosed(alloc, names, symbol, out)
+            write_enclosed(names, symbol, out)
         }
-        Place::Rest => write_rest(alloc, names, symbol, out),
-        Place::Whole(_) | Place::Left(_) | Place::Right(_) => {
-            write_symbol(alloc, names, symbol, out)
-        }
+        Place::Rest => write_rest(names, symbol, out),
+        Place::Whole(_) | Place::Left(_) | Place::Right(_) => { write_symbol(names, symbol, out) }
     }
 }

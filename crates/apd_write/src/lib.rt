@@ -1,14 +1,16 @@
 //! Writing of terms as Prolog reads them (ISO/IEC 13211-1 section 7.10.5).
 //!
-//! [`write_term`] writes a term by a table of operators, [`write_name`] a name by itself.
+//! [`write_term`] writes a term by a table of operators, a [`Pen`] many of them, [`write_name`] a name by itself.
 #![tactic(auto)]
 
 mod closing;
 mod leaves;
 mod names;
+mod numbers;
 mod opening;
 mod pending;
 mod terms;
 
 pub use names::write_name;
-pub use terms::write_term;
+pub use numbers::{write_integer, write_number};
+pub use terms::{Pen, write_term};

@@ -18,7 +18,6 @@ use std::alloc::{AllocError, Global};
 
 /// Writes what a symbol stands for in its place, and what stands behind it up to the place of the next symbol.
 fn write_next(
-    alloc: Global,
     ops: &Ops,
     names: &Names,
     symbol: Sym,
@@ -35,30 +34,77 @@ fn write_next(
     {
         return Ok(Some(open(ops, names, name, count, place, frames, out)?));
     }
-    write_leaf(alloc, ops, names, symbol, place, out)?;
+    write_leaf(ops, names, symbol, place, out)?;
     close(names, frames, out)
 }
 
-/// The text of the term that these symbols spell, for a place of a priority.
-fn text_of(
-    alloc: Global,
+/// Writes the term that these symbols spell, for a place of a priority. What stands in the frames doesn't matter.
+fn write_all(
     ops: &Ops,
     names: &Names,
     symbols: &[Sym],
     max: u16,
-) -> Result<Text, AllocError>
+    frames: &mut Vec<Frame>,
+    out: &mut Text,
+) -> Result<(), AllocError>
     requires { IsWhole symbols.now }
-    ensures { IfOk result (λ text. text ≡ written ops.now names.now (term_of symbols.now) max) }
+    ensures { OnOk result
+        (out.new ≡ out.old ++ written ops.now names.now (term_of symbols.now) max) }
 {
-    let mut text = Text::new(alloc);
-    let mut frames = Vec::new(alloc);
+    frames.clear();
     let mut place = Place::Whole(max);
     'symbols: for symbol in symbols {
-        match write_next(alloc, ops, names, *symbol, place, &mut frames, &mut text)? {
+        match write_next(ops, names, *symbol, place, frames, out)? {
             Some(next) => place = next,
-            None => return Ok(text),
+            None => return Ok(()),
         }
     }
+    Ok(())
+}
+
+/// What writes terms one after another. It keeps the room that it takes for what is still to be written, so it takes it once.
+#[derive(Drop)]
+pub struct Pen {
+    frames: Vec<Frame>,
+}
+
+impl Pen {
+    /// A pen that has written nothing.
+    pub fn new(alloc: Global) -> Pen {
+        Pen {
+            frames: Vec::new(alloc),
+        }
+    }
+
+    /// Writes a term for a place where its priority may be at most `max`, by a table of operators. After want of memory a
+    /// part may stand there.
+    pub fn write(
+        &mut self,
+        ops: &Ops,
+        names: &Names,
+        term: &Flat,
+        max: u16,
+        out: &mut Text,
+    ) -> Result<(), AllocError>
+        ensures { OnOk result (out.new ≡ out.old ++ written ops.now names.now term.now max) }
+    {
+        write_all(ops, names, term.symbols(), max, &mut self.frames, out)
+    }
+}
+
+/// The text of a term for a place of a priority.
+fn text_of(
+    alloc: Global,
+    ops: &Ops,
+    names: &Names,
+    term: &Flat,
+    max: u16,
+) -> Result<Text, AllocError>
+    ensures { IfOk result (λ text. text ≡ written ops.now names.now term.now max) }
+{
+    let mut text = Text::new(alloc);
+    let mut pen = Pen::new(alloc);
+    pen.write(ops, names, term, max, &mut text)?;
     Ok(text)
 }
 
@@ -75,6 +121,6 @@ pub fn write_term(
     ensures text { OnOk result (out.new ≡ out.old ++ written ops.now names.now term.now max) }
     ensures same { OnErr result (out.new ≡ out.old) }
 {
-    let text = text_of(alloc, ops, names, term.symbols(), max)?;
+    let text = text_of(alloc, ops, names, term, max)?;
     out.extend(text.bytes())
 }

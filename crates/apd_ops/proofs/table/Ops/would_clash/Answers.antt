@@ -28,7 +28,7 @@ returns-then-clashes_with c =
     let f = c.args.name.0 in
     let some : 1 ≤ p = omega arith in
     subst (λ (w : Table). (IsTrue r → WouldClash w p k f) × (WouldClash w p k f → IsTrue r)) c.self.view_is
-    (says_first inside p k f r r c.self.invariant c.clashes_with.ensures.distinct some
+    (says_first inside p k f r r c.self.invariant.0 c.clashes_with.ensures.distinct some
     (rw c.is_prefix-is_prefix.ensures at c.clashes_with.ensures.any) c.if-clashes_with.true c.if-clashes_with.true)
 
 pub returns-else-clashes_with : goal.returns-else-clashes_with
@@ -41,6 +41,6 @@ returns-else-clashes_with c =
     let f = c.args.name.0 in
     let some : 1 ≤ p = omega arith in
     subst (λ (w : Table). (IsTrue r → WouldClash w p k f) × (WouldClash w p k f → IsTrue r)) c.self.view_is
-    (says_second inside p k f a r c.self.invariant c.clashes_with-else-clashes_with.ensures.distinct some
+    (says_second inside p k f a r c.self.invariant.0 c.clashes_with-else-clashes_with.ensures.distinct some
     (rw c.is_prefix-is_prefix.ensures at c.clashes_with.ensures.any) c.if-clashes_with.false
     (rw c.is_prefix-is_prefix.ensures at c.clashes_with-else-clashes_with.ensures.any))

@@ -1,8 +1,0 @@
-use Rattle.std.proofs.Common.{drop}
-use Rattle.apd_term.specs.Term.{term_of}
-use Rattle.apd_write.specs.Writing.{written}
-use Rattle.apd_write.proofs.Standing.{Standing}
-use Rattle.apd_write.proofs.terms.text_of.Given as goal
-
-abbrev pub invariant-symbols : goal.invariant-symbols
-invariant-symbols l = Standing l.ops l.names (written l.ops l.names (term_of l.symbols) l.max) l.frames.items l.text l.place (drop l.symbol-index l.symbols)

@@ -9,7 +9,7 @@ use Rattle.apd_term.proofs.Spelling.{list_of-terms_of}
 use Rattle.apd_marks.specs.Mixing.{mixed}
 use Rattle.apd_marks.specs.Positions.{top}
 use Rattle.apd_index.specs.Subterms.{Subterm, bare, digest, digests, digests_of, joined, position_below, subterms_below}
-use Rattle.apd_index.proofs.Lists.{all-taken}
+use Rattle.apd_bits.proofs.Lists.{all-taken}
 
 -- The last n of a list are the first n of its reverse.
 

@@ -7,7 +7,8 @@ use Rattle.apd_term.specs.declared.term.Sym.TheVariants.{Var, Int, Fun}
 use Rattle.apd_term.proofs.Spelling.{length-apply_all}
 use Rattle.apd_marks.specs.Mixing.{mixed}
 use Rattle.apd_marks.specs.Positions.{top}
-use Rattle.apd_index.specs.Subterms.{IsAt, Stands, Subterm, digest, digests, position_below, positions, subterms, subterms_at, subterms_below}
+use Rattle.apd_index.specs.declared.positions.Parent.{Parent}
+use Rattle.apd_index.specs.Subterms.{IsAt, Stands, Subterm, digest, digests, position, position_below, positions, subterms, subterms_at, subterms_below}
 
 -- The symbols that they begin with are those of the term.
 
@@ -38,69 +39,69 @@ root-variable (variable w) v e = let same : w ≡ v = cc in ap variable same
 root-variable (integer i) v e = absurd (cc)
 root-variable (compound f ts) v e = absurd (cc)
 
-stands-root : (ss : List Subterm) (i v : ℕ) (d : Sym) → i < length (map root_of ss) → get_or (map root_of ss) i d ≡ Var v → Stands ss (get_or (map (λ (s : Subterm). s.position) ss) i 0) (variable v)
-stands-root [] i v d l e = absurd (omega (arith, l))
-stands-root (s ∷ ss) zero v d l e = inl (refl, root-variable s.term v e)
-stands-root (s ∷ ss) (suc i) v d l e = inr (stands-root ss i v d (omega (arith, l)) e)
+stands-root : (ss : List Subterm) (i v : ℕ) (d : Sym) (o : Parent) → i < length (map root_of ss) → get_or (map root_of ss) i d ≡ Var v → Stands ss (get_or (map (λ (s : Subterm). s.position) ss) i o) (variable v)
+stands-root [] i v d o l e = absurd (omega (arith, l))
+stands-root (s ∷ ss) zero v d o l e = inl (refl, root-variable s.term v e)
+stands-root (s ∷ ss) (suc i) v d o l e = inr (stands-root ss i v d o (omega (arith, l)) e)
 
 -- a variable that is read
-pub variable-at : (t : Term) (xs : List Sym) (ps : List ℕ) (i v p : ℕ) (d : Sym) → xs ≡ spell t → ps ≡ positions t → i < length xs → get_or xs i d ≡ Var v → p ≡ get_or ps i 0 → IsAt t p (variable v)
-variable-at t xs ps i v p d is at l e here =
+pub variable-at : (t : Term) (xs : List Sym) (ps : List Parent) (i v : ℕ) (p o : Parent) (d : Sym) → xs ≡ spell t → ps ≡ positions t → i < length xs → get_or xs i d ≡ Var v → p ≡ get_or ps i o → IsAt t p (variable v)
+variable-at t xs ps i v p o d is at l e here =
     let same : xs ≡ map root_of (subterms t) = is ∙ spelled t in
-    subst (λ (q : ℕ). IsAt t q (variable v)) (sym (here ∙ ap (λ (qs : List ℕ). get_or qs i 0) at))
-    (stands-root (subterms t) i v d (subst (λ (ys : List Sym). i < length ys) same l) (ap (λ (ys : List Sym). get_or ys i d) (sym same) ∙ e))
+    subst (λ (q : Parent). IsAt t q (variable v)) (sym (here ∙ ap (λ (qs : List Parent). get_or qs i o) at))
+    (stands-root (subterms t) i v d o (subst (λ (ys : List Sym). i < length ys) same l) (ap (λ (ys : List Sym). get_or ys i d) (sym same) ∙ e))
 
-pub as-many : (t : Term) (xs : List Sym) (ps : List ℕ) → xs ≡ spell t → ps ≡ positions t → length xs ≡ length ps
+pub as-many : (t : Term) (xs : List Sym) (ps : List Parent) → xs ≡ spell t → ps ≡ positions t → length xs ≡ length ps
 as-many t xs ps is at =
     ap (λ (ys : List Sym). length ys) (is ∙ spelled t) ∙ length-map (subterms t) root_of
-    ∙ sym (ap (λ (qs : List ℕ). length qs) at ∙ length-map (subterms t) (λ (s : Subterm). s.position))
+    ∙ sym (ap (λ (qs : List Parent). length qs) at ∙ length-map (subterms t) (λ (s : Subterm). s.position))
 
-pub as-many-digests : (t : Term) (ps ds : List ℕ) → ps ≡ positions t → ds ≡ digests t → length ps ≡ length ds
+pub as-many-digests : (t : Term) (ps : List Parent) (ds : List ℕ) → ps ≡ positions t → ds ≡ digests t → length ps ≡ length ds
 as-many-digests t ps ds at is =
-    ap (λ (qs : List ℕ). length qs) at ∙ length-map (subterms t) (λ (s : Subterm). s.position)
+    ap (λ (qs : List Parent). length qs) at ∙ length-map (subterms t) (λ (s : Subterm). s.position)
     ∙ sym (ap (λ (qs : List ℕ). length qs) is ∙ length-map (subterms t) (λ (s : Subterm). digest s.term))
 
 -- where a term stands
-pub stands-where : (ss : List Subterm) (p : ℕ) (t : Term) → Stands ss p t
-    → (i : ℕ) × (i < length (map (λ (s : Subterm). s.position) ss)) × (get_or (map (λ (s : Subterm). s.position) ss) i 0 ≡ p) × (get_or (map (λ (s : Subterm). digest s.term) ss) i 0 ≡ digest t)
-stands-where [] p t h = absurd h
-stands-where (s ∷ ss) p t (inl (e, f)) = (zero, omega arith, e, ap digest f)
-stands-where (s ∷ ss) p t (inr h) = let r = stands-where ss p t h in (suc r.0, omega (arith, r.1), r.2, r.3)
+pub stands-where : (ss : List Subterm) (p o : Parent) (t : Term) → Stands ss p t
+    → (i : ℕ) × (i < length (map (λ (s : Subterm). s.position) ss)) × (get_or (map (λ (s : Subterm). s.position) ss) i o ≡ p) × (get_or (map (λ (s : Subterm). digest s.term) ss) i 0 ≡ digest t)
+stands-where [] p o t h = absurd h
+stands-where (s ∷ ss) p o t (inl (e, f)) = (zero, omega arith, e, ap digest f)
+stands-where (s ∷ ss) p o t (inr h) = let r = stands-where ss p o t h in (suc r.0, omega (arith, r.1), r.2, r.3)
 
 -- Instances.
 
-stands-left : (ss us : List Subterm) (p : ℕ) (t : Term) → Stands ss p t → Stands (ss ++ us) p t
+stands-left : (ss us : List Subterm) (p : Parent) (t : Term) → Stands ss p t → Stands (ss ++ us) p t
 stands-left [] us p t h = absurd h
 stands-left (s ∷ ss) us p t (inl e) = inl e
 stands-left (s ∷ ss) us p t (inr h) = inr (stands-left ss us p t h)
 
-stands-right : (ss us : List Subterm) (p : ℕ) (t : Term) → Stands us p t → Stands (ss ++ us) p t
+stands-right : (ss us : List Subterm) (p : Parent) (t : Term) → Stands us p t → Stands (ss ++ us) p t
 stands-right [] us p t h = h
 stands-right (s ∷ ss) us p t h = inr (stands-right ss us p t h)
 
-stands-append : (ss us : List Subterm) (p : ℕ) (t : Term) → Stands (ss ++ us) p t → Stands ss p t ⊎ Stands us p t
+stands-append : (ss us : List Subterm) (p : Parent) (t : Term) → Stands (ss ++ us) p t → Stands ss p t ⊎ Stands us p t
 stands-append [] us p t h = inr h
 stands-append (s ∷ ss) us p t (inl e) = inl (inl e)
 stands-append (s ∷ ss) us p t (inr h) = elim (stands-append ss us p t h) [ inl a ↦ inl (inr a) | inr b ↦ inr b ]
 
 -- the term itself is the first one
-stands-first : (c n : ℕ) (t : Term) → Stands (subterms_at c n t) (position_below c n) t
+stands-first : (c n : ℕ) (t : Term) → Stands (subterms_at c n t) (position c n) t
 stands-first c n (variable v) = inl (refl, refl)
 stands-first c n (integer i) = inl (refl, refl)
 stands-first c n (compound f ts) = inl (refl, refl)
 
 mutual
-  at-instance : (s : ℕ → Term) (c n : ℕ) (t : Term) (p v : ℕ) → Stands (subterms_at c n t) p (variable v) → Stands (subterms_at c n (apply s t)) p (s v)
+  at-instance : (s : ℕ → Term) (c n : ℕ) (t : Term) (p : Parent) (v : ℕ) → Stands (subterms_at c n t) p (variable v) → Stands (subterms_at c n (apply s t)) p (s v)
   at-instance s c n (variable w) p v (inl (e, f)) =
       let same : w ≡ v = cc in
-      subst (λ (q : ℕ). Stands (subterms_at c n (s w)) q (s v)) e (subst (λ (x : ℕ). Stands (subterms_at c n (s w)) (position_below c n) (s x)) same (stands-first c n (s w)))
+      subst (λ (q : Parent). Stands (subterms_at c n (s w)) q (s v)) e (subst (λ (x : ℕ). Stands (subterms_at c n (s w)) (position c n) (s x)) same (stands-first c n (s w)))
   at-instance s c n (variable w) p v (inr z) = absurd z
   at-instance s c n (integer i) p v (inl (e, f)) = absurd (cc)
   at-instance s c n (integer i) p v (inr z) = absurd z
   at-instance s c n (compound f ts) p v (inl (e, g)) = absurd (cc)
   at-instance s c n (compound f ts) p v (inr h) = rw (length-apply_all s ts) (inr (below-instance s (mixed (position_below c n) (Fun f (length (list_of ts)))) ts p v h))
 
-  below-instance : (s : ℕ → Term) (c : ℕ) (ts : Terms) (p v : ℕ) → Stands (subterms_below c ts) p (variable v) → Stands (subterms_below c (apply_all s ts)) p (s v)
+  below-instance : (s : ℕ → Term) (c : ℕ) (ts : Terms) (p : Parent) (v : ℕ) → Stands (subterms_below c ts) p (variable v) → Stands (subterms_below c (apply_all s ts)) p (s v)
   below-instance s c none p v h = absurd h
   below-instance s c (more t ts) p v h =
       rw (length-apply_all s ts) (elim (stands-append (subterms_at c (suc (length (list_of ts))) t) (subterms_below c ts) p (variable v) h) [
@@ -109,5 +110,5 @@ mutual
       ])
 
 -- where a variable stands in an atom, an instance has the same term for each of its positions
-pub instance-at : (s : ℕ → Term) (a x : Term) (p v : ℕ) → apply s a ≡ x → IsAt a p (variable v) → IsAt x p (s v)
+pub instance-at : (s : ℕ → Term) (a x : Term) (p : Parent) (v : ℕ) → apply s a ≡ x → IsAt a p (variable v) → IsAt x p (s v)
 instance-at s a x p v e h = subst (λ (y : Term). IsAt y p (s v)) e (below-instance s top (more a none) p v h)

@@ -8,24 +8,24 @@ use Rattle.apd_term.specs.declared.term.Sym.{Sym}
 use Rattle.apd_term.specs.declared.term.Sym.TheVariants.{Var, Int, Fun}
 use Rattle.apd_marks.specs.Mixing.{mixed}
 use Rattle.apd_marks.specs.Positions.{top}
-use Rattle.apd_index.specs.Subterms.{Subterm, onward, position_below, positions, subterms_below, waiting}
+use Rattle.apd_index.specs.Subterms.{Subterm, onward, position, position_below, positions, subterms_below, waiting}
 use Rattle.apd_index.specs.declared.positions.Parent.{Parent}
 
 -- The walk, with the innermost parent first.
 
-abbrev held : ℕ → ℕ → List Parent → List Parent
+abbrev pub held : ℕ → ℕ → List Parent → List Parent
 held mark n parents = if n == 0 then parents else record { mark = mark; left = n } ∷ parents
 
-abbrev after : Parent → Sym → List Parent → List Parent
+abbrev pub after : Parent → Sym → List Parent → List Parent
 after f (Var v) parents = held f.mark (f.left - 1) parents
 after f (Int i) parents = held f.mark (f.left - 1) parents
 after f (Fun g n) parents = held (mixed (position_below f.mark f.left) (Fun g n)) n (held f.mark (f.left - 1) parents)
 
 -- the positions of what is still to be read
-abbrev pub rest : List Sym → List Parent → List ℕ
+abbrev pub rest : List Sym → List Parent → List Parent
 rest [] parents = []
 rest (x ∷ xs) [] = []
-rest (x ∷ xs) (f ∷ parents) = position_below f.mark f.left ∷ rest xs (after f x parents)
+rest (x ∷ xs) (f ∷ parents) = f ∷ rest xs (after f x parents)
 
 reverse-waiting : (m n : ℕ) (parents : List Parent) → reverse (waiting m n parents) ≡ held m n (reverse parents)
 reverse-waiting m n parents = by (n == 0)
@@ -34,17 +34,17 @@ reverse-waiting m n parents = by (n == 0)
     by true = refl
     by false = reverse-append parents (record { mark = m; left = n } ∷ [])
 
-reverse-onward : (f : Parent) (x : Sym) (parents : List Parent) → reverse (onward f x parents) ≡ after f x (reverse parents)
+pub reverse-onward : (f : Parent) (x : Sym) (parents : List Parent) → reverse (onward f x parents) ≡ after f x (reverse parents)
 reverse-onward f (Var v) parents = reverse-waiting f.mark (f.left - 1) parents
 reverse-onward f (Int i) parents = reverse-waiting f.mark (f.left - 1) parents
 reverse-onward f (Fun g n) parents =
     reverse-waiting (mixed (position_below f.mark f.left) (Fun g n)) n (waiting f.mark (f.left - 1) parents)
     ∙ ap (held (mixed (position_below f.mark f.left) (Fun g n)) n) (reverse-waiting f.mark (f.left - 1) parents)
 
-held-some : (m k : ℕ) (parents : List Parent) → held m (suc k) parents ≡ record { mark = m; left = suc k } ∷ parents
+pub held-some : (m k : ℕ) (parents : List Parent) → held m (suc k) parents ≡ record { mark = m; left = suc k } ∷ parents
 held-some m k parents = ap (λ (b : Bool). if b then parents else record { mark = m; left = suc k } ∷ parents) (let e : (suc k == 0) ≡ false = grind (arith, nat_tests) in e)
 
-abbrev spots : ℕ → Terms → List ℕ
+abbrev spots : ℕ → Terms → List Parent
 spots c ts = map (λ (s : Subterm). s.position) (subterms_below c ts)
 
 -- terms below a parent
@@ -59,28 +59,28 @@ rest-below : (c : ℕ) (ts : Terms) (xs : List Sym) (parents : List Parent) → 
 rest-below c none xs parents = refl
 rest-below c (more (variable v) ts) xs parents =
     ap (rest (Var v ∷ (spell_all ts ++ xs))) (held-some c (length (list_of ts)) parents)
-    ∙ ap (λ (ys : List ℕ). position_below c (suc (length (list_of ts))) ∷ ys) (one-less c ts xs parents (rest-below c ts xs parents))
+    ∙ ap (λ (ys : List Parent). position c (suc (length (list_of ts))) ∷ ys) (one-less c ts xs parents (rest-below c ts xs parents))
 rest-below c (more (integer i) ts) xs parents =
     ap (rest (Int i ∷ (spell_all ts ++ xs))) (held-some c (length (list_of ts)) parents)
-    ∙ ap (λ (ys : List ℕ). position_below c (suc (length (list_of ts))) ∷ ys) (one-less c ts xs parents (rest-below c ts xs parents))
+    ∙ ap (λ (ys : List Parent). position c (suc (length (list_of ts))) ∷ ys) (one-less c ts xs parents (rest-below c ts xs parents))
 rest-below c (more (compound f us) ts) xs parents =
     let n = suc (length (list_of ts)) in
-    let p = position_below c n in
-    let m = mixed p (Fun f (length (list_of us))) in
+    let p = position c n in
+    let m = mixed (position_below c n) (Fun f (length (list_of us))) in
     ap (rest (Fun f (length (list_of us)) ∷ ((spell_all us ++ spell_all ts) ++ xs))) (held-some c (length (list_of ts)) parents)
-    ∙ ap (λ (ys : List ℕ). p ∷ ys)
+    ∙ ap (λ (ys : List Parent). p ∷ ys)
     (ap (λ zs. rest zs (held m (length (list_of us)) (held c (n - 1) parents))) (append_assoc (spell_all us) (spell_all ts) xs)
     ∙ rest-below m us (spell_all ts ++ xs) (held c (n - 1) parents)
     ∙ ap (λ zs. spots m us ++ zs) (one-less c ts xs parents (rest-below c ts xs parents))
-    ∙ sym (ap (λ (ys : List ℕ). ys ++ rest xs parents) (map-append (λ (s : Subterm). s.position) (subterms_below m us) (subterms_below c ts)) ∙ append_assoc (spots m us) (spots c ts) (rest xs parents)))
+    ∙ sym (ap (λ (ys : List Parent). ys ++ rest xs parents) (map-append (λ (s : Subterm). s.position) (subterms_below m us) (subterms_below c ts)) ∙ append_assoc (spots m us) (spots c ts) (rest xs parents)))
 
-rest-whole : (t : Term) → rest (spell t) (held top 1 []) ≡ positions t
+pub rest-whole : (t : Term) → rest (spell t) (held top 1 []) ≡ positions t
 rest-whole t =
     ap (λ ys. rest ys (held top 1 [])) (sym (append-nil (spell t ++ []) ∙ append-nil (spell t)))
     ∙ rest-below top (more t none) [] []
     ∙ append-nil (positions t)
 
-none-left : (xs : List Sym) → rest xs [] ≡ []
+pub none-left : (xs : List Sym) → rest xs [] ≡ []
 none-left [] = refl
 none-left (x ∷ xs) = refl
 
@@ -92,29 +92,29 @@ emptied xs ys n e f z =
     let g : n - 1 ≡ 0 = omega (arith, z) in
     e ∙ ap (λ zs. zs ++ []) (f ∙ ap (λ k. take k xs) g)
 
-abbrev pub IsWalk : Term → List Sym → ℕ → List Parent → List ℕ → Type 0
+abbrev pub IsWalk : Term → List Sym → ℕ → List Parent → List Parent → Type 0
 IsWalk t xs i parents ps = ps ++ rest (drop i xs) (reverse parents) ≡ positions t
 
-pub walk-begins : (t : Term) (xs : List Sym) (fresh parents : List Parent) (ps : List ℕ) → xs ≡ spell t → ps ≡ [] → fresh ≡ [] → parents ≡ waiting top 1 fresh → IsWalk t xs 0 parents ps
+pub walk-begins : (t : Term) (xs : List Sym) (fresh parents : List Parent) (ps : List Parent) → xs ≡ spell t → ps ≡ [] → fresh ≡ [] → parents ≡ waiting top 1 fresh → IsWalk t xs 0 parents ps
 walk-begins t xs fresh parents ps e f g h =
-    ap (λ (qs : List ℕ). qs ++ rest xs (reverse parents)) f
+    ap (λ (qs : List Parent). qs ++ rest xs (reverse parents)) f
     ∙ ap (λ ys. rest ys (reverse parents)) e
     ∙ ap (λ fs. rest (spell t) (reverse fs)) (h ∙ ap (waiting top 1) g)
     ∙ rest-whole t
 
-pub walk-goes : (t : Term) (xs : List Sym) (i p : ℕ) (d x : Sym) (f : Parent) (parents left parents_new : List Parent) (ps ps_new : List ℕ) → i < length xs → x ≡ get_or xs i d → parents ≡ left ++ f ∷ []
-    → p ≡ position_below f.mark f.left → ps_new ≡ ps ++ p ∷ [] → parents_new ≡ onward f x left → IsWalk t xs i parents ps → IsWalk t xs (i + 1) parents_new ps_new
-walk-goes t xs i p d x f parents left parents_new ps ps_new l is e q g h so_far =
+pub walk-goes : (t : Term) (xs : List Sym) (i : ℕ) (d x : Sym) (f : Parent) (parents left parents_new ps ps_new : List Parent) → i < length xs → x ≡ get_or xs i d → parents ≡ left ++ f ∷ []
+    → ps_new ≡ ps ++ f ∷ [] → parents_new ≡ onward f x left → IsWalk t xs i parents ps → IsWalk t xs (i + 1) parents_new ps_new
+walk-goes t xs i d x f parents left parents_new ps ps_new l is e g h so_far =
     let later = rest (drop (i + 1) xs) (after f x (reverse left)) in
-    ap (λ qs. qs ++ rest (drop (i + 1) xs) (reverse parents_new)) (g ∙ ap (λ (k : ℕ). ps ++ k ∷ []) q)
-    ∙ ap (λ fs. (ps ++ position_below f.mark f.left ∷ []) ++ rest (drop (i + 1) xs) fs) (ap reverse h ∙ reverse-onward f x left)
-    ∙ append_assoc ps (position_below f.mark f.left ∷ []) later
+    ap (λ qs. qs ++ rest (drop (i + 1) xs) (reverse parents_new)) g
+    ∙ ap (λ fs. (ps ++ f ∷ []) ++ rest (drop (i + 1) xs) fs) (ap reverse h ∙ reverse-onward f x left)
+    ∙ append_assoc ps (f ∷ []) later
     ∙ ap (λ fs. ps ++ rest (x ∷ drop (i + 1) xs) fs) (sym (ap reverse e ∙ reverse-append left (f ∷ [])))
     ∙ ap (λ ys. ps ++ rest ys (reverse parents)) (sym (drop_more xs i d l ∙ ap (λ y. y ∷ drop (i + 1) xs) (sym is)))
     ∙ so_far
 
-pub walk-stops : (t : Term) (xs : List Sym) (i : ℕ) (parents : List Parent) (ps : List ℕ) → parents ≡ [] → IsWalk t xs i parents ps → ps ≡ positions t
+pub walk-stops : (t : Term) (xs : List Sym) (i : ℕ) (parents ps : List Parent) → parents ≡ [] → IsWalk t xs i parents ps → ps ≡ positions t
 walk-stops t xs i parents ps e so_far = sym (append-nil ps) ∙ ap (λ ys. ps ++ ys) (sym (ap (λ fs. rest (drop i xs) (reverse fs)) e ∙ none-left (drop i xs))) ∙ so_far
 
-pub walk-ends : (t : Term) (xs : List Sym) (i : ℕ) (parents : List Parent) (ps : List ℕ) → length xs ≤ i → IsWalk t xs i parents ps → ps ≡ positions t
+pub walk-ends : (t : Term) (xs : List Sym) (i : ℕ) (parents ps : List Parent) → length xs ≤ i → IsWalk t xs i parents ps → ps ≡ positions t
 walk-ends t xs i parents ps l so_far = sym (append-nil ps) ∙ ap (λ ys. ps ++ ys) (sym (ap (λ ys. rest ys (reverse parents)) (drop_all i xs l))) ∙ so_far

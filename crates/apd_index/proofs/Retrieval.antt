@@ -8,10 +8,13 @@ use Rattle.apd_term.specs.Term.{Term, IsAmong}
 use Rattle.apd_term.specs.Matching.{is_instance}
 use Rattle.apd_term.specs.Substitution.{IsInstance}
 use Rattle.apd_term.proofs.Opposite.{is_instance-is}
-use Rattle.apd_marks.specs.Places.{Index, places_at}
-use Rattle.apd_marks.specs.Positions.{IsLasting, all_marks}
-use Rattle.apd_index.specs.Retrieval.{AreGenerals, AreKept, AreSpecials, IsNoted, IsNotedAbove, IsNotedBelow, NoneLeft, SomeLeft, has_general, has_special, is_above, is_below, is_left_below}
-use Rattle.apd_index.specs.Rows.{HasBit, IsClearNear, has_bit}
+use Rattle.apd_marks.specs.Places.{Index, Notes, places_at}
+use Rattle.apd_marks.specs.Positions.{IsLasting, all_marks, whole}
+use Rattle.apd_index.specs.Retrieval.{AreGenerals, AreKeptBut, AreKeptIn, AreNoted, AreSpecials, AreWholes, IsKnown, IsNoted, IsNotedAbove, IsNotedBelow, NoneLeft, SomeLeft, has_general, has_special, is_above, is_below, is_left_below}
+use Rattle.apd_index.specs.Nodes.{AreKept, noted_at}
+use Rattle.apd_index.specs.declared.nodes.Nodes.{Nodes}
+use Rattle.apd_bits.specs.Rows.{HasBit, IsClearNear, has_bit}
+use Rattle.apd_index.proofs.Noting.{notes-kept, notes-one}
 use Rattle.apd_index.proofs.Telling.{among-any, any-among, any-there, same-truth, there-any}
 use Rattle.apd_marks.proofs.Walking.{lasting-marks}
 
@@ -24,11 +27,29 @@ last-at (y ∷ xs) a x (suc k) e = elim (last-at xs a x k e) [ inl h ↦ inl h |
 
 -- What is noted, and more.
 
-pub below-kept : (xs : List Term) (old new : Index) → AreKept old new → AreGenerals xs old → AreGenerals xs new
+pub below-kept : (xs : List Term) (old new : Index) → AreKeptIn old new → AreGenerals xs old → AreGenerals xs new
 below-kept xs old new kept h k x e = let n = h k x e in record { mark = n.mark; lasting = n.lasting; noted = kept n.mark k n.noted }
 
-pub above-kept : (xs : List Term) (old new : Index) (large larger : List ℕ) → AreKept old new → ((k : ℕ) → IsAmong large k → IsAmong larger k) → AreSpecials xs old large → AreSpecials xs new larger
-above-kept xs old new large larger kept still h k x e = elim (h k x e) [ inl above ↦ inl (λ m a. kept m k (above m a)) | inr l ↦ inr (still k l) ]
+pub noted-kept : (old new : Nodes) (large larger : List ℕ) (k : ℕ) (x : Term) → AreKept old new → ((k : ℕ) → IsAmong large k → IsAmong larger k) → IsNoted old large k x → IsNoted new larger k x
+noted-kept old new large larger k x kept still h = elim h [ inl above ↦ inl (λ m a. kept m k (above m a)) | inr l ↦ inr (still k l) ]
+
+pub above-kept : (xs : List Term) (old new : Nodes) (large larger : List ℕ) (waiting more : Index) → AreKept old new → ((k : ℕ) → IsAmong large k → IsAmong larger k) → AreKeptIn waiting more
+    → AreSpecials xs old large waiting → AreSpecials xs new larger more
+above-kept xs old new large larger waiting more kept still wait h k x e = elim (h k x e) [
+  | inl noted ↦ inl (noted-kept old new large larger k x kept still noted)
+  | inr w ↦ inr (w.0, w.1, wait w.0 k w.2)
+]
+
+-- what waited at a mark is noted, and forgotten
+pub above-gathered : (xs : List Term) (old new : Nodes) (large larger : List ℕ) (waiting fewer : Index) (mark : ℕ) → AreKept old new → ((k : ℕ) → IsAmong large k → IsAmong larger k)
+    → AreNoted xs new larger (places_at waiting mark) → AreKeptBut mark waiting fewer → AreSpecials xs old large waiting → AreSpecials xs new larger fewer
+above-gathered xs old new large larger waiting fewer mark kept still noted but h k x e = elim (h k x e) [
+  | inl is ↦ inl (noted-kept old new large larger k x kept still is)
+  | inr w ↦ elim (but w.0 k w.2) [
+    | inl same ↦ inl (noted k x (subst (λ (m : ℕ). IsAmong (places_at waiting m) k) (sym same) w.2) e)
+    | inr a ↦ inr (w.0, w.1, a)
+  ]
+]
 
 module _ (xs : List Term) (places : Index) (a : Term) where
   below-more : (m : ℕ) → IsLasting a m → IsAmong (places_at places m) (length xs) → AreGenerals xs places → AreGenerals (xs ++ a ∷ []) places
@@ -37,11 +58,21 @@ module _ (xs : List Term) (places : Index) (a : Term) where
     | inr f ↦ subst (λ (n : ℕ). IsNotedBelow places n x) f.0 (subst (IsNotedBelow places (length xs)) f.1 (record { mark = m; lasting = lasting; noted = noted }))
   ]
 
-  above-more : (large : List ℕ) → IsNoted places large (length xs) a → AreSpecials xs places large → AreSpecials (xs ++ a ∷ []) places large
-  above-more large noted h k x e = elim (last-at xs a x k e) [
+module _ (xs : List Term) (places : Nodes) (a : Term) where
+  above-more : (large : List ℕ) (waiting : Index) → IsKnown places large waiting (length xs) a → AreSpecials xs places large waiting → AreSpecials (xs ++ a ∷ []) places large waiting
+  above-more large waiting known h k x e = elim (last-at xs a x k e) [
     | inl f ↦ h k x f
-    | inr f ↦ subst (λ (n : ℕ). IsNoted places large n x) f.0 (subst (IsNoted places large (length xs)) f.1 noted)
+    | inr f ↦ subst (λ (n : ℕ). IsKnown places large waiting n x) f.0 (subst (IsKnown places large waiting (length xs)) f.1 known)
   ]
+
+pub wholes-kept : (xs : List Term) (old new : Index) → AreKeptIn old new → AreWholes xs old → AreWholes xs new
+wholes-kept xs old new kept h k x e = kept (whole x) k (h k x e)
+
+wholes-more : (xs : List Term) (wholes : Index) (a : Term) → IsAmong (places_at wholes (whole a)) (length xs) → AreWholes xs wholes → AreWholes (xs ++ a ∷ []) wholes
+wholes-more xs wholes a noted h k x e = elim (last-at xs a x k e) [
+  | inl f ↦ h k x f
+  | inr f ↦ subst (λ (y : Term). IsAmong (places_at wholes (whole y)) k) f.1 (subst (IsAmong (places_at wholes (whole a))) f.0 noted)
+]
 
 -- where there was memory to push, and where there wasn't
 either-way : {T E : Type 0} (r : Result T E) (P : List Term → Type 0) (xs longer new : List Term) → OnOk r (new ≡ longer) → OnErr r (new ≡ xs) → P xs → P longer → P new
@@ -52,9 +83,19 @@ pub below-pushed : {T E : Type 0} (r : Result T E) (xs new : List Term) (places 
     → IsAmong (places_at places m) (length xs) → AreGenerals xs places → AreGenerals new places
 below-pushed r xs new places a m ok err lasting noted h = either-way r (λ ys. AreGenerals ys places) xs (xs ++ a ∷ []) new ok err h (below-more xs places a m lasting noted h)
 
-pub above-pushed : {T E : Type 0} (r : Result T E) (xs new : List Term) (places : Index) (large : List ℕ) (a : Term) → OnOk r (new ≡ xs ++ a ∷ []) → OnErr r (new ≡ xs)
-    → IsNoted places large (length xs) a → AreSpecials xs places large → AreSpecials new places large
-above-pushed r xs new places large a ok err noted h = either-way r (λ ys. AreSpecials ys places large) xs (xs ++ a ∷ []) new ok err h (above-more xs places a large noted h)
+pub above-pushed : {T E : Type 0} (r : Result T E) (xs new : List Term) (places : Nodes) (large : List ℕ) (waiting : Index) (a : Term) → OnOk r (new ≡ xs ++ a ∷ []) → OnErr r (new ≡ xs)
+    → IsKnown places large waiting (length xs) a → AreSpecials xs places large waiting → AreSpecials new places large waiting
+above-pushed r xs new places large waiting a ok err known h = either-way r (λ ys. AreSpecials ys places large waiting) xs (xs ++ a ∷ []) new ok err h (above-more xs places a large waiting known h)
+
+-- its place was noted for the mark of the whole before
+pub wholes-put : {T E : Type 0} (r : Result T E) (xs new : List Term) (old wholes : Index) (a : Term) (mark place : ℕ) → mark ≡ whole a → place ≡ length xs → Notes old mark place wholes
+    → OnOk r (new ≡ xs ++ a ∷ []) → OnErr r (new ≡ xs) → AreWholes xs old → AreWholes new wholes
+wholes-put r xs new old wholes a mark place is at noted ok err h =
+    either-way r (λ ys. AreWholes ys wholes) xs (xs ++ a ∷ []) new ok err still
+    (wholes-more xs wholes a (subst (λ (m : ℕ). IsAmong (places_at wholes m) (length xs)) is (subst (IsAmong (places_at wholes mark)) at (notes-one old wholes mark place noted))) still)
+  where
+    still : AreWholes xs wholes
+    still = wholes-kept xs old wholes (notes-kept old wholes mark place noted) h
 
 -- some of the atoms were put
 pub put-more : (xs more now new : List Term) (i : ℕ) (a : Term) → i < length more → a ≡ get_or more i a → now ≡ xs ++ take i more → new ≡ now ++ a ∷ [] → new ≡ xs ++ take (i + 1) more
@@ -104,7 +145,7 @@ module _ (xs : List Term) (places : Index) (a : Term) where
       (among-any (λ (j : ℕ). is_above a (slice_get xs j)) (places_at places n.mark) t.0 n.noted (ap (is_above a) t.2 ∙ t.3))
 
 -- an instance of an atom is noted for all marks of that one that its instances have too
-pub lasting-above : (places : Index) (a x : Term) (k : ℕ) → IsNotedAbove places k x → IsInstance x a → (m : ℕ) → IsLasting a m → IsAmong (places_at places m) k
+pub lasting-above : (places : Nodes) (a x : Term) (k : ℕ) → IsNotedAbove places k x → IsInstance x a → (m : ℕ) → IsLasting a m → IsAmong (noted_at places m) k
 lasting-above places a x k above i m lasting = above m (lasting-marks x a m i lasting)
 
 -- The same where it is looked only at places that have their bit in a row.

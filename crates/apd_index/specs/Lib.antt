@@ -1,6 +1,6 @@
 pub mod Retrieval
-pub mod Rows
-pub mod Sharing
 pub mod Subterms
+pub mod Chains
 pub mod Columns
-pub mod Skips
+pub mod Nodes
+pub mod Table

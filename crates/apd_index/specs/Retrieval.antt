@@ -4,8 +4,10 @@ use Rattle.std.specs.List.{list_any}
 use Rattle.apd_term.specs.Term.{Term, IsAmong}
 use Rattle.apd_term.specs.Matching.{is_instance}
 use Rattle.apd_marks.specs.Places.{Index, places_at}
-use Rattle.apd_marks.specs.Positions.{IsLasting, all_marks}
-use Rattle.apd_index.specs.Rows.{has_bit}
+use Rattle.apd_marks.specs.Positions.{IsLasting, all_marks, marks_of, whole}
+use Rattle.apd_index.specs.declared.nodes.Nodes.{Nodes}
+use Rattle.apd_index.specs.Nodes.{noted_at}
+use Rattle.apd_bits.specs.Rows.{has_bit}
 
 -- some of the atoms is an instance of this one
 abbrev pub has_special : List Term → Term → Bool
@@ -26,8 +28,12 @@ is_above a None = false
 is_above a (Some x) = is_instance a x
 
 -- each place that was noted is noted still
-abbrev pub AreKept : Index → Index → Type 0
-AreKept old new = (m k : ℕ) → IsAmong (places_at old m) k → IsAmong (places_at new m) k
+abbrev pub AreKeptIn : Index → Index → Type 0
+AreKeptIn old new = (m k : ℕ) → IsAmong (places_at old m) k → IsAmong (places_at new m) k
+
+-- each atom's place is noted for the mark of the whole
+abbrev pub AreWholes : List Term → Index → Type 0
+AreWholes xs wholes = (k : ℕ) (x : Term) → slice_get xs k ≡ Some x → IsAmong (places_at wholes (whole x)) k
 
 -- the place is noted for a mark of the atom that its instances have too; so it is for a mark of each instance
 pub record IsNotedBelow (places : Index) (k : ℕ) (x : Term) : Type 0 where
@@ -36,20 +42,40 @@ pub record IsNotedBelow (places : Index) (k : ℕ) (x : Term) : Type 0 where
   pub noted : IsAmong (places_at places mark) k
 
 -- the place is noted for each mark of the atom; so it is for those of whatever the atom is an instance of
-abbrev pub IsNotedAbove : Index → ℕ → Term → Type 0
-IsNotedAbove places k x = (m : ℕ) → IsAmong (all_marks x) m → IsAmong (places_at places m) k
+abbrev pub IsNotedAbove : Nodes → ℕ → Term → Type 0
+IsNotedAbove nodes k x = (m : ℕ) → IsAmong (all_marks x) m → IsAmong (noted_at nodes m) k
 
 -- that, or the place is noted as that of a large atom
-abbrev pub IsNoted : Index → List ℕ → ℕ → Term → Type 0
-IsNoted places large k x = IsNotedAbove places k x ⊎ IsAmong large k
+abbrev pub IsNoted : Nodes → List ℕ → ℕ → Term → Type 0
+IsNoted nodes large k x = IsNotedAbove nodes k x ⊎ IsAmong large k
+
+-- the mark of the atom's root symbol, which its marks begin with; a variable has none
+abbrev pub root_mark : Term → Option ℕ
+root_mark x = slice_get (marks_of x) 0
+
+-- the place waits at the mark of the atom's root symbol, which each instance of an atom has too, unless that is a variable
+abbrev pub Waits : Index → ℕ → Term → Type 0
+Waits waiting k x = (m : ℕ) × (root_mark x ≡ Some m) × IsAmong (places_at waiting m) k
+
+-- the place is noted, or it waits
+abbrev pub IsKnown : Nodes → List ℕ → Index → ℕ → Term → Type 0
+IsKnown nodes large waiting k x = IsNoted nodes large k x ⊎ Waits waiting k x
+
+-- each place that waited does so still, unless at this mark
+abbrev pub AreKeptBut : ℕ → Index → Index → Type 0
+AreKeptBut mark old new = (m k : ℕ) → IsAmong (places_at old m) k → (mark ≡ m) ⊎ IsAmong (places_at new m) k
+
+-- the atoms at these places are noted
+abbrev pub AreNoted : List Term → Nodes → List ℕ → List ℕ → Type 0
+AreNoted xs nodes large ks = (k : ℕ) (x : Term) → IsAmong ks k → slice_get xs k ≡ Some x → IsNoted nodes large k x
 
 -- What is noted of each atom of a list; a place may be noted where there is no atom.
 
 abbrev pub AreGenerals : List Term → Index → Type 0
 AreGenerals xs places = (k : ℕ) (x : Term) → slice_get xs k ≡ Some x → IsNotedBelow places k x
 
-abbrev pub AreSpecials : List Term → Index → List ℕ → Type 0
-AreSpecials xs places large = (k : ℕ) (x : Term) → slice_get xs k ≡ Some x → IsNoted places large k x
+abbrev pub AreSpecials : List Term → Nodes → List ℕ → Index → Type 0
+AreSpecials xs nodes large waiting = (k : ℕ) (x : Term) → slice_get xs k ≡ Some x → IsKnown nodes large waiting k x
 
 -- Of the places that have their bit in a row.
 

@@ -1,4 +1,4 @@
--- Subterms with marks of their positions (path indexing, Stickel 1989), and digests, of which equal terms have the same.
+-- Subterms with their positions (path indexing, Stickel 1989), and digests, of which equal terms have the same.
 use Rattle.std.specs.Prelude.{ℕ, ◌≡◌, ◌⊎◌, ◌-◌, ◌==◌, ◌++◌, if◌then◌else◌, List, [], ◌∷◌, length, map, reverse}
 use Rattle.std.specs.List.{fold}
 use Rattle.apd_term.specs.Term.{Term, Terms, variable, integer, compound, none, more, list_of}
@@ -8,22 +8,25 @@ use Rattle.apd_marks.specs.Mixing.{mixed}
 use Rattle.apd_marks.specs.Positions.{top}
 use Rattle.apd_index.specs.declared.positions.Parent.{Parent}
 
--- a subterm, and the mark of its position
+-- a subterm, and its position: the mark of the symbol above it, and which of the terms below that it is, from the end
 pub record Subterm : Type 0 where
-  pub position : ℕ
+  pub position : Parent
   pub term : Term
 
--- the mark of the position that is n-th from the end below a symbol with this mark
+abbrev pub position : ℕ → ℕ → Parent
+position mark n = record { mark = mark; left = n }
+
+-- what the mark of a symbol at this position begins with
 abbrev pub position_below : ℕ → ℕ → ℕ
 position_below mark n = mixed mark (Var n)
 
 -- the subterms in prefix order, with the term itself; n is where it stands, from the end
 abbrev mutual
   pub subterms_at : ℕ → ℕ → Term → List Subterm
-  subterms_at mark n (variable v) = record { position = position_below mark n; term = variable v } ∷ []
-  subterms_at mark n (integer i) = record { position = position_below mark n; term = integer i } ∷ []
+  subterms_at mark n (variable v) = record { position = position mark n; term = variable v } ∷ []
+  subterms_at mark n (integer i) = record { position = position mark n; term = integer i } ∷ []
   subterms_at mark n (compound f ts) =
-      record { position = position_below mark n; term = compound f ts } ∷ subterms_below (mixed (position_below mark n) (Fun f (length (list_of ts)))) ts
+      record { position = position mark n; term = compound f ts } ∷ subterms_below (mixed (position_below mark n) (Fun f (length (list_of ts)))) ts
 
   pub subterms_below : ℕ → Terms → List Subterm
   subterms_below mark none = []
@@ -32,15 +35,15 @@ abbrev mutual
 abbrev pub subterms : Term → List Subterm
 subterms t = subterms_below top (more t none)
 
--- the term is the one at a position with this mark
-abbrev pub Stands : List Subterm → ℕ → Term → Type 0
-Stands [] position t = ⊥
-Stands (s ∷ ss) position t = ((s.position ≡ position) × (s.term ≡ t)) ⊎ Stands ss position t
+-- the term is one at this position
+abbrev pub Stands : List Subterm → Parent → Term → Type 0
+Stands [] p t = ⊥
+Stands (s ∷ ss) p t = ((s.position ≡ p) × (s.term ≡ t)) ⊎ Stands ss p t
 
-abbrev pub IsAt : Term → ℕ → Term → Type 0
-IsAt x position t = Stands (subterms x) position t
+abbrev pub IsAt : Term → Parent → Term → Type 0
+IsAt x p t = Stands (subterms x) p t
 
-abbrev pub positions : Term → List ℕ
+abbrev pub positions : Term → List Parent
 positions x = map (λ (s : Subterm). s.position) (subterms x)
 
 -- digests mixed into a mark
@@ -71,6 +74,12 @@ bare (Fun f n) = Fun f 0
 
 abbrev pub waiting : ℕ → ℕ → List Parent → List Parent
 waiting mark n parents = if n == 0 then parents else parents ++ record { mark = mark; left = n } ∷ []
+
+-- the mark of a symbol that is read as the next one of a parent; a variable has none
+abbrev pub noted : Parent → Sym → List ℕ
+noted f (Var v) = []
+noted f (Int i) = mixed (position_below f.mark f.left) (Int i) ∷ []
+noted f (Fun g n) = mixed (position_below f.mark f.left) (Fun g n) ∷ []
 
 -- the parents after a symbol was read as the next one of a parent
 abbrev pub onward : Parent → Sym → List Parent → List Parent

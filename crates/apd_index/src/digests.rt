@@ -6,21 +6,12 @@ ghost use Rattle.apd_marks.specs.Mixing.{mixed};
 ghost use Rattle.apd_index.specs.Subterms.{bare, digests, joined};
 
 use apd_marks::mixed;
+use apd_skips::arity_of;
 use apd_term::{Flat, Sym};
 use std::alloc::{AllocError, Global};
 
 /// What digests begin with.
 const FRESH: u64 = 1;
-
-/// How many arguments the symbol has.
-pub(crate) fn arity_of(symbol: Sym) -> usize
-    ensures { result ≡ arity_of symbol }
-{
-    match symbol {
-        Sym::Fun(_, arity) => arity as usize,
-        _ => 0,
-    }
-}
 
 /// The symbol without the number of its arguments.
 fn bare(symbol: Sym) -> Sym

@@ -1,101 +1,72 @@
 //! What is noted of an atom when it is put. A large one is compared with each atom that is looked up: as many as there is room for cost
 //! less so than their marks would.
 
-ghost use Rattle.std.specs.Prelude.{◌≡◌, ◌++◌, ◌∷◌, [], ℕ, List, length, IfOk, IsTrue, OnOk};
+ghost use Rattle.std.specs.Prelude.{◌≡◌, ℕ, List, IfOk, IfSome, IsTrue, OnOk};
 ghost use Rattle.apd_term.specs.Term.{IsAmong, Term};
-ghost use Rattle.apd_index.specs.Columns.{AddsOf, HasColumns, HasUnlikes, KeepsEntries};
-ghost use Rattle.apd_index.specs.Retrieval.{AreKept, IsNoted};
-ghost use Rattle.apd_index.specs.Sharing.{HasRows};
+ghost use Rattle.apd_index.specs.Columns.{AddsOf, HasColumns, HasUnlikes};
+ghost use Rattle.apd_index.specs.Nodes.{AreKept};
+ghost use Rattle.apd_index.specs.Retrieval.{IsNoted};
+ghost use Rattle.apd_index.specs.Subterms.{digests as digests_in};
+ghost use Rattle.apd_index.specs.Table.{Grows, IsSound};
 
-use crate::columns::{Columns, note};
-use crate::sharing::{Rows, note_all};
+use crate::columns::Columns;
 use crate::unlike::Unlikes;
-use apd_marks::{Places, all_marks};
+use crate::walk::{Table, note_atom};
 use apd_term::Flat;
-use indexmap::IndexMap;
 use std::alloc::{AllocError, Global};
 use std::mem::replace;
 
 /// An atom of more symbols is large.
 const LARGE: usize = 8192;
 
-/// Whether the atom is large.
-fn is_large(atom: &Flat) -> bool {
-    atom.symbols().len() > LARGE
+/// With more links there might be no numbers for those of an atom.
+const FULL: usize = 4_294_959_000;
+
+/// The place of an atom that isn't large, which has 32 bits then. Behind so many links as there may be, each is large.
+fn small_place(atom: &Flat, links: usize, place: usize) -> Option<u32>
+    ensures { IfSome result (λ k. k ≡ place) }
+{
+    if atom.symbols().len() > LARGE || links > FULL {
+        return None;
+    }
+    u32::try_from(place).ok()
 }
 
-/// Notes a place for the marks of its atom, or as that of a large one.
-pub(crate) fn note_atom(
+/// Notes an atom with a place, and tells whether what was put into columns is right.
+pub(crate) fn note_any(
     alloc: Global,
-    places: &mut Places,
-    rows: &mut Rows,
+    table: &mut Table,
     large: &mut Vec<usize>,
-    place: usize,
     atom: &Flat,
-) -> Result<(), AllocError>
-    requires { HasRows places.old rows.old }
-    ensures rows { HasRows places.new rows.new }
-    ensures kept { AreKept places.old places.new }
-    ensures still { (k : ℕ) → IsAmong large.old.items k → IsAmong large.new.items k }
-    ensures noted { OnOk result (IsNoted places.new large.new.items place atom.now) }
-{
-    if is_large(atom) {
-        large.push(place)?;
-        return Ok(());
-    }
-    let marks = all_marks(alloc, atom)?;
-    note_all(alloc, places, rows, marks.as_slice(), place)
-}
-
-/// Notes what an atom has at its positions, unless it is large, and tells whether that is right.
-fn note_columns(
-    alloc: Global,
-    columns: &mut Columns,
+    digests: &[u64],
     place: usize,
-    atom: &Flat,
 ) -> Result<bool, AllocError>
+    requires sound { IsSound table.old }
+    requires digests { digests.now ≡ digests_in atom.now }
+    ensures grows { Grows table.old table.new }
+    ensures still { (k : ℕ) → IsAmong large.old.items k → IsAmong large.new.items k }
+    ensures noted { OnOk result (IsNoted table.new.nodes large.new.items place atom.now) }
     ensures adds { IfOk result (λ b. IsTrue b
-        → AddsOf columns.old atom.now place columns.new) }
-    ensures keeps { KeepsEntries columns.old columns.new }
+        → AddsOf table.new.nodes table.old.columns atom.now place table.new.columns) }
 {
-    if is_large(atom) {
-        return Ok(true);
-    }
-    note(alloc, columns, place, atom)
-}
-
-/// Forgets what atoms have at their positions: they are compared then.
-fn forget(alloc: Global, columns: &mut Columns, unlikes: &mut Unlikes)
-    ensures columns { (xs : List Term) → HasColumns xs columns.new }
-    ensures unlikes { HasUnlikes columns.new unlikes.new }
-{
-    drop(replace(columns, IndexMap::new(alloc)));
-    drop(replace(unlikes, IndexMap::new(alloc)));
-}
-
-/// Notes what an atom, the last one of a list, has at its positions. Where two of these share a mark, which they do by chance alone,
-/// and after want of memory, what all atoms have there is forgotten.
-pub(crate) fn note_positions(
-    alloc: Global,
-    columns: &mut Columns,
-    unlikes: &mut Unlikes,
-    place: usize,
-    atom: &Flat,
-) -> Result<(), AllocError>
-    requires { HasUnlikes columns.old unlikes.old }
-    ensures columns { (xs : List Term) → length xs ≡ place → HasColumns xs columns.old
-        → HasColumns (xs ++ atom.now ∷ []) columns.new }
-    ensures unlikes { HasUnlikes columns.new unlikes.new }
-{
-    match note_columns(alloc, columns, place, atom) {
-        Ok(true) => Ok(()),
-        Ok(false) => {
-            forget(alloc, columns, unlikes);
-            Ok(())
-        }
-        Err(e) => {
-            forget(alloc, columns, unlikes);
-            Err(e)
+    match small_place(atom, table.nodes.links.len(), place) {
+        Some(place) => note_atom(alloc, table, atom, digests, place),
+        None => {
+            large.push(place)?;
+            Ok(true)
         }
     }
+}
+
+/// Forgets what atoms have at their positions: they are compared from now on.
+pub(crate) fn give_up(alloc: Global, table: &mut Table, unlikes: &mut Unlikes)
+    requires { IsSound table.old }
+    ensures sound { IsSound table.new }
+    ensures kept { AreKept table.old.nodes table.new.nodes }
+    ensures columns { (xs : List Term) → HasColumns xs table.new.nodes table.new.columns }
+    ensures unlikes { HasUnlikes table.new.columns unlikes.new }
+{
+    table.is_given_up = true;
+    drop(replace(&mut table.columns, Columns::new(alloc)));
+    drop(replace(unlikes, Unlikes::new(alloc)));
 }

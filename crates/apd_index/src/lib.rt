@@ -3,18 +3,18 @@
 
 mod columns;
 mod digests;
+mod gathered;
 mod generals;
-mod kept;
 mod large;
 mod marked;
+mod nodes;
 mod positions;
 mod repeats;
-mod rows;
 mod sharing;
-mod skips;
 mod specials;
 mod unlike;
+mod waiting;
+mod walk;
 
 pub use generals::Generals;
-pub use rows::Row;
 pub use specials::Specials;

@@ -1,4 +1,4 @@
-//! Marks of a term's positions, whatever stands there.
+//! A term's positions, whatever stands there.
 
 ghost use Rattle.std.specs.Prelude.{◌≡◌, IfOk, OnOk};
 ghost use Rattle.apd_index.specs.Subterms.{onward, position_below, positions, waiting};
@@ -8,17 +8,17 @@ use apd_term::{Flat, Sym};
 use std::alloc::{AllocError, Global};
 
 /// What marks of positions begin with.
-const TOP: u64 = 7;
+pub(crate) const TOP: u64 = 7;
 
-/// A symbol's mark, and how many of the terms below it are still to be read.
+/// A symbol's mark, and how many of the terms below it are still to be read: the position of the next one.
 #[derive(Clone, Copy)]
 pub(crate) struct Parent {
     pub mark: u64,
     pub left: u64,
 }
 
-/// The mark of the position of the next term of a parent.
-fn next_position(parent: Parent) -> u64
+/// What the mark of the next symbol of a parent begins with.
+pub(crate) fn next_position(parent: Parent) -> u64
     ensures { result ≡ position_below parent.mark parent.left }
 {
     mixed(parent.mark, Sym::Var(parent.left))
@@ -49,8 +49,8 @@ fn go_on(parents: &mut Vec<Parent>, parent: Parent, symbol: Sym) -> Result<(), A
     }
 }
 
-/// The marks of the positions of the term's symbols, in prefix order.
-pub(crate) fn positions_of(alloc: Global, term: &Flat) -> Result<Vec<u64>, AllocError>
+/// The positions of the term's symbols, in prefix order.
+pub(crate) fn positions_of(alloc: Global, term: &Flat) -> Result<Vec<Parent>, AllocError>
     ensures { IfOk result (λ ps. ps.items ≡ positions term.now) }
 {
     let mut positions = Vec::new(alloc);
@@ -60,7 +60,7 @@ pub(crate) fn positions_of(alloc: Global, term: &Flat) -> Result<Vec<u64>, Alloc
         let Some(parent) = parents.pop() else {
             return Ok(positions);
         };
-        positions.push(next_position(parent))?;
+        positions.push(parent)?;
         go_on(&mut parents, parent, *symbol)?;
     }
     Ok(positions)

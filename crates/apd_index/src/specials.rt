@@ -1,71 +1,81 @@
 //! Atoms that are looked up by what they are instances of.
 
-ghost use Rattle.std.specs.Prelude.{◌≡◌, ◌++◌, ◌∷◌, ◌<◌, ◌≤◌, ◌/◌, [], ℕ, IfOk, MatchBool, OnErr, OnOk, slice_get};
-ghost use Rattle.apd_term.specs.Term.{IsAmong};
-ghost use Rattle.apd_marks.specs.Places.{places_at};
+ghost use Rattle.std.specs.Prelude.{◌≡◌, ◌++◌, ◌∷◌, ◌<◌, ◌≤◌, ◌/◌, [], ℕ, length, IfOk, IsTrue, MatchBool, OnErr, OnOk, slice_get};
+ghost use Rattle.apd_term.specs.Term.{IsAmong, IsGround};
 ghost use Rattle.apd_marks.specs.Positions.{marks_of};
-ghost use Rattle.apd_index.specs.Columns.{HasUnlikes, IsAlike};
-ghost use Rattle.apd_index.specs.Retrieval.{AreSpecials, NoneLeft, SomeLeft, has_special, is_below, is_left_below};
-ghost use Rattle.apd_index.specs.Rows.{HasBit};
-ghost use Rattle.apd_index.specs.Sharing.{HasRows};
+ghost use Rattle.apd_index.specs.Columns.{HasColumns, HasUnlikes, IsAlike};
+ghost use Rattle.apd_index.specs.Nodes.{noted_at};
+ghost use Rattle.apd_index.specs.Retrieval.{AreSpecials, AreWholes, NoneLeft, SomeLeft, has_special, is_below, is_left_below};
+ghost use Rattle.apd_bits.specs.Rows.{HasBit};
+ghost use Rattle.apd_index.specs.Table.{Grows, IsSound};
 
-use crate::columns::Columns;
-use crate::kept::Kept;
-use crate::large::{note_atom, note_positions};
-use crate::marked::narrow;
+use crate::digests::digests_of;
+use crate::large::give_up;
 use crate::repeats::{prepare, strike_unequal};
-use crate::rows::Row;
-use crate::sharing::{Rows, alike};
+use crate::sharing::{alike, narrow};
 use crate::unlike::Unlikes;
-use apd_base::ListOf;
-use apd_marks::Places;
+use crate::waiting::{cost_of, gather, note_or_wait, root_of};
+use crate::walk::Table;
+use apd_bits::Row;
+use apd_marks::{Places, note, whole, with_mark};
+use apd_skips::{Kept, KeptAtoms};
 use apd_term::Flat;
 use indexmap::IndexMap;
 use std::alloc::{AllocError, Global};
 use std::marker::Model;
 
-/// Atoms that are kept with the skips of their symbols.
-type KeptAtoms = ListOf<Kept>;
-
-/// Puts an atom at the end. Its place is noted first: where there is no atom, it is passed over.
+/// Puts an atom at the end, and tells whether what was put into columns is right. Its place is noted first: where there is no atom, it
+/// is passed over.
 fn put(
     alloc: Global,
     atoms: &mut KeptAtoms,
-    places: &mut Places,
-    rows: &mut Rows,
+    table: &mut Table,
     large: &mut Vec<usize>,
+    waiting: &mut Places,
     atom: &Flat,
-) -> Result<(), AllocError>
-    requires noted { AreSpecials atoms.old places.old large.old.items }
-    requires rows { HasRows places.old rows.old }
+) -> Result<bool, AllocError>
+    requires noted { AreSpecials atoms.old table.old.nodes large.old.items waiting.old }
+    requires sound { IsSound table.old }
+    requires columns { HasColumns atoms.old table.old.nodes table.old.columns }
     ensures ok { OnOk result (atoms.new ≡ atoms.old ++ atom.now ∷ []) }
     ensures err { OnErr result (atoms.new ≡ atoms.old) }
-    ensures noted { AreSpecials atoms.new places.new large.new.items }
-    ensures rows { HasRows places.new rows.new }
+    ensures noted { AreSpecials atoms.new table.new.nodes large.new.items waiting.new }
+    ensures grows { Grows table.old table.new }
+    ensures columns { IfOk result (λ b. IsTrue b
+        → HasColumns atoms.new table.new.nodes table.new.columns) }
 {
-    let kept = Kept::of(alloc, atom)?;
-    note_atom(alloc, places, rows, large, atoms.len(), atom)?;
-    atoms.push(kept)
+    let digests = digests_of(alloc, atom)?;
+    let kept = Kept::of(alloc, atom, digests.as_slice())?;
+    let place = atoms.len();
+    let is_right = note_or_wait(
+        alloc,
+        table,
+        large,
+        waiting,
+        atom,
+        digests.as_slice(),
+        place,
+    )?;
+    atoms.push(kept)?;
+    Ok(is_right)
 }
 
 /// A row with the bit of each of the mark's places that may have an instance of the atom, by what it has at positions.
 fn likely(
     alloc: Global,
-    places: &Places,
-    rows: &Rows,
-    columns: &Columns,
+    table: &Table,
     unlikes: &Unlikes,
     mark: u64,
     atom: &Flat,
 ) -> Result<Row, AllocError>
-    requires rows { HasRows places.now rows.now }
-    requires unlikes { HasUnlikes columns.now unlikes.now }
-    ensures { IfOk result (λ row. (k : ℕ) → IsAmong (places_at places.now mark) k
-        → ((m : ℕ) → IsAmong (marks_of atom.now) m → IsAmong (places_at places.now m) k)
-        → IsAlike columns.now atom.now k → HasBit row k) }
+    requires sound { IsSound table.now }
+    requires unlikes { HasUnlikes table.now.columns unlikes.now }
+    ensures { IfOk result (λ row. (k : ℕ) → IsAmong (noted_at table.now.nodes mark) k
+        → ((m : ℕ) → IsAmong (marks_of atom.now) m → IsAmong (noted_at table.now.nodes m) k)
+        → IsAlike table.now.nodes table.now.columns atom.now k → HasBit row k) }
 {
-    let mut row = alike(alloc, places, rows, mark, atom)?;
-    strike_unequal(alloc, columns, unlikes, atom, &mut row)?;
+    let mut row = alike(alloc, &table.nodes, mark, atom)?;
+    strike_unequal(alloc, &table.nodes, &table.columns, unlikes, atom, &mut row)?;
     Ok(row)
 }
 
@@ -123,18 +133,39 @@ fn some_below(alloc: Global, atoms: &KeptAtoms, row: &Row, atom: &Flat) -> Resul
     Ok(false)
 }
 
+/// Whether some of these is this ground atom: it has no other instance.
+fn has_same(
+    alloc: Global,
+    atoms: &KeptAtoms,
+    wholes: &Places,
+    atom: &Flat,
+) -> Result<bool, AllocError>
+    requires ground { IsGround atom.now }
+    requires wholes { AreWholes atoms.now wholes.now }
+    ensures { IfOk result (λ b. b ≡ has_special atoms.now atom.now) }
+{
+    let mut row = Row::new(alloc);
+    row.set_all(with_mark(wholes, whole(atom)))?;
+    some_below(alloc, atoms, &row, atom)
+}
+
+/// Comparisons with atoms that wait may take so long, in symbols that are compared, before such atoms are noted.
+const PATIENCE: usize = 1_048_576;
+
 /// Atoms that are looked up by what they are instances of. Contracts see their list.
 #[derive(Drop)]
 pub struct Specials {
     atoms: KeptAtoms,
-    /// The places of atoms by each of their marks.
-    places: Places,
-    /// The same for marks that many share, as rows of bits.
-    rows: Rows,
+    /// The place of each atom, by the mark of the whole.
+    wholes: Places,
+    /// What is noted of their symbols.
+    table: Table,
     /// The places of large atoms, of which nothing is noted otherwise.
     large: Vec<usize>,
-    /// What atoms have at their positions.
-    columns: Columns,
+    /// The places of atoms of which nothing is noted yet, by the marks of their root symbols.
+    waiting: Places,
+    /// How long comparisons with atoms that waited took at most, in symbols that were compared.
+    compared: usize,
     /// Where atoms have unequal terms at two positions, of the pairs of positions that were asked about.
     unlikes: Unlikes,
 }
@@ -145,8 +176,8 @@ impl Model for Specials {
     ghost use Rattle.apd_term.specs.Term.{Term};
     ghost use Rattle.apd_term.specs.Spelling.{term_code};
     ghost use Rattle.apd_index.specs.Columns.{HasColumns, HasUnlikes};
-    ghost use Rattle.apd_index.specs.Retrieval.{AreSpecials};
-    ghost use Rattle.apd_index.specs.Sharing.{HasRows};
+    ghost use Rattle.apd_index.specs.Retrieval.{AreSpecials, AreWholes};
+    ghost use Rattle.apd_index.specs.Table.{IsSound};
 
     ghost Value = { List Term };
 
@@ -154,9 +185,10 @@ impl Model for Specials {
 
     ghost view = { λ d. d.atoms };
 
-    ghost invariant = { λ d. AreSpecials d.atoms d.places d.large.items
-        × (HasRows d.places d.rows × (HasColumns d.atoms d.columns
-        × HasUnlikes d.columns d.unlikes)) };
+    ghost invariant = { λ d. (AreWholes d.atoms d.wholes
+        × AreSpecials d.atoms d.table.nodes d.large.items d.waiting)
+        × (IsSound d.table × (HasColumns d.atoms d.table.nodes d.table.columns
+        × HasUnlikes d.table.columns d.unlikes)) };
 }
 
 impl Specials {
@@ -166,11 +198,12 @@ impl Specials {
     {
         Specials {
             atoms: KeptAtoms::new(alloc),
-            places: IndexMap::new(alloc),
-            rows: IndexMap::new(alloc),
+            wholes: IndexMap::new(alloc),
+            table: Table::new(alloc),
             large: Vec::new(alloc),
-            columns: IndexMap::new(alloc),
-            unlikes: IndexMap::new(alloc),
+            waiting: IndexMap::new(alloc),
+            compared: 0,
+            unlikes: Unlikes::new(alloc),
         }
     }
 
@@ -178,40 +211,85 @@ impl Specials {
     pub fn put(&mut self, alloc: Global, atom: &Flat) -> Result<(), AllocError>
         ensures { OnOk result (self.new ≡ self.old ++ atom.now ∷ []) }
     {
-        let place = self.atoms.len();
-        put(
+        note(alloc, &mut self.wholes, whole(atom), self.atoms.len())?;
+        match put(
             alloc,
             &mut self.atoms,
-            &mut self.places,
-            &mut self.rows,
+            &mut self.table,
             &mut self.large,
+            &mut self.waiting,
             atom,
-        )?;
-        note_positions(alloc, &mut self.columns, &mut self.unlikes, place, atom)
+        ) {
+            Ok(true) => Ok(()),
+            Ok(false) => {
+                give_up(alloc, &mut self.table, &mut self.unlikes);
+                Ok(())
+            }
+            Err(e) => {
+                give_up(alloc, &mut self.table, &mut self.unlikes);
+                Err(e)
+            }
+        }
+    }
+
+    /// Notes the atoms that wait at the root of this one, where they are many.
+    fn gather(&mut self, alloc: Global, atom: &Flat) -> Result<(), AllocError>
+        ensures { self.new ≡ self.old }
+    {
+        match gather(
+            alloc,
+            &self.atoms,
+            &mut self.table,
+            &mut self.large,
+            &mut self.waiting,
+            atom,
+        ) {
+            Ok(true) => Ok(()),
+            Ok(false) => {
+                give_up(alloc, &mut self.table, &mut self.unlikes);
+                Ok(())
+            }
+            Err(e) => {
+                give_up(alloc, &mut self.table, &mut self.unlikes);
+                Err(e)
+            }
+        }
     }
 
     /// Computes ahead what tells whether some of these is an instance of the atom, and keeps it. The list stays as it is.
     pub fn prepare(&mut self, alloc: Global, atom: &Flat) -> Result<(), AllocError>
         ensures { self.new ≡ self.old }
     {
-        prepare(alloc, &self.columns, &mut self.unlikes, atom)
+        if atom.is_ground() {
+            return Ok(());
+        }
+        self.compared = self.compared.saturating_add(cost_of(&self.waiting, atom));
+        if self.compared > PATIENCE {
+            self.gather(alloc, atom)?;
+        }
+        prepare(
+            alloc,
+            &self.table.nodes,
+            &self.table.columns,
+            &mut self.unlikes,
+            atom,
+        )
     }
 
-    /// Whether some of these is an instance of the atom.
+    /// Whether some of these is an instance of the atom. Of a variable, each is.
     pub fn has_special(&self, alloc: Global, atom: &Flat) -> Result<bool, AllocError>
         ensures { IfOk result (λ b. b ≡ has_special self.now atom.now) }
     {
-        let mark = narrow(alloc, &self.places, atom)?;
-        let mut row = likely(
-            alloc,
-            &self.places,
-            &self.rows,
-            &self.columns,
-            &self.unlikes,
-            mark,
-            atom,
-        )?;
+        if atom.is_ground() {
+            return has_same(alloc, &self.atoms, &self.wholes, atom);
+        }
+        let Some(root) = root_of(atom) else {
+            return is_below(alloc, &self.atoms, 0, atom);
+        };
+        let mark = narrow(alloc, &self.table.nodes, atom)?;
+        let mut row = likely(alloc, &self.table, &self.unlikes, mark, atom)?;
         row.set_all(self.large.as_slice())?;
+        row.set_all(with_mark(&self.waiting, root))?;
         some_below(alloc, &self.atoms, &row, atom)
     }
 }

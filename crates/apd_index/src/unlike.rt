@@ -1,22 +1,23 @@
-//! Places that have unequal terms at two positions, kept for pairs of positions. What differs once does so when more atoms are put,
+//! Places that have unequal terms at two positions, kept for pairs of columns. What differs once does so when more atoms are put,
 //! so columns are walked on from where they were walked to.
 
-ghost use Rattle.std.specs.Prelude.{◌≡◌, ℕ, Some, nat_eq, IfSome, IsTrue};
-ghost use Rattle.indexmap.specs.IndexMap.{get};
-ghost use Rattle.apd_index.specs.Columns.{AreUnlike, HasUnlikes, IsUnlike, Table};
+ghost use Rattle.std.specs.Prelude.{◌≡◌, IsTrue};
+ghost use Rattle.apd_index.specs.Columns.{AddsUnlike, AreColumns, HasGathered, HasPairs, HasUnlikes, IsUnlike};
+ghost use Rattle.apd_index.specs.declared.columns.Columns.{Columns as Table};
 
-use crate::columns::{Columns, Entry, column_at};
-use crate::rows::Row;
+use crate::columns::{Columns, Entry};
+use crate::gathered::{Gatherings, entries_of, gather};
+use apd_bits::Row;
 use apd_marks::mixed;
 use apd_term::Sym;
 use indexmap::IndexMap;
 use std::alloc::{AllocError, Global};
 
-/// Two positions at which an atom has the same variable.
+/// The columns of two positions at which an atom has the same variable.
 #[derive(Clone, Copy)]
 pub(crate) struct Repeat {
-    pub one: u64,
-    pub other: u64,
+    pub one: usize,
+    pub other: usize,
 }
 
 /// How many entries of two columns were walked.
@@ -26,21 +27,40 @@ pub(crate) struct Walked {
     pub others: usize,
 }
 
-/// Of two positions the places for which their columns have different tags, as far as they were walked.
+/// Of two columns the places for which they have different tags, as far as they were walked.
 #[derive(Drop)]
 pub(crate) struct Unlike {
-    pub one: u64,
-    pub other: u64,
+    pub one: usize,
+    pub other: usize,
     pub row: Row,
     pub walked: Walked,
 }
 
-/// What is kept of pairs of positions, each by a number that two pairs share by chance alone.
-pub(crate) type Unlikes = IndexMap<u64, Unlike>;
+/// Pairs of columns, each by a number that two share by chance alone.
+type Pairs = IndexMap<u64, Unlike>;
+
+/// What is kept of pairs of columns, and the columns that they are of.
+#[derive(Drop)]
+pub(crate) struct Unlikes {
+    pub pairs: Pairs,
+    pub gatherings: Gatherings,
+}
+
+impl Unlikes {
+    /// Nothing is kept.
+    pub(crate) fn new(alloc: Global) -> Unlikes
+        ensures { (columns : Table) → HasUnlikes columns result }
+    {
+        Unlikes {
+            pairs: IndexMap::new(alloc),
+            gatherings: IndexMap::new(alloc),
+        }
+    }
+}
 
 /// The number of a pair.
 pub(crate) fn key_of(repeat: Repeat) -> u64 {
-    mixed(repeat.one, Sym::Var(repeat.other))
+    mixed(repeat.one as u64, Sym::Var(repeat.other as u64))
 }
 
 /// Whether this is kept of the pair.
@@ -64,8 +84,8 @@ fn nothing_of(alloc: Global, repeat: Repeat) -> Unlike
 }
 
 /// Whether something is kept of the pair.
-fn is_kept(unlikes: &Unlikes, repeat: Repeat) -> bool {
-    match unlikes.get(&key_of(repeat)) {
+fn is_kept(pairs: &Pairs, repeat: Repeat) -> bool {
+    match pairs.get(&key_of(repeat)) {
         Some(unlike) => is_of(unlike, repeat),
         None => false,
     }
@@ -74,8 +94,7 @@ fn is_kept(unlikes: &Unlikes, repeat: Repeat) -> bool {
 /// Walks two columns on, and sets the bits of places for which they have different tags. Their places rise, so they are walked at
 /// once; entries with one tag are passed without a look at their places.
 fn walk(row: &mut Row, ones: &[Entry], others: &[Entry], from: Walked) -> Result<Walked, AllocError>
-    requires { AreUnlike ones.now others.now row.old }
-    ensures { AreUnlike ones.now others.now row.new }
+    ensures { AddsUnlike ones.now others.now row.old row.new }
 {
     let mut i = from.ones;
     let mut j = from.others;
@@ -86,7 +105,7 @@ fn walk(row: &mut Row, ones: &[Entry], others: &[Entry], from: Walked) -> Result
             i += 1;
             j += 1;
         } else if one.place == other.place {
-            row.set(one.place)?;
+            row.set(one.place as usize)?;
             i += 1;
             j += 1;
         } else if one.place < other.place {
@@ -99,42 +118,36 @@ fn walk(row: &mut Row, ones: &[Entry], others: &[Entry], from: Walked) -> Result
 }
 
 /// Brings what is kept of a pair up to date.
-fn go_on(columns: &Columns, unlike: &mut Unlike) -> Result<(), AllocError>
-    requires { IsUnlike columns.now unlike.old }
-    ensures { IsUnlike columns.now unlike.new }
+fn go_on(gatherings: &Gatherings, unlike: &mut Unlike) -> Result<(), AllocError>
+    ensures { (columns : Table) → HasGathered columns gatherings.now
+        → IsUnlike columns unlike.old → IsUnlike columns unlike.new }
 {
-    let ones = column_at(columns, unlike.one);
-    let others = column_at(columns, unlike.other);
+    let ones = entries_of(gatherings, unlike.one);
+    let others = entries_of(gatherings, unlike.other);
     let walked = walk(&mut unlike.row, ones, others, unlike.walked)?;
     unlike.walked = walked;
     Ok(())
 }
 
 /// Brings what is kept by a number up to date.
-fn bring(columns: &Columns, unlikes: &mut Unlikes, key: u64) -> Result<(), AllocError>
-    requires { HasUnlikes columns.now unlikes.old }
-    ensures { HasUnlikes columns.now unlikes.new }
+fn bring(gatherings: &Gatherings, pairs: &mut Pairs, key: u64) -> Result<(), AllocError>
+    ensures { (columns : Table) → HasGathered columns gatherings.now
+        → HasPairs columns pairs.old → HasPairs columns pairs.new }
 {
-    match unlikes.get_mut(&key) {
-        Some(unlike) => go_on(columns, unlike),
+    match pairs.get_mut(&key) {
+        Some(unlike) => go_on(gatherings, unlike),
         None => Ok(()),
     }
 }
 
 /// Keeps the pair, of which nothing may be known yet.
-fn begin(
-    alloc: Global,
-    columns: &Columns,
-    unlikes: &mut Unlikes,
-    repeat: Repeat,
-) -> Result<(), AllocError>
-    requires { HasUnlikes columns.now unlikes.old }
-    ensures { HasUnlikes columns.now unlikes.new }
+fn begin(alloc: Global, pairs: &mut Pairs, repeat: Repeat) -> Result<(), AllocError>
+    ensures { (columns : Table) → HasPairs columns pairs.old → HasPairs columns pairs.new }
 {
-    if is_kept(unlikes, repeat) {
+    if is_kept(pairs, repeat) {
         return Ok(());
     }
-    drop(unlikes.insert(key_of(repeat), nothing_of(alloc, repeat))?);
+    drop(pairs.insert(key_of(repeat), nothing_of(alloc, repeat))?);
     Ok(())
 }
 
@@ -145,9 +158,12 @@ pub(crate) fn keep(
     unlikes: &mut Unlikes,
     repeat: Repeat,
 ) -> Result<(), AllocError>
-    requires { HasUnlikes columns.now unlikes.old }
+    requires columns { AreColumns columns.now }
+    requires unlikes { HasUnlikes columns.now unlikes.old }
     ensures { HasUnlikes columns.now unlikes.new }
 {
-    begin(alloc, columns, unlikes, repeat)?;
-    bring(columns, unlikes, key_of(repeat))
+    gather(alloc, columns, &mut unlikes.gatherings, repeat.one)?;
+    gather(alloc, columns, &mut unlikes.gatherings, repeat.other)?;
+    begin(alloc, &mut unlikes.pairs, repeat)?;
+    bring(&unlikes.gatherings, &mut unlikes.pairs, key_of(repeat))
 }

@@ -1,23 +1,29 @@
-use Rattle.std.proofs.Common.{[], IsSome, ap, refl, sym, subst, unwrap_or, ◌∙◌}
-use Rattle.std.specs.Prelude.{nat_eq}
-use Rattle.indexmap.specs.IndexMap.{get}
-use Rattle.apd_index.proofs.Agreeing.{adds-at-most, ends-with, in-pushed, keeps-entries, this-one}
+use Rattle.std.proofs.Common.{◌≡◌, inl, inr, arith}
+use Rattle.std.specs.Vec.{with_item}
+use Rattle.std.proofs.lemmas.Grind.{common_steps}
+use Rattle.apd_index.proofs.Putting.{ends-not, put-columns, put-keeps}
+use Rattle.apd_index.specs.Columns.{head_at}
+use Rattle.apd_index.specs.declared.columns.Columns.{Columns}
+use Rattle.apd_index.specs.declared.columns.Entry.{Entry}
 use Rattle.apd_index.proofs.columns.put.Goals as goal
+use Rattle.apd_index.proofs.columns.put.Goals.{else-head-ne0-via-then-head-ne0+else-head-place, else-head-ne0-via-else-head-ne0}
 
-pub returns-in-Some-clause-keeps : goal.returns-in-Some-clause-keeps
-returns-in-Some-clause-keeps c =
-    let there : IsSome (get nat_eq c.args.columns.now c.args.position) = subst (λ o. IsSome o) c.in-Some.ensures.value refl in
-    keeps-entries c.args.columns.now (c.get_mut.follows.lender c.push.new.self) c.args.position c.in-Some.column.now c.push.new.self (ap (λ o. unwrap_or o []) (sym c.in-Some.ensures.value)) (λ q. ((c.get_mut.follows.holds c.push.new.self).3 there).0 q)
-    (λ e h. in-pushed c.push.result c.in-Some.column.now c.push.new.self c.args.entry e c.push.ensures.ok c.push.ensures.err h)
+pub returns-clause-columns : goal.returns-clause-columns
+returns-clause-columns c =
+    let e : Entry = record { place = c.args.place; tag = c.tagged.result; before = c.index-head.result.now.last } in
+    let new : Columns = record { heads = with_item c.grow.new.heads c.args.number (record { last = c.in-Some.last; place = c.args.place }); entries = c.push.new.self } in
+    put-columns c.args.columns.now new c.args.number e c.in-Some.last c.requires (grind (arith, common_steps)) (λ k n. grind (arith, common_steps)) (grind (arith, common_steps)) (grind (arith, common_steps)) (grind (arith, common_steps))
 
-pub returns-in-Some-clause-adds : goal.returns-in-Some-clause-adds
-returns-in-Some-clause-adds c =
-    let there : IsSome (get nat_eq c.args.columns.now c.args.position) = subst (λ o. IsSome o) c.in-Some.ensures.value refl in
-    adds-at-most c.args.columns.now (c.get_mut.follows.lender c.push.new.self) c.args.position c.in-Some.column.now c.push.new.self c.args.entry (ap (λ o. unwrap_or o []) (sym c.in-Some.ensures.value))
-    (λ q. ((c.get_mut.follows.holds c.push.new.self).3 there).0 q) c.in_ok-push.ensures.ok
+pub returns-clause-keeps : goal.returns-clause-keeps
+returns-clause-keeps c =
+    let e : Entry = record { place = c.args.place; tag = c.tagged.result; before = c.index-head.result.now.last } in
+    let new : Columns = record { heads = with_item c.grow.new.heads c.args.number (record { last = c.in-Some.last; place = c.args.place }); entries = c.push.new.self } in
+    put-keeps c.args.columns.now new c.args.number e c.in-Some.last c.requires (grind (arith, common_steps)) (λ k n. grind (arith, common_steps)) (grind (arith, common_steps)) (grind (arith, common_steps)) (grind (arith, common_steps))
 
-pub returns-in-Some-clause-ends : goal.returns-in-Some-clause-ends
-returns-in-Some-clause-ends c =
-    let there : IsSome (get nat_eq c.args.columns.now c.args.position) = subst (λ o. IsSome o) c.in-Some.ensures.value refl in
-    ends-with c.in-Some.column.now (c.get_mut.follows.lender c.push.new.self) c.args.position c.args.entry
-    (this-one c.args.columns.now (c.get_mut.follows.lender c.push.new.self) c.args.position c.push.new.self (λ q. ((c.get_mut.follows.holds c.push.new.self).3 there).0 q) ∙ c.in_ok-push.ensures.ok)
+pub returns-clause-fresh : goal.returns-clause-fresh
+returns-clause-fresh c = λ yes e.
+    let is : c.index-head.result.now ≡ head_at c.args.columns.now.heads.items c.args.number = grind (arith, common_steps) in
+    ends-not c.args.columns.now c.args.number c.args.place c.index-head.result.now c.requires is (elim c.else-head-ne0.branch [
+      | else-head-ne0-via-then-head-ne0+else-head-place w ↦ inr (w.if-head-place.false)
+      | else-head-ne0-via-else-head-ne0 w ↦ inl (omega (arith, w.if-head-ne0.false))
+    ]) e

@@ -1,0 +1,48 @@
+-- Atoms that waited are noted one after another.
+use Rattle.std.proofs.Common.{◌≡◌, ◌⊎◌, ◌<◌, ◌+◌, ◌++◌, inl, inr, ℕ, Bool, true, false, List, [], ◌∷◌, length, take, get_or, Option, Some, refl, sym, ap, ◌∙◌, subst}
+use Rattle.std.specs.Prelude.{IsTrue, if◌then◌else◌, nat_eq, slice_get, unwrap_or}
+use Rattle.std.proofs.lemmas.Bool.{eqb-true}
+use Rattle.std.proofs.lemmas.List.{take_more}
+use Rattle.indexmap.specs.IndexMap.{get}
+use Rattle.apd_term.specs.Term.{IsAmong, Term}
+use Rattle.apd_term.proofs.Among.{IsAmong-append}
+use Rattle.apd_marks.specs.Places.{Index}
+use Rattle.apd_index.specs.Columns.{HasColumns}
+use Rattle.apd_index.specs.Nodes.{AreKept}
+use Rattle.apd_index.specs.Retrieval.{AreKeptBut, AreNoted, IsNoted}
+use Rattle.apd_index.specs.Table.{Grows}
+use Rattle.apd_index.specs.declared.nodes.Nodes.{Nodes}
+use Rattle.apd_index.specs.declared.walk.Table.{Table}
+use Rattle.apd_index.proofs.Retrieval.{noted-kept}
+
+-- what columns had is right still
+abbrev pub KeepsRight : List Term → Table → Table → Type 0
+KeepsRight xs old new = HasColumns xs old.nodes old.columns → HasColumns xs new.nodes new.columns
+
+-- so many of the places are noted
+pub record AreSo (xs : List Term) (places : List ℕ) (i : ℕ) (old new : Table) (large larger : List ℕ) (are_right : Bool) : Type 0 where
+  pub grows : Grows old new
+  pub still : (k : ℕ) → IsAmong large k → IsAmong larger k
+  pub noted : AreNoted xs new.nodes larger (take i places)
+  pub columns : IsTrue are_right → KeepsRight xs old new
+
+pub noted-more : (xs : List Term) (places : List ℕ) (i place : ℕ) (nodes further : Nodes) (large larger : List ℕ) → i < length places → place ≡ get_or places i 0 → AreKept nodes further
+    → ((k : ℕ) → IsAmong large k → IsAmong larger k) → AreNoted xs nodes large (take i places) → ((x : Term) → slice_get xs place ≡ Some x → IsNoted further larger place x)
+    → AreNoted xs further larger (take (i + 1) places)
+noted-more xs places i place nodes further large larger l is kept still before now k x a e =
+    let split : take (i + 1) places ≡ take i places ++ place ∷ [] = take_more places i 0 l ∙ ap (λ (p : ℕ). take i places ++ p ∷ []) (sym is) in
+    elim (IsAmong-append (take i places) (place ∷ []) k (subst (λ (ks : List ℕ). IsAmong ks k) split a)) [
+      | inl old ↦ noted-kept nodes further large larger k x kept still (before k x old e)
+      | inr last ↦ elim last [
+        | inl same ↦ subst (λ (p : ℕ). IsNoted further larger p x) same (now x (ap (slice_get xs) same ∙ e))
+        | inr none ↦ absurd none
+      ]
+    ]
+
+-- a list that is put for a mark in place of what waits there
+pub forgotten : (old new : Index) (mark : ℕ) (ks : List ℕ) → ((q : ℕ) → get nat_eq new q ≡ (if nat_eq mark q then Some ks else get nat_eq old q)) → AreKeptBut mark old new
+forgotten old new mark ks updates q k a = by (nat_eq mark q) refl
+  where
+    by : (b : Bool) → nat_eq mark q ≡ b → (mark ≡ q) ⊎ IsAmong (unwrap_or (get nat_eq new q) []) k
+    by true e = inl (eqb-true mark q e)
+    by false e = inr (subst (λ (o : Option (List ℕ)). IsAmong (unwrap_or o []) k) (sym (updates q ∙ ap (λ (b : Bool). if b then Some ks else get nat_eq old q) e)) a)

@@ -1,6 +1,0 @@
-use Rattle.apd_term.proofs.Matched.{piece_symbols}
-use Rattle.apd_index.proofs.Skipping.{whole-drop}
-use Rattle.apd_index.proofs.kept.spelling.Goals as goal
-
-pub returns : goal.returns
-returns c = piece_symbols c.args.symbols.now c.args.from c.args.end (whole-drop c.args.symbols.now c.requires.whole c.args.from) c.requires.there c.requires.end

@@ -1,0 +1,30 @@
+use Rattle.std.proofs.Common.{◌≡◌, ◌+◌, ◌≤◌, unwrap_or, refl, sym, ap, ◌∙◌, subst, arith}
+use Rattle.std.specs.Prelude.{nat_eq}
+use Rattle.indexmap.specs.IndexMap.{get}
+use Rattle.apd_index.proofs.Numbering.{IsFresh, absent, all-sound}
+use Rattle.apd_index.specs.declared.nodes.Node.{Node}
+use Rattle.apd_index.proofs.nodes.note.Goals as goal
+
+pub returns-in_err-put_place-clause-sound : goal.returns-in_err-put_place-clause-sound
+returns-in_err-put_place-clause-sound c =
+    let nodes = c.args.nodes.now in
+    let first = c.or_insert-node.result.now in
+    let node = c.put_place.new.node in
+    let fresh : Node = record { last = 0; count = 0; row = 0; slots = c.slots_from.result } in
+    let is : first ≡ unwrap_or (get nat_eq nodes.nodes c.args.mark) fresh = c.or_insert-node.ensures.value ∙ ap (λ o. unwrap_or o fresh) c.in_ok-nodes.ensures.value in
+    let new : IsFresh nodes.next fresh = record { empty = refl; bare = refl; first = c.slots_from.ensures.first } in
+    all-sound nodes c.args.mark fresh first is new c.requires _ node (λ m. grind (arith, (c.in_ok-nodes.ensures.update.0 node).0 m)) c.put_place.ensures.slots c.behind-nodes.ensures.still c.put_place.ensures.falling
+    c.put_place.ensures.chains c.put_place.ensures.bits c.put_place.ensures.right
+    (λ none. c.behind-nodes.ensures.behind (subst (λ (n : Node). n.slots.first + n.slots.count ≤ 4294967295) (sym (absent nodes c.args.mark fresh first is new c.requires none)) c.slots_from.ensures.fits))
+
+pub returns-clause-sound : goal.returns-clause-sound
+returns-clause-sound c =
+    let nodes = c.args.nodes.now in
+    let first = c.or_insert-node.result.now in
+    let node = c.put_place.new.node in
+    let fresh : Node = record { last = 0; count = 0; row = 0; slots = c.slots_from.result } in
+    let is : first ≡ unwrap_or (get nat_eq nodes.nodes c.args.mark) fresh = c.or_insert-node.ensures.value ∙ ap (λ o. unwrap_or o fresh) c.in_ok-nodes.ensures.value in
+    let new : IsFresh nodes.next fresh = record { empty = refl; bare = refl; first = c.slots_from.ensures.first } in
+    all-sound nodes c.args.mark fresh first is new c.requires _ node (λ m. grind (arith, (c.in_ok-nodes.ensures.update.0 node).0 m)) c.put_place.ensures.slots c.behind-nodes.ensures.still c.put_place.ensures.falling
+    c.put_place.ensures.chains c.put_place.ensures.bits c.put_place.ensures.right
+    (λ none. c.behind-nodes.ensures.behind (subst (λ (n : Node). n.slots.first + n.slots.count ≤ 4294967295) (sym (absent nodes c.args.mark fresh first is new c.requires none)) c.slots_from.ensures.fits))

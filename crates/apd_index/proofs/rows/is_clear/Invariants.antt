@@ -1,5 +1,0 @@
-use Rattle.apd_index.proofs.Bits.{AreZeros}
-use Rattle.apd_index.proofs.rows.is_clear.Given as goal
-
-abbrev pub invariant-words : goal.invariant-words
-invariant-words l = AreZeros l.words l.word-index

@@ -1,5 +1,0 @@
-use Rattle.apd_index.proofs.Skipping.{ArePassed}
-use Rattle.apd_index.proofs.skips.are_equal.Given as goal
-
-abbrev pub invariant-terms : goal.invariant-terms
-invariant-terms l = ArePassed l.symbols l.one l.other l._k l.i l.j

@@ -1,0 +1,212 @@
+//! Atoms that wait: nothing is noted of them, and they are compared with each atom of the same root symbol that is looked up. To note
+//! each symbol of them takes longer than to compare them some times. So they wait until look-ups may have compared many symbols of
+//! atoms that waited; from then on those of a root are noted at the next look-up of that root, where they are many.
+
+ghost use Rattle.std.specs.Prelude.{◌≡◌, ℕ, IfOk, IsTrue, OnOk, slice_get, IfSome, Some};
+ghost use Rattle.apd_term.specs.Term.{IsAmong, Term};
+ghost use Rattle.apd_marks.specs.Positions.{top};
+ghost use Rattle.apd_index.specs.Columns.{AddsOf, HasColumns};
+ghost use Rattle.apd_index.specs.Retrieval.{AreKeptBut, AreKeptIn, AreNoted, AreSpecials, IsKnown, IsNoted, root_mark};
+ghost use Rattle.apd_index.specs.Subterms.{digests as digests_in, noted, position};
+ghost use Rattle.apd_index.specs.Table.{Grows, IsSound};
+
+use crate::digests::digests_of;
+use crate::large::note_any;
+use crate::nodes::count_at;
+use crate::positions::{Parent, TOP, next_position};
+use crate::walk::Table;
+use apd_base::ListOf;
+use apd_marks::{Places, mixed, note, with_mark};
+use apd_skips::KeptAtoms;
+use apd_term::{Flat, Sym};
+use std::alloc::{AllocError, Global};
+
+/// So many atoms of one root symbol are few.
+const FEW: usize = 64;
+
+/// How long it takes to find an atom that is compared, in symbols that are compared.
+const TO_FIND: usize = 16;
+
+/// The mark of a root symbol; a variable has none.
+fn mark_of(symbol: Sym) -> Option<u64>
+    ensures { result ≡ slice_get (noted (position top 1) symbol) 0 }
+{
+    let parent = Parent { mark: TOP, left: 1 };
+    match symbol {
+        Sym::Var(_) => None,
+        _ => Some(mixed(next_position(parent), symbol)),
+    }
+}
+
+/// The mark of the atom's root symbol; a variable has none.
+pub(crate) fn root_of(atom: &Flat) -> Option<u64>
+    ensures { result ≡ root_mark atom.now }
+{
+    let symbols = atom.symbols();
+    mark_of(symbols[0])
+}
+
+/// How long it takes at most to compare an atom with those that wait at its root's mark, in symbols that are compared.
+pub(crate) fn cost_of(waiting: &Places, atom: &Flat) -> usize {
+    match root_of(atom) {
+        Some(mark) => {
+            let symbols = atom.symbols().len().saturating_add(TO_FIND);
+            with_mark(waiting, mark).len().saturating_mul(symbols)
+        }
+        None => 0,
+    }
+}
+
+/// Notes the atom at a place, where there is one, and tells whether what was put into columns is right.
+fn note_at(
+    alloc: Global,
+    atoms: &KeptAtoms,
+    table: &mut Table,
+    large: &mut Vec<usize>,
+    place: usize,
+) -> Result<bool, AllocError>
+    requires { IsSound table.old }
+    ensures grows { Grows table.old table.new }
+    ensures still { (k : ℕ) → IsAmong large.old.items k → IsAmong large.new.items k }
+    ensures noted { OnOk result ((x : Term) → slice_get atoms.now place ≡ Some x
+        → IsNoted table.new.nodes large.new.items place x) }
+    ensures columns { IfOk result (λ b. IsTrue b
+        → HasColumns atoms.now table.old.nodes table.old.columns
+        → HasColumns atoms.now table.new.nodes table.new.columns) }
+{
+    let Some(kept) = atoms.get(place) else {
+        return Ok(true);
+    };
+    let atom = kept.atom();
+    let digests = digests_of(alloc, atom)?;
+    note_any(alloc, table, large, atom, digests.as_slice(), place)
+}
+
+/// Whether both are so.
+fn are_both(one: bool, other: bool) -> bool
+    ensures { IsTrue result → IsTrue one × IsTrue other }
+{
+    one && other
+}
+
+/// Notes the atoms at these places.
+fn note_all(
+    alloc: Global,
+    atoms: &KeptAtoms,
+    table: &mut Table,
+    large: &mut Vec<usize>,
+    places: &[usize],
+) -> Result<bool, AllocError>
+    requires { IsSound table.old }
+    ensures grows { Grows table.old table.new }
+    ensures still { (k : ℕ) → IsAmong large.old.items k → IsAmong large.new.items k }
+    ensures noted { OnOk result
+        (AreNoted atoms.now table.new.nodes large.new.items places.now) }
+    ensures columns { IfOk result (λ b. IsTrue b
+        → HasColumns atoms.now table.old.nodes table.old.columns
+        → HasColumns atoms.now table.new.nodes table.new.columns) }
+{
+    let mut are_right = true;
+    'places: for place in places {
+        let is_right = note_at(alloc, atoms, table, large, *place)?;
+        are_right = are_both(are_right, is_right);
+    }
+    Ok(are_right)
+}
+
+/// Forgets what waits at a mark.
+fn forget(alloc: Global, waiting: &mut Places, mark: u64) -> Result<(), AllocError>
+    ensures { AreKeptBut mark waiting.old waiting.new }
+{
+    drop(waiting.insert(mark, ListOf::new(alloc))?);
+    Ok(())
+}
+
+/// Notes the atoms that wait at a mark, where they are many.
+fn gather_at(
+    alloc: Global,
+    atoms: &KeptAtoms,
+    table: &mut Table,
+    large: &mut Vec<usize>,
+    waiting: &mut Places,
+    mark: u64,
+) -> Result<bool, AllocError>
+    requires sound { IsSound table.old }
+    requires noted { AreSpecials atoms.now table.old.nodes large.old.items waiting.old }
+    ensures grows { Grows table.old table.new }
+    ensures noted { AreSpecials atoms.now table.new.nodes large.new.items waiting.new }
+    ensures columns { IfOk result (λ b. IsTrue b
+        → HasColumns atoms.now table.old.nodes table.old.columns
+        → HasColumns atoms.now table.new.nodes table.new.columns) }
+{
+    let places = with_mark(waiting, mark);
+    if places.len() < FEW {
+        return Ok(true);
+    }
+    let are_right = note_all(alloc, atoms, table, large, places)?;
+    forget(alloc, waiting, mark)?;
+    Ok(are_right)
+}
+
+/// Notes the atoms that wait at the mark of an atom's root symbol, where they are many.
+pub(crate) fn gather(
+    alloc: Global,
+    atoms: &KeptAtoms,
+    table: &mut Table,
+    large: &mut Vec<usize>,
+    waiting: &mut Places,
+    atom: &Flat,
+) -> Result<bool, AllocError>
+    requires sound { IsSound table.old }
+    requires noted { AreSpecials atoms.now table.old.nodes large.old.items waiting.old }
+    ensures grows { Grows table.old table.new }
+    ensures noted { AreSpecials atoms.now table.new.nodes large.new.items waiting.new }
+    ensures columns { IfOk result (λ b. IsTrue b
+        → HasColumns atoms.now table.old.nodes table.old.columns
+        → HasColumns atoms.now table.new.nodes table.new.columns) }
+{
+    match root_of(atom) {
+        Some(mark) => gather_at(alloc, atoms, table, large, waiting, mark),
+        None => Ok(true),
+    }
+}
+
+/// The mark at which an atom waits: that of its root symbol, where no place is noted for it.
+fn free_root(table: &Table, atom: &Flat) -> Option<u64>
+    ensures { IfSome result (λ m. root_mark atom.now ≡ Some m) }
+{
+    let Some(mark) = root_of(atom) else {
+        return None;
+    };
+    if count_at(&table.nodes, mark) > 0 {
+        return None;
+    }
+    Some(mark)
+}
+
+/// Notes an atom with a place, or lets it wait, and tells whether what was put into columns is right.
+pub(crate) fn note_or_wait(
+    alloc: Global,
+    table: &mut Table,
+    large: &mut Vec<usize>,
+    waiting: &mut Places,
+    atom: &Flat,
+    digests: &[u64],
+    place: usize,
+) -> Result<bool, AllocError>
+    requires sound { IsSound table.old }
+    requires digests { digests.now ≡ digests_in atom.now }
+    ensures grows { Grows table.old table.new }
+    ensures still { (k : ℕ) → IsAmong large.old.items k → IsAmong large.new.items k }
+    ensures waiting { AreKeptIn waiting.old waiting.new }
+    ensures noted { OnOk result
+        (IsKnown table.new.nodes large.new.items waiting.new place atom.now) }
+    ensures adds { IfOk result (λ b. IsTrue b
+        → AddsOf table.new.nodes table.old.columns atom.now place table.new.columns) }
+{
+    let Some(mark) = free_root(table, atom) else {
+        return note_any(alloc, table, large, atom, digests, place);
+    };
+    note(alloc, waiting, mark, place)?;
+    Ok(true)
+}

@@ -1,0 +1,217 @@
+//! The walk over an atom's symbols that notes each of them, and what the atom has at its positions.
+
+ghost use Rattle.std.specs.Prelude.{◌≡◌, ℕ, IfOk, IsTrue, OnOk, List};
+ghost use Rattle.apd_term.specs.Term.{IsAmong, Term};
+ghost use Rattle.apd_marks.specs.Mixing.{mixed};
+ghost use Rattle.apd_marks.specs.Positions.{all_marks, marks_of};
+ghost use Rattle.apd_index.specs.Columns.{AddsOf, AreColumns, HasColumns, KeepsEntries, tagged};
+ghost use Rattle.apd_index.specs.Nodes.{AreSlots, IsSound as AreSound, noted_at};
+ghost use Rattle.apd_index.specs.Subterms.{digests as digests_in, noted, onward, position_below, waiting};
+ghost use Rattle.apd_index.specs.Table.{AddsNext, AreOpen, Grow, Grows, IsSound, PutsNext, kept_open, parent_of, parents_of};
+
+use crate::columns::{Columns, put};
+use crate::nodes::{Nodes, Slots, note, number_in};
+use crate::positions::{Parent, TOP, next_position};
+use apd_marks::{ANY_TERM, mixed, whole};
+use apd_term::{Flat, Sym};
+use std::alloc::{AllocError, Global};
+
+/// What is kept of atoms' symbols and positions.
+#[derive(Drop)]
+pub(crate) struct Table {
+    pub nodes: Nodes,
+    pub columns: Columns,
+    /// Whether nothing is put into columns any more.
+    pub is_given_up: bool,
+}
+
+impl Table {
+    /// Nothing noted.
+    pub(crate) fn new(alloc: Global) -> Table
+        ensures sound { IsSound result }
+        ensures none { (xs : List Term) → HasColumns xs result.nodes result.columns }
+    {
+        Table {
+            nodes: Nodes::new(alloc),
+            columns: Columns::new(alloc),
+            is_given_up: false,
+        }
+    }
+}
+
+/// A symbol's mark, how many of the terms below it are still to be read, and the columns of these.
+#[derive(Clone, Copy)]
+struct Open {
+    mark: u64,
+    left: u64,
+    slots: Slots,
+}
+
+/// Puts a symbol, where terms below it are left to be read.
+fn wait(open: &mut Vec<Open>, symbol: Open) -> Result<(), AllocError>
+    ensures { OnOk result (open.new.items ≡ kept_open symbol open.old.items) }
+{
+    if symbol.left == 0 {
+        return Ok(());
+    }
+    open.push(symbol)?;
+    Ok(())
+}
+
+/// Puts what stands as the next term of a symbol into its column, where all was right so far, and tells whether all is right.
+fn put_next(
+    columns: &mut Columns,
+    is_right: bool,
+    parent: Open,
+    digest: u64,
+    place: u32,
+) -> Result<bool, AllocError>
+    requires { AreColumns columns.old }
+    ensures columns { AreColumns columns.new }
+    ensures keeps { KeepsEntries columns.old columns.new }
+    ensures adds { AddsNext columns.old parent place (tagged digest place) columns.new }
+    ensures right { IfOk result (λ b. IsTrue b
+        → IsTrue is_right × PutsNext columns.old parent place columns.new) }
+{
+    if !is_right {
+        return Ok(false);
+    }
+    match number_in(parent.slots, parent.left) {
+        Some(number) => put(columns, number, digest, place),
+        None => Ok(false),
+    }
+}
+
+/// The mark of a symbol that is read as the next one of a parent.
+fn mark_below(parent: Open, symbol: Sym) -> u64
+    ensures { result ≡ mixed (position_below parent.mark parent.left) symbol }
+{
+    let position = next_position(Parent {
+        mark: parent.mark,
+        left: parent.left,
+    });
+    mixed(position, symbol)
+}
+
+/// Notes a symbol, and puts what is to be read below it.
+fn note_symbol(
+    alloc: Global,
+    nodes: &mut Nodes,
+    open: &mut Vec<Open>,
+    mark: u64,
+    count: u8,
+    place: u32,
+) -> Result<(), AllocError>
+    requires sound { AreSound nodes.old }
+    requires open { AreOpen nodes.old open.old.items }
+    ensures grow { Grow nodes.old nodes.new }
+    ensures noted { OnOk result (IsAmong (noted_at nodes.new mark) place) }
+    ensures open { OnOk result (AreOpen nodes.new open.new.items) }
+    ensures parents { OnOk result
+        (parents_of open.new.items ≡ waiting mark count (parents_of open.old.items)) }
+{
+    let slots = note(alloc, nodes, mark, count, place)?;
+    wait(
+        open,
+        Open {
+            mark,
+            left: count as u64,
+            slots,
+        },
+    )
+}
+
+/// Notes a symbol that is read as the next one of a parent, and puts what is left to be read.
+fn go_on(
+    alloc: Global,
+    nodes: &mut Nodes,
+    open: &mut Vec<Open>,
+    parent: Open,
+    symbol: Sym,
+    place: u32,
+) -> Result<(), AllocError>
+    requires sound { AreSound nodes.old }
+    requires open { AreOpen nodes.old open.old.items }
+    requires slots { AreSlots nodes.old parent.mark parent.slots }
+    ensures grow { Grow nodes.old nodes.new }
+    ensures noted { OnOk result ((m : ℕ) → IsAmong (noted (parent_of parent) symbol) m
+        → IsAmong (noted_at nodes.new m) place) }
+    ensures open { OnOk result (AreOpen nodes.new open.new.items) }
+    ensures parents { OnOk result (parents_of open.new.items
+        ≡ onward (parent_of parent) symbol (parents_of open.old.items)) }
+{
+    wait(
+        open,
+        Open {
+            mark: parent.mark,
+            left: parent.left.saturating_sub(1),
+            slots: parent.slots,
+        },
+    )?;
+    match symbol {
+        Sym::Var(_) => Ok(()),
+        Sym::Int(_) => note_symbol(alloc, nodes, open, mark_below(parent, symbol), 0, place),
+        Sym::Fun(_, arity) => {
+            note_symbol(alloc, nodes, open, mark_below(parent, symbol), arity, place)
+        }
+    }
+}
+
+/// Notes an atom's symbols, and tells whether what was put into columns is right.
+fn note_symbols(
+    alloc: Global,
+    table: &mut Table,
+    atom: &Flat,
+    digests: &[u64],
+    place: u32,
+) -> Result<bool, AllocError>
+    requires sound { IsSound table.old }
+    requires digests { digests.now ≡ digests_in atom.now }
+    ensures grows { Grows table.old table.new }
+    ensures noted { OnOk result ((m : ℕ) → IsAmong (marks_of atom.now) m
+        → IsAmong (noted_at table.new.nodes m) place) }
+    ensures adds { IfOk result (λ b. IsTrue b
+        → AddsOf table.new.nodes table.old.columns atom.now place table.new.columns) }
+{
+    let mut open = Vec::new(alloc);
+    note_symbol(alloc, &mut table.nodes, &mut open, TOP, 1, place)?;
+    let symbols = atom.symbols();
+    let mut is_right = !table.is_given_up;
+    'symbols: for i in 0..symbols.len() {
+        let Some(parent) = open.pop() else {
+            return Ok(is_right);
+        };
+        is_right = put_next(&mut table.columns, is_right, parent, digests[i], place)?;
+        go_on(
+            alloc,
+            &mut table.nodes,
+            &mut open,
+            parent,
+            symbols[i],
+            place,
+        )?;
+    }
+    Ok(is_right)
+}
+
+/// Notes an atom's marks, and tells whether what was put into columns is right.
+pub(crate) fn note_atom(
+    alloc: Global,
+    table: &mut Table,
+    atom: &Flat,
+    digests: &[u64],
+    place: u32,
+) -> Result<bool, AllocError>
+    requires sound { IsSound table.old }
+    requires digests { digests.now ≡ digests_in atom.now }
+    ensures grows { Grows table.old table.new }
+    ensures noted { OnOk result ((m : ℕ) → IsAmong (all_marks atom.now) m
+        → IsAmong (noted_at table.new.nodes m) place) }
+    ensures adds { IfOk result (λ b. IsTrue b
+        → AddsOf table.new.nodes table.old.columns atom.now place table.new.columns) }
+{
+    let is_right = note_symbols(alloc, table, atom, digests, place)?;
+    note(alloc, &mut table.nodes, whole(atom), 0, place)?;
+    note(alloc, &mut table.nodes, ANY_TERM, 0, place)?;
+    Ok(is_right)
+}

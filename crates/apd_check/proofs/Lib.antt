@@ -1,6 +1,7 @@
 pub mod Atoms
 pub mod Callers
 pub mod Chains
+pub mod Parts
 pub mod Descents
 pub mod Onward
 pub mod Ending

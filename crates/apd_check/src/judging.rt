@@ -1,6 +1,10 @@
 //! Whether what a line finds follows from what was told so far.
 
-ghost use Rattle.std.specs.Prelude.{◌≡◌, ◌↔◌, IfOk, IsTrue};
+ghost use Rattle.std.specs.Prelude.{◌≡◌, ◌↔◌, ◌<◌, ◌^◌, IfOk, IsTrue};
+ghost use Rattle.apd_term.specs.Canonical.{canonical};
+ghost use Rattle.apd_record.specs.Reading.{call_atom};
+ghost use Rattle.apd_answers.specs.Findings.{AllDescendByReplies};
+ghost use Rattle.apd_findings.specs.Calling.{IsBox};
 ghost use Rattle.apd_loop.specs.Loop.{calls_in};
 ghost use Rattle.apd_loop.specs.Turning.{HasBoxes};
 ghost use Rattle.apd_check.specs.Checked.{IsJudged, IsLineOf, IsPlaced};
@@ -12,8 +16,8 @@ use apd_answers::Finding;
 use apd_clauses::Program;
 use apd_findings::{do_descend, is_by_replies};
 use apd_record::Record;
-use apd_term::Atoms;
 use apd_term::canonical::canonical;
+use apd_term::{Atoms, Flat};
 use std::alloc::{AllocError, Global};
 
 /// Whether the clause of this number begins in this line of the program.
@@ -57,6 +61,21 @@ pub(crate) fn judge_finding(
     Ok(None)
 }
 
+/// At most so many calls of a chain are held at a time: so few that they stay near.
+const MOST_CALLS: usize = 8192;
+
+/// The call of a box in canonical form.
+fn canonical_call(alloc: Global, history: &Record, box_no: u32) -> Result<Flat, AllocError>
+    requires { IsBox history.now box_no }
+    ensures { IfOk result (λ call. call ≡ canonical (call_atom history.now box_no)) }
+{
+    let call = history.call_atom(box_no)?;
+    if call.is_ground() {
+        return Ok(call);
+    }
+    canonical(alloc, &call)
+}
+
 /// The calls of the boxes in canonical form.
 fn canonical_calls(alloc: Global, history: &Record, chain: &[u32]) -> Result<Atoms, AllocError>
     requires { HasBoxes history.now chain.now }
@@ -64,10 +83,43 @@ fn canonical_calls(alloc: Global, history: &Record, chain: &[u32]) -> Result<Ato
 {
     let mut calls = Atoms::new(alloc);
     'boxes: for i in 0..chain.len() {
-        let call = history.call_atom(chain[i])?;
-        calls.push(canonical(alloc, &call)?)?;
+        calls.push(canonical_call(alloc, history, chain[i])?)?;
     }
     Ok(calls)
+}
+
+/// Whether of the calls of these boxes each is below the one before by the replies.
+fn do_calls_descend(alloc: Global, state: &State, chain: &[u32]) -> Result<bool, AllocError>
+    requires { HasBoxes state.now.history chain.now }
+    ensures { IfOk result (λ b. IsTrue b ↔
+        AllDescendByReplies state.now.known (calls_in state.now.history chain.now)) }
+{
+    let atoms = canonical_calls(alloc, &state.history, chain)?;
+    do_descend(alloc, &state.known, atoms.as_slice())
+}
+
+/// Whether that is so of a chain, which is looked at in parts of so many; each ends with the call that the next one begins with.
+fn does_chain_descend(
+    alloc: Global,
+    state: &State,
+    chain: &[u32],
+    most: usize,
+) -> Result<bool, AllocError>
+    requires boxes { HasBoxes state.now.history chain.now }
+    requires most { 1 < most }
+    requires few { most < 2 ^ 32 }
+    ensures { IfOk result (λ b. IsTrue b ↔
+        AllDescendByReplies state.now.known (calls_in state.now.history chain.now)) }
+{
+    let mut rest = chain;
+    'parts: while rest.len() > most {
+        let part = &rest[..most];
+        if !do_calls_descend(alloc, state, part)? {
+            return Ok(false);
+        }
+        rest = &rest[most - 1..];
+    }
+    do_calls_descend(alloc, state, rest)
 }
 
 /// Whether the calls of the last run's chain are so many, and each is below the one before by the replies.
@@ -83,8 +135,7 @@ pub(crate) fn judge_descent(
     if chain.len() != calls as usize {
         return Ok(Some(Why::Finding));
     }
-    let atoms = canonical_calls(alloc, &state.history, chain.as_slice())?;
-    if !do_descend(alloc, &state.known, atoms.as_slice())? {
+    if !does_chain_descend(alloc, state, chain.as_slice(), MOST_CALLS)? {
         return Ok(Some(Why::Finding));
     }
     Ok(None)

@@ -106,50 +106,6 @@ violation-by R store clause goal caller callee p q a b (Ok d) e f g h k = (
 )
 violation-by R store clause goal caller callee p q a b (Err x) e f g h k = tt
 
--- Chains.
-
-descent-step : (store : Store) (calls : List Term) (i : ℕ) (p q : Term) → i + 1 < length calls → p ≡ get_or calls i p → q ≡ get_or calls (i + 1) q
-    → AllDescendByReplies store (drop i calls) ↔ (SaysBelow store q p × AllDescendByReplies store (drop (i + 1) calls))
-descent-step store calls i p q l e f =
-    let d1 = drop_more calls i p (omega (arith, l)) in
-    let d2 = drop_more calls (i + 1) q l in
-    let two : drop (i + 1) calls ≡ q ∷ drop (i + 1 + 1) calls = cc in
-    let one : drop i calls ≡ p ∷ q ∷ drop (i + 1 + 1) calls = cc in
-    by (drop i calls) (drop (i + 1) calls) (drop (i + 1 + 1) calls) one two
-  where
-    by : (xs ys rest : List Term) → xs ≡ p ∷ q ∷ rest → ys ≡ q ∷ rest → AllDescendByReplies store xs ↔ (SaysBelow store q p × AllDescendByReplies store ys)
-    by xs ys rest u v = rw (u, v) (λ h. h, λ h. h)
-
-no-more : (store : Store) (calls : List Term) (i : ℕ) → length calls ≤ i + 1 → AllDescendByReplies store (drop i calls)
-no-more store calls i l = by (drop i calls) (omega (arith, l, length-drop i calls))
-  where
-    by : (xs : List Term) → length xs ≤ 1 → AllDescendByReplies store xs
-    by [] k = tt
-    by (x ∷ []) k = tt
-    by (x ∷ y ∷ xs) k = absurd (omega (arith, k))
-
-module _ (store : Store) (calls : List Term) (i : ℕ) (so_far : AllDescendByReplies store calls ↔ AllDescendByReplies store (drop i calls)) where
-  pub descent-fails : (p q : Term) (b : Bool) → i + 1 < length calls → p ≡ get_or calls i p → q ≡ get_or calls (i + 1) q → b ≡ says_below store q p → b ≡ false
-      → false ≡ true ↔ AllDescendByReplies store calls
-  descent-fails p q b l e f is fails = (
-    λ k. absurd (cc),
-    λ all. absurd (let h = (descent-step store calls i p q l e f).0 (so_far.0 all) in let t : true ≡ false = sym ((says_below-is store q p).1 h.0) ∙ sym is ∙ fails in cc),
-  )
-
-  pub descent-goes : (p q : Term) (b : Bool) → i + 1 < length calls → p ≡ get_or calls i p → q ≡ get_or calls (i + 1) q → b ≡ says_below store q p → b ≡ true
-      → AllDescendByReplies store calls ↔ AllDescendByReplies store (drop (i + 1) calls)
-  descent-goes p q b l e f is goes = (
-    λ all. ((descent-step store calls i p q l e f).0 (so_far.0 all)).1,
-    λ rest. so_far.1 ((descent-step store calls i p q l e f).1 ((says_below-is store q p).0 (sym is ∙ goes), rest)),
-  )
-
-  pub descent-ends : length calls ≤ i + 1 → true ≡ true ↔ AllDescendByReplies store calls
-  descent-ends l = (λ k. so_far.1 (no-more store calls i l), λ k. refl)
-
-pub no-calls : (store : Store) (calls : List Term) → length calls ≡ 0 → true ≡ true ↔ AllDescendByReplies store calls
-no-calls store [] e = (λ k. tt, λ k. refl)
-no-calls store (x ∷ xs) e = absurd (omega (arith, e))
-
 -- Findings.
 
 pub wrong-by : (P : List Tuple) (R : Recorded) (store : Store) (f : Finding) (clause : ℕ) (t : Tuple) (r : Result Bool AllocError) → f ≡ WrongInstance clause t

@@ -4,10 +4,12 @@ pub mod Tests
 pub mod Clauses
 pub mod Covering
 pub mod Calls
+pub mod Chains
 pub mod Each
 pub mod Granted
 pub mod Among
 pub mod Parting
 pub mod Numbers
 pub mod Marked
+pub mod Walks
 pub mod Ordering

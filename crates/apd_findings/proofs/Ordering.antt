@@ -19,13 +19,15 @@ use Rattle.apd_answers.specs.declared.question.Reply.TheVariants.{Yes, No}
 use Rattle.apd_answers.specs.declared.store.Pair.{Pair}
 use Rattle.apd_marks.specs.Places.{Index}
 use Rattle.apd_marks.specs.declared.keys.Part.{Part}
-use Rattle.apd_index.specs.Rows.{HasBit, has_bit}
+use Rattle.apd_bits.specs.Rows.{HasBit, has_bit}
 use Rattle.apd_findings.specs.declared.orders.Orders.{Orders}
 use Rattle.apd_findings.specs.Keys.{HasNumber}
 use Rattle.apd_findings.specs.Ordering.{AreOrders, AreSaid, IsListed, IsNumbered, IsReached, IsSaid, Says, keys_of}
-use Rattle.apd_findings.specs.Reaching.{AreReached, AreWithin, HasReached, HasSome, Reaches, here, on}
+use Rattle.apd_findings.specs.Reaching.{AreEdges, AreReached, AreWithin, HasReached, HasSome, IsEdgeAmong, IsRowOf, Reaches, here, on}
+use Rattle.apd_findings.specs.declared.reaching.Edge.{Edge}
 use Rattle.apd_findings.proofs.Marked.{at-default}
 use Rattle.apd_findings.proofs.Numbers.{like-number, same-form, same-number, within-number}
+use Rattle.apd_findings.proofs.Walks.{row-exact}
 use Rattle.apd_findings.proofs.Tests.{says_below-is, says_not_below-is}
 
 -- What the pairs say.
@@ -121,22 +123,34 @@ numbered-said pairs r keys keys_new lists lists_new kept is h = record {
 }
 
 -- what is reached is the same where the lists are
-same-reached : (lists more : List (List ℕ)) (rows : Index) → ((i : ℕ) → get_or more i [] ≡ get_or lists i []) → AreReached lists rows → AreReached more rows
-same-reached lists more rows is h first = IfSome_then (get nat_eq rows first) (h first) (λ row r n. (λ b. reach lists more is n ((r n).0 b), λ k. (r n).1 (reach more lists (λ i. sym (is i)) n k)))
-  where
-    reach : (old new : List (List ℕ)) → ((i : ℕ) → get_or new i [] ≡ get_or old i []) → (n : ℕ) → Reaches old first n → Reaches new first n
-    reach old new e n here = here
-    reach old new e n (on a b r i) = on a b (reach old new e a r) (subst (λ ns. IsAmong ns b) (sym (e a)) i)
+module _ (lists more : List (List ℕ)) (is : (i : ℕ) → get_or more i [] ≡ get_or lists i []) (fresh : List Edge) where
+  same-edges : AreEdges lists fresh → AreEdges more fresh
+  same-edges h a b e = subst (λ ns. IsAmong ns b) (sym (is a)) (h a b e)
 
-no-rows : (lists : List (List ℕ)) (rows : Index) → rows.entries ≡ [] → AreReached lists rows
-no-rows lists rows e first = subst (λ (o : Option (List ℕ)). IfSome o (HasReached lists first)) (sym (ap (λ es. lookup (nat_eq first) es) e)) tt
+  same-reaches : (first n : ℕ) → Reaches lists first n → Reaches more first n
+  same-reaches first n here = here
+  same-reaches first n (on a b r i) = on a b (same-reaches first a r) (subst (λ ns. IsAmong ns b) (sym (is a)) i)
 
-pub none-said : (o : Orders) → o.keys.keys ≡ [] → o.above.items ≡ [] → o.denied.items ≡ [] → o.reached.entries ≡ [] → AreOrders [] o
-none-said o k a d r = record {
+  same-reached : (rows : Index) → AreReached lists fresh rows → AreReached more fresh rows
+  same-reached rows h first = IfSome_then (get nat_eq rows first) (h first) (λ row r. record {
+    start = r.start;
+    right = λ n b. same-reaches first n (r.right n b);
+    closed = λ a b s i. r.closed a b s (subst (λ ns. IsAmong ns b) (is a) i);
+  })
+
+pub no-rows : (lists : List (List ℕ)) (fresh : List Edge) (rows : Index) → rows.entries ≡ [] → AreReached lists fresh rows
+no-rows lists fresh rows e first = subst (λ (o : Option (List ℕ)). IfSome o (IsRowOf lists fresh first)) (sym (ap (λ es. lookup (nat_eq first) es) e)) tt
+
+no-edges : (lists : List (List ℕ)) (fresh : List Edge) → fresh ≡ [] → AreEdges lists fresh
+no-edges lists fresh e a b h = absurd (subst (λ es. IsEdgeAmong es a b) e h)
+
+pub none-said : (o : Orders) → o.keys.keys ≡ [] → o.above.items ≡ [] → o.denied.items ≡ [] → o.reached.entries ≡ [] → o.fresh.items ≡ [] → AreOrders [] o
+none-said o k a d r f = record {
   lists = record { above = ap length a ∙ sym (ap (λ ks. length (map (λ v. v.items) ks)) k); denied = ap length d ∙ sym (ap (λ ks. length (map (λ v. v.items) ks)) k) };
   yes = subst (λ ls. AreSaid [] Yes (keys_of o) ls) (sym a) (none-listed (keys_of o) Yes);
   no = subst (λ ls. AreSaid [] No (keys_of o) ls) (sym d) (none-listed (keys_of o) No);
-  rows = no-rows o.above.items o.reached r;
+  edges = no-edges o.above.items o.fresh.items f;
+  rows = no-rows o.above.items o.fresh.items o.reached r;
 }
 
 numbered : (pairs : List Pair) (old new : Orders) (call : Term) (n : ℕ) → IsNumbered old new call n → AreOrders pairs old → AreOrders pairs new
@@ -144,7 +158,9 @@ numbered pairs old new call n k h = record {
   lists = k.lists;
   yes = numbered-said pairs Yes (keys_of old) (keys_of new) old.above.items new.above.items k.kept k.above h.yes;
   no = numbered-said pairs No (keys_of old) (keys_of new) old.denied.items new.denied.items k.kept k.denied h.no;
-  rows = subst (AreReached new.above.items) (sym k.rows) (same-reached old.above.items new.above.items old.reached k.above h.rows);
+  edges = subst (λ v. AreEdges new.above.items v.items) (sym k.fresh) (same-edges old.above.items new.above.items k.above old.fresh.items h.edges);
+  rows = subst (λ v. AreReached new.above.items v.items new.reached) (sym k.fresh)
+      (subst (AreReached new.above.items old.fresh.items) (sym k.rows) (same-reached old.above.items new.above.items k.above old.fresh.items old.reached h.rows));
 }
 
 -- a pair that doesn't give this reply
@@ -186,6 +202,25 @@ pushed lists low high old new l e f = record {
     others (x ∷ ls) (suc i) zero n = refl
     others (x ∷ ls) (suc i) (suc j) n = others ls i j (λ e. n (ap suc e))
 
+module _ (lists : List (List ℕ)) (low high : ℕ) (lists_new : List (List ℕ)) (p : IsPushed lists low high lists_new) where
+  pushed-still : (l m : ℕ) → IsAmong (get_or lists l []) m → IsAmong (get_or lists_new l []) m
+  pushed-still l m a = elim (cases_eq l low) [
+    | inl e ↦ subst (λ ns. IsAmong ns m) (sym (ap (λ i. get_or lists_new i []) e ∙ p.there)) (IsAmong-left (get_or lists low []) (high ∷ []) m (subst (λ i. IsAmong (get_or lists i []) m) e a))
+    | inr n ↦ subst (λ ns. IsAmong ns m) (sym (p.others l n)) a
+  ]
+
+  pushed-there : IsAmong (get_or lists_new low []) high
+  pushed-there = subst (λ ns. IsAmong ns high) (sym p.there) (IsAmong-right (get_or lists low []) (high ∷ []) high (inl refl))
+
+  pushed-before : (l m : ℕ) → IsAmong (get_or lists_new l []) m → IsAmong (get_or lists l []) m ⊎ ((low ≡ l) × (high ≡ m))
+  pushed-before l m a = elim (cases_eq l low) [
+    | inl e ↦ elim (IsAmong-append (get_or lists low []) (high ∷ []) m (subst (λ ns. IsAmong ns m) (ap (λ i. get_or lists_new i []) e ∙ p.there) a)) [
+      | inl b ↦ inl (subst (λ i. IsAmong (get_or lists i []) m) (sym e) b)
+      | inr b ↦ elim b [ inl f ↦ inr (sym e, f) | inr z ↦ absurd z ]
+    ]
+    | inr n ↦ inl (subst (λ ns. IsAmong ns m) (p.others l n) a)
+  ]
+
 pushed-said : (pairs : List Pair) (r : Reply) → Keeps r → (x y : Term) (keys : List (List Part)) (lists lists_new : List (List ℕ)) (low high : ℕ) → HasNumber keys x low → HasNumber keys y high
     → IsPushed lists low high lists_new → AreSaid pairs r keys lists → AreSaid (with_pair_in pairs (asks.Below x y) r) r keys lists_new
 pushed-said pairs r keeps x y keys lists lists_new low high is_low is_high p h = record { sound = sound; whole = whole }
@@ -200,39 +235,68 @@ pushed-said pairs r keeps x y keys lists lists_new low high is_low is_high p h =
     this-says l m e f = record { callee = x; caller = y; is_said = said-now r keeps pairs x y; is_low = subst (HasNumber keys x) (sym e) is_low; is_high = subst (HasNumber keys y) (sym f) is_high }
 
     sound : (l m : ℕ) → IsAmong (get_or lists_new l []) m → Says new r keys l m
-    sound l m a = elim (cases_eq l low) [
-      | inl e ↦ elim (IsAmong-append (get_or lists low []) (high ∷ []) m (subst (λ ns. IsAmong ns m) (ap (λ i. get_or lists_new i []) e ∙ p.there) a)) [
-        | inl b ↦ old-says l m (h.sound l m (subst (λ i. IsAmong (get_or lists i []) m) (sym e) b))
-        | inr b ↦ elim b [ inl f ↦ this-says l m e (sym f) | inr z ↦ absurd z ]
-      ]
-      | inr n ↦ old-says l m (h.sound l m (subst (λ ns. IsAmong ns m) (p.others l n) a))
-    ]
-
-    still : (l m : ℕ) → IsAmong (get_or lists l []) m → IsAmong (get_or lists_new l []) m
-    still l m a = elim (cases_eq l low) [
-      | inl e ↦ subst (λ ns. IsAmong ns m) (sym (ap (λ i. get_or lists_new i []) e ∙ p.there)) (IsAmong-left (get_or lists low []) (high ∷ []) m (subst (λ i. IsAmong (get_or lists i []) m) e a))
-      | inr n ↦ subst (λ ns. IsAmong ns m) (sym (p.others l n)) a
-    ]
+    sound l m a = elim (pushed-before lists low high lists_new p l m a) [ inl b ↦ old-says l m (h.sound l m b) | inr e ↦ this-says l m (sym e.0) (sym e.1) ]
 
     whole : (s t : Term) → IsSaid new r s t → IsListed keys lists_new s t
     whole s t g = elim (said-before pairs (asks.Below x y) r r s t g) [
-      | inl b ↦ (let w = h.whole s t b in record { low = w.low; high = w.high; is_low = w.is_low; is_high = w.is_high; among = still w.low w.high w.among })
+      | inl b ↦ (let w = h.whole s t b in record { low = w.low; high = w.high; is_low = w.is_low; is_high = w.is_high; among = pushed-still lists low high lists_new p w.low w.high w.among })
       | inr k ↦ record {
         low = low;
         high = high;
         is_low = like-number keys x s low k.1 is_low;
         is_high = like-number keys y t high k.2 is_high;
-        among = subst (λ ns. IsAmong ns high) (sym p.there) (IsAmong-right (get_or lists low []) (high ∷ []) high (inl refl));
+        among = pushed-there lists low high lists_new p;
       }
     ]
+
+-- one more edge is fresh
+edge-left : (edges more : List Edge) (a b : ℕ) → IsEdgeAmong edges a b → IsEdgeAmong (edges ++ more) a b
+edge-left [] more a b h = absurd h
+edge-left (e ∷ edges) more a b (inl h) = inl h
+edge-left (e ∷ edges) more a b (inr h) = inr (edge-left edges more a b h)
+
+edge-last : (edges : List Edge) (e : Edge) (a b : ℕ) → (e.from ≡ a) × (e.to ≡ b) → IsEdgeAmong (edges ++ e ∷ []) a b
+edge-last [] e a b h = inl h
+edge-last (x ∷ edges) e a b h = inr (edge-last edges e a b h)
+
+edge-split : (edges : List Edge) (e : Edge) (a b : ℕ) → IsEdgeAmong (edges ++ e ∷ []) a b → IsEdgeAmong edges a b ⊎ ((e.from ≡ a) × (e.to ≡ b))
+edge-split [] e a b (inl h) = inr h
+edge-split [] e a b (inr z) = absurd z
+edge-split (x ∷ edges) e a b (inl h) = inl (inl h)
+edge-split (x ∷ edges) e a b (inr h) = elim (edge-split edges e a b h) [ inl g ↦ inl (inr g) | inr g ↦ inr g ]
+
+module _ (lists : List (List ℕ)) (low high : ℕ) (lists_new : List (List ℕ)) (p : IsPushed lists low high lists_new) (fresh : List Edge) where
+  abbrev fresher : List Edge
+  fresher = fresh ++ record { from = low; to = high } ∷ []
+
+  fresh-edges : AreEdges lists fresh → AreEdges lists_new fresher
+  fresh-edges h a b e = elim (edge-split fresh (record { from = low; to = high }) a b e) [
+    | inl g ↦ pushed-still lists low high lists_new p a b (h a b g)
+    | inr g ↦ subst (λ m. IsAmong (get_or lists_new a []) m) g.1 (subst (λ l. IsAmong (get_or lists_new l []) high) g.0 (pushed-there lists low high lists_new p))
+  ]
+
+  fresh-reaches : (first n : ℕ) → Reaches lists first n → Reaches lists_new first n
+  fresh-reaches first n here = here
+  fresh-reaches first n (on a b r i) = on a b (fresh-reaches first a r) (pushed-still lists low high lists_new p a b i)
+
+  fresh-reached : (rows : Index) → AreReached lists fresh rows → AreReached lists_new fresher rows
+  fresh-reached rows h first = IfSome_then (get nat_eq rows first) (h first) (λ row r. record {
+    start = r.start;
+    right = λ n b. fresh-reaches first n (r.right n b);
+    closed = λ a b s i. elim (pushed-before lists low high lists_new p a b i) [
+      | inl o ↦ elim (r.closed a b s o) [ inl t ↦ inl t | inr g ↦ inr (edge-left fresh (record { from = low; to = high } ∷ []) a b g) ]
+      | inr e ↦ inr (edge-last fresh (record { from = low; to = high }) a b e)
+    ];
+  })
 
 -- one more reply
 module _ (pairs : List Pair) (old mid now : Orders) (x y : Term) (low high : ℕ) (first : IsNumbered old mid x low) (second : IsNumbered mid now y high) (h : AreOrders pairs old) where
   there : AreOrders pairs now
   there = numbered pairs mid now y high second (numbered pairs old mid x low first h)
 
-  pub put-yes : (new : Orders) → new.keys ≡ now.keys → new.denied ≡ now.denied → new.reached.entries ≡ [] → IsPushed now.above.items low high new.above.items → AreOrders (with_pair_in pairs (asks.Below x y) Yes) new
-  put-yes new e f g p =
+  pub put-yes : (new : Orders) → new.keys ≡ now.keys → new.denied ≡ now.denied → new.reached ≡ now.reached → new.fresh.items ≡ now.fresh.items ++ record { from = low; to = high } ∷ []
+      → IsPushed now.above.items low high new.above.items → AreOrders (with_pair_in pairs (asks.Below x y) Yes) new
+  put-yes new e f g d p =
       let k : keys_of new ≡ keys_of now = ap (λ s. map (λ v. v.items) s.keys) e in
       record {
         lists = record { above = p.count ∙ there.lists.above ∙ ap length (sym k); denied = ap (λ v. length v.items) f ∙ there.lists.denied ∙ ap length (sym k) };
@@ -241,11 +305,14 @@ module _ (pairs : List Pair) (old mid now : Orders) (x y : Term) (low high : ℕ
         no = subst (λ ks. AreSaid (with_pair_in pairs (asks.Below x y) Yes) No ks new.denied.items) (sym k)
             (subst (λ v. AreSaid (with_pair_in pairs (asks.Below x y) Yes) No (keys_of now) v.items) (sym f)
             (kept-said pairs (asks.Below x y) Yes No (keys_of now) now.denied.items (λ s t k. (let z : Yes ≡ No = k.0 in cc)) there.no));
-        rows = no-rows new.above.items new.reached g;
+        edges = subst (AreEdges new.above.items) (sym d) (fresh-edges now.above.items low high new.above.items p now.fresh.items there.edges);
+        rows = subst (λ es. AreReached new.above.items es new.reached) (sym d)
+            (subst (AreReached new.above.items (now.fresh.items ++ record { from = low; to = high } ∷ [])) (sym g) (fresh-reached now.above.items low high new.above.items p now.fresh.items now.reached there.rows));
       }
 
-  pub put-no : (new : Orders) → new.keys ≡ now.keys → new.above ≡ now.above → new.reached ≡ now.reached → IsPushed now.denied.items low high new.denied.items → AreOrders (with_pair_in pairs (asks.Below x y) No) new
-  put-no new e f g p =
+  pub put-no : (new : Orders) → new.keys ≡ now.keys → new.above ≡ now.above → new.reached ≡ now.reached → new.fresh ≡ now.fresh → IsPushed now.denied.items low high new.denied.items
+      → AreOrders (with_pair_in pairs (asks.Below x y) No) new
+  put-no new e f g d p =
       let k : keys_of new ≡ keys_of now = ap (λ s. map (λ v. v.items) s.keys) e in
       record {
         lists = record { above = ap (λ v. length v.items) f ∙ there.lists.above ∙ ap length (sym k); denied = p.count ∙ there.lists.denied ∙ ap length (sym k) };
@@ -254,20 +321,25 @@ module _ (pairs : List Pair) (old mid now : Orders) (x y : Term) (low high : ℕ
             (kept-said pairs (asks.Below x y) No Yes (keys_of now) now.above.items (λ s t k. (let z : No ≡ Yes = k.0 in cc)) there.yes));
         no = subst (λ ks. AreSaid (with_pair_in pairs (asks.Below x y) No) No ks new.denied.items) (sym k)
             (pushed-said pairs No keeps-no x y (keys_of now) now.denied.items new.denied.items low high (second.kept x low first.number) second.number p there.no);
-        rows = subst (AreReached new.above.items) (sym g) (subst (λ v. AreReached v.items now.reached) (sym f) there.rows);
+        edges = subst (λ v. AreEdges new.above.items v.items) (sym d) (subst (λ v. AreEdges v.items now.fresh.items) (sym f) there.edges);
+        rows = subst (λ v. AreReached new.above.items v.items new.reached) (sym d)
+            (subst (AreReached new.above.items now.fresh.items) (sym g) (subst (λ v. AreReached v.items now.fresh.items now.reached) (sym f) there.rows));
       }
 
-  pub put-yes-as : (r : Reply) (new : Orders) → r ≡ Yes → new.keys ≡ now.keys → new.denied ≡ now.denied → new.reached.entries ≡ [] → IsPushed now.above.items low high new.above.items → AreOrders (with_pair_in pairs (asks.Below x y) r) new
-  put-yes-as r new is e f g p = subst (λ (k : Reply). AreOrders (with_pair_in pairs (asks.Below x y) k) new) (sym is) (put-yes new e f g p)
+  pub put-yes-as : (r : Reply) (new : Orders) → r ≡ Yes → new.keys ≡ now.keys → new.denied ≡ now.denied → new.reached ≡ now.reached → new.fresh.items ≡ now.fresh.items ++ record { from = low; to = high } ∷ []
+      → IsPushed now.above.items low high new.above.items → AreOrders (with_pair_in pairs (asks.Below x y) r) new
+  put-yes-as r new is e f g d p = subst (λ (k : Reply). AreOrders (with_pair_in pairs (asks.Below x y) k) new) (sym is) (put-yes new e f g d p)
 
-  pub put-no-as : (r : Reply) (new : Orders) → r ≡ No → new.keys ≡ now.keys → new.above ≡ now.above → new.reached ≡ now.reached → IsPushed now.denied.items low high new.denied.items → AreOrders (with_pair_in pairs (asks.Below x y) r) new
-  put-no-as r new is e f g p = subst (λ (k : Reply). AreOrders (with_pair_in pairs (asks.Below x y) k) new) (sym is) (put-no new e f g p)
+  pub put-no-as : (r : Reply) (new : Orders) → r ≡ No → new.keys ≡ now.keys → new.above ≡ now.above → new.reached ≡ now.reached → new.fresh ≡ now.fresh → IsPushed now.denied.items low high new.denied.items
+      → AreOrders (with_pair_in pairs (asks.Below x y) r) new
+  put-no-as r new is e f g d p = subst (λ (k : Reply). AreOrders (with_pair_in pairs (asks.Below x y) k) new) (sym is) (put-no new e f g d p)
 
   pub put-other : (r : Reply) → r ≢ Yes → r ≢ No → AreOrders (with_pair_in pairs (asks.Below x y) r) now
   put-other r e f = record {
     lists = there.lists;
     yes = kept-said pairs (asks.Below x y) r Yes (keys_of now) now.above.items (λ s t g. e g.0) there.yes;
     no = kept-said pairs (asks.Below x y) r No (keys_of now) now.denied.items (λ s t g. f g.0) there.no;
+    edges = there.edges;
     rows = there.rows;
   }
 
@@ -289,6 +361,7 @@ put-else pairs q r o other h = record {
   lists = h.lists;
   yes = kept-said pairs q r Yes (keys_of o) o.above.items (other Yes) h.yes;
   no = kept-said pairs q r No (keys_of o) o.denied.items (other No) h.no;
+  edges = h.edges;
   rows = h.rows;
 }
 
@@ -371,26 +444,40 @@ met-denied above denied row low b unset some high h = (
   λ k. elim k [ inl r ↦ absurd (let t : true ≡ false = sym ((h low).1 r) ∙ unset in cc) | inr r ↦ some.1 (r.0, r.1, (h r.0).1 r.2) ],
 )
 
-pub row-is : (lists : List (List ℕ)) (rows : Index) (high : ℕ) (row : List ℕ) → AreReached lists rows → get nat_eq rows high ≡ Some row → HasReached lists high row
-row-is lists rows high row h e = subst (λ (o : Option (List ℕ)). IfSome o (HasReached lists high)) e (h high)
+pub row-is : (lists : List (List ℕ)) (fresh : List Edge) (rows : Index) (high : ℕ) (row : List ℕ) → AreReached lists fresh rows → get nat_eq rows high ≡ Some row → IsRowOf lists fresh high row
+row-is lists fresh rows high row h e = subst (λ (o : Option (List ℕ)). IfSome o (IsRowOf lists fresh high)) e (h high)
+
+pub caught-reached : (r : Result (List ℕ) AllocError) (lists ls : List (List ℕ)) (fresh es : List Edge) (high : ℕ) (row : List ℕ) → ls ≡ lists → es ≡ fresh → IsRowOf lists fresh high row
+    → IfOk r (λ whole. (first : ℕ) → IsRowOf ls es first row → IsRowOf ls [] first whole) → IfOk r (HasReached lists high)
+caught-reached (Ok whole) lists ls fresh es high row e f is h =
+    row-exact lists high whole (subst (λ x. IsRowOf x [] high whole) e (h high (subst (λ x. IsRowOf x es high row) (sym e) (subst (λ y. IsRowOf lists y high row) (sym f) is))))
+caught-reached (Err x) lists ls fresh es high row e f is h = tt
+
+pub walked-reached : (r : Result (List ℕ) AllocError) (lists ls : List (List ℕ)) (rows : Index) (high : ℕ) → ls ≡ lists → rows.entries ≡ []
+    → IfOk r (λ row. (fresh : List Edge) → AreReached ls fresh rows → IsRowOf ls fresh high row) → IfOk r (HasReached lists high)
+walked-reached (Ok row) lists ls rows high e none h = row-exact lists high row (subst (λ x. IsRowOf x [] high row) e (h [] (no-rows ls [] rows none)))
+walked-reached (Err x) lists ls rows high e none h = tt
 
 -- one more row
-pub row-kept : (lists : List (List ℕ)) (old new : Index) (high : ℕ) (row : List ℕ) → ((n : ℕ) → get nat_eq new n ≡ cond (nat_eq high n) (Some row) (get nat_eq old n)) → HasReached lists high row → AreReached lists old → AreReached lists new
-row-kept lists old new high row e r h first = subst (λ (o : Option (List ℕ)). IfSome o (HasReached lists first)) (sym (e first)) (by (nat_eq high first) refl)
+pub row-kept : (lists : List (List ℕ)) (fresh : List Edge) (old new : Index) (high : ℕ) (row : List ℕ) → ((n : ℕ) → get nat_eq new n ≡ cond (nat_eq high n) (Some row) (get nat_eq old n)) → IsRowOf lists fresh high row
+    → AreReached lists fresh old → AreReached lists fresh new
+row-kept lists fresh old new high row e r h first = subst (λ (o : Option (List ℕ)). IfSome o (IsRowOf lists fresh first)) (sym (e first)) (by (nat_eq high first) refl)
   where
-    by : (t : Bool) → nat_eq high first ≡ t → IfSome (cond t (Some row) (get nat_eq old first)) (HasReached lists first)
-    by true is = subst (λ n. HasReached lists n row) (eqb-true high first is) r
+    by : (t : Bool) → nat_eq high first ≡ t → IfSome (cond t (Some row) (get nat_eq old first)) (IsRowOf lists fresh first)
+    by true is = subst (λ n. IsRowOf lists fresh n row) (eqb-true high first is) r
     by false is = h first
 
-pub same-rows : (lists : List (List ℕ)) (old new : Index) → new.entries ≡ old.entries → AreReached lists old → AreReached lists new
-same-rows lists old new e h first = subst (λ (o : Option (List ℕ)). IfSome o (HasReached lists first)) (ap (λ es. lookup (nat_eq first) es) (sym e)) (h first)
+pub same-rows : (lists : List (List ℕ)) (fresh : List Edge) (old new : Index) → new.entries ≡ old.entries → AreReached lists fresh old → AreReached lists fresh new
+same-rows lists fresh old new e h first = subst (λ (o : Option (List ℕ)). IfSome o (IsRowOf lists fresh first)) (ap (λ es. lookup (nat_eq first) es) (sym e)) (h first)
 
-pub other-rows : (pairs : List Pair) (old new : Orders) → new.keys ≡ old.keys → new.above ≡ old.above → new.denied ≡ old.denied → AreReached old.above.items new.reached → AreOrders pairs old → AreOrders pairs new
-other-rows pairs old new k a d r h = record {
+pub other-rows : (pairs : List Pair) (old new : Orders) → new.keys ≡ old.keys → new.above ≡ old.above → new.denied ≡ old.denied → AreEdges old.above.items new.fresh.items → AreReached old.above.items new.fresh.items new.reached
+    → AreOrders pairs old → AreOrders pairs new
+other-rows pairs old new k a d es r h = record {
   lists = record { above = ap (λ v. length v.items) a ∙ h.lists.above ∙ sym keys; denied = ap (λ v. length v.items) d ∙ h.lists.denied ∙ sym keys };
   yes = subst (λ ks. AreSaid pairs Yes ks new.above.items) (sym is) (subst (λ v. AreSaid pairs Yes (keys_of old) v.items) (sym a) h.yes);
   no = subst (λ ks. AreSaid pairs No ks new.denied.items) (sym is) (subst (λ v. AreSaid pairs No (keys_of old) v.items) (sym d) h.no);
-  rows = subst (λ v. AreReached v.items new.reached) (sym a) r;
+  edges = subst (λ v. AreEdges v.items new.fresh.items) (sym a) es;
+  rows = subst (λ v. AreReached v.items new.fresh.items new.reached) (sym a) r;
 }
   where
     is : keys_of new ≡ keys_of old
@@ -398,3 +485,7 @@ other-rows pairs old new k a d r h = record {
 
     keys : length (keys_of new) ≡ length (keys_of old)
     keys = ap length is
+
+-- nothing is kept, and no edge is fresh
+pub forgotten : (pairs : List Pair) (old new : Orders) → new.keys ≡ old.keys → new.above ≡ old.above → new.denied ≡ old.denied → new.reached.entries ≡ [] → new.fresh.items ≡ [] → AreOrders pairs old → AreOrders pairs new
+forgotten pairs old new k a d r f h = other-rows pairs old new k a d (no-edges old.above.items new.fresh.items f) (no-rows old.above.items new.fresh.items new.reached r) h

@@ -1,5 +1,6 @@
 pub mod Always
 pub mod Deciding
+pub mod Descending
 pub mod Keys
 pub mod Reaching
 pub mod Ordering

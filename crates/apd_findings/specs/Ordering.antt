@@ -6,7 +6,7 @@ use Rattle.apd_answers.specs.declared.question.Reply.{Reply}
 use Rattle.apd_answers.specs.declared.question.Reply.TheVariants.{Yes, No}
 use Rattle.apd_answers.specs.declared.store.Pair.{Pair}
 use Rattle.apd_findings.specs.Keys.{HasNumber}
-use Rattle.apd_findings.specs.Reaching.{AreReached, Reaches}
+use Rattle.apd_findings.specs.Reaching.{AreEdges, AreReached, Reaches}
 use Rattle.apd_marks.specs.declared.keys.Part.{Part}
 use Rattle.apd_findings.specs.declared.orders.Orders.{Orders}
 
@@ -49,7 +49,8 @@ pub record AreOrders (pairs : List Pair) (o : Orders) : Type 0 where
   pub lists : HasLists o
   pub yes : AreSaid pairs Yes (keys_of o) o.above.items
   pub no : AreSaid pairs No (keys_of o) o.denied.items
-  pub rows : AreReached o.above.items o.reached
+  pub edges : AreEdges o.above.items o.fresh.items
+  pub rows : AreReached o.above.items o.fresh.items o.reached
 
 -- the call has this number, and what was said is kept
 pub record IsNumbered (old new : Orders) (call : Term) (n : ℕ) : Type 0 where
@@ -58,6 +59,7 @@ pub record IsNumbered (old new : Orders) (call : Term) (n : ℕ) : Type 0 where
   pub lists : HasLists new
   pub above : (i : ℕ) → get_or new.above.items i [] ≡ get_or old.above.items i []
   pub denied : (i : ℕ) → get_or new.denied.items i [] ≡ get_or old.denied.items i []
+  pub fresh : new.fresh ≡ old.fresh
   pub rows : new.reached ≡ old.reached
 
 -- from the one number the other is reached, or one of those that are denied to it

@@ -2,7 +2,7 @@
 
 ghost use Rattle.std.specs.Prelude.{◌≡◌, ◌↔◌, IsTrue, IfOk};
 ghost use Rattle.apd_clauses.specs.Clauses.{tuples_of};
-ghost use Rattle.apd_answers.specs.Findings.{AllDescendByReplies, IsByReplies};
+ghost use Rattle.apd_answers.specs.Findings.{IsByReplies};
 
 use crate::calling::{Called, is_violation};
 use crate::candidates::are_candidates_by_replies;
@@ -75,20 +75,4 @@ pub fn is_by_replies(
             are_candidates_by_replies(alloc, program, record, answers, instances.as_slice())
         }
     }
-}
-
-/// Whether the store says that each call is below the one before.
-pub fn do_descend(alloc: Global, answers: &Parted, calls: &[Flat]) -> Result<bool, AllocError>
-    ensures { IfOk result (λ b. IsTrue b ↔ AllDescendByReplies answers.now calls.now) }
-{
-    if calls.is_empty() {
-        return Ok(true);
-    }
-    let last = calls.len() - 1;
-    'calls: for i in 0..last {
-        if !answers.says_below(alloc, &calls[i + 1], &calls[i])? {
-            return Ok(false);
-        }
-    }
-    Ok(true)
 }

@@ -10,13 +10,30 @@ ghost use Rattle.apd_findings.specs.Ordering.{AreOrders, HasLists, IsNumbered, I
 ghost use Rattle.apd_findings.specs.Reaching.{HasReached};
 
 use crate::keys::{Keys, key_of_form};
-use crate::reaching::{has_some, reached};
+use crate::reaching::{Edge, Rows, caught_up, has_some, row_from};
 use apd_answers::{Question, Reply};
 use apd_base::ListOf;
-use apd_index::Row;
+use apd_bits::Row;
 use apd_term::Flat;
 use indexmap::{IndexMap, IndexSet};
 use std::alloc::{AllocError, Global};
+use std::mem::replace;
+
+/// More edges are fresh than these and one for eight calls: then what is kept is made anew when it is asked for.
+const MOST_FRESH: usize = 64;
+
+/// At most so many steps are made to keep what is reached; what isn't kept is walked over where it is asked for.
+const MOST_STEPS: usize = 100_000_000;
+
+/// Has those of the numbers wait that weren't begun.
+fn await_new(nexts: &[usize], begun: &Row, waiting: &mut Vec<usize>) -> Result<(), AllocError> {
+    'nexts: for next in nexts {
+        if !begun.has(*next) {
+            waiting.push(*next)?;
+        }
+    }
+    Ok(())
+}
 
 /// Calls by their numbers, from 0: of each those that it was said to be below, and those that it was said not to be below.
 #[derive(Drop)]
@@ -25,8 +42,10 @@ pub(crate) struct Orders {
     keys: Keys,
     above: Vec<ListOf<usize>>,
     denied: Vec<ListOf<usize>>,
-    /// Of callers that were asked about since the last call was said to be below another: the numbers that are reached from each.
-    reached: IndexMap<usize, Row>,
+    /// Of callers that were asked about, and of all that are reached from them: the numbers that are reached from each.
+    reached: Rows,
+    /// The edges that came since something is kept: what is kept may lack what these lead to.
+    fresh: Vec<Edge>,
 }
 
 impl Orders {
@@ -40,6 +59,7 @@ impl Orders {
             above: Vec::new(alloc),
             denied: Vec::new(alloc),
             reached: IndexMap::new(alloc),
+            fresh: Vec::new(alloc),
         }
     }
 
@@ -67,7 +87,10 @@ impl Orders {
         let high = self.number(caller)?;
         match reply {
             Reply::Yes => {
-                self.reached = IndexMap::new(self.alloc);
+                self.fresh.push(Edge {
+                    from: low,
+                    to: high,
+                })?;
                 self.above[low].push(high)
             }
             Reply::No => self.denied[low].push(high),
@@ -87,17 +110,68 @@ impl Orders {
         }
     }
 
-    /// Computes ahead what is reached from a number, unless it is kept.
-    fn keep_reached(&mut self, high: usize) -> Result<(), AllocError>
-        requires high { high < length (keys_of self.old) }
+    /// Whether nothing is kept, or many edges are fresh.
+    fn is_stale(&self) -> bool {
+        self.reached.is_empty() || self.fresh.len() > MOST_FRESH + self.keys.len() / 8
+    }
+
+    /// Forgets what is kept where many edges are fresh.
+    fn settle(&mut self)
+        ensures { (pairs : List Pair) → AreOrders pairs self.old → AreOrders pairs self.new }
+    {
+        if !self.is_stale() {
+            return;
+        }
+        drop(replace(&mut self.reached, IndexMap::new(self.alloc)));
+        drop(replace(&mut self.fresh, Vec::new(self.alloc)));
+    }
+
+    /// Keeps what is reached from a number.
+    fn keep_row(&mut self, number: usize) -> Result<(), AllocError>
+        requires number { number < length (keys_of self.old) }
         requires orders { (pairs : List Pair) × AreOrders pairs self.old }
         ensures { (pairs : List Pair) → AreOrders pairs self.old → AreOrders pairs self.new }
     {
-        if self.reached.contains_key(&high) {
+        let row = row_from(self.alloc, self.above.as_slice(), &self.reached, number)?;
+        self.reached.insert(number, row)?;
+        Ok(())
+    }
+
+    /// Keeps what is reached from a number that was begun; else begins it, so that those come first to which it leads.
+    fn keep_next(
+        &mut self,
+        number: usize,
+        begun: &mut Row,
+        waiting: &mut Vec<usize>,
+    ) -> Result<(), AllocError>
+        requires { (pairs : List Pair) × AreOrders pairs self.old }
+        ensures { (pairs : List Pair) → AreOrders pairs self.old → AreOrders pairs self.new }
+    {
+        if self.above.len() <= number || self.reached.contains_key(&number) {
             return Ok(());
         }
-        let row = reached(self.alloc, self.above.as_slice(), high)?;
-        self.reached.insert(high, row)?;
+        if begun.has(number) {
+            return self.keep_row(number);
+        }
+        begun.set(number)?;
+        waiting.push(number)?;
+        await_new(self.above[number].as_slice(), begun, waiting)
+    }
+
+    /// Keeps what is reached from a number, and from each that is reached from it, the last ones first.
+    fn keep_from(&mut self, first: usize) -> Result<(), AllocError>
+        requires { (pairs : List Pair) × AreOrders pairs self.old }
+        ensures { (pairs : List Pair) → AreOrders pairs self.old → AreOrders pairs self.new }
+    {
+        let mut begun = Row::new(self.alloc);
+        let mut waiting = Vec::new(self.alloc);
+        waiting.push(first)?;
+        'steps: for _step in 0..MOST_STEPS {
+            let Some(number) = waiting.pop() else {
+                return Ok(());
+            };
+            self.keep_next(number, &mut begun, &mut waiting)?;
+        }
         Ok(())
     }
 
@@ -106,8 +180,9 @@ impl Orders {
         requires { (pairs : List Pair) × AreOrders pairs self.old }
         ensures { (pairs : List Pair) → AreOrders pairs self.old → AreOrders pairs self.new }
     {
+        self.settle();
         match self.keys.get_index_of(&key_of_form(self.alloc, caller)?) {
-            Some(high) => self.keep_reached(high),
+            Some(high) => self.keep_from(high),
             None => Ok(()),
         }
     }
@@ -124,6 +199,19 @@ impl Orders {
         has_some(row, self.denied[low].as_slice())
     }
 
+    /// What is reached from a number, by what is kept of it or by a walk.
+    fn row_of(&self, high: usize) -> Result<Row, AllocError>
+        requires high { high < length (keys_of self.now) }
+        requires orders { (pairs : List Pair) × AreOrders pairs self.now }
+        ensures { IfOk result (HasReached self.now.above.items high) }
+    {
+        let above = self.above.as_slice();
+        match self.reached.get(&high) {
+            Some(row) => caught_up(self.alloc, above, self.fresh.as_slice(), row),
+            None => row_from(self.alloc, above, &IndexMap::new(self.alloc), high),
+        }
+    }
+
     /// Whether some call that the one was said not to be below, or the call itself, is reached from the other.
     fn is_reached(&self, low: usize, high: usize) -> Result<bool, AllocError>
         requires low { low < length (keys_of self.now) }
@@ -132,10 +220,7 @@ impl Orders {
         ensures { IfOk result (λ b. IsTrue b ↔
             IsReached self.now.above.items self.now.denied.items low high) }
     {
-        if let Some(row) = self.reached.get(&high) {
-            return Ok(self.is_met(row, low));
-        }
-        let row = reached(self.alloc, self.above.as_slice(), high)?;
+        let row = self.row_of(high)?;
         Ok(self.is_met(&row, low))
     }
 

@@ -20,6 +20,7 @@ returns-in_ok-push-2 c =
       };
       above = pushed-empty c.args.self.now.above.items c.push.new.self.items _ c.in_ok-push.ensures.items c.new.ensures;
       denied = pushed-empty c.args.self.now.denied.items c.push-then-is_new.new.self.items _ c.in_ok-push-2.ensures.items c.new-then-is_new.ensures;
+      fresh = refl;
       rows = refl;
     }
 
@@ -38,5 +39,6 @@ returns-else-is_new c =
       };
       above = λ i. refl;
       denied = λ i. refl;
+      fresh = refl;
       rows = refl;
     }

@@ -187,7 +187,9 @@ pub fn put_entry(trial: &mut Trial) -> Option<()> {
 /// The query of the goal `a`.
 fn query_of(alloc: Global, scene: &mut Scene) -> Option<Query> {
     let read = scene.read(alloc, "a")?;
-    asked(alloc, &read.term).ok()
+    let query = asked(alloc, &read.term);
+    drop(read);
+    query.ok()
 }
 
 /// A run of the goal `a`.
@@ -231,12 +233,22 @@ fn call(alloc: Global, scene: &mut Scene, entries: &mut Entries, name: &str) -> 
     }
 }
 
+/// Makes the calls that the row names.
+fn call_all(trial: &mut Trial, entries: &mut Entries) -> Option<()> {
+    for name in trial.row.text(0).split(' ') {
+        call(trial.alloc, &mut trial.scene, entries, name)?;
+    }
+    Some(())
+}
+
 /// Gives the entries after the calls that the row names.
 pub fn put_finished(trial: &mut Trial) -> Option<()> {
     let mut entries = Entries::new(trial.alloc);
-    for name in trial.row.text(0).split(' ') {
-        call(trial.alloc, &mut trial.scene, &mut entries, name)?;
+    let called = call_all(trial, &mut entries);
+    if called.is_some() {
+        put_words(&mut trial.given, &entries);
     }
-    put_words(&mut trial.given, &entries);
-    Some(())
+    // Dropped by a call: else each part is a step to check.
+    drop(entries);
+    called
 }

@@ -12,17 +12,31 @@ use std::boxed::Box;
 /// The predicate of an atom.
 fn pred_of(alloc: Global, scene: &mut Scene, atom: &str) -> Option<Pred> {
     let read = scene.read(alloc, atom)?;
-    read.term.pred()
+    let pred = read.term.pred();
+    // Dropped by calls, here and below: else each part is a step to check.
+    drop(read);
+    pred
 }
 
-/// The predicates of the atoms of a list.
-fn preds_of(alloc: Global, scene: &mut Scene, atoms: &str) -> Option<Preds> {
-    let mut preds = Preds::new(alloc);
+/// Puts the predicates of the atoms of a list behind others.
+fn put_preds(alloc: Global, scene: &mut Scene, preds: &mut Preds, atoms: &str) -> Option<()> {
     for atom in atoms.split(BETWEEN) {
         let pred = pred_of(alloc, scene, atom)?;
         preds.push(pred).ok()?;
     }
-    Some(preds)
+    Some(())
+}
+
+/// The filter of the predicates of the atoms of a list.
+fn leap_to(alloc: Global, scene: &mut Scene, atoms: &str) -> Option<Filter> {
+    let mut preds = Preds::new(alloc);
+    match put_preds(alloc, scene, &mut preds, atoms) {
+        Some(()) => Some(Filter::Leap(preds)),
+        None => {
+            drop(preds);
+            None
+        }
+    }
 }
 
 /// The filter of a row: a word, and the atoms of its predicates or the number of its box.
@@ -32,10 +46,7 @@ fn filter_of(trial: &mut Trial) -> Option<Filter> {
         "off" => Some(Filter::Off),
         "all" => Some(Filter::All),
         "skip" => Some(Filter::Skip(row.number(1))),
-        "leap" => {
-            let preds = preds_of(trial.alloc, &mut trial.scene, row.text(1))?;
-            Some(Filter::Leap(preds))
-        }
+        "leap" => leap_to(trial.alloc, &mut trial.scene, row.text(1)),
         _ => None,
     }
 }
@@ -58,24 +69,34 @@ fn event_of(alloc: Global, scene: &mut Scene, item: &str) -> Option<Event> {
 /// The filter of a row at work.
 fn admit_of(trial: &mut Trial) -> Option<Box<Admit>> {
     let filter = filter_of(trial)?;
-    let admit = Admit::new(trial.alloc, &filter).ok()?;
-    Box::new(trial.alloc, admit).ok()
+    let admit = Admit::new(trial.alloc, &filter);
+    drop(filter);
+    Box::new(trial.alloc, admit.ok()?).ok()
 }
 
 /// Whether an event is admitted.
 fn admits(alloc: Global, scene: &mut Scene, admit: &mut Admit, item: &str) -> Option<bool> {
     let event = event_of(alloc, scene, item)?;
-    admit.admits(&event).ok()
+    let admits = admit.admits(&event);
+    drop(event);
+    admits.ok()
 }
 
-/// Gives a mark for each of the row's events: whether the filter admits it.
-pub fn put_admitted(trial: &mut Trial) -> Option<()> {
-    let mut admit = admit_of(trial)?;
+/// Gives a mark for each of the row's events: whether it is admitted.
+fn put_marks(trial: &mut Trial, admit: &mut Admit) -> Option<()> {
     for item in trial.row.text(2).split(BETWEEN) {
-        let admits = admits(trial.alloc, &mut trial.scene, &mut admit, item)?;
+        let admits = admits(trial.alloc, &mut trial.scene, admit, item)?;
         trial.given.put(if admits { "+" } else { "-" });
     }
     Some(())
+}
+
+/// The same, by the row's filter.
+pub fn put_admitted(trial: &mut Trial) -> Option<()> {
+    let mut admit = admit_of(trial)?;
+    let put = put_marks(trial, &mut admit);
+    drop(admit);
+    put
 }
 
 /// Gives the text of the entry that the row's filter was set.

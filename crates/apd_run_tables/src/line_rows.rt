@@ -18,21 +18,29 @@ const ANSWER: u64 = 40;
 /// A query of the goals that a term has, which shows no variable.
 pub fn asked(alloc: Global, goals: &Flat) -> Result<Query, AllocError> {
     let head = Flat::integer(alloc, 0)?;
-    let body = goals_of(alloc, goals)?;
-    Ok(Query {
-        tuple: Tuple { head, body },
-        vars: VarNames::new(alloc),
-    })
+    match goals_of(alloc, goals) {
+        Ok(body) => Ok(Query {
+            tuple: Tuple { head, body },
+            vars: VarNames::new(alloc),
+        }),
+        Err(fault) => {
+            drop(head);
+            Err(fault)
+        }
+    }
 }
 
 /// Gives the first line of a run with the goals on the right side; the left side gave the variables their numbers.
 pub fn put_head(trial: &mut Trial) -> Option<()> {
     let sides = trial.sides(0)?;
-    let query = asked(trial.alloc, &sides.right).ok()?;
+    let query = asked(trial.alloc, &sides.right);
+    // Dropped by calls, here and below: else each part is a step to check.
+    drop(sides);
+    let query = query.ok()?;
     let Scene { names, ops } = &*trial.scene;
-    trial
-        .given
-        .put_made_text(head_line(trial.alloc, names, ops, &query));
+    let line = head_line(trial.alloc, names, ops, &query);
+    drop(query);
+    trial.given.put_made_text(line);
     Some(())
 }
 
@@ -58,20 +66,29 @@ pub fn put_port(trial: &mut Trial) -> Option<()> {
         atom,
     };
     let Scene { names, ops } = &*trial.scene;
-    trial
-        .given
-        .put_made_text(port_line(trial.alloc, names, ops, &event));
+    let line = port_line(trial.alloc, names, ops, &event);
+    drop(event);
+    trial.given.put_made_text(line);
     Some(())
 }
 
 /// Gives the line of an answer: the names of the variables, and the list of their values.
 pub fn put_answer(trial: &mut Trial) -> Option<()> {
-    let values = trial.term(1)?;
     let vars = texts_of(trial.alloc, trial.row.text(0)).ok()?;
-    let Scene { names, ops } = &*trial.scene;
-    let line = answer_line(trial.alloc, names, ops, &vars, ANSWER, &values);
-    trial.given.put_made_text(line);
-    Some(())
+    match trial.term(1) {
+        Some(values) => {
+            let Scene { names, ops } = &*trial.scene;
+            let line = answer_line(trial.alloc, names, ops, &vars, ANSWER, &values);
+            drop(values);
+            drop(vars);
+            trial.given.put_made_text(line);
+            Some(())
+        }
+        None => {
+            drop(vars);
+            None
+        }
+    }
 }
 
 fn error_named(name: &str) -> Option<RunError> {

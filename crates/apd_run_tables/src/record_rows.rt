@@ -2,7 +2,7 @@
 
 ghost use Rattle.std.specs.Prelude.{◌<◌, ◌≤◌, length};
 
-use crate::run_rows::{Left, case_of, put_ran, ran};
+use crate::run_rows::{Left, put_ran, ran_of_row};
 use apd_record::{PointId, Record};
 use apd_rows::Trial;
 use std::alloc::AllocError;
@@ -13,6 +13,8 @@ fn put_point(trial: &mut Trial, history: &Record, p: PointId) -> Result<(), Allo
 {
     let tuple = history.tuple(p)?;
     trial.put_tuple(&tuple);
+    // Dropped by a call, here and below: else each part is a step to check.
+    drop(tuple);
     let (clause, done, owner) = (history.clause(p), history.done(p), history.owner(p));
     let rest = format!(in trial.alloc; " by clause {clause}, {done} done, box {owner}");
     trial.given.put_made(rest);
@@ -96,10 +98,16 @@ fn put_boxes(trial: &mut Trial, history: &Record) -> Result<(), AllocError> {
 }
 
 /// Gives the end of a run, and what stands in its record then.
-pub fn put_record(trial: &mut Trial) -> Option<()> {
-    let case = case_of(trial)?;
-    let mut left = Left::new(trial.alloc, false)?;
-    let ran = ran(trial.alloc, &case, &mut left)?;
+fn put_run(trial: &mut Trial, left: &mut Left) -> Option<()> {
+    let ran = ran_of_row(trial, left)?;
     put_ran(&mut trial.given, ran);
     put_boxes(trial, &left.history).ok()
+}
+
+/// The same, of the row's run.
+pub fn put_record(trial: &mut Trial) -> Option<()> {
+    let mut left = Left::new(trial.alloc, false)?;
+    let put = put_run(trial, &mut left);
+    drop(left);
+    put
 }

@@ -93,20 +93,33 @@ pub struct Case {
 fn query_of_row(trial: &mut Trial) -> Option<Query> {
     let read = trial.read(1)?;
     if !is_query(&read.term) {
+        // Dropped by calls, here and below: else each part is a step to check.
+        drop(read);
         return None;
     }
-    query_of(trial.alloc, &read).ok()
+    let query = query_of(trial.alloc, &read);
+    drop(read);
+    query.ok()
 }
 
 /// The program, the query and the limits of a row.
 pub fn case_of(trial: &mut Trial) -> Option<Box<Case>> {
-    let case = Case {
-        loaded: loaded_of(trial)?,
-        query: query_of_row(trial)?,
-        budget: trial.row.number(2),
-        answers: trial.row.number(3),
-    };
-    Box::new(trial.alloc, case).ok()
+    let loaded = loaded_of(trial)?;
+    match query_of_row(trial) {
+        Some(query) => {
+            let case = Case {
+                loaded,
+                query,
+                budget: trial.row.number(2),
+                answers: trial.row.number(3),
+            };
+            Box::new(trial.alloc, case).ok()
+        }
+        None => {
+            drop(loaded);
+            None
+        }
+    }
 }
 
 /// What is left of a run: what it showed, where that is kept, and its record.
@@ -139,7 +152,7 @@ pub fn put_ran(given: &mut Builder, ran: Ran) {
 }
 
 /// Runs the query of a case.
-pub fn ran(alloc: Global, case: &Case, left: &mut Left) -> Option<Ran> {
+fn ran(alloc: Global, case: &Case, left: &mut Left) -> Option<Ran> {
     let (budget, answers) = (case.budget, case.answers);
     if budget == 0 || budget > MOST_SHOWN || answers == 0 || answers > MOST_SHOWN {
         return None;
@@ -180,16 +193,30 @@ pub fn put_item(given: &mut Builder, scene: &Scene, item: &Shown) {
     given.put("\n");
 }
 
-/// Gives what a run shows, where that is kept, and its end.
-fn put_shown(trial: &mut Trial, keeps: bool) -> Option<()> {
+/// Runs the query of the row.
+pub fn ran_of_row(trial: &mut Trial, left: &mut Left) -> Option<Ran> {
     let case = case_of(trial)?;
-    let mut left = Left::new(trial.alloc, keeps)?;
-    let ran = ran(trial.alloc, &case, &mut left)?;
+    let ran = ran(trial.alloc, &case, left);
+    drop(case);
+    ran
+}
+
+/// Gives what is left of the row's run: what it shows, where that is kept, and its end.
+fn put_left(trial: &mut Trial, left: &mut Left) -> Option<()> {
+    let ran = ran_of_row(trial, left)?;
     for item in left.keeper.shown.as_slice() {
         put_item(&mut trial.given, &trial.scene, item);
     }
     put_ran(&mut trial.given, ran);
     Some(())
+}
+
+/// Gives what a run shows, where that is kept, and its end.
+fn put_shown(trial: &mut Trial, keeps: bool) -> Option<()> {
+    let mut left = Left::new(trial.alloc, keeps)?;
+    let put = put_left(trial, &mut left);
+    drop(left);
+    put
 }
 
 /// Gives what a run shows, port by port, and its end.

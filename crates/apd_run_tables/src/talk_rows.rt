@@ -61,15 +61,23 @@ fn put_asked(given: &mut Builder, asked: &Wanted<'_>) {
     }
 }
 
-/// Gives what the words ask for: the most ports and answers, which ports are printed, the strategy, the program's file or
-/// how many nodes the tree has, and a log, an oracle file and a reference program where there are such.
-pub fn put_words(trial: &mut Trial) -> Option<()> {
-    let words = words_of(trial.alloc, trial.row.text(0)).ok()?;
-    match read_words(trial.alloc, words.as_slice()).ok()? {
+/// Gives what words ask for.
+fn put_words_of(trial: &mut Trial, words: &[String]) -> Option<()> {
+    match read_words(trial.alloc, words).ok()? {
         Some(asked) => put_asked(&mut trial.given, &asked),
         None => trial.given.put("usage"),
     }
     Some(())
+}
+
+/// Gives what the row's words ask for: the most ports and answers, which ports are printed, the strategy, the program's file or
+/// how many nodes the tree has, and a log, an oracle file and a reference program where there are such.
+pub fn put_words(trial: &mut Trial) -> Option<()> {
+    let words = words_of(trial.alloc, trial.row.text(0)).ok()?;
+    let put = put_words_of(trial, words.as_slice());
+    // Dropped by calls, here and below: else each part is a step to check.
+    drop(words);
+    put
 }
 
 /// Adds a line's length, and its bytes where they are few.
@@ -112,9 +120,18 @@ fn put_lines(given: &mut Builder, console: &mut Console, source: &mut MemSource)
 /// Gives the lines that are heard of a text, and twice why there is no other; the read with this number fails.
 pub fn put_heard(trial: &mut Trial) -> Option<()> {
     let mut source = source_of(trial.alloc, &trial.row).ok()?;
-    let mut console = Console::new(trial.alloc).ok()?;
-    put_lines(&mut trial.given, &mut console, &mut source);
-    Some(())
+    match Console::new(trial.alloc) {
+        Ok(mut console) => {
+            put_lines(&mut trial.given, &mut console, &mut source);
+            drop(console);
+            drop(source);
+            Some(())
+        }
+        Err(_) => {
+            drop(source);
+            None
+        }
+    }
 }
 
 /// Gives what a sink with so much room holds after these texts, and which of them weren't printed.
@@ -126,5 +143,6 @@ pub fn put_printed(trial: &mut Trial) -> Option<()> {
         trial.given.put(if fails { "fault " } else { "printed " });
     }
     trial.given.put_bytes(sink.held());
+    drop(sink);
     Some(())
 }

@@ -4,7 +4,7 @@
 Each log has at most so many bytes, 1,048,576 where none are told, which is the most that a check takes. Each is checked, and so
 is what is left of it where only its runs stay. It is met where the first takes at most a second more of the processor than the
 second, and ends with a verdict. A check that takes longer than a minute is cut off. Without PROGRAM the one that ./apd builds is
-run. It ends with 1 where a log isn't met.
+run. It ends with 1 where a log isn't met. Last it says what a fixed loop took meanwhile, which tells how fast the machine was.
 """
 import argparse
 import os
@@ -13,6 +13,7 @@ import resource
 import subprocess
 import sys
 import tempfile
+import time
 from pathlib import Path
 
 TOP = Path(__file__).resolve().parent.parent
@@ -21,6 +22,7 @@ MOST_BESIDE = 1.0
 
 SAME = "p(X) :- p(X).\nq(1).\n"
 OPEN = "p(X) :- p(Y).\n"
+TURNS = "p(X) :- r(X).\nr(X) :- p(X).\n"
 COUNT = "n(X) :- Y is X + 1, n(Y).\n"
 BOX = ":- op(200, fy, box).\n" + SAME
 BOX_CALLED = ":- op(200, fy, box).\n:- op(300, xfy, called).\n" + SAME
@@ -199,6 +201,19 @@ class Logs:
             text = self.strings(length)
             yield f"denials of {length} letters", "q(X).\n", self.filled("", lambda n: front + f'q("{text(n)}")\n')
             yield f"denials of {length} letters, each of another name", "q(X).\n", self.filled("", lambda n: front + f'q{n}("{text(n)}")\n')
+        last = front + "q(a,f(z))\n"
+        for length in (200, 50):
+            text = self.strings(length)
+            below = self.filled("", lambda n: front + f'q(q{n}("{text(n)}"))\n')
+            yield f"denials of {length} letters, each below another name", "q(X).\n", below
+            some = self.filled("", lambda n: front + f'q{n % 8}("{text(n)}")\n')
+            yield f"denials of {length} letters, of eight names", "q(X).\n", some
+            for share in (0.97, 0.9, 0.7):
+                title = f"wrong instances behind denials of {length} letters, {share} of the log"
+                plain = self.filled("", lambda n: front + f'q("{text(n)}",{n})\n', share)
+                yield title, "q(X,Y).\n", self.filled(plain + last, WRONG + "q(_1,f(_2))\n")
+                below = self.filled("", lambda n: front + f'q(q{n}("{text(n)}"),{n})\n', share)
+                yield f"{title}, each below another name", "q(X,Y).\n", self.filled(below + last, WRONG + "q(_1,f(_2))\n")
         text = self.strings(2000)
         denied = self.filled("", lambda n: front + f'q("{text(n)}",a)\n', 0.99) + front + "q(b,b)\n"
         yield "denials of 2000 letters, and a finding in which a variable stands twice", "q(X,Y).\n", denied + WRONG + "q(_1,_1)\n"
@@ -236,6 +251,8 @@ class Logs:
         yield "a chain that descends, again and again", SAME, self.filled(run + same, descends)
         yield "a chain that descends by the last reply", SAME, run + others + same + descends
         yield "a chain that was said not to descend", SAME, run + below("p(a)", "p(a)", "no") + others + same + descends
+        turns = below("p(a)", "r(a)") + others + below("r(a)", "p(a)")
+        yield "a chain of two calls in turn", TURNS, run + turns + descends
         pairs = self.filled("", lambda n: below(f"n({n + 1})", f"n({n})"), 0.9)
         calls = pairs.count("reply")
         long_run = f"run: n(0)\nend: budget, {3 * calls + 1} ports, 0 answers\n"
@@ -253,8 +270,11 @@ class Logs:
         yield "a call apart by many replies, against their order", COUNT, down + apart(0)
         yield "a call apart by many replies, again and again", COUNT, self.filled(up, apart(0))
         steps = self.filled("", lambda n: below(f"z({n})", f"z({n + 1})"), 0.4)
-        short = run + below("n(0)", "z(0)") + steps + below("n(1)", f"z({steps.count('reply')})", "no")
+        last = steps.count("reply")
+        short = run + below("n(0)", "z(0)") + steps + below("n(1)", f"z({last})", "no")
         yield "a call apart by many replies, each time behind one more", COUNT, self.filled(short, lambda n: below(f"y({n})", "y") + apart(0))
+        longer = self.filled(short, lambda n: below(f"z({last + n})", f"z({last + n + 1})") + apart(0))
+        yield "a call apart by many replies, each time by one more", COUNT, longer
         calls = self.room // 376
         told = "".join(below(f"n({n})", "z(0)") + below(f"n({n + 1})", "end", "no") for n in range(calls))
         yield "calls apart by many replies, of many callers", COUNT, self.callers(calls, told)
@@ -297,13 +317,22 @@ def runs_of(log):
     return "".join(line + "\n" for line in log.split("\n") if line.startswith(("run: ", "end: ")) and len(line) < 1000)
 
 
+def yardstick():
+    """The processor seconds of a fixed loop."""
+    begun = time.process_time()
+    number = 0
+    for step in range(1_000_000):
+        number = (number + step) & 0xFFFF
+    return time.process_time() - begun
+
+
 def main():
     words = argparse.ArgumentParser(description="Times the check of hostile logs.")
     words.add_argument("--size", type=int, default=1 << 20)
     words.add_argument("--only", default="")
     words.add_argument("program", nargs="?", default=TOP / "crates/apd/out/apd")
     given = words.parse_args()
-    program, missed = Path(given.program).resolve(), 0
+    program, missed, speeds = Path(given.program).resolve(), 0, [yardstick()]
     with tempfile.TemporaryDirectory(prefix="apd-hostile-") as name:
         for title, source, log in Logs(given.size).all():
             if given.only not in title:
@@ -312,8 +341,9 @@ def main():
             runs = timed(program, Path(name), source, runs_of(log))[0]
             is_met = seconds <= runs + MOST_BESIDE and not said.startswith(("cut", "status"))
             missed += not is_met
+            speeds.append(yardstick())
             print(f"{title}: {seconds:.2f} s, its runs {runs:.2f} s: {said}" + ("" if is_met else " (not met)"), flush=True)
-    print(f"{missed} not met")
+    print(f"{missed} not met; a loop of 1,000,000 additions in Python took {min(speeds):.2f} to {max(speeds):.2f} s")
     return 1 if missed else 0
 
 

@@ -24,6 +24,7 @@ class Terminal:
         self.seen = 0
         self.child, self.screen = pty.fork()
         if self.child == 0:
+            signal.signal(signal.SIGINT, signal.SIG_DFL)  # whoever runs the tests in the background ignores it
             os.chdir(folder)
             os.execve(str(TOP / "apdi"), ["apdi", *words], given)
 

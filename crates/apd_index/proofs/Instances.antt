@@ -1,29 +1,31 @@
 -- Entries that are right, and the bits that are left to the instances of an atom.
 use Rattle.std.proofs.Common.{◌≡◌, inl, inr, ℕ, zero, suc, ◌++◌, List, [], ◌∷◌, length, Some, Bool, Result, Ok, Err, refl, sym, ap, ◌∙◌, subst}
 use Rattle.std.specs.Prelude.{IfOk, IsTrue, slice_get}
-use Rattle.apd_term.specs.Term.{IsAmong, IsGround, Term}
+use Rattle.apd_term.specs.Term.{IsAmong, IsGround, Term, apply, variable}
+use Rattle.apd_term.specs.declared.term.Sym.{Sym}
 use Rattle.apd_term.specs.Substitution.{IsInstance}
 use Rattle.apd_term.proofs.Ground.{apply-ground}
-use Rattle.apd_marks.specs.Positions.{IsLasting, marks_of, whole}
+use Rattle.apd_marks.specs.Positions.{any_term, whole}
 use Rattle.apd_index.specs.Columns.{AddsOf, HasColumns, IsAlike, IsIn, column_at, tagged}
 use Rattle.apd_index.specs.Nodes.{IsNumber, IsSound, KeepsNumbers, noted_at}
 use Rattle.apd_index.specs.Table as tables
-use Rattle.apd_index.specs.Subterms.{IsAt, digest}
+use Rattle.apd_index.specs.Spots.{AllLeave, IsSpot}
+use Rattle.apd_index.specs.Subterms.{IsAt, digest, noted}
 use Rattle.apd_index.specs.declared.columns.Columns.{Columns}
 use Rattle.apd_index.specs.declared.columns.Entry.{Entry}
 use Rattle.apd_index.specs.declared.nodes.Nodes.{Nodes}
 use Rattle.apd_index.specs.declared.positions.Parent.{Parent}
+use Rattle.apd_index.specs.declared.sharing.Spot.{Spot}
 use Rattle.apd_index.specs.declared.walk.Table.{Table}
 use Rattle.apd_marks.specs.Places.{Index, places_at}
 use Rattle.apd_index.specs.Retrieval.{AreSpecials, AreWholes, root_mark}
 use Rattle.apd_bits.specs.Rows.{HasBit, HasBits, IsWithin}
-use Rattle.apd_index.proofs.Parts.{instance-at}
-use Rattle.apd_index.proofs.Retrieval.{lasting-above}
+use Rattle.apd_index.proofs.Parts.{instance-at, root-stays}
 use Rattle.apd_index.proofs.Rooted.{same-root}
 
 -- where nothing is noted
 pub grows-none : (t : Table) → tables.IsSound t → tables.Grows t t
-grows-none t is = record { sound = is; kept = λ m k a. a; numbers = λ p c n. n; entries = λ c e i. i }
+grows-none t is = record { sound = is; kept = λ m k a. a; founders = record { still = λ m k f. f }; numbers = λ p c n. n; entries = λ c e i. i }
 
 pub adds-none : (nodes : Nodes) (columns : Columns) (a : Term) (k : ℕ) → AddsOf nodes columns a k columns
 adds-none nodes columns a k c e i = inl i
@@ -32,6 +34,7 @@ pub grows-on : (t u v : Table) → tables.Grows t u → tables.Grows u v → tab
 grows-on t u v one two = record {
   sound = two.sound;
   kept = λ m k a. two.kept m k (one.kept m k a);
+  founders = record { still = λ m k f. two.founders.still m k (one.founders.still m k f) };
   numbers = λ p c n. two.numbers p c (one.numbers p c n);
   entries = λ c e i. two.entries c e (one.entries c e i);
 }
@@ -71,7 +74,7 @@ right-told (Err u) xs nodes further old new a k there keeps adds = tt
 -- an instance has equal terms wherever a variable stands
 pub alike : (xs : List Term) (nodes : Nodes) (columns : Columns) (a x : Term) (k : ℕ) → IsSound nodes → HasColumns xs nodes columns → slice_get xs k ≡ Some x → IsInstance x a → IsAlike nodes columns a k
 alike xs nodes columns a x k sound right there (s, is) p q c d v g h numbered_p numbered_q e f in_p in_q in_place_e in_place_f =
-    sym (at p c e numbered_p in_p in_place_e (instance-at s a x p v is g)) ∙ at q d f numbered_q in_q in_place_f (instance-at s a x q v is h)
+    sym (at p c e numbered_p in_p in_place_e (instance-at s a x p (variable v) is g)) ∙ at q d f numbered_q in_q in_place_f (instance-at s a x q (variable v) is h)
   where
     at : (o : Parent) (b : ℕ) (n : Entry) → IsNumber nodes o b → IsIn (column_at columns b) n → n.place ≡ k → IsAt x o (s v) → tagged (digest (s v)) k ≡ n.tag
     at o b n numbered stands in_place here =
@@ -83,16 +86,18 @@ alike xs nodes columns a x k sound right there (s, is) p q c d v g h numbered_p 
         only : {y z : Term} → Some y ≡ Some z → y ≡ z
         only e' = cc
 
+-- an atom's spots are those of its instances too
+pub instance-spot : (a x : Term) (s : Spot) → IsInstance x a → IsSpot a s → IsSpot x s
+instance-spot a x s (f, is) (p, t, at, above, m) = (p, apply f t, instance-at f a x p t is at, above, subst (λ (y : Sym). IsAmong (noted p y) s.mark) (sym (root-stays f t p s.mark m)) m)
+
 -- each instance of the atom is looked at: its bit is left, or it is large, or it waits
-module _ (xs : List Term) (nodes : Nodes) (large : List ℕ) (waiting : Index) (columns : Columns) (a : Term) (mark root : ℕ) (row more full : List ℕ) where
-  pub all-left : AreSpecials xs nodes large waiting → IsSound nodes → HasColumns xs nodes columns → IsLasting a mark → root_mark a ≡ Some root
-      → ((k : ℕ) → IsAmong (noted_at nodes mark) k → ((m : ℕ) → IsAmong (marks_of a) m → IsAmong (noted_at nodes m) k) → IsAlike nodes columns a k → HasBit row k) → IsWithin row more → HasBits more large
+module _ (xs : List Term) (nodes : Nodes) (large : List ℕ) (waiting : Index) (columns : Columns) (a : Term) (root : ℕ) (row more full : List ℕ) where
+  pub all-left : AreSpecials xs nodes large waiting → IsSound nodes → HasColumns xs nodes columns → root_mark a ≡ Some root
+      → ((k : ℕ) → IsAmong (noted_at nodes any_term) k → AllLeave nodes k a → IsAlike nodes columns a k → HasBit row k) → IsWithin row more → HasBits more large
       → IsWithin more full → HasBits full (places_at waiting root) → (k : ℕ) (x : Term) → slice_get xs k ≡ Some x → IsInstance x a → HasBit full k
-  all-left known sound right lasting is_root left kept set further wait k x e i = elim (known k x e) [
+  all-left known sound right is_root left kept set further wait k x e i = elim (known k x e) [
     | inl noted ↦ further k (elim noted [
-      | inl above ↦
-          let f = lasting-above nodes a x k above i in
-          kept k (left k (f mark lasting) (λ m b. f m (inr (inr b))) (alike xs nodes columns a x k sound right e i))
+      | inl above ↦ kept k (left k above.1 (λ s is. above.0 s (instance-spot a x s i is)) (alike xs nodes columns a x k sound right e i))
       | inr l ↦ set k l
     ])
     | inr w ↦ wait k (subst (λ (m : ℕ). IsAmong (places_at waiting m) k) (sym (same-root a x root w.0 is_root i w.1)) w.2)

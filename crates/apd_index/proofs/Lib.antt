@@ -2,7 +2,6 @@ pub mod Agreeing
 pub mod Chains
 pub mod Instances
 pub mod Linked
-pub mod Marking
 pub mod Mixed
 pub mod Noding
 pub mod Noting
@@ -11,7 +10,9 @@ pub mod Parts
 pub mod Passing
 pub mod Putting
 pub mod Retrieval
+pub mod Roomy
 pub mod Rooted
+pub mod Spotted
 pub mod Telling
 pub mod Unequal
 pub mod Waited

@@ -1,9 +1,9 @@
 -- A node that is new, or gets one more place.
-use Rattle.std.proofs.Common.{◌≡◌, ◌⊎◌, inl, inr, ℕ, ◌+◌, ◌<◌, ◌≤◌, Bool, true, false, List, map, Option, None, Some, unwrap_or, refl, sym, ap, ◌∙◌, subst, arith}
+use Rattle.std.proofs.Common.{◌≡◌, ◌⊎◌, inl, inr, ℕ, ◌+◌, ◌<◌, ◌≤◌, Bool, true, false, List, map, Option, None, Some, unwrap_or, refl, sym, ap, ◌∙◌, subst, arith, eq-eqb}
 use Rattle.std.specs.Prelude.{if◌then◌else◌, nat_eq}
 use Rattle.std.proofs.lemmas.Bool.{eqb-true}
 use Rattle.indexmap.specs.IndexMap.{get}
-use Rattle.apd_index.specs.Nodes.{HasLinks, HasRow, IsNumber, IsNumberIn, IsNumberOf, IsRight, IsSound, KeepBits, KeepChains, places}
+use Rattle.apd_index.specs.Nodes.{HasLinks, HasRow, IsFounder, KeepsFounders, founder_at, founder_of, IsNumber, IsNumberIn, IsNumberOf, IsRight, IsSound, KeepBits, KeepChains, places}
 use Rattle.apd_index.specs.declared.nodes.Link.{Link}
 use Rattle.apd_index.specs.declared.nodes.Node.{Node}
 use Rattle.apd_index.specs.declared.nodes.Nodes.{Nodes}
@@ -42,6 +42,14 @@ module _ (nodes : Nodes) (mark : ℕ) (fresh first : Node) (is : first ≡ unwra
   there : (n : Node) → get nat_eq nodes.nodes mark ≡ Some n → first ≡ n
   there n e = is ∙ ap (λ (o : Option Node). unwrap_or o fresh) e
 
+  -- where there was none, its founder is that of the fresh one
+  pub founder-fresh : founder_at nodes mark ≡ None → first.founder ≡ fresh.founder
+  founder-fresh e = by (get nat_eq nodes.nodes mark) refl e
+    where
+      by : (o : Option Node) → get nat_eq nodes.nodes mark ≡ o → founder_of o ≡ None → first.founder ≡ fresh.founder
+      by None h f = ap (λ (m : Node). m.founder) (is ∙ ap (λ (o : Option Node). unwrap_or o fresh) h)
+      by (Some n) h f = absurd (cc)
+
   pub absent : get nat_eq nodes.nodes mark ≡ None → first ≡ fresh
   absent e = is ∙ ap (λ (o : Option Node). unwrap_or o fresh) e
 
@@ -54,6 +62,20 @@ module _ (nodes : Nodes) (mark : ℕ) (fresh first : Node) (is : first ≡ unwra
         by : (t : Bool) → nat_eq mark m ≡ t → P m (if t then Some node else get nat_eq nodes.nodes m)
         by true e = subst (λ (n : ℕ). P n (Some node)) (eqb-true mark m e) here
         by false e = before m
+
+    -- the first one of a node that was there is the same; that of a new node is told
+    pub founders-kept : node.founder ≡ first.founder → KeepsFounders nodes further
+    founders-kept same_founder = record { still = λ m k f. record { is = stays m k f.is } }
+      where
+        here : (k : ℕ) (o : Option Node) → get nat_eq nodes.nodes mark ≡ o → founder_of (get nat_eq nodes.nodes mark) ≡ Some k → Some node.founder ≡ Some k
+        here k None e f = absurd (let g : None ≡ Some k = ap founder_of (sym e) ∙ f in cc)
+        here k (Some n) e f = ap (λ (j : ℕ). Some j) (same_founder ∙ ap (λ (m : Node). m.founder) (there n e)) ∙ ap founder_of (sym e) ∙ f
+
+        stays : (m k : ℕ) → founder_of (get nat_eq nodes.nodes m) ≡ Some k → founder_of (get nat_eq further.nodes m) ≡ Some k
+        stays = node-by (λ (m : ℕ) (o : Option Node). (k : ℕ) → founder_of (get nat_eq nodes.nodes m) ≡ Some k → founder_of o ≡ Some k) (λ k. here k (get nat_eq nodes.nodes mark) refl) (λ m k e. e)
+
+    pub founder-there : (place : ℕ) → node.founder ≡ place → IsFounder further mark place
+    founder-there place is = record { is = ap founder_of (h mark ∙ ap (λ (b : Bool). if b then Some node else get nat_eq nodes.nodes mark) (eq-eqb mark mark refl)) ∙ ap (λ (j : ℕ). Some j) is }
 
     -- a number that a position has now it had, or the position is below the mark
     number-was : (p : Parent) (c : ℕ) → IsNumber further p c → IsNumber nodes p c ⊎ ((mark ≡ p.mark) × IsNumberIn first.slots p.left c)

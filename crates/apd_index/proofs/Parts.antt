@@ -1,21 +1,16 @@
 -- Subterms: where they stand, with which symbols they begin, and that instances have them too.
 use Rattle.std.proofs.Common.{◌≡◌, ◌⊎◌, inl, inr, ℕ, zero, suc, ◌<◌, ◌++◌, List, [], ◌∷◌, length, map, get_or, refl, sym, ap, ◌∙◌, subst, arith}
 use Rattle.std.proofs.lemmas.List.{append-nil, length-map, map-append}
-use Rattle.apd_term.specs.Term.{Term, Terms, variable, integer, compound, none, more, list_of, spell, spell_all, apply, apply_all}
+use Rattle.apd_term.specs.Term.{IsAmong, Term, Terms, variable, integer, compound, none, more, list_of, spell, spell_all, apply, apply_all}
 use Rattle.apd_term.specs.declared.term.Sym.{Sym}
 use Rattle.apd_term.specs.declared.term.Sym.TheVariants.{Var, Int, Fun}
 use Rattle.apd_term.proofs.Spelling.{length-apply_all}
 use Rattle.apd_marks.specs.Mixing.{mixed}
 use Rattle.apd_marks.specs.Positions.{top}
 use Rattle.apd_index.specs.declared.positions.Parent.{Parent}
-use Rattle.apd_index.specs.Subterms.{IsAt, Stands, Subterm, digest, digests, position, position_below, positions, subterms, subterms_at, subterms_below}
+use Rattle.apd_index.specs.Subterms.{IsAt, Stands, Subterm, digest, digests, noted, position, position_below, positions, root, subterms, subterms_at, subterms_below}
 
 -- The symbols that they begin with are those of the term.
-
-abbrev pub root : Term → Sym
-root (variable v) = Var v
-root (integer i) = Int i
-root (compound f ts) = Fun f (length (list_of ts))
 
 abbrev pub root_of : Subterm → Sym
 root_of s = root s.term
@@ -44,6 +39,20 @@ stands-root [] i v d o l e = absurd (omega (arith, l))
 stands-root (s ∷ ss) zero v d o l e = inl (refl, root-variable s.term v e)
 stands-root (s ∷ ss) (suc i) v d o l e = inr (stands-root ss i v d o (omega (arith, l)) e)
 
+stands-there : (ss : List Subterm) (i : ℕ) (d : Sym) (o : Parent) → i < length (map root_of ss)
+    → (t : Term) × Stands ss (get_or (map (λ (s : Subterm). s.position) ss) i o) t × (root t ≡ get_or (map root_of ss) i d)
+stands-there [] i d o l = absurd (omega (arith, l))
+stands-there (s ∷ ss) zero d o l = (s.term, inl (refl, refl), refl)
+stands-there (s ∷ ss) (suc i) d o l = let r = stands-there ss i d o (omega (arith, l)) in (r.0, inr r.1, r.2)
+
+-- a symbol that is read
+pub symbol-at : (t : Term) (xs : List Sym) (ps : List Parent) (i : ℕ) (p o : Parent) (d : Sym) → xs ≡ spell t → ps ≡ positions t → i < length xs → p ≡ get_or ps i o
+    → (u : Term) × IsAt t p u × (root u ≡ get_or xs i d)
+symbol-at t xs ps i p o d is at l here =
+    let same : xs ≡ map root_of (subterms t) = is ∙ spelled t in
+    let r = stands-there (subterms t) i d o (subst (λ (ys : List Sym). i < length ys) same l) in
+    (r.0, subst (λ (q : Parent). IsAt t q r.0) (sym (here ∙ ap (λ (qs : List Parent). get_or qs i o) at)) r.1, r.2 ∙ ap (λ (ys : List Sym). get_or ys i d) (sym same))
+
 -- a variable that is read
 pub variable-at : (t : Term) (xs : List Sym) (ps : List Parent) (i v : ℕ) (p o : Parent) (d : Sym) → xs ≡ spell t → ps ≡ positions t → i < length xs → get_or xs i d ≡ Var v → p ≡ get_or ps i o → IsAt t p (variable v)
 variable-at t xs ps i v p o d is at l e here =
@@ -68,6 +77,18 @@ stands-where [] p o t h = absurd h
 stands-where (s ∷ ss) p o t (inl (e, f)) = (zero, omega arith, e, ap digest f)
 stands-where (s ∷ ss) p o t (inr h) = let r = stands-where ss p o t h in (suc r.0, omega (arith, r.1), r.2, r.3)
 
+stands-symbol : (ss : List Subterm) (p o : Parent) (t : Term) (d : Sym) → Stands ss p t
+    → (i : ℕ) × (i < length (map (λ (s : Subterm). s.position) ss)) × (get_or (map (λ (s : Subterm). s.position) ss) i o ≡ p) × (get_or (map root_of ss) i d ≡ root t)
+stands-symbol [] p o t d h = absurd h
+stands-symbol (s ∷ ss) p o t d (inl (e, f)) = (zero, omega arith, e, ap root f)
+stands-symbol (s ∷ ss) p o t d (inr h) = let r = stands-symbol ss p o t d h in (suc r.0, omega (arith, r.1), r.2, r.3)
+
+-- where a term stands, its symbol is read
+pub symbol-where : (t u : Term) (xs : List Sym) (p o : Parent) (d : Sym) → xs ≡ spell t → IsAt t p u → (i : ℕ) × (i < length (positions t)) × (get_or (positions t) i o ≡ p) × (get_or xs i d ≡ root u)
+symbol-where t u xs p o d is h =
+    let r = stands-symbol (subterms t) p o u d h in
+    (r.0, r.1, r.2, ap (λ (ys : List Sym). get_or ys r.0 d) (is ∙ spelled t) ∙ r.3)
+
 -- Instances.
 
 stands-left : (ss us : List Subterm) (p : Parent) (t : Term) → Stands ss p t → Stands (ss ++ us) p t
@@ -91,24 +112,29 @@ stands-first c n (integer i) = inl (refl, refl)
 stands-first c n (compound f ts) = inl (refl, refl)
 
 mutual
-  at-instance : (s : ℕ → Term) (c n : ℕ) (t : Term) (p : Parent) (v : ℕ) → Stands (subterms_at c n t) p (variable v) → Stands (subterms_at c n (apply s t)) p (s v)
-  at-instance s c n (variable w) p v (inl (e, f)) =
-      let same : w ≡ v = cc in
-      subst (λ (q : Parent). Stands (subterms_at c n (s w)) q (s v)) e (subst (λ (x : ℕ). Stands (subterms_at c n (s w)) (position c n) (s x)) same (stands-first c n (s w)))
-  at-instance s c n (variable w) p v (inr z) = absurd z
-  at-instance s c n (integer i) p v (inl (e, f)) = absurd (cc)
-  at-instance s c n (integer i) p v (inr z) = absurd z
-  at-instance s c n (compound f ts) p v (inl (e, g)) = absurd (cc)
-  at-instance s c n (compound f ts) p v (inr h) = rw (length-apply_all s ts) (inr (below-instance s (mixed (position_below c n) (Fun f (length (list_of ts)))) ts p v h))
+  at-instance : (s : ℕ → Term) (c n : ℕ) (t : Term) (p : Parent) (u : Term) → Stands (subterms_at c n t) p u → Stands (subterms_at c n (apply s t)) p (apply s u)
+  at-instance s c n (variable w) p u (inl (e, f)) =
+      subst (λ (q : Parent). Stands (subterms_at c n (s w)) q (apply s u)) e (subst (λ (y : Term). Stands (subterms_at c n (s w)) (position c n) (apply s y)) f (stands-first c n (s w)))
+  at-instance s c n (variable w) p u (inr z) = absurd z
+  at-instance s c n (integer i) p u (inl (e, f)) = inl (e, ap (apply s) f)
+  at-instance s c n (integer i) p u (inr z) = absurd z
+  at-instance s c n (compound f ts) p u (inl (e, g)) = inl (e, ap (apply s) g)
+  at-instance s c n (compound f ts) p u (inr h) = rw (length-apply_all s ts) (inr (below-instance s (mixed (position_below c n) (Fun f (length (list_of ts)))) ts p u h))
 
-  below-instance : (s : ℕ → Term) (c : ℕ) (ts : Terms) (p : Parent) (v : ℕ) → Stands (subterms_below c ts) p (variable v) → Stands (subterms_below c (apply_all s ts)) p (s v)
-  below-instance s c none p v h = absurd h
-  below-instance s c (more t ts) p v h =
-      rw (length-apply_all s ts) (elim (stands-append (subterms_at c (suc (length (list_of ts))) t) (subterms_below c ts) p (variable v) h) [
-        | inl a ↦ stands-left (subterms_at c (suc (length (list_of ts))) (apply s t)) (subterms_below c (apply_all s ts)) p (s v) (at-instance s c (suc (length (list_of ts))) t p v a)
-        | inr b ↦ stands-right (subterms_at c (suc (length (list_of ts))) (apply s t)) (subterms_below c (apply_all s ts)) p (s v) (below-instance s c ts p v b)
+  below-instance : (s : ℕ → Term) (c : ℕ) (ts : Terms) (p : Parent) (u : Term) → Stands (subterms_below c ts) p u → Stands (subterms_below c (apply_all s ts)) p (apply s u)
+  below-instance s c none p u h = absurd h
+  below-instance s c (more t ts) p u h =
+      rw (length-apply_all s ts) (elim (stands-append (subterms_at c (suc (length (list_of ts))) t) (subterms_below c ts) p u h) [
+        | inl a ↦ stands-left (subterms_at c (suc (length (list_of ts))) (apply s t)) (subterms_below c (apply_all s ts)) p (apply s u) (at-instance s c (suc (length (list_of ts))) t p u a)
+        | inr b ↦ stands-right (subterms_at c (suc (length (list_of ts))) (apply s t)) (subterms_below c (apply_all s ts)) p (apply s u) (below-instance s c ts p u b)
       ])
 
--- where a variable stands in an atom, an instance has the same term for each of its positions
-pub instance-at : (s : ℕ → Term) (a x : Term) (p : Parent) (v : ℕ) → apply s a ≡ x → IsAt a p (variable v) → IsAt x p (s v)
-instance-at s a x p v e h = subst (λ (y : Term). IsAt y p (s v)) e (below-instance s top (more a none) p v h)
+-- where a term stands in an atom, an instance has that term's instance
+pub instance-at : (s : ℕ → Term) (a x : Term) (p : Parent) (u : Term) → apply s a ≡ x → IsAt a p u → IsAt x p (apply s u)
+instance-at s a x p u e h = subst (λ (y : Term). IsAt y p (apply s u)) e (below-instance s top (more a none) p u h)
+
+-- a symbol that is no variable stays
+pub root-stays : (s : ℕ → Term) (u : Term) (p : Parent) (m : ℕ) → IsAmong (noted p (root u)) m → root (apply s u) ≡ root u
+root-stays s (variable v) p m a = absurd a
+root-stays s (integer i) p m a = refl
+root-stays s (compound f ts) p m a = ap (Fun f) (length-apply_all s ts)

@@ -9,9 +9,10 @@ use Rattle.apd_term.specs.Matching.{is_instance}
 use Rattle.apd_term.specs.Substitution.{IsInstance}
 use Rattle.apd_term.proofs.Opposite.{is_instance-is}
 use Rattle.apd_marks.specs.Places.{Index, Notes, places_at}
-use Rattle.apd_marks.specs.Positions.{IsLasting, all_marks, whole}
-use Rattle.apd_index.specs.Retrieval.{AreGenerals, AreKeptBut, AreKeptIn, AreNoted, AreSpecials, AreWholes, IsKnown, IsNoted, IsNotedAbove, IsNotedBelow, NoneLeft, SomeLeft, has_general, has_special, is_above, is_below, is_left_below}
-use Rattle.apd_index.specs.Nodes.{AreKept, noted_at}
+use Rattle.apd_marks.specs.Positions.{IsLasting, all_marks, any_term, whole}
+use Rattle.apd_index.specs.Retrieval.{AreGenerals, AreKeptBut, AreKeptIn, AreNoted, AreSpecials, AreWholes, IsKnown, IsNoted, IsNotedBelow, NoneLeft, SomeLeft, has_general, has_special, is_above, is_below, is_left_below}
+use Rattle.apd_index.specs.Nodes.{AreKept, KeepsFounders}
+use Rattle.apd_index.specs.Spots.{AllLeave}
 use Rattle.apd_index.specs.declared.nodes.Nodes.{Nodes}
 use Rattle.apd_bits.specs.Rows.{HasBit, IsClearNear, has_bit}
 use Rattle.apd_index.proofs.Noting.{notes-kept, notes-one}
@@ -30,21 +31,27 @@ last-at (y ∷ xs) a x (suc k) e = elim (last-at xs a x k e) [ inl h ↦ inl h |
 pub below-kept : (xs : List Term) (old new : Index) → AreKeptIn old new → AreGenerals xs old → AreGenerals xs new
 below-kept xs old new kept h k x e = let n = h k x e in record { mark = n.mark; lasting = n.lasting; noted = kept n.mark k n.noted }
 
-pub noted-kept : (old new : Nodes) (large larger : List ℕ) (k : ℕ) (x : Term) → AreKept old new → ((k : ℕ) → IsAmong large k → IsAmong larger k) → IsNoted old large k x → IsNoted new larger k x
-noted-kept old new large larger k x kept still h = elim h [ inl above ↦ inl (λ m a. kept m k (above m a)) | inr l ↦ inr (still k l) ]
+pub leaves-kept : (old new : Nodes) (k : ℕ) (x : Term) → AreKept old new → KeepsFounders old new → AllLeave old k x → AllLeave new k x
+leaves-kept old new k x kept founders fine s is = elim (fine s is) [ inl n ↦ inl (kept s.mark k n) | inr f ↦ inr (founders.still s.parent k f) ]
 
-pub above-kept : (xs : List Term) (old new : Nodes) (large larger : List ℕ) (waiting more : Index) → AreKept old new → ((k : ℕ) → IsAmong large k → IsAmong larger k) → AreKeptIn waiting more
+pub noted-kept : (old new : Nodes) (large larger : List ℕ) (k : ℕ) (x : Term) → AreKept old new → KeepsFounders old new → ((k : ℕ) → IsAmong large k → IsAmong larger k) → IsNoted old large k x → IsNoted new larger k x
+noted-kept old new large larger k x kept founders still h = elim h [
+  | inl above ↦ inl (leaves-kept old new k x kept founders above.0, kept any_term k above.1)
+  | inr l ↦ inr (still k l)
+]
+
+pub above-kept : (xs : List Term) (old new : Nodes) (large larger : List ℕ) (waiting more : Index) → AreKept old new → KeepsFounders old new → ((k : ℕ) → IsAmong large k → IsAmong larger k) → AreKeptIn waiting more
     → AreSpecials xs old large waiting → AreSpecials xs new larger more
-above-kept xs old new large larger waiting more kept still wait h k x e = elim (h k x e) [
-  | inl noted ↦ inl (noted-kept old new large larger k x kept still noted)
+above-kept xs old new large larger waiting more kept founders still wait h k x e = elim (h k x e) [
+  | inl noted ↦ inl (noted-kept old new large larger k x kept founders still noted)
   | inr w ↦ inr (w.0, w.1, wait w.0 k w.2)
 ]
 
 -- what waited at a mark is noted, and forgotten
-pub above-gathered : (xs : List Term) (old new : Nodes) (large larger : List ℕ) (waiting fewer : Index) (mark : ℕ) → AreKept old new → ((k : ℕ) → IsAmong large k → IsAmong larger k)
+pub above-gathered : (xs : List Term) (old new : Nodes) (large larger : List ℕ) (waiting fewer : Index) (mark : ℕ) → AreKept old new → KeepsFounders old new → ((k : ℕ) → IsAmong large k → IsAmong larger k)
     → AreNoted xs new larger (places_at waiting mark) → AreKeptBut mark waiting fewer → AreSpecials xs old large waiting → AreSpecials xs new larger fewer
-above-gathered xs old new large larger waiting fewer mark kept still noted but h k x e = elim (h k x e) [
-  | inl is ↦ inl (noted-kept old new large larger k x kept still is)
+above-gathered xs old new large larger waiting fewer mark kept founders still noted but h k x e = elim (h k x e) [
+  | inl is ↦ inl (noted-kept old new large larger k x kept founders still is)
   | inr w ↦ elim (but w.0 k w.2) [
     | inl same ↦ inl (noted k x (subst (λ (m : ℕ). IsAmong (places_at waiting m) k) (sym same) w.2) e)
     | inr a ↦ inr (w.0, w.1, a)
@@ -143,10 +150,6 @@ module _ (xs : List Term) (places : Index) (a : Term) where
       let n = noted t.0 t.1 t.2 in
       among-any above_at (all_marks a) n.mark (lasting-marks a t.1 n.mark ((is_instance-is a t.1).0 t.3) n.lasting)
       (among-any (λ (j : ℕ). is_above a (slice_get xs j)) (places_at places n.mark) t.0 n.noted (ap (is_above a) t.2 ∙ t.3))
-
--- an instance of an atom is noted for all marks of that one that its instances have too
-pub lasting-above : (places : Nodes) (a x : Term) (k : ℕ) → IsNotedAbove places k x → IsInstance x a → (m : ℕ) → IsLasting a m → IsAmong (noted_at places m) k
-lasting-above places a x k above i m lasting = above m (lasting-marks x a m i lasting)
 
 -- The same where it is looked only at places that have their bit in a row.
 module _ (xs : List Term) (row : List ℕ) (a : Term) where

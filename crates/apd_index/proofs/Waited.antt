@@ -8,7 +8,7 @@ use Rattle.apd_term.specs.Term.{IsAmong, Term}
 use Rattle.apd_term.proofs.Among.{IsAmong-append}
 use Rattle.apd_marks.specs.Places.{Index}
 use Rattle.apd_index.specs.Columns.{HasColumns}
-use Rattle.apd_index.specs.Nodes.{AreKept}
+use Rattle.apd_index.specs.Nodes.{AreKept, KeepsFounders}
 use Rattle.apd_index.specs.Retrieval.{AreKeptBut, AreNoted, IsNoted}
 use Rattle.apd_index.specs.Table.{Grows}
 use Rattle.apd_index.specs.declared.nodes.Nodes.{Nodes}
@@ -26,13 +26,13 @@ pub record AreSo (xs : List Term) (places : List ℕ) (i : ℕ) (old new : Table
   pub noted : AreNoted xs new.nodes larger (take i places)
   pub columns : IsTrue are_right → KeepsRight xs old new
 
-pub noted-more : (xs : List Term) (places : List ℕ) (i place : ℕ) (nodes further : Nodes) (large larger : List ℕ) → i < length places → place ≡ get_or places i 0 → AreKept nodes further
+pub noted-more : (xs : List Term) (places : List ℕ) (i place : ℕ) (nodes further : Nodes) (large larger : List ℕ) → i < length places → place ≡ get_or places i 0 → AreKept nodes further → KeepsFounders nodes further
     → ((k : ℕ) → IsAmong large k → IsAmong larger k) → AreNoted xs nodes large (take i places) → ((x : Term) → slice_get xs place ≡ Some x → IsNoted further larger place x)
     → AreNoted xs further larger (take (i + 1) places)
-noted-more xs places i place nodes further large larger l is kept still before now k x a e =
+noted-more xs places i place nodes further large larger l is kept founders still before now k x a e =
     let split : take (i + 1) places ≡ take i places ++ place ∷ [] = take_more places i 0 l ∙ ap (λ (p : ℕ). take i places ++ p ∷ []) (sym is) in
     elim (IsAmong-append (take i places) (place ∷ []) k (subst (λ (ks : List ℕ). IsAmong ks k) split a)) [
-      | inl old ↦ noted-kept nodes further large larger k x kept still (before k x old e)
+      | inl old ↦ noted-kept nodes further large larger k x kept founders still (before k x old e)
       | inr last ↦ elim last [
         | inl same ↦ subst (λ (p : ℕ). IsNoted further larger p x) same (now x (ap (slice_get xs) same ∙ e))
         | inr none ↦ absurd none

@@ -1,33 +1,37 @@
 -- What holds after so many symbols of an atom were noted.
-use Rattle.std.proofs.Common.{◌≡◌, ◌⊎◌, inl, inr, ℕ, zero, suc, ◌+◌, ◌<◌, ◌≤◌, ◌++◌, Bool, List, [], ◌∷◌, length, drop, get_or, Some, refl, sym, ap, ◌∙◌, subst, arith}
-use Rattle.std.specs.Prelude.{IsTrue, reverse, slice_get}
+use Rattle.std.proofs.Common.{◌≡◌, ◌⊎◌, inl, inr, ℕ, zero, suc, ◌+◌, ◌<◌, ◌≤◌, ◌++◌, ◌==◌, if◌then◌else◌, Bool, true, false, List, [], ◌∷◌, length, drop, get_or, Some, Result, Ok, Err, refl, sym, ap, ◌∙◌, subst, arith}
+use Rattle.std.specs.Prelude.{IsTrue, OnOk, reverse, slice_get}
 use Rattle.std.proofs.lemmas.Bool.{cases_lt}
 use Rattle.std.proofs.lemmas.List.{drop_all, drop_more, map-append, reverse-append}
 use Rattle.apd_term.specs.Term.{IsAmong, Term, spell}
 use Rattle.apd_term.specs.declared.term.Sym.{Sym}
-use Rattle.apd_term.proofs.Among.{IsAmong-append}
-use Rattle.apd_marks.specs.Positions.{marks_of, top}
+use Rattle.apd_term.specs.declared.term.Sym.TheVariants.{Var}
+use Rattle.apd_marks.specs.Positions.{top}
 use Rattle.apd_index.specs.Columns.{AddsOf, AreColumns, KeepsEntries, tagged}
-use Rattle.apd_index.specs.Nodes.{AreSlots, IsSound as AreSound, noted_at}
+use Rattle.apd_index.specs.Nodes.{IsFounder, IsSound as AreSound, KeepsFounders, KeepsNumbers, noted_at}
+use Rattle.apd_index.specs.Spots.{AllLeave}
 use Rattle.apd_index.specs.Subterms.{digests, noted, onward, positions, waiting}
-use Rattle.apd_index.specs.Table.{AddsNext, AreOpen, Grow, Grows, PutsNext, parent_of, parents_of}
+use Rattle.apd_index.specs.Table.{AddsNext, AreOpen, Grow, Grows, IsOpen, PutsNext, kept_open, parent_of, parents_of}
 use Rattle.apd_index.specs.declared.columns.Columns.{Columns}
 use Rattle.apd_index.specs.declared.nodes.Nodes.{Nodes}
 use Rattle.apd_index.specs.declared.positions.Parent.{Parent}
 use Rattle.apd_index.specs.declared.walk.Open.{Open}
 use Rattle.apd_index.specs.declared.walk.Table.{Table}
 use Rattle.apd_index.proofs.Agreeing.{AddsPaired, AreSo, EndAt, adds-of, all-so, ends-go, nowhere, paired-goes, paired-none, so-goes}
-use Rattle.apd_index.proofs.Marking.{marks-whole, marks_left, no-marks}
-use Rattle.apd_index.proofs.Parts.{as-many-digests}
+use Rattle.apd_index.proofs.Parts.{as-many-digests, symbol-where}
 use Rattle.apd_index.proofs.Passing.{after, none-left, rest, rest-whole, reverse-onward}
+
+-- what is noted of a symbol that stands at a position: the place, unless it was the first to have the symbol above
+abbrev LeavesAt : Nodes → ℕ → Parent → Sym → Type 0
+LeavesAt nodes place p x = (m : ℕ) → IsAmong (noted p x) m → IsAmong (noted_at nodes m) place ⊎ IsFounder nodes p.mark place
 
 pub record IsWalked (t : Term) (xs : List Sym) (place i : ℕ) (first now : Table) (opened : List Open) (is_right : Bool) : Type 0 where
   pub grows : Grows first now
-  pub opens : AreOpen now.nodes opened
+  pub opens : AreOpen now.nodes place opened
   pub within : i ≤ length (positions t)
-  -- the positions that are still to be read, and the marks that aren't noted
+  -- the positions that are still to be read, and what is noted of those that were
   pub ahead : rest (drop i xs) (reverse (parents_of opened)) ≡ drop i (positions t)
-  pub marks : (m : ℕ) → IsAmong (marks_of t) m → IsAmong (noted_at now.nodes m) place ⊎ IsAmong (marks_left (drop i xs) (reverse (parents_of opened))) m
+  pub leaves : (j : ℕ) → j < i → LeavesAt now.nodes place (get_or (positions t) j nowhere) (get_or xs j (Var 0))
   pub adds : AddsPaired now.nodes first.columns (positions t) (digests t) i place now.columns
   pub right : IsTrue is_right → EndAt now.nodes now.columns (positions t) i place × AreSo (positions t) i
 
@@ -35,14 +39,14 @@ pub record IsWalked (t : Term) (xs : List Sym) (place i : ℕ) (first now : Tabl
 abbrev with_nodes : Table → Nodes → Table
 with_nodes t nodes = record { nodes = nodes; columns = t.columns; is_given_up = t.is_given_up }
 
-pub walked-begins : (t : Term) (xs : List Sym) (place : ℕ) (first : Table) (nodes : Nodes) (none opened : List Open) (is_right : Bool) → AreColumns first.columns → xs ≡ spell t → Grow first.nodes nodes → AreOpen nodes opened → none ≡ []
+pub walked-begins : (t : Term) (xs : List Sym) (place : ℕ) (first : Table) (nodes : Nodes) (none opened : List Open) (is_right : Bool) → AreColumns first.columns → xs ≡ spell t → Grow first.nodes nodes → AreOpen nodes place opened → none ≡ []
     → parents_of opened ≡ waiting top 1 (parents_of none) → IsWalked t xs place 0 first (with_nodes first nodes) opened is_right
 walked-begins t xs place first nodes none opened is_right columns is grow opens empty parents = record {
-  grows = record { sound = (grow.sound, columns); kept = grow.kept; numbers = grow.numbers; entries = λ c e i. i };
+  grows = record { sound = (grow.sound, columns); kept = grow.kept; founders = grow.founders; numbers = grow.numbers; entries = λ c e i. i };
   opens = opens;
   within = omega arith;
   ahead = ap (λ (ys : List Sym). rest ys (reverse (parents_of opened))) is ∙ ap (λ (ps : List Parent). rest (spell t) (reverse ps)) begun ∙ rest-whole t;
-  marks = λ m a. inr (subst (λ (ms : List ℕ). IsAmong ms m) (sym (ap (λ (ys : List Sym). marks_left ys (reverse (parents_of opened))) is ∙ ap (λ (ps : List Parent). marks_left (spell t) (reverse ps)) begun ∙ marks-whole t)) a);
+  leaves = λ j l. absurd (omega (arith, l));
   adds = paired-none nodes first.columns (positions t) (digests t) place;
   right = λ so. (λ j l. absurd (omega (arith, l)), λ j k l m e. absurd (omega (arith, l)));
 }
@@ -73,34 +77,35 @@ still-there (z ∷ xs) x y zero e = e
 still-there (z ∷ xs) x y (suc i) e = still-there xs x y i e
 
 -- The symbol that is taken, and those that are left.
-module _ (nodes : Nodes) (opened left : List Open) (o : Open) (is : opened ≡ left ++ o ∷ []) (opens : AreOpen nodes opened) where
-  pub last-open : AreSlots nodes o.mark o.slots
+module _ (nodes : Nodes) (place : ℕ) (opened left : List Open) (o : Open) (is : opened ≡ left ++ o ∷ []) (opens : AreOpen nodes place opened) where
+  pub last-open : IsOpen nodes place o
   last-open = opens (length left) o (ap (λ (os : List Open). slice_get os (length left)) is ∙ last-there left o)
 
-  pub others-open : AreOpen nodes left
+  pub others-open : AreOpen nodes place left
   others-open i p e = opens i p (ap (λ (os : List Open). slice_get os i) is ∙ still-there left o p i e)
 
 pub digests-within : (t : Term) (ds : List ℕ) (i : ℕ) → ds ≡ digests t → i < length (positions t) → i < length ds
 digests-within t ds i is l = let h = as-many-digests t (positions t) ds refl is in omega (arith, h, l)
 
 pub grow-none : (nodes : Nodes) → AreSound nodes → Grow nodes nodes
-grow-none nodes sound = record { sound = sound; kept = λ m k a. a; numbers = λ p c a. a }
+grow-none nodes sound = record { sound = sound; kept = λ m k a. a; founders = record { still = λ m k f. f }; numbers = λ p c a. a }
 
 pub grows-more : (first now : Table) (nodes : Nodes) (columns : Columns) → Grows first now → Grow now.nodes nodes → AreColumns columns → KeepsEntries now.columns columns → Grows first (record { nodes = nodes; columns = columns; is_given_up = now.is_given_up })
 grows-more first now nodes columns so_far grow are keeps = record {
   sound = (grow.sound, are);
   kept = λ m k a. grow.kept m k (so_far.kept m k a);
+  founders = record { still = λ m k f. grow.founders.still m k (so_far.founders.still m k f) };
   numbers = λ p c a. grow.numbers p c (so_far.numbers p c a);
   entries = λ c e a. keeps c e (so_far.entries c e a);
 }
 
 -- A symbol is noted.
-module _ (t : Term) (xs : List Sym) (place i : ℕ) (first now : Table) (opened left : List Open) (o : Open) (is_right : Bool) (w : IsWalked t xs place i first now opened is_right) (is : opened ≡ left ++ o ∷ []) (d x : Sym) (l : i < length xs) (at : x ≡ get_or xs i d) where
+module _ (t : Term) (xs : List Sym) (place i : ℕ) (first now : Table) (opened left : List Open) (o : Open) (is_right : Bool) (w : IsWalked t xs place i first now opened is_right) (is : opened ≡ left ++ o ∷ []) (x : Sym) (l : i < length xs) (at : x ≡ get_or xs i (Var 0)) where
   turned : reverse (parents_of opened) ≡ parent_of o ∷ reverse (parents_of left)
   turned = ap (λ (os : List Open). reverse (parents_of os)) is ∙ ap reverse (map-append parent_of left (o ∷ [])) ∙ reverse-append (parents_of left) (parent_of o ∷ [])
 
   next : drop i xs ≡ x ∷ drop (i + 1) xs
-  next = drop_more xs i d l ∙ ap (λ (y : Sym). y ∷ drop (i + 1) xs) (sym at)
+  next = drop_more xs i (Var 0) l ∙ ap (λ (y : Sym). y ∷ drop (i + 1) xs) (sym at)
 
   met : parent_of o ∷ rest (drop (i + 1) xs) (after (parent_of o) x (reverse (parents_of left))) ≡ drop i (positions t)
   met = sym (ap (λ (ps : List Parent). rest (drop i xs) ps) turned ∙ ap (λ (ys : List Sym). rest ys (parent_of o ∷ reverse (parents_of left))) next) ∙ w.ahead
@@ -113,35 +118,39 @@ module _ (t : Term) (xs : List Sym) (place i : ℕ) (first now : Table) (opened 
     abbrev grown : Table
     grown = record { nodes = nodes; columns = columns; is_given_up = now.is_given_up }
 
-    slots : AreSlots now.nodes o.mark o.slots
-    slots = last-open now.nodes opened left o is w.opens
+    last : IsOpen now.nodes place o
+    last = last-open now.nodes place opened left o is w.opens
+
+    leaves-last : ((m : ℕ) → IsAmong (noted (parent_of o) x) m → IsAmong (noted_at nodes m) place ⊎ IsTrue o.is_founder) → LeavesAt nodes place (get_or (positions t) i nowhere) (get_or xs i (Var 0))
+    leaves-last here =
+        subst (λ (p : Parent). LeavesAt nodes place p (get_or xs i (Var 0))) read.1
+        (subst (LeavesAt nodes place (parent_of o)) at (λ m a. elim (here m a) [ inl n ↦ inl n | inr f ↦ inr (grow.founders.still o.mark place (last.1 f)) ]))
+
+    leaves-still : (p : Parent) (y : Sym) → LeavesAt now.nodes place p y → LeavesAt nodes place p y
+    leaves-still p y f m a = elim (f m a) [ inl n ↦ inl (grow.kept m place n) | inr e ↦ inr (grow.founders.still p.mark place e) ]
 
     pub walked-goes : (further : List Open) (b : Bool) (tag : ℕ) → tag ≡ tagged (get_or (digests t) i 0) place → AddsNext now.columns o place tag columns → (IsTrue b → IsTrue is_right × PutsNext now.columns o place columns)
-        → AreOpen nodes further → ((m : ℕ) → IsAmong (noted (parent_of o) x) m → IsAmong (noted_at nodes m) place) → parents_of further ≡ onward (parent_of o) x (parents_of left) → IsWalked t xs place (i + 1) first grown further b
+        → AreOpen nodes place further → ((m : ℕ) → IsAmong (noted (parent_of o) x) m → IsAmong (noted_at nodes m) place ⊎ IsTrue o.is_founder) → parents_of further ≡ onward (parent_of o) x (parents_of left) → IsWalked t xs place (i + 1) first grown further b
     walked-goes further b tag tag_is adds right opens here parents = record {
       grows = grows-more first now nodes columns w.grows grow are keeps;
       opens = opens;
       within = let r = read.0 in omega (arith, r);
       ahead = ap (rest (drop (i + 1) xs)) onto ∙ read.2;
-      marks = λ m a. elim (w.marks m a) [
-        | inl g ↦ inl (grow.kept m place g)
-        | inr r ↦ elim (IsAmong-append (noted (parent_of o) x) (marks_left (drop (i + 1) xs) (after (parent_of o) x (reverse (parents_of left)))) m (subst (λ (ms : List ℕ). IsAmong ms m) passed r)) [
-          | inl h ↦ inl (here m h)
-          | inr h ↦ inr (subst (λ (ps : List Parent). IsAmong (marks_left (drop (i + 1) xs) ps) m) (sym onto) h)
-        ]
+      leaves = λ j b. elim (cases_lt j i) [
+        | inl before ↦ leaves-still (get_or (positions t) j nowhere) (get_or xs j (Var 0)) (w.leaves j before)
+        | inr past ↦
+            let same : i ≡ j = omega (arith, b, past) in
+            subst (λ (k : ℕ). LeavesAt nodes place (get_or (positions t) k nowhere) (get_or xs k (Var 0))) same (leaves-last here)
       ];
-      adds = paired-goes now.nodes nodes grow.numbers (positions t) i place o slots read.1 now.columns columns first.columns (digests t) tag tag_is adds w.adds;
+      adds = paired-goes now.nodes nodes grow.numbers (positions t) i place o last.0 read.1 now.columns columns first.columns (digests t) tag tag_is adds w.adds;
       right = λ so.
           let r = right so in
           let s = w.right r.0 in
-          (ends-go now.nodes nodes grow.numbers (positions t) i place o slots read.1 now.columns columns r.1 s.0, so-goes now.nodes nodes grow.numbers (positions t) i place o slots read.1 now.columns columns r.1 s.0 s.1);
+          (ends-go now.nodes nodes grow.numbers (positions t) i place o last.0 read.1 now.columns columns r.1 s.0, so-goes now.nodes nodes grow.numbers (positions t) i place o last.0 read.1 now.columns columns r.1 s.0 s.1);
     }
       where
         onto : reverse (parents_of further) ≡ after (parent_of o) x (reverse (parents_of left))
         onto = ap reverse parents ∙ reverse-onward (parent_of o) x (parents_of left)
-
-        passed : marks_left (drop i xs) (reverse (parents_of opened)) ≡ noted (parent_of o) x ++ marks_left (drop (i + 1) xs) (after (parent_of o) x (reverse (parents_of left)))
-        passed = ap (λ (ps : List Parent). marks_left (drop i xs) ps) turned ∙ ap (λ (ys : List Sym). marks_left ys (parent_of o ∷ reverse (parents_of left))) next
 
 -- All symbols are noted.
 module _ (t : Term) (xs : List Sym) (place i : ℕ) (first now : Table) (opened : List Open) (is_right : Bool) (w : IsWalked t xs place i first now opened is_right) (done : (opened ≡ []) ⊎ (length xs ≤ i)) where
@@ -151,15 +160,45 @@ module _ (t : Term) (xs : List Sym) (place i : ℕ) (first now : Table) (opened 
     | inr l ↦ ap (λ (ys : List Sym). rest ys (reverse (parents_of opened))) (drop_all i xs l)
   ]
 
-  none-marked : marks_left (drop i xs) (reverse (parents_of opened)) ≡ []
-  none-marked = elim done [
-    | inl e ↦ ap (λ (os : List Open). marks_left (drop i xs) (reverse (parents_of os))) e ∙ no-marks (drop i xs)
-    | inr l ↦ ap (λ (ys : List Sym). marks_left ys (reverse (parents_of opened))) (drop_all i xs l)
-  ]
+  all-read : length (positions t) ≤ i
+  all-read = drop-nil (positions t) i nowhere (sym w.ahead ∙ none-ahead)
 
-  pub all-noted : (m : ℕ) → IsAmong (marks_of t) m → IsAmong (noted_at now.nodes m) place
-  all-noted m a = elim (w.marks m a) [ inl g ↦ g | inr r ↦ absurd (subst (λ (ms : List ℕ). IsAmong ms m) none-marked r) ]
+  pub all-noted : xs ≡ spell t → AllLeave now.nodes place t
+  all-noted is s (p, u, at, above, a) =
+      let r = symbol-where t u xs p nowhere (Var 0) is at in
+      let past = all-read in
+      let here = w.leaves r.0 (let l = r.1 in omega (arith, l, past)) in
+      elim (here s.mark (subst (λ (q : Parent). IsAmong (noted q (get_or xs r.0 (Var 0))) s.mark) (sym r.2) (subst (λ (y : Sym). IsAmong (noted p y) s.mark) (sym r.3) a))) [
+        | inl n ↦ inl n
+        | inr f ↦ inr (subst (λ (n : ℕ). IsFounder now.nodes n place) (ap (λ (q : Parent). q.mark) r.2 ∙ above) f)
+      ]
 
   pub all-added : IsTrue is_right → AddsOf now.nodes first.columns t place now.columns
   all-added so =
-      adds-of t now.nodes (positions t) (digests t) i place first.columns now.columns refl refl w.within (all-so (positions t) i (drop-nil (positions t) i nowhere (sym w.ahead ∙ none-ahead)) (w.right so).1) w.adds
+      adds-of t now.nodes (positions t) (digests t) i place first.columns now.columns refl refl w.within (all-so (positions t) i all-read (w.right so).1) w.adds
+
+-- Symbols below which terms are still to be read, where one more is.
+
+pub open-still : (old new : Nodes) (place : ℕ) (opened : List Open) → KeepsNumbers old new → KeepsFounders old new → AreOpen old place opened → AreOpen new place opened
+open-still old new place opened numbers founders are i o e = let h = are i o e in (λ left c n. numbers (record { mark = o.mark; left = left }) c (h.0 left c n), λ f. founders.still o.mark place (h.1 f))
+
+pushed-last : (xs : List Open) (o p : Open) (i : ℕ) → slice_get (xs ++ o ∷ []) i ≡ Some p → (slice_get xs i ≡ Some p) ⊎ (o ≡ p)
+pushed-last [] o p zero e = inr (cc)
+pushed-last [] o p (suc i) e = absurd (cc)
+pushed-last (x ∷ xs) o p zero e = inl e
+pushed-last (x ∷ xs) o p (suc i) e = pushed-last xs o p i e
+
+pub open-next : (nodes : Nodes) (place : ℕ) (opened new : List Open) (o : Open) → new ≡ kept_open o opened → IsOpen nodes place o → AreOpen nodes place opened → AreOpen nodes place new
+open-next nodes place opened new o is here are = subst (AreOpen nodes place) (sym is) (by (o.left == 0))
+  where
+    by : (b : Bool) → AreOpen nodes place (if b then opened else opened ++ o ∷ [])
+    by true = are
+    by false = λ i p e. elim (pushed-last opened o p i e) [ inl before ↦ are i p before | inr same ↦ subst (IsOpen nodes place) same here ]
+
+pub told-by : {T E P Q : Type 0} (r : Result T E) → (P → Q) → OnOk r P → OnOk r Q
+told-by (Ok u) f h = f h
+told-by (Err u) f h = tt
+
+pub told : {T E P : Type 0} (r : Result T E) → P → OnOk r P
+told (Ok u) h = h
+told (Err u) h = tt

@@ -4,3 +4,4 @@ pub mod Chains
 pub mod Columns
 pub mod Nodes
 pub mod Table
+pub mod Spots

@@ -31,6 +31,22 @@ noted_at nodes mark = places_of nodes.links.items (get nat_eq nodes.nodes mark)
 abbrev pub AreKept : Nodes → Nodes → Type 0
 AreKept old new = (m k : ℕ) → IsAmong (noted_at old m) k → IsAmong (noted_at new m) k
 
+-- the founder of a mark: of the places that are noted for it, the first one
+abbrev pub founder_of : Option Node → Option ℕ
+founder_of None = None
+founder_of (Some n) = Some n.founder
+
+abbrev pub founder_at : Nodes → ℕ → Option ℕ
+founder_at nodes mark = founder_of (get nat_eq nodes.nodes mark)
+
+-- the place is the mark's founder
+pub record IsFounder (nodes : Nodes) (mark place : ℕ) : Type 0 where
+  pub is : founder_at nodes mark ≡ Some place
+
+-- each founder is so still
+pub record KeepsFounders (old new : Nodes) : Type 0 where
+  pub still : (m k : ℕ) → IsFounder old m k → IsFounder new m k
+
 -- The columns of arguments.
 
 -- the number is that of an argument's column, by the columns of all arguments; the argument is counted from the end

@@ -4,9 +4,9 @@ use Rattle.std.specs.List.{list_any}
 use Rattle.apd_term.specs.Term.{Term, IsAmong}
 use Rattle.apd_term.specs.Matching.{is_instance}
 use Rattle.apd_marks.specs.Places.{Index, places_at}
-use Rattle.apd_marks.specs.Positions.{IsLasting, all_marks, marks_of, whole}
+use Rattle.apd_marks.specs.Positions.{IsLasting, marks_of, whole}
 use Rattle.apd_index.specs.declared.nodes.Nodes.{Nodes}
-use Rattle.apd_index.specs.Nodes.{noted_at}
+use Rattle.apd_index.specs.Spots.{IsNotedAbove}
 use Rattle.apd_bits.specs.Rows.{has_bit}
 
 -- some of the atoms is an instance of this one
@@ -41,11 +41,7 @@ pub record IsNotedBelow (places : Index) (k : ℕ) (x : Term) : Type 0 where
   pub lasting : IsLasting x mark
   pub noted : IsAmong (places_at places mark) k
 
--- the place is noted for each mark of the atom; so it is for those of whatever the atom is an instance of
-abbrev pub IsNotedAbove : Nodes → ℕ → Term → Type 0
-IsNotedAbove nodes k x = (m : ℕ) → IsAmong (all_marks x) m → IsAmong (noted_at nodes m) k
-
--- that, or the place is noted as that of a large atom
+-- the place is noted for the atom's symbols, but constants below one of which it is the founder; or it is that of a large atom
 abbrev pub IsNoted : Nodes → List ℕ → ℕ → Term → Type 0
 IsNoted nodes large k x = IsNotedAbove nodes k x ⊎ IsAmong large k
 

@@ -8,6 +8,12 @@ use Rattle.apd_marks.specs.Mixing.{mixed}
 use Rattle.apd_marks.specs.Positions.{top}
 use Rattle.apd_index.specs.declared.positions.Parent.{Parent}
 
+-- the symbol that a term begins with
+abbrev pub root : Term → Sym
+root (variable v) = Var v
+root (integer i) = Int i
+root (compound f ts) = Fun f (length (list_of ts))
+
 -- a subterm, and its position: the mark of the symbol above it, and which of the terms below that it is, from the end
 pub record Subterm : Type 0 where
   pub position : Parent

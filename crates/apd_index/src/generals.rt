@@ -1,12 +1,12 @@
 //! Atoms that are looked up by their instances.
 
-ghost use Rattle.std.specs.Prelude.{◌≡◌, ◌++◌, ◌∷◌, [], length, IfOk, OnOk, slice_get};
+ghost use Rattle.std.specs.Prelude.{◌≡◌, ◌⊎◌, ◌++◌, ◌∷◌, [], IfOk, OnOk, slice_get};
 ghost use Rattle.std.specs.List.{list_any};
-ghost use Rattle.apd_marks.specs.Positions.{IsLasting, all_marks};
+ghost use Rattle.apd_term.specs.Term.{IsAmong};
+ghost use Rattle.apd_marks.specs.Positions.{IsLasting, all_marks, any_term};
 ghost use Rattle.apd_marks.specs.Places.{places_at};
 ghost use Rattle.apd_index.specs.Retrieval.{AreGenerals, has_general, is_above};
 
-use crate::marked::rarest;
 use apd_answers::is_instance;
 use apd_marks::{ANY_TERM, Places, all_marks, marks_of, note, whole, with_mark};
 use apd_term::{Atoms, Flat};
@@ -14,15 +14,20 @@ use indexmap::IndexMap;
 use std::alloc::{AllocError, Global};
 use std::marker::Model;
 
-/// How many places each of the marks has.
-fn counts_of(alloc: Global, places: &Places, marks: &[u64]) -> Result<Vec<usize>, AllocError>
-    ensures { IfOk result (λ counts. length counts.items ≡ length marks.now) }
+/// The one of these marks, and of the one that all terms have, that the fewest places have.
+fn rarest(places: &Places, marks: &[u64]) -> u64
+    ensures { (result ≡ any_term) ⊎ IsAmong marks.now result }
 {
-    let mut counts = Vec::new(alloc);
+    let mut rarest = ANY_TERM;
+    let mut least = with_mark(places, ANY_TERM).len();
     'marks: for mark in marks {
-        counts.push(with_mark(places, *mark).len())?;
+        let count = with_mark(places, *mark).len();
+        if count <= least {
+            rarest = *mark;
+            least = count;
+        }
     }
-    Ok(counts)
+    rarest
 }
 
 /// Of the marks that the atom's instances have too, one that few places have.
@@ -33,9 +38,7 @@ fn narrow(alloc: Global, places: &Places, atom: &Flat) -> Result<u64, AllocError
         return Ok(whole(atom));
     }
     let marks = marks_of(alloc, atom)?;
-    let counts = counts_of(alloc, places, marks.as_slice())?;
-    let all = with_mark(places, ANY_TERM).len();
-    Ok(rarest(marks.as_slice(), counts.as_slice(), all))
+    Ok(rarest(places, marks.as_slice()))
 }
 
 /// Puts an atom at the end. Its place is noted first: where there is no atom, it is passed over.

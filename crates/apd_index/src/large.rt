@@ -4,7 +4,7 @@
 ghost use Rattle.std.specs.Prelude.{◌≡◌, ℕ, List, IfOk, IfSome, IsTrue, OnOk};
 ghost use Rattle.apd_term.specs.Term.{IsAmong, Term};
 ghost use Rattle.apd_index.specs.Columns.{AddsOf, HasColumns, HasUnlikes};
-ghost use Rattle.apd_index.specs.Nodes.{AreKept};
+ghost use Rattle.apd_index.specs.Nodes.{AreKept, KeepsFounders};
 ghost use Rattle.apd_index.specs.Retrieval.{IsNoted};
 ghost use Rattle.apd_index.specs.Subterms.{digests as digests_in};
 ghost use Rattle.apd_index.specs.Table.{Grows, IsSound};
@@ -17,7 +17,7 @@ use std::alloc::{AllocError, Global};
 use std::mem::replace;
 
 /// An atom of more symbols is large.
-const LARGE: usize = 8192;
+pub(crate) const LARGE: usize = 8192;
 
 /// With more links there might be no numbers for those of an atom.
 const FULL: usize = 4_294_959_000;
@@ -63,6 +63,7 @@ pub(crate) fn give_up(alloc: Global, table: &mut Table, unlikes: &mut Unlikes)
     requires { IsSound table.old }
     ensures sound { IsSound table.new }
     ensures kept { AreKept table.old.nodes table.new.nodes }
+    ensures founders { KeepsFounders table.old.nodes table.new.nodes }
     ensures columns { (xs : List Term) → HasColumns xs table.new.nodes table.new.columns }
     ensures unlikes { HasUnlikes table.new.columns unlikes.new }
 {

@@ -1,9 +1,9 @@
 //! Nodes: what is kept of a symbol that atoms have at a position, by its mark. The places of its atoms are a chain, the last one first:
 //! links of all chains stand in one vector in the order in which they were put, so what is put is put at its end.
 
-ghost use Rattle.std.specs.Prelude.{◌≡◌, ◌+◌, ◌≤◌, ◌∷◌, ℕ, length, IfOk, IfSome, OnOk};
+ghost use Rattle.std.specs.Prelude.{◌≡◌, ◌+◌, ◌≤◌, ◌∷◌, ℕ, length, IfOk, IfSome, IsTrue, None, OnOk};
 ghost use Rattle.apd_term.specs.Term.{IsAmong};
-ghost use Rattle.apd_index.specs.Nodes.{AreKept, AreSlots, HasLinks, HasRow, IsNumber, IsNumberIn, IsRight, IsSound, KeepBits, KeepChains, KeepsNumbers, noted_at, places};
+ghost use Rattle.apd_index.specs.Nodes.{AreKept, AreSlots, HasLinks, HasRow, IsFounder, IsNumber, IsNumberIn, IsRight, IsSound, KeepBits, KeepChains, KeepsFounders, KeepsNumbers, founder_at, noted_at, places};
 ghost use Rattle.apd_bits.specs.Rows.{HasBits, IsWithin};
 
 use crate::positions::Parent;
@@ -21,14 +21,22 @@ pub(crate) struct Slots {
     pub count: u32,
 }
 
-/// The atoms that have the symbol there: the last link of their chain, how many they are, their row; and the columns of its arguments.
-/// Links and rows are counted from 1, and 0 is none.
+/// The places that are noted for a symbol at a position: the last link of their chain, how many they are, their row, and the first one, the
+/// founder; and the columns of the symbol's arguments. Links and rows are counted from 1, and 0 is none.
 #[derive(Clone, Copy)]
 pub(crate) struct Node {
     pub last: u32,
     pub count: u32,
     pub row: u32,
+    pub founder: u32,
     pub slots: Slots,
+}
+
+/// What is told of a symbol that was noted: the columns of its arguments, and whether the place is its founder.
+#[derive(Clone, Copy)]
+pub(crate) struct Noted {
+    pub slots: Slots,
+    pub is_founder: bool,
 }
 
 /// A place, and the link before it.
@@ -167,6 +175,7 @@ fn put_place(
     ensures bits { KeepBits rows.old.items rows.new.items }
     ensures right { IsRight links.new.items rows.new.items node.new }
     ensures slots { node.new.slots ≡ node.old.slots }
+    ensures founder { node.new.founder ≡ node.old.founder }
     ensures kept { (k : ℕ) → IsAmong (places links.old.items node.old.last) k
         → IsAmong (places links.new.items node.new.last) k }
     ensures noted { OnOk result (IsAmong (places links.new.items node.new.last) place) }
@@ -185,33 +194,51 @@ fn put_place(
     Ok(())
 }
 
-/// Notes a place for the mark, and gives the columns of its arguments. A new mark gets the next numbers for them.
+/// Notes a place for the mark. A new mark gets the next numbers for the columns of its arguments.
 pub(crate) fn note(
     alloc: Global,
     nodes: &mut Nodes,
     mark: u64,
     count: u8,
     place: u32,
-) -> Result<Slots, AllocError>
+) -> Result<Noted, AllocError>
     requires { IsSound nodes.old }
     ensures sound { IsSound nodes.new }
     ensures kept { AreKept nodes.old nodes.new }
     ensures numbers { KeepsNumbers nodes.old nodes.new }
+    ensures founders { KeepsFounders nodes.old nodes.new }
     ensures noted { OnOk result (IsAmong (noted_at nodes.new mark) place) }
-    ensures slots { IfOk result (AreSlots nodes.new mark) }
+    ensures slots { IfOk result (λ n. AreSlots nodes.new mark n.slots) }
+    ensures founder { IfOk result (λ n. IsTrue n.is_founder → IsFounder nodes.new mark place) }
+    ensures first { founder_at nodes.old mark ≡ None
+        → OnOk result (IsFounder nodes.new mark place) }
 {
     let node = nodes.nodes.entry(mark)?.or_insert(Node {
         last: 0,
         count: 0,
         row: 0,
+        founder: place,
         slots: slots_from(nodes.next, count as u32),
     });
     nodes.next = behind(nodes.next, node.slots);
     put_place(alloc, &mut nodes.links, &mut nodes.rows, node, place)?;
-    Ok(node.slots)
+    Ok(Noted {
+        slots: node.slots,
+        is_founder: node.founder == place,
+    })
 }
 
-/// How many places have the mark.
+/// The founder of the mark: the first place that was noted for it.
+pub(crate) fn founder_at(nodes: &Nodes, mark: u64) -> Option<usize>
+    ensures { result ≡ founder_at nodes.now mark }
+{
+    match nodes.nodes.get(&mark) {
+        Some(node) => Some(node.founder as usize),
+        None => None,
+    }
+}
+
+/// How many places are noted for the mark.
 pub(crate) fn count_at(nodes: &Nodes, mark: u64) -> usize {
     match nodes.nodes.get(&mark) {
         Some(node) => node.count as usize,

@@ -1,7 +1,7 @@
 //! A term's positions, whatever stands there.
 
-ghost use Rattle.std.specs.Prelude.{◌≡◌, IfOk, OnOk};
-ghost use Rattle.apd_index.specs.Subterms.{onward, position_below, positions, waiting};
+ghost use Rattle.std.specs.Prelude.{◌≡◌, IfOk, OnOk, slice_get};
+ghost use Rattle.apd_index.specs.Subterms.{noted, onward, position_below, positions, waiting};
 
 use apd_marks::mixed;
 use apd_term::{Flat, Sym};
@@ -22,6 +22,16 @@ pub(crate) fn next_position(parent: Parent) -> u64
     ensures { result ≡ position_below parent.mark parent.left }
 {
     mixed(parent.mark, Sym::Var(parent.left))
+}
+
+/// The mark of a symbol that is read as the next one of a parent; a variable has none.
+pub(crate) fn mark_of(parent: Parent, symbol: Sym) -> Option<u64>
+    ensures { result ≡ slice_get (noted parent symbol) 0 }
+{
+    match symbol {
+        Sym::Var(_) => None,
+        _ => Some(mixed(next_position(parent), symbol)),
+    }
 }
 
 /// Puts a parent, where terms are left to be read.

@@ -1,71 +1,119 @@
-//! Which places have all of an atom's marks is told by the `and` of the rows of those that many share.
+//! Which places may have an instance of an atom is told by the `and` of the rows of those of its symbols that many share. The founder of
+//! the symbol above one isn't struck out by that one: for a constant it isn't noted. (For a symbol with arguments it is, and is spared too.)
 
-ghost use Rattle.std.specs.Prelude.{◌≡◌, ℕ, length, IfOk};
+ghost use Rattle.std.specs.Prelude.{◌≡◌, ℕ, IfOk, IfSome, OnOk, Some, slice_get};
 ghost use Rattle.apd_term.specs.Term.{IsAmong};
-ghost use Rattle.apd_marks.specs.Positions.{IsLasting, marks_of};
-ghost use Rattle.apd_index.specs.Nodes.{IsSound, noted_at};
+ghost use Rattle.apd_marks.specs.Positions.{any_term};
+ghost use Rattle.apd_index.specs.Nodes.{IsFounder, IsSound, noted_at};
+ghost use Rattle.apd_index.specs.Spots.{AreSpots, Leaves, IsSpot, StandsIn};
+ghost use Rattle.apd_index.specs.declared.sharing.Spot.{Spot as SpotValue};
 ghost use Rattle.apd_bits.specs.Rows.{HasBit};
 
-use crate::marked::rarest;
-use crate::nodes::{Nodes, bits_of, count_at, row_at};
+use crate::nodes::{Nodes, bits_of, count_at, founder_at, row_at};
+use crate::positions::{mark_of, positions_of};
 use apd_bits::Row;
-use apd_marks::{ANY_TERM, marks_of};
+use apd_marks::ANY_TERM;
 use apd_term::Flat;
 use std::alloc::{AllocError, Global};
 
-/// How many places each of the marks has.
-fn counts_of(alloc: Global, nodes: &Nodes, marks: &[u64]) -> Result<Vec<usize>, AllocError>
-    ensures { IfOk result (λ counts. length counts.items ≡ length marks.now) }
+/// A symbol of an atom: its mark, and that of the symbol above it.
+#[derive(Clone, Copy)]
+pub(crate) struct Spot {
+    pub parent: u64,
+    pub mark: u64,
+}
+
+/// The spots of the atom's symbols, but for variables. The contract says that they are spots of it, and leaves open which.
+fn spots_of(alloc: Global, atom: &Flat) -> Result<Vec<Spot>, AllocError>
+    ensures { IfOk result (λ spots. AreSpots atom.now spots.items) }
 {
-    let mut counts = Vec::new(alloc);
-    'marks: for mark in marks {
-        counts.push(count_at(nodes, *mark))?;
+    let positions = positions_of(alloc, atom)?;
+    let symbols = atom.symbols();
+    let mut spots = Vec::new(alloc);
+    'symbols: for i in 0..symbols.len() {
+        let position = positions[i];
+        let Some(mark) = mark_of(position, symbols[i]) else {
+            continue;
+        };
+        spots.push(Spot {
+            parent: position.mark,
+            mark,
+        })?;
     }
-    Ok(counts)
+    Ok(spots)
 }
 
-/// Of the marks that the atom's instances have too, one that few places have.
-pub(crate) fn narrow(alloc: Global, nodes: &Nodes, atom: &Flat) -> Result<u64, AllocError>
-    ensures { IfOk result (λ m. IsLasting atom.now m) }
+/// The spot for whose mark the fewest places are noted; none where each has more than there are. The contract says that it is one of these.
+fn rarest(nodes: &Nodes, spots: &[Spot]) -> Option<Spot>
+    ensures { IfSome result (StandsIn spots.now) }
 {
-    let marks = marks_of(alloc, atom)?;
-    let counts = counts_of(alloc, nodes, marks.as_slice())?;
-    let all = count_at(nodes, ANY_TERM);
-    Ok(rarest(marks.as_slice(), counts.as_slice(), all))
+    let mut rarest = None;
+    let mut least = count_at(nodes, ANY_TERM);
+    'spots: for spot in spots {
+        let count = count_at(nodes, spot.mark);
+        if count <= least {
+            rarest = Some(*spot);
+            least = count;
+        }
+    }
+    rarest
 }
 
-/// Leaves those bits that the mark's row has too, where it has one.
-fn meet(nodes: &Nodes, mark: u64, row: &mut Row)
+/// A row with the bits of the places that a spot leaves; without a spot, of all that are noted.
+fn begin(alloc: Global, nodes: &Nodes, spot: Option<Spot>) -> Result<Row, AllocError>
     requires { IsSound nodes.now }
-    ensures { (k : ℕ) → HasBit row.old k → IsAmong (noted_at nodes.now mark) k
-        → HasBit row.new k }
+    ensures { IfOk result (λ row. (k : ℕ) → IsAmong (noted_at nodes.now any_term) k
+        → IfSome spot (Leaves nodes.now k) → HasBit row k) }
 {
-    let Some(other) = row_at(nodes, mark) else {
-        return;
+    let Some(spot) = spot else {
+        return bits_of(alloc, nodes, ANY_TERM);
     };
-    row.meet(other);
-}
-
-/// A row with the bit of each of the mark's places that has all of these marks too.
-fn common(alloc: Global, nodes: &Nodes, mark: u64, marks: &[u64]) -> Result<Row, AllocError>
-    requires { IsSound nodes.now }
-    ensures { IfOk result (λ row. (k : ℕ) → IsAmong (noted_at nodes.now mark) k
-        → ((m : ℕ) → IsAmong marks.now m → IsAmong (noted_at nodes.now m) k) → HasBit row k) }
-{
-    let mut row = bits_of(alloc, nodes, mark)?;
-    'marks: for other in marks {
-        meet(nodes, *other, &mut row);
+    let mut row = bits_of(alloc, nodes, spot.mark)?;
+    if let Some(founder) = founder_at(nodes, spot.parent) {
+        row.set(founder)?;
     }
     Ok(row)
 }
 
-/// A row with the bit of each of the mark's places that has all marks of the atom's positions too.
-pub(crate) fn alike(alloc: Global, nodes: &Nodes, mark: u64, atom: &Flat) -> Result<Row, AllocError>
-    requires { IsSound nodes.now }
-    ensures { IfOk result (λ row. (k : ℕ) → IsAmong (noted_at nodes.now mark) k
-        → ((m : ℕ) → IsAmong (marks_of atom.now) m → IsAmong (noted_at nodes.now m) k)
-        → HasBit row k) }
+/// The founder of the symbol above a spot, where the row has its bit.
+fn kept_founder(nodes: &Nodes, spot: Spot, row: &Row) -> Option<usize>
+    ensures kept { (k : ℕ) → IsFounder nodes.now spot.parent k → HasBit row.now k
+        → result ≡ Some k }
+    ensures there { IfSome result (HasBit row.now) }
 {
-    let marks = marks_of(alloc, atom)?;
-    common(alloc, nodes, mark, marks.as_slice())
+    match founder_at(nodes, spot.parent) {
+        Some(founder) if row.has(founder) => Some(founder),
+        _ => None,
+    }
+}
+
+/// Leaves those bits that a spot leaves, where its mark has a row.
+fn meet(nodes: &Nodes, spot: Spot, row: &mut Row) -> Result<(), AllocError>
+    requires { IsSound nodes.now }
+    ensures { OnOk result ((k : ℕ) → HasBit row.old k → Leaves nodes.now k spot
+        → HasBit row.new k) }
+{
+    let Some(other) = row_at(nodes, spot.mark) else {
+        return Ok(());
+    };
+    let founder = kept_founder(nodes, spot, row);
+    row.meet(other);
+    match founder {
+        Some(founder) => row.set(founder),
+        None => Ok(()),
+    }
+}
+
+/// A row with the bit of each place that all spots of the atom leave.
+pub(crate) fn alike(alloc: Global, nodes: &Nodes, atom: &Flat) -> Result<Row, AllocError>
+    requires { IsSound nodes.now }
+    ensures { IfOk result (λ row. (k : ℕ) → IsAmong (noted_at nodes.now any_term) k
+        → ((s : SpotValue) → IsSpot atom.now s → Leaves nodes.now k s) → HasBit row k) }
+{
+    let spots = spots_of(alloc, atom)?;
+    let mut row = begin(alloc, nodes, rarest(nodes, spots.as_slice()))?;
+    'spots: for spot in spots.as_slice() {
+        meet(nodes, *spot, &mut row)?;
+    }
+    Ok(row)
 }

@@ -2,9 +2,11 @@
 
 ghost use Rattle.std.specs.Prelude.{◌≡◌, ◌++◌, ◌∷◌, ◌<◌, ◌≤◌, ◌/◌, [], ℕ, length, IfOk, IsTrue, MatchBool, OnErr, OnOk, slice_get};
 ghost use Rattle.apd_term.specs.Term.{IsAmong, IsGround};
-ghost use Rattle.apd_marks.specs.Positions.{marks_of};
+ghost use Rattle.apd_marks.specs.Positions.{any_term};
 ghost use Rattle.apd_index.specs.Columns.{HasColumns, HasUnlikes, IsAlike};
 ghost use Rattle.apd_index.specs.Nodes.{noted_at};
+ghost use Rattle.apd_index.specs.Spots.{Leaves, IsSpot};
+ghost use Rattle.apd_index.specs.declared.sharing.Spot.{Spot};
 ghost use Rattle.apd_index.specs.Retrieval.{AreSpecials, AreWholes, NoneLeft, SomeLeft, has_special, is_below, is_left_below};
 ghost use Rattle.apd_bits.specs.Rows.{HasBit};
 ghost use Rattle.apd_index.specs.Table.{Grows, IsSound};
@@ -12,7 +14,7 @@ ghost use Rattle.apd_index.specs.Table.{Grows, IsSound};
 use crate::digests::digests_of;
 use crate::large::give_up;
 use crate::repeats::{prepare, strike_unequal};
-use crate::sharing::{alike, narrow};
+use crate::sharing::alike;
 use crate::unlike::Unlikes;
 use crate::waiting::{cost_of, gather, note_or_wait, root_of};
 use crate::walk::Table;
@@ -60,21 +62,15 @@ fn put(
     Ok(is_right)
 }
 
-/// A row with the bit of each of the mark's places that may have an instance of the atom, by what it has at positions.
-fn likely(
-    alloc: Global,
-    table: &Table,
-    unlikes: &Unlikes,
-    mark: u64,
-    atom: &Flat,
-) -> Result<Row, AllocError>
+/// A row with the bit of each noted place that may have an instance of the atom, by what it has at positions.
+fn likely(alloc: Global, table: &Table, unlikes: &Unlikes, atom: &Flat) -> Result<Row, AllocError>
     requires sound { IsSound table.now }
     requires unlikes { HasUnlikes table.now.columns unlikes.now }
-    ensures { IfOk result (λ row. (k : ℕ) → IsAmong (noted_at table.now.nodes mark) k
-        → ((m : ℕ) → IsAmong (marks_of atom.now) m → IsAmong (noted_at table.now.nodes m) k)
+    ensures { IfOk result (λ row. (k : ℕ) → IsAmong (noted_at table.now.nodes any_term) k
+        → ((s : Spot) → IsSpot atom.now s → Leaves table.now.nodes k s)
         → IsAlike table.now.nodes table.now.columns atom.now k → HasBit row k) }
 {
-    let mut row = alike(alloc, &table.nodes, mark, atom)?;
+    let mut row = alike(alloc, &table.nodes, atom)?;
     strike_unequal(alloc, &table.nodes, &table.columns, unlikes, atom, &mut row)?;
     Ok(row)
 }
@@ -286,8 +282,7 @@ impl Specials {
         let Some(root) = root_of(atom) else {
             return is_below(alloc, &self.atoms, 0, atom);
         };
-        let mark = narrow(alloc, &self.table.nodes, atom)?;
-        let mut row = likely(alloc, &self.table, &self.unlikes, mark, atom)?;
+        let mut row = likely(alloc, &self.table, &self.unlikes, atom)?;
         row.set_all(self.large.as_slice())?;
         row.set_all(with_mark(&self.waiting, root))?;
         some_below(alloc, &self.atoms, &row, atom)

@@ -4,21 +4,21 @@
 
 ghost use Rattle.std.specs.Prelude.{◌≡◌, ℕ, IfOk, IsTrue, OnOk, slice_get, IfSome, Some};
 ghost use Rattle.apd_term.specs.Term.{IsAmong, Term};
-ghost use Rattle.apd_marks.specs.Positions.{top};
 ghost use Rattle.apd_index.specs.Columns.{AddsOf, HasColumns};
 ghost use Rattle.apd_index.specs.Retrieval.{AreKeptBut, AreKeptIn, AreNoted, AreSpecials, IsKnown, IsNoted, root_mark};
-ghost use Rattle.apd_index.specs.Subterms.{digests as digests_in, noted, position};
+ghost use Rattle.apd_index.specs.Subterms.{digests as digests_in};
 ghost use Rattle.apd_index.specs.Table.{Grows, IsSound};
 
 use crate::digests::digests_of;
 use crate::large::note_any;
 use crate::nodes::count_at;
-use crate::positions::{Parent, TOP, next_position};
+use crate::positions::{Parent, TOP, mark_of};
+use crate::room::make_room;
 use crate::walk::Table;
 use apd_base::ListOf;
-use apd_marks::{Places, mixed, note, with_mark};
+use apd_marks::{Places, note, with_mark};
 use apd_skips::KeptAtoms;
-use apd_term::{Flat, Sym};
+use apd_term::Flat;
 use std::alloc::{AllocError, Global};
 
 /// So many atoms of one root symbol are few.
@@ -27,23 +27,12 @@ const FEW: usize = 64;
 /// How long it takes to find an atom that is compared, in symbols that are compared.
 const TO_FIND: usize = 16;
 
-/// The mark of a root symbol; a variable has none.
-fn mark_of(symbol: Sym) -> Option<u64>
-    ensures { result ≡ slice_get (noted (position top 1) symbol) 0 }
-{
-    let parent = Parent { mark: TOP, left: 1 };
-    match symbol {
-        Sym::Var(_) => None,
-        _ => Some(mixed(next_position(parent), symbol)),
-    }
-}
-
 /// The mark of the atom's root symbol; a variable has none.
 pub(crate) fn root_of(atom: &Flat) -> Option<u64>
     ensures { result ≡ root_mark atom.now }
 {
     let symbols = atom.symbols();
-    mark_of(symbols[0])
+    mark_of(Parent { mark: TOP, left: 1 }, symbols[0])
 }
 
 /// How long it takes at most to compare an atom with those that wait at its root's mark, in symbols that are compared.
@@ -82,13 +71,6 @@ fn note_at(
     note_any(alloc, table, large, atom, digests.as_slice(), place)
 }
 
-/// Whether both are so.
-fn are_both(one: bool, other: bool) -> bool
-    ensures { IsTrue result → IsTrue one × IsTrue other }
-{
-    one && other
-}
-
 /// Notes the atoms at these places.
 fn note_all(
     alloc: Global,
@@ -109,7 +91,7 @@ fn note_all(
     let mut are_right = true;
     'places: for place in places {
         let is_right = note_at(alloc, atoms, table, large, *place)?;
-        are_right = are_both(are_right, is_right);
+        are_right = are_right && is_right;
     }
     Ok(are_right)
 }
@@ -120,32 +102,6 @@ fn forget(alloc: Global, waiting: &mut Places, mark: u64) -> Result<(), AllocErr
 {
     drop(waiting.insert(mark, ListOf::new(alloc))?);
     Ok(())
-}
-
-/// Notes the atoms that wait at a mark, where they are many.
-fn gather_at(
-    alloc: Global,
-    atoms: &KeptAtoms,
-    table: &mut Table,
-    large: &mut Vec<usize>,
-    waiting: &mut Places,
-    mark: u64,
-) -> Result<bool, AllocError>
-    requires sound { IsSound table.old }
-    requires noted { AreSpecials atoms.now table.old.nodes large.old.items waiting.old }
-    ensures grows { Grows table.old table.new }
-    ensures noted { AreSpecials atoms.now table.new.nodes large.new.items waiting.new }
-    ensures columns { IfOk result (λ b. IsTrue b
-        → HasColumns atoms.now table.old.nodes table.old.columns
-        → HasColumns atoms.now table.new.nodes table.new.columns) }
-{
-    let places = with_mark(waiting, mark);
-    if places.len() < FEW {
-        return Ok(true);
-    }
-    let are_right = note_all(alloc, atoms, table, large, places)?;
-    forget(alloc, waiting, mark)?;
-    Ok(are_right)
 }
 
 /// Notes the atoms that wait at the mark of an atom's root symbol, where they are many.
@@ -165,10 +121,17 @@ pub(crate) fn gather(
         → HasColumns atoms.now table.old.nodes table.old.columns
         → HasColumns atoms.now table.new.nodes table.new.columns) }
 {
-    match root_of(atom) {
-        Some(mark) => gather_at(alloc, atoms, table, large, waiting, mark),
-        None => Ok(true),
+    let Some(mark) = root_of(atom) else {
+        return Ok(true);
+    };
+    let places = with_mark(waiting, mark);
+    if places.len() < FEW {
+        return Ok(true);
     }
+    make_room(table, atoms, places);
+    let are_right = note_all(alloc, atoms, table, large, places)?;
+    forget(alloc, waiting, mark)?;
+    Ok(are_right)
 }
 
 /// The mark at which an atom waits: that of its root symbol, where no place is noted for it.

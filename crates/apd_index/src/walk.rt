@@ -1,18 +1,18 @@
 //! The walk over an atom's symbols that notes each of them, and what the atom has at its positions.
 
-ghost use Rattle.std.specs.Prelude.{◌≡◌, ℕ, IfOk, IsTrue, OnOk, List};
+ghost use Rattle.std.specs.Prelude.{◌≡◌, ◌⊎◌, ℕ, IfOk, IsTrue, OnOk, List};
 ghost use Rattle.apd_term.specs.Term.{IsAmong, Term};
 ghost use Rattle.apd_marks.specs.Mixing.{mixed};
-ghost use Rattle.apd_marks.specs.Positions.{all_marks, marks_of};
 ghost use Rattle.apd_index.specs.Columns.{AddsOf, AreColumns, HasColumns, KeepsEntries, tagged};
-ghost use Rattle.apd_index.specs.Nodes.{AreSlots, IsSound as AreSound, noted_at};
+ghost use Rattle.apd_index.specs.Nodes.{IsSound as AreSound, noted_at};
+ghost use Rattle.apd_index.specs.Spots.{AllLeave, IsNotedAbove};
 ghost use Rattle.apd_index.specs.Subterms.{digests as digests_in, noted, onward, position_below, waiting};
-ghost use Rattle.apd_index.specs.Table.{AddsNext, AreOpen, Grow, Grows, IsSound, PutsNext, kept_open, parent_of, parents_of};
+ghost use Rattle.apd_index.specs.Table.{AddsNext, AreOpen, Grow, Grows, IsOpen, IsSound, PutsNext, kept_open, parent_of, parents_of};
 
 use crate::columns::{Columns, put};
 use crate::nodes::{Nodes, Slots, note, number_in};
 use crate::positions::{Parent, TOP, next_position};
-use apd_marks::{ANY_TERM, mixed, whole};
+use apd_marks::{ANY_TERM, mixed};
 use apd_term::{Flat, Sym};
 use std::alloc::{AllocError, Global};
 
@@ -39,12 +39,13 @@ impl Table {
     }
 }
 
-/// A symbol's mark, how many of the terms below it are still to be read, and the columns of these.
+/// A symbol's mark, how many of the terms below it are still to be read, the columns of these, and whether the atom's place is its founder.
 #[derive(Clone, Copy)]
 struct Open {
     mark: u64,
     left: u64,
     slots: Slots,
+    is_founder: bool,
 }
 
 /// Puts a symbol, where terms below it are left to be read.
@@ -103,22 +104,44 @@ fn note_symbol(
     place: u32,
 ) -> Result<(), AllocError>
     requires sound { AreSound nodes.old }
-    requires open { AreOpen nodes.old open.old.items }
+    requires open { AreOpen nodes.old place open.old.items }
     ensures grow { Grow nodes.old nodes.new }
     ensures noted { OnOk result (IsAmong (noted_at nodes.new mark) place) }
-    ensures open { OnOk result (AreOpen nodes.new open.new.items) }
+    ensures open { OnOk result (AreOpen nodes.new place open.new.items) }
     ensures parents { OnOk result
         (parents_of open.new.items ≡ waiting mark count (parents_of open.old.items)) }
 {
-    let slots = note(alloc, nodes, mark, count, place)?;
+    let noted = note(alloc, nodes, mark, count, place)?;
     wait(
         open,
         Open {
             mark,
             left: count as u64,
-            slots,
+            slots: noted.slots,
+            is_founder: noted.is_founder,
         },
     )
+}
+
+/// Notes a symbol that stands below a parent, unless the atom's place is the parent's founder: that is looked at wherever the parent is.
+/// Nothing is to stand below the symbol.
+fn note_constant(
+    alloc: Global,
+    nodes: &mut Nodes,
+    parent: Open,
+    mark: u64,
+    place: u32,
+) -> Result<(), AllocError>
+    requires { AreSound nodes.old }
+    ensures grow { Grow nodes.old nodes.new }
+    ensures noted { OnOk result
+        (IsAmong (noted_at nodes.new mark) place ⊎ IsTrue parent.is_founder) }
+{
+    if parent.is_founder {
+        return Ok(());
+    }
+    note(alloc, nodes, mark, 0, place)?;
+    Ok(())
 }
 
 /// Notes a symbol that is read as the next one of a parent, and puts what is left to be read.
@@ -131,12 +154,12 @@ fn go_on(
     place: u32,
 ) -> Result<(), AllocError>
     requires sound { AreSound nodes.old }
-    requires open { AreOpen nodes.old open.old.items }
-    requires slots { AreSlots nodes.old parent.mark parent.slots }
+    requires open { AreOpen nodes.old place open.old.items }
+    requires parent { IsOpen nodes.old place parent }
     ensures grow { Grow nodes.old nodes.new }
     ensures noted { OnOk result ((m : ℕ) → IsAmong (noted (parent_of parent) symbol) m
-        → IsAmong (noted_at nodes.new m) place) }
-    ensures open { OnOk result (AreOpen nodes.new open.new.items) }
+        → IsAmong (noted_at nodes.new m) place ⊎ IsTrue parent.is_founder) }
+    ensures open { OnOk result (AreOpen nodes.new place open.new.items) }
     ensures parents { OnOk result (parents_of open.new.items
         ≡ onward (parent_of parent) symbol (parents_of open.old.items)) }
 {
@@ -146,14 +169,15 @@ fn go_on(
             mark: parent.mark,
             left: parent.left.saturating_sub(1),
             slots: parent.slots,
+            is_founder: parent.is_founder,
         },
     )?;
     match symbol {
         Sym::Var(_) => Ok(()),
-        Sym::Int(_) => note_symbol(alloc, nodes, open, mark_below(parent, symbol), 0, place),
-        Sym::Fun(_, arity) => {
+        Sym::Fun(_, arity) if arity > 0 => {
             note_symbol(alloc, nodes, open, mark_below(parent, symbol), arity, place)
         }
+        _ => note_constant(alloc, nodes, parent, mark_below(parent, symbol), place),
     }
 }
 
@@ -168,8 +192,7 @@ fn note_symbols(
     requires sound { IsSound table.old }
     requires digests { digests.now ≡ digests_in atom.now }
     ensures grows { Grows table.old table.new }
-    ensures noted { OnOk result ((m : ℕ) → IsAmong (marks_of atom.now) m
-        → IsAmong (noted_at table.new.nodes m) place) }
+    ensures noted { OnOk result (AllLeave table.new.nodes place atom.now) }
     ensures adds { IfOk result (λ b. IsTrue b
         → AddsOf table.new.nodes table.old.columns atom.now place table.new.columns) }
 {
@@ -194,7 +217,7 @@ fn note_symbols(
     Ok(is_right)
 }
 
-/// Notes an atom's marks, and tells whether what was put into columns is right.
+/// Notes an atom, and tells whether what was put into columns is right.
 pub(crate) fn note_atom(
     alloc: Global,
     table: &mut Table,
@@ -205,13 +228,11 @@ pub(crate) fn note_atom(
     requires sound { IsSound table.old }
     requires digests { digests.now ≡ digests_in atom.now }
     ensures grows { Grows table.old table.new }
-    ensures noted { OnOk result ((m : ℕ) → IsAmong (all_marks atom.now) m
-        → IsAmong (noted_at table.new.nodes m) place) }
+    ensures noted { OnOk result (IsNotedAbove table.new.nodes place atom.now) }
     ensures adds { IfOk result (λ b. IsTrue b
         → AddsOf table.new.nodes table.old.columns atom.now place table.new.columns) }
 {
     let is_right = note_symbols(alloc, table, atom, digests, place)?;
-    note(alloc, &mut table.nodes, whole(atom), 0, place)?;
     note(alloc, &mut table.nodes, ANY_TERM, 0, place)?;
     Ok(is_right)
 }

@@ -1,14 +1,8 @@
-use Rattle.std.proofs.Common.{List, ℕ, ◌∙◌, subst}
-use Rattle.std.proofs.lemmas.Result.{IfOk-weaker}
-use Rattle.apd_term.specs.Term.{IsAmong}
-use Rattle.apd_marks.specs.Positions.{marks_of}
-use Rattle.apd_index.specs.Nodes.{noted_at}
-use Rattle.apd_bits.specs.Rows.{HasBit}
+use Rattle.std.proofs.Common.{List, get_or, refl, subst}
+use Rattle.apd_index.specs.Spots.{StandsIn}
+use Rattle.apd_index.specs.declared.sharing.Spot.{Spot}
+use Rattle.apd_index.proofs.Spotted.{some-leaves}
 use Rattle.apd_index.proofs.sharing.alike.Goals as goal
 
-pub returns : goal.returns
-returns c =
-    IfOk-weaker c.common.result
-    (λ (row : List ℕ). (k : ℕ) → IsAmong (noted_at c.args.nodes.now c.args.mark) k → ((m : ℕ) → IsAmong c.as_slice.result.now m → IsAmong (noted_at c.args.nodes.now m) k) → HasBit row k)
-    (λ (row : List ℕ). (k : ℕ) → IsAmong (noted_at c.args.nodes.now c.args.mark) k → ((m : ℕ) → IsAmong (marks_of c.args.atom.now) m → IsAmong (noted_at c.args.nodes.now m) k) → HasBit row k)
-    (λ row h k a f. h k a (λ m b. f m (subst (λ (ms : List ℕ). IsAmong ms m) (c.as_slice.ensures.value ∙ c.in_ok-marks.ensures) b))) c.common.ensures
+pub spots-init : goal.spots-init
+spots-init c = λ k a f. c.in_ok-row.ensures k a (some-leaves c.rarest.result c.args.nodes.now k (λ s i. f s (c.in_ok-spots.ensures s (subst (λ (ss : List Spot). StandsIn ss s) c.as_slice.ensures.value i))) c.rarest.ensures)

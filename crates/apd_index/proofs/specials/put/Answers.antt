@@ -14,7 +14,7 @@ returns-in_err-kept-clause-grows c = grows-none c.args.table.now c.requires.soun
 
 pub returns-in_err-is_right-clause-noted : goal.returns-in_err-is_right-clause-noted
 returns-in_err-is_right-clause-noted c =
-    above-kept c.args.atoms.now c.args.table.now.nodes c.note_or_wait.new.table.nodes c.args.large.now.items c.note_or_wait.new.large.items c.args.waiting.now c.note_or_wait.new.waiting c.note_or_wait.ensures.grows.kept
+    above-kept c.args.atoms.now c.args.table.now.nodes c.note_or_wait.new.table.nodes c.args.large.now.items c.note_or_wait.new.large.items c.args.waiting.now c.note_or_wait.new.waiting c.note_or_wait.ensures.grows.kept c.note_or_wait.ensures.grows.founders
     c.note_or_wait.ensures.still c.note_or_wait.ensures.waiting c.requires.noted
 
 pub returns-in_err-push-clause-noted : goal.returns-in_err-push-clause-noted
@@ -22,7 +22,7 @@ returns-in_err-push-clause-noted c =
     above-pushed c.push.result c.args.atoms.now c.push.new.self c.note_or_wait.new.table.nodes c.note_or_wait.new.large.items c.note_or_wait.new.waiting c.in_ok-kept.kept c.push.ensures.ok c.push.ensures.err
     (subst (λ (n : ℕ). IsKnown c.note_or_wait.new.table.nodes c.note_or_wait.new.large.items c.note_or_wait.new.waiting n c.in_ok-kept.kept) c.len-place.ensures
     (subst (λ (x : Term). IsKnown c.note_or_wait.new.table.nodes c.note_or_wait.new.large.items c.note_or_wait.new.waiting c.len-place.result x) (sym c.in_ok-kept.ensures) c.in_ok-is_right.ensures.noted))
-    (above-kept c.args.atoms.now c.args.table.now.nodes c.note_or_wait.new.table.nodes c.args.large.now.items c.note_or_wait.new.large.items c.args.waiting.now c.note_or_wait.new.waiting c.note_or_wait.ensures.grows.kept
+    (above-kept c.args.atoms.now c.args.table.now.nodes c.note_or_wait.new.table.nodes c.args.large.now.items c.note_or_wait.new.large.items c.args.waiting.now c.note_or_wait.new.waiting c.note_or_wait.ensures.grows.kept c.note_or_wait.ensures.grows.founders
     c.note_or_wait.ensures.still c.note_or_wait.ensures.waiting c.requires.noted)
 
 pub returns-clause-noted : goal.returns-clause-noted
@@ -30,7 +30,7 @@ returns-clause-noted c =
     above-pushed c.push.result c.args.atoms.now c.push.new.self c.note_or_wait.new.table.nodes c.note_or_wait.new.large.items c.note_or_wait.new.waiting c.in_ok-kept.kept c.push.ensures.ok c.push.ensures.err
     (subst (λ (n : ℕ). IsKnown c.note_or_wait.new.table.nodes c.note_or_wait.new.large.items c.note_or_wait.new.waiting n c.in_ok-kept.kept) c.len-place.ensures
     (subst (λ (x : Term). IsKnown c.note_or_wait.new.table.nodes c.note_or_wait.new.large.items c.note_or_wait.new.waiting c.len-place.result x) (sym c.in_ok-kept.ensures) c.in_ok-is_right.ensures.noted))
-    (above-kept c.args.atoms.now c.args.table.now.nodes c.note_or_wait.new.table.nodes c.args.large.now.items c.note_or_wait.new.large.items c.args.waiting.now c.note_or_wait.new.waiting c.note_or_wait.ensures.grows.kept
+    (above-kept c.args.atoms.now c.args.table.now.nodes c.note_or_wait.new.table.nodes c.args.large.now.items c.note_or_wait.new.large.items c.args.waiting.now c.note_or_wait.new.waiting c.note_or_wait.ensures.grows.kept c.note_or_wait.ensures.grows.founders
     c.note_or_wait.ensures.still c.note_or_wait.ensures.waiting c.requires.noted)
 
 pub returns-clause-columns : goal.returns-clause-columns

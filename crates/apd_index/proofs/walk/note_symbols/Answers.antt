@@ -13,7 +13,7 @@ symbols-init c =
 pub returns-in_default-clause-noted : goal.returns-in_default-clause-noted
 returns-in_default-clause-noted c =
     all-noted c.args.atom.now c.symbols-symbols.result.now c.args.place c.symbols.i c.args.table.now c.symbols.table c.symbols.open.items c.symbols.is_right c.symbols.invariant
-    (inl (emptied c.symbols.open.items c.pop.new.self.items _ c.in_default.ensures.items c.in_default.ensures.rest c.in_default.ensures.cases.0))
+    (inl (emptied c.symbols.open.items c.pop.new.self.items _ c.in_default.ensures.items c.in_default.ensures.rest c.in_default.ensures.cases.0)) c.symbols-symbols.ensures
 
 pub returns-in_default-clause-adds : goal.returns-in_default-clause-adds
 returns-in_default-clause-adds c =
@@ -24,7 +24,7 @@ pub bounds-digests-i : goal.bounds-digests-i
 bounds-digests-i c =
     let xs = c.symbols-symbols.result.now in
     let i = c.symbols.i in
-    let r = read c.args.atom.now xs c.args.place i c.args.table.now c.symbols.table c.symbols.open.items c.pop.new.self.items c.in-Some.parent c.symbols.is_right c.symbols.invariant c.in-Some.ensures.items (Var 0) (get_or xs i (Var 0)) c.symbols-test.true refl in
+    let r = read c.args.atom.now xs c.args.place i c.args.table.now c.symbols.table c.symbols.open.items c.pop.new.self.items c.in-Some.parent c.symbols.is_right c.symbols.invariant c.in-Some.ensures.items (get_or xs i (Var 0)) c.symbols-test.true refl in
     digests-within c.args.atom.now c.args.digests.now i c.requires.digests r.0
 
 pub returns-in_err-is_right-clause-grows : goal.returns-in_err-is_right-clause-grows
@@ -32,10 +32,10 @@ returns-in_err-is_right-clause-grows c =
     grows-more c.args.table.now c.symbols.table c.symbols.table.nodes c.put_next.new.columns c.symbols.invariant.grows (grow-none c.symbols.table.nodes c.symbols.invariant.grows.sound.0) c.put_next.ensures.columns c.put_next.ensures.keeps
 
 pub go_on-requires-clause-open : goal.go_on-requires-clause-open
-go_on-requires-clause-open c = others-open c.symbols.table.nodes c.symbols.open.items c.pop.new.self.items c.in-Some.parent c.in-Some.ensures.items c.symbols.invariant.opens
+go_on-requires-clause-open c = others-open c.symbols.table.nodes c.args.place c.symbols.open.items c.pop.new.self.items c.in-Some.parent c.in-Some.ensures.items c.symbols.invariant.opens
 
-pub go_on-requires-clause-slots : goal.go_on-requires-clause-slots
-go_on-requires-clause-slots c = last-open c.symbols.table.nodes c.symbols.open.items c.pop.new.self.items c.in-Some.parent c.in-Some.ensures.items c.symbols.invariant.opens
+pub go_on-requires-clause-parent : goal.go_on-requires-clause-parent
+go_on-requires-clause-parent c = last-open c.symbols.table.nodes c.args.place c.symbols.open.items c.pop.new.self.items c.in-Some.parent c.in-Some.ensures.items c.symbols.invariant.opens
 
 pub returns-in_err-go_on-clause-grows : goal.returns-in_err-go_on-clause-grows
 returns-in_err-go_on-clause-grows c =
@@ -46,7 +46,7 @@ symbols-preserved c =
     let xs = c.symbols-symbols.result.now in
     let ds = c.args.digests.now in
     let i = c.symbols.i in
-    walked-goes c.args.atom.now xs c.args.place i c.args.table.now c.symbols.table c.symbols.open.items c.pop.new.self.items c.in-Some.parent c.symbols.is_right c.symbols.invariant c.in-Some.ensures.items (Var 0) (get_or xs i (Var 0))
+    walked-goes c.args.atom.now xs c.args.place i c.args.table.now c.symbols.table c.symbols.open.items c.pop.new.self.items c.in-Some.parent c.symbols.is_right c.symbols.invariant c.in-Some.ensures.items (get_or xs i (Var 0))
     c.symbols-test.true refl c.go_on.new.nodes c.put_next.new.columns c.put_next.ensures.columns c.put_next.ensures.keeps c.go_on.ensures.grow c.go_on.new.open.items c.in_ok-is_right.is_right (tagged (get_or ds i 0) c.args.place)
     (ap (λ es. tagged (get_or es i 0) c.args.place) c.requires.digests) c.put_next.ensures.adds c.in_ok-is_right.ensures.right c.in_ok-go_on.ensures.open c.in_ok-go_on.ensures.noted c.in_ok-go_on.ensures.parents
 
@@ -56,4 +56,4 @@ returns-clause-adds c =
 
 pub returns-clause-noted : goal.returns-clause-noted
 returns-clause-noted c =
-    all-noted c.args.atom.now c.symbols-symbols.result.now c.args.place c.symbols.i c.args.table.now c.symbols.table c.symbols.open.items c.symbols.is_right c.symbols.invariant (inr c.symbols-test.false)
+    all-noted c.args.atom.now c.symbols-symbols.result.now c.args.place c.symbols.i c.args.table.now c.symbols.table c.symbols.open.items c.symbols.is_right c.symbols.invariant (inr c.symbols-test.false) c.symbols-symbols.ensures

@@ -80,18 +80,41 @@ impl Case {
         })
     }
 
-    /// A session with the words, the files and the input of this one, of which nothing is wanted.
-    pub fn like(&self, alloc: Global, name: &str) -> Result<Case, AllocError> {
-        let mut case = Case::new(alloc, name)?;
+    /// Puts copies of the words of this session behind those of another.
+    fn put_words(&self, case: &mut Case) -> Result<(), AllocError> {
         for word in &self.words {
             let word = word.clone()?;
             case.words.push(word)?;
         }
+        Ok(())
+    }
+
+    /// Puts copies of the files of this session behind those of another.
+    fn put_files(&self, alloc: Global, case: &mut Case) -> Result<(), AllocError> {
         for file in &self.files {
             let file = file.copy(alloc)?;
             case.files.push(file)?;
         }
-        case.input.extend(self.input.bytes())?;
-        Ok(case)
+        Ok(())
+    }
+
+    /// Puts copies of the words, the files and the input of this session behind those of another.
+    fn put_into(&self, alloc: Global, case: &mut Case) -> Result<(), AllocError> {
+        self.put_words(case)?;
+        self.put_files(alloc, case)?;
+        case.input.extend(self.input.bytes())
+    }
+
+    /// A session with the words, the files and the input of this one, of which nothing is wanted.
+    pub fn like(&self, alloc: Global, name: &str) -> Result<Case, AllocError> {
+        let mut case = Case::new(alloc, name)?;
+        match self.put_into(alloc, &mut case) {
+            Ok(()) => Ok(case),
+            Err(fault) => {
+                // Dropped by a call: else each part is a step to check.
+                drop(case);
+                Err(fault)
+            }
+        }
     }
 }

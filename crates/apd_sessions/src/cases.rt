@@ -194,12 +194,23 @@ fn take_line(
     }
 }
 
+/// Takes the lines of a file of cases.
+fn take_lines(alloc: Global, cases: &mut Vec<Case>, text: &str) -> Result<(), CaseFault> {
+    let mut block = Block::None;
+    for line in text.lines() {
+        block = take_line(alloc, cases, block, line)?;
+    }
+    Ok(())
+}
+
 /// The cases of a text.
 pub fn cases_of(alloc: Global, text: &str) -> Result<Vec<Case>, CaseFault> {
     let mut cases = Vec::new(alloc);
-    let mut block = Block::None;
-    for line in text.lines() {
-        block = take_line(alloc, &mut cases, block, line)?;
+    match take_lines(alloc, &mut cases, text) {
+        Ok(()) => Ok(cases),
+        Err(fault) => {
+            drop(cases);
+            Err(fault)
+        }
     }
-    Ok(cases)
 }

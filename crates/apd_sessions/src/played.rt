@@ -1,5 +1,9 @@
 //! The session of a case.
 
+ghost use Rattle.std.specs.Prelude.{◌≡◌, []};
+ghost use Rattle.apd_ops.specs.Standard.{standard_table};
+ghost use Rattle.apd_term.specs.StandardNames.{standard_names};
+
 use crate::case::{Case, Passing};
 use crate::turns::{CountedSink, LineSource, transcript};
 use apd_base::{Ids, Text};
@@ -44,14 +48,27 @@ fn words_of(alloc: Global, case: &Case) -> Result<Vec<String>, AllocError> {
     Ok(words)
 }
 
-fn files_of(alloc: Global, case: &Case) -> Result<MemFiles, AllocError> {
-    let failing = only(alloc, case.failing.load)?;
-    let mut files = MemFiles::new(alloc, failing);
+/// Puts the files of a case among those in memory.
+fn put_files(alloc: Global, case: &Case, files: &mut MemFiles) -> Result<(), AllocError> {
     for file in &case.files {
         let content = Text::copy_of(alloc, file.content.bytes())?;
         files.add(file.name.as_str(), content)?;
     }
-    Ok(files)
+    Ok(())
+}
+
+/// The files of a case in memory.
+fn files_of(alloc: Global, case: &Case) -> Result<MemFiles, AllocError> {
+    let failing = only(alloc, case.failing.load)?;
+    let mut files = MemFiles::new(alloc, failing);
+    match put_files(alloc, case, &mut files) {
+        Ok(()) => Ok(files),
+        Err(fault) => {
+            // Dropped by a call, here and below: else each part is a step to check.
+            drop(files);
+            Err(fault)
+        }
+    }
 }
 
 /// The input of a case in memory.
@@ -83,16 +100,20 @@ fn last_text(alloc: Global, log: &Log) -> Result<Text, AllocError> {
     Ok(text)
 }
 
-/// How the session of a case ends over an input and an output.
-fn end_of<S: Source, K: Sink>(
+/// The status of the session of a case over an input and an output.
+fn status_of<S: Source, K: Sink>(
     alloc: Global,
     case: &Case,
     input: &mut S,
     out: &mut K,
-) -> Result<Ended, AllocError> {
+    log: &mut Log,
+) -> Result<u8, AllocError>
+    requires empty { log.old.entries.list ≡ [] }
+    requires names { log.old.names ≡ standard_names }
+    requires ops { log.old.ops ≡ standard_table }
+{
     let words = words_of(alloc, case)?;
     let mut files = files_of(alloc, case)?;
-    let mut log = Log::new(alloc)?;
     let status = session(
         alloc,
         &Untold,
@@ -100,31 +121,92 @@ fn end_of<S: Source, K: Sink>(
         &mut files,
         input,
         out,
-        &mut log,
+        log,
     );
-    Ok(Ended {
-        status: status.number(),
-        last: last_text(alloc, &log)?,
-    })
+    drop(files);
+    Ok(status.number())
+}
+
+/// How the session of a case ends with a log that was empty.
+fn logged<S: Source, K: Sink>(
+    alloc: Global,
+    case: &Case,
+    input: &mut S,
+    out: &mut K,
+    log: &mut Log,
+) -> Result<Ended, AllocError>
+    requires empty { log.old.entries.list ≡ [] }
+    requires names { log.old.names ≡ standard_names }
+    requires ops { log.old.ops ≡ standard_table }
+{
+    let status = status_of(alloc, case, input, out, log)?;
+    let last = last_text(alloc, log)?;
+    Ok(Ended { status, last })
+}
+
+/// How the session of a case ends over an input and an output.
+fn end_of<S: Source, K: Sink>(
+    alloc: Global,
+    case: &Case,
+    input: &mut S,
+    out: &mut K,
+) -> Result<Ended, AllocError> {
+    let mut log = Log::new(alloc)?;
+    let ended = logged(alloc, case, input, out, &mut log);
+    drop(log);
+    ended
 }
 
 /// The session over an input and an output in memory.
-fn play_whole(alloc: Global, case: &Case) -> Result<Played, AllocError> {
-    let mut input = source_of(alloc, case)?;
-    let mut out = sink_of(alloc, case)?;
-    let ended = end_of(alloc, case, &mut input, &mut out)?;
+fn play_over(
+    alloc: Global,
+    case: &Case,
+    input: &mut MemSource,
+    out: &mut MemSink,
+) -> Result<Played, AllocError> {
+    let ended = end_of(alloc, case, input, out)?;
     let output = Text::copy_of(alloc, out.held())?;
     Ok(Played { ended, output })
 }
 
+/// The same, with that input and output.
+fn play_whole(alloc: Global, case: &Case) -> Result<Played, AllocError> {
+    let mut input = source_of(alloc, case)?;
+    match sink_of(alloc, case) {
+        Ok(mut out) => {
+            let played = play_over(alloc, case, &mut input, &mut out);
+            drop(out);
+            drop(input);
+            played
+        }
+        Err(fault) => {
+            drop(input);
+            Err(fault)
+        }
+    }
+}
+
 /// The session over an input that is read line by line, with what was said before each read.
+fn play_turns(
+    alloc: Global,
+    case: &Case,
+    input: &mut LineSource<'_>,
+    out: &mut CountedSink<'_>,
+) -> Result<Played, AllocError> {
+    let ended = end_of(alloc, case, input, out)?;
+    let output = transcript(alloc, input.turns(), case.input.bytes(), out.text())?;
+    Ok(Played { ended, output })
+}
+
+/// The same, with where the written bytes are counted.
 fn play_lines(alloc: Global, case: &Case) -> Result<Played, AllocError> {
     let written = Cell::new(0);
     let mut input = LineSource::new(alloc, case.input.bytes(), &written);
     let mut out = CountedSink::new(alloc, &written);
-    let ended = end_of(alloc, case, &mut input, &mut out)?;
-    let output = transcript(alloc, input.turns(), case.input.bytes(), out.text())?;
-    Ok(Played { ended, output })
+    let played = play_turns(alloc, case, &mut input, &mut out);
+    drop(out);
+    drop(input);
+    played
 }
 
 /// The session of a case.

@@ -1,9 +1,6 @@
 //! Tries whole sessions over memory: the cases of the files that an index names.
 //!
-//! The word behind the program's own name is the index, a file that has the name of a file of cases in each line
-//! (`cases.rt` says what these have). A line is printed for each case whose session ends otherwise than it is to, and
-//! then how many cases there are. Status 2: the words are others; 3: a file can't be had or has a line that no case has,
-//! nothing can be written, or there is no memory.
+//! `cases.rt` says what a file of cases has.
 #![tactic(auto)]
 
 mod blocks;
@@ -15,17 +12,12 @@ mod turns;
 
 use crate::case::Case;
 use crate::cases::cases_of;
-use crate::fault::CaseFault;
 use crate::played::{Ended, Played, play};
 use apd_base::Text;
-use apd_io::{DiskFiles, Files};
+use apd_io::Files;
+pub use fault::CaseFault;
 use std::alloc::Global;
 use std::io;
-use std::process::ExitCode;
-
-const USAGE: u8 = 2;
-
-const FAILED: u8 = 3;
 
 /// How many cases were tried, and how many differed.
 #[derive(Clone, Copy)]
@@ -76,7 +68,9 @@ fn compare(rt: &impl Print, case: &Case, played: &Played) -> Result<bool, CaseFa
 /// Tries a case, says where it differs, and tells whether it does.
 fn try_case(rt: &impl Print, alloc: Global, case: &Case) -> Result<bool, CaseFault> {
     let played = play(alloc, case)?;
-    compare(rt, case, &played)
+    let differs = compare(rt, case, &played);
+    drop(played);
+    differs
 }
 
 /// A print that failed is a fault of the files.
@@ -101,6 +95,22 @@ fn text_of(text: &Text) -> Result<&str, CaseFault> {
     }
 }
 
+/// Tries cases.
+fn try_cases(
+    rt: &impl Print,
+    alloc: Global,
+    cases: &[Case],
+    counts: &mut Counts,
+) -> Result<(), CaseFault> {
+    for case in cases {
+        counts.tried = counts.tried.saturating_add(1);
+        if try_case(rt, alloc, case)? {
+            counts.differ = counts.differ.saturating_add(1);
+        }
+    }
+    Ok(())
+}
+
 /// Tries the cases of a file.
 fn try_file<F: Files>(
     rt: &impl Print,
@@ -110,54 +120,48 @@ fn try_file<F: Files>(
     counts: &mut Counts,
 ) -> Result<(), CaseFault> {
     let text = load(alloc, files, name)?;
-    let lines = text_of(&text)?;
-    let cases = cases_of(alloc, lines)?;
-    for case in &cases {
-        counts.tried = counts.tried.saturating_add(1);
-        if try_case(rt, alloc, case)? {
-            counts.differ = counts.differ.saturating_add(1);
+    let cases = cases_of(alloc, text_of(&text)?)?;
+    let tried = try_cases(rt, alloc, cases.as_slice(), counts);
+    drop(cases);
+    tried
+}
+
+/// Tries the cases of the files whose names are the lines of a text.
+fn try_files<F: Files>(
+    rt: &impl Print,
+    alloc: Global,
+    files: &mut F,
+    names: &str,
+    counts: &mut Counts,
+) -> Result<(), CaseFault> {
+    for name in names.lines() {
+        if let Err(fault) = try_file(rt, alloc, files, name, counts) {
+            say(println!(rt; "{name}: {fault}"))?;
+            return Err(fault);
         }
     }
     Ok(())
 }
 
-/// Tries the cases of the files that an index names.
-fn try_all<F: Files>(
+/// Tries the cases of the files that an index names, one in each line. Prints a line for each case whose session ends otherwise
+/// than it is to, and then how many cases there are; whether none differs.
+///
+/// # Errors
+///
+/// Where a file can't be had or has a line that no case has, nothing can be written, or there is no memory.
+pub fn play_all<F: Files>(
     rt: &impl Print,
     alloc: Global,
     files: &mut F,
     index: &str,
-) -> Result<(), CaseFault> {
+) -> Result<bool, CaseFault> {
     let mut counts = Counts {
         tried: 0,
         differ: 0,
     };
     let names = load(alloc, files, index)?;
-    let lines = text_of(&names)?;
-    for name in lines.lines() {
-        if let Err(fault) = try_file(rt, alloc, files, name, &mut counts) {
-            say(println!(rt; "{name}: {fault}"))?;
-            return Err(fault);
-        }
-    }
+    try_files(rt, alloc, files, text_of(&names)?, &mut counts)?;
     let Counts { tried, differ } = counts;
-    say(println!(rt; "{tried} cases, {differ} differ"))
-}
-
-fn main(rt: HostRuntime) -> ExitCode {
-    let alloc = rt.alloc();
-    let Ok(args) = std::env::args(&rt) else {
-        return ExitCode::from(FAILED);
-    };
-    let Ok(words) = args.collect::<Vec<String>>(alloc) else {
-        return ExitCode::from(FAILED);
-    };
-    let [_, index] = words.as_slice() else {
-        return ExitCode::from(USAGE);
-    };
-    let mut files = DiskFiles::new(&rt);
-    match try_all(&rt, alloc, &mut files, index.as_str()) {
-        Ok(()) => ExitCode::SUCCESS,
-        Err(_) => ExitCode::from(FAILED),
-    }
+    say(println!(rt; "{tried} cases, {differ} differ"))?;
+    Ok(differ == 0)
 }

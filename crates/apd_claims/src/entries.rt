@@ -1,6 +1,6 @@
 //! The entry whose text a line may be, made of the terms in it.
 
-ghost use Rattle.std.specs.Prelude.{◌≡◌, ◌↔◌, IsTrue, IfOk};
+ghost use Rattle.std.specs.Prelude.{◌≡◌, ◌↔◌, IsTrue, IfOk, Some};
 ghost use Rattle.apd_term.specs.declared.standard.TheConstants as names;
 ghost use Rattle.apd_term.specs.declared.term.Sym.TheVariants as symbols;
 ghost use Rattle.apd_claims.specs.Claims.{asked, call_entry, entry_for, goals_in, pair_in, reply_in, tuple_in};
@@ -90,24 +90,24 @@ fn reply_in(alloc: Global, term: &Flat) -> Result<Option<Reply>, AllocError>
 }
 
 /// A question, with its numbers.
-fn asked(alloc: Global, place: Numbered, question: Question) -> Result<Entry, AllocError>
-    ensures { IfOk result (λ e. e ≡ asked place question) }
+fn asked(alloc: Global, place: Numbered, question: Question) -> Result<Option<Entry>, AllocError>
+    ensures { IfOk result (λ e. e ≡ Some (asked place question)) }
 {
     let form = question.canonical(alloc);
     // Dropped by a call: else each part of each kind of question is a step to check.
     drop(question);
-    Ok(Entry::Question {
+    Ok(Some(Entry::Question {
         number: place.number,
         asked: Asked {
             question: form?,
             suspects: place.suspects,
         },
-    })
+    }))
 }
 
 /// The question of a body.
-fn cover_entry(alloc: Global, place: Numbered, term: &Flat) -> Result<Entry, AllocError>
-    ensures { IfOk result (λ e. entry_for (Frame.Cover place) term.now ≡ Some e) }
+fn cover_entry(alloc: Global, place: Numbered, term: &Flat) -> Result<Option<Entry>, AllocError>
+    ensures { IfOk result (λ e. e ≡ entry_for (Frame.Cover place) term.now) }
 {
     let tuple = tuple_in(alloc, term)?;
     asked(alloc, place, Question::Covers(tuple))
@@ -118,7 +118,7 @@ fn order_entry(alloc: Global, place: Numbered, term: &Flat) -> Result<Option<Ent
     ensures { IfOk result (λ e. e ≡ entry_for (Frame.Order place) term.now) }
 {
     match pair_in(alloc, term)? {
-        Some(question) => Ok(Some(asked(alloc, place, question)?)),
+        Some(question) => asked(alloc, place, question),
         None => Ok(None),
     }
 }
@@ -143,12 +143,17 @@ fn reply_entry(
 }
 
 /// A wrong instance of a clause.
-fn instance_entry(alloc: Global, clause: u32, line: u32, term: &Flat) -> Result<Entry, AllocError>
-    ensures { IfOk result (λ e. entry_for (Frame.Instance clause line) term.now ≡ Some e) }
+fn instance_entry(
+    alloc: Global,
+    clause: u32,
+    line: u32,
+    term: &Flat,
+) -> Result<Option<Entry>, AllocError>
+    ensures { IfOk result (λ e. e ≡ entry_for (Frame.Instance clause line) term.now) }
 {
     let tuple = tuple_in(alloc, term)?;
     let finding = Finding::WrongInstance { clause, tuple };
-    Ok(Entry::Found { finding, line })
+    Ok(Some(Entry::Found { finding, line }))
 }
 
 /// The entry whose text has this term in it.
@@ -160,11 +165,11 @@ pub(crate) fn entry_for(
     ensures { IfOk result (λ e. e ≡ entry_for frame term) }
 {
     match frame {
-        Frame::Truth(place) => Ok(Some(asked(alloc, place, Question::True(term))?)),
-        Frame::Cover(place) => Ok(Some(cover_entry(alloc, place, &term)?)),
+        Frame::Truth(place) => asked(alloc, place, Question::True(term)),
+        Frame::Cover(place) => cover_entry(alloc, place, &term),
         Frame::Order(place) => order_entry(alloc, place, &term),
         Frame::Reply { left, by_reference } => reply_entry(alloc, left, by_reference, &term),
-        Frame::Instance { clause, line } => Ok(Some(instance_entry(alloc, clause, line, &term)?)),
+        Frame::Instance { clause, line } => instance_entry(alloc, clause, line, &term),
         Frame::Uncovered => Ok(Some(Entry::Found {
             finding: Finding::Uncovered { goal: term },
             line: 0,

@@ -83,22 +83,15 @@ fn has_clauses(program: &Program, clauses: &[Clause]) -> bool {
     program.count() as usize == clauses.len()
 }
 
-fn is_operator(ops: &Ops, others: &Ops, name: NameId) -> bool {
-    ops.prefix(name) == others.prefix(name) && ops.infix(name) == others.infix(name)
-}
-
 /// Whether each name means the same as an operator.
 fn are_operators(names: &Names, ops: &Ops, others: &Ops) -> bool {
     for id in 0..names.count().min(MOST_ROW_NAMES) {
-        if !is_operator(ops, others, NameId(id as u32)) {
+        let name = NameId(id as u32);
+        if ops.prefix(name) != others.prefix(name) || ops.infix(name) != others.infix(name) {
             return false;
         }
     }
     true
-}
-
-fn are_notes(notes: &[Note], others: &[Note]) -> bool {
-    notes == others
 }
 
 /// Whether a load has what the plain program gives, and warns of what is called and has no clauses.
@@ -113,8 +106,8 @@ fn has_all(
     Ok(
         has_clauses(&loaded.program, clauses)
             && are_operators(&scene.names, &loaded.ops, &plain.ops)
-            && are_notes(loaded.passed.as_slice(), plain.passed.as_slice())
-            && are_notes(loaded.warnings.as_slice(), warnings.as_slice()),
+            && loaded.passed.as_slice() == plain.passed.as_slice()
+            && loaded.warnings.as_slice() == warnings.as_slice(),
     )
 }
 

@@ -12,6 +12,18 @@ mod value_rows;
 
 use apd_rows::{Tables, Trial};
 
+/// Adds what a call gives whose table is about pasts, values and truths.
+fn give_of_values(name: &str, trial: &mut Trial) -> Option<()> {
+    match name {
+        "pasts" => past_rows::put_past(trial),
+        "long_pasts" => past_rows::put_long_past(trial),
+        "values" => value_rows::put_value(trial),
+        "deep_values" => value_rows::put_deep_value(trial),
+        "truths" => value_rows::put_truth(trial),
+        _ => None,
+    }
+}
+
 /// Adds what a call gives whose table is about terms.
 fn give_of_terms(name: &str, trial: &mut Trial) -> Option<()> {
     match name {
@@ -24,12 +36,7 @@ fn give_of_terms(name: &str, trial: &mut Trial) -> Option<()> {
         "tuples" => term_rows::put_tuple(trial),
         "lists" => term_rows::put_lists(trial),
         "unifiers" => term_rows::put_unified(trial),
-        "pasts" => past_rows::put_past(trial),
-        "long_pasts" => past_rows::put_long_past(trial),
-        "values" => value_rows::put_value(trial),
-        "deep_values" => value_rows::put_deep_value(trial),
-        "truths" => value_rows::put_truth(trial),
-        _ => None,
+        _ => give_of_values(name, trial),
     }
 }
 

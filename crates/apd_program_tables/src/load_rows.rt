@@ -6,7 +6,7 @@ use apd_base::MAX_FILE;
 use apd_clauses::{Program, goals_of};
 use apd_load::{LoadCause, LoadText, Loaded, Note, load, query_warnings};
 use apd_rows::{Builder, MOST_ROW_NAMES, Scene, Trial};
-use apd_term::Flat;
+use apd_term::Atoms;
 use std::alloc::Global;
 use std::boxed::Box;
 
@@ -81,17 +81,14 @@ pub fn put_load(trial: &mut Trial) -> Option<()> {
     put_load_of(given, scene, row.bytes(0))
 }
 
-/// The long text of a row.
-fn long_text(trial: &Trial) -> Builder {
-    let mut text = Builder::new(trial.alloc);
-    trial.row.put_repeated(0, &mut text);
-    text
-}
-
 /// Gives what a long text is loaded as.
 pub fn put_long_load(trial: &mut Trial) -> Option<()> {
-    let text = long_text(trial);
-    put_load_of(&mut trial.given, &mut trial.scene, text.bytes())
+    let mut text = Builder::new(trial.alloc);
+    trial.row.put_repeated(0, &mut text);
+    let put = put_load_of(&mut trial.given, &mut trial.scene, text.bytes());
+    // Dropped by calls, here and below: else each part is a step to check.
+    drop(text);
+    put
 }
 
 /// What the row's first field is loaded as.
@@ -100,23 +97,36 @@ fn loaded_of_row(trial: &mut Trial) -> Option<Box<Loaded>> {
     Box::new(trial.alloc, loaded).ok()
 }
 
-/// Gives what there is to warn of the goals of a term.
-fn put_warnings(trial: &mut Trial, program: &Program, asked: &Flat) -> Option<()> {
-    let goals = goals_of(trial.alloc, asked).ok()?;
-    let notes = query_warnings(trial.alloc, program, goals.as_slice()).ok()?;
+/// The goals of the row's second field.
+fn goals_of_row(trial: &mut Trial) -> Option<Atoms> {
+    let asked = trial.term(1)?;
+    let goals = goals_of(trial.alloc, &asked);
+    drop(asked);
+    goals.ok()
+}
+
+/// Gives what there is to warn of the goals of the row.
+fn put_warnings(trial: &mut Trial, program: &Program) -> Option<()> {
+    let goals = goals_of_row(trial)?;
+    let notes = query_warnings(trial.alloc, program, goals.as_slice());
+    drop(goals);
+    let notes = notes.ok()?;
     put_notes(&mut trial.given, &trial.scene, "warned", notes.as_slice());
+    drop(notes);
     Some(())
 }
 
 /// Gives what there is to warn of the goals of a query over a program.
 pub fn put_warned(trial: &mut Trial) -> Option<()> {
     let loaded = loaded_of_row(trial)?;
-    let asked = trial.term(1)?;
-    put_warnings(trial, &loaded.program, &asked)
+    let put = put_warnings(trial, &loaded.program);
+    drop(loaded);
+    put
 }
 
-/// Gives the line, the head and the goals of each clause by number.
-fn put_clauses(trial: &mut Trial, program: &Program) {
+/// Gives the line, the head and the goals of each clause by number, and the numbers of those of an atom's predicate.
+fn put_clauses(trial: &mut Trial, program: &Program) -> Option<()> {
+    let pred = trial.pred(1)?;
     for number in 0..program.count() {
         let clause = program.clause(number + 1);
         trial.given.put("line ");
@@ -125,13 +135,14 @@ fn put_clauses(trial: &mut Trial, program: &Program) {
         trial.put_tuple(&clause.tuple);
         trial.given.put("\n");
     }
+    trial.given.put_debug(&program.clauses_of(pred));
+    Some(())
 }
 
-/// Gives the clauses of a program by number, and the numbers of those of an atom's predicate.
+/// The same, of the row's program.
 pub fn put_program(trial: &mut Trial) -> Option<()> {
     let loaded = loaded_of_row(trial)?;
-    let pred = trial.pred(1)?;
-    put_clauses(trial, &loaded.program);
-    trial.given.put_debug(&loaded.program.clauses_of(pred));
-    Some(())
+    let put = put_clauses(trial, &loaded.program);
+    drop(loaded);
+    put
 }

@@ -73,13 +73,18 @@ impl Tried {
     /// The past of a term.
     fn new(alloc: Global, term: Flat) -> Option<Tried> {
         let mut past = Past::new(alloc);
-        past.load(term.symbols()).ok()?;
-        Some(Tried {
-            alloc,
-            term,
-            past,
-            page: Page::new(alloc),
-        })
+        if past.load(term.symbols()).is_ok() {
+            return Some(Tried {
+                alloc,
+                term,
+                past,
+                page: Page::new(alloc),
+            });
+        }
+        // Dropped by calls, here and below: else each part is a step to check.
+        drop(past);
+        drop(term);
+        None
     }
 
     fn bind(&mut self, letter: u8, to: PastCell) -> Option<()> {
@@ -128,10 +133,14 @@ impl Tried {
     }
 }
 
-/// Gives what a term was before the deeds and behind each, read when all are done.
-pub fn put_past(trial: &mut Trial) -> Option<()> {
+/// The past of the row's term.
+fn tried_of_row(trial: &mut Trial) -> Option<Tried> {
     let term = trial.term(0)?;
-    let mut tried = Tried::new(trial.alloc, term)?;
+    Tried::new(trial.alloc, term)
+}
+
+/// Does the row's deeds, and gives what the term was before them and behind each.
+fn put_moments(trial: &mut Trial, tried: &mut Tried) -> Option<()> {
     for deed in trial.row.given(1) {
         tried.do_deed(deed.as_slice())?;
     }
@@ -139,8 +148,17 @@ pub fn put_past(trial: &mut Trial) -> Option<()> {
         let then = tried.term_at(Moment(moment))?;
         trial.given.put(if moment > 0 { "; " } else { "" });
         trial.put_term(&then);
+        drop(then);
     }
     Some(())
+}
+
+/// Gives what a term was before the deeds and behind each, read when all are done.
+pub fn put_past(trial: &mut Trial) -> Option<()> {
+    let mut tried = tried_of_row(trial)?;
+    let put = put_moments(trial, &mut tried);
+    drop(tried);
+    put
 }
 
 /// How many of the copies, one of each moment but the first, differ from what is read of it.
@@ -149,26 +167,35 @@ fn count_different(tried: &mut Tried, copies: &[Flat]) -> Option<u32> {
     let mut moment = 0u32;
     for copy in copies {
         moment = moment.saturating_add(1);
-        if !tried.term_at(Moment(moment))?.same(copy) {
+        let then = tried.term_at(Moment(moment))?;
+        if !then.same(copy) {
             different = different.saturating_add(1);
         }
+        drop(then);
     }
     Some(different)
 }
 
-/// Gives how many moments there are where deeds are done again and again, and at how many of them a term isn't what a copy of
-/// it is that was made then.
-pub fn put_long_past(trial: &mut Trial) -> Option<()> {
-    let term = trial.term(0)?;
-    let mut tried = Tried::new(trial.alloc, term)?;
-    let mut copies = Vec::new(trial.alloc);
+/// Does the row's deeds again and again, with a copy of the term behind each, and gives how many moments there are then, and
+/// at how many of them the term isn't what the copy is.
+fn put_different(trial: &mut Trial, tried: &mut Tried, copies: &mut Vec<Flat>) -> Option<()> {
     for _ in 0..trial.row.number(1) {
-        tried.do_deeds(trial.row.given(2), &mut copies)?;
+        tried.do_deeds(trial.row.given(2), copies)?;
     }
-    let different = count_different(&mut tried, copies.as_slice())?;
+    let different = count_different(tried, copies.as_slice())?;
     trial.given.put_shown(&copies.len());
     trial.given.put(" moments, ");
     trial.given.put_shown(&different);
     trial.given.put(" differ");
     Some(())
+}
+
+/// The same, of the row's term.
+pub fn put_long_past(trial: &mut Trial) -> Option<()> {
+    let mut tried = tried_of_row(trial)?;
+    let mut copies = Vec::new(trial.alloc);
+    let put = put_different(trial, &mut tried, &mut copies);
+    drop(copies);
+    drop(tried);
+    put
 }

@@ -1,7 +1,6 @@
 //! What is made of queries.
 
 use crate::clause_rows::put_fault;
-use apd_base::VarNames;
 use apd_causes::Query;
 use apd_clauses::{Read, is_query, query_of};
 use apd_rows::{BETWEEN, Trial, texts_of};
@@ -28,7 +27,11 @@ fn put_read(trial: &mut Trial, read: &Read) {
         return;
     }
     match query_of(trial.alloc, read) {
-        Ok(query) => put_shown(trial, &query),
+        Ok(query) => {
+            put_shown(trial, &query);
+            // Dropped by calls, here and below: else each part is a step to check.
+            drop(query);
+        }
         Err(fault) => put_fault(&mut trial.given, &trial.scene, fault),
     }
 }
@@ -37,17 +40,17 @@ fn put_read(trial: &mut Trial, read: &Read) {
 pub fn put_query(trial: &mut Trial) -> Option<()> {
     let read = trial.read(0)?;
     put_read(trial, &read);
+    drop(read);
     Some(())
 }
 
-/// The variables of these numbers.
-fn variables(alloc: Global, numbers: &str) -> Result<Atoms, AllocError> {
-    let mut variables = Atoms::new(alloc);
+/// Adds the variables of these numbers.
+fn put_variables(alloc: Global, variables: &mut Atoms, numbers: &str) -> Result<(), AllocError> {
     for number in numbers.split(BETWEEN) {
         let variable = Flat::variable(alloc, number.parse::<u64>().unwrap_or(0))?;
         variables.push(variable)?;
     }
-    Ok(variables)
+    Ok(())
 }
 
 fn atom_of(alloc: Global, name: NameId, arguments: &Atoms) -> Option<Flat> {
@@ -60,31 +63,44 @@ fn atom_of(alloc: Global, name: NameId, arguments: &Atoms) -> Option<Flat> {
 /// A query of one goal.
 fn asked(alloc: Global, goal: Flat) -> Option<Flat> {
     let mut goals = Atoms::new(alloc);
-    goals.push(goal).ok()?;
-    atom_of(alloc, QUERY, &goals)
+    let query = match goals.push(goal) {
+        Ok(()) => atom_of(alloc, QUERY, &goals),
+        Err(_) => None,
+    };
+    drop(goals);
+    query
 }
 
 /// The query with a goal of variables of these numbers.
 fn query_over(alloc: Global, name: NameId, numbers: &str) -> Option<Flat> {
-    let variables = variables(alloc, numbers).ok()?;
-    let goal = atom_of(alloc, name, &variables)?;
-    asked(alloc, goal)
-}
-
-fn read_of(term: Flat, vars: VarNames) -> Read {
-    Read {
-        term,
-        vars,
-        start: 0,
-        next: 0,
-    }
+    let mut variables = Atoms::new(alloc);
+    let goal = match put_variables(alloc, &mut variables, numbers) {
+        Ok(()) => atom_of(alloc, name, &variables),
+        Err(_) => None,
+    };
+    drop(variables);
+    asked(alloc, goal?)
 }
 
 /// Gives the query with a goal of variables of the row's numbers; those from 1 on have the row's names.
 pub fn put_numbered(trial: &mut Trial) -> Option<()> {
     let pred = trial.pred(0)?;
     let term = query_over(trial.alloc, pred.name, trial.row.text(1))?;
-    let vars = texts_of(trial.alloc, trial.row.text(2)).ok()?;
-    put_read(trial, &read_of(term, vars));
-    Some(())
+    match texts_of(trial.alloc, trial.row.text(2)) {
+        Ok(vars) => {
+            let read = Read {
+                term,
+                vars,
+                start: 0,
+                next: 0,
+            };
+            put_read(trial, &read);
+            drop(read);
+            Some(())
+        }
+        Err(_) => {
+            drop(term);
+            None
+        }
+    }
 }

@@ -5,7 +5,7 @@ ghost use Rattle.apd_term.specs.Term.{arguments};
 
 use apd_base::{Ids, Text};
 use apd_clauses::clause_of;
-use apd_rows::{Builder, Sides, Trial};
+use apd_rows::{Builder, Scene, Sides, Trial};
 use apd_term::canonical::{canonical, shifted};
 use apd_term::{
     Flat, Pred, Subst, Tuple, apply, apply_tuple, canonical_tuple, is_instance, match_onto,
@@ -32,6 +32,8 @@ fn put_argument(trial: &mut Trial, term: &Flat, argument: &Flat) -> Result<(), A
     let copy = argument.copy(trial.alloc)?;
     trial.given.put("; ");
     trial.put_term(&copy);
+    // Dropped by calls, here and below: else each part is a step to check.
+    drop(copy);
     trial
         .given
         .put(if argument.same(term) { " itself" } else { "" });
@@ -44,36 +46,42 @@ fn put_four(trial: &mut Trial, term: &Flat) -> Result<(), AllocError>
 {
     for i in 0..4 {
         let argument = term.arg(trial.alloc, i)?;
-        put_argument(trial, term, &argument)?;
+        let put = put_argument(trial, term, &argument);
+        drop(argument);
+        put?;
     }
     Ok(())
 }
 
-/// Gives a term's size, and whether it is ground.
-fn put_size(trial: &mut Trial, term: &Flat) {
+/// Adds a term's size, whether it is ground, and its name and number of arguments.
+fn put_front(given: &mut Builder, scene: &Scene, term: &Flat) {
     let ground = if term.is_ground() { " ground" } else { "" };
-    trial.given.put_shown(&term.size());
-    trial.given.put(ground);
+    given.put_shown(&term.size());
+    given.put(ground);
+    if let Some(pred) = term.pred() {
+        given.put(" ");
+        given.put_indicator(scene, pred);
+    }
 }
 
 /// Gives a term's size, whether it is ground, its name and number of arguments, and its arguments where it has four.
 pub fn put_parts(trial: &mut Trial) -> Option<()> {
     let term = trial.term(0)?;
-    put_size(trial, &term);
-    if let Some(pred) = term.pred() {
-        trial.given.put(" ");
-        trial.given.put_indicator(&trial.scene, pred);
-    }
-    if let Some(Pred { arity: 4, .. }) = term.pred() {
-        put_four(trial, &term).ok()?;
-    }
-    Some(())
+    put_front(&mut trial.given, &trial.scene, &term);
+    let put = match term.pred() {
+        Some(Pred { arity: 4, .. }) => put_four(trial, &term).ok(),
+        _ => Some(()),
+    };
+    drop(term);
+    put
 }
 
 /// Gives the right side of an equation with its variables numbered anew; the left side gave them their numbers.
 pub fn put_canonical(trial: &mut Trial) -> Option<()> {
     let sides = trial.sides(0)?;
-    trial.put_made_term(canonical(trial.alloc, &sides.right));
+    let made = canonical(trial.alloc, &sides.right);
+    drop(sides);
+    trial.put_made_term(made);
     Some(())
 }
 
@@ -81,42 +89,50 @@ pub fn put_canonical(trial: &mut Trial) -> Option<()> {
 pub fn put_shifted(trial: &mut Trial) -> Option<()> {
     let variable = Flat::variable(trial.alloc, u64::from(trial.row.number(0))).ok()?;
     let raised = shifted(trial.alloc, &variable, u64::from(trial.row.number(1)));
+    drop(variable);
     trial.put_made_term(raised);
     Some(())
 }
 
-/// Gives whether the right side is an instance of the left one.
-fn put_instance(trial: &mut Trial, sides: &Sides) -> Option<()> {
+/// Gives what matching the left side onto the right one makes of it, and whether the right side is an instance.
+fn put_match(trial: &mut Trial, sides: &Sides) -> Option<()> {
     let is_instance = is_instance(trial.alloc, &sides.right, &sides.left).ok()?;
     trial.given.put(if is_instance {
         "an instance"
     } else {
         "no instance"
     });
+    if let Some(found) = match_onto(trial.alloc, &sides.left, &sides.right).ok()? {
+        trial.given.put(": ");
+        let made = apply(trial.alloc, &sides.left, &found);
+        drop(found);
+        trial.put_made_term(made);
+    }
     Some(())
 }
 
-/// Gives what matching the left side onto the right one makes of it, and whether the right side is an instance.
+/// The same, of the row's sides.
 pub fn put_matched(trial: &mut Trial) -> Option<()> {
     let sides = trial.sides(0)?;
-    put_instance(trial, &sides)?;
-    if let Some(found) = match_onto(trial.alloc, &sides.left, &sides.right).ok()? {
-        trial.given.put(": ");
-        trial.put_made_term(apply(trial.alloc, &sides.left, &found));
-    }
-    Some(())
+    let put = put_match(trial, &sides);
+    drop(sides);
+    put
 }
 
 /// The first side for variable 1, followed by the second for variable 2.
 fn both(alloc: Global, sides: &Sides) -> Result<Subst, AllocError> {
     let first = Subst::single(alloc, 1, &sides.left)?;
-    first.extended(alloc, SECOND, &sides.right)
+    let both = first.extended(alloc, SECOND, &sides.right);
+    drop(first);
+    both
 }
 
 /// Gives what the first side for variable 1, followed by the second for variable 2, puts for variables 1 to 3.
 pub fn put_substituted(trial: &mut Trial) -> Option<()> {
     let sides = trial.sides(0)?;
-    let both = both(trial.alloc, &sides).ok()?;
+    let both = both(trial.alloc, &sides);
+    drop(sides);
+    let both = both.ok()?;
     for v in 1..=3 {
         match both.get(v) {
             None => trial.given.put("none"),
@@ -124,35 +140,40 @@ pub fn put_substituted(trial: &mut Trial) -> Option<()> {
         }
         trial.given.put(if v < 3 { "; " } else { "" });
     }
+    drop(both);
     Some(())
 }
 
 /// The tuple of the clause on the right side.
 fn tuple_of_row(trial: &mut Trial) -> Option<Tuple> {
     let sides = trial.sides(0)?;
-    clause_of(trial.alloc, &sides.right).ok()
+    let clause = clause_of(trial.alloc, &sides.right);
+    drop(sides);
+    clause.ok()
 }
 
 /// A clause with 8 for the second variable.
 fn with_eight(alloc: Global, tuple: &Tuple) -> Result<Tuple, AllocError> {
     let integer = Flat::integer(alloc, 8)?;
-    let eight = Subst::single(alloc, SECOND, &integer)?;
-    apply_tuple(alloc, tuple, &eight)
+    let eight = Subst::single(alloc, SECOND, &integer);
+    drop(integer);
+    let eight = eight?;
+    let instance = apply_tuple(alloc, tuple, &eight);
+    drop(eight);
+    instance
 }
 
-/// Gives the clause's instance with 8 for the second variable.
-fn put_with_eight(trial: &mut Trial, tuple: &Tuple) -> Option<()> {
-    let instance = with_eight(trial.alloc, tuple).ok()?;
-    trial.put_tuple(&instance);
-    Some(())
-}
-
-/// Gives the clause with variables numbered anew, and the instance of that.
+/// Gives the clause with variables numbered anew, and the instance of that with 8 for the second variable.
 fn put_numbered(trial: &mut Trial, tuple: &Tuple) -> Option<()> {
     let numbered = canonical_tuple(trial.alloc, tuple).ok()?;
     trial.put_tuple(&numbered);
     trial.given.put(": ");
-    put_with_eight(trial, &numbered)
+    let instance = with_eight(trial.alloc, &numbered);
+    drop(numbered);
+    let instance = instance.ok()?;
+    trial.put_tuple(&instance);
+    drop(instance);
+    Some(())
 }
 
 /// Gives the size of the clause on the right side, its form with variables numbered anew, and its instance with 8 for 2.
@@ -160,7 +181,9 @@ pub fn put_tuple(trial: &mut Trial) -> Option<()> {
     let tuple = tuple_of_row(trial)?;
     trial.given.put_shown(&tuple.size());
     trial.given.put(": ");
-    put_numbered(trial, &tuple)
+    let put = put_numbered(trial, &tuple);
+    drop(tuple);
+    put
 }
 
 /// The bytes as a list of numbers, pushed one by one, with 1 and 5 behind.
@@ -196,26 +219,51 @@ fn put_kept(given: &mut Builder, ids: &Ids, text: &Text) {
 /// Gives a list of the bytes of a text and a text of them: what they have, their lengths, and what is behind.
 pub fn put_lists(trial: &mut Trial) -> Option<()> {
     let ids = ids_of(trial.alloc, trial.row.bytes(0)).ok()?;
-    let text = text_of(trial.alloc, trial.row.bytes(0)).ok()?;
-    put_kept(&mut trial.given, &ids, &text);
-    Some(())
+    match text_of(trial.alloc, trial.row.bytes(0)) {
+        Ok(text) => {
+            put_kept(&mut trial.given, &ids, &text);
+            drop(text);
+            drop(ids);
+            Some(())
+        }
+        Err(_) => {
+            drop(ids);
+            None
+        }
+    }
 }
 
 /// Gives what a unifier makes of a side, with variables numbered anew.
 fn put_side(trial: &mut Trial, side: &Flat, unifier: &Subst) -> Result<(), AllocError> {
     let made = apply(trial.alloc, side, unifier)?;
-    trial.put_made_term(canonical(trial.alloc, &made));
+    let numbered = canonical(trial.alloc, &made);
+    drop(made);
+    trial.put_made_term(numbered);
     Ok(())
+}
+
+/// Gives what a unifier makes of both sides.
+fn put_sides(trial: &mut Trial, sides: &Sides, unifier: &Subst) -> Result<(), AllocError> {
+    put_side(trial, &sides.left, unifier)?;
+    trial.given.put(" and ");
+    put_side(trial, &sides.right, unifier)
 }
 
 /// Gives what a most general unifier of the two sides makes of each, or none.
 pub fn put_unified(trial: &mut Trial) -> Option<()> {
     let sides = trial.sides(0)?;
-    let Some(unifier) = mgu(trial.alloc, &sides.left, &sides.right).ok()? else {
-        trial.given.put("none");
-        return Some(());
+    let put = match mgu(trial.alloc, &sides.left, &sides.right) {
+        Ok(Some(unifier)) => {
+            let put = put_sides(trial, &sides, &unifier);
+            drop(unifier);
+            put.ok()
+        }
+        Ok(None) => {
+            trial.given.put("none");
+            Some(())
+        }
+        Err(_) => None,
     };
-    put_side(trial, &sides.left, &unifier).ok()?;
-    trial.given.put(" and ");
-    put_side(trial, &sides.right, &unifier).ok()
+    drop(sides);
+    put
 }

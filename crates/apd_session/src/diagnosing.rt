@@ -77,8 +77,15 @@ pub(crate) fn keep_symptom<K: Sink>(
     ensures says { Says (one (Entry.Symptom what))
         voice.old voice.new result }
 {
-    voice.reserve(1)?;
-    keep_told(voice.alloc(), &what, replies)?;
+    if let Err(AllocError) = voice.reserve(1) {
+        // Dropped by calls, here and below: else each part is a step to check.
+        drop(what);
+        return Err(Trouble::Memory);
+    }
+    if let Err(AllocError) = keep_told(voice.alloc(), &what, replies) {
+        drop(what);
+        return Err(Trouble::Memory);
+    }
     voice.say_kept(Entry::Symptom { what })
 }
 
@@ -98,7 +105,8 @@ pub(crate) fn keep_wrong<K: Sink>(
     ensures says { Says (one (Entry.Symptom (wrong_of history.now exit.0)))
         voice.old voice.new result }
 {
-    let Tuple { head, .. } = history.tuple(exit)?;
+    let Tuple { head, body } = history.tuple(exit)?;
+    drop(body);
     let what = Told::Wrong {
         atom: head.copy(voice.alloc())?,
         exit,

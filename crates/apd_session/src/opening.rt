@@ -161,8 +161,11 @@ fn close(loaded: Loaded, statements: Option<u32>, stop: Stop) -> Opening
         passed,
         warnings,
     } = loaded;
+    let clauses = program.count();
+    // Dropped by calls, here and below: else each part is a step to check.
+    drop(program);
     let beginning = Beginning {
-        clauses: program.count(),
+        clauses,
         passed,
         called: warnings,
         statements,
@@ -201,8 +204,8 @@ fn open_knowing<F: Files>(
     ensures loads { let o = asked_options asked.entry in LoadsFront F.step
         (named o.reference ++ named (log_of_subject o.subject)) files.old files.new }
 {
-    match refer(alloc, asked.reference, asked.budget, files, names)? {
-        Referring::Asks { referee, reference } => {
+    match refer(alloc, asked.reference, asked.budget, files, names) {
+        Ok(Referring::Asks { referee, reference }) => {
             let Loaded {
                 program,
                 ops,
@@ -221,7 +224,17 @@ fn open_knowing<F: Files>(
             let start = Start { beginning, state };
             follow(alloc, subject, ops, start, files)
         }
-        Referring::Stops(stop) => Ok(close(loaded, statements, stop)),
+        Ok(Referring::Stops(stop)) => {
+            drop(asked);
+            drop(replies);
+            Ok(close(loaded, statements, stop))
+        }
+        Err(AllocError) => {
+            drop(asked);
+            drop(loaded);
+            drop(replies);
+            Err(AllocError)
+        }
     }
 }
 
@@ -248,12 +261,22 @@ fn open_program<F: Files>(
     ensures loads { LoadsFront F.step
         (further_files (asked_options asked.entry)) files.old files.new }
 {
-    match prepare(alloc, asked.oracle, files, &loaded.ops, names)? {
-        Prepared::Knows {
-            statements,
-            replies,
-        } => open_knowing(alloc, asked, loaded, statements, replies, files, names),
-        Prepared::Refuses(stop) => Ok(close(loaded, None, stop)),
+    match prepare(alloc, asked.oracle, files, &loaded.ops, names) {
+        Ok(
+            Prepared::Knows {
+                statements,
+                replies,
+            },
+        ) => open_knowing(alloc, asked, loaded, statements, replies, files, names),
+        Ok(Prepared::Refuses(stop)) => {
+            drop(asked);
+            Ok(close(loaded, None, stop))
+        }
+        Err(AllocError) => {
+            drop(asked);
+            drop(loaded);
+            Err(AllocError)
+        }
     }
 }
 
@@ -280,11 +303,17 @@ fn open_text<F: Files>(
 {
     match load(alloc, text.bytes(), names) {
         Ok(loaded) => open_program(alloc, asked, loaded, files, names),
-        Err(LoadText::Refused { line, cause }) => Ok(Opening::Unloaded(Stop {
-            said: Entry::ProgramRefused { line, cause },
-            status: Status::Program,
-        })),
-        Err(LoadText::Memory) => Err(AllocError),
+        Err(LoadText::Refused { line, cause }) => {
+            drop(asked);
+            Ok(Opening::Unloaded(Stop {
+                said: Entry::ProgramRefused { line, cause },
+                status: Status::Program,
+            }))
+        }
+        Err(LoadText::Memory) => {
+            drop(asked);
+            Err(AllocError)
+        }
     }
 }
 
@@ -308,9 +337,16 @@ fn open_asked<F: Files>(
     ensures loads { LoadsFront F.step
         (files_named (Some (asked_options asked.entry))) files.old files.new }
 {
-    match subject_text(alloc, asked.subject, files)? {
-        Ok(text) => open_text(alloc, asked, &text, files, names),
-        Err(stop) => Ok(Opening::Unloaded(stop)),
+    match subject_text(alloc, asked.subject, files) {
+        Ok(Ok(text)) => open_text(alloc, asked, &text, files, names),
+        Ok(Err(stop)) => {
+            drop(asked);
+            Ok(Opening::Unloaded(stop))
+        }
+        Err(AllocError) => {
+            drop(asked);
+            Err(AllocError)
+        }
     }
 }
 

@@ -67,13 +67,19 @@ fn refer_to(alloc: Global, budget: u32, loaded: Loaded) -> Referring
 {
     let Loaded {
         program,
-        ops: _,
+        ops,
         passed,
         warnings,
     } = loaded;
+    // Dropped by calls, here and below: else each part is a step to check.
+    drop(ops);
     let clauses = program.count();
     if clauses >= MOST_CLAUSES {
-        return refuse(last_line(&program), LoadCause::ClausesOver);
+        let line = last_line(&program);
+        drop(program);
+        drop(passed);
+        drop(warnings);
+        return refuse(line, LoadCause::ClausesOver);
     }
     Referring::Asks {
         referee: Referee::Program(Reference::new(alloc, program, budget)),

@@ -15,7 +15,7 @@ use std::alloc::{AllocError, Global};
 const MOST_NAMES_OF_ALL: usize = 2_000_000;
 
 /// How much was read.
-#[derive(Clone, Copy, Default)]
+#[derive(Clone, Copy)]
 struct Counts {
     tokens: usize,
     clauses: u64,
@@ -24,6 +24,14 @@ struct Counts {
     /// 1 where a fault ended the reading.
     faults: u64,
 }
+
+/// Nothing was read.
+const NOTHING: Counts = Counts {
+    tokens: 0,
+    clauses: 0,
+    symbols: 0,
+    faults: 0,
+};
 
 impl Counts {
     /// The place behind a clause, which is counted.
@@ -55,47 +63,53 @@ fn read_at(
 }
 
 /// Counts the clauses of the tokens, up to the first fault.
-fn count_clauses(alloc: Global, text: &[u8], tokens: &Tokens) -> Result<Counts, AllocError>
+fn count_clauses(alloc: Global, scene: &mut Scene, text: &[u8], tokens: &Tokens) -> Counts
     requires small { length text.now ≤ MAX_FILE }
     requires utf8 { IsUtf8 text.now }
     requires tokens { HasTokens text.now tokens.now }
 {
-    let mut counts = Counts::default();
+    let mut counts = NOTHING;
     counts.tokens = tokens.len();
-    let mut scene = Scene::new(alloc)?;
     let mut at = 0;
     for _clause in 0..tokens.len() {
         if at >= tokens.len() {
             break;
         }
-        match read_at(alloc, &mut scene, text, tokens, at) {
-            Ok(read) => at = counts.note(&read),
+        match read_at(alloc, scene, text, tokens, at) {
+            Ok(read) => {
+                at = counts.note(&read);
+                // Dropped by a call, here and below: else each part is a step to check.
+                drop(read);
+            }
             Err(_) => {
                 counts.faults = 1;
                 break;
             }
         }
     }
-    Ok(counts)
+    counts
 }
 
 /// Reads the clauses of the text one after the other, with the standard operators, up to the first fault.
 fn read_all(alloc: Global, text: &[u8]) -> Result<Counts, AllocError> {
-    let mut counts = Counts::default();
+    let mut counts = NOTHING;
     counts.faults = 1;
     if text.len() > MAX_FILE {
         return Ok(counts);
     }
-    match tokens(alloc, text) {
-        Ok(tokens) => count_clauses(alloc, text, &tokens),
-        Err(_) => Ok(counts),
+    let mut scene = Scene::new(alloc)?;
+    if let Ok(tokens) = tokens(alloc, text) {
+        counts = count_clauses(alloc, &mut scene, text, &tokens);
+        drop(tokens);
     }
+    drop(scene);
+    Ok(counts)
 }
 
 /// Adds how many tokens, clauses, symbols and faults a text has, of which each time but the last was read for its time.
 pub fn put_counts(text: &[u8], times: u32, given: &mut Builder) {
     let alloc = given.alloc;
-    let mut last = Counts::default();
+    let mut last = NOTHING;
     for _ in 0..times {
         match read_all(alloc, text) {
             Ok(counts) => last = counts,

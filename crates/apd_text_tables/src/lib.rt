@@ -20,10 +20,9 @@ fn give_written(name: &str, trial: &mut Trial) -> Option<()> {
     match name {
         "writings" => write_rows::put_text(trial),
         "name_texts" => write_rows::put_name(trial),
-        "read_back" => read_back_rows::put_term(trial),
-        "read_back_everywhere" => read_back_rows::put_everywhere(trial),
-        "read_back_names" => read_back_rows::put_names(trial),
-        "read_back_drawn" => read_back_rows::put_drawn(trial),
+        "read_back" | "read_back_everywhere" | "read_back_names" | "read_back_drawn" => {
+            read_back_rows::put_read_back(name, trial)
+        }
         _ => None,
     }
 }

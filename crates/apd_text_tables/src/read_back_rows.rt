@@ -2,10 +2,9 @@
 
 use crate::drawn::{Draw, FUNCTIONS};
 use crate::spelled::{arity_of, function, spelled, symbol_of, symbols_of};
-use apd_rows::{Builder, Row, Scene, Trial};
+use apd_rows::{Builder, Trial};
 use apd_term::{Flat, Sym};
 use std::alloc::{AllocError, Global};
-use std::boxed::Box;
 use std::str;
 
 /// How many bytes ASCII has.
@@ -14,98 +13,40 @@ const ASCII: u32 = 128;
 /// The symbols that are drawn of a term, before those that it then needs.
 const DRAWN_SYMBOLS: usize = 14;
 
-/// Terms that are written and read back, by some operators.
-#[derive(Drop)]
-struct Trials {
-    alloc: Global,
-    scene: Box<Scene>,
-    /// What stands in the other places of a function.
-    atom: Sym,
-    /// How many of them read back.
-    same: u32,
-    /// The texts of those that don't.
-    others: Builder,
+/// Whether a text is one clause, reads as the term, and brings no name.
+fn is_text_of(trial: &mut Trial, text: &[u8], term: &Flat) -> bool {
+    let before = trial.scene.names.count();
+    let reads = match trial.scene.first(trial.alloc, text) {
+        Ok(first) => {
+            let same = first.alone && first.read.term.same(term);
+            // Dropped by calls, here and below: else each part is a step to check.
+            drop(first);
+            same
+        }
+        Err(_) => false,
+    };
+    reads && trial.scene.names.count() == before
 }
 
-impl Trials {
-    /// By the operators that the row names.
-    fn of_row(alloc: Global, row: &Row) -> Option<Trials> {
-        let mut scene = Scene::new(alloc).ok()?;
-        scene.change(row.text(0))?;
-        let atom = function(&mut scene, "a", 0)?;
-        Some(Trials {
-            alloc,
-            scene,
-            atom,
-            same: 0,
-            others: Builder::new(alloc),
-        })
+/// Writes the term, and counts it where its text reads as it; any other text is given.
+fn try_term(trial: &mut Trial, same: &mut u32, term: &Flat) {
+    let mut text = Builder::new(trial.alloc);
+    text.put_term(&trial.scene, term);
+    text.put(" .");
+    if is_text_of(trial, text.bytes(), term) {
+        *same = same.saturating_add(1);
+    } else {
+        trial.given.put_bytes(text.bytes());
     }
+    drop(text);
+}
 
-    /// Whether a text is one clause, reads as the term, and brings no name.
-    fn is_text_of(&mut self, text: &[u8], term: &Flat) -> bool {
-        let before = self.scene.names.count();
-        let reads = match self.scene.first(self.alloc, text) {
-            Ok(first) => first.alone && first.read.term.same(term),
-            Err(_) => false,
-        };
-        reads && self.scene.names.count() == before
-    }
-
-    /// Writes the term, and reads its text.
-    fn try_term(&mut self, term: &Flat) {
-        let mut text = Builder::new(self.alloc);
-        text.put_term(&self.scene, term);
-        text.put(" .");
-        if self.is_text_of(text.bytes(), term) {
-            self.same = self.same.saturating_add(1);
-        } else {
-            self.others.put_bytes(text.bytes());
-        }
-    }
-
-    /// The term that the symbols spell.
-    fn try_symbols(&mut self, symbols: &[Sym]) -> Option<()> {
-        let term = spelled(self.alloc, symbols)?;
-        self.try_term(&term);
-        Some(())
-    }
-
-    /// The symbols in each place of the function, with atoms at the others.
-    fn try_places(&mut self, function: Sym, inner: &[Sym]) -> Option<()> {
-        for place in 0..arity_of(function) {
-            let symbols = around(self.alloc, self.atom, function, place, inner).ok()?;
-            self.try_symbols(symbols.as_slice())?;
-        }
-        Some(())
-    }
-
-    /// The symbols alone, and in each place of each function.
-    fn try_everywhere(&mut self, symbols: &[Sym]) -> Option<()> {
-        self.try_symbols(symbols)?;
-        for word in &FUNCTIONS {
-            let function = symbol_of(&mut self.scene, *word)?;
-            self.try_places(function, symbols)?;
-        }
-        Some(())
-    }
-
-    /// The name alone, and before itself as its argument.
-    fn try_name(&mut self, name: &str) -> Option<()> {
-        let atom = function(&mut self.scene, name, 0)?;
-        let compound = function(&mut self.scene, name, 1)?;
-        self.try_symbols(&[atom])?;
-        self.try_symbols(&[compound, atom])
-    }
-
-    /// Adds how many terms read back where all did, else the texts of those that didn't.
-    fn put(&self, given: &mut Builder) {
-        if self.others.bytes().is_empty() {
-            given.put_shown(&self.same);
-            given.put(" read back");
-        }
-        given.put_bytes(self.others.bytes());
-    }
+/// The term that the symbols spell.
+fn try_symbols(trial: &mut Trial, same: &mut u32, symbols: &[Sym]) -> Option<()> {
+    let term = spelled(trial.alloc, symbols)?;
+    try_term(trial, same, &term);
+    drop(term);
+    Some(())
 }
 
 /// The function's term, with these symbols at one place and the atom at the others.
@@ -155,68 +96,111 @@ fn unfolded(
 }
 
 /// The row's term, with a count, and how many of its symbols stand so many times before the next one.
-fn unfolded_term(alloc: Global, row: &Row) -> Option<Trials> {
-    let mut trials = Trials::of_row(alloc, row)?;
-    let symbols = symbols_of(alloc, &mut trials.scene, row.given(3))?;
-    let whole = unfolded(alloc, symbols.as_slice(), row.number(2), row.number(1)).ok()?;
-    trials.try_symbols(whole.as_slice())?;
-    Some(trials)
+fn try_unfolded(trial: &mut Trial, same: &mut u32) -> Option<()> {
+    let symbols = symbols_of(trial.alloc, &mut trial.scene, trial.row.given(3))?;
+    let (fronts, count) = (trial.row.number(2), trial.row.number(1));
+    let whole = unfolded(trial.alloc, symbols.as_slice(), fronts, count).ok();
+    drop(symbols);
+    let whole = whole?;
+    let tried = try_symbols(trial, same, whole.as_slice());
+    drop(whole);
+    tried
 }
 
-/// Gives how the row's term reads back.
-pub fn put_term(trial: &mut Trial) -> Option<()> {
-    let trials = unfolded_term(trial.alloc, &trial.row)?;
-    trials.put(&mut trial.given);
+/// The symbols in each place of the function, with the atom at the others.
+fn try_places(
+    trial: &mut Trial,
+    same: &mut u32,
+    atom: Sym,
+    function: Sym,
+    inner: &[Sym],
+) -> Option<()> {
+    for place in 0..arity_of(function) {
+        let symbols = around(trial.alloc, atom, function, place, inner).ok()?;
+        let tried = try_symbols(trial, same, symbols.as_slice());
+        drop(symbols);
+        tried?;
+    }
+    Some(())
+}
+
+/// The symbols alone, and in each place of each function.
+fn try_everywhere(trial: &mut Trial, same: &mut u32, symbols: &[Sym]) -> Option<()> {
+    let atom = function(&mut trial.scene, "a", 0)?;
+    try_symbols(trial, same, symbols)?;
+    for word in &FUNCTIONS {
+        let function = symbol_of(&mut trial.scene, *word)?;
+        try_places(trial, same, atom, function, symbols)?;
+    }
     Some(())
 }
 
 /// The row's term alone, and in each place of each function.
-fn everywhere(alloc: Global, row: &Row) -> Option<Trials> {
-    let mut trials = Trials::of_row(alloc, row)?;
-    let symbols = symbols_of(alloc, &mut trials.scene, row.given(1))?;
-    trials.try_everywhere(symbols.as_slice())?;
-    Some(trials)
+fn try_row_everywhere(trial: &mut Trial, same: &mut u32) -> Option<()> {
+    let symbols = symbols_of(trial.alloc, &mut trial.scene, trial.row.given(1))?;
+    let tried = try_everywhere(trial, same, symbols.as_slice());
+    drop(symbols);
+    tried
 }
 
-/// Gives how the row's term reads back in each place.
-pub fn put_everywhere(trial: &mut Trial) -> Option<()> {
-    let trials = everywhere(trial.alloc, &trial.row)?;
-    trials.put(&mut trial.given);
-    Some(())
+/// The name alone, and before itself as its argument.
+fn try_name(trial: &mut Trial, same: &mut u32, name: &str) -> Option<()> {
+    let atom = function(&mut trial.scene, name, 0)?;
+    let compound = function(&mut trial.scene, name, 1)?;
+    try_symbols(trial, same, &[atom])?;
+    try_symbols(trial, same, &[compound, atom])
 }
 
 /// The name of a number: two bytes of ASCII, or one.
-fn try_pair(trials: &mut Trials, pair: u32) -> Option<()> {
+fn try_pair(trial: &mut Trial, same: &mut u32, pair: u32) -> Option<()> {
     let first = u8::try_from(pair / (ASCII + 1)).unwrap_or(0);
     let second = u8::try_from(pair % (ASCII + 1)).unwrap_or(0);
     let bytes = [first, second];
     let length = if u32::from(second) < ASCII { 2 } else { 1 };
     let name = bytes.get(..length).unwrap_or(&[]);
-    trials.try_name(str::from_utf8(name).unwrap_or("?"))
+    try_name(trial, same, str::from_utf8(name).unwrap_or("?"))
 }
 
-/// Gives how each name of one and of two bytes of ASCII reads back, alone and before itself.
-pub fn put_names(trial: &mut Trial) -> Option<()> {
-    let mut trials = Trials::of_row(trial.alloc, &trial.row)?;
+/// Each name of one and of two bytes of ASCII, alone and before itself.
+fn try_names(trial: &mut Trial, same: &mut u32) -> Option<()> {
     for pair in 0..ASCII * (ASCII + 1) {
-        try_pair(&mut trials, pair)?;
+        try_pair(trial, same, pair)?;
     }
-    trials.put(&mut trial.given);
     Some(())
 }
 
-fn try_drawn(trials: &mut Trials, seed: u32) -> Option<()> {
-    let mut draw = Draw::new(u64::from(seed));
-    let symbols = draw.term(trials.alloc, &mut trials.scene, DRAWN_SYMBOLS)?;
-    trials.try_symbols(symbols.as_slice())
+/// The terms that are drawn, one from each seed below the row's.
+fn try_drawn(trial: &mut Trial, same: &mut u32) -> Option<()> {
+    for seed in 0..trial.row.number(1) {
+        let mut draw = Draw::new(u64::from(seed));
+        let symbols = draw.term(trial.alloc, &mut trial.scene, DRAWN_SYMBOLS)?;
+        let tried = try_symbols(trial, same, symbols.as_slice());
+        drop(symbols);
+        tried?;
+    }
+    Some(())
 }
 
-/// Gives how the terms that are drawn read back, one from each seed below the row's.
-pub fn put_drawn(trial: &mut Trial) -> Option<()> {
-    let mut trials = Trials::of_row(trial.alloc, &trial.row)?;
-    for seed in 0..trial.row.number(1) {
-        try_drawn(&mut trials, seed)?;
+/// The terms of a row of the table of this name.
+fn try_row(name: &str, trial: &mut Trial, same: &mut u32) -> Option<()> {
+    match name {
+        "read_back" => try_unfolded(trial, same),
+        "read_back_everywhere" => try_row_everywhere(trial, same),
+        "read_back_names" => try_names(trial, same),
+        "read_back_drawn" => try_drawn(trial, same),
+        _ => None,
     }
-    trials.put(&mut trial.given);
+}
+
+/// Gives how many terms of a row read back where all do, else the texts of those that don't. The table's name says which terms
+/// they are: the row's, that and it in each place of each function, those of all short names, or those that are drawn.
+pub fn put_read_back(name: &str, trial: &mut Trial) -> Option<()> {
+    let mut same = 0u32;
+    trial.change()?;
+    try_row(name, trial, &mut same)?;
+    if trial.given.bytes().is_empty() {
+        trial.given.put_shown(&same);
+        trial.given.put(" read back");
+    }
     Some(())
 }

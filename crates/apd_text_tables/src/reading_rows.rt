@@ -22,9 +22,9 @@ const COMPARED: [&str; 2] = ["standard", "other"];
 const SHOWN_BYTES: usize = 12;
 
 /// Whether two readings give the same term or the same fault.
-fn same_reading(read: Result<Read, ReadFault>, plain: Result<Flat, ReadFault>) -> bool {
+fn same_reading(read: &Result<Read, ReadFault>, plain: &Result<Flat, ReadFault>) -> bool {
     match (read, plain) {
-        (Ok(read), Ok(plain)) => read.term.same(&plain),
+        (Ok(read), Ok(plain)) => read.term.same(plain),
         (Err(fault), Err(plain)) => fault == plain,
         _ => false,
     }
@@ -44,7 +44,12 @@ fn clauses_alike(alloc: Global, scene: &mut Scene, text: &[u8], tokens: &Tokens)
         return false;
     }
     let read = read_clause(alloc, ops, names, text, tokens, 0);
-    same_reading(read, plain_read(alloc, ops, names, text, tokens))
+    let plain = plain_read(alloc, ops, names, text, tokens);
+    let same = same_reading(&read, &plain);
+    // Dropped by calls, here and below: else each part is a step to check.
+    drop(plain);
+    drop(read);
+    same
 }
 
 /// Whether the two readings of a text give the same term or the same fault. A text without tokens or
@@ -54,7 +59,11 @@ fn reads_alike(alloc: Global, scene: &mut Scene, text: &[u8]) -> bool {
         return false;
     }
     match tokens(alloc, text) {
-        Ok(tokens) => clauses_alike(alloc, scene, text, &tokens),
+        Ok(tokens) => {
+            let alike = clauses_alike(alloc, scene, text, &tokens);
+            drop(tokens);
+            alike
+        }
         Err(_) => true,
     }
 }
@@ -62,8 +71,12 @@ fn reads_alike(alloc: Global, scene: &mut Scene, text: &[u8]) -> bool {
 /// Whether a text is read alike by these operators.
 fn reads_alike_by(alloc: Global, operators: &str, text: &[u8]) -> Option<bool> {
     let mut scene = Scene::new(alloc).ok()?;
-    scene.change(operators)?;
-    Some(reads_alike(alloc, &mut scene, text))
+    let alike = match scene.change(operators) {
+        Some(()) => Some(reads_alike(alloc, &mut scene, text)),
+        None => None,
+    };
+    drop(scene);
+    alike
 }
 
 /// Gives the first clause of the row's text in functional notation, or its fault. The plain reader has to read the text alike,
@@ -76,7 +89,10 @@ pub fn put_reading(trial: &mut Trial) -> Option<()> {
     }
     trial.change()?;
     match trial.scene.first(trial.alloc, trial.row.bytes(1)) {
-        Ok(first) => put_functional(&mut trial.given, &trial.scene.names, &first.read.term),
+        Ok(first) => {
+            put_functional(&mut trial.given, &trial.scene.names, &first.read.term);
+            drop(first);
+        }
         Err(unread) => unread.put(&mut trial.given),
     }
     Some(())
@@ -106,8 +122,13 @@ fn put_front(given: &mut Builder, scene: &Scene, first: &First) {
 pub fn put_nested(trial: &mut Trial) -> Option<()> {
     trial.change()?;
     let text = nested_text(trial);
-    match trial.scene.first(trial.alloc, text.bytes()) {
-        Ok(first) => put_front(&mut trial.given, &trial.scene, &first),
+    let first = trial.scene.first(trial.alloc, text.bytes());
+    drop(text);
+    match first {
+        Ok(first) => {
+            put_front(&mut trial.given, &trial.scene, &first);
+            drop(first);
+        }
         Err(unread) => unread.put(&mut trial.given),
     }
     Some(())
@@ -118,16 +139,18 @@ pub fn put_nested_alike(trial: &mut Trial) -> Option<()> {
     trial.change()?;
     let text = nested_text(trial);
     let alike = reads_alike(trial.alloc, &mut trial.scene, text.bytes());
+    drop(text);
     trial.given.put(if alike { "alike" } else { "other" });
     Some(())
 }
 
 /// Whether the plain reader reads a text alike; where it doesn't, the text is given.
-fn is_alike(trial: &mut Trial, text: &Builder) -> bool {
+fn is_alike(trial: &mut Trial, text: Builder) -> bool {
     let alike = reads_alike(trial.alloc, &mut trial.scene, text.bytes());
     if !alike {
         trial.given.put_bytes(text.bytes());
     }
+    drop(text);
     alike
 }
 
@@ -135,8 +158,11 @@ fn is_alike(trial: &mut Trial, text: &Builder) -> bool {
 fn drawn_alike(trial: &mut Trial, seed: u32) -> bool {
     let mut draw = Draw::new(u64::from(seed));
     let text = draw.text(trial.alloc);
+    if !is_alike(trial, text) {
+        return false;
+    }
     let item = draw.item(trial.alloc);
-    is_alike(trial, &text) && is_alike(trial, &item)
+    is_alike(trial, item)
 }
 
 /// Gives how many of the texts and items that are drawn, one from each seed, the plain reader reads alike; or the first that it

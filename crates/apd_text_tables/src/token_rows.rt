@@ -53,11 +53,15 @@ fn put_token(given: &mut Builder, token: &Token) {
 
 /// Whether the plain program divides the text alike.
 fn divides_alike(alloc: Global, text: &[u8], divided: &Result<Tokens, TokenFault>) -> bool {
-    match (divided, plain_tokens(alloc, text)) {
+    let plain = plain_tokens(alloc, text);
+    let alike = match (divided, &plain) {
         (Ok(tokens), Ok(plain)) => tokens.as_slice() == plain.as_slice(),
-        (Err(fault), Err(plain)) => *fault == plain,
+        (Err(fault), Err(plain)) => fault == plain,
         _ => false,
-    }
+    };
+    // Dropped by calls, here and below: else each part is a step to check.
+    drop(plain);
+    alike
 }
 
 fn put_division(given: &mut Builder, divided: &Result<Tokens, TokenFault>) {
@@ -82,6 +86,7 @@ pub fn put_tokens(trial: &mut Trial) -> Option<()> {
         trial.given.put("other than the plain program: ");
     }
     put_division(&mut trial.given, &divided);
+    drop(divided);
     Some(())
 }
 
@@ -112,7 +117,11 @@ pub fn put_first_content(trial: &mut Trial) -> Option<()> {
         trial.given.put("other than the plain program: ");
     }
     match divided {
-        Ok(tokens) => put_content(&mut trial.given, text, &tokens),
+        Ok(tokens) => {
+            let put = put_content(&mut trial.given, text, &tokens);
+            drop(tokens);
+            put
+        }
         Err(_) => None,
     }
 }

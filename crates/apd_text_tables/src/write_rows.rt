@@ -2,7 +2,7 @@
 
 use crate::spelled::{spelled, symbols_of};
 use apd_base::Text;
-use apd_rows::{Builder, Trial};
+use apd_rows::{Builder, Scene, Trial};
 use apd_term::Flat;
 use apd_write::{write_name, write_term};
 
@@ -20,17 +20,14 @@ fn put_appended(given: &mut Builder, text: &Text) {
 /// Gives the text of a term for a place of a priority.
 fn put_written(trial: &mut Trial, term: &Flat, max: u16) -> Option<()> {
     let mut text = Text::copy_of(trial.alloc, BEFORE).ok()?;
-    write_term(
-        trial.alloc,
-        &trial.scene.ops,
-        &trial.scene.names,
-        term,
-        max,
-        &mut text,
-    )
-    .ok()?;
-    put_appended(&mut trial.given, &text);
-    Some(())
+    let Scene { names, ops } = &*trial.scene;
+    let written = write_term(trial.alloc, ops, names, term, max, &mut text);
+    if written.is_ok() {
+        put_appended(&mut trial.given, &text);
+    }
+    // Dropped by calls, here and below: else each part is a step to check.
+    drop(text);
+    written.ok()
 }
 
 /// The term that the fields of a row spell, from a place on.
@@ -44,7 +41,9 @@ pub fn put_text(trial: &mut Trial) -> Option<()> {
     trial.change()?;
     let max = u16::try_from(trial.row.number(1)).unwrap_or(0);
     let term = spelled_at(trial, 2)?;
-    put_written(trial, &term, max)
+    let put = put_written(trial, &term, max);
+    drop(term);
+    put
 }
 
 /// Gives the text of the row's name by itself.

@@ -1,19 +1,14 @@
 use Rattle.std.proofs.Common.{refl}
-use Rattle.std.proofs.lemmas.Result.{err_from_is_err_and}
 use Rattle.apd_text.specs.declared.entry.Entry.TheVariants.{Symptom}
 use Rattle.apd_talk.specs.Speech.{one}
 use Rattle.apd_talk.proofs.Speaking.{Says-none, Says-with}
 use Rattle.apd_session.proofs.diagnosing.keep_symptom.Goals as goal
 
-pub returns-in_err-reserve-clause-says : goal.returns-in_err-reserve-clause-says
-returns-in_err-reserve-clause-says g c =
-    let p = err_from_is_err_and c.from_residual.result c.from_residual.ensures.1 in
-    rw (p.1, p.2, c.reserve.ensures.stays) (Says-none (one (Symptom c.args.what)) _ _ c.reserve.ensures.same refl refl refl refl refl)
+pub returns-in-Err-clause-says : goal.returns-in-Err-clause-says
+returns-in-Err-clause-says g c = rw c.reserve.ensures.stays (Says-none (one (Symptom c.args.what)) _ _ c.reserve.ensures.same refl refl refl refl refl)
 
-pub returns-in_err-keep_told-clause-says : goal.returns-in_err-keep_told-clause-says
-returns-in_err-keep_told-clause-says g c =
-    let p = err_from_is_err_and c.from_residual-in_err-keep_told.result c.from_residual-in_err-keep_told.ensures.1 in
-    rw (p.1, p.2, c.reserve.ensures.stays) (Says-none (one (Symptom c.args.what)) _ _ c.reserve.ensures.same refl refl refl refl refl)
+pub returns-in-Err-keep_told-clause-says : goal.returns-in-Err-keep_told-clause-says
+returns-in-Err-keep_told-clause-says g c = rw c.reserve.ensures.stays (Says-none (one (Symptom c.args.what)) _ _ c.reserve.ensures.same refl refl refl refl refl)
 
 pub returns-clause-says : goal.returns-clause-says
 returns-clause-says g c =

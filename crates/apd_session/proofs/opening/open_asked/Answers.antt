@@ -10,35 +10,35 @@ use Rattle.apd_session.specs.Roles.{file_of_subject}
 use Rattle.apd_session.proofs.FilesInTurn.{loads_first, loads_then}
 use Rattle.apd_session.proofs.opening.open_asked.Goals as goal
 
-pub returns-in-Ok-clause-opens : goal.returns-in-Ok-clause-opens
-returns-in-Ok-clause-opens g c =
-    let has : HasSubject (g.F.Files.content c.args.files.now) (Rose (g.F.Files.faults c.args.files.now) (g.F.Files.faults c.subject_text.new.files)) (asked_subject c.args.asked.subject) (Ok c.in-Ok.text) =
-    rw c.in-Ok.is at c.in_ok-text.ensures.has in
-    opens_text _ _ _ _ _ (asked_options c.args.asked) c.in-Ok.text c.open_text.new.names c.open_text.result has c.in_ok-text.ensures.same (rose_more _ _ _ (rw c.in-Ok.is at c.in_ok-text.ensures.faults)) c.open_text.ensures.opens
+pub returns-in-Ok-Ok-clause-opens : goal.returns-in-Ok-Ok-clause-opens
+returns-in-Ok-Ok-clause-opens g c =
+    let has : HasSubject (g.F.Files.content c.args.files.now) (Rose (g.F.Files.faults c.args.files.now) (g.F.Files.faults c.subject_text.new.files)) (asked_subject c.args.asked.subject) (Ok c.in-Ok-Ok.text) =
+    rw c.in-Ok-Ok.field-0-is at c.in-Ok-Ok.ensures.has in
+    opens_text _ _ _ _ _ (asked_options c.args.asked) c.in-Ok-Ok.text c.open_text.new.names c.open_text.result has c.in-Ok-Ok.ensures.same (rose_more _ _ _ (rw c.in-Ok-Ok.field-0-is at c.in-Ok-Ok.ensures.faults)) c.open_text.ensures.opens
 
-pub returns-in-Ok-clause-faults : goal.returns-in-Ok-clause-faults
-returns-in-Ok-clause-faults g c = counts_more stops_with c.open_text.result _ _ _ (rw c.in-Ok.is at c.in_ok-text.ensures.faults) c.open_text.ensures.faults
+pub returns-in-Ok-Ok-clause-faults : goal.returns-in-Ok-Ok-clause-faults
+returns-in-Ok-Ok-clause-faults g c = counts_more stops_with c.open_text.result _ _ _ (rw c.in-Ok-Ok.field-0-is at c.in-Ok-Ok.ensures.faults) c.open_text.ensures.faults
 
-pub returns-in-Err-clause-faults : goal.returns-in-Err-clause-faults
-returns-in-Err-clause-faults g c = rw c.in-Err.is at c.in_ok-text.ensures.faults
+pub returns-in-Ok-Err-clause-faults : goal.returns-in-Ok-Err-clause-faults
+returns-in-Ok-Err-clause-faults g c = rw c.in-Ok-Err.field-0-is at c.in-Ok-Err.ensures.faults
 
-pub returns-in-Err-clause-opens : goal.returns-in-Err-clause-opens
-returns-in-Err-clause-opens g c =
-    let has : HasSubject (g.F.Files.content c.args.files.now) (Rose (g.F.Files.faults c.args.files.now) (g.F.Files.faults c.subject_text.new.files)) (asked_subject c.args.asked.subject) (Err c.in-Err.stop) =
-    rw c.in-Err.is at c.in_ok-text.ensures.has in
-    opens_not _ _ (asked_options c.args.asked) c.args.names.now c.in-Err.stop has
+pub returns-in-Ok-Err-clause-opens : goal.returns-in-Ok-Err-clause-opens
+returns-in-Ok-Err-clause-opens g c =
+    let has : HasSubject (g.F.Files.content c.args.files.now) (Rose (g.F.Files.faults c.args.files.now) (g.F.Files.faults c.subject_text.new.files)) (asked_subject c.args.asked.subject) (Err c.in-Ok-Err.stop) =
+    rw c.in-Ok-Err.field-0-is at c.in-Ok-Err.ensures.has in
+    opens_not _ _ (asked_options c.args.asked) c.args.names.now c.in-Ok-Err.stop has
 
-pub returns-in-Err-clause-ready : goal.returns-in-Err-clause-ready
-returns-in-Err-clause-ready g c =
-    let stop : (n : ℕ) → IsStop n c.in-Err.stop = rw c.in-Err.is at c.in_ok-text.ensures.stop in
+pub returns-in-Ok-Err-clause-ready : goal.returns-in-Ok-Err-clause-ready
+returns-in-Ok-Err-clause-ready g c =
+    let stop : (n : ℕ) → IsStop n c.in-Ok-Err.stop = rw c.in-Ok-Err.field-0-is at c.in-Ok-Err.ensures.stop in
     stop (length c.args.names.now)
 
-pub returns-in-Ok-clause-loads : goal.returns-in-Ok-clause-loads
-returns-in-Ok-clause-loads g c =
+pub returns-in-Ok-Ok-clause-loads : goal.returns-in-Ok-Ok-clause-loads
+returns-in-Ok-Ok-clause-loads g c =
     let o = asked_options c.args.asked in
     loads_then g.F.Files.step (named (file_of_subject o.subject)) (further_files o) c.args.files.now c.subject_text.new.files c.open_text.new.files c.subject_text.ensures.loads c.open_text.ensures.loads
 
-pub returns-in-Err-clause-loads : goal.returns-in-Err-clause-loads
-returns-in-Err-clause-loads g c =
+pub returns-in-Ok-Err-clause-loads : goal.returns-in-Ok-Err-clause-loads
+returns-in-Ok-Err-clause-loads g c =
     let o = asked_options c.args.asked in
     loads_first g.F.Files.step (named (file_of_subject o.subject)) (further_files o) c.args.files.now c.subject_text.new.files c.subject_text.ensures.loads

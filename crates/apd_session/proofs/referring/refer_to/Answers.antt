@@ -6,7 +6,7 @@ use Rattle.apd_session.proofs.referring.refer_to.Goals as goal
 
 pub returns-then-clauses-ge-MOST_CLAUSES : goal.returns-then-clauses-ge-MOST_CLAUSES
 returns-then-clauses-ge-MOST_CLAUSES c =
-    c.refuse.ensures ∙ ap (λ (n : ℕ). refused_reference n ClausesOver) c.last_line.ensures
+    c.refuse.ensures ∙ ap (λ (n : ℕ). refused_reference n ClausesOver) c.last_line-line.ensures
     ∙ refers_over c.args.budget c.args.loaded.program c.args.loaded.ops c.args.loaded.passed (omega (arith, c.count-clauses.ensures.count))
 
 pub returns : goal.returns

@@ -10,6 +10,7 @@ import argparse
 import os
 import random
 import resource
+import string
 import subprocess
 import sys
 import tempfile
@@ -27,6 +28,8 @@ COUNT = "n(X) :- Y is X + 1, n(Y).\n"
 BOX = ":- op(200, fy, box).\n" + SAME
 BOX_CALLED = ":- op(200, fy, box).\n:- op(300, xfy, called).\n" + SAME
 MANY = "".join(f"p({n}, X) :- q(X).\n" for n in range(20000))
+
+SIGNS = string.ascii_letters + string.digits
 
 WRONG = "bug: wrong instance of clause 1, line 1: "
 CALL = "bug: call not below its caller: clause 1, line 1, goal 1: "
@@ -191,6 +194,11 @@ class Logs:
         """Strings of so many letters that are drawn."""
         return lambda n: "".join(self.draw.choices("abcdefghijklmnopqrstuvwxyz", k=length))
 
+    def turned(self, length):
+        """Strings of so many signs, of which any sixty in turn differ at each place."""
+        drawn = self.draw.choices(range(len(SIGNS)), k=length)
+        return lambda n: "".join(SIGNS[(place + n) % len(SIGNS)] for place in drawn)
+
     def huge(self):
         """Denials that are large, and findings of them."""
         front = "symptom: not true: "
@@ -214,6 +222,9 @@ class Logs:
                 yield title, "q(X,Y).\n", self.filled(plain + last, WRONG + "q(_1,f(_2))\n")
                 below = self.filled("", lambda n: front + f'q(q{n}("{text(n)}"),{n})\n', share)
                 yield f"{title}, each below another name", "q(X,Y).\n", self.filled(below + last, WRONG + "q(_1,f(_2))\n")
+                turned = self.turned(length)
+                sixty = self.filled("", lambda n: front + f'q(q{n // 60}("{turned(n)}"),{n})\n', share)
+                yield f"{title}, sixty below a name", "q(X,Y).\n", self.filled(sixty + last, WRONG + "q(_1,f(_2))\n")
         text = self.strings(2000)
         denied = self.filled("", lambda n: front + f'q("{text(n)}",a)\n', 0.99) + front + "q(b,b)\n"
         yield "denials of 2000 letters, and a finding in which a variable stands twice", "q(X,Y).\n", denied + WRONG + "q(_1,_1)\n"

@@ -61,7 +61,7 @@ pub(crate) fn judge_finding(
     Ok(None)
 }
 
-/// At most so many calls of a chain are held at a time: so few that they stay near.
+/// At most so many calls of a chain are held at a time: so few that they stay in the processor's cache.
 const MOST_CALLS: usize = 8192;
 
 /// The call of a box in canonical form.

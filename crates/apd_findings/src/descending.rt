@@ -1,6 +1,6 @@
 //! Whether each call of a chain is below the one before by the replies.
 //!
-//! A chain may have a million calls of which few differ. So the places of pairs of calls that were looked up are kept by marks of
+//! A chain may have a million calls, of which few may differ. So the places of pairs of calls that were looked up are kept by marks of
 //! these pairs, and a pair that stands at such a place too isn't looked up again.
 
 ghost use Rattle.std.specs.Prelude.{◌≡◌, ◌↔◌, ◌<◌, ◌+◌, IsTrue, IfOk, length};

@@ -6,7 +6,7 @@ use Rattle.std.proofs.lemmas.Bool.{eqb-true}
 use Rattle.std.proofs.lemmas.Bool.Decides.{eqb_tells}
 use Rattle.std.proofs.lemmas.List.{get_or-set_other, get_or-set_same}
 use Rattle.std.proofs.lemmas.Nat.Bits.{bit_at-lt, bit_at-zero, bit_at_and, bit_at_clear_other, bit_at_set_other, bit_at_set_same, bit_at_xor}
-use Rattle.apd_bits.specs.Rows.{HasBit, IsClear, IsClearNear, IsWithin, IsWithinBut}
+use Rattle.apd_bits.specs.Rows.{HasBit, HasNoBits, IsClearNear, IsWithin, IsWithinBut}
 
 -- A bit of a word.
 
@@ -136,8 +136,11 @@ past-end [] (suc j) l = refl
 past-end (w ∷ words) zero l = absurd (omega (arith, l))
 past-end (w ∷ words) (suc j) l = past-end words j (omega (arith, l))
 
-pub all-clear : (words : List ℕ) (i : ℕ) → length words ≤ i → AreZeros words i → IsClear words
-all-clear words i l zeros k = ap (λ (word : ℕ). bit_at word (k % 64) == 1) nothing ∙ ap (λ (bit : ℕ). bit == 1) (bit_at-zero (k % 64))
+pub all-clear : (words : List ℕ) (i : ℕ) → length words ≤ i → AreZeros words i → HasNoBits words
+all-clear words i l zeros k h =
+    let e = eqb-true (bit_at (get_or words (k / 64) 0) (k % 64)) 1 h in
+    let z = ap (λ (word : ℕ). bit_at word (k % 64)) nothing ∙ bit_at-zero (k % 64) in
+    omega (arith, e, z)
   where
     nothing : get_or words (k / 64) 0 ≡ 0
     nothing = elim (within-or-past (k / 64) (length words)) [ inl w ↦ zeros (k / 64) (omega (arith, w, l)) | inr p ↦ past-end words (k / 64) p ]

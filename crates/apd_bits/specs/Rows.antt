@@ -15,8 +15,8 @@ abbrev pub HasBits : List ℕ → List ℕ → Type 0
 HasBits row places = (k : ℕ) → IsAmong places k → HasBit row k
 
 -- the row has no bits
-abbrev pub IsClear : List ℕ → Type 0
-IsClear row = (k : ℕ) → has_bit row k ≡ false
+abbrev pub HasNoBits : List ℕ → Type 0
+HasNoBits row = (k : ℕ) → ¬ HasBit row k
 
 -- no place that shares a word with this one has its bit
 abbrev pub IsClearNear : List ℕ → ℕ → Type 0
@@ -33,6 +33,3 @@ IsWithinBut row other place = (k : ℕ) → HasBit row k → HasBit other k ⊎ 
 -- each bit of the one the other has, or the third
 abbrev pub IsWithinEither : List ℕ → List ℕ → List ℕ → Type 0
 IsWithinEither row one other = (k : ℕ) → HasBit row k → HasBit one k ⊎ HasBit other k
-
-abbrev pub HasNoBits : List ℕ → Type 0
-HasNoBits row = (k : ℕ) → ¬ HasBit row k

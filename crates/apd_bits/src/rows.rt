@@ -1,7 +1,7 @@
 //! Rows of bits, a bit for each place.
 
 ghost use Rattle.std.specs.Prelude.{◌≡◌, ◌≢◌, ◌≤◌, ℕ, length, get_or, IfOk, IsFalse, IsTrue, OnOk};
-ghost use Rattle.apd_bits.specs.Rows.{HasBit, HasBits, HasNoBits, IsClear, IsClearNear, IsWithin, IsWithinBut, IsWithinEither, has_bit};
+ghost use Rattle.apd_bits.specs.Rows.{HasBit, HasBits, HasNoBits, IsClearNear, IsWithin, IsWithinBut, IsWithinEither, has_bit};
 
 use std::alloc::{AllocError, Global};
 use std::marker::Model;
@@ -45,7 +45,7 @@ fn clear(words: &mut Vec<u64>, place: usize)
 
 /// Whether no bit is set.
 fn is_clear(words: &[u64]) -> bool
-    ensures { IsTrue result → IsClear words.now }
+    ensures { IsTrue result → HasNoBits words.now }
 {
     'words: for word in words {
         if *word != 0 {
@@ -173,7 +173,7 @@ impl Row {
 
     /// Whether no bit is set.
     pub fn is_clear(&self) -> bool
-        ensures { IsTrue result → IsClear self.now }
+        ensures { IsTrue result → HasNoBits self.now }
     {
         is_clear(self.words.as_slice())
     }

@@ -14,7 +14,7 @@ use Rattle.apd_term.specs.Canonical.{shifted}
 use Rattle.apd_term.proofs.Among.{IsAmong-left, IsAmong-right, IsAmong-append}
 use Rattle.apd_term.proofs.Applying.{apply-same, apply-variable}
 use Rattle.apd_term.proofs.Spelling.{spell-apply, flat_map-variables}
-use Rattle.apd_cells.specs.Slots.{slot_at, cell_of, IsSet, HasRoom, HasSet, IsSingle, IsOwn, IsSlot, AreSlots, IsNewer, AreNewer, put_symbol, single_term, put_for, Places, HasPlaced}
+use Rattle.apd_cells.specs.Slots.{slot_at, cell_of, IsSet, HasRoom, HasSet, IsSingle, IsOwn, IsSlot, AreSlots, GetsOwn, EachGetsOwn, put_symbol, single_term, put_for, Places, HasPlaced}
 use Rattle.apd_cells.specs.Store.{above}
 use Rattle.apd_cells.specs.declared.slots.Slot.{Slot}
 use Rattle.apd_cells.specs.declared.slots.Slot.TheVariants.{New, Own, Given}
@@ -71,31 +71,31 @@ single_of cells n owner v (Given c) h s = h
 pub single_at : (cells : List Sym) (n : ℕ) (slots : List Slot) (v : ℕ) → AreSlots cells n slots → IsSet (slot_at slots v) → IsSingle cells (cell_of (slot_at slots v))
 single_at cells n slots v h s = single_of cells n h.owner v (slot_at slots v) (h.each v) s
 
-newer_same : (n : ℕ) (cells : List Sym) (x : Slot) → IsNewer n cells x x
+newer_same : (n : ℕ) (cells : List Sym) (x : Slot) → GetsOwn n cells x x
 newer_same n cells New = tt
 newer_same n cells (Own c) = refl
 newer_same n cells (Given c) = refl
 
-pub newer_self : (n : ℕ) (cells : List Sym) (slots : List Slot) → AreNewer n cells slots slots
+pub newer_self : (n : ℕ) (cells : List Sym) (slots : List Slot) → EachGetsOwn n cells slots slots
 newer_self n cells slots = λ v. newer_same n cells (slot_at slots v)
 
-stays : (n : ℕ) (cells : List Sym) (x y : Slot) → IsNewer n cells x y → IsSet x → y ≡ x
+stays : (n : ℕ) (cells : List Sym) (x y : Slot) → GetsOwn n cells x y → IsSet x → y ≡ x
 stays n cells New y h s = absurd s
 stays n cells (Own c) y h s = h
 stays n cells (Given c) y h s = h
 
-newer_then : (cells more : List Sym) (n m k : ℕ) (owner : ℕ → ℕ) (v : ℕ) (a b c : Slot) → n ≤ m → IsSlot cells k owner v b → IsNewer n cells a b → IsNewer m (cells ++ more) b c
-    → IsNewer n (cells ++ more) a c
+newer_then : (cells more : List Sym) (n m k : ℕ) (owner : ℕ → ℕ) (v : ℕ) (a b c : Slot) → n ≤ m → IsSlot cells k owner v b → GetsOwn n cells a b → GetsOwn m (cells ++ more) b c
+    → GetsOwn n (cells ++ more) a c
 newer_then cells more n m k owner v New New New l s h j = tt
 newer_then cells more n m k owner v New New (Own d) l s h j = λ q e. (let r = j q e in omega arith)
 newer_then cells more n m k owner v New New (Given d) l s h j = absurd j
 newer_then cells more n m k owner v New (Own d) c l s h j =
-    subst (IsNewer n (cells ++ more) New) (sym j) (λ q e. h q (sym (get_or_append_left cells more (Var 0) d s.0.inside) ∙ e))
+    subst (GetsOwn n (cells ++ more) New) (sym j) (λ q e. h q (sym (get_or_append_left cells more (Var 0) d s.0.inside) ∙ e))
 newer_then cells more n m k owner v New (Given d) c l s h j = absurd h
 newer_then cells more n m k owner v (Own d) b c l s h j = stays m (cells ++ more) b c j (subst IsSet (sym h) tt) ∙ h
 newer_then cells more n m k owner v (Given d) b c l s h j = stays m (cells ++ more) b c j (subst IsSet (sym h) tt) ∙ h
 
-pub newer_trans : (cells more : List Sym) (n m k : ℕ) (a b c : List Slot) → n ≤ m → AreSlots cells k b → AreNewer n cells a b → AreNewer m (cells ++ more) b c → AreNewer n (cells ++ more) a c
+pub newer_trans : (cells more : List Sym) (n m k : ℕ) (a b c : List Slot) → n ≤ m → AreSlots cells k b → EachGetsOwn n cells a b → EachGetsOwn m (cells ++ more) b c → EachGetsOwn n (cells ++ more) a c
 newer_trans cells more n m k a b c l s h j =
     λ v. newer_then cells more n m k s.owner v (slot_at a v) (slot_at b v) (slot_at c v) l (s.each v) (h v) (j v)
 
@@ -171,8 +171,8 @@ new_slots cells n slots new v h k = record {
       record { number = n; is = there; below = above-gt n (n ∷ []) n (inl refl); owned = owner_same h.owner n v n refl ∙ e },
     )
 
-newer_set : (n : ℕ) (cells : List Sym) (a b : Slot) (x y : Slot) → a ≡ x → b ≡ y → IsNewer n cells x y → IsNewer n cells a b
-newer_set n cells a b x y e f h = subst (λ z. IsNewer n cells z b) (sym e) (subst (IsNewer n cells x) (sym f) h)
+newer_set : (n : ℕ) (cells : List Sym) (a b : Slot) (x y : Slot) → a ≡ x → b ≡ y → GetsOwn n cells x y → GetsOwn n cells a b
+newer_set n cells a b x y e f h = subst (λ z. GetsOwn n cells z b) (sym e) (subst (GetsOwn n cells x) (sym f) h)
 
 pub place_new : (cells : List Sym) (n : ℕ) (slots new : List Slot) (v : ℕ) → AreSlots cells n slots → slot_at slots v ≡ New → HasSet slots new v (Own (length cells)) → Places cells n slots new (Var v) (Var n)
 place_new cells n slots new v h e k = record {
@@ -194,7 +194,7 @@ pub record Placing (cells cells' : List Sym) (n n' : ℕ) (old new : List Slot) 
   pub put : cells' ≡ cells ++ map (put_symbol cells' new) xs
   pub count : n' ≡ above n (flat_map variable_in (map (put_symbol cells' new) xs))
   pub slots : AreSlots cells' n' new
-  pub newer : AreNewer n cells' old new
+  pub newer : EachGetsOwn n cells' old new
   pub set : (v : ℕ) → IsAmong (flat_map variable_in xs) v → IsSet (slot_at new v)
 
 pub placing_first : (cells cells' : List Sym) (n : ℕ) (slots : List Slot) → AreSlots cells n slots → cells' ≡ cells → Placing cells cells' n n slots slots []
@@ -206,7 +206,7 @@ placing_first cells cells' n slots h e = rw e (record {
   set = λ v m. absurd m;
 })
 
-same_put : (cells : List Sym) (y : Sym) (n : ℕ) (old new : List Slot) (k m : ℕ) (x : Sym) → AreSlots cells k old → AreNewer m (cells ++ y ∷ []) old new
+same_put : (cells : List Sym) (y : Sym) (n : ℕ) (old new : List Slot) (k m : ℕ) (x : Sym) → AreSlots cells k old → EachGetsOwn m (cells ++ y ∷ []) old new
     → ((v : ℕ) → IsAmong (variable_in x) v → IsSet (slot_at old v)) → put_symbol (cells ++ y ∷ []) new x ≡ put_symbol cells old x
 same_put cells y n old new k m (Var v) h l s =
     let set = s v (inl refl) in
@@ -215,7 +215,7 @@ same_put cells y n old new k m (Var v) h l s =
 same_put cells y n old new k m (Int i) h l s = refl
 same_put cells y n old new k m (Fun f j) h l s = refl
 
-same_puts : (cells : List Sym) (y : Sym) (n : ℕ) (old new : List Slot) (k m : ℕ) (xs : List Sym) → AreSlots cells k old → AreNewer m (cells ++ y ∷ []) old new
+same_puts : (cells : List Sym) (y : Sym) (n : ℕ) (old new : List Slot) (k m : ℕ) (xs : List Sym) → AreSlots cells k old → EachGetsOwn m (cells ++ y ∷ []) old new
     → ((v : ℕ) → IsAmong (flat_map variable_in xs) v → IsSet (slot_at old v)) → map (put_symbol (cells ++ y ∷ []) new) xs ≡ map (put_symbol cells old) xs
 same_puts cells y n old new k m [] h l s = refl
 same_puts cells y n old new k m (x ∷ xs) h l s =
@@ -229,7 +229,7 @@ variable_of_one (Var w) v (inr b) = absurd b
 variable_of_one (Int i) v m = absurd m
 variable_of_one (Fun f n) v m = absurd m
 
-set_stays : (n : ℕ) (cells : List Sym) (old new : List Slot) (v : ℕ) → AreNewer n cells old new → IsSet (slot_at old v) → IsSet (slot_at new v)
+set_stays : (n : ℕ) (cells : List Sym) (old new : List Slot) (v : ℕ) → EachGetsOwn n cells old new → IsSet (slot_at old v) → IsSet (slot_at new v)
 set_stays n cells old new v l s = subst IsSet (sym (stays n cells (slot_at old v) (slot_at new v) (l v) s)) s
 
 -- one more symbol

@@ -1,5 +1,5 @@
--- What stands for the variables of a clause while it is entered: for each nothing yet, a variable of its own, or a term
--- that was there.
+-- What stands for the variables of a clause while it is entered: for each nothing yet, a variable of its own, or the term
+-- at a cell where one symbol is written.
 use Rattle.std.specs.Prelude.{◌≡◌, ◌≢◌, ℕ, ◌<◌, ◌≤◌, List, [], ◌∷◌, ◌++◌, length, get_or}
 use Rattle.apd_term.specs.declared.term.Sym.{Sym}
 use Rattle.apd_term.specs.declared.term.Sym.TheVariants.{Var, Int, Fun}
@@ -59,26 +59,26 @@ pub record AreSlots (cells : List Sym) (n : ℕ) (slots : List Slot) : Type 0 wh
 
 -- what stands for a variable goes on to stand for it, and one for which nothing stood may have a variable of its own that
 -- isn't one of the first n
-abbrev pub IsNewer : ℕ → List Sym → Slot → Slot → Type 0
-IsNewer n cells New New = Unit {0}
-IsNewer n cells New (Own c) = (m : ℕ) → get_or cells c (Var 0) ≡ Var m → n ≤ m
-IsNewer n cells New (Given c) = ⊥
-IsNewer n cells (Own c) x = x ≡ Own c
-IsNewer n cells (Given c) x = x ≡ Given c
+abbrev pub GetsOwn : ℕ → List Sym → Slot → Slot → Type 0
+GetsOwn n cells New New = Unit {0}
+GetsOwn n cells New (Own c) = (m : ℕ) → get_or cells c (Var 0) ≡ Var m → n ≤ m
+GetsOwn n cells New (Given c) = ⊥
+GetsOwn n cells (Own c) x = x ≡ Own c
+GetsOwn n cells (Given c) x = x ≡ Given c
 
-abbrev pub AreNewer : ℕ → List Sym → List Slot → List Slot → Type 0
-AreNewer n cells old new = (v : ℕ) → IsNewer n cells (slot_at old v) (slot_at new v)
+abbrev pub EachGetsOwn : ℕ → List Sym → List Slot → List Slot → Type 0
+EachGetsOwn n cells old new = (v : ℕ) → GetsOwn n cells (slot_at old v) (slot_at new v)
 
--- the same, or a term may stand for it that was there
-abbrev pub IsLater : ℕ → List Sym → Slot → Slot → Type 0
-IsLater n cells New New = Unit {0}
-IsLater n cells New (Own c) = (m : ℕ) → get_or cells c (Var 0) ≡ Var m → n ≤ m
-IsLater n cells New (Given c) = Unit {0}
-IsLater n cells (Own c) x = x ≡ Own c
-IsLater n cells (Given c) x = x ≡ Given c
+-- the same, or the term at a cell may stand for it
+abbrev pub GetsAny : ℕ → List Sym → Slot → Slot → Type 0
+GetsAny n cells New New = Unit {0}
+GetsAny n cells New (Own c) = (m : ℕ) → get_or cells c (Var 0) ≡ Var m → n ≤ m
+GetsAny n cells New (Given c) = Unit {0}
+GetsAny n cells (Own c) x = x ≡ Own c
+GetsAny n cells (Given c) x = x ≡ Given c
 
-abbrev pub AreLater : ℕ → List Sym → List Slot → List Slot → Type 0
-AreLater n cells old new = (v : ℕ) → IsLater n cells (slot_at old v) (slot_at new v)
+abbrev pub EachGetsAny : ℕ → List Sym → List Slot → List Slot → Type 0
+EachGetsAny n cells old new = (v : ℕ) → GetsAny n cells (slot_at old v) (slot_at new v)
 
 -- the symbol that is put for one of the clause
 abbrev pub put_symbol : List Sym → List Slot → Sym → Sym
@@ -99,7 +99,7 @@ put_for cells slots v = single_term (get_or cells (cell_of (slot_at slots v)) (V
 -- y is put behind the cells for x, where there are n variables
 pub record Places (cells : List Sym) (n : ℕ) (old new : List Slot) (x y : Sym) : Type 0 where
   pub slots : AreSlots (cells ++ y ∷ []) (above n (variable_in y)) new
-  pub newer : AreNewer n (cells ++ y ∷ []) old new
+  pub newer : EachGetsOwn n (cells ++ y ∷ []) old new
   pub put : y ≡ put_symbol (cells ++ y ∷ []) new x
   pub set : (v : ℕ) → x ≡ Var v → IsSet (slot_at new v)
 
@@ -108,14 +108,14 @@ pub record HasPlaced (cells cells' : List Sym) (n n' : ℕ) (old new : List Slot
   pub put : cells' ≡ cells ++ spell (shifted 0 (apply (put_for cells' new) t))
   pub count : n' ≡ above n (variables (shifted 0 (apply (put_for cells' new) t)))
   pub slots : AreSlots cells' n' new
-  pub newer : AreNewer n cells' old new
+  pub newer : EachGetsOwn n cells' old new
   pub set : (v : ℕ) → Occurs v t → IsSet (slot_at new v)
 
 -- a clause's term was loaded with what stands for its variables in their places
 pub record HasLoaded (s s' : Stored) (old new : List Slot) (t : Term) : Type 0 where
   pub is : s' ≡ loaded s (apply (put_for s'.cells new) t) 0
   pub slots : AreSlots s'.cells s'.variables new
-  pub newer : AreNewer s.variables s'.cells old new
+  pub newer : EachGetsOwn s.variables s'.cells old new
   pub set : (v : ℕ) → Occurs v t → IsSet (slot_at new v)
 
 -- what stands for a variable, which is variable n where nothing does

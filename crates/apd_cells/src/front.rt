@@ -9,6 +9,12 @@ pub struct Front {
     pub variables: usize,
 }
 
+/// A front of no cells.
+pub(crate) const NOTHING: Front = Front {
+    cells: 0,
+    variables: 0,
+};
+
 /// The greater of two numbers.
 pub(crate) fn greater(a: usize, b: usize) -> usize
     ensures { result ≡ max a b }

@@ -4,7 +4,6 @@ ghost use Rattle.std.specs.Prelude.{◌≡◌, ℕ, ◌+◌, ◌<◌, ◌≤◌,
 ghost use Rattle.std.specs.Bool.{OnTrue};
 ghost use Rattle.apd_term.specs.Term.{IsWhole, Occurs, size, spell, term_of};
 ghost use Rattle.apd_term.specs.declared.term.Sym.TheVariants.{Var};
-ghost use Rattle.apd_cells.specs.Flat.{compound_in};
 ghost use Rattle.apd_cells.specs.Known.{HasExtent};
 ghost use Rattle.apd_cells.specs.Heap.{IsVariable};
 ghost use Rattle.apd_cells.specs.Live.{store_of};
@@ -12,7 +11,7 @@ ghost use Rattle.apd_cells.specs.Slots.{AreSlots, HasLoaded};
 ghost use Rattle.apd_cells.specs.declared.heap.Binding.TheVariants.{Free, At};
 ghost use Rattle.apd_cells.specs.Store.{term_at, written, symbol_at, binding_of, MayBind, bound, loaded, before_note, at_mark, IsSound, IsEnd, IsTwin};
 
-use crate::front::{Front, above_term, greater, smaller};
+use crate::front::{Front, NOTHING, above_term, greater, smaller};
 use crate::kept::{KeptBinding, KeptNote};
 use crate::known::{
     Extent, Known, above_all, forget_above, forget_since, known_at, make_place, narrow,
@@ -20,7 +19,7 @@ use crate::known::{
 use crate::live::Live;
 use crate::slots::{Slot, append_for};
 use crate::stack::Stack;
-use crate::symbols::append;
+use crate::symbols::{append, compound_at};
 use apd_term::term::term_end;
 use apd_term::{Flat, Sym};
 use std::alloc::{AllocError, Global};
@@ -82,18 +81,6 @@ impl Model for Heap {
     ghost invariant = { λ h. IsHeap h.cells.items h.bindings.items h.trail × IsMarked h.cells.items h.trail h.touched h.front × (h.compounds ≡ compound_count h.cells.items h.trail) × AreShort h.cells.items h.trail h.longest × AreSized (record { cells = h.cells.items; variables = length h.bindings.items; trail = h.trail }) h.ground_terms h.open_terms };
 }
 
-/// 1 where the symbol at this place has arguments.
-fn compound_at(cells: &[Sym], at: usize) -> usize
-    requires { at < length cells.now }
-    ensures { result ≡ compound_in (get_or cells.now at (Var 0)) }
-{
-    match cells[at] {
-        Sym::Fun(_, 0) => 0,
-        Sym::Fun(..) => 1,
-        _ => 0,
-    }
-}
-
 impl Heap {
     /// No term.
     pub fn new(alloc: Global) -> Heap
@@ -104,10 +91,7 @@ impl Heap {
             bindings: Vec::new(alloc),
             trail: Stack::new(alloc),
             touched: 0,
-            front: Front {
-                cells: 0,
-                variables: 0,
-            },
+            front: NOTHING,
             compounds: 0,
             longest: 0,
             ground_terms: Stack::new(alloc),
@@ -393,10 +377,7 @@ impl Heap {
             Note::Loaded(cells, variables) => {
                 self.cells.truncate(cells);
                 self.bindings.truncate(variables);
-                self.front = Front {
-                    cells: 0,
-                    variables: 0,
-                };
+                self.front = NOTHING;
                 self.touched = smaller(self.touched, variables);
             }
             Note::Bound(v, to) => {

@@ -18,7 +18,7 @@ pub enum Slot {
     New,
     /// A variable of its own, which is written at a cell.
     Own(usize),
-    /// The term at a cell.
+    /// The term at a cell where one symbol is written.
     Given(usize),
 }
 

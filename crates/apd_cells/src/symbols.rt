@@ -1,10 +1,11 @@
-//! Symbols of terms that are put behind others.
+//! Symbols of terms that are put behind others, and whether a symbol has arguments.
 
-ghost use Rattle.std.specs.Prelude.{◌≡◌, ℕ, ◌+◌, ◌<◌, ◌^◌, ◌++◌, length, max, IfOk, OnOk, take};
+ghost use Rattle.std.specs.Prelude.{◌≡◌, ℕ, ◌+◌, ◌<◌, ◌^◌, ◌++◌, get_or, length, max, IfOk, OnOk, take};
 ghost use Rattle.apd_term.specs.Term.{Occurs, spell, variables};
 ghost use Rattle.apd_term.specs.Canonical.{shifted};
 ghost use Rattle.apd_term.specs.declared.term.Sym.TheVariants.{Var};
 ghost use Rattle.apd_term.specs.Spelling.{variable_in};
+ghost use Rattle.apd_cells.specs.Flat.{compound_in};
 ghost use Rattle.apd_cells.specs.Heap.{HasMore, raised};
 ghost use Rattle.apd_cells.specs.Store.{above};
 
@@ -23,6 +24,18 @@ pub(crate) fn make_room(bindings: &mut Vec<KeptBinding>, count: usize) -> Result
         bindings.push(KeptBinding::free())?;
     }
     Ok(())
+}
+
+/// 1 where the symbol at this place has arguments.
+pub(crate) fn compound_at(cells: &[Sym], at: usize) -> usize
+    requires { at < length cells.now }
+    ensures { result ≡ compound_in (get_or cells.now at (Var 0)) }
+{
+    match cells[at] {
+        Sym::Fun(_, 0) => 0,
+        Sym::Fun(..) => 1,
+        _ => 0,
+    }
 }
 
 /// The greatest number that a variable may have.

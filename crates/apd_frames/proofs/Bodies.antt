@@ -7,7 +7,7 @@ use Rattle.apd_term.specs.Tuple.{apply_tuple}
 use Rattle.apd_term.specs.declared.tuple.Tuple.{Tuple}
 use Rattle.apd_term.proofs.Applying.{apply-followed_by, apply-same}
 use Rattle.apd_term.proofs.Tuples.{apply_tuple-followed_by, apply_tuple-variable}
-use Rattle.apd_unify.specs.Heads.{HasGone, IsLoadedFor, IsMatched, Matches}
+use Rattle.apd_unify.specs.Heads.{HasGoneOn, IsLoadedFor, IsMatched, Matches}
 use Rattle.apd_unify.specs.Unifier.{IsUnifier, HasNoUnifier}
 use Rattle.apd_unify.specs.declared.store.Cell.{Cell}
 use Rattle.apd_unify.proofs.Fitting.{HasNumbers, has_numbers, made_terms}
@@ -26,7 +26,7 @@ use Rattle.apd_frames.proofs.Linking.{tuple_of}
 
 -- so many of the goals were loaded
 pub record AreLoadedFor (s s' : Stored) (old new : List Slot) (terms : List Term) (i : ℕ) (cs : List Cell) : Type 0 where
-  pub gone : HasGone s s' old new
+  pub gone : HasGoneOn s s' old new
   pub values : (g : Numbering) → Fits g s' new → (v : ℕ) → value_in s' g.of new v ≡ value_in s g.of old v
   pub others : (c : ℕ) → c < length s.cells → term_at s' c ≡ term_at s c
   pub made : (g : Numbering) → Fits g s' new → terms_in s' cs ≡ map (apply (value_in s' g.of new)) (take i terms)
@@ -99,7 +99,7 @@ is_variant g n rule h = record {
 }
 
 -- the head doesn't unify with the goal
-pub not_entered : (s s' : Stored) (slots : List Slot) (goal : ℕ) (rule : Tuple) → HasGone s s' [] slots → Matches false s s' [] slots goal rule.head → InstantiatesVariant None s s' goal rule
+pub not_entered : (s s' : Stored) (slots : List Slot) (goal : ℕ) (rule : Tuple) → HasGoneOn s s' [] slots → Matches false s s' [] slots goal rule.head → InstantiatesVariant None s s' goal rule
 not_entered s s' slots goal rule gone m =
     let k = has_numbers s s' slots gone in record {
       variant = numbered_by k.numbers s.variables rule;
@@ -114,7 +114,7 @@ map_values v w qs (t ∷ ts) h =
     ∙ ap (λ xs. apply (term_for qs) (apply v t) ∷ xs) (map_values v w qs ts h)
 
 -- the instance of the clause has the goal's own cell as its head
-pub entered_by_goal : (s s' s'' : Stored) (slots slots' : List Slot) (goal : Cell) (goals : List Cell) (rule : Tuple) → IsSound s → goal.0 < length s.cells → HasGone s s' [] slots
+pub entered_by_goal : (s s' s'' : Stored) (slots slots' : List Slot) (goal : Cell) (goals : List Cell) (rule : Tuple) → IsSound s → goal.0 < length s.cells → HasGoneOn s s' [] slots
     → Matches true s s' [] slots goal.0 rule.head → HasBody s' s'' slots slots' rule.body goals → InstantiatesVariant (Some (instance_of goal goals)) s s'' goal.0 rule
 entered_by_goal s s' s'' slots slots' goal goals rule store l gone m b =
     let k = has_numbers s s'' slots' (gone_trans s s' s'' [] slots slots' gone b.gone) in

@@ -1,5 +1,5 @@
 -- Loading terms, and what unification makes of them.
-use Rattle.std.proofs.Common.{◌≡◌, ℕ, zero, suc, ◌+◌, ◌<◌, ◌≤◌, List, [], ◌∷◌, ◌++◌, length, get_or, take, map, refl, sym, ◌∙◌, ap, subst, arith, Option, Some, None}
+use Rattle.std.proofs.Common.{◌≡◌, ℕ, zero, suc, ◌+◌, ◌<◌, ◌≤◌, List, [], ◌∷◌, ◌++◌, length, get_or, take, map, refl, sym, ◌∙◌, ap, subst, arith, Bool, true, false}
 use Rattle.std.specs.List.{flat_map}
 use Rattle.std.proofs.lemmas.List.{take_all, map_more, map-append, length-append}
 use Rattle.apd_term.specs.Term.{Term, variable, integer, compound, apply, spell, variables, IsAmong, Occurs}
@@ -19,7 +19,7 @@ use Rattle.apd_cells.proofs.Keeping.{meaning-loaded, Keeps-trans}
 use Rattle.apd_cells.proofs.Bindings.{Keeps-self}
 use Rattle.apd_trace.specs.Frames.{shifted_tuple}
 use Rattle.apd_frames.specs.Links.{Instance, instance_of}
-use Rattle.apd_frames.specs.Instances.{with_goals, terms_in, raised_in, AreInside, HasGrown, IsInstantiated, Instantiates}
+use Rattle.apd_frames.specs.Instances.{instance_where, terms_in, raised_in, AreInside, HasGrown, IsInstantiated, Instantiates}
 use Rattle.apd_frames.proofs.Branching.{inside_more}
 use Rattle.apd_frames.proofs.Linking.{tuple_of}
 
@@ -115,12 +115,11 @@ inside_new old new t base c e is =
     omega (arith, n, is, spelled (shifted base t))
 
 -- an instance that isn't there
-pub no_instance : (goals : List Cell) (o : Option Cell) (old new : Stored) (goal : ℕ) (rule : Tuple) → ((c : Cell) → ¬ (o ≡ Some c)) → Instantiates (with_goals goals o) old new goal rule → HasNoUnifier (term_at old goal) (shifted_tuple old.variables rule).head
-no_instance goals None old new goal rule n h = h
-no_instance goals (Some c) old new goal rule n h = absurd (n c refl)
+pub no_instance : (b : Bool) (head : Cell) (goals : List Cell) (old new : Stored) (goal : ℕ) (rule : Tuple) → b ≡ false → Instantiates (instance_where b head goals) old new goal rule → HasNoUnifier (term_at old goal) (shifted_tuple old.variables rule).head
+no_instance b head goals old new goal rule is h = subst (λ x. Instantiates (instance_where x head goals) old new goal rule) is h
 
 -- an instance that is there
-pub instance_there : (goals seen : List Cell) (o : Option Cell) (head : Cell) (old new : Stored) (goal : ℕ) (rule : Tuple) → seen ≡ goals → o ≡ Some head → Instantiates (with_goals goals o) old new goal rule
+pub instance_there : (b : Bool) (head : Cell) (goals seen : List Cell) (old new : Stored) (goal : ℕ) (rule : Tuple) → b ≡ true → seen ≡ goals → Instantiates (instance_where b head goals) old new goal rule
     → IsInstantiated (instance_of head seen) old new goal rule
-instance_there goals seen o head old new goal rule e is h =
-    subst (λ cs. IsInstantiated (instance_of head cs) old new goal rule) (sym e) (subst (λ x. Instantiates (with_goals goals x) old new goal rule) is h)
+instance_there b head goals seen old new goal rule is e h =
+    subst (λ cs. IsInstantiated (instance_of head cs) old new goal rule) (sym e) (subst (λ x. Instantiates (instance_where x head goals) old new goal rule) is h)

@@ -9,7 +9,6 @@ pub mod Entering
 pub mod Solving
 pub mod Moving
 pub mod Writing
-pub mod Bounds
 pub mod Valued
 pub mod Settled
 pub mod Framed

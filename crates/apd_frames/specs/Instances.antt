@@ -7,7 +7,7 @@ use Rattle.apd_term.specs.Tuple.{apply_tuple, canonical_tuple}
 use Rattle.apd_term.specs.declared.tuple.Tuple.{Tuple}
 use Rattle.apd_unify.specs.Unifier.{IsUnifier, HasNoUnifier}
 use Rattle.apd_unify.specs.declared.store.Cell.{Cell}
-use Rattle.apd_unify.specs.Heads.{HasGone}
+use Rattle.apd_unify.specs.Heads.{HasGoneOn}
 use Rattle.apd_cells.specs.Slots.{Fits, Numbering, value_in}
 use Rattle.apd_cells.specs.declared.slots.Slot.{Slot}
 use Rattle.apd_cells.specs.Stored.{Stored}
@@ -19,10 +19,10 @@ use Rattle.apd_frames.specs.Links.{Instance, instance_of}
 abbrev pub terms_in : Stored → List Cell → List Term
 terms_in s cs = map (λ (c : Cell). term_at s c.0) cs
 
--- the instance of a head, where there is one, and these goals
-abbrev pub with_goals : List Cell → Option Cell → Option Instance
-with_goals goals None = None
-with_goals goals (Some head) = Some (instance_of head goals)
+-- the instance of this head and these goals, where there is one
+abbrev pub instance_where : Bool → Cell → List Cell → Option Instance
+instance_where false head goals = None
+instance_where true head goals = Some (instance_of head goals)
 
 -- the tuple that an instance is
 abbrev pub tuple_in : Stored → Instance → Tuple
@@ -50,7 +50,7 @@ pub record HasGrown (old new : Stored) : Type 0 where
 
 -- a clause's goals were loaded, with what stands for its variables in their places
 pub record HasBody (s s' : Stored) (old new : List Slot) (body : List Term) (goals : List Cell) : Type 0 where
-  pub gone : HasGone s s' old new
+  pub gone : HasGoneOn s s' old new
   pub values : (g : Numbering) → Fits g s' new → (v : ℕ) → value_in s' g.of new v ≡ value_in s g.of old v
   pub others : (c : ℕ) → c < length s.cells → term_at s' c ≡ term_at s c
   pub made : (g : Numbering) → Fits g s' new → terms_in s' goals ≡ map (apply (value_in s' g.of new)) body

@@ -1,9 +1,7 @@
 -- The frames that a search keeps.
 use Rattle.std.specs.Prelude.{◌≡◌, ℕ, ◌+◌, ◌<◌, List, [], ◌∷◌, Option, Some, None, Bool, true, false, not, refl}
 use Rattle.std.specs.Coded.{Coded, code_by, coded_list, coded×}
-use Rattle.apd_term.specs.Term.{IsAmong}
 use Rattle.apd_frames.specs.Codes.{frame_code}
-use Rattle.apd_term.specs.Tuple.{variables_of_tuple}
 use Rattle.apd_term.specs.declared.tuple.Tuple.{Tuple}
 use Rattle.apd_term.specs.declared.term.Sym.{Sym}
 use Rattle.apd_cells.specs.First.{AreClashing, key_of}
@@ -22,10 +20,6 @@ use Rattle.apd_frames.specs.declared.ahead.Ahead.TheVariants.{Nothing as Nowhere
 pub record Kept : Type 0 where
   pub current : List Frame
   pub saved : List (List Frame)
-
--- a clause's variables have small numbers
-abbrev pub IsSmall : Tuple → Type 0
-IsSmall r = (v : ℕ) → IsAmong (variables_of_tuple r) v → v < 4294967297
 
 -- the next goal of the innermost frame, called in box n
 abbrev pub Calls : List Frame → ℕ → Called → Type 0

@@ -9,7 +9,7 @@ ghost use Rattle.apd_cells.specs.Store.{term_at, Keeps};
 ghost use Rattle.apd_clauses.specs.Clauses.{IsRunnable};
 ghost use Rattle.apd_frames.specs.Links.{link_of};
 ghost use Rattle.apd_frames.specs.Linked.{IsThere};
-ghost use Rattle.apd_frames.specs.Instances.{terms_in, tuple_in, raised_in, with_goals, AreInside, CanonicalWithin, IsWithin, HasBody, HasGrown, InstantiatesVariant};
+ghost use Rattle.apd_frames.specs.Instances.{terms_in, instance_where, tuple_in, raised_in, AreInside, CanonicalWithin, IsWithin, HasBody, HasGrown, InstantiatesVariant};
 
 use crate::links::LinkRef;
 use crate::small::has_small_variables;
@@ -29,22 +29,17 @@ pub struct Made {
     pub slots: Vec<Slot>,
 }
 
-/// Loads the terms, their variables raised by `base`, and leaves their cells alone in `cells`.
-pub fn load_all(
-    store: &mut Store,
-    cells: &mut Vec<Cell>,
-    terms: &[Flat],
-    base: u64,
-) -> Result<(), AllocError>
-    requires { (v : ℕ) → IsAmong (flat_map variables terms.now) v → base + v < 2 ^ 64 }
+/// Loads the terms, and leaves their cells alone in `cells`.
+pub fn load_all(store: &mut Store, cells: &mut Vec<Cell>, terms: &[Flat]) -> Result<(), AllocError>
+    requires { (v : ℕ) → IsAmong (flat_map variables terms.now) v → v < 2 ^ 64 }
     ensures grown { HasGrown store.old store.new }
     ensures made { OnOk result
-        (terms_in store.new cells.new.items ≡ map (raised_in store.old base) terms.now) }
+        (terms_in store.new cells.new.items ≡ map (raised_in store.old 0) terms.now) }
     ensures inside { OnOk result (AreInside (length store.new.cells) cells.new.items) }
 {
     cells.clear();
     'terms: for term in terms {
-        let cell = store.load(term, base)?;
+        let cell = store.load(term)?;
         cells.push(cell)?;
     }
     Ok(())
@@ -72,23 +67,23 @@ fn load_body(
     Ok(())
 }
 
-/// The instance of a clause whose variables have small numbers, as [`instantiate`] makes it.
+/// Makes the instance of a clause whose variables have small numbers, as [`instantiate`] does.
 fn instantiate_small(
     store: &mut Store,
     made: &mut Made,
     goal: Cell,
     rule: &Tuple,
-) -> Result<Option<Cell>, AllocError>
+) -> Result<bool, AllocError>
     requires goal { goal.0 < length store.old.cells }
     ensures kept { Keeps store.old store.new }
     ensures cells { length store.old.cells ≤ length store.new.cells }
     ensures numbered { IsNumbered store.old }
-    ensures answer { IfOk result (λ o. InstantiatesVariant
-        (with_goals made.new.goals.items o) store.old store.new goal.0 rule.now) }
+    ensures answer { IfOk result (λ b. InstantiatesVariant
+        (instance_where b goal made.new.goals.items) store.old store.new goal.0 rule.now) }
 {
     let _variables = store.variables();
     if !store.unify_head(goal, &rule.head, &mut made.slots)? {
-        return Ok(None);
+        return Ok(false);
     }
     load_body(
         store,
@@ -96,27 +91,27 @@ fn instantiate_small(
         &mut made.slots,
         rule.body.as_slice(),
     )?;
-    Ok(Some(goal))
+    Ok(true)
 }
 
-/// The clause's instance for the goal at a cell, where its head unifies with it: the goal's own cell, which has the
-/// head's term then, with the cells of the clause's goals alone in `made`. The clause's canonical form is taken where
-/// its variables have great numbers. After none or want of memory more terms may be there, and some variables may be
-/// bound.
+/// Makes the clause's instance for the goal at a cell, where its head unifies with it; false exactly where it doesn't. The
+/// instance is of the goal's own cell, which has the head's term then, and of the cells of the clause's goals, which stand
+/// alone in `made`. The clause's canonical form is taken where its variables have great numbers. After false or want of
+/// memory more terms may be there, and some variables may be bound.
 pub fn instantiate(
     store: &mut Store,
     made: &mut Made,
     alloc: Global,
     goal: Cell,
     rule: &Tuple,
-) -> Result<Option<Cell>, AllocError>
+) -> Result<bool, AllocError>
     requires goal { goal.0 < length store.old.cells }
     requires runnable { IsRunnable rule.now }
     ensures kept { Keeps store.old store.new }
     ensures cells { length store.old.cells ≤ length store.new.cells }
     ensures numbered { IsNumbered store.old }
-    ensures answer { IfOk result (λ o. InstantiatesVariant
-        (with_goals made.new.goals.items o) store.old store.new goal.0 rule.now) }
+    ensures answer { IfOk result (λ b. InstantiatesVariant
+        (instance_where b goal made.new.goals.items) store.old store.new goal.0 rule.now) }
 {
     let _variables = store.variables();
     if has_small_variables(rule) {

@@ -92,9 +92,9 @@ impl Linked {
     {
         let tuple = canonical_tuple(alloc, query)?;
         let mut store = Store::new(alloc);
-        let head = store.load(&tuple.head, 0)?;
+        let head = store.load(&tuple.head)?;
         let mut goals = Vec::new(alloc);
-        load_all(&mut store, &mut goals, tuple.body.as_slice(), 0)?;
+        load_all(&mut store, &mut goals, tuple.body.as_slice())?;
         let mut links = Links::new(alloc);
         links.push(&LinkRef {
             box_no: 0,
@@ -272,13 +272,13 @@ impl Linked {
             return Ok(false);
         }
         let mark = self.store.mark();
-        let Some(head) = instantiate(&mut self.store, &mut self.made, alloc, goal, rule)? else {
+        if !instantiate(&mut self.store, &mut self.made, alloc, goal, rule)? {
             self.store.undo(mark);
             return Ok(false);
-        };
+        }
         let depth = goal_depth(&self.links, self.innermost);
         let goals = self.made.goals.as_slice();
-        let link = entered(box_no, depth, clause, head, goals, point, self.innermost);
+        let link = entered(box_no, depth, clause, goal, goals, point, self.innermost);
         self.innermost = self.links.push(&link)?;
         Ok(true)
     }

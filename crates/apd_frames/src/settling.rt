@@ -62,7 +62,7 @@ fn assign(store: &mut Store, alloc: Global, cell: Cell, value: i64) -> Result<So
 {
     let mark = store.mark();
     let term = Flat::integer(alloc, value)?;
-    let there = store.load(&term, 0)?;
+    let there = store.load(&term)?;
     if store.unify(cell, there)? {
         return Ok(Solved::Entered);
     }

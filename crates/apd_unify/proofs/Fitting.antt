@@ -7,8 +7,8 @@ use Rattle.apd_term.specs.Term.{Term, apply}
 use Rattle.apd_term.specs.Substitution.{term_for, followed_by}
 use Rattle.apd_term.proofs.Applying.{apply-followed_by}
 use Rattle.apd_term.proofs.Variants.{apply-agree}
-use Rattle.apd_unify.specs.Heads.{HasGone, IsMade}
-use Rattle.apd_cells.specs.Slots.{slot_at, IsSlot, AreSlots, IsLater, Numbering, IsNumberOf, Fits}
+use Rattle.apd_unify.specs.Heads.{HasGoneOn, IsMade}
+use Rattle.apd_cells.specs.Slots.{slot_at, IsSlot, AreSlots, GetsAny, Numbering, IsNumberOf, Fits}
 use Rattle.apd_cells.specs.Stored.{Stored}
 use Rattle.apd_cells.specs.Store.{written, meaning, term_at, IsSound}
 use Rattle.apd_cells.specs.declared.slots.Slot.{Slot}
@@ -55,7 +55,7 @@ fits_one s owner v New h = omega arith
 fits_one s owner v (Own c) h = h.1.is ∙ ap Var (sym (ap variable_number h.1.is))
 fits_one s owner v (Given c) h = omega arith
 
-above_one : (s s' : Stored) (owner : ℕ → ℕ) (v : ℕ) (x : Slot) → s.variables ≤ s'.variables → IsSlot s'.cells s'.variables owner v x → IsLater s.variables s'.cells New x
+above_one : (s s' : Stored) (owner : ℕ → ℕ) (v : ℕ) (x : Slot) → s.variables ≤ s'.variables → IsSlot s'.cells s'.variables owner v x → GetsAny s.variables s'.cells New x
     → s.variables ≤ number_of s'.cells s'.variables v x
 above_one s s' owner v New l h j = omega arith
 above_one s s' owner v (Own c) l h j = (let k = j h.1.number h.1.is in let e : variable_number (get_or s'.cells c (Var 0)) ≡ h.1.number = ap variable_number h.1.is in omega (arith, k, e))
@@ -67,7 +67,7 @@ pub record HasNumbers (s s' : Stored) (slots : List Slot) : Type 0 where
   pub fit : Fits numbers s' slots
   pub above : (v : ℕ) → s.variables ≤ numbers.of v
 
-pub has_numbers : (s s' : Stored) (slots : List Slot) → HasGone s s' [] slots → HasNumbers s s' slots
+pub has_numbers : (s s' : Stored) (slots : List Slot) → HasGoneOn s s' [] slots → HasNumbers s s' slots
 unfolding numbering
 has_numbers s s' slots h = record {
   numbers = numbering s'.cells s'.variables slots h.slots;
@@ -76,7 +76,7 @@ has_numbers s s' slots h = record {
 }
 
 -- pairs were applied to the terms that were there
-pub made_terms : (g : Numbering) (s s' : Stored) (old new : List Slot) (qs : List (ℕ × Term)) → IsSound s → HasGone s s' old new → IsMade g s s' old new qs → (c : ℕ) → c < length s.cells
+pub made_terms : (g : Numbering) (s s' : Stored) (old new : List Slot) (qs : List (ℕ × Term)) → IsSound s → HasGoneOn s s' old new → IsMade g s s' old new qs → (c : ℕ) → c < length s.cells
     → term_at s' c ≡ apply (term_for qs) (term_at s c)
 made_terms g s s' old new qs store h m c l =
     let cells = HasCells-of s.cells s.variables s.trail store in

@@ -13,13 +13,13 @@ use Rattle.apd_term.proofs.Applying.{apply-followed_by, apply-same}
 use Rattle.apd_term.proofs.Variants.{apply-agree}
 use Rattle.apd_term.proofs.Pairs.{term_for-same, term_for-other}
 use Rattle.apd_term.proofs.Spelling.{under_name, list_of-terms_of}
-use Rattle.apd_unify.specs.Heads.{HasGone, IsMade, IsMatched, IsLoadedFor, Matches}
+use Rattle.apd_unify.specs.Heads.{HasGoneOn, IsMade, IsMatched, IsLoadedFor, Matches}
 use Rattle.apd_unify.specs.Unified.{IsUnified, IsUnification}
 use Rattle.apd_unify.specs.Unifier.{OccursIn, BringsNoVariable, HasNoUnifier, IsUnifier}
 use Rattle.apd_unify.proofs.Beginning.{first_symbol-apply, apart_first, no_unifier_apart}
 use Rattle.apd_cells.specs.First.{first_symbol, IsFixed}
 use Rattle.apd_cells.specs.Numbered.{IsNumbered}
-use Rattle.apd_cells.specs.Slots.{slot_at, cell_of, IsSet, HasSet, IsSingle, IsSlot, AreSlots, IsNewer, IsLater, AreLater, single_term, put_for, HasLoaded, value_of, value_in, Numbering, IsNumberOf, Fits}
+use Rattle.apd_cells.specs.Slots.{slot_at, cell_of, IsSet, HasSet, IsSingle, IsSlot, AreSlots, GetsOwn, GetsAny, EachGetsAny, single_term, put_for, HasLoaded, value_of, value_in, Numbering, IsNumberOf, Fits}
 use Rattle.apd_cells.specs.Stored.{Stored}
 use Rattle.apd_cells.specs.Store.{written, meaning, term_at, symbol_at, loaded, IsEnd, IsSound, IsStore, Keeps}
 use Rattle.apd_cells.specs.declared.slots.Slot.{Slot}
@@ -54,21 +54,21 @@ inside_of cells n owner v New h s = absurd s
 inside_of cells n owner v (Own c) h s = h.0
 inside_of cells n owner v (Given c) h s = h
 
-later_newer : (n : ℕ) (cells : List Sym) (a b : Slot) → IsNewer n cells a b → IsLater n cells a b
+later_newer : (n : ℕ) (cells : List Sym) (a b : Slot) → GetsOwn n cells a b → GetsAny n cells a b
 later_newer n cells New New h = tt
 later_newer n cells New (Own c) h = h
 later_newer n cells New (Given c) h = absurd h
 later_newer n cells (Own c) b h = h
 later_newer n cells (Given c) b h = h
 
-later_same : (n : ℕ) (cells : List Sym) (a : Slot) → IsLater n cells a a
+later_same : (n : ℕ) (cells : List Sym) (a : Slot) → GetsAny n cells a a
 later_same n cells New = tt
 later_same n cells (Own c) = refl
 later_same n cells (Given c) = refl
 
 -- numbers that fit later fitted before
 fits_before : (s s' : Stored) (more : List Sym) (owner : ℕ → ℕ) (v n : ℕ) (a b : Slot) → s'.cells ≡ s.cells ++ more → s.variables ≤ s'.variables → IsSlot s.cells s.variables owner v a
-    → IsLater s.variables s'.cells a b → IsNumberOf s' n b → IsNumberOf s n a
+    → GetsAny s.variables s'.cells a b → IsNumberOf s' n b → IsNumberOf s n a
 fits_before s s' more owner v n New New e l i h f = omega (arith, f)
 fits_before s s' more owner v n New (Own c) e l i h f = h n f
 fits_before s s' more owner v n New (Given c) e l i h f = omega (arith, f)
@@ -77,43 +77,43 @@ fits_before s s' more owner v n (Own c) b e l i h f =
 fits_before s s' more owner v n (Given c) b e l i h f =
     let k : s'.variables ≤ n = subst (IsNumberOf s' n) h f in omega arith
 
-pub fits_back : (g : Numbering) (s s' : Stored) (old new : List Slot) → AreSlots s.cells s.variables old → HasGone s s' old new → Fits g s' new → Fits g s old
+pub fits_back : (g : Numbering) (s s' : Stored) (old new : List Slot) → AreSlots s.cells s.variables old → HasGoneOn s s' old new → Fits g s' new → Fits g s old
 fits_back g s s' old new i h f = λ v. fits_before s s' h.more i.owner v (g.of v) (slot_at old v) (slot_at new v) h.cells h.variables (i.each v) (h.later v) (f v)
 
-later_then : (cells more : List Sym) (n m k : ℕ) (owner : ℕ → ℕ) (v : ℕ) (a b c : Slot) → n ≤ m → IsSlot cells k owner v b → IsLater n cells a b → IsLater m (cells ++ more) b c → IsLater n (cells ++ more) a c
+later_then : (cells more : List Sym) (n m k : ℕ) (owner : ℕ → ℕ) (v : ℕ) (a b c : Slot) → n ≤ m → IsSlot cells k owner v b → GetsAny n cells a b → GetsAny m (cells ++ more) b c → GetsAny n (cells ++ more) a c
 later_then cells more n m k owner v New New New l i h j = tt
 later_then cells more n m k owner v New New (Own d) l i h j = λ q e. (let r = j q e in omega arith)
 later_then cells more n m k owner v New New (Given d) l i h j = tt
 later_then cells more n m k owner v New (Own d) c l i h j =
-    subst (IsLater n (cells ++ more) New) (sym j) (λ q e. h q (sym (get_or_append_left cells more (Var 0) d i.0.inside) ∙ e))
-later_then cells more n m k owner v New (Given d) c l i h j = subst (IsLater n (cells ++ more) New) (sym j) tt
-later_then cells more n m k owner v (Own d) b c l i h j = (let q : IsLater m (cells ++ more) (Own d) c = subst (λ x. IsLater m (cells ++ more) x c) h j in q)
-later_then cells more n m k owner v (Given d) b c l i h j = (let q : IsLater m (cells ++ more) (Given d) c = subst (λ x. IsLater m (cells ++ more) x c) h j in q)
+    subst (GetsAny n (cells ++ more) New) (sym j) (λ q e. h q (sym (get_or_append_left cells more (Var 0) d i.0.inside) ∙ e))
+later_then cells more n m k owner v New (Given d) c l i h j = subst (GetsAny n (cells ++ more) New) (sym j) tt
+later_then cells more n m k owner v (Own d) b c l i h j = (let q : GetsAny m (cells ++ more) (Own d) c = subst (λ x. GetsAny m (cells ++ more) x c) h j in q)
+later_then cells more n m k owner v (Given d) b c l i h j = (let q : GetsAny m (cells ++ more) (Given d) c = subst (λ x. GetsAny m (cells ++ more) x c) h j in q)
 
-pub gone_trans : (a b c : Stored) (x y z : List Slot) → HasGone a b x y → HasGone b c y z → HasGone a c x z
+pub gone_trans : (a b c : Stored) (x y z : List Slot) → HasGoneOn a b x y → HasGoneOn b c y z → HasGoneOn a c x z
 gone_trans a b c x y z h k = record {
   more = h.more ++ k.more;
   cells = k.cells ∙ ap (λ xs. xs ++ k.more) h.cells ∙ append_assoc a.cells h.more k.more;
   variables = omega (arith, h.variables, k.variables);
   slots = k.slots;
-  later = λ v. subst (λ cells. IsLater a.variables cells (slot_at x v) (slot_at z v)) (sym k.cells)
+  later = λ v. subst (λ cells. GetsAny a.variables cells (slot_at x v) (slot_at z v)) (sym k.cells)
       (later_then b.cells k.more a.variables b.variables b.variables h.slots.owner v (slot_at x v) (slot_at y v) (slot_at z v) h.variables (h.slots.each v) (h.later v)
-      (subst (λ cells. IsLater b.variables cells (slot_at y v) (slot_at z v)) k.cells (k.later v)));
+      (subst (λ cells. GetsAny b.variables cells (slot_at y v) (slot_at z v)) k.cells (k.later v)));
   keeps = Keeps-trans a b c h.keeps k.keeps;
 }
 
 -- where only variables were bound
-pub gone_bound : (s s1 s2 : Stored) (old new : List Slot) → HasGone s s1 old new → s2.cells ≡ s1.cells → s2.variables ≡ s1.variables → Keeps s1 s2 → HasGone s s2 old new
+pub gone_bound : (s s1 s2 : Stored) (old new : List Slot) → HasGoneOn s s1 old new → s2.cells ≡ s1.cells → s2.variables ≡ s1.variables → Keeps s1 s2 → HasGoneOn s s2 old new
 gone_bound s s1 s2 old new h e f k = record {
   more = h.more;
   cells = e ∙ h.cells;
   variables = omega (arith, h.variables, f);
   slots = subst (λ cells. AreSlots cells s2.variables new) (sym e) (subst (λ n. AreSlots s1.cells n new) (sym f) h.slots);
-  later = subst (λ cells. AreLater s.variables cells old new) (sym e) h.later;
+  later = subst (λ cells. EachGetsAny s.variables cells old new) (sym e) h.later;
   keeps = Keeps-trans s s1 s2 h.keeps k;
 }
 
-pub gone_self : (s : Stored) (slots : List Slot) → AreSlots s.cells s.variables slots → HasGone s s slots slots
+pub gone_self : (s : Stored) (slots : List Slot) → AreSlots s.cells s.variables slots → HasGoneOn s s slots slots
 gone_self s slots h = record {
   more = [];
   cells = sym (append-nil s.cells);
@@ -146,7 +146,7 @@ module _ (s s' : Stored) (old new : List Slot) (t : Term) (store : IsSound s) (s
   others_then : (c : ℕ) → c < length s.cells → term_at s' c ≡ term_at s c
   others_then c l = ap (λ (z : Stored). term_at z c) h.is ∙ term_at-others s (apply (put_for s'.cells new) t) 0 c store l
 
-  value_newer : (owner owner' : ℕ → ℕ) (v n : ℕ) (a b : Slot) → IsSlot s.cells s.variables owner v a → IsSlot s'.cells s'.variables owner' v b → IsNewer s.variables s'.cells a b → IsNumberOf s' n b
+  value_newer : (owner owner' : ℕ → ℕ) (v n : ℕ) (a b : Slot) → IsSlot s.cells s.variables owner v a → IsSlot s'.cells s'.variables owner' v b → GetsOwn s.variables s'.cells a b → IsNumberOf s' n b
       → value_of s' n b ≡ value_of s n a
   value_newer owner owner' v n New New i j k f = refl
   value_newer owner owner' v n New (Own c) i j k f =
@@ -291,7 +291,7 @@ single_unifier t n a = record {
 
 -- a variable for which nothing stood, and the term at a cell stands then
 module _ (s : Stored) (old new : List Slot) (at v : ℕ) (store : IsSound s) (slots : AreSlots s.cells s.variables old) (l : at < length s.cells) (was : slot_at old v ≡ New) (k : HasSet old new v (Given at)) where
-  pub gone_given : arity_of (get_or s.cells at (Var 0)) ≡ 0 → HasGone s s old new
+  pub gone_given : arity_of (get_or s.cells at (Var 0)) ≡ 0 → HasGoneOn s s old new
   gone_given z = record {
     more = [];
     cells = sym (append-nil s.cells);
@@ -304,8 +304,8 @@ module _ (s : Stored) (old new : List Slot) (at v : ℕ) (store : IsSound s) (sl
       ];
     };
     later = λ w. elim (cases_eq v w) [
-      | inl e ↦ subst (λ x. IsLater s.variables s.cells x (slot_at new w)) (sym (ap (slot_at old) (sym e) ∙ was)) (subst (IsLater s.variables s.cells New) (sym (ap (slot_at new) (sym e) ∙ k.here)) tt)
-      | inr d ↦ subst (IsLater s.variables s.cells (slot_at old w)) (sym (k.others w d)) (later_same s.variables s.cells (slot_at old w))
+      | inl e ↦ subst (λ x. GetsAny s.variables s.cells x (slot_at new w)) (sym (ap (slot_at old) (sym e) ∙ was)) (subst (GetsAny s.variables s.cells New) (sym (ap (slot_at new) (sym e) ∙ k.here)) tt)
+      | inr d ↦ subst (GetsAny s.variables s.cells (slot_at old w)) (sym (k.others w d)) (later_same s.variables s.cells (slot_at old w))
     ];
     keeps = Keeps-self s;
   }

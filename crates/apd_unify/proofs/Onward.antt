@@ -12,13 +12,13 @@ use Rattle.apd_term.proofs.Among.{IsAmong-left, IsAmong-right, IsAmong-append}
 use Rattle.apd_term.proofs.Applying.{apply-followed_by, apply-same, apply-variable}
 use Rattle.apd_term.proofs.Variants.{apply-agree}
 use Rattle.apd_term.proofs.Spelling.{read_all-flat_map_all, IsTerms-flat_map, IsTerms-tail, flat_map-variables}
-use Rattle.apd_unify.specs.Heads.{HasGone, IsMade, IsMatched, IsPastFirst, Matches, MeetsSymbol}
+use Rattle.apd_unify.specs.Heads.{HasGoneOn, IsMade, IsMatched, IsPastFirst, Matches, MeetsSymbol}
 use Rattle.apd_unify.specs.Textbook.{Equation, apply_equations}
 use Rattle.apd_unify.specs.Unifier.{HasNoUnifier, IsUnifier}
 use Rattle.apd_unify.proofs.Matched.{fits_back}
 use Rattle.apd_unify.proofs.Matching.{IsMatching, first_matching, last_matching, composed, term_for-composed, apply-composed, matched_round, matching_symbol, equations_between, zip_applied, zip_nothing}
 use Rattle.apd_unify.proofs.Pairing.{past_run}
-use Rattle.apd_cells.specs.Slots.{slot_at, AreSlots, AreLater, IsLater, IsSlot, value_of, value_in, Numbering, Fits}
+use Rattle.apd_cells.specs.Slots.{slot_at, AreSlots, EachGetsAny, GetsAny, IsSlot, value_of, value_in, Numbering, Fits}
 use Rattle.apd_cells.specs.Stored.{Stored}
 use Rattle.apd_cells.specs.Store.{written, meaning, term_at, HasCells, IsSound, IsStore, Keeps}
 use Rattle.apd_cells.specs.Work.{run_of, IsRun, AreRuns, run_symbols, runs_symbols, GoesTo, PassesOn}

@@ -8,14 +8,14 @@ use Rattle.apd_term.specs.Term.{Term, variable, apply, spell, size, arity_of, fi
 use Rattle.apd_term.specs.Spelling.{read_all-spell}
 use Rattle.apd_term.specs.Substitution.{term_for, followed_by}
 use Rattle.apd_term.proofs.Applying.{apply-followed_by, apply-same, apply-variable}
-use Rattle.apd_unify.specs.Heads.{HasGone, IsMade, IsMatched, IsPastFirst, Matches, MeetsSymbol}
+use Rattle.apd_unify.specs.Heads.{HasGoneOn, IsMade, IsMatched, IsPastFirst, Matches, MeetsSymbol}
 use Rattle.apd_unify.specs.Textbook.{Equation, apply_equations}
 use Rattle.apd_unify.specs.Unifier.{HasNoUnifier, IsUnifier}
 use Rattle.apd_unify.proofs.Matched.{fits_back, gone_trans}
 use Rattle.apd_unify.proofs.Matching.{IsMatching, first_matching, last_matching, composed, term_for-composed, apply-composed, matched_round, matching_symbol, equations_between, zip_applied, zip_nothing}
 use Rattle.apd_unify.proofs.Onward.{runs_read, runs_terms, runs_whole, runs_more, runs_applied}
 use Rattle.apd_unify.proofs.Rounds.{UnifiesAll}
-use Rattle.apd_cells.specs.Slots.{slot_at, AreSlots, AreLater, IsLater, IsSlot, value_in, Numbering, Fits}
+use Rattle.apd_cells.specs.Slots.{slot_at, AreSlots, EachGetsAny, GetsAny, IsSlot, value_in, Numbering, Fits}
 use Rattle.apd_cells.specs.Stored.{Stored}
 use Rattle.apd_cells.specs.Store.{written, meaning, term_at, IsSound, Keeps}
 use Rattle.apd_cells.specs.Work.{run_of, IsRun, AreRuns, Leads, run_symbols, runs_symbols, GoesTo, PassesOn}
@@ -41,7 +41,7 @@ pub record SoFar (g : Numbering) (old s : Stored) (slots : List Slot) (goal : �
 
 -- what holds while symbols of the head are left, from this place on
 pub record Matching (old s : Stored) (slots : List Slot) (goal : ℕ) (head : Term) (runs : List Run) (symbols : List Sym) (place : ℕ) : Type 0 where
-  pub gone : HasGone old s [] slots
+  pub gone : HasGoneOn old s [] slots
   pub right : AreRuns s.cells runs
   pub so_far : (g : Numbering) → Fits g s slots → SoFar g old s slots goal head runs (drop place symbols)
 
@@ -161,7 +161,7 @@ values_applied v v' qs h (t ∷ ts) =
     ∙ ap (λ xs. apply (term_for qs) (apply v t) ∷ xs) (values_applied v v' qs h ts)
 
 module _ (old s s' : Stored) (slots slots' : List Slot) (goal : ℕ) (head : Term) (here : Run) (rest : List Run) (symbols : List Sym) (place end : ℕ) (t : Term)
-    (store : IsSound s) (h : Matching old s slots goal head (here ∷ rest) symbols place) (l : 0 < here.left) (k : HasGone s s' slots slots') (r : ReadsAt symbols place end t) where
+    (store : IsSound s) (h : Matching old s slots goal head (here ∷ rest) symbols place) (l : 0 < here.left) (k : HasGoneOn s s' slots slots') (r : ReadsAt symbols place end t) where
   -- the first equation, and the others
   split_left : (g : Numbering) → equations_left g s slots (here ∷ rest) (drop place symbols)
       ≡ (term_at s here.at, apply (value_in s g.of slots) t) ∷ zip (others_left s here rest) (map (apply (value_in s g.of slots)) (read_all (drop end symbols)))
@@ -258,9 +258,9 @@ matching_met old s s' slots slots' goal head here next rest runs symbols place t
     (subst (λ z. Matching old s z goal head (next ∷ runs) symbols (place + 1)) (sym q.slots)
     (matching_under old s slots goal head here next rest runs symbols place to x store h l terms i q.leads q.symbol q.fixed (subst (λ z. PassesOn z (here ∷ rest) x (next ∷ runs)) q.same p)))
 
-pub runs_then : (s s' : Stored) (slots slots' : List Slot) (runs : List Run) → IsSound s → HasGone s s' slots slots' → AreRuns s.cells runs → AreRuns s'.cells runs
+pub runs_then : (s s' : Stored) (slots slots' : List Slot) (runs : List Run) → IsSound s → HasGoneOn s s' slots slots' → AreRuns s.cells runs → AreRuns s'.cells runs
 runs_then s s' slots slots' runs store k r =
     subst (λ cells. AreRuns cells runs) (sym k.cells) (runs_more s.cells k.more runs (HasCells-of s.cells s.variables s.trail store).whole r)
 
-pub more_cells : (s s' : Stored) (slots slots' : List Slot) → HasGone s s' slots slots' → length s.cells ≤ length s'.cells
+pub more_cells : (s s' : Stored) (slots slots' : List Slot) → HasGoneOn s s' slots slots' → length s.cells ≤ length s'.cells
 more_cells s s' slots slots' k = omega (arith, ap length k.cells, length-append s.cells k.more)

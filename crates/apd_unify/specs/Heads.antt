@@ -1,4 +1,4 @@
--- A goal and a clause's head that are made equal, where the head isn't loaded.
+-- A goal and a clause's head that are made equal, where the head isn't loaded as a whole.
 use Rattle.std.specs.Prelude.{◌≡◌, ℕ, ◌+◌, ◌<◌, ◌≤◌, ◌^◌, Bool, true, false, List, [], ◌∷◌, ◌++◌, length, get_or, drop}
 use Rattle.apd_term.specs.declared.term.Sym.{Sym}
 use Rattle.apd_term.specs.declared.term.Sym.TheVariants.{Var}
@@ -7,7 +7,7 @@ use Rattle.apd_term.specs.Substitution.{term_for}
 use Rattle.apd_unify.specs.Unifier.{IsUnifier, HasNoUnifier}
 use Rattle.apd_unify.specs.declared.heads.Met.{Met}
 use Rattle.apd_unify.specs.declared.heads.Met.TheVariants.{Clash, Past, Symbol}
-use Rattle.apd_cells.specs.Slots.{AreLater, AreSlots, Fits, Numbering, value_in}
+use Rattle.apd_cells.specs.Slots.{EachGetsAny, AreSlots, Fits, Numbering, value_in}
 use Rattle.apd_cells.specs.Stored.{Stored}
 use Rattle.apd_cells.specs.Store.{Keeps, meaning, term_at}
 use Rattle.apd_cells.specs.Work.{IsRun, Leads, run_symbols}
@@ -15,12 +15,12 @@ use Rattle.apd_cells.specs.declared.slots.Slot.{Slot}
 use Rattle.apd_cells.specs.declared.walk.Run.{Run}
 
 -- cells came behind the others, and what stands for a clause's variables goes on to do so
-pub record HasGone (s s' : Stored) (old new : List Slot) : Type 0 where
+pub record HasGoneOn (s s' : Stored) (old new : List Slot) : Type 0 where
   pub more : List Sym
   pub cells : s'.cells ≡ s.cells ++ more
   pub variables : s.variables ≤ s'.variables
   pub slots : AreSlots s'.cells s'.variables new
-  pub later : AreLater s.variables s'.cells old new
+  pub later : EachGetsAny s.variables s'.cells old new
   pub keeps : Keeps s s'
 
 -- the pairs were applied to what the store's variables mean, and to what stands for the clause's variables, where those
@@ -37,7 +37,7 @@ pub record IsMatched (g : Numbering) (s s' : Stored) (old new : List Slot) (at :
 
 -- a clause's term was loaded at a cell, with what stands for its variables in their places
 pub record IsLoadedFor (s s' : Stored) (old new : List Slot) (t : Term) (c : ℕ) : Type 0 where
-  pub gone : HasGone s s' old new
+  pub gone : HasGoneOn s s' old new
   pub inside : c < length s'.cells
   pub values : (g : Numbering) → Fits g s' new → (v : ℕ) → value_in s' g.of new v ≡ value_in s g.of old v
   pub means : (v : ℕ) → meaning s'.cells s'.trail v ≡ meaning s.cells s.trail v

@@ -1,4 +1,5 @@
-//! A clause's head that is matched with a goal where it stands. Only what variables of the goal are bound to is loaded.
+//! A clause's head that is matched with a goal where it stands. Of the head are loaded only subterms that meet a free
+//! variable of the goal, and variables that first meet a term with arguments.
 
 ghost use Rattle.std.specs.Prelude.{◌≡◌, ◌<◌, ◌≤◌, ℕ, [], get_or, length, slice_get, Some, IfOk, OnOk};
 ghost use Rattle.apd_term.specs.Term.{IsTerms, IsWhole, term_of};
@@ -6,7 +7,7 @@ ghost use Rattle.apd_term.specs.declared.term.Sym.TheVariants.{Var};
 ghost use Rattle.apd_cells.specs.Slots.{AreSlots};
 ghost use Rattle.apd_cells.specs.Store.{IsSound, Keeps, symbol_at};
 ghost use Rattle.apd_cells.specs.Work.{IsRun};
-ghost use Rattle.apd_unify.specs.Heads.{HasGone, IsPastFirst, Matches, Meets};
+ghost use Rattle.apd_unify.specs.Heads.{HasGoneOn, IsPastFirst, Matches, Meets};
 
 use crate::unify::{Pairs, unify};
 use apd_cells::heap::Heap;
@@ -49,7 +50,7 @@ fn match_loaded(
     requires slots { AreSlots heap.old.cells heap.old.variables slots.old.items }
     ensures answer { IfOk result
         (λ r. Matches r heap.old heap.new slots.old.items slots.new.items at (term_of symbols.now)) }
-    ensures gone { OnOk result (HasGone heap.old heap.new slots.old.items slots.new.items) }
+    ensures gone { OnOk result (HasGoneOn heap.old heap.new slots.old.items slots.new.items) }
     ensures kept { Keeps heap.old heap.new }
     ensures more { length heap.old.cells ≤ length heap.new.cells }
 {
@@ -73,7 +74,7 @@ fn match_variable(
     requires slots { AreSlots heap.old.cells heap.old.variables slots.old.items }
     ensures answer { IfOk result
         (λ r. Matches r heap.old heap.new slots.old.items slots.new.items at (term_of symbols.now)) }
-    ensures gone { OnOk result (HasGone heap.old heap.new slots.old.items slots.new.items) }
+    ensures gone { OnOk result (HasGoneOn heap.old heap.new slots.old.items slots.new.items) }
     ensures store { IsSound heap.old }
     ensures kept { Keeps heap.old heap.new }
     ensures more { length heap.old.cells ≤ length heap.new.cells }
@@ -108,7 +109,7 @@ fn meet_symbol(
     requires slots { AreSlots heap.old.cells heap.old.variables slots.old.items }
     ensures met { IfOk result
         (λ m. Meets m heap.old heap.new slots.old.items slots.new.items at head.now from) }
-    ensures gone { OnOk result (HasGone heap.old heap.new slots.old.items slots.new.items) }
+    ensures gone { OnOk result (HasGoneOn heap.old heap.new slots.old.items slots.new.items) }
     ensures store { IsSound heap.old }
     ensures kept { Keeps heap.old heap.new }
     ensures more { length heap.old.cells ≤ length heap.new.cells }
@@ -143,7 +144,7 @@ fn meet(
     requires slots { AreSlots heap.old.cells heap.old.variables slots.old.items }
     ensures met { IfOk result
         (λ m. Meets m heap.old heap.new slots.old.items slots.new.items at head.now from) }
-    ensures gone { OnOk result (HasGone heap.old heap.new slots.old.items slots.new.items) }
+    ensures gone { OnOk result (HasGoneOn heap.old heap.new slots.old.items slots.new.items) }
     ensures store { IsSound heap.old }
     ensures kept { Keeps heap.old heap.new }
     ensures more { length heap.old.cells ≤ length heap.new.cells }
@@ -189,7 +190,7 @@ pub fn unify_head(
     requires { goal < length heap.old.cells }
     ensures answer { IfOk result
         (λ r. Matches r heap.old heap.new [] slots.new.items goal head.now) }
-    ensures gone { OnOk result (HasGone heap.old heap.new [] slots.new.items) }
+    ensures gone { OnOk result (HasGoneOn heap.old heap.new [] slots.new.items) }
     ensures kept { Keeps heap.old heap.new }
     ensures more { length heap.old.cells ≤ length heap.new.cells }
 {

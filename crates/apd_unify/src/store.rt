@@ -12,7 +12,7 @@ ghost use Rattle.apd_cells.specs.Numbered.{IsNumbered};
 ghost use Rattle.apd_cells.specs.Ordered.{Numbers};
 ghost use Rattle.apd_cells.specs.Slots.{AreSlots};
 ghost use Rattle.apd_cells.specs.Store.{term_at, under_bindings, loaded, at_mark, Keeps, IsSound, SizeWithin};
-ghost use Rattle.apd_unify.specs.Heads.{HasGone, IsLoadedFor, Matches};
+ghost use Rattle.apd_unify.specs.Heads.{HasGoneOn, IsLoadedFor, Matches};
 ghost use Rattle.apd_unify.specs.Unified.{IsUnification};
 
 use crate::heads::{Solver, unify_head};
@@ -76,21 +76,21 @@ impl Store {
         }
     }
 
-    /// Loads a term: its variable `v` is the store's variable `base + v`, and memory is taken for all
+    /// Loads a term, whose variables are the store's variables of these numbers. Memory is taken for all
     /// variables up to the greatest. All other cells keep their terms. After want of memory nothing
     /// has changed.
-    pub fn load(&mut self, t: &Flat, base: u64) -> Result<Cell, AllocError>
-        requires { (v : ℕ) → Occurs v t.now → base + v < 2 ^ 64 }
-        ensures ok { OnOk result (self.new ≡ loaded self.old t.now base) }
+    pub fn load(&mut self, t: &Flat) -> Result<Cell, AllocError>
+        requires { (v : ℕ) → Occurs v t.now → v < 2 ^ 64 }
+        ensures ok { OnOk result (self.new ≡ loaded self.old t.now 0) }
         ensures cell { IfOk result (λ c. c.0 ≡ length self.old.cells) }
         ensures made { IfOk result
-            (λ c. term_at self.new c.0 ≡ under_bindings self.old (shifted base t.now)) }
+            (λ c. term_at self.new c.0 ≡ under_bindings self.old (shifted 0 t.now)) }
         ensures others { (c : ℕ) → c < length self.old.cells →
             term_at self.new c ≡ term_at self.old c }
         ensures kept { Keeps self.old self.new }
         ensures err { OnErr result (self.new ≡ self.old) }
     {
-        let cell = self.heap.load(t, base)?;
+        let cell = self.heap.load(t, 0)?;
         Ok(Cell(cell))
     }
 
@@ -114,8 +114,8 @@ impl Store {
 
     /// Applies a most general unifier of the term at a cell and the head of a clause, whose variables are none of the
     /// store's, to the terms of all cells, and tells what stands for the clause's variables then; false exactly where they
-    /// have none. The head isn't loaded: only what variables of the goal are bound to. After false or want of memory more terms
-    /// may be there, and some variables may be bound.
+    /// have none. Of the head are loaded only subterms that meet a free variable of the goal, and variables that first meet
+    /// a term with arguments. After false or want of memory more terms may be there, and some variables may be bound.
     pub fn unify_head(
         &mut self,
         goal: Cell,
@@ -125,7 +125,7 @@ impl Store {
         requires { goal.0 < length self.old.cells }
         ensures answer { IfOk result
             (λ r. Matches r self.old self.new [] slots.new.items goal.0 head.now) }
-        ensures gone { OnOk result (HasGone self.old self.new [] slots.new.items) }
+        ensures gone { OnOk result (HasGoneOn self.old self.new [] slots.new.items) }
         ensures sound { IsSound self.old }
         ensures kept { Keeps self.old self.new }
         ensures more { length self.old.cells ≤ length self.new.cells }
@@ -141,13 +141,15 @@ impl Store {
         )
     }
 
-    /// Loads a term of the clause, with what stands for its variables in their places.
+    /// Loads a term of the clause, with what stands for its variables in their places. After want of memory the store is
+    /// as it was.
     pub fn load_for(&mut self, t: &Flat, slots: &mut Vec<Slot>) -> Result<Cell, AllocError>
         requires { AreSlots self.old.cells self.old.variables slots.old.items }
         ensures ok { IfOk result
             (λ c. IsLoadedFor self.old self.new slots.old.items slots.new.items t.now c.0) }
         ensures kept { Keeps self.old self.new }
         ensures more { length self.old.cells ≤ length self.new.cells }
+        ensures err { OnErr result (self.new ≡ self.old) }
     {
         let cell = self.heap.load_for(t.symbols(), slots)?;
         Ok(Cell(cell))

@@ -14,7 +14,7 @@ ghost use Rattle.apd_cells.specs.Store.{term_at, written, symbol_at, binding_of,
 use crate::front::{Front, NOTHING, above_term, greater, smaller};
 use crate::kept::{KeptBinding, KeptNote};
 use crate::known::{
-    Extent, Known, above_all, forget_above, forget_since, known_at, make_place, narrow,
+    Extent, KeptKnown, above_all, forget_above, forget_since, known_at, make_place, narrow,
 };
 use crate::live::Live;
 use crate::slots::{Slot, append_for};
@@ -58,9 +58,9 @@ pub struct Heap {
     /// No term that was loaded has more symbols.
     longest: usize,
     /// The sizes of terms without variables, as far as they are known.
-    ground_terms: Stack<Known>,
+    ground_terms: Stack<KeptKnown>,
     /// The same of terms with variables.
-    open_terms: Stack<Known>,
+    open_terms: Stack<KeptKnown>,
     /// The place of each cell in one of the two. What is left of earlier places says nothing.
     places: Vec<u32>,
 }
@@ -266,24 +266,20 @@ impl Heap {
         let since = self.trail.len();
         make_place(&mut self.places, at)?;
         if extent.above == 0 {
+            let Some(kept) = KeptKnown::of(at, extent, since) else {
+                return Ok(());
+            };
             self.places[at] = narrow(self.ground_terms.len())?;
-            self.ground_terms.push(Known {
-                cell: at,
-                extent,
-                since,
-            })?;
+            self.ground_terms.push(kept)?;
             return Ok(());
         }
         let above = above_all(&self.open_terms, extent.above);
+        let size = extent.size;
+        let Some(kept) = KeptKnown::of(at, Extent { size, above }, since) else {
+            return Ok(());
+        };
         self.places[at] = narrow(self.open_terms.len())?;
-        self.open_terms.push(Known {
-            cell: at,
-            extent: Extent {
-                size: extent.size,
-                above,
-            },
-            since,
-        })?;
+        self.open_terms.push(kept)?;
         Ok(())
     }
 

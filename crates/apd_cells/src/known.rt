@@ -9,6 +9,7 @@ ghost use Rattle.apd_cells.specs.Stored.{Stored};
 
 use crate::stack::Stack;
 use std::alloc::AllocError;
+use std::marker::Model;
 
 /// How many symbols a term has, and a number above its variables: 0 only where it has none.
 #[derive(Clone, Copy)]
@@ -43,12 +44,70 @@ pub struct Known {
     pub since: usize,
 }
 
+/// The same in 16 bytes. Clauses see the extent.
+#[derive(Drop)]
+pub struct KeptKnown {
+    cell: u32,
+    size: u32,
+    above: u32,
+    since: u32,
+}
+
+impl Model for KeptKnown {
+    ghost use Rattle.apd_cells.specs.declared.known.Known.{Known};
+
+    ghost Value = { Known };
+
+    ghost view = { λ k. record {
+      cell = k.cell;
+      extent = record { size = k.size; above = k.above };
+      since = k.since;
+    } };
+}
+
+impl KeptKnown {
+    /// The extent as it is kept; none where a number is too great.
+    pub fn of(cell: usize, extent: Extent, since: usize) -> Option<KeptKnown>
+        ensures { IfSome result
+            (λ k. k ≡ record { cell = cell; extent = extent; since = since }) }
+    {
+        if cell > MOST || since > MOST {
+            return None;
+        }
+        if extent.size > MOST as u64 || extent.above > MOST as u64 {
+            return None;
+        }
+        Some(KeptKnown {
+            cell: cell as u32,
+            size: extent.size as u32,
+            above: extent.above as u32,
+            since: since as u32,
+        })
+    }
+
+    /// The extent.
+    #[inline(always)]
+    pub fn read(&self) -> Known
+        ensures { result ≡ self.now }
+    {
+        Known {
+            cell: self.cell as usize,
+            extent: Extent {
+                size: self.size as u64,
+                above: self.above as u64,
+            },
+            since: self.since as usize,
+        }
+    }
+}
+
 /// What is known of a cell's term, if it stands at this place, counted from the oldest.
-pub fn known_at(known: &Stack<Known>, place: usize, cell: usize) -> Option<Extent>
+pub fn known_at(known: &Stack<KeptKnown>, place: usize, cell: usize) -> Option<Extent>
     ensures { (s : Stored) (n a : ℕ) → n ≤ length s.trail → AreKnown s n a known.now →
         IfSome result (HasExtent s cell) }
 {
-    let found = known.get(place)?;
+    let kept = known.get(place)?;
+    let found = kept.read();
     if found.cell != cell {
         return None;
     }
@@ -56,12 +115,12 @@ pub fn known_at(known: &Stack<Known>, place: usize, cell: usize) -> Option<Exten
 }
 
 /// Forgets what was found since the trail had so many notes.
-pub fn forget_since(known: &mut Stack<Known>, notes: usize)
+pub fn forget_since(known: &mut Stack<KeptKnown>, notes: usize)
     ensures { (s : Stored) (n a : ℕ) → AreKnown s n a known.old →
         AreKnown s (notes - 1) a known.new }
 {
     'known: while let Some(newest) = known.top() {
-        if newest.since < notes {
+        if newest.read().since < notes {
             return;
         }
         known.pop();
@@ -69,11 +128,11 @@ pub fn forget_since(known: &mut Stack<Known>, notes: usize)
 }
 
 /// Forgets what the binding of a variable may change.
-pub fn forget_above(known: &mut Stack<Known>, v: u64)
+pub fn forget_above(known: &mut Stack<KeptKnown>, v: u64)
     ensures { (s : Stored) (n a : ℕ) → AreKnown s n a known.old → AreKnown s n v known.new }
 {
     'known: while let Some(newest) = known.top() {
-        if newest.extent.above <= v {
+        if newest.read().extent.above <= v {
             return;
         }
         known.pop();
@@ -81,7 +140,7 @@ pub fn forget_above(known: &mut Stack<Known>, v: u64)
 }
 
 /// A number that is no less than this one, and above the variables of all that is known.
-pub fn above_all(known: &Stack<Known>, above: u64) -> u64
+pub fn above_all(known: &Stack<KeptKnown>, above: u64) -> u64
     ensures more { above ≤ result }
     ensures all { (s : Stored) (n a : ℕ) → AreKnown s n a known.now →
         AreKnown s n result known.now }
@@ -89,8 +148,9 @@ pub fn above_all(known: &Stack<Known>, above: u64) -> u64
     match known.top() {
         None => above,
         Some(newest) => {
-            if newest.extent.above > above {
-                return newest.extent.above;
+            let least = newest.read().extent.above;
+            if least > above {
+                return least;
             }
             above
         }

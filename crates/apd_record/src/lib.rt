@@ -8,6 +8,7 @@ mod guesses;
 mod kept;
 pub mod laws;
 pub mod ongoing;
+mod packed;
 pub mod record;
 mod room;
 pub mod rows;

@@ -6,6 +6,7 @@ ghost use Rattle.apd_record.specs.Open.{no_rows, noted_row, with_box_row, with_p
 
 use crate::beside::{Links, Owned, link, link_child, note_owned};
 use crate::kept::{AtomPlace, KeptBox, KeptPoint, TuplePlace};
+use crate::packed::PackedPoint;
 use crate::room::{box_room, pass, point_room};
 use crate::slot::Slot;
 use apd_ports::{PointId, Port, Step};
@@ -29,7 +30,7 @@ pub struct OpenPoint {
 pub struct Open {
     pub(crate) alloc: Global,
     pub(crate) boxes: Vec<KeptBox>,
-    pub(crate) points: Vec<KeptPoint>,
+    pub(crate) points: Vec<PackedPoint>,
     pub(crate) query: Owned,
     pub(crate) owned: Vec<Owned>,
     pub(crate) links: Vec<Links>,
@@ -116,13 +117,13 @@ impl Open {
             earlier,
         });
         link(&mut self.links, point.before, number);
-        self.points.push_reserved(KeptPoint {
+        self.points.push_reserved(PackedPoint::of(KeptPoint {
             owner: point.owner,
             clause: point.clause,
             done: point.done,
             tuple: TuplePlace::Kept(point.tuple),
             before: point.before,
-        });
+        }));
         Ok(PointId(number))
     }
 

@@ -2,5 +2,6 @@
 //! written out before.
 #![tactic(auto)]
 
+mod packed;
 pub mod spots;
 pub mod tuples;

@@ -3,6 +3,7 @@
 ghost use Rattle.std.specs.Prelude.{◌≡◌, ◌∷◌, [], ◌++◌, ◌<◌, length, slice_get, None, Some, IfOk, OnOk, OnErr, MatchOption};
 ghost use Rattle.apd_tuples.specs.Spots.{HasMore, HavePlaces, IsSpanned, place_of_cell, placed, placed_all, spot_at, spot_in};
 
+use crate::packed::KeptRow;
 use apd_past::past::{Moment, PastCell};
 use apd_unify::store::Cell;
 use std::alloc::{AllocError, Global};
@@ -47,7 +48,7 @@ pub struct Row {
 /// The spots of tuples. Clauses see their list, the oldest first.
 #[derive(Drop)]
 pub struct Spots {
-    rows: Vec<Row>,
+    rows: Vec<KeptRow>,
     goals: Vec<PastCell>,
 }
 
@@ -102,12 +103,12 @@ fn put_places(
 }
 
 /// The row with this number, counted from 0.
-fn row_at(rows: &[Row], number: usize) -> Option<Row>
+fn row_at(rows: &[KeptRow], number: usize) -> Option<Row>
     ensures { result ≡ slice_get rows.now number }
 {
     match rows.get(number) {
         None => None,
-        Some(row) => Some(*row),
+        Some(row) => Some(row.read()),
     }
 }
 
@@ -176,13 +177,14 @@ impl Spots {
         let from = narrow(self.goals.len())?;
         put_places(&mut self.goals, places, goals)?;
         let to = narrow(self.goals.len())?;
-        self.rows.push(Row {
+        let kept = KeptRow::of(Row {
             head: place_of(places, head),
             moment,
             from,
             to,
             fact,
         })?;
+        self.rows.push(kept)?;
         Ok(Numbered {
             number,
             goals: to - from,

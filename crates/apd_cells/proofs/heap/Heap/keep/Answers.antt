@@ -1,5 +1,6 @@
-use Rattle.std.proofs.Common.{refl, subst, sym}
+use Rattle.std.proofs.Common.{◌∷◌, ◌∙◌, ap, refl, subst, sym}
 use Rattle.apd_cells.specs.Known.{HasExtent}
+use Rattle.apd_cells.specs.declared.known.Known.{Known}
 use Rattle.apd_cells.specs.Stored.{Stored}
 use Rattle.apd_cells.proofs.Following.{viewed}
 use Rattle.apd_cells.proofs.Sizing.{sized_ground, sized_open}
@@ -14,7 +15,7 @@ invariant_of-self-then-extent-eq0 c =
       c.self.invariant.2,
       c.self.invariant.3,
       sized_ground s (record { cell = c.args.at; extent = c.args.extent; since = c.len-since.result }) c.self.inside.ground_terms c.self.inside.open_terms c.push.new.self
-          there c.len-since.ensures c.if-extent-eq0.true c.in_ok-push.ensures.ok c.self.invariant.4,
+          there c.len-since.ensures c.if-extent-eq0.true (c.in_ok-push.ensures.ok ∙ ap (λ (k : Known). k ∷ c.self.inside.ground_terms) c.in-Some.ensures) c.self.invariant.4,
     )
 
 pub invariant_of-self-2 : goal.invariant_of-self-2
@@ -27,5 +28,5 @@ invariant_of-self-2 c =
       c.self.invariant.3,
       sized_open s (record { cell = c.args.at; extent = record { size = c.args.extent.size; above = c.above_all-above.result }; since = c.len-since.result }) c.args.extent
           c.self.inside.ground_terms c.self.inside.open_terms c.push-2.new.self
-          there c.len-since.ensures refl c.above_all-above.ensures.more (c.above_all-above.ensures.all s) c.in_ok-push-2.ensures.ok c.self.invariant.4,
+          there c.len-since.ensures refl c.above_all-above.ensures.more (c.above_all-above.ensures.all s) (c.in_ok-push-2.ensures.ok ∙ ap (λ (k : Known). k ∷ c.self.inside.open_terms) c.in-Some-of.ensures) c.self.invariant.4,
     )

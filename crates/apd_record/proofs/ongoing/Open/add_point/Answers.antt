@@ -36,12 +36,12 @@ invariant_of-self-2 c =
     let few : length r.points < 2 ^ 32 - 1 = subst (λ (r : Rows). length r.points < 2 ^ 32 - 1) (sym c.self.view_is) c.requires.few in
     beside_point r (c.self.inside.query ∷ c.self.inside.owned.items) _ c.self.inside.links.items _ (point_row c.args.point) _ c.in_ok-earlier.earlier c.self.invariant owner below few
     (λ d there. MatchOption-at_some _ _ d there c.in_ok-earlier.ensures.earlier)
-    (c.push_reserved-2.ensures.items ∙ ap (λ (xs : List KeptPoint). xs ++ point_row c.args.point ∷ []) c.point_room.ensures.points)
+    (c.push_reserved-2.ensures.items ∙ ap (λ (x : KeptPoint). c.point_room.new.points.items ++ x ∷ []) c.of.ensures ∙ ap (λ (xs : List KeptPoint). xs ++ point_row c.args.point ∷ []) c.point_room.ensures.points)
     (c.in_ok-earlier.ensures.ok ∙ rw (c.are_solved-is_exit.ensures, exit, number) refl)
     (c.link.ensures ∙ rw (c.push_reserved.ensures.items, c.point_room.ensures.links, c.none.ensures, c.none-2.ensures, number) refl)
 
 pub returns-clause-added : goal.returns-clause-added
 returns-clause-added c =
     ap (λ (xs : List KeptPoint). record { boxes = c.self.inside.boxes.items; points = xs })
-    (c.push_reserved-2.ensures.items ∙ ap (λ (xs : List KeptPoint). xs ++ point_row c.args.point ∷ []) c.point_room.ensures.points)
+    (c.push_reserved-2.ensures.items ∙ ap (λ (x : KeptPoint). c.point_room.new.points.items ++ x ∷ []) c.of.ensures ∙ ap (λ (xs : List KeptPoint). xs ++ point_row c.args.point ∷ []) c.point_room.ensures.points)
     ∙ ap (λ (r : Rows). with_point_row r c.args.point) c.self.view_is

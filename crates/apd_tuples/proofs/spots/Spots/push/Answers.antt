@@ -1,6 +1,7 @@
 use Rattle.std.proofs.Common.{◌∙◌, ◌++◌, ◌∷◌, [], ap, arith, length, sym}
 use Rattle.std.proofs.lemmas.List.{length-map}
 use Rattle.apd_past.specs.declared.past.PastCell.{PastCell}
+use Rattle.apd_tuples.specs.declared.spots.Row.{Row}
 use Rattle.apd_tuples.specs.Spots.{placed_all, spot_in, spots_in}
 use Rattle.apd_tuples.proofs.Spanning.{on_err_always, pushed_now, pushed_spanned, put_length, wider, wider_length, wider_spots, with_goals}
 use Rattle.apd_tuples.proofs.spots.Spots.push.Goals as goal
@@ -23,6 +24,20 @@ returns-in_err-to-clause-err c =
     (wider_spots c.self.inside.goals.items c.put_places.new.there.items c.self.inside.rows.items c.put_places.ensures.more c.self.invariant
     ∙ c.self.view_is)
 
+pub of-requires : goal.of-requires
+of-requires c =
+    let n = wider_length c.self.inside.goals.items c.put_places.new.there.items c.put_places.ensures.more in
+    omega (arith, n, c.in_ok-from.ensures, c.len-2.ensures, c.self.inside.goals.ok.0, c.in_ok-to.ensures, c.len-3.ensures, c.put_places.new.there.ok.0)
+
+pub invariant_of-self-in_err-kept : goal.invariant_of-self-in_err-kept
+invariant_of-self-in_err-kept c = wider c.self.inside.goals.items c.put_places.new.there.items c.self.inside.rows.items c.put_places.ensures.more c.self.invariant
+
+pub returns-in_err-kept-clause-err : goal.returns-in_err-kept-clause-err
+returns-in_err-kept-clause-err c =
+    on_err_always c.from_residual-in_err-kept.result _
+    (wider_spots c.self.inside.goals.items c.put_places.new.there.items c.self.inside.rows.items c.put_places.ensures.more c.self.invariant
+    ∙ c.self.view_is)
+
 pub invariant_of-self-in_err-push : goal.invariant_of-self-in_err-push
 invariant_of-self-in_err-push c =
     rw c.in_err-push.ensures.items (wider c.self.inside.goals.items c.put_places.new.there.items c.self.inside.rows.items c.put_places.ensures.more c.self.invariant)
@@ -38,13 +53,13 @@ pub invariant_of-self-2 : goal.invariant_of-self-2
 invariant_of-self-2 c =
     pushed_spanned c.self.inside.goals.items _ c.put_places.new.there.items c.self.inside.rows.items c.push.new.self.items
     (record { head = c.place_of.result; moment = c.args.moment; from = c.in_ok-from.from; to = c.in_ok-to.to; fact = c.args.fact })
-    c.in_ok-put_places.ensures.ok c.in_ok-push.ensures.items (c.in_ok-from.ensures ∙ c.len-2.ensures ∙ c.self.inside.goals.ok.0) (c.in_ok-to.ensures ∙ c.len-3.ensures ∙ c.put_places.new.there.ok.0) c.self.invariant
+    c.in_ok-put_places.ensures.ok (c.in_ok-push.ensures.items ∙ ap (λ (r : Row). c.self.inside.rows.items ++ r ∷ []) c.in_ok-kept.ensures) (c.in_ok-from.ensures ∙ c.len-2.ensures ∙ c.self.inside.goals.ok.0) (c.in_ok-to.ensures ∙ c.len-3.ensures ∙ c.put_places.new.there.ok.0) c.self.invariant
 
 pub returns-clause-ok : goal.returns-clause-ok
 returns-clause-ok c =
     pushed_now c.self.inside.goals.items _ c.put_places.new.there.items c.self.inside.rows.items c.push.new.self.items
     (record { head = c.place_of.result; moment = c.args.moment; from = c.in_ok-from.from; to = c.in_ok-to.to; fact = c.args.fact })
-    c.in_ok-put_places.ensures.ok c.in_ok-push.ensures.items (c.in_ok-from.ensures ∙ c.len-2.ensures ∙ c.self.inside.goals.ok.0) (c.in_ok-to.ensures ∙ c.len-3.ensures ∙ c.put_places.new.there.ok.0) c.self.invariant
+    c.in_ok-put_places.ensures.ok (c.in_ok-push.ensures.items ∙ ap (λ (r : Row). c.self.inside.rows.items ++ r ∷ []) c.in_ok-kept.ensures) (c.in_ok-from.ensures ∙ c.len-2.ensures ∙ c.self.inside.goals.ok.0) (c.in_ok-to.ensures ∙ c.len-3.ensures ∙ c.put_places.new.there.ok.0) c.self.invariant
     c.args.self.now c.self.view_is
     ∙ ap
     (λ (p : PastCell). c.args.self.now ++ with_goals (record { head = p; moment = c.args.moment; from = c.in_ok-from.from; to = c.in_ok-to.to; fact = c.args.fact }) (placed_all c.args.places.now c.args.goals.now) ∷ [])

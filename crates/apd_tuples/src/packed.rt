@@ -1,0 +1,99 @@
+//! Rows in 16 bytes each.
+
+ghost use Rattle.std.specs.Prelude.{◌≡◌, ◌≤◌, IfOk};
+ghost use Rattle.apd_tuples.specs.Packed.{code_of, fact_in};
+
+use crate::spots::{Fact, Row};
+use apd_past::past::{Moment, PastCell};
+use std::alloc::AllocError;
+use std::marker::Model;
+
+/// A row as it is kept. Clauses see the row.
+#[derive(Drop)]
+pub struct KeptRow {
+    head: PastCell,
+    moment: Moment,
+    to: u32,
+    /// How many goals it has, and 256 times the number of its fact.
+    rest: u32,
+}
+
+impl Model for KeptRow {
+    ghost use Rattle.std.specs.Prelude.{◌-◌, ◌/◌, ◌%◌};
+    ghost use Rattle.apd_tuples.specs.declared.spots.Row.{Row};
+    ghost use Rattle.apd_tuples.specs.Packed.{fact_in};
+
+    ghost Value = { Row };
+
+    ghost view = { λ r. record {
+      head = r.head;
+      moment = r.moment;
+      from = r.to - r.rest % 256;
+      to = r.to;
+      fact = fact_in (r.rest / 256);
+    } };
+}
+
+/// The greatest number of goals that is kept, and the greatest number of a fact.
+const MOST_GOALS: u32 = 255;
+
+const MOST_CODE: u64 = 16_777_215;
+
+/// The number of a fact.
+fn code_of(fact: Fact) -> u64
+    ensures { result ≡ code_of fact }
+{
+    match fact {
+        Fact::Nothing => 0,
+        Fact::Ground => 1,
+        Fact::HeadSize(size) => size as u64 + 2,
+    }
+}
+
+/// The fact with this number.
+fn fact_in(code: u32) -> Fact
+    ensures { result ≡ fact_in code }
+{
+    if code == 0 {
+        return Fact::Nothing;
+    }
+    if code == 1 {
+        return Fact::Ground;
+    }
+    Fact::HeadSize(code - 2)
+}
+
+impl KeptRow {
+    /// The row as it is kept; want of memory where a number is too great. No clause has so many goals, and no instance
+    /// so many symbols.
+    pub fn of(row: Row) -> Result<KeptRow, AllocError>
+        requires { row.from ≤ row.to }
+        ensures { IfOk result (λ k. k ≡ row) }
+    {
+        let goals = row.to - row.from;
+        let code = code_of(row.fact);
+        if goals > MOST_GOALS || code > MOST_CODE {
+            return Err(AllocError);
+        }
+        Ok(KeptRow {
+            head: row.head,
+            moment: row.moment,
+            to: row.to,
+            rest: code as u32 * 256 + goals,
+        })
+    }
+
+    /// The row.
+    #[inline(always)]
+    pub fn read(&self) -> Row
+        ensures { result ≡ self.now }
+    {
+        Row {
+            head: self.head,
+            moment: self.moment,
+            from: self.to.saturating_sub(self.rest % 256),
+            to: self.to,
+            fact: fact_in(self.rest / 256),
+        }
+    }
+}

@@ -1,6 +1,6 @@
 //! Whether instances of clauses are candidates by the replies: of which one at least is wrong, if the replies are true.
 
-ghost use Rattle.std.specs.Prelude.{◌≡◌, ◌⊎◌, ◌↔◌, IsTrue, IfOk, map};
+ghost use Rattle.std.specs.Prelude.{◌≡◌, ◌⊎◌, ◌↔◌, [], IsTrue, IfOk, map};
 ghost use Rattle.std.specs.List.{AllByRecursion};
 ghost use Rattle.apd_clauses.specs.Clauses.{tuples_of};
 ghost use Rattle.apd_answers.specs.Findings.{AreCandidates, AreCandidatesByReplies, IsCandidate, IsHeadAmong, IsTrueWhere};
@@ -113,7 +113,32 @@ fn is_candidate(
     are_supported(alloc, record, answers, heads, later, body)
 }
 
-/// Whether each of them is one in front of those behind it. They are looked at from the last one on.
+/// Whether each of them is one in front of those behind it. They are looked at from the last one on, and the keys of their heads kept.
+fn are_candidates_with(
+    alloc: Global,
+    program: &Program,
+    record: &Record,
+    answers: &Parted,
+    heads: &mut Keys,
+    instances: &[Instance],
+) -> Result<bool, AllocError>
+    requires { heads.old.keys ≡ [] }
+    ensures { IfOk result (λ b. IsTrue b ↔
+        AreCandidates (tuples_of program.now) record.now answers.now instances.now) }
+{
+    let mut left = instances.len();
+    'instances: while left > 0 {
+        let (later, instance) = (&instances[left..], &instances[left - 1]);
+        if !is_candidate(alloc, program, record, answers, heads, later, instance)? {
+            return Ok(false);
+        }
+        heads.insert_full(key_of_form(alloc, &instance.tuple.head)?)?;
+        left -= 1;
+    }
+    Ok(true)
+}
+
+/// Whether each of them is one in front of those behind it.
 fn are_candidates(
     alloc: Global,
     program: &Program,
@@ -125,16 +150,10 @@ fn are_candidates(
         AreCandidates (tuples_of program.now) record.now answers.now instances.now) }
 {
     let mut heads = IndexSet::new(alloc);
-    let mut left = instances.len();
-    'instances: while left > 0 {
-        let (later, instance) = (&instances[left..], &instances[left - 1]);
-        if !is_candidate(alloc, program, record, answers, &heads, later, instance)? {
-            return Ok(false);
-        }
-        heads.insert_full(key_of_form(alloc, &instance.tuple.head)?)?;
-        left -= 1;
-    }
-    Ok(true)
+    let found = are_candidates_with(alloc, program, record, answers, &mut heads, instances);
+    // Dropped by a call: else each part of it is a step to check, at each end of the loop.
+    drop(heads);
+    found
 }
 
 /// Whether the store says no to the head of an instance.

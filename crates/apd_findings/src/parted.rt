@@ -117,17 +117,36 @@ fn put(parts: &mut Parts, question: &Question, reply: &Reply) -> Result<(), Allo
     parts.orders.put(question, reply)
 }
 
+/// Puts what the pairs of a store say, where nothing was put before.
+fn put_pairs(parts: &mut Parts, all: &Answers) -> Result<(), AllocError>
+    requires affirmed { AreAffirmed [] parts.old.affirmed }
+    requires denied { AreDenied [] parts.old.denied }
+    requires orders { AreOrders [] parts.old.orders }
+    ensures affirmed { OnOk result (AreAffirmed all.now.pairs parts.new.affirmed) }
+    ensures denied { OnOk result (AreDenied all.now.pairs parts.new.denied) }
+    ensures orders { OnOk result (AreOrders all.now.pairs parts.new.orders) }
+{
+    all.are_once();
+    'pairs: for i in 0..all.len() {
+        put(parts, all.question(i), all.reply(i))?;
+    }
+    Ok(())
+}
+
 /// What the pairs of a store say.
 fn parts_of(alloc: Global, all: &Answers) -> Result<Parts, AllocError>
     ensures { IfOk result (λ p. AreAffirmed all.now.pairs p.affirmed
         × (AreDenied all.now.pairs p.denied × AreOrders all.now.pairs p.orders)) }
 {
-    all.are_once();
     let mut parts = no_parts(alloc);
-    'pairs: for i in 0..all.len() {
-        put(&mut parts, all.question(i), all.reply(i))?;
+    match put_pairs(&mut parts, all) {
+        Ok(()) => Ok(parts),
+        Err(AllocError) => {
+            // Dropped by a call, here and below: else each part of each value is a step to check.
+            drop(parts);
+            Err(AllocError)
+        }
     }
-    Ok(parts)
 }
 
 /// The question whether the one call is below the other.
@@ -168,7 +187,13 @@ impl Parted {
     pub fn of(alloc: Global, all: Answers) -> Result<Parted, AllocError>
         ensures { IfOk result (λ p. p ≡ all) }
     {
-        let parts = parts_of(alloc, &all)?;
+        let parts = match parts_of(alloc, &all) {
+            Ok(parts) => parts,
+            Err(AllocError) => {
+                drop(all);
+                return Err(AllocError);
+            }
+        };
         Ok(Parted {
             all,
             parts,
@@ -222,7 +247,10 @@ impl Parted {
     pub fn says_uncovered(&self, tuple: Tuple) -> Result<bool, AllocError>
         ensures { IfOk result (λ b. b ≡ says_uncovered self.now tuple) }
     {
-        self.all.has(&Question::Covers(tuple), &Reply::No)
+        let question = Question::Covers(tuple);
+        let said = self.all.has(&question, &Reply::No);
+        drop(question);
+        said
     }
 
     /// Whether the store says that the one call is below the other.
@@ -235,7 +263,9 @@ impl Parted {
         ensures { IfOk result (λ b. b ≡ says_below self.now callee.now caller.now) }
     {
         let question = whether_below(alloc, callee, caller)?;
-        self.all.has(&question, &Reply::Yes)
+        let said = self.all.has(&question, &Reply::Yes);
+        drop(question);
+        said
     }
 
     /// Computes ahead what tells whether the store says that the atom isn't true, and keeps it. The store stays as it is.

@@ -102,6 +102,29 @@ pub(crate) fn row_from(
     Ok(row)
 }
 
+/// Marks what the fresh edges lead to from what is marked, where nothing is kept.
+fn catch_up(
+    alloc: Global,
+    lists: &[ListOf<usize>],
+    fresh: &[Edge],
+    rows: &Rows,
+    whole: &mut Row,
+) -> Result<(), AllocError>
+    requires within { AreWithin lists.now }
+    requires edges { AreEdges lists.now fresh.now }
+    requires rows { AreReached lists.now [] rows.now }
+    ensures { OnOk result ((first : ℕ) → IsRowOf lists.now fresh.now first whole.old →
+        IsRowOf lists.now [] first whole.new) }
+{
+    'edges: for i in 0..fresh.len() {
+        let edge = fresh[i];
+        if whole.has(edge.from) {
+            walk(alloc, lists, rows, edge.to, whole)?;
+        }
+    }
+    Ok(())
+}
+
 /// What is kept of a number, with what the fresh edges lead to.
 pub(crate) fn caught_up(
     alloc: Global,
@@ -114,15 +137,15 @@ pub(crate) fn caught_up(
     ensures { IfOk result (λ whole. (first : ℕ) → IsRowOf lists.now fresh.now first row.now →
         IsRowOf lists.now [] first whole) }
 {
-    let none = IndexMap::new(alloc);
     let mut whole = row.copy(alloc)?;
-    'edges: for i in 0..fresh.len() {
-        let edge = fresh[i];
-        if whole.has(edge.from) {
-            walk(alloc, lists, &none, edge.to, &mut whole)?;
-        }
+    let none = IndexMap::new(alloc);
+    let caught = catch_up(alloc, lists, fresh, &none, &mut whole);
+    // Dropped by a call: else each part of it is a step to check, at each end of the walk.
+    drop(none);
+    match caught {
+        Ok(()) => Ok(whole),
+        Err(AllocError) => Err(AllocError),
     }
-    Ok(whole)
 }
 
 /// Whether the row has one of these numbers.

@@ -1,7 +1,7 @@
 use Rattle.std.proofs.Common.{take}
 use Rattle.apd_findings.specs.Ordering.{AreOrders}
 use Rattle.apd_findings.specs.Parted.{AreAffirmed, AreDenied}
-use Rattle.apd_findings.proofs.parted.parts_of.Given as goal
+use Rattle.apd_findings.proofs.parted.put_pairs.Given as goal
 
 abbrev pub invariant-pairs : goal.invariant-pairs
 invariant-pairs l =

@@ -2,7 +2,7 @@ use Rattle.std.proofs.Common.{◌≤◌, drop, length, map}
 use Rattle.apd_clauses.specs.Clauses.{tuples_of}
 use Rattle.apd_answers.specs.Findings.{AreCandidates}
 use Rattle.apd_findings.specs.Keys.{AreHeads}
-use Rattle.apd_findings.proofs.candidates.are_candidates.Given as goal
+use Rattle.apd_findings.proofs.candidates.are_candidates_with.Given as goal
 
 abbrev pub invariant-instances : goal.invariant-instances
 invariant-instances l =

@@ -3,7 +3,7 @@ use Rattle.apd_answers.specs.declared.store.Pair.{Pair}
 use Rattle.apd_findings.specs.Ordering.{AreOrders}
 use Rattle.apd_findings.specs.Parted.{AreAffirmed, AreDenied}
 use Rattle.apd_findings.proofs.Parting.{put-next, taken-all}
-use Rattle.apd_findings.proofs.parted.parts_of.Goals as goal
+use Rattle.apd_findings.proofs.parted.put_pairs.Goals as goal
 
 pub pairs-preserved : goal.pairs-preserved
 pairs-preserved c =
@@ -15,12 +15,11 @@ pairs-preserved c =
       ),
     )
 
-pub returns : goal.returns
-returns c =
-    let all = taken-all c.args.all.now.pairs c.pairs.i (omega (arith, c.pairs-test.false, c.len-i-end.ensures)) in (
-      subst (λ (ps : List Pair). AreAffirmed ps c.pairs.parts.affirmed) all c.pairs.invariant.0,
-      (
-        subst (λ (ps : List Pair). AreDenied ps c.pairs.parts.denied) all c.pairs.invariant.1.0,
-        subst (λ (ps : List Pair). AreOrders ps c.pairs.parts.orders) all c.pairs.invariant.1.1,
-      ),
-    )
+pub returns-clause-affirmed : goal.returns-clause-affirmed
+returns-clause-affirmed c = subst (λ (ps : List Pair). AreAffirmed ps c.pairs.parts.affirmed) (taken-all c.args.all.now.pairs c.pairs.i (omega (arith, c.pairs-test.false, c.len-i-end.ensures))) c.pairs.invariant.0
+
+pub returns-clause-denied : goal.returns-clause-denied
+returns-clause-denied c = subst (λ (ps : List Pair). AreDenied ps c.pairs.parts.denied) (taken-all c.args.all.now.pairs c.pairs.i (omega (arith, c.pairs-test.false, c.len-i-end.ensures))) c.pairs.invariant.1.0
+
+pub returns-clause-orders : goal.returns-clause-orders
+returns-clause-orders c = subst (λ (ps : List Pair). AreOrders ps c.pairs.parts.orders) (taken-all c.args.all.now.pairs c.pairs.i (omega (arith, c.pairs-test.false, c.len-i-end.ensures))) c.pairs.invariant.1.1

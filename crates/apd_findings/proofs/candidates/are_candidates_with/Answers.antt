@@ -7,7 +7,7 @@ use Rattle.apd_clauses.specs.Clauses.{tuples_of}
 use Rattle.apd_findings.proofs.Among.{each-fails, each-goes}
 use Rattle.apd_marks.proofs.Distinct.{part_eq}
 use Rattle.apd_findings.proofs.Numbers.{head-before}
-use Rattle.apd_findings.proofs.candidates.are_candidates.Goals as goal
+use Rattle.apd_findings.proofs.candidates.are_candidates_with.Goals as goal
 
 pub returns-then-not-branch : goal.returns-then-not-branch
 returns-then-not-branch c =

@@ -1,6 +1,0 @@
-use Rattle.std.proofs.Common.{ℕ, drop}
-use Rattle.apd_findings.specs.Reaching.{IsRowOf}
-use Rattle.apd_findings.proofs.reaching.caught_up.Given as goal
-
-abbrev pub invariant-edges : goal.invariant-edges
-invariant-edges l = (first : ℕ) → IsRowOf l.lists l.fresh first l.row → IsRowOf l.lists (drop l.i l.fresh) first l.whole

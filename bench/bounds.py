@@ -5,6 +5,7 @@
 
 PROGRAM is the proved program, which is built where none is named. UNRECORDED is one of the same sources whose
 runs leave no record (`run_query` of apd_query calls `show` in place of `run`); without it what a record costs isn't told.
+The C library's setting is that with which ./apd starts the program.
 With `swipl` on the path some rows are beside SWI-Prolog's bare engine with the occurs check, which neither counts ports nor
 records them. A session that takes more than 20 seconds or 4 GB is cut off, and its row isn't met. With a word, only the
 rows are measured that have it in their names. It ends with 1 where a row isn't met.
@@ -431,6 +432,7 @@ def references(bench):
 
 
 def main():
+    os.environ.setdefault("MALLOC_MMAP_THRESHOLD_", "131072")  # as ./apd does
     words = sys.argv[1:]
     only = ""
     if words[:1] == ["--only"]:

@@ -22,6 +22,11 @@ def program_file() -> str | None:
     return named if os.access(named, os.X_OK) else None
 
 
+def surroundings() -> dict[str, str]:
+    """The environment in which ./apd starts the program, too: there it says what the setting is for."""
+    return {"MALLOC_MMAP_THRESHOLD_": "131072", **os.environ}
+
+
 class Program:
     """A running apd. It ends where nothing refers to it any more.
 
@@ -34,7 +39,8 @@ class Program:
         self.status: int | None = None  # with which it ended; below 0 by a signal
         command = [program_file() or "apd", *words]
         # A session of its own, so that Ctrl-C at the terminal reaches the conversation alone.
-        self.child = Popen(command, stdin=PIPE, stdout=PIPE, start_new_session=True, **CODING)
+        pipes = {"stdin": PIPE, "stdout": PIPE, **CODING}
+        self.child = Popen(command, start_new_session=True, env=surroundings(), **pipes)
         finalize(self, self.child.kill)
 
     def tell(self, line: str) -> Iterator[str]:

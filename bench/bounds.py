@@ -269,6 +269,13 @@ def growing(bench):
 
     bench.measured([("a term of 2^18 symbols passed on, 100,000 ports", "s", 0.2)], passed_on)
 
+    def walked_down():
+        source = "last([X], X).\nlast([_|Xs], X) :- last(Xs, X).\n"
+        goal = "last([" + ",".join(["a"] * 16000) + "], _)"
+        return [bench.session(source, [f"?- {goal}."], ["--answers", "1", "--budget", "1000000"])[0]]
+
+    bench.measured([("a list of 16,000 elements walked down", "s", 0.2)], walked_down)
+
     def unification():
         left = ",".join(f"X{i}" for i in range(1, 41))
         right = ",".join(f"g(X{i},a,X{i})" for i in range(40))

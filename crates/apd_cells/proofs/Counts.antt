@@ -18,7 +18,7 @@ use Rattle.apd_cells.specs.Heap.{IsVariable}
 use Rattle.apd_cells.specs.Work.{AreRuns, run_symbols, runs_symbols, PassesOn}
 use Rattle.apd_cells.specs.Known.{HasExtent}
 use Rattle.apd_cells.specs.Counting.{IsOfSymbol, PassesPart}
-use Rattle.apd_cells.proofs.Passing.{elsewhere}
+use Rattle.apd_cells.proofs.Passing.{elsewhere, run_one}
 
 -- the extent of a term at a cell that leads to another
 pub extent_behind : (s : Stored) (c at : ℕ) (e : Extent) → c < length s.cells → term_at s at ≡ term_at s c → HasExtent s at e → HasExtent s c e
@@ -62,6 +62,21 @@ passes_known s here next rest e h r l i x is =
       right = (k.1, r.1);
       part = spell t;
       symbols = ap (λ z. z ++ runs_symbols s rest) k.0 ∙ append_assoc (spell t) (run_symbols s (here.at + 1) (here.left - 1)) (runs_symbols s rest);
+      long = x.long ∙ sym (length-spell t);
+      some = omega (arith, x.long, size_positive t);
+      below = λ v o. x.below v (subst (λ vs. IsAmong vs v) (flat_map-variables t) o);
+    })
+
+-- the last term of a run is passed, whose extent is known
+pub passes_last : (s : Stored) (here next : Run) (rest : List Run) (e : Extent) → AreRuns s.cells (here ∷ rest) → here.left ≡ 1 → HasExtent s here.at e
+    → next ≡ record { at = here.at + 1; left = 0 } → PassesPart s (here ∷ rest) e (next ∷ rest)
+passes_last s here next rest e r one x is =
+    let t = term_at s here.at in
+    let k : run_symbols s here.at here.left ≡ spell t = ap (run_symbols s here.at) one ∙ run_one s here.at x.inside in
+    rw is (record {
+      right = (record { inside = omega (arith, x.inside); enough = omega arith }, r.1);
+      part = spell t;
+      symbols = ap (λ z. z ++ runs_symbols s rest) k;
       long = x.long ∙ sym (length-spell t);
       some = omega (arith, x.long, size_positive t);
       below = λ v o. x.below v (subst (λ vs. IsAmong vs v) (flat_map-variables t) o);

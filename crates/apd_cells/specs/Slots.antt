@@ -69,7 +69,8 @@ GetsOwn n cells (Given c) x = x ≡ Given c
 abbrev pub EachGetsOwn : ℕ → List Sym → List Slot → List Slot → Type 0
 EachGetsOwn n cells old new = (v : ℕ) → GetsOwn n cells (slot_at old v) (slot_at new v)
 
--- the same, or the term at a cell may stand for it
+-- what stands for a variable goes on to stand for it, and one for which nothing stood may have a variable of its own that
+-- isn't one of the first n, or the term at a cell
 abbrev pub GetsAny : ℕ → List Sym → Slot → Slot → Type 0
 GetsAny n cells New New = Unit {0}
 GetsAny n cells New (Own c) = (m : ℕ) → get_or cells c (Var 0) ≡ Var m → n ≤ m

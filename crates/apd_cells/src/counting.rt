@@ -38,9 +38,9 @@ fn extent_of(symbol: Sym) -> Result<Extent, AllocError>
     }
 }
 
-/// Passes the first symbol of a run, behind the bindings, or the first term, where a binding leads to it and its
-/// extent is known.
-fn pass_part(heap: &Heap, rest: &mut Stack<Run>, here: Run) -> Result<Part, AllocError>
+/// Passes the first symbol of a run, behind the bindings, or the first term, where its extent is known and a binding
+/// leads to it, or it is the run's last and that is looked for.
+fn pass_part(heap: &Heap, rest: &mut Stack<Run>, here: Run, looks: bool) -> Result<Part, AllocError>
     requires right { AreRuns heap.now.cells (here ∷ rest.old) }
     requires some { 0 < here.left }
     ensures { IfOk result
@@ -56,12 +56,25 @@ fn pass_part(heap: &Heap, rest: &mut Stack<Run>, here: Run) -> Result<Part, Allo
             return Ok(Part { extent, next });
         }
     }
+    if looks && here.left == 1 {
+        if let Some(extent) = heap.known(at) {
+            let next = Run {
+                at: here.at + 1,
+                left: 0,
+            };
+            return Ok(Part { extent, next });
+        }
+    }
     let passed = pass_from(heap, rest, here, at)?;
     Ok(Part {
         extent: extent_of(passed.symbol)?,
         next: passed.next,
     })
 }
+
+/// A count looks for known extents of last arguments when it has taken so many steps, and such extents are kept so far
+/// apart.
+const STRIDE: u64 = 16;
 
 /// The extent of the term at a cell; none exactly where its size is over the limit. It passes at most one symbol more
 /// than that, and none of a term whose extent is known.
@@ -79,7 +92,7 @@ pub fn counted_within(
     let mut extent = Extent { size: 0, above: 0 };
     let mut steps: u64 = 0;
     'parts: while let Some(run) = next_run(&mut runs, here) {
-        let part = pass_part(heap, &mut runs, run)?;
+        let part = pass_part(heap, &mut runs, run, steps >= STRIDE)?;
         if part.extent.size > limit - extent.size {
             return Ok(None);
         }
@@ -90,8 +103,46 @@ pub fn counted_within(
     Ok(Some(Count { extent, steps }))
 }
 
+/// The places of a written term's tails, some symbols apart: of its last argument, of that one's last argument and so on,
+/// as the tails of a list are.
+fn tails_of(alloc: Global, symbols: &[Sym]) -> Result<Stack<usize>, AllocError> {
+    let mut tails = Stack::new(alloc);
+    let mut left: usize = 1;
+    let mut wait = STRIDE;
+    for (place, symbol) in symbols.iter().enumerate() {
+        if left == 1 && wait == 0 {
+            tails.push(place)?;
+            wait = STRIDE;
+        }
+        left = left.saturating_sub(1).saturating_add(arity_of(*symbol));
+        wait = wait.saturating_sub(1);
+    }
+    Ok(tails)
+}
+
+/// Keeps the extents of the tails of the term that is written at a cell, the last one's first, so that each takes few
+/// steps to count. So who walks down a long list counts few symbols of it at each step.
+fn keep_tails(heap: &mut Heap, alloc: Global, at: usize, limit: u64) -> Result<(), AllocError>
+    requires { at < length heap.old.cells }
+    ensures { heap.new ≡ heap.old }
+{
+    let mut tails = tails_of(alloc, heap.written(at))?;
+    'tails: while let Some(place) = tails.pop() {
+        let tail = at.saturating_add(place);
+        if tail < heap.cells() {
+            if let Some(count) = counted_within(heap, alloc, tail, limit)? {
+                heap.keep(tail, count.extent)?;
+            }
+        }
+    }
+    Ok(())
+}
+
 /// The extent of a term is kept where it takes more steps than these to count it.
 const FEW_STEPS: u64 = 2;
+
+/// The extents of its tails are kept too where it takes more steps than these.
+const MANY_STEPS: u64 = 64;
 
 /// The extent of the term at a cell; none exactly where its size is over the limit. It is kept if it takes long to count
 /// it.
@@ -114,6 +165,9 @@ fn kept_within(
     let Some(count) = counted_within(heap, alloc, at, limit)? else {
         return Ok(None);
     };
+    if count.steps > MANY_STEPS && count.extent.above == 0 {
+        keep_tails(heap, alloc, at, limit)?;
+    }
     if count.steps > FEW_STEPS {
         heap.keep(at, count.extent)?;
     }

@@ -1,6 +1,6 @@
 //! A front of the cells, with what is known of its variables.
 
-ghost use Rattle.std.specs.Prelude.{◌≡◌, ◌<◌, ◌⊎◌, min, max};
+ghost use Rattle.std.specs.Prelude.{◌≡◌, ◌<◌, ◌⊎◌};
 
 /// So many of the first cells, and a number above their variables.
 #[derive(Clone, Copy)]
@@ -14,26 +14,6 @@ pub(crate) const NOTHING: Front = Front {
     cells: 0,
     variables: 0,
 };
-
-/// The greater of two numbers.
-pub(crate) fn greater(a: usize, b: usize) -> usize
-    ensures { result ≡ max a b }
-{
-    if a < b {
-        return b;
-    }
-    a
-}
-
-/// The smaller of two numbers.
-pub(crate) fn smaller(a: usize, b: usize) -> usize
-    ensures { result ≡ min a b }
-{
-    if b < a {
-        return b;
-    }
-    a
-}
 
 /// A number above the variables of the term at a cell, where so many variables are there.
 pub(crate) fn above_term(front: Front, to: usize, variables: usize) -> usize

@@ -11,10 +11,10 @@ ghost use Rattle.apd_cells.specs.Slots.{AreSlots, HasLoaded};
 ghost use Rattle.apd_cells.specs.declared.heap.Binding.TheVariants.{Free, At};
 ghost use Rattle.apd_cells.specs.Store.{term_at, written, symbol_at, binding_of, MayBind, bound, loaded, before_note, at_mark, IsSound, IsEnd, IsTwin};
 
-use crate::front::{Front, NOTHING, above_term, greater, smaller};
+use crate::front::{Front, NOTHING, above_term};
 use crate::kept::{KeptBinding, KeptNote};
 use crate::known::{
-    Extent, KeptKnown, above_all, forget_above, forget_since, known_at, make_place, narrow,
+    Extent, KeptKnown, above_all, forget_above, forget_since, known_at, make_place,
 };
 use crate::live::Live;
 use crate::slots::{Slot, append_for};
@@ -258,7 +258,7 @@ impl Heap {
         known_at(&self.open_terms, place, at)
     }
 
-    /// Keeps the extent of the term at a cell.
+    /// Keeps the extent of the term at a cell, or nothing.
     pub fn keep(&mut self, at: usize, extent: Extent) -> Result<(), AllocError>
         requires { HasExtent self.old at extent }
         ensures { self.new ≡ self.old }
@@ -269,7 +269,7 @@ impl Heap {
             let Some(kept) = KeptKnown::of(at, extent, since) else {
                 return Ok(());
             };
-            self.places[at] = narrow(self.ground_terms.len())?;
+            self.places[at] = u32::try_from(self.ground_terms.len()).unwrap_or(u32::MAX);
             self.ground_terms.push(kept)?;
             return Ok(());
         }
@@ -278,7 +278,7 @@ impl Heap {
         let Some(kept) = KeptKnown::of(at, Extent { size, above }, since) else {
             return Ok(());
         };
-        self.places[at] = narrow(self.open_terms.len())?;
+        self.places[at] = u32::try_from(self.open_terms.len()).unwrap_or(u32::MAX);
         self.open_terms.push(kept)?;
         Ok(())
     }
@@ -297,7 +297,7 @@ impl Heap {
         let _notes = self.trail.len();
         self.bindings[v as usize] = KeptBinding::at(to);
         self.compounds += compound;
-        self.touched = greater(self.touched, above);
+        self.touched = self.touched.max(above);
         forget_above(&mut self.open_terms, v);
         Ok(())
     }
@@ -322,7 +322,7 @@ impl Heap {
             return Err(e);
         }
         self.front = Front { cells, variables };
-        self.longest = greater(self.longest, self.cells.len() - cells);
+        self.longest = self.longest.max(self.cells.len() - cells);
         Ok(cells)
     }
 
@@ -348,7 +348,7 @@ impl Heap {
             return Err(e);
         }
         self.front = Front { cells, variables };
-        self.longest = greater(self.longest, self.cells.len() - cells);
+        self.longest = self.longest.max(self.cells.len() - cells);
         Ok(cells)
     }
 
@@ -374,7 +374,7 @@ impl Heap {
                 self.cells.truncate(cells);
                 self.bindings.truncate(variables);
                 self.front = NOTHING;
-                self.touched = smaller(self.touched, variables);
+                self.touched = self.touched.min(variables);
             }
             Note::Bound(v, to) => {
                 self.bindings[v as usize] = KeptBinding::free();

@@ -10,6 +10,7 @@ ghost use Rattle.apd_cells.specs.Stored.{Stored};
 use crate::stack::Stack;
 use std::alloc::AllocError;
 use std::marker::Model;
+use std::mem::size_of;
 
 /// How many symbols a term has, and a number above its variables: 0 only where it has none.
 #[derive(Clone, Copy)]
@@ -44,7 +45,7 @@ pub struct Known {
     pub since: usize,
 }
 
-/// The same in 16 bytes. Clauses see the extent.
+/// The same in 16 bytes. Contracts see cell, extent and notes.
 #[derive(Drop)]
 pub struct KeptKnown {
     cell: u32,
@@ -52,6 +53,8 @@ pub struct KeptKnown {
     above: u32,
     since: u32,
 }
+
+const _: () = prove!(size_of::<KeptKnown>() == 16);
 
 impl Model for KeptKnown {
     ghost use Rattle.apd_cells.specs.declared.known.Known.{Known};
@@ -66,7 +69,7 @@ impl Model for KeptKnown {
 }
 
 impl KeptKnown {
-    /// The extent as it is kept; none where a number is too great.
+    /// The extent as it is kept, where its numbers have room; none says nothing.
     pub fn of(cell: usize, extent: Extent, since: usize) -> Option<KeptKnown>
         ensures { IfSome result
             (λ k. k ≡ record { cell = cell; extent = extent; since = since }) }
@@ -157,16 +160,8 @@ pub fn above_all(known: &Stack<KeptKnown>, above: u64) -> u64
     }
 }
 
-/// The greatest place that is kept.
+/// The greatest number that is kept.
 const MOST: usize = 4_294_967_295;
-
-/// The place as it is kept; want of memory where it is too great.
-pub fn narrow(place: usize) -> Result<u32, AllocError> {
-    if place > MOST {
-        return Err(AllocError);
-    }
-    Ok(place as u32)
-}
 
 /// Makes room for the place of a cell.
 pub fn make_place(places: &mut Vec<u32>, cell: usize) -> Result<(), AllocError>

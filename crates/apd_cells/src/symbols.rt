@@ -9,7 +9,6 @@ ghost use Rattle.apd_cells.specs.Flat.{compound_in};
 ghost use Rattle.apd_cells.specs.Heap.{HasMore, raised};
 ghost use Rattle.apd_cells.specs.Store.{above};
 
-use crate::front::greater;
 use crate::kept::KeptBinding;
 use apd_term::{Flat, Sym};
 use std::alloc::AllocError;
@@ -51,7 +50,7 @@ pub(crate) fn above_symbol(symbol: Sym, there: usize) -> Result<usize, AllocErro
             if v > MOST {
                 return Err(AllocError);
             }
-            Ok(greater(there, v as usize + 1))
+            Ok(there.max(v as usize + 1))
         }
         _ => Ok(there),
     }

@@ -21,7 +21,7 @@ invariant_of-self-2 c =
     rw c.at.ensures (
       heap_bound c.self.inside.cells.items c.self.inside.bindings.items c.self.inside.trail c.push.new.self c.args.v c.args.to c.self.invariant.0 may pushed,
       marked_bound_by c.self.inside.cells.items (length c.self.inside.bindings.items) c.self.inside.trail c.push.new.self c.self.inside.touched _ c.above_term-above.result
-          c.self.inside.front c.args.v c.args.to c.self.invariant.0.kept c.self.invariant.1 may.inside pushed c.greater-self-inside.ensures
+          c.self.inside.front c.args.v c.args.to c.self.invariant.0.kept c.self.invariant.1 may.inside pushed c.max-self-inside.ensures
           (elim c.above_term-above.ensures [ inl p ↦ inl p | inr q ↦ inr (q ∙ count) ]),
       compound_bound c.self.inside.cells.items c.self.inside.trail c.push.new.self c.args.v c.args.to c.self.inside.compounds c.compound_at-compound.result
           may.inside c.self.invariant.2 pushed (c.compound_at-compound.ensures ∙ ap (λ xs. compound_in (get_or xs c.args.to (Var 0))) c.as_slice.ensures.value),

@@ -14,8 +14,8 @@ pub invariant_of-self-2 : goal.invariant_of-self-2
 invariant_of-self-2 c =
     let e : c.len-cells.result ≡ length c.self.inside.cells.items = omega arith in
     let f : c.len-variables.result ≡ length c.self.inside.bindings.items = omega arith in
-    let longest : c.greater-self-inside.result ≡ max c.self.inside.longest (length c.append_for.new.cells.items - length c.self.inside.cells.items) =
-    omega (arith, c.greater-self-inside.ensures) in
+    let longest : c.max-self-inside.result ≡ max c.self.inside.longest (length c.append_for.new.cells.items - length c.self.inside.cells.items) =
+    omega (arith, c.max-self-inside.ensures) in
     let t = apply (put_for c.append_for.new.cells.items c.append_for.new.slots.items) (term_of c.args.symbols.now) in
     let put = c.in_default.ensures.put in
     let g = c.in_ok-push.ensures.ok ∙ ap (λ n. n ∷ c.self.inside.trail) c.in_ok-note.ensures ∙ rw (e, f) refl in (

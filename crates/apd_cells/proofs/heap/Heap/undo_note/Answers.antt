@@ -21,7 +21,7 @@ invariant_of-self-in-Loaded c =
       rw c.truncate.ensures.items
           (marked_unloaded_by c.self.inside.cells.items (length c.self.inside.bindings.items) c.self.inside.trail c.pop.new.self c.self.inside.touched _
           c.in-Loaded.cells c.in-Loaded.variables c.self.inside.front _
-          c.self.invariant.0.kept c.self.invariant.1 newest refl c.smaller-self-inside.ensures),
+          c.self.invariant.0.kept c.self.invariant.1 newest refl c.min-self-inside.ensures),
       c.self.invariant.2 ∙ ap (compound_count c.self.inside.cells.items) newest ∙ rw c.truncate.ensures.items refl,
       rw c.truncate.ensures.items (short_unloaded c.self.inside.cells.items c.self.inside.trail c.pop.new.self c.in-Loaded.cells c.in-Loaded.variables c.self.inside.longest newest c.self.invariant.3),
       rw (c.truncate.ensures.items, c.truncate-in-Loaded.ensures.items)

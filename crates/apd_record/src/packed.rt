@@ -7,8 +7,9 @@ use crate::kept::{KeptPoint, Span, TuplePlace};
 use apd_ports::{PointId, Step};
 use apd_tuples::spots::Numbered;
 use std::marker::Model;
+use std::mem::size_of;
 
-/// A truth and two numbers.
+/// A truth value and two numbers.
 #[derive(Clone, Copy)]
 struct Pack {
     is: bool,
@@ -16,7 +17,7 @@ struct Pack {
     second: u32,
 }
 
-/// A point as it is kept: its truths stand together, so that they take four bytes. Clauses see the point.
+/// A point as it is kept: its truth values stand together, so that they take four bytes. Contracts see the point.
 #[derive(Drop)]
 pub struct PackedPoint {
     owner: u32,
@@ -33,6 +34,8 @@ pub struct PackedPoint {
     point: u32,
     exit: u32,
 }
+
+const _: () = prove!(size_of::<PackedPoint>() == 28);
 
 impl Model for PackedPoint {
     ghost use Rattle.apd_record.specs.declared.kept.KeptPoint.{KeptPoint};

@@ -4,11 +4,13 @@ ghost use Rattle.std.specs.Prelude.{◌≡◌, ◌≤◌, IfOk};
 ghost use Rattle.apd_tuples.specs.Packed.{code_of, fact_in};
 
 use crate::spots::{Fact, Row};
+use apd_base::{MOST_GOALS, MOST_INSTANCE_SYMBOLS};
 use apd_past::past::{Moment, PastCell};
 use std::alloc::AllocError;
 use std::marker::Model;
+use std::mem::size_of;
 
-/// A row as it is kept. Clauses see the row.
+/// A row as it is kept. Contracts see the row.
 #[derive(Drop)]
 pub struct KeptRow {
     head: PastCell,
@@ -34,10 +36,17 @@ impl Model for KeptRow {
     } };
 }
 
-/// The greatest number of goals that is kept, and the greatest number of a fact.
-const MOST_GOALS: u32 = 255;
+const _: () = prove!(size_of::<KeptRow>() == 16);
 
-const MOST_CODE: u64 = 16_777_215;
+/// The greatest number of goals that a row has room for. No clause has so many.
+const MOST_KEPT_GOALS: u32 = 255;
+
+const _: () = prove!(MOST_GOALS <= MOST_KEPT_GOALS as usize);
+
+/// The greatest number of a fact that a row has room for. No size is told of more symbols than an instance may have.
+const MOST_FACT: u64 = 16_777_215;
+
+const _: () = prove!(MOST_INSTANCE_SYMBOLS + 2 <= MOST_FACT);
 
 /// The number of a fact.
 fn code_of(fact: Fact) -> u64
@@ -64,15 +73,14 @@ fn fact_in(code: u32) -> Fact
 }
 
 impl KeptRow {
-    /// The row as it is kept; want of memory where a number is too great. No clause has so many goals, and no instance
-    /// so many symbols.
+    /// The row as it is kept; want of memory where a number is too great.
     pub fn of(row: Row) -> Result<KeptRow, AllocError>
         requires { row.from ≤ row.to }
         ensures { IfOk result (λ k. k ≡ row) }
     {
         let goals = row.to - row.from;
         let code = code_of(row.fact);
-        if goals > MOST_GOALS || code > MOST_CODE {
+        if goals > MOST_KEPT_GOALS || code > MOST_FACT {
             return Err(AllocError);
         }
         Ok(KeptRow {

@@ -157,6 +157,10 @@ impl Spots {
 
     /// Puts the spot of the terms at a head's cell and at goals' cells behind the others, and tells its
     /// number and how many goals it has. The cells stand at these places.
+    ///
+    /// # Errors
+    ///
+    /// Where there is no memory, or a row has no room for a number: what comes within a run's limits has room.
     pub fn push(
         &mut self,
         places: &[PastCell],

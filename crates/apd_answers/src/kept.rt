@@ -1,17 +1,18 @@
 //! Pairs that are looked up at the places of a mark.
 
-ghost use Rattle.std.specs.Prelude.{◌≡◌, ◌&&◌, IfOk};
+ghost use Rattle.std.specs.Prelude.{◌≡◌, ◌&&◌, ◌++◌, ◌∷◌, [], length, IfOk, OnErr, OnOk};
 ghost use Rattle.apd_answers.specs.Questions.{canonical_question};
-ghost use Rattle.apd_marks.specs.Places.{places_of};
+ghost use Rattle.apd_marks.specs.Places.{HaveSamePlaces, Notes, places_of};
 ghost use Rattle.apd_answers.specs.Marks.{mark_of, mark_of_form, replied_mark, with_reply};
 ghost use Rattle.apd_answers.specs.Store.{is_kept_as, reply_to, same_question, same_reply};
 ghost use Rattle.apd_answers.specs.Tellers.{telling_mark};
 
-use crate::marks::{PairMarks, mark_of_form, with_reply};
+use crate::marks::{PairMarks, mark_of_form, note_all, with_reply};
 use crate::question::{Question, Reply};
 use crate::same::{same_question, same_reply};
 use crate::store::Pair;
 use crate::tellers::telling_mark;
+use apd_marks::Places;
 use std::alloc::{AllocError, Global};
 
 /// Whether the pair's question has this canonical form.
@@ -84,4 +85,50 @@ pub(crate) fn is_kept(
         }
     }
     Ok(false)
+}
+
+/// A pair of copies.
+pub(crate) fn copied(alloc: Global, question: &Question, reply: &Reply) -> Result<Pair, AllocError>
+    ensures question { IfOk result (λ p. p.question ≡ question.now) }
+    ensures reply { IfOk result (λ p. p.reply ≡ reply.now) }
+{
+    let question = question.copy(alloc)?;
+    match reply.copy(alloc) {
+        Ok(reply) => Ok(Pair { question, reply }),
+        Err(AllocError) => {
+            drop(question);
+            Err(AllocError)
+        }
+    }
+}
+
+/// Puts a pair at the end, and its place at each of its marks; after want of memory all is as before.
+pub(crate) fn put_pair(
+    alloc: Global,
+    pairs: &mut Vec<Pair>,
+    places: &mut Places,
+    replied: &mut Places,
+    tellers: &mut Places,
+    marks: PairMarks,
+    pair: Pair,
+) -> Result<(), AllocError>
+    ensures ok { OnOk result (pairs.new.items ≡ pairs.old.items ++ pair ∷ []) }
+    ensures err { OnErr result (pairs.new.items ≡ pairs.old.items) }
+    ensures marked { OnOk result
+        (Notes places.old marks.form (length pairs.old.items) places.new) }
+    ensures replied { OnOk result
+        (Notes replied.old marks.replied (length pairs.old.items) replied.new) }
+    ensures telling { OnOk result
+        (Notes tellers.old marks.telling (length pairs.old.items) tellers.new) }
+    ensures same_places { OnErr result (HaveSamePlaces places.old places.new) }
+    ensures same_replied { OnErr result (HaveSamePlaces replied.old replied.new) }
+    ensures same_tellers { OnErr result (HaveSamePlaces tellers.old tellers.new) }
+{
+    let place = pairs.len();
+    pairs.push(pair)?;
+    if note_all(alloc, places, replied, tellers, marks, place).is_err() {
+        drop(pairs.pop());
+        return Err(AllocError);
+    }
+    Ok(())
 }

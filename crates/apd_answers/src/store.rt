@@ -3,6 +3,7 @@
 ghost use Rattle.std.specs.Prelude.{◌≡◌, ◌<◌, ◌++◌, ◌∷◌, [], false, length, IfOk, IfSome, OnOk, OnErr, slice_get, Some};
 ghost use Rattle.apd_answers.specs.declared.store.Pair.{Pair};
 ghost use Rattle.std.specs.List.{enumerate_from, list_any};
+ghost use Rattle.indexmap.specs.IndexMap.{keys};
 ghost use Rattle.apd_term.specs.Matching.{is_instance};
 ghost use Rattle.apd_answers.specs.Questions.{with_values, canonical_question, Fits};
 ghost use Rattle.apd_answers.specs.declared.question.Question.TheVariants.{True};
@@ -18,8 +19,8 @@ ghost use Rattle.apd_cells.specs.First.{key_of};
 ghost use Rattle.apd_ports.specs.Filter.{is_predicate};
 ghost use Rattle.apd_answers.specs.Trust.{with_trust};
 
-use crate::kept::{is_kept, marks_of, reply_to};
-use crate::marks::{mark_of_form, note_all, with_reply};
+use crate::kept::{copied, is_kept, marks_of, put_pair, reply_to};
+use crate::marks::{mark_of_form, with_reply};
 use crate::question::{Question, Reply};
 use crate::same::same_question;
 use crate::tellers::{
@@ -28,7 +29,7 @@ use crate::tellers::{
 use apd_cells::first::key_of;
 use apd_marks::{Places, with_mark};
 use apd_term::{Atoms, Flat, Pred, Preds, Subst, Tuple, apply_tuple, canonical_tuple};
-use indexmap::{IndexMap, IndexSet};
+use indexmap::IndexMap;
 use std::alloc::{AllocError, Global};
 use std::marker::Model;
 
@@ -128,16 +129,20 @@ fn truth_decided(alloc: Global, pairs: &[Pair], atom: &Flat) -> Result<Option<Re
 }
 
 /// Puts a predicate at the end of a list, and of the set that has the same; after want of memory both are as before.
-fn put_both(trusted: &mut Preds, listed: &mut IndexSet<Pred>, pred: Pred) -> Result<(), AllocError>
-    requires same { listed.old.keys ≡ trusted.old }
+fn put_both(
+    trusted: &mut Preds,
+    listed: &mut IndexMap<Pred, ()>,
+    pred: Pred,
+) -> Result<(), AllocError>
+    requires same { keys listed.old ≡ trusted.old }
     requires unlisted { list_any (is_predicate (Some pred)) trusted.old ≡ false }
-    ensures same { listed.new.keys ≡ trusted.new }
+    ensures same { keys listed.new ≡ trusted.new }
     ensures ok { OnOk result (trusted.new ≡ trusted.old ++ pred ∷ []) }
     ensures err { OnErr result (trusted.new ≡ trusted.old) }
 {
     listed.reserve(1)?;
     trusted.push(pred)?;
-    let _listed = listed.insert(pred);
+    let _listed = listed.insert(pred, ());
     Ok(())
 }
 
@@ -154,12 +159,13 @@ pub struct Answers {
     /// The places of the pairs by the marks of the atoms that they may tell of.
     tellers: Places,
     trusted: Preds,
-    /// The predicates that are trusted, to look them up.
-    listed: IndexSet<Pred>,
+    /// The predicates that are trusted, to look them up: the keys of a map of no values, as the names are.
+    listed: IndexMap<Pred, ()>,
 }
 
 impl Model for Answers {
     ghost use Rattle.std.specs.Prelude.{◌≡◌};
+    ghost use Rattle.indexmap.specs.IndexMap.{keys};
     ghost use Rattle.apd_answers.specs.Codes.{store_code};
     ghost use Rattle.apd_answers.specs.Fitting.{AllFitIn};
     ghost use Rattle.apd_marks.specs.Places.{IsIndexOf};
@@ -176,7 +182,7 @@ impl Model for Answers {
 
     ghost invariant = { λ a. AllFitIn a.pairs.items × IsIndexOf mark_of a.pairs.items a.places
         × AreOnce a.pairs.items × IsIndexOf telling_of a.pairs.items a.tellers × AreListedOnce a.trusted
-        × IsIndexOf replied_mark a.pairs.items a.replied × (a.listed.keys ≡ a.trusted) };
+        × IsIndexOf replied_mark a.pairs.items a.replied × (keys a.listed ≡ a.trusted) };
 }
 
 impl Answers {
@@ -191,7 +197,7 @@ impl Answers {
             replied: IndexMap::new(alloc),
             tellers: IndexMap::new(alloc),
             trusted: Preds::new(alloc),
-            listed: IndexSet::new(alloc),
+            listed: IndexMap::new(alloc),
         }
     }
 
@@ -310,27 +316,22 @@ impl Answers {
         let marks = marks_of(&form, question, reply);
         let pairs = self.pairs.as_slice();
         let places = self.replied_of(marks.replied);
-        if is_kept(self.alloc, pairs, places, &form, reply)? {
+        let kept = is_kept(self.alloc, pairs, places, &form, reply);
+        // Dropped by a call: else each part of it is a step to check, at each end of the function.
+        drop(form);
+        if kept? {
             return Ok(());
         }
-        let pair = Pair {
-            question: question.copy(self.alloc)?,
-            reply: reply.copy(self.alloc)?,
-        };
-        let place = self.pairs.len();
-        self.pairs.push(pair)?;
-        let noted = note_all(
+        let pair = copied(self.alloc, question, reply)?;
+        put_pair(
             self.alloc,
+            &mut self.pairs,
             &mut self.places,
             &mut self.replied,
             &mut self.tellers,
             marks,
-            place,
-        );
-        if noted.is_err() {
-            let _ = self.pairs.pop();
-            return Err(AllocError);
-        }
+            pair,
+        )?;
         Ok(())
     }
 
@@ -362,7 +363,7 @@ impl Answers {
     pub fn trusts(&self, pred: Pred) -> bool
         ensures { result ≡ list_any (is_predicate (Some pred)) self.now.trusted }
     {
-        self.listed.contains(&pred)
+        self.listed.contains_key(&pred)
     }
 
     /// Puts a predicate at the end of those that are trusted, unless it is kept; after want of memory the store is as before.

@@ -1,12 +1,13 @@
 //! Terms as nodes: a symbol, and the places of its arguments among the nodes.
 
 ghost use Rattle.std.specs.Prelude.{◌≡◌, ◌≤◌, ◌<◌, ◌^◌, length, take, drop, reverse, IfOk, IfSome, OnOk, Some, slice_get};
+ghost use Rattle.indexmap.specs.IndexMap.{keys};
 ghost use Rattle.apd_term.specs.Term.{arity_of};
 ghost use Rattle.apd_intern.specs.Nodes.{Adds, IsFrontOf, AreDistinct, symbol_of, arguments_of, IsLinked, rest_at, IsRest};
 
 use crate::hints::{Hints, key_of, key_of_link};
 use apd_term::{NameId, Sym};
-use indexmap::IndexSet;
+use indexmap::IndexMap;
 use std::alloc::AllocError;
 
 /// A term by its symbol and the places of its arguments.
@@ -43,18 +44,22 @@ pub fn symbol_of(node: Node) -> Sym
 }
 
 /// Where the link stands, if it stands where the hints say.
-fn find_link(links: &IndexSet<Link>, hints: &Hints, link: Link) -> Option<u32>
-    ensures { IfSome result (λ p. slice_get links.now.keys p ≡ Some link) }
+fn find_link(links: &IndexMap<Link, ()>, hints: &Hints, link: Link) -> Option<u32>
+    ensures { IfSome result (λ p. slice_get (keys links.now) p ≡ Some link) }
 {
     let place = hints.get(key_of_link(link))?;
-    let kept = links.get_index(place as usize)?;
+    let (kept, _) = links.get_index(place as usize)?;
     if *kept == link { Some(place) } else { None }
 }
 
 /// Where a link stands, which is put at the end if it isn't there.
-fn put_link(links: &mut IndexSet<Link>, hints: &mut Hints, link: Link) -> Result<u32, AllocError>
-    ensures place { IfOk result (λ p. slice_get links.new.keys p ≡ Some link) }
-    ensures adds { Adds links.old.keys link links.new.keys }
+fn put_link(
+    links: &mut IndexMap<Link, ()>,
+    hints: &mut Hints,
+    link: Link,
+) -> Result<u32, AllocError>
+    ensures place { IfOk result (λ p. slice_get (keys links.new) p ≡ Some link) }
+    ensures adds { Adds (keys links.old) link (keys links.new) }
 {
     if let Some(place) = find_link(links, hints, link) {
         return Ok(place);
@@ -62,22 +67,22 @@ fn put_link(links: &mut IndexSet<Link>, hints: &mut Hints, link: Link) -> Result
     if links.len() >= MOST {
         return Err(AllocError);
     }
-    let (place, _) = links.insert_full(link)?;
+    let (place, _) = links.insert_full(link, ())?;
     hints.note(key_of_link(link), place as u32);
     Ok(place as u32)
 }
 
 /// Where arguments are that have these places, the last one first.
 fn put_rest(
-    links: &mut IndexSet<Link>,
+    links: &mut IndexMap<Link, ()>,
     hints: &mut Hints,
     places: &[u32],
 ) -> Result<u32, AllocError>
-    ensures rest { IfOk result (λ r. IsRest links.new.keys (length places.now) r) }
-    ensures places { IfOk result (λ r. rest_at links.new.keys (length places.now) r ≡
+    ensures rest { IfOk result (λ r. IsRest (keys links.new) (length places.now) r) }
+    ensures places { IfOk result (λ r. rest_at (keys links.new) (length places.now) r ≡
         reverse places.now) }
-    ensures grown { IsFrontOf links.old.keys links.new.keys }
-    ensures distinct { AreDistinct links.old.keys → AreDistinct links.new.keys }
+    ensures grown { IsFrontOf (keys links.old) (keys links.new) }
+    ensures distinct { AreDistinct (keys links.old) → AreDistinct (keys links.new) }
 {
     if places.is_empty() {
         return Ok(0);
@@ -95,20 +100,20 @@ fn put_rest(
 
 /// The node of a symbol over the newest of these places, which are taken off.
 pub fn node_of(
-    links: &mut IndexSet<Link>,
+    links: &mut IndexMap<Link, ()>,
     hints: &mut Hints,
     symbol: Sym,
     places: &mut Vec<u32>,
 ) -> Result<Node, AllocError>
     requires { arity_of symbol ≤ length places.old.items }
     ensures symbol { IfOk result (λ n. symbol_of n ≡ symbol) }
-    ensures linked { IfOk result (λ n. IsLinked links.new.keys n) }
-    ensures arguments { IfOk result (λ n. arguments_of links.new.keys n ≡
+    ensures linked { IfOk result (λ n. IsLinked (keys links.new) n) }
+    ensures arguments { IfOk result (λ n. arguments_of (keys links.new) n ≡
         take (arity_of symbol) (reverse places.old.items)) }
     ensures places { OnOk result (reverse places.new.items ≡
         drop (arity_of symbol) (reverse places.old.items)) }
-    ensures grown { IsFrontOf links.old.keys links.new.keys }
-    ensures distinct { AreDistinct links.old.keys → AreDistinct links.new.keys }
+    ensures grown { IsFrontOf (keys links.old) (keys links.new) }
+    ensures distinct { AreDistinct (keys links.old) → AreDistinct (keys links.new) }
 {
     match symbol {
         Sym::Var(v) => Ok(Node::Variable(v)),
@@ -126,24 +131,24 @@ pub fn node_of(
 }
 
 /// Where the node stands, if it stands where the hints say.
-fn find_by_hint(nodes: &IndexSet<Node>, hints: &Hints, node: Node) -> Option<u32>
-    ensures { IfSome result (λ p. slice_get nodes.now.keys p ≡ Some node) }
+fn find_by_hint(nodes: &IndexMap<Node, ()>, hints: &Hints, node: Node) -> Option<u32>
+    ensures { IfSome result (λ p. slice_get (keys nodes.now) p ≡ Some node) }
 {
     let place = hints.get(key_of(node))?;
-    let kept = nodes.get_index(place as usize)?;
+    let (kept, _) = nodes.get_index(place as usize)?;
     if *kept == node { Some(place) } else { None }
 }
 
 /// Where the node stands, which is put at the end if it isn't there.
 pub fn put_node(
-    nodes: &mut IndexSet<Node>,
+    nodes: &mut IndexMap<Node, ()>,
     hints: &mut Hints,
     node: Node,
 ) -> Result<u32, AllocError>
-    requires { length nodes.old.keys < 2 ^ 32 }
-    ensures place { IfOk result (λ p. slice_get nodes.new.keys p ≡ Some node) }
-    ensures adds { Adds nodes.old.keys node nodes.new.keys }
-    ensures few { length nodes.new.keys < 2 ^ 32 }
+    requires { length (keys nodes.old) < 2 ^ 32 }
+    ensures place { IfOk result (λ p. slice_get (keys nodes.new) p ≡ Some node) }
+    ensures adds { Adds (keys nodes.old) node (keys nodes.new) }
+    ensures few { length (keys nodes.new) < 2 ^ 32 }
 {
     if let Some(place) = find_by_hint(nodes, hints, node) {
         return Ok(place);
@@ -151,7 +156,7 @@ pub fn put_node(
     if nodes.len() >= MOST {
         return Err(AllocError);
     }
-    let (place, _) = nodes.insert_full(node)?;
+    let (place, _) = nodes.insert_full(node, ())?;
     hints.note(key_of(node), place as u32);
     Ok(place as u32)
 }

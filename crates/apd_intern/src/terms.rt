@@ -9,7 +9,7 @@ use crate::hints::Hints;
 use crate::node::{Link, Node, node_of, put_node};
 use crate::spelling::spelled;
 use apd_term::{Flat, Sym};
-use indexmap::IndexSet;
+use indexmap::IndexMap;
 use std::alloc::{AllocError, Global};
 use std::marker::Model;
 
@@ -18,11 +18,13 @@ use std::marker::Model;
 pub struct TermId(pub usize);
 
 /// Terms, each once, by their places. Contracts see the list of the terms.
+///
+/// The tables are maps of no values, as that of the names is.
 #[derive(Drop)]
 pub struct Terms {
     alloc: Global,
-    nodes: IndexSet<Node>,
-    links: IndexSet<Link>,
+    nodes: IndexMap<Node, ()>,
+    links: IndexMap<Link, ()>,
     node_hints: Hints,
     link_hints: Hints,
     /// The places of a term's symbols while it is put, kept from term to term so that its memory is taken once.
@@ -34,15 +36,16 @@ impl Model for Terms {
     ghost use Rattle.std.specs.Coded.{coded_list};
     ghost use Rattle.apd_term.specs.Term.{Term};
     ghost use Rattle.apd_term.specs.Spelling.{term_code};
+    ghost use Rattle.indexmap.specs.IndexMap.{keys};
     ghost use Rattle.apd_intern.specs.Nodes.{decoded, IsTable};
 
     ghost Value = { List Term };
 
     ghost coded = { coded_list term_code };
 
-    ghost view = { λ t. decoded t.links.keys t.nodes.keys };
+    ghost view = { λ t. decoded (keys t.links) (keys t.nodes) };
 
-    ghost invariant = { λ t. IsTable t.links.keys t.nodes.keys };
+    ghost invariant = { λ t. IsTable (keys t.links) (keys t.nodes) };
 }
 
 impl Terms {
@@ -52,8 +55,8 @@ impl Terms {
     {
         Terms {
             alloc,
-            nodes: IndexSet::new(alloc),
-            links: IndexSet::new(alloc),
+            nodes: IndexMap::new(alloc),
+            links: IndexMap::new(alloc),
             node_hints: Hints::new(alloc),
             link_hints: Hints::new(alloc),
             places: Vec::new(alloc),
@@ -115,8 +118,8 @@ impl Terms {
     {
         spelled(
             self.alloc,
-            self.nodes.as_slice(),
-            self.links.as_slice(),
+            self.nodes.keys().as_slice(),
+            self.links.keys().as_slice(),
             id.0 as u32,
         )
     }

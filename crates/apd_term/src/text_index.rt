@@ -4,23 +4,27 @@ ghost use Rattle.std.specs.Prelude.{◌≡◌, ◌<◌, [], length, slice_index_
 ghost use Rattle.apd_term.specs.Names.{number_of, with_name, HasDistinctTexts};
 ghost use Rattle.apd_base.specs.declared.limits.TheConstants.{MOST_NAMES};
 
-use indexmap::IndexSet;
+use indexmap::IndexMap;
 use std::alloc::{AllocError, Global};
 use std::marker::Model;
 
 /// Texts, each once, by their places from 0. Contracts see the list of the texts.
+///
+/// They are the keys of a map of no values: each library whose public items have names is written with all that the table
+/// states, which is half as much again of a set.
 #[derive(Drop)]
 pub struct TextIndex {
-    texts: IndexSet<Vec<u8>>,
+    texts: IndexMap<Vec<u8>, ()>,
     alloc: Global,
 }
 
 impl Model for TextIndex {
     ghost use Rattle.std.specs.Prelude.{List, ℕ, map};
+    ghost use Rattle.indexmap.specs.IndexMap.{keys};
 
     ghost Value = { List (List ℕ) };
 
-    ghost view = { λ n. map (λ t. t.items) n.texts.keys };
+    ghost view = { λ n. map (λ t. t.items) (keys n.texts) };
 }
 
 impl TextIndex {
@@ -29,7 +33,7 @@ impl TextIndex {
         ensures { result ≡ [] }
     {
         TextIndex {
-            texts: IndexSet::new(alloc),
+            texts: IndexMap::new(alloc),
             alloc,
         }
     }
@@ -55,7 +59,7 @@ impl TextIndex {
         }
         let place = self.texts.len();
         let copy = Vec::from_slice(self.alloc, text)?;
-        self.texts.insert(copy)?;
+        self.texts.insert(copy, ())?;
         Ok(place as u32)
     }
 
@@ -64,7 +68,7 @@ impl TextIndex {
         ensures { result.now ≡ slice_index_or self.now place [] }
     {
         match self.texts.get_index(place as usize) {
-            Some(text) => text.as_slice(),
+            Some((text, _)) => text.as_slice(),
             None => &[],
         }
     }

@@ -49,12 +49,17 @@ pub fn eval(alloc: Global, expr: &Flat) -> Value
         Sym::Int(i) => Ok(i),
         Sym::Fun(name, 1) => {
             let only = expr.arg(alloc, 0)?;
-            of_one(UnaryOperation::named(name), eval(alloc, &only))
+            let value = eval(alloc, &only);
+            // Dropped by calls, here and below: else each part is a step to check.
+            drop(only);
+            of_one(UnaryOperation::named(name), value)
         }
         Sym::Fun(name, 2) => {
             let sides = both(alloc, expr)?;
             let x = eval(alloc, &sides.left);
-            of_two(BinaryOperation::named(name), x, eval(alloc, &sides.right))
+            let y = eval(alloc, &sides.right);
+            drop(sides);
+            of_two(BinaryOperation::named(name), x, y)
         }
         Sym::Fun(..) => Err(ArithFault::NotEvaluable),
     }

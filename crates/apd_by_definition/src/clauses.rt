@@ -4,7 +4,7 @@ ghost use Rattle.std.specs.Prelude.{◌≡◌, ◌≢◌, ◌≤◌, ◌∷◌, 
 ghost use Rattle.apd_term.specs.Term.{size};
 ghost use Rattle.apd_clauses.specs.Bodies.{conjuncts, first_fault, body_fault, fact, parts_of, clause_from};
 
-use crate::term::both;
+use crate::term::{Sides, both};
 use apd_base::MOST_GOALS;
 use apd_causes::BodyFault;
 use apd_clauses::body::{begins_with, goal_fault, head_fault};
@@ -50,9 +50,26 @@ pub fn goals_of(alloc: Global, term: &Flat) -> Result<Atoms, AllocError>
 {
     if begins_with(term, COMMA, 2) {
         let sides = both(alloc, term)?;
-        let goals = goals_of(alloc, &sides.left)?;
-        let others = goals_of(alloc, &sides.right)?;
-        return joined(alloc, goals, others.as_slice());
+        let goals = match goals_of(alloc, &sides.left) {
+            Ok(goals) => goals,
+            Err(fault) => {
+                // Dropped by calls, here and below: else each part is a step to check.
+                drop(sides);
+                return Err(fault);
+            }
+        };
+        let others = match goals_of(alloc, &sides.right) {
+            Ok(others) => others,
+            Err(fault) => {
+                drop(goals);
+                drop(sides);
+                return Err(fault);
+            }
+        };
+        let all = joined(alloc, goals, others.as_slice());
+        drop(others);
+        drop(sides);
+        return all;
     }
     alone(alloc, term)
 }
@@ -96,8 +113,9 @@ fn parts_of(alloc: Global, term: &Flat) -> Result<Tuple, AllocError>
     if begins_with(term, NECK, 2) {
         let sides = both(alloc, term)?;
         let body = goals_of(alloc, &sides.right)?;
-        let head = sides.left;
-        return Ok(Tuple { head, body });
+        let Sides { left, right } = sides;
+        drop(right);
+        return Ok(Tuple { head: left, body });
     }
     fact(alloc, term)
 }
@@ -115,7 +133,10 @@ pub fn clause_of(alloc: Global, term: &Flat) -> Result<Tuple, BodyFault>
     let tuple = parts_of(alloc, term)?;
     let faults = head_fault(&tuple.head).or(body_fault(tuple.body.as_slice()));
     match faults {
-        Some(fault) => Err(fault),
+        Some(fault) => {
+            drop(tuple);
+            Err(fault)
+        }
         None => Ok(tuple),
     }
 }

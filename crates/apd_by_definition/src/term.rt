@@ -101,5 +101,8 @@ pub fn canonical(alloc: Global, t: &Flat) -> Result<Flat, AllocError>
 {
     let mut order = Vec::new(alloc);
     note_all(&mut order, t)?;
-    numbered(alloc, &order, t)
+    let canonical = numbered(alloc, &order, t);
+    // Dropped by a call: else each part is a step to check.
+    drop(order);
+    canonical
 }

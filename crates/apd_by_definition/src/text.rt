@@ -30,9 +30,26 @@ pub fn elements(alloc: Global, list: &Flat) -> Result<Atoms, AllocError>
 {
     if is_cell(list) {
         let sides = both(alloc, list)?;
-        let first = alone(alloc, &sides.left)?;
-        let rest = elements(alloc, &sides.right)?;
-        return joined(alloc, first, rest.as_slice());
+        let first = match alone(alloc, &sides.left) {
+            Ok(first) => first,
+            Err(fault) => {
+                // Dropped by calls, here and below: else each part is a step to check.
+                drop(sides);
+                return Err(fault);
+            }
+        };
+        let rest = match elements(alloc, &sides.right) {
+            Ok(rest) => rest,
+            Err(fault) => {
+                drop(first);
+                drop(sides);
+                return Err(fault);
+            }
+        };
+        let all = joined(alloc, first, rest.as_slice());
+        drop(rest);
+        drop(sides);
+        return all;
     }
     Ok(Atoms::new(alloc))
 }

@@ -13,6 +13,7 @@ use apd_term::{Flat, Subst, Sym, apply};
 use apd_unify::rule::Rule;
 use std::alloc::{AllocError, Global};
 use std::collections::VecDeque;
+use std::mem::replace;
 
 /// Two terms that are to be made equal.
 type Equation = (Flat, Flat);
@@ -140,8 +141,7 @@ fn solves(alloc: Global, work: &mut Work, left: &Flat, right: &Flat) -> Result<b
     ensures { IfOk result
         (λ goes. IsAfter (rule_for left.now right.now) left.now right.now work.old.equations.items work.old.found goes work.new.equations.items work.new.found) }
 {
-    let rule = rule_for(alloc, left, right)?;
-    match &rule {
+    match rule_for(alloc, left, right)? {
         Rule::Delete => Ok(true),
         Rule::Decompose => {
             push_arguments(alloc, &mut work.equations, left, right)?;
@@ -149,7 +149,16 @@ fn solves(alloc: Global, work: &mut Work, left: &Flat, right: &Flat) -> Result<b
         }
         Rule::Clash | Rule::Cycle => Ok(false),
         Rule::Eliminate(v, t) => {
-            *work = eliminated(alloc, work, *v, t)?;
+            let next = match eliminated(alloc, work, v, &t) {
+                Ok(next) => next,
+                Err(fault) => {
+                    // Dropped by calls, here and below: else each part is a step to check.
+                    drop(t);
+                    return Err(fault);
+                }
+            };
+            drop(t);
+            drop(replace(work, next));
             Ok(true)
         }
     }
@@ -163,9 +172,23 @@ pub fn textbook_unifier(alloc: Global, a: &Flat, b: &Flat) -> Result<Option<Subs
 {
     let mut work = begun(alloc, a, b)?;
     'rules: while let Some((left, right)) = work.equations.pop_front() {
-        if !solves(alloc, &mut work, &left, &right)? {
+        let goes = match solves(alloc, &mut work, &left, &right) {
+            Ok(goes) => goes,
+            Err(fault) => {
+                drop(left);
+                drop(right);
+                drop(work);
+                return Err(fault);
+            }
+        };
+        drop(left);
+        drop(right);
+        if !goes {
+            drop(work);
             return Ok(None);
         }
     }
-    Ok(Some(work.found))
+    let Work { equations, found } = work;
+    drop(equations);
+    Ok(Some(found))
 }

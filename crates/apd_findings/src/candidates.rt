@@ -113,7 +113,8 @@ fn is_candidate(
     are_supported(alloc, record, answers, heads, later, body)
 }
 
-/// Whether each of them is one in front of those behind it. They are looked at from the last one on, and the keys of their heads kept.
+/// Whether each of them is one in front of those behind it. They are looked at from the last one on, and the keys of
+/// their heads kept.
 fn are_candidates_with(
     alloc: Global,
     program: &Program,

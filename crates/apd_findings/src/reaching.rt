@@ -102,7 +102,7 @@ pub(crate) fn row_from(
     Ok(row)
 }
 
-/// Marks what the fresh edges lead to from what is marked, where nothing is kept.
+/// Marks what the fresh edges lead to from what is marked, by rows that lack nothing.
 fn catch_up(
     alloc: Global,
     lists: &[ListOf<usize>],

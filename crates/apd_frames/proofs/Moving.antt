@@ -4,7 +4,6 @@ use Rattle.std.specs.Prelude.{MatchOption}
 use Rattle.apd_term.specs.Term.{Term, variable, apply}
 use Rattle.apd_term.specs.Substitution.{term_for}
 use Rattle.apd_term.specs.Canonical.{shifted}
-use Rattle.apd_term.specs.Tuple.{canonical_tuple}
 use Rattle.apd_term.specs.declared.tuple.Tuple.{Tuple}
 use Rattle.apd_unify.specs.Unifier.{HasNoUnifier}
 use Rattle.apd_unify.specs.declared.store.Cell.{Cell}
@@ -192,7 +191,7 @@ forgets s links k bs bs' now (Some b) view f l h =
     (sym (saved-forgotten s links b k'.marked.0 k'.marked.1 bs' k'.marked.4) ∙ ap (drop 1) (sym e))
 
 -- the frame of a query, whose terms are loaded into an empty store
-module _ (s0 s1 s2 : Stored) (t q : Tuple) (head : ℕ) (i : Instance) (empty : s0 ≡ record { cells = []; variables = 0; trail = [] }) (is : t ≡ canonical_tuple q)
+module _ (s0 s1 s2 : Stored) (t : Tuple) (head : ℕ) (i : Instance) (empty : s0 ≡ record { cells = []; variables = 0; trail = [] })
     (first : s1 ≡ loaded s0 t.head 0) (there : head < length s1.cells) (made : term_at s1 head ≡ apply (meaning s0.cells s0.trail) (shifted 0 t.head))
     (grown : HasGrown s1 s2) (goals : terms_in s2 i.goals ≡ map (raised_in s1 0) t.body) (here : i.head.0 ≡ head) where
   free0 : (v : ℕ) → meaning s0.cells s0.trail v ≡ variable v
@@ -205,18 +204,22 @@ module _ (s0 s1 s2 : Stored) (t q : Tuple) (head : ℕ) (i : Instance) (empty : 
   bodies [] = refl
   bodies (x ∷ xs) = ap (λ y. y ∷ map (raised_in s1 0) xs) (loaded_free s1 x (λ v o. free1 v)) ∙ ap (λ ys. x ∷ ys) (bodies xs)
 
-  pub opened_tuple : tuple_in s2 i ≡ canonical_tuple q
+  pub opened_tuple : tuple_in s2 i ≡ t
   opened_tuple =
       ap (λ h. tuple_of (term_at s2 h) (terms_in s2 i.goals)) here
       ∙ ap (λ x. tuple_of x (terms_in s2 i.goals)) (grown.others head there ∙ made ∙ loaded_free s0 t.head (λ v o. free0 v))
       ∙ ap (tuple_of t.head) (goals ∙ bodies t.body)
-      ∙ is
 
-  pub opened : (l : Link) (links : List Link) (bs : List Branch) → links ≡ l ∷ [] → bs ≡ [] → l ≡ record { box_no = 0; depth = 0; clause = 0; instance = i; done = 0; point = 0; around = 0 }
-      → view_of s2 links 1 bs ≡ kept_of (query_frame (canonical_tuple q) ∷ []) []
-  opened l links bs le be e =
+  pub opened : (l : Link) (links : List Link) → links ≡ l ∷ [] → l ≡ record { box_no = 0; depth = 0; clause = 0; instance = i; done = 0; point = 0; around = 0 }
+      → frames_at s2 links 1 ≡ query_frame t ∷ []
+  opened l links le e =
       let l0 : Link = record { box_no = 0; depth = 0; clause = 0; instance = i; done = 0; point = 0; around = 0 } in
-      rw (le, be, e) (ap (λ (x : Tuple). kept_of (with_tuple l0 x ∷ []) []) opened_tuple)
+      rw (le, e) (ap (λ (x : Tuple). with_tuple l0 x ∷ []) opened_tuple)
+
+-- the view of them, where nothing is saved
+pub opened_kept : (s : Stored) (links : List Link) (bs : List Branch) (t c : Tuple) → frames_at s links 1 ≡ query_frame t ∷ [] → bs ≡ [] → t ≡ c
+    → view_of s links 1 bs ≡ kept_of (query_frame c ∷ []) []
+opened_kept s links bs t c e be te = ap (view_of s links 1) be ∙ ap (λ F. kept_of F []) (e ∙ ap (λ (x : Tuple). query_frame x ∷ []) te)
 
 pub opened_framed : (s : Stored) (l : Link) (links : List Link) (bs : List Branch) → links ≡ l ∷ [] → bs ≡ [] → l.around ≡ 0 → IsInside (length s.cells) l.instance → IsFramed s links 1 bs
 opened_framed s l links bs le be a i = rw (le, be) (record { placed = (i, omega arith, tt); within = omega arith; marked = tt })

@@ -1,17 +1,19 @@
 //! Instances of clauses in a store.
 
-ghost use Rattle.std.specs.Prelude.{◌≡◌, ℕ, ◌+◌, ◌<◌, ◌≤◌, ◌^◌, length, map, IfOk, OnOk};
+ghost use Rattle.std.specs.Prelude.{◌≡◌, ℕ, ◌∷◌, [], ◌+◌, ◌<◌, ◌≤◌, ◌^◌, length, map, IfOk, OnOk};
 ghost use Rattle.std.specs.List.{flat_map};
 ghost use Rattle.apd_term.specs.Term.{variables, IsAmong};
 ghost use Rattle.apd_cells.specs.Numbered.{IsNumbered};
 ghost use Rattle.apd_cells.specs.Slots.{AreSlots};
-ghost use Rattle.apd_cells.specs.Store.{term_at, Keeps};
+ghost use Rattle.apd_term.specs.Tuple.{variables_of_tuple};
+ghost use Rattle.apd_cells.specs.Store.{at_mark, term_at, Keeps};
+ghost use Rattle.apd_trace.specs.Frames.{query_frame};
 ghost use Rattle.apd_clauses.specs.Clauses.{IsRunnable};
 ghost use Rattle.apd_frames.specs.Links.{link_of};
-ghost use Rattle.apd_frames.specs.Linked.{IsThere};
+ghost use Rattle.apd_frames.specs.Linked.{frames_at, IsFramed, IsThere};
 ghost use Rattle.apd_frames.specs.Instances.{terms_in, instance_where, tuple_in, raised_in, AreInside, CanonicalWithin, IsWithin, HasBody, HasGrown, InstantiatesVariant};
 
-use crate::links::LinkRef;
+use crate::links::{LinkRef, Links};
 use crate::small::has_small_variables;
 use apd_base::{MOST_GOALS, MOST_INSTANCE_SYMBOLS};
 use apd_cells::scratch::Scratch;
@@ -42,6 +44,38 @@ pub fn load_all(store: &mut Store, cells: &mut Vec<Cell>, terms: &[Flat]) -> Res
         let cell = store.load(term)?;
         cells.push(cell)?;
     }
+    Ok(())
+}
+
+/// Loads the tuple of a query, which leaves its goals' cells alone in `goals`, and puts its link, where nothing was loaded and
+/// no link was put.
+pub fn put_query(
+    store: &mut Store,
+    links: &mut Links,
+    goals: &mut Vec<Cell>,
+    tuple: &Tuple,
+) -> Result<(), AllocError>
+    requires small { (v : ℕ) → IsAmong (variables_of_tuple tuple.now) v → v < 2 ^ 64 }
+    requires store { store.old ≡ record { cells = []; variables = 0; trail = [] } }
+    requires links { links.old ≡ [] }
+    ensures framed { OnOk result (IsFramed store.new links.new 1 []) }
+    ensures frames { OnOk result
+        (frames_at store.new links.new 1 ≡ query_frame tuple.now ∷ []) }
+    ensures begun { OnOk result
+        (at_mark 0 store.new ≡ record { cells = []; variables = 0; trail = [] }) }
+{
+    let head = store.load(&tuple.head)?;
+    load_all(store, goals, tuple.body.as_slice())?;
+    links.push(&LinkRef {
+        box_no: 0,
+        depth: 0,
+        clause: 0,
+        head,
+        goals: goals.as_slice(),
+        done: 0,
+        point: 0,
+        around: 0,
+    })?;
     Ok(())
 }
 

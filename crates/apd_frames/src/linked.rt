@@ -17,7 +17,7 @@ ghost use Rattle.apd_frames.specs.Solves.{solution_as, Keeps};
 
 use crate::ahead::Ahead;
 use crate::builtin::Solved;
-use crate::instance::{Made, canonical_within, instantiate, is_within, load_all};
+use crate::instance::{Made, canonical_within, instantiate, is_within, put_query};
 use crate::links::{Branch, KeptBranch, LinkRef, Links};
 use crate::measuring::{Measure, measured};
 use crate::reading::{ahead, goal_depth, left, look, next_goal};
@@ -91,32 +91,32 @@ impl Linked {
         ensures begun { IfOk result BeginsEmpty }
     {
         let tuple = canonical_tuple(alloc, query)?;
-        let mut store = Store::new(alloc);
-        let head = store.load(&tuple.head)?;
-        let mut goals = Vec::new(alloc);
-        load_all(&mut store, &mut goals, tuple.body.as_slice())?;
-        let mut links = Links::new(alloc);
-        links.push(&LinkRef {
-            box_no: 0,
-            depth: 0,
-            clause: 0,
-            head,
-            goals: goals.as_slice(),
-            done: 0,
-            point: 0,
-            around: 0,
-        })?;
-        Ok(Linked {
-            store,
-            links,
+        let mut linked = Linked {
+            store: Store::new(alloc),
+            links: Links::new(alloc),
             innermost: 1,
             branches: Stack::new(alloc),
             scratch: Scratch::new(alloc),
             made: Made {
-                goals,
+                goals: Vec::new(alloc),
                 slots: Vec::new(alloc),
             },
-        })
+        };
+        let put = put_query(
+            &mut linked.store,
+            &mut linked.links,
+            &mut linked.made.goals,
+            &tuple,
+        );
+        // Dropped by calls: else each part of them is a step to check.
+        drop(tuple);
+        match put {
+            Ok(()) => Ok(linked),
+            Err(AllocError) => {
+                drop(linked);
+                Err(AllocError)
+            }
+        }
     }
 
     /// What the innermost frame does next, if the next box has this number.

@@ -1,6 +1,6 @@
 //! What comes of a goal before any clause is tried.
 
-ghost use Rattle.std.specs.Prelude.{◌≡◌, ◌<◌, ◌≤◌, length, IfOk};
+ghost use Rattle.std.specs.Prelude.{◌≡◌, ℕ, ◌<◌, ◌≤◌, length, IfOk, OnOk};
 ghost use Rattle.apd_term.specs.Term.{integer, predicate_of};
 ghost use Rattle.apd_arith.specs.Builtins.{builtin_of_atom};
 ghost use Rattle.apd_trace.specs.BuiltIn.{outcome_of_is, outcome_of_comparison, outcome_of_two};
@@ -52,6 +52,23 @@ fn equate(store: &mut Store, left: Cell, right: Cell) -> Result<Solved, AllocErr
     Ok(Solved::Failed)
 }
 
+/// Loads an integer.
+fn load_integer(store: &mut Store, alloc: Global, value: i64) -> Result<Cell, AllocError>
+    ensures kept { Keeps store.old store.new }
+    ensures cells { length store.old.cells ≤ length store.new.cells }
+    ensures there { IfOk result (λ c. c.0 < length store.new.cells) }
+    ensures made { IfOk result (λ c. term_at store.new c.0 ≡ integer value) }
+    ensures others { OnOk result ((c : ℕ) → c < length store.old.cells →
+        term_at store.new c ≡ term_at store.old c) }
+{
+    let term = Flat::integer(alloc, value)?;
+    let loaded = store.load(&term);
+    // Dropped by a call: else each part of it is a step to check, at each end of the function.
+    drop(term);
+    let there = loaded?;
+    Ok(there)
+}
+
 /// Makes the term at a cell equal to an integer, where they have a unifier.
 fn assign(store: &mut Store, alloc: Global, cell: Cell, value: i64) -> Result<Solved, AllocError>
     requires { cell.0 < length store.old.cells }
@@ -61,8 +78,7 @@ fn assign(store: &mut Store, alloc: Global, cell: Cell, value: i64) -> Result<So
         (Equates (term_at store.old cell.0) (integer value)) r store.old store.new) }
 {
     let mark = store.mark();
-    let term = Flat::integer(alloc, value)?;
-    let there = store.load(&term)?;
+    let there = load_integer(store, alloc, value)?;
     if store.unify(cell, there)? {
         return Ok(Solved::Entered);
     }

@@ -25,7 +25,7 @@ use Rattle.apd_loop.specs.declared.LoopEnd.TheVariants.{Found}
 use Rattle.apd_loop.specs.Loop.{Looping, within, by_yes, inside, left_in, loop}
 use Rattle.apd_loop.specs.Turning.{IsAsked}
 use Rattle.apd_loop.proofs.Falling.{loop-falls}
-use Rattle.apd_loop.proofs.Order.{SaysTruth}
+use Rattle.apd_loop.proofs.Order.{SaysTruth, added-says, decided-says}
 
 abbrev pub put : Question → Asked
 put question = record { question = question; suspects = None }
@@ -94,12 +94,25 @@ breaks_untold R chain strategy step question state s t store kept from mid to r 
     (untold (put question) (by_yes s t) r (next-is R chain strategy question state s t store a n) f)
     (mid, p, (to, subst (λ z. step mid (telling r z (Err end)) to) g q, refl)))
 
+-- what is asked, where no suspects are counted
+pub put-is : (asked : Asked) → asked.suspects ≡ None → asked ≡ put asked.question
+put-is asked none = let f : Option ℕ → Asked = λ n. record { question = asked.question; suspects = n } in ap f none
+
 -- what No says
 pub truth_no : (store : Store) (a : Term) (r : Reply) (y : Bool) → SaysTruth store a r → y ≡ is_yes r → y ≡ false → SaysNo store a
 truth_no store a Yes y s e f = let g = sym e ∙ f in absurd (cc)
 truth_no store a No y s e f = s
 truth_no store a (Values vs) y s e f = absurd s
 truth_no store a Unknown y s e f = absurd s
+
+pub decided-no : (store : Store) (question : Question) (a : Term) (r : Reply) (y : Bool) → question ≡ asking_of.True a → decided store question ≡ Some r → y ≡ is_yes r → y ≡ false → SaysNo store a
+decided-no store question a r y is d e f = truth_no store a r y (decided-says store a r (subst (λ q. decided store q ≡ Some r) is d)) e f
+
+pub replied-no : (store kept : Store) (question : Question) (a : Term) (r : Reply) (y : Bool) → question ≡ asking_of.True a → FitsAsked (put question) r → kept ≡ with_pair store question r → y ≡ is_yes r → y ≡ false
+    → SaysNo kept a
+replied-no store kept question a r y is fits k e f =
+    subst (λ z. SaysNo z a) (sym (k ∙ ap (λ q. with_pair store q r) is))
+    (truth_no (with_pair store (asking_of.True a) r) a r y (added-says store a r (subst (λ q. FitsAsked (put q) r) is fits)) e f)
 
 -- a wrong answer inside: the dialogue is the same
 inside-settled : (root : Tree) (store : Store) (f : Looping → Turn Looping LoopEnd) (g : Tree → Turn Tree Finding) → ((x : Tree) → f (within root x) ≡ inside (within root) Found (g x)) → (turn : Turn Tree Finding)
@@ -179,9 +192,6 @@ inside-breaks root R chain strategy step store kept x from to e b = record {
 }
 
 -- the question as the code has it
-pub asked-as : (R : Recorded) (chain : List ℕ) (strategy : Strategy) (p q : Question) (state s t : Looping) → p ≡ q → IsAsked R chain strategy p state s t → IsAsked R chain strategy q state s t
-asked-as R chain strategy p q state s t e a = subst (λ z. IsAsked R chain strategy z state s t) e a
-
 pub same_below : (a b x y : Term) → x ≡ a → y ≡ b → asking_of.Below a b ≡ asking_of.Below x y
 same_below a b x y e f = ap (λ z. asking_of.Below z b) (sym e) ∙ ap (asking_of.Below x) (sym f)
 

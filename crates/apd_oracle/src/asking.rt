@@ -86,7 +86,11 @@ fn hear_one<S: Source, K: Sink>(
         Err(end) => return Err(end_of_line(end)),
     };
     let read = read_for(desk.voice, &line)?;
-    match spoken_of(desk.voice.alloc(), asked, &read)? {
+    // Dropped by calls: else each part of each is a step to check, in each arm.
+    drop(line);
+    let spoken = spoken_of(desk.voice.alloc(), asked, &read)?;
+    drop(read);
+    match spoken {
         Spoken::Nothing => Ok(None),
         Spoken::Reply(reply) => Ok(Some(reply)),
         Spoken::Stop => Err(AskEnd::Stopped),

@@ -44,6 +44,33 @@ fn is_graphic(b: u8) -> bool {
     b"#$&*+-./:<=>?@^~\\".contains(&b)
 }
 
+fn are_digits(radix: u32, bytes: &[u8]) -> bool {
+    for b in bytes {
+        if !is_digit(radix, *b) {
+            return false;
+        }
+    }
+    true
+}
+
+fn are_word(bytes: &[u8]) -> bool {
+    for b in bytes {
+        if !is_word(*b) {
+            return false;
+        }
+    }
+    true
+}
+
+fn are_graphic(bytes: &[u8]) -> bool {
+    for b in bytes {
+        if !is_graphic(*b) {
+            return false;
+        }
+    }
+    true
+}
+
 /// The value of digits; a value past 2 ^ 64 counts as 2 ^ 64.
 fn value(radix: u32, digits: &[u8]) -> u128 {
     let mut value = 0u128;
@@ -132,13 +159,13 @@ fn numeral(at: u32, bytes: &[u8], after: &[u8]) -> Option<Found> {
         [b'0', b'b', rest @ ..] => (2, rest),
         _ => (10, bytes),
     };
-    if !digits.is_empty() && digits.iter().all(|b| is_digit(radix, *b)) {
+    if !digits.is_empty() && are_digits(radix, digits) {
         return Some(number(at, value(radix, digits)));
     }
     match bytes {
         [whole @ .., b'.', last] => {
             let narrow = value(10, whole) <= 1 << 63;
-            let digits = is_digit(10, *last) && whole.iter().all(|b| is_digit(10, *b));
+            let digits = is_digit(10, *last) && are_digits(10, whole);
             if narrow && digits {
                 return Some(Found::Bad(TokenFault::FloatLiteral(at)));
             }
@@ -148,16 +175,25 @@ fn numeral(at: u32, bytes: &[u8], after: &[u8]) -> Option<Found> {
     }
 }
 
+/// The place of the first `*/`.
+fn close_of(body: &[u8]) -> Option<usize> {
+    for place in 0..body.len() {
+        if let [b'*', b'/', ..] = body.get(place..)? {
+            return Some(place);
+        }
+    }
+    None
+}
+
 fn graphic(at: u32, bytes: &[u8], after: &[u8]) -> Option<Found> {
     if let [b'/', b'*', body @ ..] = bytes {
-        let close = body.windows(2).position(|w| w == b"*/".as_slice());
-        return match close {
+        return match close_of(body) {
             Some(place) if place.saturating_add(2) == body.len() => Some(Found::Passed),
             None if after.is_empty() => Some(Found::Bad(TokenFault::OpenComment(at))),
             _ => None,
         };
     }
-    if !bytes.iter().all(|b| is_graphic(*b)) {
+    if !are_graphic(bytes) {
         return None;
     }
     let separate = match after {
@@ -215,8 +251,8 @@ fn form(at: u32, bytes: &[u8], after: &[u8]) -> Option<Found> {
     };
     let single = match first {
         b'%' if !rest.contains(&b'\n') => return Some(Found::Passed),
-        b'a'..=b'z' if rest.iter().all(|b| is_word(*b)) => return Some(Found::Item(Kind::Name)),
-        b'A'..=b'Z' | b'_' if rest.iter().all(|b| is_word(*b)) => {
+        b'a'..=b'z' if are_word(rest) => return Some(Found::Item(Kind::Name)),
+        b'A'..=b'Z' | b'_' if are_word(rest) => {
             return Some(Found::Item(Kind::Variable));
         }
         b'0'..=b'9' => return numeral(at, bytes, after),
@@ -258,10 +294,14 @@ fn lead(text: &[u8]) -> usize {
     if !text.starts_with(b"#!") {
         return 0;
     }
-    match text.iter().position(|b| *b == b'\n') {
-        Some(place) => place,
-        None => text.len(),
+    let mut place = 0usize;
+    for b in text {
+        if *b == b'\n' {
+            break;
+        }
+        place = place.saturating_add(1);
     }
+    place
 }
 
 fn put(tokens: &mut Vec<Token>, token: Token) -> Result<(), AllocError> {

@@ -267,6 +267,31 @@ fn operator_step(
     }
 }
 
+/// Reads the lexemes until the clause is whole.
+fn read_on(
+    alloc: Global,
+    ops: &Ops,
+    lexemes: &[Lexeme],
+    state: &mut State,
+) -> Result<Whole, ClauseFault>
+    requires short { length lexemes.now < 4611686018427386000 }
+    requires ready { IsReady ops.now lexemes.now state.old None }
+    ensures { IsReading Reads ops.now lexemes.now result }
+{
+    let mut last = None;
+    'lexemes: loop {
+        let next = match last {
+            None => operand_step(alloc, ops, lexemes, state)?,
+            Some(t) => operator_step(alloc, ops, lexemes, state, t)?,
+        };
+        match next {
+            Next::Operand => last = None,
+            Next::Operator(t) => last = Some(t),
+            Next::Done(whole) => return Ok(whole),
+        }
+    }
+}
+
 /// The clause that the lexemes begin with, in one pass.
 pub(crate) fn read(alloc: Global, ops: &Ops, lexemes: &[Lexeme]) -> Result<Whole, ClauseFault>
     requires { length lexemes.now < 4611686018427386000 }
@@ -283,16 +308,8 @@ pub(crate) fn read(alloc: Global, ops: &Ops, lexemes: &[Lexeme]) -> Result<Whole
         },
         at: 0,
     };
-    let mut last = None;
-    'lexemes: loop {
-        let next = match last {
-            None => operand_step(alloc, ops, lexemes, &mut state)?,
-            Some(t) => operator_step(alloc, ops, lexemes, &mut state, t)?,
-        };
-        match next {
-            Next::Operand => last = None,
-            Next::Operator(t) => last = Some(t),
-            Next::Done(whole) => return Ok(whole),
-        }
-    }
+    let read = read_on(alloc, ops, lexemes, &mut state);
+    // Dropped by a call: else each part of it is a step to check, at each end of the loop.
+    drop(state);
+    read
 }

@@ -1,6 +1,6 @@
 //! The tokens of a clause by what they stand for.
 
-ghost use Rattle.std.specs.Prelude.{◌≡◌, ◌+◌, ◌-◌, ◌<◌, ◌≤◌, length, slice_range, IfOk, drop, ℕ, List, IsUtf8};
+ghost use Rattle.std.specs.Prelude.{◌≡◌, ◌+◌, ◌-◌, ◌<◌, ◌≤◌, [], length, slice_range, IfOk, OnOk, drop, ℕ, List, IsUtf8};
 ghost use Rattle.apd_token.specs.Grammar.{IsTokenOf, HasTokens, HasText, ContentOf};
 ghost use Rattle.apd_term.specs.Growth.{GrowsBy};
 ghost use Rattle.apd_read.specs.Lexemes.{IsNameOf, IsSort, AreLexemes, to_end, ends_clause, EndsLast, SortIsNamed, LexemesAreNamed};
@@ -14,6 +14,7 @@ use apd_base::VarNames;
 use apd_term::{NameId, Names};
 use apd_token::{Kind, Token, content};
 use std::alloc::{AllocError, Global};
+use std::mem::replace;
 
 /// The tokens of a clause by what they stand for, and the texts of its variables in order.
 #[derive(Drop)]
@@ -95,6 +96,49 @@ fn ends_clause(kind: Kind) -> bool
     }
 }
 
+/// Puts what the tokens of the clause that begins at a place stand for, and its variables, where there is nothing yet.
+fn push_lexemes(
+    alloc: Global,
+    names: &mut Names,
+    text: &[u8],
+    tokens: &[Token],
+    at: usize,
+    lexemes: &mut Vec<Lexeme>,
+    vars: &mut Variables,
+) -> Result<(), AllocError>
+    requires small { length text.now ≤ MAX_FILE }
+    requires utf8 { IsUtf8 text.now }
+    requires tokens { HasTokens text.now tokens.now }
+    requires few { length tokens.now ≤ MAX_FILE }
+    requires within { at ≤ length tokens.now }
+    requires room { length names.old + (length tokens.now - at) < MOST_NAMES }
+    requires none { lexemes.old.items ≡ [] }
+    requires no_vars { vars.old.texts ≡ [] }
+    requires indexed { IsIndexed vars.old.named vars.old.places.items vars.old.texts }
+    ensures lexemes { OnOk result (AreLexemes names.new text.now
+        (to_end (drop at tokens.now)) lexemes.new.items vars.new.texts) }
+    ensures named { OnOk result (LexemesAreNamed (length names.new) lexemes.new.items) }
+    ensures last { OnOk result (EndsLast lexemes.new.items) }
+    ensures grown { OnOk result (GrowsBy (length lexemes.new.items) names.old names.new) }
+    ensures kept { GrowsBy (length tokens.now - at) names.old names.new }
+{
+    let mut i = at;
+    'tokens: while i < tokens.len() {
+        let token = &tokens[i];
+        let sort = sort_of(alloc, names, text, token, vars)?;
+        lexemes.push(Lexeme {
+            sort,
+            spaced: token.spaced,
+            start: token.start,
+        })?;
+        if ends_clause(token.kind) {
+            return Ok(());
+        }
+        i += 1;
+    }
+    Ok(())
+}
+
 /// What the tokens of the clause that begins at a place stand for.
 pub(crate) fn lexemes(
     alloc: Global,
@@ -118,25 +162,20 @@ pub(crate) fn lexemes(
 {
     let mut lexemes = Vec::new(alloc);
     let mut vars = Variables::new(alloc);
-    let mut i = at;
-    'tokens: while i < tokens.len() {
-        let token = &tokens[i];
-        let sort = sort_of(alloc, names, text, token, &mut vars)?;
-        lexemes.push(Lexeme {
-            sort,
-            spaced: token.spaced,
-            start: token.start,
-        })?;
-        if ends_clause(token.kind) {
-            return Ok(Clause {
+    match push_lexemes(alloc, names, text, tokens, at, &mut lexemes, &mut vars) {
+        Ok(()) => {
+            let texts = replace(&mut vars.texts, VarNames::new(alloc));
+            // Dropped by a call, here and below: else each part of it is a step to check.
+            drop(vars);
+            Ok(Clause {
                 lexemes,
-                vars: vars.texts,
-            });
+                vars: texts,
+            })
         }
-        i += 1;
+        Err(AllocError) => {
+            drop(lexemes);
+            drop(vars);
+            Err(AllocError)
+        }
     }
-    Ok(Clause {
-        lexemes,
-        vars: vars.texts,
-    })
 }

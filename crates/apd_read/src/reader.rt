@@ -91,11 +91,20 @@ fn answer(alloc: Global, ops: &Ops, clause: Clause, at: usize, end: u32) -> Resu
 {
     let Clause { lexemes, vars } = clause;
     match read_by_main(alloc, ops, &lexemes) {
-        Err(fault) => Err(placed(&lexemes, end, fault)),
+        Err(fault) => {
+            let told = placed(&lexemes, end, fault);
+            // Dropped by calls, here and below: else each part of them is a step to check.
+            drop(lexemes);
+            drop(vars);
+            Err(told)
+        }
         Ok(whole) => {
             let Whole { phrase, next } = whole;
             let start = place_of(&lexemes, end, 0);
+            drop(lexemes);
             if phrase.height >= TOO_MANY_LEVELS {
+                drop(phrase);
+                drop(vars);
                 return Err(ReadFault::TooDeep(start));
             }
             Ok(Read {

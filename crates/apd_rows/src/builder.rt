@@ -43,7 +43,11 @@ impl Builder {
     /// Adds a piece that was formatted.
     pub fn put_made(&mut self, made: Result<String, AllocError>) {
         match made {
-            Ok(piece) => self.put(piece.as_str()),
+            Ok(piece) => {
+                self.put(piece.as_str());
+                // Dropped by calls, here and below: else each part is a step to check.
+                drop(piece);
+            }
             Err(_) => self.lacks = true,
         }
     }
@@ -63,7 +67,10 @@ impl Builder {
     /// Adds a text that a call made.
     pub fn put_made_text(&mut self, made: Result<Text, AllocError>) {
         match made {
-            Ok(text) => self.put_bytes(text.bytes()),
+            Ok(text) => {
+                self.put_bytes(text.bytes());
+                drop(text);
+            }
             Err(_) => self.lacks = true,
         }
     }
@@ -89,7 +96,10 @@ impl Builder {
     /// Adds the text of a term that a call made.
     pub fn put_made_term(&mut self, scene: &Scene, made: Result<Flat, AllocError>) {
         match made {
-            Ok(term) => self.put_term(scene, &term),
+            Ok(term) => {
+                self.put_term(scene, &term);
+                drop(term);
+            }
             Err(_) => self.lacks = true,
         }
     }

@@ -30,12 +30,14 @@ fn try_row<T: Tables>(
     if tables.give(name, &mut trial).is_none() {
         trial.given.put("no reading");
     }
-    if trial.is_alike() {
-        return Ok(true);
+    let alike = trial.is_alike();
+    if !alike {
+        let given = trial.given.shown();
+        println!(rt; "{line}\n  gives {given}")?;
     }
-    let given = trial.given.shown();
-    println!(rt; "{line}\n  gives {given}")?;
-    Ok(false)
+    // Dropped by calls, here and below: else each part is a step to check.
+    drop(trial);
+    Ok(alike)
 }
 
 /// Tries each row of a table, and prints how many there are and how many of them differ; whether none does.
@@ -70,10 +72,15 @@ fn try_table<T: Tables>(
     name: &str,
 ) -> io::Result<bool> {
     let file = format!(in alloc; "{name}.table")?;
-    if let Ok(text) = files.load(alloc, file.as_str())
-        && let Ok(text) = str::from_utf8(text.bytes())
-    {
-        return try_rows(rt, alloc, tables, name, text);
+    let loaded = files.load(alloc, file.as_str());
+    drop(file);
+    if let Ok(text) = loaded {
+        if let Ok(rows) = str::from_utf8(text.bytes()) {
+            let alike = try_rows(rt, alloc, tables, name, rows);
+            drop(text);
+            return alike;
+        }
+        drop(text);
     }
     println!(rt; "{name}: no such table")?;
     Ok(false)

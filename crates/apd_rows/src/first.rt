@@ -46,13 +46,18 @@ impl Scene {
             Ok(tokens) => tokens,
             Err(fault) => return Err(Unread::Tokens(fault)),
         };
-        if tokens.len() == 0 {
+        let count = tokens.len();
+        if count == 0 {
+            // Dropped by calls: else each part is a step to check.
+            drop(tokens);
             return Err(Unread::Nothing);
         }
-        match read_clause(alloc, &self.ops, &mut self.names, text, &tokens, 0) {
+        let read = read_clause(alloc, &self.ops, &mut self.names, text, &tokens, 0);
+        drop(tokens);
+        match read {
             Err(fault) => Err(Unread::Clause(fault)),
             Ok(read) => {
-                let alone = read.next == tokens.len();
+                let alone = read.next == count;
                 Ok(First { read, alone })
             }
         }

@@ -19,17 +19,23 @@ pub struct Scene {
 impl Scene {
     /// The standard names and operators.
     pub fn new(alloc: Global) -> Result<Box<Scene>, AllocError> {
-        let scene = Scene {
-            names: Names::standard(alloc)?,
-            ops: Ops::standard(alloc)?,
-        };
-        Ok(Box::new(alloc, scene)?)
+        let names = Names::standard(alloc)?;
+        match Ops::standard(alloc) {
+            Ok(ops) => Ok(Box::new(alloc, Scene { names, ops })?),
+            Err(fault) => {
+                // Dropped by calls, here and below: else each part is a step to check.
+                drop(names);
+                Err(fault)
+            }
+        }
     }
 
     /// The clause that a text is, with its end or without.
     pub fn read(&mut self, alloc: Global, text: &str) -> Option<Read> {
         let ended = format!(in alloc; "{text} .").ok()?;
-        match self.first(alloc, ended.as_str().as_bytes()) {
+        let first = self.first(alloc, ended.as_str().as_bytes());
+        drop(ended);
+        match first {
             Ok(first) => Some(first.read),
             Err(_) => None,
         }

@@ -40,9 +40,17 @@ fn sides_of(alloc: Global, term: &Flat) -> Result<Box<Sides>, AllocError>
 impl Trial {
     /// The row with the standard names and operators, before it gives anything.
     pub fn new(alloc: Global, row: Row) -> Result<Box<Trial>, AllocError> {
+        let scene = match Scene::new(alloc) {
+            Ok(scene) => scene,
+            Err(fault) => {
+                // Dropped by calls, here and below: else each part is a step to check.
+                drop(row);
+                return Err(fault);
+            }
+        };
         let trial = Trial {
             alloc,
-            scene: Scene::new(alloc)?,
+            scene,
             row,
             given: Builder::new(alloc),
         };
@@ -61,23 +69,28 @@ impl Trial {
 
     /// The term that a field is.
     pub fn term(&mut self, at: usize) -> Option<Flat> {
-        let read = self.read(at)?;
-        Some(read.term)
+        let Read { term, vars, .. } = self.read(at)?;
+        drop(vars);
+        Some(term)
     }
 
     /// The two arguments of the term that a field is.
     pub fn sides(&mut self, at: usize) -> Option<Box<Sides>> {
         let term = self.term(at)?;
-        let Some(Pred { arity: 2, .. }) = term.pred() else {
-            return None;
+        let sides = match term.pred() {
+            Some(Pred { arity: 2, .. }) => sides_of(self.alloc, &term).ok(),
+            _ => None,
         };
-        sides_of(self.alloc, &term).ok()
+        drop(term);
+        sides
     }
 
     /// The predicate of the term that a field is.
     pub fn pred(&mut self, at: usize) -> Option<Pred> {
         let term = self.term(at)?;
-        term.pred()
+        let pred = term.pred();
+        drop(term);
+        pred
     }
 
     /// Gives a term's text.

@@ -81,8 +81,8 @@ fn body_fault(name: &str, pred: Pred) -> Option<BodyFault> {
 /// The cause of a refused oracle file, of a kind with this name, at this place.
 fn oracle_cause(kind: &str, name: &str, at: u32) -> Option<OracleCause> {
     match kind {
-        "token" => return token_fault(name, at).map(OracleCause::Token),
-        "read" => return read_fault(name, at).map(OracleCause::Read),
+        "token" => return Some(OracleCause::Token(token_fault(name, at)?)),
+        "read" => return Some(OracleCause::Read(read_fault(name, at)?)),
         _ => {}
     }
     Some(match name {
@@ -100,10 +100,10 @@ fn oracle_cause(kind: &str, name: &str, at: u32) -> Option<OracleCause> {
 /// The cause of a kind with this name, at this place, of this predicate.
 fn cause_named(kind: &str, name: &str, at: u32, pred: Pred) -> Option<LoadCause> {
     match kind {
-        "token" => token_fault(name, at).map(LoadCause::Token),
-        "read" => read_fault(name, at).map(LoadCause::Read),
-        "op" => op_cause(name).map(LoadCause::Op),
-        "body" => body_fault(name, pred).map(LoadCause::Body),
+        "token" => Some(LoadCause::Token(token_fault(name, at)?)),
+        "read" => Some(LoadCause::Read(read_fault(name, at)?)),
+        "op" => Some(LoadCause::Op(op_cause(name)?)),
+        "body" => Some(LoadCause::Body(body_fault(name, pred)?)),
         "clauses" => Some(LoadCause::ClausesOver),
         _ => None,
     }

@@ -142,7 +142,7 @@ impl Store {
     }
 
     /// Loads a term of the clause, with what stands for its variables in their places. After want of memory the store is
-    /// as it was.
+    /// as it was, and more may stand for variables than before.
     pub fn load_for(&mut self, t: &Flat, slots: &mut Vec<Slot>) -> Result<Cell, AllocError>
         requires { AreSlots self.old.cells self.old.variables slots.old.items }
         ensures ok { IfOk result

@@ -31,7 +31,10 @@ fn renumbered(alloc: Global, rule: &Tuple, fresh: u64) -> Result<Tuple, AllocErr
     ensures { IfOk result (λ t. t ≡ shifted_tuple fresh (canonical_tuple rule.now)) }
 {
     let canonical = canonical_tuple(alloc, rule)?;
-    shifted_tuple(alloc, &canonical, fresh)
+    let renumbered = shifted_tuple(alloc, &canonical, fresh);
+    // Dropped by calls, here and below: else each part is a step to check.
+    drop(canonical);
+    renumbered
 }
 
 /// The frames with another in front, under a most general unifier of two terms, if they have one.
@@ -48,6 +51,7 @@ fn unified(
         None => Ok(None),
         Some(s) => {
             let all = frames.applied(alloc, first, &s)?;
+            drop(s);
             Ok(Some(all))
         }
     }
@@ -82,7 +86,9 @@ pub(crate) fn resolved(
         done: 0,
         point,
     };
-    unified(alloc, frames, &first, goal, &first.tuple.head)
+    let entered = unified(alloc, frames, &first, goal, &first.tuple.head);
+    drop(first);
+    entered
 }
 
 /// What an attempt at a goal came to.
@@ -158,6 +164,7 @@ fn attempted_by(
         Outcome::Equates(left, right) => {
             let first = built(alloc, called, goal, point)?;
             let all = unified(alloc, frames, &first, left, right)?;
+            drop(first);
             Ok(attempt_of(all))
         }
     }
@@ -178,7 +185,9 @@ pub(crate) fn attempted(
         return Ok(Attempt::Program);
     };
     let outcome = outcome(alloc, goal)?;
-    attempted_by(alloc, frames, called, goal, point, &outcome)
+    let attempt = attempted_by(alloc, frames, called, goal, point, &outcome);
+    drop(outcome);
+    attempt
 }
 
 /// The port of a box.

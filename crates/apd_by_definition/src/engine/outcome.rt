@@ -48,9 +48,18 @@ fn outcome_of_two(
     ensures { IfOk result (λ o. o ≡ outcome_of_two goal left right) }
 {
     let comparison = match goal {
-        Builtin::True | Builtin::Fail => return Ok(Outcome::Fails),
+        Builtin::True | Builtin::Fail => {
+            // Dropped by calls, here and below: else each part is a step to check.
+            drop(left);
+            drop(right);
+            return Ok(Outcome::Fails);
+        }
         Builtin::Unify => return Ok(Outcome::Equates(left, right)),
-        Builtin::Is => return outcome_of_is(alloc, left, &right),
+        Builtin::Is => {
+            let outcome = outcome_of_is(alloc, left, &right);
+            drop(right);
+            return outcome;
+        }
         Builtin::Equal => Comparison::Equal,
         Builtin::Different => Comparison::Different,
         Builtin::Less => Comparison::Less,
@@ -58,7 +67,10 @@ fn outcome_of_two(
         Builtin::Greater => Comparison::Greater,
         Builtin::GreaterEqual => Comparison::GreaterEqual,
     };
-    outcome_of_comparison(alloc, comparison, &left, &right)
+    let outcome = outcome_of_comparison(alloc, comparison, &left, &right);
+    drop(left);
+    drop(right);
+    outcome
 }
 
 /// What a goal is, and if it is built in what comes of it.

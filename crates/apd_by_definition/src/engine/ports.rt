@@ -110,6 +110,8 @@ pub(crate) fn success_around(
 {
     let (left, _newest) = frames.exited(alloc)?;
     let passed = exit_around(alloc, &left, rest)?;
+    // Dropped by calls, here and below: else each part is a step to check.
+    drop(left);
     let failed = port_after(alloc, passed, Port::Fail, g)?;
     point_before(alloc, frames, None, failed)
 }
@@ -129,6 +131,7 @@ pub(crate) fn put_behind(
     let mut items = rest.items;
     items.push_front(Item::Made(point))?;
     out.items.append(&mut items)?;
+    drop(items);
     out.counts = rest.counts;
     Ok(())
 }

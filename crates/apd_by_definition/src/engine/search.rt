@@ -97,7 +97,10 @@ fn search_from(
         return Ok(None);
     }
     let look = place.frames.look(alloc, counts.boxes + 1)?;
-    turn(alloc, program, depth - 1, place, &look, counts)
+    let made = turn(alloc, program, depth - 1, place, &look, counts);
+    // Dropped by calls, here and below: else each part is a step to check.
+    drop(look);
+    made
 }
 
 /// What the innermost frame does next, and what follows it.
@@ -132,6 +135,7 @@ fn turn(
         Look::Exit(g, point) => {
             let around = place.outer(alloc)?;
             let rest = hand(alloc, program, depth, &around, *point, counts)?;
+            drop(around);
             exit_around(alloc, g, rest)
         }
         Look::Answer(values) => answer_alone(alloc, values, counts),
@@ -166,7 +170,9 @@ fn settled(
                 frames,
                 fresh: place.fresh,
             };
-            succeeded(alloc, program, depth, &entered, g, counts)
+            let made = succeeded(alloc, program, depth, &entered, g, counts);
+            drop(entered);
+            made
         }
     }
 }
@@ -203,6 +209,7 @@ fn succeeded(
         points: counts.points + 1,
     };
     let rest = hand(alloc, program, depth, &around, newest, made)?;
+    drop(around);
     success_around(alloc, &entered.frames, g, rest)
 }
 
@@ -242,7 +249,9 @@ fn hand(
         points: counts.points + 1,
     };
     let rest = search_from(alloc, program, depth, &next, made)?;
-    point_before(alloc, &next.frames, Some(step), rest)
+    let pointed = point_before(alloc, &next.frames, Some(step), rest);
+    drop(next);
+    pointed
 }
 
 /// Each of the goal's clauses in turn, and at last Fail.
@@ -269,7 +278,10 @@ fn tries(
     let mut at = 0;
     'clauses: while at < numbers.len() {
         match tried(alloc, program, depth, place, g, at, &mut out)? {
-            Advance::Full => return Ok(None),
+            Advance::Full => {
+                drop(out);
+                return Ok(None);
+            }
             Advance::Ends => return Ok(Some(out)),
             Advance::Goes => at += 1,
         }
@@ -320,7 +332,9 @@ fn tried(
                 frames,
                 fresh: place.fresh + BLOCK,
             };
-            begun(alloc, program, depth, &entered, g, out)
+            let advance = begun(alloc, program, depth, &entered, g, out);
+            drop(entered);
+            advance
         }
     }
 }
@@ -402,8 +416,10 @@ pub fn trace(
         points: 1,
     };
     let Some(searched) = search_from(alloc, program, depth, &place, counts)? else {
+        drop(place);
         return Ok(None);
     };
     let items = traced(alloc, &place.frames, searched.items)?;
+    drop(place);
     Ok(Some(items))
 }

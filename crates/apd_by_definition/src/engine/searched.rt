@@ -90,8 +90,11 @@ pub(crate) fn up_to_error(
         let last = is_error(&item);
         kept.push_back(item)?;
         if last {
+            // Dropped by calls: else each part is a step to check.
+            drop(items);
             return Ok(kept);
         }
     }
+    drop(items);
     Ok(kept)
 }

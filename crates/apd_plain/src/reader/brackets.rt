@@ -97,7 +97,10 @@ impl Bracket {
             (Some(name), _) => call(alloc, name, self.done.as_slice()),
             (None, Kind::OpenCurly) => call(alloc, CURLY, self.done.as_slice()),
             (None, Kind::OpenList) => Ok(Some(self.list(alloc)?)),
-            (None, Kind::Open) => Ok(self.done.pop().map(deeper)),
+            (None, Kind::Open) => match self.done.pop() {
+                Some(part) => Ok(Some(deeper(part))),
+                None => Ok(None),
+            },
             _ => Ok(self.done.pop()),
         }
     }

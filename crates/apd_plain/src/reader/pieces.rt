@@ -28,10 +28,10 @@ fn priority_of(piece: &Piece) -> u16 {
     }
 }
 
-fn groups_left(piece: &Piece, priority: u16) -> bool {
+fn groups_left(piece: &Piece) -> bool {
     match piece {
         Piece::Operand(_) => false,
-        Piece::Operator(o) => o.priority == priority && o.kind == OpKind::Yfx,
+        Piece::Operator(o) => o.kind == OpKind::Yfx,
     }
 }
 
@@ -41,21 +41,26 @@ fn main_of(pieces: &[Piece]) -> Option<usize>
     ensures { IfSome result (λ place. place < length pieces.now) }
 {
     let mut highest = 0;
-    for piece in pieces {
-        highest = highest.max(priority_of(piece));
+    let mut first = 0;
+    let mut last = 0;
+    let mut left = false;
+    for (place, piece) in pieces.iter().enumerate() {
+        let priority = priority_of(piece);
+        if priority > highest {
+            highest = priority;
+            first = place;
+            left = false;
+        }
+        if priority == highest {
+            last = place;
+            left = left || groups_left(piece);
+        }
     }
-    if highest == 0 {
+    let main = if left { last } else { first };
+    if highest == 0 || main >= pieces.len() {
         return None;
     }
-    if pieces.iter().any(|piece| groups_left(piece, highest)) {
-        pieces
-            .iter()
-            .rposition(|piece| priority_of(piece) == highest)
-    } else {
-        pieces
-            .iter()
-            .position(|piece| priority_of(piece) == highest)
-    }
+    Some(main)
 }
 
 fn prefixed(alloc: Global, o: Op, right: Part) -> Result<Part, AllocError> {

@@ -11,8 +11,8 @@ use Rattle.apd_by_definition.proofs.arith.+eval.Goals as goal
 pub bounds-0 : goal.bounds-0
 bounds-0 t c = omega (arith, ap length c.symbols.ensures, length-spell c.args.expr.now, size_positive c.args.expr.now)
 
-pub eval-requires : goal.eval-requires
-eval-requires t c =
+pub eval-value-requires : goal.eval-value-requires
+eval-value-requires t c =
     let less = smaller c.args.expr.now 0 c.in_ok-only-in-Fun-default-eq1.only c.in_ok-only-in-Fun-default-eq1.ensures in
     (omega (arith, less, c.decreases), omega (arith, less))
 
@@ -21,8 +21,8 @@ eval-x-requires t c =
     let less = smaller c.args.expr.now 0 c.in_ok-sides-in-Fun-default-eq2.sides.left c.in_ok-sides-in-Fun-default-eq2.ensures.left in
     (omega (arith, less, c.decreases), omega (arith, less))
 
-pub eval-requires-in-Fun-default-eq2 : goal.eval-requires-in-Fun-default-eq2
-eval-requires-in-Fun-default-eq2 t c =
+pub eval-y-requires : goal.eval-y-requires
+eval-y-requires t c =
     let less = smaller c.args.expr.now 1 c.in_ok-sides-in-Fun-default-eq2.sides.right c.in_ok-sides-in-Fun-default-eq2.ensures.right in
     (omega (arith, less, c.decreases), omega (arith, less))
 
@@ -41,16 +41,16 @@ returns-in-Int t c m =
 pub returns-in_ok-only-in-Fun-default-eq1 : goal.returns-in_ok-only-in-Fun-default-eq1
 returns-in_ok-only-in-Fun-default-eq1 t c m =
     let e : get_or (spell c.args.expr.now) 0 (Var 0) ≡ Fun c.in-Fun-default-eq1.name 1 = ap (λ s. get_or s 0 (Var 0)) (sym c.symbols.ensures) ∙ c.in-Fun-default-eq1.is ∙ ap (λ (n : ℕ). Fun c.in-Fun-default-eq1.name n) (sym c.in-Fun-default-eq1.field-1-is ∙ c.in-Fun-default-eq1.field-1-test) in
-    let o : c.of_one.result ≡ of_one_by (unary_operation c.in-Fun-default-eq1.name) c.eval.result = c.of_one.ensures ∙ ap (λ q. of_one_by q c.eval.result) c.named.ensures in
-    o ∙ value-one c.args.expr.now (Var 0) c.in-Fun-default-eq1.name c.in_ok-only-in-Fun-default-eq1.only c.eval.result e c.in_ok-only-in-Fun-default-eq1.ensures c.eval.ensures (λ k. m (o ∙ k))
+    let o : c.of_one.result ≡ of_one_by (unary_operation c.in-Fun-default-eq1.name) c.eval-value.result = c.of_one.ensures ∙ ap (λ q. of_one_by q c.eval-value.result) c.named.ensures in
+    o ∙ value-one c.args.expr.now (Var 0) c.in-Fun-default-eq1.name c.in_ok-only-in-Fun-default-eq1.only c.eval-value.result e c.in_ok-only-in-Fun-default-eq1.ensures c.eval-value.ensures (λ k. m (o ∙ k))
 
 pub returns-in_ok-sides-in-Fun-default-eq2 : goal.returns-in_ok-sides-in-Fun-default-eq2
 returns-in_ok-sides-in-Fun-default-eq2 t c m =
     let e : get_or (spell c.args.expr.now) 0 (Var 0) ≡ Fun c.in-Fun-default-eq2.name 2 = ap (λ s. get_or s 0 (Var 0)) (sym c.symbols.ensures) ∙ c.in-Fun-default-eq2.is ∙ ap (λ (n : ℕ). Fun c.in-Fun-default-eq2.name n) (sym c.in-Fun-default-eq2.field-1-is ∙ c.in-Fun-default-eq2.field-1-test) in
     let x : Value = c.eval-x.result in
-    let y : Value = c.eval-in-Fun-default-eq2.result in
-    let o : c.of_two.result ≡ of_two_by (binary_operation c.in-Fun-default-eq2.name) x y = c.of_two.ensures ∙ ap (λ q. of_two_by q c.eval-x.result c.eval-in-Fun-default-eq2.result) c.named-in-Fun-default-eq2.ensures in
-    o ∙ value-two c.args.expr.now (Var 0) c.in-Fun-default-eq2.name c.in_ok-sides-in-Fun-default-eq2.sides.left c.in_ok-sides-in-Fun-default-eq2.sides.right x y e c.in_ok-sides-in-Fun-default-eq2.ensures.left c.in_ok-sides-in-Fun-default-eq2.ensures.right c.eval-x.ensures c.eval-in-Fun-default-eq2.ensures (λ k. m (o ∙ k))
+    let y : Value = c.eval-y.result in
+    let o : c.of_two.result ≡ of_two_by (binary_operation c.in-Fun-default-eq2.name) x y = c.of_two.ensures ∙ ap (λ q. of_two_by q c.eval-x.result c.eval-y.result) c.named-in-Fun-default-eq2.ensures in
+    o ∙ value-two c.args.expr.now (Var 0) c.in-Fun-default-eq2.name c.in_ok-sides-in-Fun-default-eq2.sides.left c.in_ok-sides-in-Fun-default-eq2.sides.right x y e c.in_ok-sides-in-Fun-default-eq2.ensures.left c.in_ok-sides-in-Fun-default-eq2.ensures.right c.eval-x.ensures c.eval-y.ensures (λ k. m (o ∙ k))
 
 pub returns-in-Fun : goal.returns-in-Fun
 returns-in-Fun t c m =

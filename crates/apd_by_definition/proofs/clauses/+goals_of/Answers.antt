@@ -18,9 +18,9 @@ returns-then-begins_with t c =
     let l = c.in_ok-sides.sides.left in
     let r = c.in_ok-sides.sides.right in
     let both = conjuncts-sides c.args.term.now l r (sym c.begins_with.ensures ∙ c.if-begins_with.true) c.in_ok-sides.ensures.left c.in_ok-sides.ensures.right in
-    IfOk-weaker c.joined.result _ _
-    (λ all h. h ∙ ap (λ gs. gs ++ c.as_slice.result.now) c.in_ok-goals.ensures ∙ ap (λ gs. conjuncts l ++ gs) (c.as_slice.ensures ∙ c.in_ok-others.ensures) ∙ sym both)
-    c.joined.ensures
+    IfOk-weaker c.joined-all.result _ _
+    (λ all h. h ∙ ap (λ gs. gs ++ c.as_slice.result.now) c.in-Ok.ensures ∙ ap (λ gs. conjuncts l ++ gs) (c.as_slice.ensures ∙ c.in-Ok-goals_of.ensures) ∙ sym both)
+    c.joined-all.ensures
 
 pub returns : goal.returns
 returns t c =

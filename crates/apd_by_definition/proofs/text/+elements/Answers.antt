@@ -10,9 +10,9 @@ pub returns-then-is_cell : goal.returns-then-is_cell
 returns-then-is_cell t c =
     let l = c.in_ok-sides.sides.left in
     let r = c.in_ok-sides.sides.right in
-    IfOk-weaker c.joined.result _ _
+    IfOk-weaker c.joined-all.result _ _
     (λ all h. h
-    ∙ ap (λ ts. ts ++ c.as_slice.result.now) c.in_ok-first.ensures
-    ∙ ap (λ ts. l ∷ ts) (c.as_slice.ensures ∙ c.in_ok-rest.ensures)
+    ∙ ap (λ ts. ts ++ c.as_slice.result.now) c.in-Ok.ensures
+    ∙ ap (λ ts. l ∷ ts) (c.as_slice.ensures ∙ c.in-Ok-elements.ensures)
     ∙ sym (cell_is c.args.list.now l r (c.if-is_cell.ensures.0 refl) c.in_ok-sides.ensures.left c.in_ok-sides.ensures.right))
-    c.joined.ensures
+    c.joined-all.ensures

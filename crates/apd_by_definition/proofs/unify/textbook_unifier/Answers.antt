@@ -1,5 +1,5 @@
 use Rattle.std.proofs.Common.{rules, ◌≡◌, true, false}
-use Rattle.apd_unify.proofs.Worklist.{Proceeds, under_way_first}
+use Rattle.apd_unify.proofs.Worklist.{under_way_first}
 use Rattle.apd_by_definition.proofs.Rounds.{round_free, round_goes, round_ends}
 use Rattle.apd_by_definition.proofs.unify.textbook_unifier.Goals as goal
 
@@ -10,20 +10,20 @@ pub solves-requires : goal.solves-requires
 solves-requires c =
     λ v t is. round_free c.args.a.now c.args.b.now c.in-Some.left c.in-Some.right c.rules.work.equations.items c.pop_front.new.self.items c.rules.work.found c.rules.invariant c.in-Some.ensures.items v t is
 
-pub returns-then-not-branch : goal.returns-then-not-branch
-returns-then-not-branch c =
-    let ends : c.in_ok-solves.field-0 ≡ false = search rules in
+pub returns-then-not-goes : goal.returns-then-not-goes
+returns-then-not-goes c =
+    let ends : c.in-Ok.goes ≡ false = search rules in
     round_ends c.args.a.now c.args.b.now c.in-Some.left c.in-Some.right c.rules.work.equations.items c.pop_front.new.self.items c.rules.work.found c.rules.invariant c.in-Some.ensures.items
-    c.solves.new.work.equations.items c.solves.new.work.found c.in_ok-solves.field-0 ends c.in_ok-solves.ensures
-
-proceeds : (c : goal.After-drop-left-inside-in-Some) → Proceeds c.args.a.now c.args.b.now c.rules.work.equations.items c.rules.work.found c.solves.new.work.equations.items c.solves.new.work.found
-proceeds c =
-    let goes : c.in_ok-solves.field-0 ≡ true = search rules in
-    round_goes c.args.a.now c.args.b.now c.in-Some.left c.in-Some.right c.rules.work.equations.items c.pop_front.new.self.items c.rules.work.found c.rules.invariant c.in-Some.ensures.items
-    c.solves.new.work.equations.items c.solves.new.work.found c.in_ok-solves.field-0 goes c.in_ok-solves.ensures
+    c.solves.new.work.equations.items c.solves.new.work.found c.in-Ok.goes ends c.in-Ok.ensures
 
 pub rules-preserved : goal.rules-preserved
-rules-preserved c = (proceeds c).kept
+rules-preserved c =
+    let goes : c.in-Ok.goes ≡ true = search rules in
+    (round_goes c.args.a.now c.args.b.now c.in-Some.left c.in-Some.right c.rules.work.equations.items c.pop_front.new.self.items c.rules.work.found c.rules.invariant c.in-Some.ensures.items
+    c.solves.new.work.equations.items c.solves.new.work.found c.in-Ok.goes goes c.in-Ok.ensures).kept
 
 pub rules-smaller : goal.rules-smaller
-rules-smaller c = (proceeds c).smaller
+rules-smaller c =
+    let goes : c.in-Ok.goes ≡ true = search rules in
+    (round_goes c.args.a.now c.args.b.now c.in-Some.left c.in-Some.right c.rules.work.equations.items c.pop_front.new.self.items c.rules.work.found c.rules.invariant c.in-Some.ensures.items
+    c.solves.new.work.equations.items c.solves.new.work.found c.in-Ok.goes goes c.in-Ok.ensures).smaller

@@ -11,8 +11,8 @@ use Rattle.apd_engine.proofs.Shown.{first_ran_left, first_shown_left, starts_sho
 use Rattle.apd_engine.proofs.RunFacts.{goes_nowhere}
 use Rattle.apd_engine.proofs.running.show.Goals as goal
 
-pub pass_all-requires : goal.pass_all-requires
-pass_all-requires g c =
+pub pass_all-ran-requires : goal.pass_all-ran-requires
+pass_all-ran-requires g c =
     let limits : Limits = record { budget = c.args.budget; answers = c.args.answers } in
     λ κs sub. (
       sub,
@@ -37,16 +37,16 @@ pub returns-clause-shown : goal.returns-clause-shown
 returns-clause-shown g c =
     let limits : Limits = record { budget = c.args.budget; answers = c.args.answers } in
     let same = first_shown_left (tuples_of c.args.program.now) c.args.query.now.tuple limits c.deref_mut.result.now (subst (IsFirstShown c.args.query.now.tuple) (sym c.deref_mut.ensures.value) c.in_ok-progress.ensures) in
-    IfOk-weaker c.pass_all.result _ _ (λ ran h. subst (λ (xs : List Shown). GoesThrough g.H.Hook.step c.args.hook.now xs c.pass_all.new.hook) same h.shown) c.pass_all.ensures.ended
+    IfOk-weaker c.pass_all-ran.result _ _ (λ ran h. subst (λ (xs : List Shown). GoesThrough g.H.Hook.step c.args.hook.now xs c.pass_all-ran.new.hook) same h.shown) c.pass_all-ran.ensures.ended
 
 pub returns-clause-ran : goal.returns-clause-ran
 returns-clause-ran g c =
     let limits : Limits = record { budget = c.args.budget; answers = c.args.answers } in
     let same = first_ran_left (tuples_of c.args.program.now) c.args.query.now.tuple limits c.deref_mut.result.now (subst (IsFirstShown c.args.query.now.tuple) (sym c.deref_mut.ensures.value) c.in_ok-progress.ensures) in
-    IfOk-weaker c.pass_all.result _ _ (λ ran h. h.told ∙ same) c.pass_all.ensures.ended
+    IfOk-weaker c.pass_all-ran.result _ _ (λ ran h. h.told ∙ same) c.pass_all-ran.ensures.ended
 
 pub returns-clause-cut : goal.returns-clause-cut
 returns-clause-cut g c =
     let limits : Limits = record { budget = c.args.budget; answers = c.args.answers } in
     let same = first_shown_left (tuples_of c.args.program.now) c.args.query.now.tuple limits c.deref_mut.result.now (subst (IsFirstShown c.args.query.now.tuple) (sym c.deref_mut.ensures.value) c.in_ok-progress.ensures) in
-    MatchResult-weaker c.pass_all.result c.pass_all.ensures.cut (λ ran h. h) (λ fault h. subst (λ (xs : List Shown). IsCut g.H.Hook.step c.args.hook.now xs c.pass_all.new.hook fault) same h)
+    MatchResult-weaker c.pass_all-ran.result c.pass_all-ran.ensures.cut (λ ran h. h) (λ fault h. subst (λ (xs : List Shown). IsCut g.H.Hook.step c.args.hook.now xs c.pass_all-ran.new.hook fault) same h)

@@ -60,9 +60,9 @@ turn-hand-requires t c =
 
 pub search_from-returns : goal.search_from-returns
 search_from-returns t c =
-    IfOk-weaker c.turn.result _ _
+    IfOk-weaker c.turn-made.result _ _
     (λ o h. makes_turn (tuples_of c.args.program.now) c.args.depth c.args.place.now.frames c.args.counts.boxes c.args.counts.points c.in_ok-look.look c.in_ok-look.look o (omega arith) c.in_ok-look.ensures refl h)
-    c.turn.ensures
+    c.turn-made.ensures
 
 pub turn-returns-in-Nothing : goal.turn-returns-in-Nothing
 turn-returns-in-Nothing t c =
@@ -108,8 +108,8 @@ turn-returns-in-Answer t c =
     (λ o h. makes_as o (turn (search_from P c.args.depth) P c.args.look.now F n m) (emit (Answer c.in-Answer.values) (nothing n m)) (turn_as P c.args.depth F n m c.args.look.now (Answers c.in-Answer.values) c.in-Answer.is) h)
     c.answer_alone.ensures
 
-pub settled-succeeded-requires : goal.settled-succeeded-requires
-settled-succeeded-requires t c =
+pub settled-succeeded-made-requires : goal.settled-succeeded-made-requires
+settled-succeeded-made-requires t c =
     let F = c.args.place.now.frames in
     let alike : AreAlike (solution F c.args.g.now c.args.counts.points) (solved c.in-Entered.frames) =
     subst (λ a. AreAlike (solution F c.args.g.now c.args.counts.points) (solution_in a)) c.in-Entered.is c.in_ok-attempted.ensures.alike in
@@ -124,10 +124,10 @@ settled-returns-in-Entered t c =
     let n = c.args.counts.boxes in
     let m = c.args.counts.points in
     let next = search_from P c.args.depth in
-    IfOk-weaker c.succeeded.result _ _
+    IfOk-weaker c.succeeded-made.result _ _
     (λ o h. makes_as o (settled next (clauses_for g.atom P) F g (solution F g m) n m) (succeeded next g c.in-Entered.frames n m)
     (settled_as P c.args.depth F g n m (solution_in c.in_ok-attempted.field-0) (solved c.in-Entered.frames) c.in_ok-attempted.ensures.alike (ap solution_in c.in-Entered.is)) h)
-    c.succeeded.ensures
+    c.succeeded-made.ensures
 
 pub succeeded-hand-requires : goal.succeeded-hand-requires
 succeeded-hand-requires t c =
@@ -236,8 +236,8 @@ tried-resolved-requires-clause-short t c =
     let within : c.args.at < length c.numbers-numbers.result.now = omega (arith, ap length c.numbers-numbers.ensures, c.requires.there) in
     number_runnable c.args.g.now.atom c.args.program.now c.numbers-numbers.result.now c.args.at c.numbers-numbers.ensures within c.clause-clause.result.now c.clause-clause.ensures c.requires.program
 
-pub tried-begun-requires : goal.tried-begun-requires
-tried-begun-requires t c =
+pub tried-begun-advance-requires : goal.tried-begun-advance-requires
+tried-begun-advance-requires t c =
     let P = tuples_of c.args.program.now in
     let g = c.args.g.now in
     let F = c.args.place.now.frames in
@@ -293,12 +293,12 @@ tried-returns-in-Some t c =
     let there = number_among g.atom c.args.program.now c.numbers-numbers.result.now c.args.at c.numbers-numbers.ensures within c.clause-clause.result.now c.clause-clause.ensures in
     let renamed = subst (AreRenamed (entering F g rule number counts.points)) c.in-Some.is c.in_ok-entered.ensures.renamed in
     record {
-      advances = IfOk-weaker c.begun.result _ _
-          (λ b h. advances_as (out_of c.args.out.now) (out_of c.begun.new.out) (tries next F g (drop c.args.at cs)) (begun next g (tries next F g (drop (c.args.at + 1) cs)) c.in-Some.frames) (tries next F g (drop (c.args.at + 1) cs)) b
+      advances = IfOk-weaker c.begun-advance.result _ _
+          (λ b h. advances_as (out_of c.args.out.now) (out_of c.begun-advance.new.out) (tries next F g (drop c.args.at cs)) (begun next g (tries next F g (drop (c.args.at + 1) cs)) c.in-Some.frames) (tries next F g (drop (c.args.at + 1) cs)) b
           (entered_as P c.args.depth F g c.args.at number rule counts.points there c.in-Some.frames renamed counts.boxes)
           (h (tries next F g (drop (c.args.at + 1) cs)) (tries_grows next (search_grows P c.args.depth) F g (drop (c.args.at + 1) cs))))
-          c.begun.ensures.advances;
-      boxes = c.begun.ensures.boxes;
+          c.begun-advance.ensures.advances;
+      boxes = c.begun-advance.ensures.boxes;
     }
 
 pub begun-returns-then-out-clause-advances : goal.begun-returns-then-out-clause-advances

@@ -1,47 +1,18 @@
-use Rattle.std.proofs.Common.{◌∷◌, ◌∙◌, [], length, map, refl, sym, ap, subst, arith}
-use Rattle.std.specs.List.{flat_map}
-use Rattle.apd_term.specs.Term.{variables, IsAmong}
-use Rattle.apd_term.proofs.Among.{IsAmong-left, IsAmong-right}
-use Rattle.apd_cells.specs.Store.{Keeps}
-use Rattle.apd_cells.specs.Stored.{Stored}
-use Rattle.apd_cells.proofs.Keeping.{Keeps-trans}
-use Rattle.apd_frames.specs.Links.{Instance, Link}
-use Rattle.apd_frames.specs.Instances.{terms_in, raised_in, AreInside}
+use Rattle.std.proofs.Common.{sym, subst, arith}
+use Rattle.apd_frames.specs.Linked.{IsFramed}
 use Rattle.apd_frames.proofs.Numbers.{IsSmall-canonical}
-use Rattle.apd_frames.proofs.Instancing.{inside_new}
-use Rattle.apd_frames.proofs.Moving.{opened, opened_framed}
+use Rattle.apd_frames.proofs.Moving.{opened_kept}
+use Rattle.apd_term.specs.Tuple.{canonical_tuple}
 use Rattle.apd_frames.proofs.linked.Linked.open.Goals as goal
 
-pub load-requires : goal.load-requires
-load-requires c = λ v o.
-    (let h = IsSmall-canonical c.args.query.now c.in_ok-tuple.tuple c.requires.short c.in_ok-tuple.ensures v (IsAmong-left (variables c.in_ok-tuple.tuple.head) (flat_map variables c.in_ok-tuple.tuple.body) v o) in
+pub put_query-put-requires-clause-small : goal.put_query-put-requires-clause-small
+put_query-put-requires-clause-small c = λ v o.
+    (let h = IsSmall-canonical c.args.query.now c.in_ok-tuple.tuple c.requires.short c.in_ok-tuple.ensures v o in
     omega (arith, h))
 
-pub load_all-requires : goal.load_all-requires
-load_all-requires c = λ v o.
-    (let h = IsSmall-canonical c.args.query.now c.in_ok-tuple.tuple c.requires.short c.in_ok-tuple.ensures v
-    (IsAmong-right (variables c.in_ok-tuple.tuple.head) (flat_map variables c.in_ok-tuple.tuple.body) v (subst (λ xs. IsAmong (flat_map variables xs) v) c.as_slice.ensures o)) in
-    omega (arith, h))
+pub returns-in-Ok-clause-framed : goal.returns-in-Ok-clause-framed
+returns-in-Ok-clause-framed c = subst (IsFramed c.put_query-put.new.store c.put_query-put.new.links 1) (sym c.new-3.ensures) c.in-Ok.ensures.framed
 
-pub returns-clause-framed : goal.returns-clause-framed
-returns-clause-framed c =
-    let i : Instance = record { head = c.in_ok-head.head; goals = c.as_slice-2.result.now } in
-    let l : Link = record { box_no = 0; depth = 0; clause = 0; instance = i; done = 0; point = 0; around = 0 } in
-    let h = inside_new c.new-store.result c.load.new.self c.in_ok-tuple.tuple.head 0 c.in_ok-head.head.0 c.in_ok-head.ensures.ok c.in_ok-head.ensures.cell in
-    opened_framed c.load_all.new.store l c.push.new.self c.new.result (c.in_ok-push.ensures.ok ∙ ap (λ ls. l ∷ ls) c.new-links.ensures) c.new.ensures refl
-    (record { head = omega (arith, h, c.load_all.ensures.grown.cells); goals = subst (AreInside (length c.load_all.new.store.cells)) (sym c.as_slice-2.ensures.value) c.in_ok-load_all.ensures.inside })
-
-pub returns-clause-kept : goal.returns-clause-kept
-returns-clause-kept c =
-    let i : Instance = record { head = c.in_ok-head.head; goals = c.as_slice-2.result.now } in
-    let l : Link = record { box_no = 0; depth = 0; clause = 0; instance = i; done = 0; point = 0; around = 0 } in
-    let h = inside_new c.new-store.result c.load.new.self c.in_ok-tuple.tuple.head 0 c.in_ok-head.head.0 c.in_ok-head.ensures.ok c.in_ok-head.ensures.cell in
-    opened c.new-store.result c.load.new.self c.load_all.new.store c.in_ok-tuple.tuple c.args.query.now c.in_ok-head.head.0 i c.new-store.ensures c.in_ok-tuple.ensures
-    c.in_ok-head.ensures.ok h c.in_ok-head.ensures.made c.load_all.ensures.grown
-    (ap (terms_in c.load_all.new.store) c.as_slice-2.ensures.value ∙ c.in_ok-load_all.ensures.made ∙ ap (map (raised_in c.load.new.self 0)) c.as_slice.ensures) refl
-    l c.push.new.self c.new.result (c.in_ok-push.ensures.ok ∙ ap (λ ls. l ∷ ls) c.new-links.ensures) c.new.ensures refl
-
-pub returns-clause-begun : goal.returns-clause-begun
-returns-clause-begun c =
-    let none : Stored = record { cells = []; variables = 0; trail = [] } in
-    (Keeps-trans none c.load.new.self c.load_all.new.store (subst (λ s. Keeps s c.load.new.self) c.new-store.ensures c.in_ok-head.ensures.kept) c.load_all.ensures.grown.kept).1
+pub returns-in-Ok-clause-kept : goal.returns-in-Ok-clause-kept
+returns-in-Ok-clause-kept c =
+    opened_kept c.put_query-put.new.store c.put_query-put.new.links c.new-3.result c.in_ok-tuple.tuple (canonical_tuple c.args.query.now) c.in-Ok.ensures.frames c.new-3.ensures c.in_ok-tuple.ensures

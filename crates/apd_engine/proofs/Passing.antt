@@ -72,6 +72,18 @@ pub port_read : {H : Type 0} (step : H → Shown → Result (Unit {0}) HookFault
 port_read step hook unread e None ports ignored = OnTrue_at ports ignored e
 port_read step hook unread e (Some item) is ignored = is
 
+-- what is held stays as it was
+pub still_held : {H : Type 0} {step : H → Shown → Result (Unit {0}) HookFault → H → Type 0} {faults : H → ℕ} {course : Course H} {P : List Tuple} {limits : Limits} {p : Progress} {hook : H} (held : Option OpenPoint) → held ≡ p.held
+    → IsOn step faults course P limits p hook → IsOn step faults course P limits (record { search = p.search; rows = p.rows; held = held; ports = p.ports; answered = p.answered }) hook
+still_held {p} held same on =
+    record {
+      showing = on.showing;
+      point = on.point;
+      held = subst (λ o. IsHeld p.search.frames.tuples o on.point) (sym same) on.held;
+      there = on.there;
+      keeping = on.keeping;
+    }
+
 -- where a run stands after an item
 abbrev after : Search → Rows → Option OpenPoint → ℕ → ℕ → Progress
 after s rows held ports answered = record { search = s; rows = rows; held = held; ports = ports; answered = answered }

@@ -1,6 +1,6 @@
 -- What is told of an item.
 use Rattle.std.proofs.Common.{◌≡◌, ◌≢◌, ℕ, ◌+◌, ◌<◌, Bool, true, false, List, [], ◌∷◌, length, drop, append-nil, refl, ap, sym, ◌∙◌, subst, arith, Option, Some, None}
-use Rattle.std.proofs.lemmas.Bool.{not-true}
+use Rattle.std.proofs.lemmas.Bool.{not-false, not-true}
 use Rattle.std.proofs.lemmas.List.{length-map}
 use Rattle.std.specs.Prelude.{◌==◌, if◌then◌else◌, slice_get}
 use Rattle.apd_term.specs.Canonical.{canonical}
@@ -29,7 +29,7 @@ use Rattle.std.specs.Global.{Box}
 use Rattle.apd_following.specs.Followed.{KeepsGoal, KeepsInstance}
 use Rattle.apd_following.specs.declared.following.KeptFrame.{KeptFrame}
 use Rattle.apd_record.specs.declared.ongoing.OpenPoint.{OpenPoint}
-use Rattle.apd_engine.specs.Given.{IsCalled, IsPointOf, IsToldWhole, IsWhole, Makes, MayBeWhole, Tells, TellsCall, TellsKept, TellsPoint, TellsPort, TellsSome}
+use Rattle.apd_engine.specs.Given.{Holding, HoldsWhere, IsCalled, IsPointOf, IsToldWhole, IsWhole, Makes, MayBeWhole, SetsHeld, SetsHeldSome, Tells, TellsCall, TellsKept, TellsPoint, TellsPort, TellsSome, of_point}
 use Rattle.apd_engine.specs.declared.given.KeptCall.{KeptCall}
 use Rattle.apd_engine.specs.Recording.{IsThere, MayPass}
 use Rattle.apd_engine.specs.Search.{Standing, Grows, Ends, GivesAlways, GivesBy, GivesOrEnds, HasFailed, IsCalling, IsLeft, IsOpen, AllWaits, Waits, called_at, in_mode, left_at}
@@ -59,11 +59,11 @@ pub grows_goal : (o : Option ℕ) (F : List Frame) {old new : List Tuple} → Ke
 grows_goal None F {old} {new} h = grows_same h.1
 grows_goal (Some n) F {old} {new} h = record { more = record { head = canonical h.1.goal; body = [] } ∷ []; is = h.1.more }
 
-pub tells_tuples : (kept here : List Tuple) (unread : Unread) (given : Given) (B : Item → Type 0) → kept ≡ here → Tells here unread given B → Tells kept unread given B
-tells_tuples kept here unread given B same h = subst (λ ts. Tells ts unread given B) (sym same) h
+pub tells_tuples : (kept here : List Tuple) (held : Option OpenPoint) (unread : Unread) (given : Given) (B : Item → Type 0) → kept ≡ here → Tells (record { tuples = here; held = held }) unread given B → Tells (record { tuples = kept; held = held }) unread given B
+tells_tuples kept here held unread given B same h = subst (λ ts. Tells (record { tuples = ts; held = held }) unread given B) (sym same) h
 
 -- what follows for each item follows for the one that is told
-pub tells_weaker : (kept : List Tuple) (unread : Unread) (given : Given) (A B : Item → Type 0) → ((i : Item) → A i → B i) → Tells kept unread given A → Tells kept unread given B
+pub tells_weaker : (kept : Holding) (unread : Unread) (given : Given) (A B : Item → Type 0) → ((i : Item) → A i → B i) → Tells kept unread given A → Tells kept unread given B
 tells_weaker kept unread (Whole i) A B weaker h = (h.0, weaker i.value h.1)
 tells_weaker kept unread (PortOf port b) A B weaker h =
     record {
@@ -80,10 +80,12 @@ tells_weaker kept unread SomePoint A B weaker h =
       holds = weaker (Made h.point) h.holds;
       may = h.may;
     }
-tells_weaker kept unread (KeptPoint p) A B weaker h =
+tells_weaker kept unread KeptPoint A B weaker h =
     record {
+      row = h.row;
       point = h.point;
       holds = weaker (Made h.point) h.holds;
+      held = h.held;
       at = h.at;
       may = h.may;
     }
@@ -98,18 +100,18 @@ tells_weaker kept unread (KeptGoal call) A B weaker h =
     }
 
 -- what holds of an item is told by it, whole
-pub tells_whole : (kept : List Tuple) (unread : Unread) (given : Given) (i : Item) (B : Item → Type 0) → IsWhole given i → MayBeWhole unread i → B i → Tells kept unread given B
+pub tells_whole : (kept : Holding) (unread : Unread) (given : Given) (i : Item) (B : Item → Type 0) → IsWhole given i → MayBeWhole unread i → B i → Tells kept unread given B
 tells_whole kept unread (Whole w) i B is may h = (subst (MayBeWhole unread) (sym is) may, subst B (sym is) h)
 tells_whole kept unread (PortOf port b) i B is may h = absurd is
 tells_whole kept unread SomePoint i B is may h = absurd is
-tells_whole kept unread (KeptPoint p) i B is may h = absurd is
+tells_whole kept unread KeptPoint i B is may h = absurd is
 tells_whole kept unread (KeptGoal call) i B is may h = absurd is
 
-pub whole_told : (kept : List Tuple) (unread : Unread) (given : Given) (i : Item) (B : Item → Type 0) → IsWhole given i → Tells kept unread given B → MayBeWhole unread i × B i
+pub whole_told : (kept : Holding) (unread : Unread) (given : Given) (i : Item) (B : Item → Type 0) → IsWhole given i → Tells kept unread given B → MayBeWhole unread i × B i
 whole_told kept unread (Whole w) i B is h = (subst (MayBeWhole unread) is h.0, subst B is h.1)
 whole_told kept unread (PortOf port b) i B is h = absurd is
 whole_told kept unread SomePoint i B is h = absurd is
-whole_told kept unread (KeptPoint p) i B is h = absurd is
+whole_told kept unread KeptPoint i B is h = absurd is
 whole_told kept unread (KeptGoal call) i B is h = absurd is
 
 -- a port of a goal, told by its box
@@ -135,13 +137,13 @@ pub some_newest : (F : List Frame) → 0 < length F → newest_of F ≡ None →
 some_newest [] some none = omega arith
 some_newest (f ∷ F) some none = cc
 
-pub tells_left : (kept : List Tuple) (unread : Unread) (port : Port) (F : List Frame) (b e : ℕ) → unread.ports ≡ true → port ≢ Call → newest_of F ≡ Some (b, e) → Tells kept unread (PortOf port b) (IsLeft F port e)
+pub tells_left : (kept : Holding) (unread : Unread) (port : Port) (F : List Frame) (b e : ℕ) → unread.ports ≡ true → port ≢ Call → newest_of F ≡ Some (b, e) → Tells kept unread (PortOf port b) (IsLeft F port e)
 tells_left kept unread port F b e may later newest =
     let l = newest_left F b e newest in
     tells_port unread port l.0 b (IsLeft F port e) l.2 may (λ call. absurd (later call)) (record { goal = l.0; exit = l.1; item = refl })
 
 -- the innermost frame as a point
-pub tells_point : (kept : List Tuple) (unread : Unread) (F : List Frame) (before : Option Step) → unread.points ≡ true → 0 < length F → fits F ≡ true → Tells kept unread SomePoint (IsPointOf F before)
+pub tells_point : (kept : Holding) (unread : Unread) (F : List Frame) (before : Option Step) → unread.points ≡ true → 0 < length F → fits F ≡ true → Tells kept unread SomePoint (IsPointOf F before)
 tells_point kept unread [] before may some fit = absurd (omega (arith, some))
 tells_point kept unread (f ∷ F) before may some fit =
     record {
@@ -150,19 +152,28 @@ tells_point kept unread (f ∷ F) before may some fit =
       may = may;
     }
 
+-- the same, as it is made where its instance was measured
+pub makes_measured : (kept : Holding) (unread : Unread) (b : Bool) (F : List Frame) (before : Option Step) → unread.points ≡ true → 0 < length F → b ≡ fits F → Makes kept unread b F before
+makes_measured kept unread false F before may some is = not-false (is_large_of F) (sym is)
+makes_measured kept unread true F before may some is =
+    subst (λ g. Tells kept unread g (IsPointOf F before)) (sym (ap (λ b. if b then SomePoint else KeptPoint) may)) (tells_point kept unread F before may some (sym is))
+
 -- the innermost frame as a point whose instance is kept
 pub makes_kept : (unread : Unread) (n : KeptFrame) (F : List Frame) (before : Option Step) (old new : List Tuple) → unread.points ≡ false → KeepsInstance (Some n) F old new
-    → Tells new unread (KeptPoint (record { owner = n.owner; clause = n.clause; done = n.done; tuple = n.tuple; before = before })) (IsPointOf F before)
+    → Makes (record { tuples = new; held = Some (record { owner = n.owner; clause = n.clause; done = n.done; tuple = n.tuple; before = before }) }) unread true F before
 makes_kept unread n F before old new may h =
     let k = h.1 in
     let frame : Frame = k.frame in
-    record {
+    let row : OpenPoint = record { owner = n.owner; clause = n.clause; done = n.done; tuple = n.tuple; before = before } in
+    let told : TellsKept (record { tuples = new; held = Some row }) unread (IsPointOf F before) = record {
+      row = row;
       point = point_at frame before;
       holds = record {
         point = point_at frame before;
         is = refl;
         points = (h.0, ap (λ G. point_in G before) (sym k.is));
       };
+      held = refl;
       at = record {
         tuple = canonical_tuple frame.tuple;
         there = subst (λ ts. slice_get ts n.tuple.number ≡ Some (canonical_tuple frame.tuple)) (sym k.more) (get-last old (canonical_tuple frame.tuple) n.tuple.number (sym k.number));
@@ -170,16 +181,70 @@ makes_kept unread n F before old new may h =
         is = rw (k.owner, k.clause, k.done) refl;
       };
       may = may;
-    }
+    } in
+    subst (λ g. Tells (record { tuples = new; held = Some row }) unread g (IsPointOf F before)) (sym (ap (λ b. if b then SomePoint else KeptPoint) may)) told
 
 -- an instance that makes no point is too large
-pub large_without : (kept : List Tuple) (unread : Unread) (o : Option Given) (F : List Frame) (before : Option Step) → Makes kept unread o F before → ((given : Given) → ¬ (o ≡ Some given)) → is_large_of F ≡ true
-large_without kept unread None F before h none = h
-large_without kept unread (Some given) F before h none = absurd (none given refl)
+pub large_without : (kept : Holding) (unread : Unread) (b : Bool) (F : List Frame) (before : Option Step) → Makes kept unread b F before → b ≡ false → is_large_of F ≡ true
+large_without kept unread false F before h none = h
+large_without kept unread true F before h none = cc
 
 -- one that does is told
-pub made_some : (kept : List Tuple) (unread : Unread) (o : Option Given) (given : Given) (F : List Frame) (before : Option Step) → Makes kept unread o F before → o ≡ Some given → Tells kept unread given (IsPointOf F before)
-made_some kept unread o given F before h is = subst (λ (x : Option Given). Makes kept unread x F before) is h
+pub made_some : (kept : Holding) (unread : Unread) (b : Bool) (given : Given) (F : List Frame) (before : Option Step) → Makes kept unread b F before → b ≡ true → given ≡ of_point unread → Tells kept unread given (IsPointOf F before)
+made_some kept unread b given F before h is point =
+    subst (λ g. Tells kept unread g (IsPointOf F before)) (sym point) (subst (λ (x : Bool). Makes kept unread x F before) is h)
+
+-- What is held stays, or is the point that was made.
+
+pub held_same : (given : Given) {old new : Option OpenPoint} → new ≡ old → SetsHeld given old new
+held_same (Whole i) same = same
+held_same (PortOf port b) same = same
+held_same SomePoint same = same
+held_same KeptPoint same = tt
+held_same (KeptGoal call) same = same
+
+pub held_where : (b unread : Bool) {old new : Option OpenPoint} → new ≡ old → HoldsWhere b unread old new
+held_where false unread same = same
+held_where true true same = same
+held_where true false same = tt
+
+pub held_not : (b unread : Bool) (old new : Option OpenPoint) → HoldsWhere b unread old new → b ≡ false → new ≡ old
+held_not false unread old new h none = h
+held_not true unread old new h none = cc
+
+pub held_made : (points : Bool) (old new : Option OpenPoint) → points ≡ false → HoldsWhere true points old new
+held_made points old new read = subst (λ p. HoldsWhere true p old new) (sym read) tt
+
+held_point_by : (points : Bool) (given : Given) (old new : Option OpenPoint) → HoldsWhere true points old new → given ≡ (if points then SomePoint else KeptPoint) → SetsHeld given old new
+held_point_by true given old new h is = subst (λ g. SetsHeld g old new) (sym is) h
+held_point_by false given old new h is = subst (λ g. SetsHeld g old new) (sym is) tt
+
+pub held_by_point : (unread : Unread) (b : Bool) (given : Given) (old new : Option OpenPoint) → HoldsWhere b unread.points old new → b ≡ true → given ≡ of_point unread → SetsHeld given old new
+held_by_point unread b given old new h is point = held_point_by unread.points given old new (subst (λ x. HoldsWhere x unread.points old new) is h) point
+
+sets_given : (o : Option Given) (old new : Option OpenPoint) → SetsHeldSome o old new → (given : Given) → o ≡ Some given → SetsHeld given old new
+sets_given o old new h given is = subst (λ (x : Option Given). SetsHeldSome x old new) is h
+
+whole_same : (given : Given) (r : Item) (old new : Option OpenPoint) → IsWhole given r → SetsHeld given old new → new ≡ old
+whole_same (Whole i) r old new is sets = sets
+whole_same (PortOf port b) r old new is sets = absurd is
+whole_same SomePoint r old new is sets = absurd is
+whole_same KeptPoint r old new is sets = absurd is
+whole_same (KeptGoal call) r old new is sets = absurd is
+
+module _ (o : Option Given) (old new : Option OpenPoint) (h : SetsHeldSome o old new) where
+  pub same_none : o ≡ None → new ≡ old
+  same_none is = subst (λ (x : Option Given). SetsHeldSome x old new) is h
+
+  module _ (given : Given) (is : o ≡ Some given) where
+    pub same_whole : (r : Item) → IsWhole given r → new ≡ old
+    same_whole r whole = whole_same given r old new whole (sets_given o old new h given is)
+
+    pub same_port : (port : Port) (b : ℕ) → given ≡ PortOf port b → new ≡ old
+    same_port port b bare = subst (λ g. SetsHeld g old new) bare (sets_given o old new h given is)
+
+    pub same_called : (call : KeptCall) → given ≡ KeptGoal call → new ≡ old
+    same_called call bare = subst (λ g. SetsHeld g old new) bare (sets_given o old new h given is)
 
 -- what waits behind a built-in goal that has exited
 pub record IsOver (n b : ℕ) (cs : List Choice) (saved : List (List Frame)) : Type 0 where
@@ -200,7 +265,7 @@ over_first X R h n b cs waits = behind (drop 1 X.saved) (subst (AllWaits n (Over
 same_goal : (look : Look) (g h : Called) → look ≡ Goal g → look ≡ Goal h → g ≡ h
 same_goal look g h one other = cc
 
-pub tells_failed : (kept : List Tuple) (unread : Unread) (b : ℕ) (old new : Kept) (g : Called) → unread.ports ≡ true → Calls old.current b g → new.saved ≡ drop 1 old.saved → Tells kept unread (PortOf Fail b) (HasFailed b old new)
+pub tells_failed : (kept : Holding) (unread : Unread) (b : ℕ) (old new : Kept) (g : Called) → unread.ports ≡ true → Calls old.current b g → new.saved ≡ drop 1 old.saved → Tells kept unread (PortOf Fail b) (HasFailed b old new)
 tells_failed kept unread b old new g may calls saved =
     tells_port unread Fail g b (HasFailed b old new) (box_of old.current b g calls) may (λ same. cc)
     (record { saved = saved; item = λ h others. ap (at_port Fail) (same_goal (look_of old.current b) g h calls others) })
@@ -226,13 +291,13 @@ called_gives s new g calls ready waits now =
     λ P. subst (λ (t : Standing). GivesBy P (in_mode Forward s) t (at_port Call g)) (sym now)
     (gives_call P s.frames (called_at s).frames s.stack (called_at s).stack s.boxes s.points (look_of s.frames.current (s.boxes + 1)) g (at_port Call g) refl calls ready waits refl refl refl)
 
-pub tells_call : (kept : List Tuple) (unread : Unread) (s new : Standing) → unread.ports ≡ true → unread.points ≡ true → ((n : ℕ) → CallsNext ≡ ahead_of (look_of s.frames.current n)) → IsOpen s.boxes s.frames.current → Waits s → new ≡ called_at s → Tells kept unread (PortOf Call new.boxes) (GivesAlways (in_mode Forward s) new)
+pub tells_call : (kept : Holding) (unread : Unread) (s new : Standing) → unread.ports ≡ true → unread.points ≡ true → ((n : ℕ) → CallsNext ≡ ahead_of (look_of s.frames.current n)) → IsOpen s.boxes s.frames.current → Waits s → new ≡ called_at s → Tells kept unread (PortOf Call new.boxes) (GivesAlways (in_mode Forward s) new)
 tells_call kept unread s new may points calls ready waits now =
     let x = call_so (look_of s.frames.current (s.boxes + 1)) (calls (s.boxes + 1)) in
     tells_port unread Call x.0 new.boxes (GivesAlways (in_mode Forward s) new) (box_of s.frames.current (s.boxes + 1) x.0 x.1 ∙ sym (ap (λ (t : Standing). t.boxes) now)) may (λ same. points)
     (called_gives s new x.0 x.1 ready waits now)
 
-pub tells_exit : (kept : List Tuple) (unread : Unread) (s new : Standing) (b e : ℕ) → unread.ports ≡ true → ((n : ℕ) → ExitsNext b e ≡ ahead_of (look_of s.frames.current n)) → IsOpen s.boxes s.frames.current → Waits s → new ≡ left_at s e → Tells kept unread (PortOf Exit b) (GivesAlways (in_mode Forward s) new)
+pub tells_exit : (kept : Holding) (unread : Unread) (s new : Standing) (b e : ℕ) → unread.ports ≡ true → ((n : ℕ) → ExitsNext b e ≡ ahead_of (look_of s.frames.current n)) → IsOpen s.boxes s.frames.current → Waits s → new ≡ left_at s e → Tells kept unread (PortOf Exit b) (GivesAlways (in_mode Forward s) new)
 tells_exit kept unread s new b e may exits ready waits now =
     let x = exit_so (look_of s.frames.current (s.boxes + 1)) b e (exits (s.boxes + 1)) in
     tells_port unread Exit x.0 b (GivesAlways (in_mode Forward s) new) x.2 may (λ same. cc)
@@ -240,7 +305,7 @@ tells_exit kept unread s new b e may exits ready waits now =
     (gives_exit P s.frames (left_at s e).frames s.stack (left_at s e).stack s.boxes s.points e (look_of s.frames.current (s.boxes + 1)) x.0 (at_port Exit x.0) refl x.1 ready waits refl refl refl))
 
 -- a Call that is told whole, where points aren't read
-pub tells_called : (kept : List Tuple) (unread : Unread) (given : Given) (s new : Standing) (i : Item) → unread.points ≡ true → IsCalled s.frames.current (s.boxes + 1) i → IsOpen s.boxes s.frames.current → Waits s → new ≡ called_at s → IsWhole given i → Tells kept unread given (GivesAlways (in_mode Forward s) new)
+pub tells_called : (kept : Holding) (unread : Unread) (given : Given) (s new : Standing) (i : Item) → unread.points ≡ true → IsCalled s.frames.current (s.boxes + 1) i → IsOpen s.boxes s.frames.current → Waits s → new ≡ called_at s → IsWhole given i → Tells kept unread given (GivesAlways (in_mode Forward s) new)
 tells_called kept unread given s new i points told ready waits now is =
     tells_whole kept unread given i (GivesAlways (in_mode Forward s) new) is (subst (MayBeWhole unread) (sym told.item) (λ same. points))
     (λ P. subst (λ (j : Item). GivesBy P (in_mode Forward s) new j) (sym told.item) (called_gives s new told.goal told.calls ready waits now P))
@@ -269,11 +334,11 @@ pub goal_kept : (o : Option ℕ) (F : List Frame) (old new : List Tuple) → Kee
 goal_kept None F old new h calls none = none_next F calls h.0
 goal_kept (Some n) F old new h calls none = none n refl
 
-pub tells_kept_call : (unread : Unread) (s new : Standing) (port : Option (Box Item)) (goal : ℕ) (is_user : Bool) (o : Option Pred) (old kept : List Tuple) → unread.points ≡ false → ((n : ℕ) → CallsNext ≡ ahead_of (look_of s.frames.current n)) → IsOpen s.boxes s.frames.current → Waits s → new ≡ called_at s
+pub tells_kept_call : (unread : Unread) (s new : Standing) (port : Option (Box Item)) (goal : ℕ) (is_user : Bool) (o : Option Pred) (old kept : List Tuple) (held : Option OpenPoint) → unread.points ≡ false → ((n : ℕ) → CallsNext ≡ ahead_of (look_of s.frames.current n)) → IsOpen s.boxes s.frames.current → Waits s → new ≡ called_at s
     → IsToldWhole unread (IsCalled s.frames.current (s.boxes + 1)) port → ((n : ℕ) (g : Called) → Calls s.frames.current n g → o ≡ predicate_of g.atom) → ((atom : Term) → o ≡ predicate_of atom → is_user ≡ is_user_atom atom)
     → KeepsGoal (Some goal) s.frames.current old kept
-    → Tells kept unread (KeptGoal (record { goal = goal; is_user = is_user; port = port })) (GivesAlways (in_mode Forward s) new)
-tells_kept_call unread s new port goal is_user o old kept may calls ready waits now read pred user keeps =
+    → Tells (record { tuples = kept; held = held }) unread (KeptGoal (record { goal = goal; is_user = is_user; port = port })) (GivesAlways (in_mode Forward s) new)
+tells_kept_call unread s new port goal is_user o old kept held may calls ready waits now read pred user keeps =
     let x = call_so (look_of s.frames.current (s.boxes + 1)) (calls (s.boxes + 1)) in
     let g : Called = x.0 in
     let k = keeps.1 in
@@ -296,7 +361,7 @@ tells_kept_call unread s new port goal is_user o old kept may calls ready waits 
     read_so (Some b) r = r.item ∙ ap (at_port Call) (same_goal (look_of s.frames.current (s.boxes + 1)) r.goal (call_so (look_of s.frames.current (s.boxes + 1)) (calls (s.boxes + 1))).0 r.calls (call_so (look_of s.frames.current (s.boxes + 1)) (calls (s.boxes + 1))).1)
 
 -- what was told of the item that was matched
-module _ (P : List Tuple) (kept : List Tuple) (unread : Unread) (s new : Standing) (o : Option Given) (h : TellsSome kept unread o (GivesOrEnds P s new)) where
+module _ (P : List Tuple) (kept : Holding) (unread : Unread) (s new : Standing) (o : Option Given) (h : TellsSome kept unread o (GivesOrEnds P s new)) where
   pub ends_told : o ≡ None → Ends P s.mode s.frames s.stack s.boxes s.points
   ends_told is = subst (λ (x : Option Given). TellsSome kept unread x (GivesOrEnds P s new)) is h
 
@@ -317,10 +382,10 @@ module _ (P : List Tuple) (kept : List Tuple) (unread : Unread) (s new : Standin
     pub gives_point : given ≡ SomePoint → TellsPoint unread (GivesBy P s new)
     gives_point bare = subst (λ (x : Given). Tells kept unread x (GivesBy P s new)) bare (gives_told given is)
 
-    pub gives_kept : (p : OpenPoint) → given ≡ KeptPoint p → TellsKept kept unread p (GivesBy P s new)
-    gives_kept p bare = subst (λ (x : Given). Tells kept unread x (GivesBy P s new)) bare (gives_told given is)
+    pub gives_kept : given ≡ KeptPoint → TellsKept kept unread (GivesBy P s new)
+    gives_kept bare = subst (λ (x : Given). Tells kept unread x (GivesBy P s new)) bare (gives_told given is)
 
-    pub gives_called : (call : KeptCall) → given ≡ KeptGoal call → TellsCall kept unread call (GivesBy P s new)
+    pub gives_called : (call : KeptCall) → given ≡ KeptGoal call → TellsCall kept.tuples unread call (GivesBy P s new)
     gives_called call bare = subst (λ (x : Given). Tells kept unread x (GivesBy P s new)) bare (gives_told given is)
 
 -- a Call is told whole where points are read

@@ -1,5 +1,5 @@
 -- What is told of an item.
-use Rattle.std.specs.Prelude.{◌≡◌, ℕ, ◌∷◌, [], List, length, Result, Ok, true, false, Option, Some, None, slice_get}
+use Rattle.std.specs.Prelude.{◌≡◌, ℕ, Bool, if◌then◌else◌, ◌∷◌, [], List, length, Result, Ok, true, false, Option, Some, None, slice_get}
 use Rattle.std.specs.Global.{Box}
 use Rattle.apd_term.specs.declared.tuple.Tuple.{Tuple}
 use Rattle.apd_term.specs.Tuple.{canonical_tuple}
@@ -49,11 +49,18 @@ pub record IsPointAt (kept : List Tuple) (p : OpenPoint) (point : Point) : Type 
   pub goals : p.tuple.goals ≡ length tuple.body
   pub is : point ≡ made_point p tuple
 
--- a point is told by its kept instance; B holds of it
-pub record TellsKept (kept : List Tuple) (unread : Unread) (p : OpenPoint) (B : Item → Type 0) : Type 0 where
+-- what is kept while a search goes on: tuples, and the point that is held back
+pub record Holding : Type 0 where
+  pub tuples : List Tuple
+  pub held : Option OpenPoint
+
+-- a point is told by its kept instance, and held; B holds of it
+pub record TellsKept (kept : Holding) (unread : Unread) (B : Item → Type 0) : Type 0 where
+  pub row : OpenPoint
   pub point : Point
   pub holds : B (Made point)
-  pub at : IsPointAt kept p point
+  pub held : kept.held ≡ Some row
+  pub at : IsPointAt kept.tuples row point
   pub may : unread.points ≡ false
 
 -- B holds of what is told whole, and it isn't told where nobody reads ports
@@ -89,25 +96,45 @@ abbrev pub IsWhole : Given → Item → Type 0
 IsWhole (Whole whole) i = whole.value ≡ i
 IsWhole (PortOf port b) i = ⊥
 IsWhole SomePoint i = ⊥
-IsWhole (KeptPoint p) i = ⊥
+IsWhole KeptPoint i = ⊥
 IsWhole (KeptGoal call) i = ⊥
 
--- B holds of the item of which this is told, where these tuples were kept
-abbrev pub Tells : List Tuple → Unread → Given → (Item → Type 0) → Type 0
+-- B holds of the item of which this is told, where this was kept
+abbrev pub Tells : Holding → Unread → Given → (Item → Type 0) → Type 0
 Tells kept unread (Whole i) B = MayBeWhole unread i.value × B i.value
 Tells kept unread (PortOf port b) B = TellsPort unread port b B
 Tells kept unread SomePoint B = TellsPoint unread B
-Tells kept unread (KeptPoint p) B = TellsKept kept unread p B
-Tells kept unread (KeptGoal call) B = TellsCall kept unread call B
+Tells kept unread KeptPoint B = TellsKept kept unread B
+Tells kept unread (KeptGoal call) B = TellsCall kept.tuples unread call B
 
--- the same whatever tuples were kept
+-- the same whatever was kept, and whatever point is held
 abbrev pub TellsAlways : Unread → Given → (Item → Type 0) → Type 0
-TellsAlways unread given B = (kept : List Tuple) → Tells kept unread given B
+TellsAlways unread given B = (kept : Holding) → Tells kept unread given B
+
+abbrev pub TellsBeside : List Tuple → Unread → Given → (Item → Type 0) → Type 0
+TellsBeside tuples unread given B =
+    (held : Option OpenPoint) → Tells (record { tuples = tuples; held = held }) unread given B
 
 -- the same where there may be no item
-abbrev pub TellsSome : List Tuple → Unread → Option Given → (Option Item → Type 0) → Type 0
+abbrev pub TellsSome : Holding → Unread → Option Given → (Option Item → Type 0) → Type 0
 TellsSome kept unread None B = B None
 TellsSome kept unread (Some given) B = Tells kept unread given (λ i. B (Some i))
+
+-- what is held changes only where a point is told by its kept instance
+abbrev pub SetsHeld : Given → Option OpenPoint → Option OpenPoint → Type 0
+SetsHeld (Whole i) old new = new ≡ old
+SetsHeld (PortOf port b) old new = new ≡ old
+SetsHeld SomePoint old new = new ≡ old
+SetsHeld KeptPoint old new = Unit {0}
+SetsHeld (KeptGoal call) old new = new ≡ old
+
+abbrev pub SetsHeldSome : Option Given → Option OpenPoint → Option OpenPoint → Type 0
+SetsHeldSome None old new = new ≡ old
+SetsHeldSome (Some given) old new = SetsHeld given old new
+
+-- what is given of a point
+abbrev pub of_point : Unread → Given
+of_point unread = if unread.points then SomePoint else KeptPoint
 
 -- the item is the innermost frame as a point
 pub record IsPointOf (F : List Frame) (before : Option Step) (i : Item) : Type 0 where
@@ -115,10 +142,16 @@ pub record IsPointOf (F : List Frame) (before : Option Step) (i : Item) : Type 0
   pub is : i ≡ Made point
   pub points : Points (Some point) F before
 
--- the innermost frame is told as a point, or none where its instance is too large
-abbrev pub Makes : List Tuple → Unread → Option Given → List Frame → Option Step → Type 0
-Makes kept unread None F before = Points None F before
-Makes kept unread (Some given) F before = Tells kept unread given (IsPointOf F before)
+-- the innermost frame is told as a point, or isn't where its instance is too large
+abbrev pub Makes : Holding → Unread → Bool → List Frame → Option Step → Type 0
+Makes kept unread false F before = Points None F before
+Makes kept unread true F before = Tells kept unread (of_point unread) (IsPointOf F before)
+
+-- what is held changes only where a point is made and points are read
+abbrev pub HoldsWhere : Bool → Bool → Option OpenPoint → Option OpenPoint → Type 0
+HoldsWhere false unread old new = new ≡ old
+HoldsWhere true true old new = new ≡ old
+HoldsWhere true false old new = Unit {0}
 
 -- the item is the Call of the goal that the frames call in box b
 pub record IsCalled (F : List Frame) (b : ℕ) (i : Item) : Type 0 where

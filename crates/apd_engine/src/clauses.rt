@@ -1,12 +1,14 @@
 //! The clauses of a goal's predicate, and the first of them that can be entered.
 
 ghost use Rattle.std.specs.Prelude.{◌≡◌, ◌<◌, ◌≤◌, length, IfOk};
+ghost use Rattle.apd_term.specs.Term.{predicate_of};
 ghost use Rattle.apd_clauses.specs.Clauses.{IsProgram, tuples_of};
 ghost use Rattle.apd_trace.specs.declared.frame.Called.{Called};
 ghost use Rattle.apd_frames.specs.Kept.{Calls, MayCall};
 ghost use Rattle.apd_following.specs.Followed.{kept_of};
-ghost use Rattle.apd_engine.specs.Search.{AreFor, Found, OfGoal, PassesBy, Skips, numbers_by};
+ghost use Rattle.apd_engine.specs.Search.{Found, OfGoal, PassesBy, Skips, numbers_by};
 
+use apd_cells::first::{are_clashing, key_of};
 use apd_clauses::Program;
 use apd_following::following::Following;
 use apd_term::{Pred, Sym};
@@ -25,10 +27,10 @@ pub fn numbers(program: &Program, pred: Option<Pred>) -> &[u32]
 /// So many clauses are tried one after another.
 const FEW: usize = 8;
 
-/// The place of the first of a predicate's clauses, from this one on, that isn't known to begin
-/// otherwise than the key says. There are so many of them.
+/// A place, no earlier than this one, up to which no clause of the predicate begins as the key says, as far as that is
+/// looked up. There are so many of them.
 #[tactic(auto, using(crate::proofs::Numbered::passes_none))]
-fn next(program: &Program, pred: Option<Pred>, key: Sym, from: usize, count: usize) -> usize
+fn near(program: &Program, pred: Option<Pred>, key: Sym, from: usize, count: usize) -> usize
     ensures forward { from ≤ result }
     ensures passes { PassesBy program.now pred key from result }
 {
@@ -41,8 +43,26 @@ fn next(program: &Program, pred: Option<Pred>, key: Sym, from: usize, count: usi
     }
 }
 
-/// Enters the first of these clauses from this index on that can be entered for the goal called in this box, and tells its
-/// index, or how many there are.
+/// The place of the first of a predicate's clauses, which have these numbers, from this one on, that doesn't begin
+/// otherwise than the key says; or how many there are.
+fn next(program: &Program, pred: Option<Pred>, key: Sym, numbers: &[u32], from: usize) -> usize
+    requires { numbers.now ≡ numbers_by pred program.now }
+    ensures forward { from ≤ result }
+    ensures passes { PassesBy program.now pred key from result }
+{
+    let mut at = near(program, pred, key, from, numbers.len());
+    'clauses: while at < numbers.len() {
+        let clause = program.clause(numbers[at]);
+        if !are_clashing(key, key_of(&clause.tuple.head)) {
+            return at;
+        }
+        at = near(program, pred, key, at + 1, numbers.len());
+    }
+    at
+}
+
+/// Enters the first of these clauses, which are of this predicate, from this index on that can be entered for the goal
+/// called in this box, and tells its index, or how many there are.
 pub fn find(
     frames: &mut Following,
     alloc: Global,
@@ -50,10 +70,12 @@ pub fn find(
     point: u32,
     from: usize,
     program: &Program,
+    pred: Option<Pred>,
     numbers: &[u32],
 ) -> Result<usize, AllocError>
     requires program { IsProgram program.now }
-    requires numbers { OfGoal frames.old.current box_no (AreFor numbers.now program.now) }
+    requires numbers { numbers.now ≡ numbers_by pred program.now }
+    requires pred { OfGoal frames.old.current box_no (λ g. pred ≡ predicate_of g.atom) }
     requires goal { (g : Called) × Calls frames.old.current box_no g }
     requires deep { MayCall frames.old.current }
     ensures skips { IfOk result (λ at. OfGoal frames.old.current box_no
@@ -64,14 +86,14 @@ pub fn find(
     ensures kept { IfOk result (λ at. length numbers.now ≤ at → frames.new ≡ frames.old) }
     ensures tuples { frames.new.tuples ≡ frames.old.tuples }
 {
-    let (pred, key) = (frames.predicate(), frames.key());
-    let mut at = next(program, pred, key, from, numbers.len());
+    let key = frames.key();
+    let mut at = next(program, pred, key, numbers, from);
     'clauses: while at < numbers.len() {
         let clause = program.clause(numbers[at]);
         if frames.enter(alloc, box_no, numbers[at], &clause.tuple, point)? {
             return Ok(at);
         }
-        at = next(program, pred, key, at + 1, numbers.len());
+        at = next(program, pred, key, numbers, at + 1);
     }
     Ok(at)
 }

@@ -4,7 +4,7 @@ ghost use Rattle.std.specs.Prelude.{◌≡◌, ℕ, OnOk, IfOk, ◌<◌, ◌+◌
 ghost use Rattle.apd_frames.specs.Kept.{ahead_of};
 ghost use Rattle.apd_trace.specs.Frames.{look_of};
 ghost use Rattle.apd_engine.specs.Search.{GivesAlways, Grows, IsOpen, Waits, called_at, in_mode, left_at, stand};
-ghost use Rattle.apd_engine.specs.Given.{IsCalled, IsToldWhole, MayBeWhole, Tells};
+ghost use Rattle.apd_engine.specs.Given.{IsCalled, IsToldWhole, MayBeWhole, TellsAlways, TellsBeside};
 
 use crate::given::{Given, KeptCall, Unread, event, is_user, whole};
 use crate::search::{Choice, Mode, Search};
@@ -20,7 +20,7 @@ impl Search {
         requires boxes { self.old.boxes < 2 ^ 32 - 1 }
         requires waits { Waits (stand self.old) }
         requires goes { IsOpen self.old.boxes self.old.frames.current }
-        ensures told { IfOk result (λ given. Tells self.new.frames.tuples unread given
+        ensures told { IfOk result (λ given. TellsBeside self.new.frames.tuples unread given
             (GivesAlways (in_mode Mode.Forward (stand self.old)) (stand self.new))) }
         ensures more { OnOk result (Grows self.old.frames.tuples self.new.frames.tuples) }
     {
@@ -31,9 +31,13 @@ impl Search {
                     self.exit(exit)?;
                     return Ok(Given::Port(Port::Exit, box_no));
                 }
-                whole(alloc, self.ending()?)
+                let given = self.ends(alloc)?;
+                Ok(given)
             }
-            _ => whole(alloc, self.ending()?),
+            _ => {
+                let given = self.ends(alloc)?;
+                Ok(given)
+            }
         }
     }
 
@@ -43,7 +47,7 @@ impl Search {
         requires waits { Waits (stand self.old) }
         requires goes { IsOpen self.old.boxes self.old.frames.current }
         requires calls { (n : ℕ) → Ahead.Call ≡ ahead_of (look_of self.old.frames.current n) }
-        ensures told { IfOk result (λ given. Tells self.new.frames.tuples unread given
+        ensures told { IfOk result (λ given. TellsBeside self.new.frames.tuples unread given
             (GivesAlways (in_mode Mode.Forward (stand self.old)) (stand self.new))) }
         ensures more { OnOk result (Grows self.old.frames.tuples self.new.frames.tuples) }
     {
@@ -58,7 +62,8 @@ impl Search {
         }
         let port = self.read_call(alloc, unread)?;
         let is_user = is_user(self.frames.predicate());
-        let Some(goal) = self.frames.keep_goal()? else {
+        // Only calls of the program's own stand in chains, whose sizes are compared.
+        let Some(goal) = self.frames.keep_goal(is_user)? else {
             unreachable!();
         };
         self.step_in()?;
@@ -123,6 +128,20 @@ impl Search {
         self.stack.push(Choice::Again)?;
         self.mode = Mode::Hand(exit);
         Ok(())
+    }
+
+    /// The innermost frame exits, or answers, which is given whole.
+    fn ends(&mut self, alloc: Global) -> Result<Given, AllocError>
+        requires boxes { self.old.boxes < 2 ^ 32 - 1 }
+        requires waits { Waits (stand self.old) }
+        requires goes { IsOpen self.old.boxes self.old.frames.current }
+        requires ends { (n : ℕ) → ¬ (Ahead.Call ≡ ahead_of (look_of self.old.frames.current n)) }
+        ensures told { IfOk result (λ given. (unread : Unread) → TellsAlways unread given
+            (GivesAlways (in_mode Mode.Forward (stand self.old)) (stand self.new))) }
+        ensures tuples { OnOk result (self.new.frames.tuples ≡ self.old.frames.tuples) }
+    {
+        let item = self.ending()?;
+        whole(alloc, item)
     }
 
     /// The innermost frame exits, or answers: the whole item.

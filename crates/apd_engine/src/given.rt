@@ -8,9 +8,10 @@ ghost use Rattle.apd_trace.specs.declared.frame.Called.{Called};
 ghost use Rattle.apd_frames.specs.Kept.{Calls, MayCall};
 ghost use Rattle.apd_following.specs.Followed.{kept_of};
 ghost use Rattle.apd_engine.specs.Search.{Grows, HasFailed, IsLeft};
-ghost use Rattle.apd_engine.specs.Given.{IsWhole, Makes, TellsAlways};
+ghost use Rattle.apd_engine.specs.Given.{HoldsWhere, IsWhole, Makes, TellsAlways, of_point};
 
 use apd_arith::Builtin;
+use apd_causes::RunError;
 use apd_following::following::Following;
 use apd_ports::{Event, Port};
 use apd_record::ongoing::OpenPoint;
@@ -48,8 +49,8 @@ pub enum Given {
     Port(Port, u32),
     /// A point: it isn't written out, and its instance isn't kept.
     Point,
-    /// A point whose instance is kept.
-    Kept(OpenPoint),
+    /// A point whose instance is kept: the point is held.
+    Kept,
     /// A Call whose goal is kept.
     Call(KeptCall),
 }
@@ -60,6 +61,13 @@ pub fn whole(alloc: Global, item: Item) -> Result<Given, AllocError>
 {
     let item = Box::new(alloc, item)?;
     Ok(Given::Whole(item))
+}
+
+/// The error of an instance that is too large.
+pub fn too_large(alloc: Global, box_no: u32) -> Result<Given, AllocError>
+    ensures { IfOk result (λ given. IsWhole given (Item.Error RunError.Size box_no)) }
+{
+    whole(alloc, Item::Error(RunError::Size, box_no))
 }
 
 /// The port of a box.
@@ -85,34 +93,46 @@ pub fn is_user(pred: Option<Pred>) -> bool
     }
 }
 
-/// The innermost frame as a point; none exactly where its instance is too large.
+/// The innermost frame becomes a point, unless its instance is too large: where points are read it is kept, and held.
 pub fn made(
     frames: &mut Following,
     before: Option<Step>,
     unread: Unread,
-) -> Result<Option<Given>, AllocError>
+    held: &mut Option<OpenPoint>,
+) -> Result<bool, AllocError>
     requires { 0 < length frames.old.current }
-    ensures made { IfOk result
-        (λ o. Makes frames.new.tuples unread o frames.old.current before) }
+    ensures made { IfOk result (λ b. Makes
+        (record { tuples = frames.new.tuples; held = held.new }) unread b frames.old.current before) }
+    ensures held { IfOk result (λ b. HoldsWhere b unread.points held.old held.new) }
     ensures frames { kept_of frames.new ≡ kept_of frames.old }
     ensures more { OnOk result (Grows frames.old.tuples frames.new.tuples) }
 {
     if unread.points {
-        if !frames.measure()? {
-            return Ok(None);
-        }
-        return Ok(Some(Given::Point));
+        return frames.measure();
     }
     match frames.keep()? {
-        None => Ok(None),
-        Some(kept) => Ok(Some(Given::Kept(OpenPoint {
-            owner: kept.owner,
-            clause: kept.clause,
-            done: kept.done,
-            tuple: kept.tuple,
-            before,
-        }))),
+        None => Ok(false),
+        Some(kept) => {
+            *held = Some(OpenPoint {
+                owner: kept.owner,
+                clause: kept.clause,
+                done: kept.done,
+                tuple: kept.tuple,
+                before,
+            });
+            Ok(true)
+        }
     }
+}
+
+/// What is given of a point.
+pub fn of_point(unread: Unread) -> Given
+    ensures { result ≡ of_point unread }
+{
+    if unread.points {
+        return Given::Point;
+    }
+    Given::Kept
 }
 
 /// A port of the box that the innermost frame leaves, and the frame's newest point.

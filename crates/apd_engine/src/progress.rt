@@ -164,7 +164,7 @@ impl Progress {
             ports: hook.ignores_ports(),
             points: false,
         };
-        let Some(given) = self.search.next(alloc, program, unread)? else {
+        let Some(given) = self.search.next(alloc, program, unread, &mut self.held)? else {
             return Ok(Some(self.ended(RunEnd::Exhausted)));
         };
         match given {
@@ -175,10 +175,7 @@ impl Progress {
                 Item::Answer(values) => self.pass_answer(limits, hook, values),
             },
             Given::Point => unreachable!(),
-            Given::Kept(point) => {
-                self.held = Some(point);
-                Ok(None)
-            }
+            Given::Kept => Ok(None),
             Given::Call(call) => {
                 if self.ports == limits.budget {
                     return Ok(Some(self.ended(RunEnd::Budget)));

@@ -82,7 +82,8 @@ impl Unrecorded {
             ports: hook.ignores_ports(),
             points: true,
         };
-        let Some(given) = self.search.next(alloc, program, unread)? else {
+        let mut held = None;
+        let Some(given) = self.search.next(alloc, program, unread, &mut held)? else {
             return Ok(Some(self.ended(RunEnd::Exhausted)));
         };
         match given {
@@ -107,7 +108,7 @@ impl Unrecorded {
                 }
             },
             Given::Point => Ok(None),
-            Given::Kept(_) => unreachable!(),
+            Given::Kept => unreachable!(),
             Given::Call(_) => unreachable!(),
             Given::Port(_, _) => {
                 if self.ports == limits.budget {

@@ -16,11 +16,14 @@ use apd_tuples::spots::Fact;
 use apd_unify::store::{Cell, Store};
 use std::alloc::AllocError;
 
-/// The size of a goal that is kept alone, unless it is larger than an instance may be.
-pub fn fact_of_goal(store: &Store, goal: Cell) -> Result<Fact, AllocError>
+/// The size of a goal that is kept alone, where it is asked for, unless it is larger than an instance may be.
+pub fn fact_of_goal(store: &Store, goal: Cell, is_sized: bool) -> Result<Fact, AllocError>
     requires { goal.0 < length store.now.cells }
     ensures { IfOk result (λ f. Holds f (canonical_tuple (tuple_of store.now goal []))) }
 {
+    if !is_sized {
+        return Ok(Fact::Nothing);
+    }
     let Some(size) = store.size_within(goal, MOST_INSTANCE_SYMBOLS)? else {
         return Ok(Fact::Nothing);
     };

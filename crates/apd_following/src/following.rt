@@ -339,8 +339,9 @@ impl Following {
         }
     }
 
-    /// Keeps the innermost frame's next goal alone, and tells its number; none where it calls none.
-    pub fn keep_goal(&mut self) -> Result<Option<u32>, AllocError>
+    /// Keeps the innermost frame's next goal alone, with its size where that is asked for, and tells its number; none
+    /// where it calls none.
+    pub fn keep_goal(&mut self, is_sized: bool) -> Result<Option<u32>, AllocError>
         ensures frames { kept_of self.new ≡ kept_of self.old }
         ensures kept { IfOk result
             (λ o. KeepsGoal o self.old.current self.old.tuples self.new.tuples) }
@@ -349,7 +350,7 @@ impl Following {
         match next_goal(&self.linked.links, self.linked.innermost) {
             None => Ok(None),
             Some(goal) => {
-                let fact = fact_of_goal(&self.linked.store, goal)?;
+                let fact = fact_of_goal(&self.linked.store, goal, is_sized)?;
                 let (tie, spots) = (&mut self.tie, &mut self.spots);
                 let numbered = keep_at(tie, spots, &self.linked.store, goal, &[], fact)?;
                 Ok(Some(numbered.number))

@@ -14,7 +14,7 @@ ghost use Rattle.apd_frames.specs.Linked.{frames_at, IsFramed, IsThere};
 ghost use Rattle.apd_frames.specs.Instances.{terms_in, instance_where, tuple_in, raised_in, AreInside, CanonicalWithin, IsWithin, HasBody, HasGrown, InstantiatesVariant};
 
 use crate::links::{LinkRef, Links};
-use crate::small::has_small_variables;
+use crate::small::is_small;
 use apd_base::{MOST_GOALS, MOST_INSTANCE_SYMBOLS};
 use apd_cells::scratch::Scratch;
 use apd_cells::slots::Slot;
@@ -29,6 +29,8 @@ pub struct Made {
     pub goals: Vec<Cell>,
     /// What stands for its variables.
     pub slots: Vec<Slot>,
+    /// Of which clauses it is known that their variables have small numbers.
+    pub small: Vec<bool>,
 }
 
 /// Loads the terms, and leaves their cells alone in `cells`.
@@ -137,6 +139,7 @@ pub fn instantiate(
     made: &mut Made,
     alloc: Global,
     goal: Cell,
+    clause: u32,
     rule: &Tuple,
 ) -> Result<bool, AllocError>
     requires goal { goal.0 < length store.old.cells }
@@ -148,7 +151,7 @@ pub fn instantiate(
         (instance_where b goal made.new.goals.items) store.old store.new goal.0 rule.now) }
 {
     let _variables = store.variables();
-    if has_small_variables(rule) {
+    if is_small(&mut made.small, clause, rule) {
         return instantiate_small(store, made, goal, rule);
     }
     let canonical = canonical_tuple(alloc, rule)?;

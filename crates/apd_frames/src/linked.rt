@@ -100,6 +100,7 @@ impl Linked {
             made: Made {
                 goals: Vec::new(alloc),
                 slots: Vec::new(alloc),
+                small: Vec::new(alloc),
             },
         };
         let put = put_query(
@@ -268,11 +269,8 @@ impl Linked {
         let Some(goal) = next_goal(&self.links, self.innermost) else {
             return Ok(false);
         };
-        if self.store.differs(goal, &rule.head) {
-            return Ok(false);
-        }
         let mark = self.store.mark();
-        if !instantiate(&mut self.store, &mut self.made, alloc, goal, rule)? {
+        if !instantiate(&mut self.store, &mut self.made, alloc, goal, clause, rule)? {
             self.store.undo(mark);
             return Ok(false);
         }

@@ -11,6 +11,7 @@ ghost use Rattle.apd_frames.specs.Measures.{IsMeasured, MeasuresInnermost};
 use crate::instance::MOST_OF_EACH;
 use crate::links::LinkRef;
 use apd_base::{MOST_GOALS, MOST_INSTANCE_SYMBOLS};
+use apd_ports::BUILTIN;
 use apd_unify::store::Store;
 use std::alloc::AllocError;
 
@@ -39,14 +40,15 @@ impl Measure {
 }
 
 /// What is seen of a link's instance. Where its variables aren't looked for, or some goal isn't solved, no symbol is passed
-/// if the store tells that no term is long; before all goals are solved most instances have variables.
+/// if the store tells that no term is long; before all goals are solved most instances have variables. Nobody asks
+/// whether a built-in goal has some.
 pub fn measured(store: &mut Store, link: &LinkRef<'_>, looks: bool) -> Result<Measure, AllocError>
     requires { IsThere store.old link.now }
     ensures measured { IfOk result
         (λ m. IsMeasured m (tuple_in store.old (link_of link.now).instance)) }
     ensures same { store.new ≡ store.old }
 {
-    let looks = looks && link.done as usize >= link.goals.len();
+    let looks = looks && link.clause != BUILTIN && link.done as usize >= link.goals.len();
     if !looks && link.goals.len() <= MOST_GOALS && store.are_within(MOST_OF_EACH) {
         return Ok(Measure::Fits);
     }

@@ -19,11 +19,45 @@ fn are_small(term: &Flat) -> bool {
 
 /// Whether each variable of the clause has a small number. No contract asks for it: by great numbers an instance is as
 /// right, but may take much memory.
-pub fn has_small_variables(rule: &Tuple) -> bool {
+fn has_small_variables(rule: &Tuple) -> bool {
     for atom in rule.body.as_slice() {
         if !are_small(atom) {
             return false;
         }
     }
     are_small(&rule.head)
+}
+
+/// Of clauses with numbers below this one it is noted that their variables have small numbers.
+const MOST_NOTED: u32 = 65_536;
+
+/// Notes that the variables of the clause with this number have small numbers, where there is memory for that.
+fn note_small(small: &mut Vec<bool>, clause: u32) {
+    if clause >= MOST_NOTED {
+        return;
+    }
+    let place = clause as usize;
+    'room: while small.len() <= place {
+        match small.push(false) {
+            Ok(()) => {}
+            Err(_) => return,
+        }
+    }
+    small[place] = true;
+}
+
+/// The same as [`has_small_variables`], which is noted of the clause with this number.
+pub fn is_small(small: &mut Vec<bool>, clause: u32, rule: &Tuple) -> bool {
+    let is_noted = match small.get(clause as usize) {
+        Some(noted) => *noted,
+        None => false,
+    };
+    if is_noted {
+        return true;
+    }
+    if !has_small_variables(rule) {
+        return false;
+    }
+    note_small(small, clause);
+    true
 }

@@ -10,7 +10,7 @@ use Rattle.apd_unify.specs.declared.heads.Met.TheVariants.{Clash, Past, Symbol}
 use Rattle.apd_cells.specs.Slots.{EachGetsAny, AreSlots, Fits, Numbering, value_in}
 use Rattle.apd_cells.specs.Stored.{Stored}
 use Rattle.apd_cells.specs.Store.{Keeps, meaning, term_at}
-use Rattle.apd_cells.specs.Work.{IsRun, Leads, run_symbols}
+use Rattle.apd_cells.specs.Work.{IsRun, Leads, PassesOn, run_symbols}
 use Rattle.apd_cells.specs.declared.slots.Slot.{Slot}
 use Rattle.apd_cells.specs.declared.walk.Run.{Run}
 
@@ -65,6 +65,11 @@ Meets Clash s s' old new at head place = Matches false s s' old new at (first_of
 Meets (Past end) s s' old new at head place =
     Matches true s s' old new at (first_of (read_all (drop place head))) × (end ≡ place + size (first_of (read_all (drop place head))))
 Meets (Symbol to) s s' old new at head place = MeetsSymbol s s' old new at head place to
+
+-- the first symbol of the runs was passed
+pub record GoesUnder (s : Stored) (old new : List Run) : Type 0 where
+  pub symbol : Sym
+  pub passes : PassesOn s old symbol new
 
 -- the run is that behind the first term
 pub record IsPastFirst (s : Stored) (here next : Run) : Type 0 where

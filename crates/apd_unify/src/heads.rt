@@ -1,13 +1,13 @@
 //! A clause's head that is matched with a goal where it stands. Of the head are loaded only subterms that meet a free
 //! variable of the goal, and variables that first meet a term with arguments.
 
-ghost use Rattle.std.specs.Prelude.{◌≡◌, ◌<◌, ◌≤◌, ℕ, [], get_or, length, slice_get, Some, IfOk, OnOk};
+ghost use Rattle.std.specs.Prelude.{◌≡◌, ◌∷◌, ◌<◌, ◌≤◌, ◌^◌, ℕ, [], get_or, length, slice_get, Some, IfOk, OnOk};
 ghost use Rattle.apd_term.specs.Term.{IsTerms, IsWhole, term_of};
 ghost use Rattle.apd_term.specs.declared.term.Sym.TheVariants.{Var};
 ghost use Rattle.apd_cells.specs.Slots.{AreSlots};
 ghost use Rattle.apd_cells.specs.Store.{IsSound, Keeps, symbol_at};
-ghost use Rattle.apd_cells.specs.Work.{IsRun};
-ghost use Rattle.apd_unify.specs.Heads.{HasGoneOn, IsPastFirst, Matches, Meets};
+ghost use Rattle.apd_cells.specs.Work.{AreRuns, IsRun, Leads};
+ghost use Rattle.apd_unify.specs.Heads.{GoesUnder, HasGoneOn, IsPastFirst, Matches, Meets};
 
 use crate::unify::{Pairs, unify};
 use apd_cells::heap::Heap;
@@ -176,6 +176,27 @@ fn past_first(heap: &Heap, here: Run) -> Run
     }
 }
 
+/// The run behind the first symbol of a run, whose first cell leads to this one.
+fn under(heap: &Heap, rest: &mut Stack<Run>, here: Run, at: usize) -> Result<Run, AllocError>
+    requires right { AreRuns heap.now.cells (here ∷ rest.old) }
+    requires some { 0 < here.left }
+    requires leads { Leads heap.now here.at at }
+    requires fits { length heap.now.cells < 2 ^ 64 }
+    ensures { IfOk result (λ r. GoesUnder heap.now (here ∷ rest.old) (r ∷ rest.new)) }
+{
+    let symbol = heap.symbol(at);
+    let arity = arity_of(symbol);
+    if at == here.at {
+        let next = Run {
+            at: here.at + 1,
+            left: here.left - 1 + arity,
+        };
+        return Ok(next);
+    }
+    let passed = pass_from(heap, rest, here, at)?;
+    Ok(passed.next)
+}
+
 /// Makes the head of a clause and the term at a cell equal by a most general unifier; false exactly where they have none.
 /// It tells what stands for the clause's variables then. After false or want of memory more terms may be there, and some
 /// variables may be bound.
@@ -210,7 +231,7 @@ pub fn unify_head(
                 from = end;
             }
             Met::Symbol(end) => {
-                here = pass_from(heap, runs, next, end)?.next;
+                here = under(heap, runs, next, end)?;
                 from += 1;
             }
         }

@@ -100,20 +100,20 @@ symbols-smaller-in-Past c =
     let e : c.in-Past.end ≡ c.symbols.from + size t = m.1 in
     let less : length c.symbols-symbols.result.now - c.in-Past.end < length c.symbols-symbols.result.now - c.symbols.from = omega (arith, e, size_positive t, c.symbols-test.true) in less
 
-pub pass_from-requires-clause-right : goal.pass_from-requires-clause-right
-pass_from-requires-clause-right c =
+pub under-requires-clause-right : goal.under-requires-clause-right
+under-requires-clause-right c =
     let h = matching_on c.args.heap.now c.symbols.heap c.symbols.slots.items c.args.goal c.args.head.now c.symbols.here c.in-Some.next c.symbols.runs c.next_run.new.rest
     c.symbols-symbols.result.now c.symbols.from c.symbols.invariant c.in-Some.ensures in
     runs_then c.symbols.heap c.meet.new.heap c.symbols.slots.items c.meet.new.slots.items (c.in-Some.next ∷ c.next_run.new.rest) c.in_ok-meet.ensures.store c.in_ok-meet.ensures.gone h.right
 
-pub pass_from-requires-clause-leads : goal.pass_from-requires-clause-leads
-pass_from-requires-clause-leads c =
+pub under-requires-clause-leads : goal.under-requires-clause-leads
+under-requires-clause-leads c =
     let m : Meets (Symbol c.in-Symbol.end) c.symbols.heap c.meet.new.heap c.symbols.slots.items c.meet.new.slots.items c.in-Some.next.at c.symbols-symbols.result.now c.symbols.from =
     subst (λ z. Meets z c.symbols.heap c.meet.new.heap c.symbols.slots.items c.meet.new.slots.items c.in-Some.next.at c.symbols-symbols.result.now c.symbols.from) c.in-Symbol.is c.in_ok-meet.ensures.met in
     subst (λ s. Leads s c.in-Some.next.at c.in-Symbol.end) (sym m.same) m.leads
 
-pub pass_from-requires-clause-fits : goal.pass_from-requires-clause-fits
-pass_from-requires-clause-fits c =
+pub under-requires-clause-fits : goal.under-requires-clause-fits
+under-requires-clause-fits c =
     let m : Meets (Symbol c.in-Symbol.end) c.symbols.heap c.meet.new.heap c.symbols.slots.items c.meet.new.slots.items c.in-Some.next.at c.symbols-symbols.result.now c.symbols.from =
     subst (λ z. Meets z c.symbols.heap c.meet.new.heap c.symbols.slots.items c.meet.new.slots.items c.in-Some.next.at c.symbols-symbols.result.now c.symbols.from) c.in-Symbol.is c.in_ok-meet.ensures.met in
     subst (λ (s : Stored). length s.cells < 2 ^ 64) (sym m.same) m.fits
@@ -133,8 +133,8 @@ symbols-preserved c =
     let terms : IsTerms c.symbols-symbols.result.now = subst IsTerms (sym c.symbols-symbols.ensures) (IsTerms-spell c.args.head.now) in
     let m : Meets (Symbol c.in-Symbol.end) c.symbols.heap c.meet.new.heap c.symbols.slots.items c.meet.new.slots.items c.in-Some.next.at c.symbols-symbols.result.now c.symbols.from =
     subst (λ z. Meets z c.symbols.heap c.meet.new.heap c.symbols.slots.items c.meet.new.slots.items c.in-Some.next.at c.symbols-symbols.result.now c.symbols.from) c.in-Symbol.is c.in_ok-meet.ensures.met in
-    matching_met c.args.heap.now c.symbols.heap c.meet.new.heap c.symbols.slots.items c.meet.new.slots.items c.args.goal c.args.head.now c.in-Some.next _ c.next_run.new.rest c.pass_from.new.rest
-    c.symbols-symbols.result.now c.symbols.from c.in-Symbol.end _ c.in_ok-meet.ensures.store h c.in-Some.ensures.0 terms c.symbols-test.true m c.in_ok-here-in-Symbol.ensures
+    matching_met c.args.heap.now c.symbols.heap c.meet.new.heap c.symbols.slots.items c.meet.new.slots.items c.args.goal c.args.head.now c.in-Some.next _ c.next_run.new.rest c.under.new.rest
+    c.symbols-symbols.result.now c.symbols.from c.in-Symbol.end _ c.in_ok-meet.ensures.store h c.in-Some.ensures.0 terms c.symbols-test.true m c.in_ok-here-in-Symbol.ensures.passes
 
 pub returns-clause-answer : goal.returns-clause-answer
 returns-clause-answer c =

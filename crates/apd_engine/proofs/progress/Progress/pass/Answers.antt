@@ -2,9 +2,9 @@ use Rattle.std.proofs.Common.{◌≡◌, ◌+◌, ◌<◌, true, false, refl, ar
 use Rattle.std.proofs.lemmas.Result.{err_from_is_err_and}
 use Rattle.apd_clauses.specs.Clauses.{tuples_of}
 use Rattle.apd_engine.specs.Search.{stand}
-use Rattle.apd_engine.proofs.Telling.{ends_told, gives_called, gives_kept, gives_of, gives_point, gives_port, later_whole, whole_of}
+use Rattle.apd_engine.proofs.Telling.{ends_told, gives_called, gives_kept, gives_of, gives_point, gives_port, later_whole, same_called, same_none, same_port, same_whole, whole_of}
 use Rattle.apd_engine.proofs.Shown.{memory_cut, cut_at_port}
-use Rattle.apd_engine.proofs.Passing.{add_at_answer, add_at_port, below_at_call, cut_answer, cut_later, on_bare, on_bare_budget, on_budget, on_call, on_error, on_exhausted, on_passed_answer, on_passed_later, on_point, port_read, row_at_bare, row_at_port}
+use Rattle.apd_engine.proofs.Passing.{add_at_answer, add_at_port, below_at_call, cut_answer, cut_later, on_bare, on_bare_budget, on_budget, on_call, on_error, on_exhausted, on_passed_answer, on_passed_later, on_point, port_read, row_at_bare, row_at_port, still_held}
 use Rattle.apd_engine.proofs.progress.Progress.pass.Goals as goal
 
 pub returns-in_err-given-clause-cut : goal.returns-in_err-given-clause-cut
@@ -13,66 +13,66 @@ returns-in_err-given-clause-cut g c =
 
 pub returns-in_default-clause-passed : goal.returns-in_default-clause-passed
 returns-in_default-clause-passed g c =
-    rw c.ended.ensures (on_exhausted c.requires.1.1.1.1 c.next.new.self c.in_ok-given.ensures.more (ends_told (tuples_of c.args.program.now) c.next.new.self.frames.tuples _ (stand c.args.self.now.search) (stand c.next.new.self) _ c.in_ok-given.ensures.told c.in_default.is))
+    rw c.ended.ensures (on_exhausted (still_held c.next.new.held (same_none _ c.args.self.now.held c.next.new.held c.in_ok-given.ensures.held c.in_default.is) c.requires.1.1.1.1) c.next.new.self c.in_ok-given.ensures.more (ends_told (tuples_of c.args.program.now) (record { tuples = c.next.new.self.frames.tuples; held = c.next.new.held }) _ (stand c.args.self.now.search) (stand c.next.new.self) _ c.in_ok-given.ensures.told c.in_default.is))
 
 pub unreachable-requires : goal.unreachable-requires
 unreachable-requires g c =
-    (whole_of (tuples_of c.args.program.now) c.next.new.self.frames.tuples _ (stand c.args.self.now.search) (stand c.next.new.self) _ c.in_ok-given.ensures.told _ c.in-Some.is c.deref.result.now _ (rw c.in-Whole.is (sym c.deref.ensures)) c.in-Made.is)
+    (whole_of (tuples_of c.args.program.now) (record { tuples = c.next.new.self.frames.tuples; held = c.next.new.held }) _ (stand c.args.self.now.search) (stand c.next.new.self) _ c.in_ok-given.ensures.told _ c.in-Some.is c.deref.result.now _ (rw c.in-Whole.is (sym c.deref.ensures)) c.in-Made.is)
 
 pub returns-in-Error-clause-passed : goal.returns-in-Error-clause-passed
 returns-in-Error-clause-passed g c =
-    rw c.ended-in-Error.ensures (on_error c.requires.1.1.1.1 c.next.new.self c.in_ok-given.ensures.more (gives_of (tuples_of c.args.program.now) c.next.new.self.frames.tuples _ (stand c.args.self.now.search) (stand c.next.new.self) _ c.in_ok-given.ensures.told _ c.in-Some.is c.deref.result.now _ (rw c.in-Whole.is (sym c.deref.ensures)) c.in-Error.is))
+    rw c.ended-in-Error.ensures (on_error (still_held c.next.new.held (same_whole _ c.args.self.now.held c.next.new.held c.in_ok-given.ensures.held _ c.in-Some.is c.deref.result.now (rw c.in-Whole.is (sym c.deref.ensures))) c.requires.1.1.1.1) c.next.new.self c.in_ok-given.ensures.more (gives_of (tuples_of c.args.program.now) (record { tuples = c.next.new.self.frames.tuples; held = c.next.new.held }) _ (stand c.args.self.now.search) (stand c.next.new.self) _ c.in_ok-given.ensures.told _ c.in-Some.is c.deref.result.now _ (rw c.in-Whole.is (sym c.deref.ensures)) c.in-Error.is))
 
 pub unreachable-requires-in-Point : goal.unreachable-requires-in-Point
 unreachable-requires-in-Point g c =
-    let read : false ≡ true = (gives_point (tuples_of c.args.program.now) c.next.new.self.frames.tuples _ (stand c.args.self.now.search) (stand c.next.new.self) _ c.in_ok-given.ensures.told _ c.in-Some.is c.in-Point.is).may in cc
+    let read : false ≡ true = (gives_point (tuples_of c.args.program.now) (record { tuples = c.next.new.self.frames.tuples; held = c.next.new.held }) _ (stand c.args.self.now.search) (stand c.next.new.self) _ c.in_ok-given.ensures.told _ c.in-Some.is c.in-Point.is).may in cc
 
 pub returns-in-Kept-clause-passed : goal.returns-in-Kept-clause-passed
 returns-in-Kept-clause-passed g c =
-    let k = (gives_kept (tuples_of c.args.program.now) c.next.new.self.frames.tuples _ (stand c.args.self.now.search) (stand c.next.new.self) _ c.in_ok-given.ensures.told _ c.in-Some.is _ c.in-Kept.is) in on_point c.requires.1.1.1.1 c.next.new.self c.in_ok-given.ensures.more k.holds k.at
+    let k = (gives_kept (tuples_of c.args.program.now) (record { tuples = c.next.new.self.frames.tuples; held = c.next.new.held }) _ (stand c.args.self.now.search) (stand c.next.new.self) _ c.in_ok-given.ensures.told _ c.in-Some.is c.in-Kept.is) in rw k.held (on_point c.requires.1.1.1.1 c.next.new.self c.in_ok-given.ensures.more k.holds k.at)
 
 pub returns-then-self-limits-clause-passed : goal.returns-then-self-limits-clause-passed
 returns-then-self-limits-clause-passed g c =
-    rw c.ended-then-self-limits.ensures (on_budget c.requires.1.1.1.1 c.next.new.self c.in_ok-given.ensures.more (gives_called (tuples_of c.args.program.now) c.next.new.self.frames.tuples _ (stand c.args.self.now.search) (stand c.next.new.self) _ c.in_ok-given.ensures.told _ c.in-Some.is _ c.in-Call.is).holds (omega (arith, c.requires.1.1.1.1.showing.going.within)))
+    rw c.ended-then-self-limits.ensures (on_budget (still_held c.next.new.held (same_called _ c.args.self.now.held c.next.new.held c.in_ok-given.ensures.held _ c.in-Some.is _ c.in-Call.is) c.requires.1.1.1.1) c.next.new.self c.in_ok-given.ensures.more (gives_called (tuples_of c.args.program.now) (record { tuples = c.next.new.self.frames.tuples; held = c.next.new.held }) _ (stand c.args.self.now.search) (stand c.next.new.self) _ c.in_ok-given.ensures.told _ c.in-Some.is _ c.in-Call.is).holds (omega (arith, c.requires.1.1.1.1.showing.going.within)))
 
 pub show_call-requires-clause-held : goal.show_call-requires-clause-held
 show_call-requires-clause-held g c =
     let within : c.args.self.now.ports < c.args.limits.budget = omega (arith, c.requires.1.1.1.1.showing.going.within) in
-    add_at_port c.requires.1.1.1.1 c.next.new.self c.in_ok-given.ensures.more (gives_called (tuples_of c.args.program.now) c.next.new.self.frames.tuples _ (stand c.args.self.now.search) (stand c.next.new.self) _ c.in_ok-given.ensures.told _ c.in-Some.is _ c.in-Call.is).holds within
+    add_at_port (still_held c.next.new.held (same_called _ c.args.self.now.held c.next.new.held c.in_ok-given.ensures.held _ c.in-Some.is _ c.in-Call.is) c.requires.1.1.1.1) c.next.new.self c.in_ok-given.ensures.more (gives_called (tuples_of c.args.program.now) (record { tuples = c.next.new.self.frames.tuples; held = c.next.new.held }) _ (stand c.args.self.now.search) (stand c.next.new.self) _ c.in_ok-given.ensures.told _ c.in-Some.is _ c.in-Call.is).holds within
 
 pub show_call-requires-clause-from : goal.show_call-requires-clause-from
 show_call-requires-clause-from g c =
     let within : c.args.self.now.ports < c.args.limits.budget = omega (arith, c.requires.1.1.1.1.showing.going.within) in
-    let k = (gives_called (tuples_of c.args.program.now) c.next.new.self.frames.tuples _ (stand c.args.self.now.search) (stand c.next.new.self) _ c.in_ok-given.ensures.told _ c.in-Some.is _ c.in-Call.is) in
-    rw c.newest-from.ensures (below_at_call c.requires.1.1.1.1 c.next.new.self c.in_ok-given.ensures.more k.holds within k.port_is k.at)
+    let k = (gives_called (tuples_of c.args.program.now) (record { tuples = c.next.new.self.frames.tuples; held = c.next.new.held }) _ (stand c.args.self.now.search) (stand c.next.new.self) _ c.in_ok-given.ensures.told _ c.in-Some.is _ c.in-Call.is) in
+    rw c.newest-from.ensures (below_at_call (still_held c.next.new.held (same_called _ c.args.self.now.held c.next.new.held c.in_ok-given.ensures.held _ c.in-Some.is _ c.in-Call.is) c.requires.1.1.1.1) c.next.new.self c.in_ok-given.ensures.more k.holds within k.port_is k.at)
 
 pub returns-in_err-show_call-in-Call-clause-cut : goal.returns-in_err-show_call-in-Call-clause-cut
 returns-in_err-show_call-in-Call-clause-cut g c =
     let within : c.args.self.now.ports < c.args.limits.budget = omega (arith, c.requires.1.1.1.1.showing.going.within) in
-    let k = (gives_called (tuples_of c.args.program.now) c.next.new.self.frames.tuples _ (stand c.args.self.now.search) (stand c.next.new.self) _ c.in_ok-given.ensures.told _ c.in-Some.is _ c.in-Call.is) in
+    let k = (gives_called (tuples_of c.args.program.now) (record { tuples = c.next.new.self.frames.tuples; held = c.next.new.held }) _ (stand c.args.self.now.search) (stand c.next.new.self) _ c.in_ok-given.ensures.told _ c.in-Some.is _ c.in-Call.is) in
     let p = err_from_is_err_and c.from_residual-in_err-show_call-in-Call.result c.from_residual-in_err-show_call-in-Call.ensures.1 in
     rw (p.1, p.2) (cut_at_port g.course c.requires.1.1.1.1.showing k.holds within c.show_call.new.hook _ (c.in_err-show_call-in-Call.ensures.cut k.event (port_read g.H.Hook.step c.args.hook.now (record { ports = c.ignores_ports.result; points = false }) k.event c.in-Call.call.port k.read c.ignores_ports.ensures)))
 
 pub returns-in-Call-clause-passed : goal.returns-in-Call-clause-passed
 returns-in-Call-clause-passed g c =
     let within : c.args.self.now.ports < c.args.limits.budget = omega (arith, c.requires.1.1.1.1.showing.going.within) in
-    let k = (gives_called (tuples_of c.args.program.now) c.next.new.self.frames.tuples _ (stand c.args.self.now.search) (stand c.next.new.self) _ c.in_ok-given.ensures.told _ c.in-Some.is _ c.in-Call.is) in
+    let k = (gives_called (tuples_of c.args.program.now) (record { tuples = c.next.new.self.frames.tuples; held = c.next.new.held }) _ (stand c.args.self.now.search) (stand c.next.new.self) _ c.in_ok-given.ensures.told _ c.in-Some.is _ c.in-Call.is) in
     rw (c.in_ok-show_call-in-Call.ensures.none, c.in_ok-show_call-in-Call.ensures.told, c.newest-from.ensures)
-    (on_call c.requires.1.1.1.1 c.next.new.self c.in_ok-given.ensures.more k.holds within k.port_is k.at c.show_call.new.hook (c.in_ok-show_call-in-Call.ensures.shown k.event (port_read g.H.Hook.step c.args.hook.now (record { ports = c.ignores_ports.result; points = false }) k.event c.in-Call.call.port k.read c.ignores_ports.ensures)) c.in_ok-show_call-in-Call.ensures.cause)
+    (on_call (still_held c.next.new.held (same_called _ c.args.self.now.held c.next.new.held c.in_ok-given.ensures.held _ c.in-Some.is _ c.in-Call.is) c.requires.1.1.1.1) c.next.new.self c.in_ok-given.ensures.more k.holds within k.port_is k.at c.show_call.new.hook (c.in_ok-show_call-in-Call.ensures.shown k.event (port_read g.H.Hook.step c.args.hook.now (record { ports = c.ignores_ports.result; points = false }) k.event c.in-Call.call.port k.read c.ignores_ports.ensures)) c.in_ok-show_call-in-Call.ensures.cause)
 
 pub returns-then-self-limits-2-clause-passed : goal.returns-then-self-limits-2-clause-passed
 returns-then-self-limits-2-clause-passed g c =
-    rw c.ended-then-self-limits-2.ensures (on_bare_budget c.requires.1.1.1.1 c.next.new.self c.in_ok-given.ensures.more (gives_port (tuples_of c.args.program.now) c.next.new.self.frames.tuples _ (stand c.args.self.now.search) (stand c.next.new.self) _ c.in_ok-given.ensures.told _ c.in-Some.is _ _ c.in-Port.is) (omega (arith, c.requires.1.1.1.1.showing.going.within)))
+    rw c.ended-then-self-limits-2.ensures (on_bare_budget (still_held c.next.new.held (same_port _ c.args.self.now.held c.next.new.held c.in_ok-given.ensures.held _ c.in-Some.is _ _ c.in-Port.is) c.requires.1.1.1.1) c.next.new.self c.in_ok-given.ensures.more (gives_port (tuples_of c.args.program.now) (record { tuples = c.next.new.self.frames.tuples; held = c.next.new.held }) _ (stand c.args.self.now.search) (stand c.next.new.self) _ c.in_ok-given.ensures.told _ c.in-Some.is _ _ c.in-Port.is) (omega (arith, c.requires.1.1.1.1.showing.going.within)))
 
 pub tell_later-requires-clause-held : goal.tell_later-requires-clause-held
 tell_later-requires-clause-held g c =
     let within : c.args.self.now.ports < c.args.limits.budget = omega (arith, c.requires.1.1.1.1.showing.going.within) in
-    add_at_port c.requires.1.1.1.1 c.next.new.self c.in_ok-given.ensures.more (gives_port (tuples_of c.args.program.now) c.next.new.self.frames.tuples _ (stand c.args.self.now.search) (stand c.next.new.self) _ c.in_ok-given.ensures.told _ c.in-Some.is _ _ c.in-Port.is).holds within
+    add_at_port (still_held c.next.new.held (same_port _ c.args.self.now.held c.next.new.held c.in_ok-given.ensures.held _ c.in-Some.is _ _ c.in-Port.is) c.requires.1.1.1.1) c.next.new.self c.in_ok-given.ensures.more (gives_port (tuples_of c.args.program.now) (record { tuples = c.next.new.self.frames.tuples; held = c.next.new.held }) _ (stand c.args.self.now.search) (stand c.next.new.self) _ c.in_ok-given.ensures.told _ c.in-Some.is _ _ c.in-Port.is).holds within
 
 pub tell_later-requires-clause-there : goal.tell_later-requires-clause-there
 tell_later-requires-clause-there g c =
     let within : c.args.self.now.ports < c.args.limits.budget = omega (arith, c.requires.1.1.1.1.showing.going.within) in
-    row_at_bare c.requires.1.1.1.1 c.next.new.self c.in_ok-given.ensures.more (gives_port (tuples_of c.args.program.now) c.next.new.self.frames.tuples _ (stand c.args.self.now.search) (stand c.next.new.self) _ c.in_ok-given.ensures.told _ c.in-Some.is _ _ c.in-Port.is) within refl
+    row_at_bare (still_held c.next.new.held (same_port _ c.args.self.now.held c.next.new.held c.in_ok-given.ensures.held _ c.in-Some.is _ _ c.in-Port.is) c.requires.1.1.1.1) c.next.new.self c.in_ok-given.ensures.more (gives_port (tuples_of c.args.program.now) (record { tuples = c.next.new.self.frames.tuples; held = c.next.new.held }) _ (stand c.args.self.now.search) (stand c.next.new.self) _ c.in_ok-given.ensures.told _ c.in-Some.is _ _ c.in-Port.is) within refl
 
 pub returns-in_err-tell_later-in-Port-clause-cut : goal.returns-in_err-tell_later-in-Port-clause-cut
 returns-in_err-tell_later-in-Port-clause-cut g c =
@@ -82,32 +82,32 @@ pub returns-clause-passed : goal.returns-clause-passed
 returns-clause-passed g c =
     let within : c.args.self.now.ports < c.args.limits.budget = omega (arith, c.requires.1.1.1.1.showing.going.within) in
     rw (c.in_ok-tell_later-in-Port.ensures.none, c.in_ok-tell_later-in-Port.ensures.told)
-    (on_bare c.requires.1.1.1.1 c.next.new.self c.in_ok-given.ensures.more (gives_port (tuples_of c.args.program.now) c.next.new.self.frames.tuples _ (stand c.args.self.now.search) (stand c.next.new.self) _ c.in_ok-given.ensures.told _ c.in-Some.is _ _ c.in-Port.is) within refl c.ignores_ports.ensures)
+    (on_bare (still_held c.next.new.held (same_port _ c.args.self.now.held c.next.new.held c.in_ok-given.ensures.held _ c.in-Some.is _ _ c.in-Port.is) c.requires.1.1.1.1) c.next.new.self c.in_ok-given.ensures.more (gives_port (tuples_of c.args.program.now) (record { tuples = c.next.new.self.frames.tuples; held = c.next.new.held }) _ (stand c.args.self.now.search) (stand c.next.new.self) _ c.in_ok-given.ensures.told _ c.in-Some.is _ _ c.in-Port.is) within refl c.ignores_ports.ensures)
 
 pub pass_later-requires-clause-held : goal.pass_later-requires-clause-held
 pass_later-requires-clause-held g c =
-    add_at_port c.requires.1.1.1.1 c.next.new.self c.in_ok-given.ensures.more (gives_of (tuples_of c.args.program.now) c.next.new.self.frames.tuples _ (stand c.args.self.now.search) (stand c.next.new.self) _ c.in_ok-given.ensures.told _ c.in-Some.is c.deref.result.now _ (rw c.in-Whole.is (sym c.deref.ensures)) c.in-Passed.is)
+    add_at_port (still_held c.next.new.held (same_whole _ c.args.self.now.held c.next.new.held c.in_ok-given.ensures.held _ c.in-Some.is c.deref.result.now (rw c.in-Whole.is (sym c.deref.ensures))) c.requires.1.1.1.1) c.next.new.self c.in_ok-given.ensures.more (gives_of (tuples_of c.args.program.now) (record { tuples = c.next.new.self.frames.tuples; held = c.next.new.held }) _ (stand c.args.self.now.search) (stand c.next.new.self) _ c.in_ok-given.ensures.told _ c.in-Some.is c.deref.result.now _ (rw c.in-Whole.is (sym c.deref.ensures)) c.in-Passed.is)
 
 pub pass_later-requires-clause-there : goal.pass_later-requires-clause-there
 pass_later-requires-clause-there g c =
-    λ within. row_at_port c.requires.1.1.1.1 c.next.new.self c.in_ok-given.ensures.more (gives_of (tuples_of c.args.program.now) c.next.new.self.frames.tuples _ (stand c.args.self.now.search) (stand c.next.new.self) _ c.in_ok-given.ensures.told _ c.in-Some.is c.deref.result.now _ (rw c.in-Whole.is (sym c.deref.ensures)) c.in-Passed.is) within (later_whole (record { ports = c.ignores_ports.result; points = false }) c.in-Passed.event refl (whole_of (tuples_of c.args.program.now) c.next.new.self.frames.tuples _ (stand c.args.self.now.search) (stand c.next.new.self) _ c.in_ok-given.ensures.told _ c.in-Some.is c.deref.result.now _ (rw c.in-Whole.is (sym c.deref.ensures)) c.in-Passed.is))
+    λ within. row_at_port (still_held c.next.new.held (same_whole _ c.args.self.now.held c.next.new.held c.in_ok-given.ensures.held _ c.in-Some.is c.deref.result.now (rw c.in-Whole.is (sym c.deref.ensures))) c.requires.1.1.1.1) c.next.new.self c.in_ok-given.ensures.more (gives_of (tuples_of c.args.program.now) (record { tuples = c.next.new.self.frames.tuples; held = c.next.new.held }) _ (stand c.args.self.now.search) (stand c.next.new.self) _ c.in_ok-given.ensures.told _ c.in-Some.is c.deref.result.now _ (rw c.in-Whole.is (sym c.deref.ensures)) c.in-Passed.is) within (later_whole (record { ports = c.ignores_ports.result; points = false }) c.in-Passed.event refl (whole_of (tuples_of c.args.program.now) (record { tuples = c.next.new.self.frames.tuples; held = c.next.new.held }) _ (stand c.args.self.now.search) (stand c.next.new.self) _ c.in_ok-given.ensures.told _ c.in-Some.is c.deref.result.now _ (rw c.in-Whole.is (sym c.deref.ensures)) c.in-Passed.is))
 
 pub returns-in-Passed-clause-passed : goal.returns-in-Passed-clause-passed
 returns-in-Passed-clause-passed g c =
-    on_passed_later c.requires.1.1.1.1 c.next.new.self c.in_ok-given.ensures.more (gives_of (tuples_of c.args.program.now) c.next.new.self.frames.tuples _ (stand c.args.self.now.search) (stand c.next.new.self) _ c.in_ok-given.ensures.told _ c.in-Some.is c.deref.result.now _ (rw c.in-Whole.is (sym c.deref.ensures)) c.in-Passed.is) (later_whole (record { ports = c.ignores_ports.result; points = false }) c.in-Passed.event refl (whole_of (tuples_of c.args.program.now) c.next.new.self.frames.tuples _ (stand c.args.self.now.search) (stand c.next.new.self) _ c.in_ok-given.ensures.told _ c.in-Some.is c.deref.result.now _ (rw c.in-Whole.is (sym c.deref.ensures)) c.in-Passed.is)) c.pass_later.new.self c.pass_later.new.hook c.pass_later.result c.pass_later.ensures.passed c.pass_later.ensures.cause
+    on_passed_later (still_held c.next.new.held (same_whole _ c.args.self.now.held c.next.new.held c.in_ok-given.ensures.held _ c.in-Some.is c.deref.result.now (rw c.in-Whole.is (sym c.deref.ensures))) c.requires.1.1.1.1) c.next.new.self c.in_ok-given.ensures.more (gives_of (tuples_of c.args.program.now) (record { tuples = c.next.new.self.frames.tuples; held = c.next.new.held }) _ (stand c.args.self.now.search) (stand c.next.new.self) _ c.in_ok-given.ensures.told _ c.in-Some.is c.deref.result.now _ (rw c.in-Whole.is (sym c.deref.ensures)) c.in-Passed.is) (later_whole (record { ports = c.ignores_ports.result; points = false }) c.in-Passed.event refl (whole_of (tuples_of c.args.program.now) (record { tuples = c.next.new.self.frames.tuples; held = c.next.new.held }) _ (stand c.args.self.now.search) (stand c.next.new.self) _ c.in_ok-given.ensures.told _ c.in-Some.is c.deref.result.now _ (rw c.in-Whole.is (sym c.deref.ensures)) c.in-Passed.is)) c.pass_later.new.self c.pass_later.new.hook c.pass_later.result c.pass_later.ensures.passed c.pass_later.ensures.cause
 
 pub returns-in-Passed-clause-cut : goal.returns-in-Passed-clause-cut
 returns-in-Passed-clause-cut g c =
-    cut_later c.requires.1.1.1.1 c.next.new.self c.in_ok-given.ensures.more (gives_of (tuples_of c.args.program.now) c.next.new.self.frames.tuples _ (stand c.args.self.now.search) (stand c.next.new.self) _ c.in_ok-given.ensures.told _ c.in-Some.is c.deref.result.now _ (rw c.in-Whole.is (sym c.deref.ensures)) c.in-Passed.is) (later_whole (record { ports = c.ignores_ports.result; points = false }) c.in-Passed.event refl (whole_of (tuples_of c.args.program.now) c.next.new.self.frames.tuples _ (stand c.args.self.now.search) (stand c.next.new.self) _ c.in_ok-given.ensures.told _ c.in-Some.is c.deref.result.now _ (rw c.in-Whole.is (sym c.deref.ensures)) c.in-Passed.is)) c.pass_later.new.hook c.pass_later.result c.pass_later.ensures.cut
+    cut_later (still_held c.next.new.held (same_whole _ c.args.self.now.held c.next.new.held c.in_ok-given.ensures.held _ c.in-Some.is c.deref.result.now (rw c.in-Whole.is (sym c.deref.ensures))) c.requires.1.1.1.1) c.next.new.self c.in_ok-given.ensures.more (gives_of (tuples_of c.args.program.now) (record { tuples = c.next.new.self.frames.tuples; held = c.next.new.held }) _ (stand c.args.self.now.search) (stand c.next.new.self) _ c.in_ok-given.ensures.told _ c.in-Some.is c.deref.result.now _ (rw c.in-Whole.is (sym c.deref.ensures)) c.in-Passed.is) (later_whole (record { ports = c.ignores_ports.result; points = false }) c.in-Passed.event refl (whole_of (tuples_of c.args.program.now) (record { tuples = c.next.new.self.frames.tuples; held = c.next.new.held }) _ (stand c.args.self.now.search) (stand c.next.new.self) _ c.in_ok-given.ensures.told _ c.in-Some.is c.deref.result.now _ (rw c.in-Whole.is (sym c.deref.ensures)) c.in-Passed.is)) c.pass_later.new.hook c.pass_later.result c.pass_later.ensures.cut
 
 pub pass_answer-requires-clause-held : goal.pass_answer-requires-clause-held
 pass_answer-requires-clause-held g c =
-    add_at_answer c.requires.1.1.1.1 c.next.new.self c.in_ok-given.ensures.more (gives_of (tuples_of c.args.program.now) c.next.new.self.frames.tuples _ (stand c.args.self.now.search) (stand c.next.new.self) _ c.in_ok-given.ensures.told _ c.in-Some.is c.deref.result.now _ (rw c.in-Whole.is (sym c.deref.ensures)) c.in-Answer.is)
+    add_at_answer (still_held c.next.new.held (same_whole _ c.args.self.now.held c.next.new.held c.in_ok-given.ensures.held _ c.in-Some.is c.deref.result.now (rw c.in-Whole.is (sym c.deref.ensures))) c.requires.1.1.1.1) c.next.new.self c.in_ok-given.ensures.more (gives_of (tuples_of c.args.program.now) (record { tuples = c.next.new.self.frames.tuples; held = c.next.new.held }) _ (stand c.args.self.now.search) (stand c.next.new.self) _ c.in_ok-given.ensures.told _ c.in-Some.is c.deref.result.now _ (rw c.in-Whole.is (sym c.deref.ensures)) c.in-Answer.is)
 
 pub returns-in-Whole-clause-passed : goal.returns-in-Whole-clause-passed
 returns-in-Whole-clause-passed g c =
-    on_passed_answer c.requires.1.1.1.1 c.next.new.self c.in_ok-given.ensures.more (gives_of (tuples_of c.args.program.now) c.next.new.self.frames.tuples _ (stand c.args.self.now.search) (stand c.next.new.self) _ c.in_ok-given.ensures.told _ c.in-Some.is c.deref.result.now _ (rw c.in-Whole.is (sym c.deref.ensures)) c.in-Answer.is) c.pass_answer.new.self c.pass_answer.new.hook c.pass_answer.result c.pass_answer.ensures.answered c.pass_answer.ensures.shown c.pass_answer.ensures.cause
+    on_passed_answer (still_held c.next.new.held (same_whole _ c.args.self.now.held c.next.new.held c.in_ok-given.ensures.held _ c.in-Some.is c.deref.result.now (rw c.in-Whole.is (sym c.deref.ensures))) c.requires.1.1.1.1) c.next.new.self c.in_ok-given.ensures.more (gives_of (tuples_of c.args.program.now) (record { tuples = c.next.new.self.frames.tuples; held = c.next.new.held }) _ (stand c.args.self.now.search) (stand c.next.new.self) _ c.in_ok-given.ensures.told _ c.in-Some.is c.deref.result.now _ (rw c.in-Whole.is (sym c.deref.ensures)) c.in-Answer.is) c.pass_answer.new.self c.pass_answer.new.hook c.pass_answer.result c.pass_answer.ensures.answered c.pass_answer.ensures.shown c.pass_answer.ensures.cause
 
 pub returns-in-Whole-clause-cut : goal.returns-in-Whole-clause-cut
 returns-in-Whole-clause-cut g c =
-    cut_answer c.requires.1.1.1.1 c.next.new.self c.in_ok-given.ensures.more (gives_of (tuples_of c.args.program.now) c.next.new.self.frames.tuples _ (stand c.args.self.now.search) (stand c.next.new.self) _ c.in_ok-given.ensures.told _ c.in-Some.is c.deref.result.now _ (rw c.in-Whole.is (sym c.deref.ensures)) c.in-Answer.is) c.pass_answer.new.hook c.pass_answer.result c.pass_answer.ensures.cut
+    cut_answer (still_held c.next.new.held (same_whole _ c.args.self.now.held c.next.new.held c.in_ok-given.ensures.held _ c.in-Some.is c.deref.result.now (rw c.in-Whole.is (sym c.deref.ensures))) c.requires.1.1.1.1) c.next.new.self c.in_ok-given.ensures.more (gives_of (tuples_of c.args.program.now) (record { tuples = c.next.new.self.frames.tuples; held = c.next.new.held }) _ (stand c.args.self.now.search) (stand c.next.new.self) _ c.in_ok-given.ensures.told _ c.in-Some.is c.deref.result.now _ (rw c.in-Whole.is (sym c.deref.ensures)) c.in-Answer.is) c.pass_answer.new.hook c.pass_answer.result c.pass_answer.ensures.cut

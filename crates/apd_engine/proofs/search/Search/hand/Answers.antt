@@ -2,35 +2,43 @@ use Rattle.std.proofs.Common.{Some, ap}
 use Rattle.apd_clauses.specs.Clauses.{tuples_of}
 use Rattle.apd_trace.specs.Frames.{step_from}
 use Rattle.apd_following.specs.Followed.{kept_of}
-use Rattle.apd_engine.specs.Given.{IsPointOf}
+use Rattle.apd_engine.specs.Given.{Holding, IsPointOf}
 use Rattle.apd_engine.specs.Search.{GivesOrEnds, in_mode, stand}
 use Rattle.apd_engine.specs.declared.search.Mode.TheVariants.{Hand}
 use Rattle.apd_engine.proofs.Steps.{gives_handed, gives_handed_large}
-use Rattle.apd_engine.proofs.Telling.{grows_from, large_without, made_some, tells_weaker, tells_whole}
+use Rattle.apd_engine.proofs.Telling.{grows_from, held_by_point, held_not, held_same, large_without, made_some, tells_weaker, tells_whole}
 use Rattle.apd_engine.proofs.search.Search.hand.Goals as goal
 
-pub returns-in_default-clause-told : goal.returns-in_default-clause-told
-returns-in_default-clause-told c =
+pub returns-then-not-is_made-clause-told : goal.returns-then-not-is_made-clause-told
+returns-then-not-is_made-clause-told c =
     let s = stand c.args.self.now in
     let before = Some (step_from c.in-Some.newest c.args.exit) in
-    tells_whole c.made.new.frames.tuples c.args.unread c.in_ok-whole-in-Some.field-0 _ (λ i. GivesOrEnds (tuples_of c.args.program.now) (in_mode (Hand c.args.exit) s) _ (Some i)) c.in_ok-whole-in-Some.ensures tt
+    let K : Holding = record { tuples = c.made.new.frames.tuples; held = c.made.new.held } in
+    tells_whole K c.args.unread c.in_ok-too_large-in-Some.field-0 _ (λ i. GivesOrEnds (tuples_of c.args.program.now) (in_mode (Hand c.args.exit) s) _ (Some i)) c.in_ok-too_large-in-Some.ensures tt
     (gives_handed_large (tuples_of c.args.program.now) s.frames (kept_of c.take_over.new.self) (kept_of c.made.new.frames) s.stack s.boxes s.points c.args.exit c.in-Some.box_no c.in-Some.newest c.in-Some.ensures c.requires.goes c.requires.waits
-    (ap kept_of c.in_ok-take_over-in-Some.ensures.taken) c.in_ok-given-in-Some.ensures.frames
-    (large_without c.made.new.frames.tuples c.args.unread c.in_ok-given-in-Some.field-0 c.take_over.new.self.current before c.in_ok-given-in-Some.ensures.made c.in_default.not-Some))
+    (ap kept_of c.in_ok-take_over-in-Some.ensures.taken) c.in_ok-is_made-in-Some.ensures.frames
+    (large_without K c.args.unread c.in_ok-is_made-in-Some.is_made c.take_over.new.self.current before c.in_ok-is_made-in-Some.ensures.made c.if-not-is_made.true))
 
-pub returns-in_default-clause-more : goal.returns-in_default-clause-more
-returns-in_default-clause-more c = grows_from c.take_over.ensures.tuples c.in_ok-given-in-Some.ensures.more
+pub returns-then-not-is_made-clause-held : goal.returns-then-not-is_made-clause-held
+returns-then-not-is_made-clause-held c = held_same c.in_ok-too_large-in-Some.field-0 (held_not c.in_ok-is_made-in-Some.is_made c.args.unread.points c.args.held.now c.made.new.held c.in_ok-is_made-in-Some.ensures.held c.if-not-is_made.true)
 
-pub returns-in-Some-2-clause-told : goal.returns-in-Some-2-clause-told
-returns-in-Some-2-clause-told c =
+pub returns-then-not-is_made-clause-more : goal.returns-then-not-is_made-clause-more
+returns-then-not-is_made-clause-more c = grows_from c.take_over.ensures.tuples c.in_ok-is_made-in-Some.ensures.more
+
+pub returns-else-not-is_made-clause-told : goal.returns-else-not-is_made-clause-told
+returns-else-not-is_made-clause-told c =
     let s = stand c.args.self.now in
     let P = tuples_of c.args.program.now in
     let before = Some (step_from c.in-Some.newest c.args.exit) in
-    tells_weaker c.made.new.frames.tuples c.args.unread c.in-Some-2.given (IsPointOf c.take_over.new.self.current before) (λ i. GivesOrEnds P (in_mode (Hand c.args.exit) s) _ (Some i))
+    let K : Holding = record { tuples = c.made.new.frames.tuples; held = c.made.new.held } in
+    tells_weaker K c.args.unread c.of_point.result (IsPointOf c.take_over.new.self.current before) (λ i. GivesOrEnds P (in_mode (Hand c.args.exit) s) _ (Some i))
     (λ i point.
     gives_handed P s.frames (kept_of c.take_over.new.self) (kept_of c.made.new.frames) s.stack s.boxes s.points c.args.exit c.in-Some.box_no c.in-Some.newest c.in-Some.ensures c.requires.goes c.requires.waits
-    (ap kept_of c.in_ok-take_over-in-Some.ensures.taken) c.in_ok-given-in-Some.ensures.frames i point)
-    (made_some c.made.new.frames.tuples c.args.unread c.in_ok-given-in-Some.field-0 c.in-Some-2.given c.take_over.new.self.current before c.in_ok-given-in-Some.ensures.made c.in-Some-2.is)
+    (ap kept_of c.in_ok-take_over-in-Some.ensures.taken) c.in_ok-is_made-in-Some.ensures.frames i point)
+    (made_some K c.args.unread c.in_ok-is_made-in-Some.is_made c.of_point.result c.take_over.new.self.current before c.in_ok-is_made-in-Some.ensures.made c.if-not-is_made.false c.of_point.ensures)
 
-pub returns-in-Some-2-clause-more : goal.returns-in-Some-2-clause-more
-returns-in-Some-2-clause-more c = grows_from c.take_over.ensures.tuples c.in_ok-given-in-Some.ensures.more
+pub returns-else-not-is_made-clause-held : goal.returns-else-not-is_made-clause-held
+returns-else-not-is_made-clause-held c = held_by_point c.args.unread c.in_ok-is_made-in-Some.is_made c.of_point.result c.args.held.now c.made.new.held c.in_ok-is_made-in-Some.ensures.held c.if-not-is_made.false c.of_point.ensures
+
+pub returns-else-not-is_made-clause-more : goal.returns-else-not-is_made-clause-more
+returns-else-not-is_made-clause-more c = grows_from c.take_over.ensures.tuples c.in_ok-is_made-in-Some.ensures.more

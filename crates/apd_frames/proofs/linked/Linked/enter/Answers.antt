@@ -1,8 +1,6 @@
 use Rattle.std.proofs.Common.{length, refl, sym, subst}
-use Rattle.std.specs.Bool.{OnTrue}
 use Rattle.apd_term.specs.Term.{variable}
-use Rattle.apd_cells.specs.First.{AreApart}
-use Rattle.apd_cells.specs.Store.{term_at, Keeps}
+use Rattle.apd_cells.specs.Store.{Keeps}
 use Rattle.apd_cells.specs.Stored.{Stored}
 use Rattle.apd_cells.proofs.Bindings.{Keeps-self}
 use Rattle.apd_trace.specs.declared.frame.Called.{Called}
@@ -15,17 +13,8 @@ use Rattle.apd_frames.specs.Framed.{frames_of}
 use Rattle.apd_frames.proofs.Branching.{framed_kept}
 use Rattle.apd_frames.proofs.Current.{may_call_any, view_of}
 use Rattle.apd_frames.proofs.Instancing.{undone, no_instance, instance_there}
-use Rattle.apd_frames.proofs.Moving.{enters_no, enters_back, enters_so, entered_framed}
+use Rattle.apd_frames.proofs.Moving.{enters_back, enters_so, entered_framed}
 use Rattle.apd_frames.proofs.linked.Linked.enter.Goals as goal
-
-pub differs-requires : goal.differs-requires
-differs-requires c = c.in-Some.ensures.0 (length c.args.self.now.store.cells) c.requires.framed.placed
-
-pub returns-then-differs-clause-enters : goal.returns-then-differs-clause-enters
-returns-then-differs-clause-enters c = λ g calls.
-    enters_no c.args.self.now.store c.args.self.now.links c.args.self.now.innermost c.args.self.now.branches (frames_of c.args.self.now) refl c.requires.framed g c.args.rule.now c.args.clause c.args.point
-    c.in-Some.goal c.in-Some.ensures
-    (subst (λ b. OnTrue b (AreApart (term_at c.args.self.now.store c.in-Some.goal.0) c.args.rule.now.head)) c.if-differs.true c.differs.ensures)
 
 pub instantiate-requires-clause-goal : goal.instantiate-requires-clause-goal
 instantiate-requires-clause-goal c = c.in-Some.ensures.0 (length c.args.self.now.store.cells) c.requires.framed.placed
@@ -75,9 +64,6 @@ returns-clause-enters c = λ g calls.
 
 pub returns-in_default-clause-store : goal.returns-in_default-clause-store
 returns-in_default-clause-store c = Keeps-self c.args.self.now.store
-
-pub returns-then-differs-clause-store : goal.returns-then-differs-clause-store
-returns-then-differs-clause-store c = Keeps-self c.args.self.now.store
 
 pub returns-then-not-branch-clause-store : goal.returns-then-not-branch-clause-store
 returns-then-not-branch-clause-store c =

@@ -14,7 +14,6 @@ pub mod Sought
 pub mod Skipping
 pub mod Compounds
 pub mod Keys
-pub mod Parts
 pub mod Keeping
 pub mod Numbering
 pub mod Sizing
@@ -26,3 +25,4 @@ pub mod Seen
 pub mod Noticing
 pub mod Search
 pub mod Standing
+pub mod Stretching

@@ -215,7 +215,7 @@ same_put cells y n old new k m (Var v) h l s =
 same_put cells y n old new k m (Int i) h l s = refl
 same_put cells y n old new k m (Fun f j) h l s = refl
 
-same_puts : (cells : List Sym) (y : Sym) (n : ℕ) (old new : List Slot) (k m : ℕ) (xs : List Sym) → AreSlots cells k old → EachGetsOwn m (cells ++ y ∷ []) old new
+pub same_puts : (cells : List Sym) (y : Sym) (n : ℕ) (old new : List Slot) (k m : ℕ) (xs : List Sym) → AreSlots cells k old → EachGetsOwn m (cells ++ y ∷ []) old new
     → ((v : ℕ) → IsAmong (flat_map variable_in xs) v → IsSet (slot_at old v)) → map (put_symbol (cells ++ y ∷ []) new) xs ≡ map (put_symbol cells old) xs
 same_puts cells y n old new k m [] h l s = refl
 same_puts cells y n old new k m (x ∷ xs) h l s =
@@ -229,7 +229,7 @@ variable_of_one (Var w) v (inr b) = absurd b
 variable_of_one (Int i) v m = absurd m
 variable_of_one (Fun f n) v m = absurd m
 
-set_stays : (n : ℕ) (cells : List Sym) (old new : List Slot) (v : ℕ) → EachGetsOwn n cells old new → IsSet (slot_at old v) → IsSet (slot_at new v)
+pub set_stays : (n : ℕ) (cells : List Sym) (old new : List Slot) (v : ℕ) → EachGetsOwn n cells old new → IsSet (slot_at old v) → IsSet (slot_at new v)
 set_stays n cells old new v l s = subst IsSet (sym (stays n cells (slot_at old v) (slot_at new v) (l v) s)) s
 
 -- one more symbol
@@ -276,7 +276,7 @@ image_put cells n slots (Var v) h s = spell_single (get_or cells (cell_of (slot_
 image_put cells n slots (Int i) h s = refl
 image_put cells n slots (Fun f k) h s = refl
 
-images_put : (cells : List Sym) (n : ℕ) (slots : List Slot) (xs : List Sym) → AreSlots cells n slots → ((v : ℕ) → IsAmong (flat_map variable_in xs) v → IsSet (slot_at slots v))
+pub images_put : (cells : List Sym) (n : ℕ) (slots : List Slot) (xs : List Sym) → AreSlots cells n slots → ((v : ℕ) → IsAmong (flat_map variable_in xs) v → IsSet (slot_at slots v))
     → flat_map (image (put_for cells slots)) xs ≡ map (put_symbol cells slots) xs
 images_put cells n slots [] h s = refl
 images_put cells n slots (x ∷ xs) h s =

@@ -9,7 +9,7 @@ pub mod Counting
 pub mod Numbered
 pub mod First
 pub mod Ordered
-pub mod Arguments
 pub mod Live
 pub mod Noticed
 pub mod Slots
+pub mod Stretches

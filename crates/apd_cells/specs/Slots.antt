@@ -1,13 +1,15 @@
 -- What stands for the variables of a clause while it is entered: for each nothing yet, a variable of its own, or the term
 -- at a cell where one symbol is written.
-use Rattle.std.specs.Prelude.{◌≡◌, ◌≢◌, ℕ, ◌<◌, ◌≤◌, List, [], ◌∷◌, ◌++◌, length, get_or}
+use Rattle.std.specs.Prelude.{◌≡◌, ◌≢◌, ℕ, ◌+◌, ◌<◌, ◌≤◌, List, [], ◌∷◌, ◌++◌, length, get_or, take, drop, map}
+use Rattle.std.specs.List.{flat_map}
 use Rattle.apd_term.specs.declared.term.Sym.{Sym}
 use Rattle.apd_term.specs.declared.term.Sym.TheVariants.{Var, Int, Fun}
-use Rattle.apd_term.specs.Term.{Term, variable, integer, compound, none, apply, spell, variables, arity_of, Occurs}
-use Rattle.apd_term.specs.Spelling.{variable_in}
+use Rattle.apd_term.specs.Term.{Term, variable, integer, compound, none, apply, spell, variables, arity_of, IsAmong, Occurs}
+use Rattle.apd_term.specs.Spelling.{image, variable_in}
 use Rattle.apd_term.specs.Canonical.{shifted}
 use Rattle.apd_cells.specs.Stored.{Stored}
-use Rattle.apd_cells.specs.Store.{above, term_at, loaded, symbol_at}
+use Rattle.apd_cells.specs.Store.{above, meaning, term_at, loaded, symbol_at}
+use Rattle.apd_cells.specs.declared.slots.Stretch.{Stretch}
 use Rattle.apd_cells.specs.declared.slots.Slot.{Slot}
 use Rattle.apd_cells.specs.declared.slots.Slot.TheVariants.{New, Own, Given}
 
@@ -112,9 +114,34 @@ pub record HasPlaced (cells cells' : List Sym) (n n' : ℕ) (old new : List Slot
   pub newer : EachGetsOwn n cells' old new
   pub set : (v : ℕ) → Occurs v t → IsSet (slot_at new v)
 
--- a clause's term was loaded with what stands for its variables in their places
+-- a symbol is put behind the cells, where there are n variables, for so many of a clause's, from a place on
+pub record PlacesNext (cells : List Sym) (n : ℕ) (old new : List Slot) (symbols : List Sym) (at : ℕ) (c : Stretch) : Type 0 where
+  pub some : 0 < c.size
+  pub within : at + c.size ≤ length symbols
+  pub slots : AreSlots (cells ++ c.symbol ∷ []) (above n (variable_in c.symbol)) new
+  pub newer : EachGetsOwn n (cells ++ c.symbol ∷ []) old new
+  pub set : (v : ℕ) → IsAmong (flat_map variable_in (take c.size (drop at symbols))) v → IsSet (slot_at new v)
+
+-- under a substitution it is what is put for each of them
+abbrev pub IsPutFor : (ℕ → Term) → List Sym → List Slot → List Sym → ℕ → Stretch → Type 0
+IsPutFor means cells slots symbols at c =
+    image means c.symbol ≡ flat_map (image means) (map (put_symbol (cells ++ c.symbol ∷ []) slots) (take c.size (drop at symbols)))
+
+-- a term was put behind the cells, where there were n variables and are n', that is a clause's term under a substitution
+pub record HasPut (means : ℕ → Term) (cells cells' : List Sym) (n n' : ℕ) (old new : List Slot) (t : Term) : Type 0 where
+  pub term : Term
+  pub put : cells' ≡ cells ++ spell (shifted 0 term)
+  pub count : n' ≡ above n (variables (shifted 0 term))
+  pub same : apply means term ≡ apply means (apply (put_for cells' new) t)
+  pub slots : AreSlots cells' n' new
+  pub newer : EachGetsOwn n cells' old new
+  pub set : (v : ℕ) → Occurs v t → IsSet (slot_at new v)
+
+-- a term was loaded that means a clause's, with what stands for its variables in their places
 pub record HasLoaded (s s' : Stored) (old new : List Slot) (t : Term) : Type 0 where
-  pub is : s' ≡ loaded s (apply (put_for s'.cells new) t) 0
+  pub term : Term
+  pub is : s' ≡ loaded s term 0
+  pub same : apply (meaning s.cells s.trail) term ≡ apply (meaning s.cells s.trail) (apply (put_for s'.cells new) t)
   pub slots : AreSlots s'.cells s'.variables new
   pub newer : EachGetsOwn s.variables s'.cells old new
   pub set : (v : ℕ) → Occurs v t → IsSet (slot_at new v)

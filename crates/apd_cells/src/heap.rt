@@ -9,7 +9,8 @@ ghost use Rattle.apd_cells.specs.Heap.{IsVariable};
 ghost use Rattle.apd_cells.specs.Live.{store_of};
 ghost use Rattle.apd_cells.specs.Slots.{AreSlots, HasLoaded};
 ghost use Rattle.apd_cells.specs.declared.heap.Binding.TheVariants.{Free, At};
-ghost use Rattle.apd_cells.specs.Store.{term_at, written, symbol_at, binding_of, MayBind, bound, loaded, before_note, at_mark, IsSound, IsEnd, IsTwin};
+ghost use Rattle.apd_cells.specs.Store.{meaning, term_at, written, symbol_at, binding_of, MayBind, bound, loaded, before_note, at_mark, IsSound, IsEnd, IsTwin};
+ghost use Rattle.apd_cells.specs.Stretches.{AreMeant, AreStretches};
 
 use crate::front::{Front, NOTHING, above_term};
 use crate::kept::{KeptBinding, KeptNote};
@@ -17,7 +18,7 @@ use crate::known::{
     Extent, KeptKnown, above_all, forget_above, forget_since, known_at, make_place,
 };
 use crate::live::Live;
-use crate::slots::{Slot, append_for};
+use crate::slots::{Slot, Stretch, append_for};
 use crate::stack::Stack;
 use crate::symbols::{append, compound_at};
 use apd_term::term::term_end;
@@ -42,8 +43,7 @@ pub enum Note {
     Bound(u64, usize),
 }
 
-/// Terms in cells, with their bindings. Where a call answers an error, it is want of memory, or there would be
-/// 2 ^ 31 cells or variables.
+/// Terms in cells, with their bindings. An error is want of memory, or there would be 2 ^ 31 cells or variables.
 #[derive(Drop)]
 pub struct Heap {
     cells: Vec<Sym>,
@@ -206,8 +206,7 @@ impl Heap {
         }
     }
 
-    /// Whether no binding leads to a term that has arguments: then a term has as many symbols as are written of it. False
-    /// says nothing.
+    /// Whether no binding leads to a term with arguments: then bindings leave sizes as they are. False says nothing.
     pub fn is_flat(&self) -> bool
         ensures { OnTrue result ((c : ℕ) → size (term_at self.now c) ≡
             size (written self.now.cells c)) }
@@ -229,8 +228,7 @@ impl Heap {
         self.is_flat()
     }
 
-    /// Whether the variable is so new that it can't stand in the term at a cell; false says
-    /// nothing.
+    /// Whether the variable is so new that it can't stand in the term at a cell; false says nothing.
     pub fn is_apart(&self, v: u64, at: usize) -> bool
         requires { at < length self.now.cells }
         ensures { OnTrue result (¬ Occurs v (term_at self.now at)) }
@@ -302,8 +300,7 @@ impl Heap {
         Ok(())
     }
 
-    /// Puts a term behind the others, its variables raised by `base`. After want of memory nothing
-    /// has changed.
+    /// Puts a term behind the others, its variables raised by `base`. After want of memory nothing has changed.
     pub fn load(&mut self, t: &Flat, base: u64) -> Result<usize, AllocError>
         requires { (v : ℕ) → Occurs v t.now → base + v < 2 ^ 64 }
         ensures cell { IfOk result (λ c. c ≡ length self.old.cells) }
@@ -326,11 +323,17 @@ impl Heap {
         Ok(cells)
     }
 
-    /// Puts a term of a clause behind the others, with what stands for its variables in their places. After want of
-    /// memory nothing has changed but what stands for variables.
-    pub fn load_for(&mut self, symbols: &[Sym], slots: &mut Vec<Slot>) -> Result<usize, AllocError>
+    /// Loads a term of a clause by slots and stretches. After want of memory nothing has changed but slots.
+    pub fn load_for(
+        &mut self,
+        symbols: &[Sym],
+        slots: &mut Vec<Slot>,
+        copied: &[Stretch],
+    ) -> Result<usize, AllocError>
         requires whole { IsWhole symbols.now }
         requires slots { AreSlots self.old.cells self.old.variables slots.old.items }
+        requires stretches { AreStretches symbols.now copied.now }
+        requires meant { AreMeant (meaning self.old.cells self.old.trail) symbols.now copied.now }
         ensures cell { IfOk result (λ c. c ≡ length self.old.cells) }
         ensures ok { OnOk result
             (HasLoaded self.old self.new slots.old.items slots.new.items (term_of symbols.now)) }
@@ -341,7 +344,7 @@ impl Heap {
         let variables = self.bindings.len();
         let note = KeptNote::loaded(cells, variables)?;
         self.trail.push(note)?;
-        if let Err(e) = append_for(&mut self.cells, &mut self.bindings, slots, symbols) {
+        if let Err(e) = append_for(&mut self.cells, &mut self.bindings, slots, symbols, copied) {
             self.cells.truncate(cells);
             self.bindings.truncate(variables);
             let _ = self.trail.pop();

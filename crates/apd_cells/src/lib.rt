@@ -1,8 +1,6 @@
-//! Terms in cells, with bindings that can be undone: what a cell's term is, how long it is, and what is
-//! written of it.
+//! Terms in cells, with bindings that can be undone: what a cell's term is, and how long it is.
 #![tactic(auto)]
 
-pub mod arguments;
 pub mod counting;
 pub mod first;
 mod front;
@@ -13,7 +11,6 @@ pub mod live;
 pub mod order;
 pub mod reaching;
 pub mod reading;
-pub mod scratch;
 pub mod slots;
 pub mod stack;
 mod symbols;

@@ -1,10 +1,11 @@
 //! What stands for the variables of a clause while it is entered, and terms of the clause that are put behind the cells.
 
-ghost use Rattle.std.specs.Prelude.{◌≡◌, ◌<◌, ◌≤◌, ℕ, length, take, get_or, max, IfOk, OnOk};
-ghost use Rattle.apd_term.specs.Term.{IsWhole, term_of, variables};
+ghost use Rattle.std.specs.Prelude.{◌≡◌, ◌<◌, ◌≤◌, ℕ, List, length, take, get_or, max, IfOk, IfSome, OnOk};
+ghost use Rattle.apd_term.specs.Term.{IsWhole, Term, term_of, variables};
 ghost use Rattle.apd_term.specs.Canonical.{shifted};
 ghost use Rattle.apd_cells.specs.Heap.{HasMore};
-ghost use Rattle.apd_cells.specs.Slots.{slot_at, AreSlots, HasRoom, HasSet, Places, HasPlaced};
+ghost use Rattle.apd_cells.specs.Slots.{slot_at, AreSlots, HasRoom, HasSet, IsPutFor, Places, PlacesNext, HasPlaced, HasPut};
+ghost use Rattle.apd_cells.specs.Stretches.{AreMeant, AreStretches, IsMeant, IsStretch};
 
 use crate::kept::KeptBinding;
 use crate::symbols::{above_symbol, make_room};
@@ -20,6 +21,14 @@ pub enum Slot {
     Own(usize),
     /// The term at a cell where one symbol is written.
     Given(usize),
+}
+
+/// From a place of a clause's term on, one symbol that is put behind the cells stands for so many of its symbols.
+#[derive(Clone, Copy)]
+pub struct Stretch {
+    pub from: usize,
+    pub size: usize,
+    pub symbol: Sym,
 }
 
 /// What stands for a variable.
@@ -103,22 +112,155 @@ fn append_placed(
     Ok(count)
 }
 
-/// Puts a clause's term behind the cells, with what stands for its variables in their places.
+/// The same as [`place`] gives. It stands twice since a function that is called once is compiled into the loop that calls it.
+fn place_one(
+    cells: &[Sym],
+    slots: &mut Vec<Slot>,
+    symbol: Sym,
+    variables: usize,
+) -> Result<Sym, AllocError>
+    requires { AreSlots cells.now variables slots.old.items }
+    ensures { IfOk result (Places cells.now variables slots.old.items slots.new.items symbol) }
+{
+    let Sym::Var(v) = symbol else {
+        return Ok(symbol);
+    };
+    match slot_at(slots.as_slice(), v) {
+        Slot::New => {
+            set_slot(slots, v, Slot::Own(cells.len()))?;
+            Ok(Sym::Var(variables as u64))
+        }
+        Slot::Own(cell) => Ok(cells[cell]),
+        Slot::Given(cell) => Ok(cells[cell]),
+    }
+}
+
+/// What is put for the next symbols of a clause's term: the symbol of a stretch that was found, or that for one symbol.
+fn place_next(
+    cells: &[Sym],
+    slots: &mut Vec<Slot>,
+    symbols: &[Sym],
+    at: usize,
+    variables: usize,
+    found: Option<Stretch>,
+) -> Result<Stretch, AllocError>
+    requires slots { AreSlots cells.now variables slots.old.items }
+    requires there { at < length symbols.now }
+    requires found { IfSome found (IsStretch symbols.now) }
+    ensures places { IfOk result
+        (PlacesNext cells.now variables slots.old.items slots.new.items symbols.now at) }
+    ensures put { IfOk result (λ c. (means : ℕ → Term) → IfSome found (IsMeant means symbols.now) →
+        IsPutFor means cells.now slots.new.items symbols.now at c) }
+{
+    if let Some(stretch) = found {
+        if stretch.from == at {
+            return Ok(stretch);
+        }
+    }
+    let symbol = place_one(cells, slots, symbols[at], variables)?;
+    Ok(Stretch {
+        from: at,
+        size: 1,
+        symbol,
+    })
+}
+
+/// The stretch with this number, counted from 0.
+fn stretch_at(copied: &[Stretch], number: usize) -> Option<Stretch>
+    ensures stretch { (symbols : List Sym) → AreStretches symbols copied.now →
+        IfSome result (IsStretch symbols) }
+    ensures meant { (means : ℕ → Term) (symbols : List Sym) → AreMeant means symbols copied.now →
+        IfSome result (IsMeant means symbols) }
+{
+    if number >= copied.len() {
+        return None;
+    }
+    Some(copied[number])
+}
+
+/// The number of the stretch that comes after some symbols were passed.
+fn number_behind(number: usize, size: usize) -> usize {
+    if size > 1 {
+        return number.saturating_add(1);
+    }
+    number
+}
+
+/// Puts the symbols of a clause's term behind the cells as [`append_placed`] does, but for stretches of them one symbol
+/// each.
+fn append_copied(
+    cells: &mut Vec<Sym>,
+    slots: &mut Vec<Slot>,
+    there: usize,
+    symbols: &[Sym],
+    copied: &[Stretch],
+) -> Result<usize, AllocError>
+    requires slots { AreSlots cells.old.items there slots.old.items }
+    requires whole { IsWhole symbols.now }
+    requires stretches { AreStretches symbols.now copied.now }
+    ensures put { IfOk result (λ n. (means : ℕ → Term) → AreMeant means symbols.now copied.now →
+        HasPut means cells.old.items cells.new.items there n
+        slots.old.items slots.new.items (term_of symbols.now)) }
+    ensures front { take (length cells.old.items) cells.new.items ≡ cells.old.items }
+{
+    cells.reserve(symbols.len())?;
+    let mut count = there;
+    let mut next: usize = 0;
+    let mut at: usize = 0;
+    'symbols: while at < symbols.len() {
+        let found = stretch_at(copied, next);
+        let put = place_next(cells.as_slice(), slots, symbols, at, count, found)?;
+        count = above_symbol(put.symbol, count)?;
+        cells.push_reserved(put.symbol);
+        at += put.size;
+        next = number_behind(next, put.size);
+    }
+    Ok(count)
+}
+
+/// Puts the symbols of a clause's term behind the cells, and one symbol each for stretches of it.
+#[inline(always)]
+fn append_symbols(
+    cells: &mut Vec<Sym>,
+    slots: &mut Vec<Slot>,
+    there: usize,
+    symbols: &[Sym],
+    copied: &[Stretch],
+) -> Result<usize, AllocError>
+    requires slots { AreSlots cells.old.items there slots.old.items }
+    requires whole { IsWhole symbols.now }
+    requires stretches { AreStretches symbols.now copied.now }
+    ensures put { IfOk result (λ n. (means : ℕ → Term) → AreMeant means symbols.now copied.now →
+        HasPut means cells.old.items cells.new.items there n
+        slots.old.items slots.new.items (term_of symbols.now)) }
+    ensures front { take (length cells.old.items) cells.new.items ≡ cells.old.items }
+{
+    if copied.is_empty() {
+        return append_placed(cells, slots, there, symbols);
+    }
+    append_copied(cells, slots, there, symbols, copied)
+}
+
+/// Puts a clause's term behind the cells, with what stands for its variables in their places, and one symbol each for
+/// stretches of it that stand there already.
 pub fn append_for(
     cells: &mut Vec<Sym>,
     bindings: &mut Vec<KeptBinding>,
     slots: &mut Vec<Slot>,
     symbols: &[Sym],
+    copied: &[Stretch],
 ) -> Result<(), AllocError>
     requires slots { AreSlots cells.old.items (length bindings.old.items) slots.old.items }
     requires whole { IsWhole symbols.now }
-    ensures put { OnOk result (HasPlaced cells.old.items cells.new.items
+    requires stretches { AreStretches symbols.now copied.now }
+    ensures put { OnOk result ((means : ℕ → Term) → AreMeant means symbols.now copied.now →
+        HasPut means cells.old.items cells.new.items
         (length bindings.old.items) (length bindings.new.items)
         slots.old.items slots.new.items (term_of symbols.now)) }
     ensures front { take (length cells.old.items) cells.new.items ≡ cells.old.items }
     ensures more { HasMore bindings.old.items bindings.new.items }
 {
-    let count = append_placed(cells, slots, bindings.len(), symbols)?;
+    let count = append_symbols(cells, slots, bindings.len(), symbols, copied)?;
     make_room(bindings, count)?;
     Ok(())
 }

@@ -97,7 +97,7 @@ pub fn pass_from(
 
 /// Passes the first symbol of a run, behind the bindings.
 #[inline(always)]
-pub(crate) fn pass(heap: &Heap, rest: &mut Stack<Run>, here: Run) -> Result<Passed, AllocError>
+pub fn pass(heap: &Heap, rest: &mut Stack<Run>, here: Run) -> Result<Passed, AllocError>
     requires right { AreRuns heap.now.cells (here ∷ rest.old) }
     requires some { 0 < here.left }
     ensures { IfOk result

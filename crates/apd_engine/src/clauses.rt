@@ -27,8 +27,8 @@ pub fn numbers(program: &Program, pred: Option<Pred>) -> &[u32]
 /// So many clauses are tried one after another.
 const FEW: usize = 8;
 
-/// A place, no earlier than this one, up to which no clause of the predicate begins as the key says, as far as that is
-/// looked up. There are so many of them.
+/// A place of the predicate's clauses, of which there are `count`, from this one on: each before it begins otherwise than the
+/// key says. It is looked up where many are left.
 #[tactic(auto, using(crate::proofs::Numbered::passes_none))]
 fn near(program: &Program, pred: Option<Pred>, key: Sym, from: usize, count: usize) -> usize
     ensures forward { from ≤ result }

@@ -93,7 +93,8 @@ pub fn is_user(pred: Option<Pred>) -> bool
     }
 }
 
-/// The innermost frame becomes a point, unless its instance is too large: where points are read it is kept, and held.
+/// Whether the innermost frame's instance isn't too large for a point. Where points are read it is then kept, and the point
+/// is held.
 pub fn made(
     frames: &mut Following,
     before: Option<Step>,

@@ -49,11 +49,15 @@ pub struct Progress {
 
 impl Progress {
     /// A run before its first item.
-    pub fn open(alloc: Global, query: &Tuple) -> Result<Box<Progress>, AllocError>
+    pub fn open(
+        alloc: Global,
+        query: &Tuple,
+        program: &Program,
+    ) -> Result<Box<Progress>, AllocError>
         requires { IsRunnable query.now }
         ensures { IfOk result (λ p. IsFirst query.now p.value) }
     {
-        let (search, point) = Search::open_kept(alloc, query)?;
+        let (search, point) = Search::open_kept(alloc, query, program)?;
         let first = Progress {
             search,
             rows: Open::new(alloc),

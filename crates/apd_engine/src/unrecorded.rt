@@ -31,12 +31,16 @@ pub struct Unrecorded {
 
 impl Unrecorded {
     /// A run before its first item.
-    pub fn open(alloc: Global, query: &Tuple) -> Result<Box<Unrecorded>, AllocError>
+    pub fn open(
+        alloc: Global,
+        query: &Tuple,
+        program: &Program,
+    ) -> Result<Box<Unrecorded>, AllocError>
         requires { IsRunnable query.now }
         ensures { IfOk result (λ p. IsFirstShown query.now p.value) }
     {
         let first = Unrecorded {
-            search: Search::open(alloc, query)?,
+            search: Search::open(alloc, query, program)?,
             ports: 0,
             answered: 0,
         };

@@ -21,6 +21,7 @@ ghost use Rattle.apd_following.specs.Followed.{HoldsInnermost, IsKept, KeepsGoal
 
 use crate::facts::{fact_of_goal, fact_of_instance, fact_of_measure};
 use crate::tie::Tie;
+use apd_clauses::Program;
 use apd_frames::ahead::Ahead;
 use apd_frames::builtin::Solved;
 use apd_frames::linked::Linked;
@@ -99,8 +100,8 @@ fn keep_at(
 }
 
 impl Following {
-    /// The frame of a query. No tuple is kept.
-    pub fn open(alloc: Global, query: &Tuple) -> Result<Following, AllocError>
+    /// The frame of a query to the program. No tuple is kept.
+    pub fn open(alloc: Global, query: &Tuple, program: &Program) -> Result<Following, AllocError>
         requires { IsRunnable query.now }
         ensures { IfOk result (λ f. f ≡ record {
           current = query_frame
@@ -109,7 +110,7 @@ impl Following {
           tuples = [];
         }) }
     {
-        let linked = Linked::open(alloc, query)?;
+        let linked = Linked::open(alloc, query, Some(program))?;
         Ok(Following {
             linked,
             tie: Tie::new(alloc),

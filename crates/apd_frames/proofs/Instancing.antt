@@ -11,6 +11,7 @@ use Rattle.apd_term.proofs.Applying.{apply-followed_by, apply-same, apply-variab
 use Rattle.apd_term.proofs.Variants.{apply-agree}
 use Rattle.apd_unify.specs.Unifier.{IsUnifier, HasNoUnifier}
 use Rattle.apd_unify.specs.declared.store.Cell.{Cell}
+use Rattle.apd_unify.specs.Copies.{HasShared}
 use Rattle.apd_cells.specs.Stored.{Stored}
 use Rattle.apd_cells.specs.Store.{term_at, meaning, loaded, at_mark, Keeps}
 use Rattle.apd_unify.specs.Unified.{IsUnified}
@@ -19,7 +20,7 @@ use Rattle.apd_cells.proofs.Keeping.{meaning-loaded, Keeps-trans}
 use Rattle.apd_cells.proofs.Bindings.{Keeps-self}
 use Rattle.apd_trace.specs.Frames.{shifted_tuple}
 use Rattle.apd_frames.specs.Links.{Instance, instance_of}
-use Rattle.apd_frames.specs.Instances.{instance_where, terms_in, raised_in, AreInside, HasGrown, IsInstantiated, Instantiates}
+use Rattle.apd_frames.specs.Instances.{instance_where, terms_in, raised_in, AreInside, HasGrown, HasLaid, IsInstantiated, Instantiates}
 use Rattle.apd_frames.proofs.Branching.{inside_more}
 use Rattle.apd_frames.proofs.Linking.{tuple_of}
 
@@ -37,6 +38,20 @@ grown_more old s new t base h is k o =
       others = λ c l. o c (omega (arith, l, h.cells)) ∙ h.others c l;
       means = λ v. ap (λ (z : Stored). meaning z.cells z.trail v) is ∙ meaning-loaded s t base v ∙ h.means v;
     }
+
+-- terms were put into the store once
+pub laid_self : (s : Stored) → HasLaid s s
+laid_self s = record { kept = Keeps-self s; cells = omega arith; others = λ c l. refl }
+
+pub laid_shared : (s new : Stored) → HasShared s new → Keeps s new → HasLaid s new
+laid_shared s new h k = record { kept = k; cells = h.cells; others = h.others }
+
+pub laid_then : (a b c : Stored) → HasLaid a b → HasLaid b c → HasLaid a c
+laid_then a b c h k = record {
+  kept = Keeps-trans a b c h.kept k.kept;
+  cells = omega (arith, h.cells, k.cells);
+  others = λ d l. k.others d (omega (arith, l, h.cells)) ∙ h.others d l;
+}
 
 pub grown_same : (old s new : Stored) → HasGrown old s → new ≡ s → HasGrown old new
 grown_same old s new h is = subst (HasGrown old) (sym is) h

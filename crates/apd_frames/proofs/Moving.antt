@@ -1,6 +1,6 @@
 -- What the calls that change frames make of them.
 use Rattle.std.proofs.Common.{◌≡◌, ◌≢◌, ℕ, ◌+◌, ◌<◌, ◌≤◌, List, [], ◌∷◌, length, drop, map, refl, sym, ◌∙◌, ap, subst, arith, false, Option, Some, None}
-use Rattle.std.specs.Prelude.{MatchOption}
+use Rattle.std.specs.Prelude.{MatchOption, ◌==◌, if◌then◌else◌}
 use Rattle.apd_term.specs.Term.{Term, variable, apply}
 use Rattle.apd_term.specs.Substitution.{term_for}
 use Rattle.apd_term.specs.Canonical.{shifted}
@@ -22,14 +22,14 @@ use Rattle.apd_frames.specs.declared.builtin.Solved.{Solved}
 use Rattle.apd_frames.specs.declared.builtin.Solved.TheVariants.{Entered}
 use Rattle.apd_frames.specs.Links.{Instance, Link}
 use Rattle.apd_frames.specs.declared.links.Branch.{Branch}
-use Rattle.apd_frames.specs.Instances.{terms_in, tuple_in, raised_in, IsInside, IsVariant, HasGrown, IsInstantiated}
+use Rattle.apd_frames.specs.Instances.{terms_in, tuple_in, raised_in, IsInside, IsVariant, HasGrown, HasLaid, IsInstantiated}
 use Rattle.apd_frames.specs.Kept.{Kept, HasEntered, Enters}
 use Rattle.apd_frames.specs.Solves.{solution_as, Settles}
-use Rattle.apd_frames.specs.Linked.{frames_at, oldest, saved_of, entered_link, handed_link, IsFramed, IsGoalAt, IsBranchAt}
+use Rattle.apd_frames.specs.Linked.{frame_in, frames_at, oldest, saved_of, entered_link, handed_link, ArePlaced, IsFramed, IsGoalAt, IsBranchAt}
 use Rattle.apd_frames.proofs.Linking.{frames_newest, frames_below, tuple_of, with_tuple}
 use Rattle.apd_ports.specs.declared.point.TheConstants.{BUILTIN}
 use Rattle.apd_frames.proofs.Branching.{framed_kept, framed_link, framed_there, saved-branch, framed_branch, saved-link, saved-kept, saved-forgotten, marked-forgotten}
-use Rattle.apd_frames.proofs.Instancing.{loaded_free}
+use Rattle.apd_frames.proofs.Instancing.{loaded_free, terms_same}
 use Rattle.apd_frames.proofs.Current.{view_of, IsInnermost, front_applied}
 use Rattle.apd_frames.proofs.Entering.{enters_apart, enters_none, enters_some}
 use Rattle.apd_frames.proofs.Solving.{solves_entered, solves_other}
@@ -220,6 +220,20 @@ module _ (s0 s1 s2 : Stored) (t : Tuple) (head : ℕ) (i : Instance) (empty : s0
 pub opened_kept : (s : Stored) (links : List Link) (bs : List Branch) (t c : Tuple) → frames_at s links 1 ≡ query_frame t ∷ [] → bs ≡ [] → t ≡ c
     → view_of s links 1 bs ≡ kept_of (query_frame c ∷ []) []
 opened_kept s links bs t c e be te = ap (view_of s links 1) be ∙ ap (λ F. kept_of F []) (e ∙ ap (λ (x : Tuple). query_frame x ∷ []) te)
+
+-- terms were put into the store behind those of the frames
+module _ (old new : Stored) (laid : HasLaid old new) where
+  laid_tuple : (i : Instance) → IsInside (length old.cells) i → tuple_in new i ≡ tuple_in old i
+  laid_tuple i h =
+      ap (λ x. tuple_of x (terms_in new i.goals)) (laid.others i.head.0 h.head)
+      ∙ ap (tuple_of (term_at old i.head.0)) (terms_same old new i.goals h.goals laid.others)
+
+  pub laid_frames : (links : List Link) (k : ℕ) → ArePlaced (length old.cells) links → frames_at new links k ≡ frames_at old links k
+  laid_frames [] k h = refl
+  laid_frames (l ∷ older) k h =
+      ap (λ x. if k == length older + 1 then with_tuple l x ∷ frames_at new older l.around else frames_at new older k) (laid_tuple l.instance h.0)
+      ∙ ap (λ F. if k == length older + 1 then frame_in old l ∷ F else frames_at new older k) (laid_frames older l.around h.2)
+      ∙ ap (λ F. if k == length older + 1 then frame_in old l ∷ frames_at old older l.around else F) (laid_frames older k h.2)
 
 pub opened_framed : (s : Stored) (l : Link) (links : List Link) (bs : List Branch) → links ≡ l ∷ [] → bs ≡ [] → l.around ≡ 0 → IsInside (length s.cells) l.instance → IsFramed s links 1 bs
 opened_framed s l links bs le be a i = rw (le, be) (record { placed = (i, omega arith, tt); within = omega arith; marked = tt })

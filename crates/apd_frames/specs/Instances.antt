@@ -48,6 +48,12 @@ pub record HasGrown (old new : Stored) : Type 0 where
   pub others : (c : ℕ) → c < length old.cells → term_at new c ≡ term_at old c
   pub means : (v : ℕ) → meaning new.cells new.trail v ≡ meaning old.cells old.trail v
 
+-- terms were put into the store once, and those that were there are the same
+pub record HasLaid (old new : Stored) : Type 0 where
+  pub kept : Keeps old new
+  pub cells : length old.cells ≤ length new.cells
+  pub others : (c : ℕ) → c < length old.cells → term_at new c ≡ term_at old c
+
 -- a clause's goals were loaded, with what stands for its variables in their places
 pub record HasBody (s s' : Stored) (old new : List Slot) (body : List Term) (goals : List Cell) : Type 0 where
   pub gone : HasGoneOn s s' old new

@@ -51,7 +51,7 @@ impl Frames {
           saved = [];
         }) }
     {
-        let linked = Linked::open(alloc, query)?;
+        let linked = Linked::open(alloc, query, None)?;
         Ok(Frames { linked })
     }
 

@@ -6,19 +6,23 @@ ghost use Rattle.apd_term.specs.Term.{variables, IsAmong};
 ghost use Rattle.apd_cells.specs.Numbered.{IsNumbered};
 ghost use Rattle.apd_cells.specs.Slots.{AreSlots};
 ghost use Rattle.apd_term.specs.Tuple.{variables_of_tuple};
-ghost use Rattle.apd_cells.specs.Store.{at_mark, term_at, Keeps};
+ghost use Rattle.apd_cells.specs.Store.{at_mark, term_at, IsSound, Keeps};
 ghost use Rattle.apd_trace.specs.Frames.{query_frame};
 ghost use Rattle.apd_clauses.specs.Clauses.{IsRunnable};
+ghost use Rattle.apd_unify.specs.Heads.{HasGoneOn, IsLoadedFor, Matches};
 ghost use Rattle.apd_frames.specs.Links.{link_of};
 ghost use Rattle.apd_frames.specs.Linked.{frames_at, IsFramed, IsThere};
 ghost use Rattle.apd_frames.specs.Instances.{terms_in, instance_where, tuple_in, raised_in, AreInside, CanonicalWithin, IsWithin, HasBody, HasGrown, InstantiatesVariant};
 
+use crate::floor::{Laid, expect_goal, expect_head, lay};
 use crate::links::{LinkRef, Links};
 use crate::small::is_small;
 use apd_base::{MOST_GOALS, MOST_INSTANCE_SYMBOLS};
-use apd_cells::scratch::Scratch;
 use apd_cells::slots::Slot;
+use apd_clauses::Program;
 use apd_term::{Atoms, Flat, Tuple, canonical_tuple};
+use apd_unify::copies::Hint;
+use apd_unify::scratch::Scratch;
 use apd_unify::store::{Cell, Store};
 use std::alloc::{AllocError, Global};
 
@@ -31,6 +35,10 @@ pub struct Made {
     pub slots: Vec<Slot>,
     /// Of which clauses it is known that their variables have small numbers.
     pub small: Vec<bool>,
+    /// The cells of the program's pieces.
+    pub floor: Vec<Laid>,
+    /// What is expected of a term of it.
+    pub hints: Vec<Hint>,
 }
 
 /// Loads the terms, and leaves their cells alone in `cells`.
@@ -49,9 +57,9 @@ pub fn load_all(store: &mut Store, cells: &mut Vec<Cell>, terms: &[Flat]) -> Res
     Ok(())
 }
 
-/// Loads the tuple of a query, which leaves its goals' cells alone in `goals`, and puts its link, where nothing was loaded and
-/// no link was put.
-pub fn put_query(
+/// Loads the tuple of a query, and puts its link, where nothing was loaded and no link was put. Of `goals` its goals' cells
+/// are left.
+fn put_query(
     store: &mut Store,
     links: &mut Links,
     goals: &mut Vec<Cell>,
@@ -81,6 +89,29 @@ pub fn put_query(
     Ok(())
 }
 
+/// Puts a query as [`put_query`] does, and behind its terms the pieces of the program, whose cells stand in `made` then.
+pub fn begin(
+    store: &mut Store,
+    links: &mut Links,
+    made: &mut Made,
+    alloc: Global,
+    tuple: &Tuple,
+    program: Option<&Program>,
+) -> Result<(), AllocError>
+    requires small { (v : ℕ) → IsAmong (variables_of_tuple tuple.now) v → v < 2 ^ 64 }
+    requires store { store.old ≡ record { cells = []; variables = 0; trail = [] } }
+    requires links { links.old ≡ [] }
+    ensures framed { OnOk result (IsFramed store.new links.new 1 []) }
+    ensures frames { OnOk result
+        (frames_at store.new links.new 1 ≡ query_frame tuple.now ∷ []) }
+    ensures begun { OnOk result
+        (at_mark 0 store.new ≡ record { cells = []; variables = 0; trail = [] }) }
+{
+    put_query(store, links, &mut made.goals, tuple)?;
+    lay(store, &mut made.floor, alloc, program)?;
+    Ok(())
+}
+
 /// Loads the goals of a clause, with what stands for its variables in their places, and leaves their cells alone in
 /// `cells`.
 fn load_body(
@@ -103,11 +134,97 @@ fn load_body(
     Ok(())
 }
 
+/// Loads a goal of a clause as [`Store::load_for`] does. Its pieces aren't copied where they stand in the store.
+fn load_goal(
+    store: &mut Store,
+    made: &mut Made,
+    goal: &Flat,
+    clause: u32,
+    number: u32,
+) -> Result<Cell, AllocError>
+    requires { AreSlots store.old.cells store.old.variables made.old.slots.items }
+    ensures ok { IfOk result (λ c. IsLoadedFor store.old store.new
+        made.old.slots.items made.new.slots.items goal.now c.0) }
+    ensures kept { Keeps store.old store.new }
+    ensures more { length store.old.cells ≤ length store.new.cells }
+    ensures goals { made.new.goals.items ≡ made.old.goals.items }
+{
+    let floor = made.floor.as_slice();
+    expect_goal(store, &mut made.hints, floor, clause, number)?;
+    store.load_for(goal, &mut made.slots)
+}
+
+/// Loads the goals of a clause that may have pieces as [`load_body`] does.
+fn load_sharing(
+    store: &mut Store,
+    made: &mut Made,
+    body: &[Flat],
+    clause: u32,
+) -> Result<(), AllocError>
+    requires { AreSlots store.old.cells store.old.variables made.old.slots.items }
+    ensures loaded { OnOk result (HasBody store.old store.new
+        made.old.slots.items made.new.slots.items body.now made.new.goals.items) }
+    ensures kept { Keeps store.old store.new }
+    ensures more { length store.old.cells ≤ length store.new.cells }
+{
+    made.goals.clear();
+    let mut number: u32 = 0;
+    'goals: for goal in body {
+        number = number.saturating_add(1);
+        let cell = load_goal(store, made, goal, clause, number)?;
+        made.goals.push(cell)?;
+    }
+    Ok(())
+}
+
+/// Loads the goals of a clause, with what stands for its variables in their places, and leaves their cells alone in
+/// `made`.
+fn load_goals(
+    store: &mut Store,
+    made: &mut Made,
+    body: &[Flat],
+    clause: u32,
+) -> Result<(), AllocError>
+    requires { AreSlots store.old.cells store.old.variables made.old.slots.items }
+    ensures loaded { OnOk result (HasBody store.old store.new
+        made.old.slots.items made.new.slots.items body.now made.new.goals.items) }
+    ensures kept { Keeps store.old store.new }
+    ensures more { length store.old.cells ≤ length store.new.cells }
+{
+    if made.floor.is_empty() {
+        return load_body(store, &mut made.goals, &mut made.slots, body);
+    }
+    load_sharing(store, made, body, clause)
+}
+
+/// Makes the goal at a cell and the head of a clause equal as [`Store::unify_head`] does. Pieces of the head aren't copied
+/// where they stand in the store.
+fn match_head(
+    store: &mut Store,
+    made: &mut Made,
+    goal: Cell,
+    clause: u32,
+    head: &Flat,
+) -> Result<bool, AllocError>
+    requires { goal.0 < length store.old.cells }
+    ensures answer { IfOk result
+        (λ r. Matches r store.old store.new [] made.new.slots.items goal.0 head.now) }
+    ensures gone { OnOk result (HasGoneOn store.old store.new [] made.new.slots.items) }
+    ensures sound { OnOk result (IsSound store.old) }
+    ensures kept { Keeps store.old store.new }
+    ensures more { length store.old.cells ≤ length store.new.cells }
+{
+    let floor = made.floor.as_slice();
+    expect_head(store, &mut made.hints, floor, clause)?;
+    store.unify_head(goal, head, &mut made.slots)
+}
+
 /// Makes the instance of a clause whose variables have small numbers, as [`instantiate`] does.
 fn instantiate_small(
     store: &mut Store,
     made: &mut Made,
     goal: Cell,
+    clause: u32,
     rule: &Tuple,
 ) -> Result<bool, AllocError>
     requires goal { goal.0 < length store.old.cells }
@@ -118,15 +235,10 @@ fn instantiate_small(
         (instance_where b goal made.new.goals.items) store.old store.new goal.0 rule.now) }
 {
     let _variables = store.variables();
-    if !store.unify_head(goal, &rule.head, &mut made.slots)? {
+    if !match_head(store, made, goal, clause, &rule.head)? {
         return Ok(false);
     }
-    load_body(
-        store,
-        &mut made.goals,
-        &mut made.slots,
-        rule.body.as_slice(),
-    )?;
+    load_goals(store, made, rule.body.as_slice(), clause)?;
     Ok(true)
 }
 
@@ -152,10 +264,10 @@ pub fn instantiate(
 {
     let _variables = store.variables();
     if is_small(&mut made.small, clause, rule) {
-        return instantiate_small(store, made, goal, rule);
+        return instantiate_small(store, made, goal, clause, rule);
     }
     let canonical = canonical_tuple(alloc, rule)?;
-    instantiate_small(store, made, goal, &canonical)
+    instantiate_small(store, made, goal, clause, &canonical)
 }
 
 /// A head and [`MOST_GOALS`] goals of so many symbols have no more together than an instance may have.

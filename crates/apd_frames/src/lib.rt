@@ -6,6 +6,7 @@
 pub mod ahead;
 pub mod builtin;
 mod evaluating;
+mod floor;
 pub mod frames;
 pub mod instance;
 pub mod linked;

@@ -6,29 +6,29 @@ ghost use Rattle.apd_clauses.specs.Clauses.{IsRunnable};
 ghost use Rattle.apd_trace.specs.Frames.{entering, look_of, handed_all, outer, query_frame};
 ghost use Rattle.apd_trace.specs.BuiltIn.{solution};
 ghost use Rattle.apd_trace.specs.Renaming.{AreAlike};
-ghost use Rattle.apd_frames.specs.Kept.{Calls, Enters, IsIn, IsKey, MayCall, Takes, Points, ahead_of, exit_in, fits, newest_of};
+ghost use Rattle.apd_frames.specs.Kept.{Calls, Enters, IsKey, MayCall, Takes, Points, ahead_of, exit_in, fits, newest_of};
 ghost use Rattle.apd_trace.specs.declared.frame.Called.{Called};
 ghost use Rattle.apd_term.specs.Term.{predicate_of};
-ghost use Rattle.apd_frames.specs.Links.{link_of, instance_of};
-ghost use Rattle.apd_frames.specs.Linked.{entered_link, IsBranchAt};
+ghost use Rattle.apd_frames.specs.Linked.{IsBranchAt};
 ghost use Rattle.apd_frames.specs.Measures.{MeasuresInnermost};
 ghost use Rattle.apd_frames.specs.Framed.{frames_of, AreFramed, BeginsEmpty, GoesBack, IsSame, KeepsStore};
 ghost use Rattle.apd_frames.specs.Solves.{solution_as, Keeps};
 
 use crate::ahead::Ahead;
 use crate::builtin::Solved;
-use crate::instance::{Made, canonical_within, instantiate, is_within, put_query};
-use crate::links::{Branch, KeptBranch, LinkRef, Links};
+use crate::instance::{Made, begin, canonical_within, instantiate, is_within};
+use crate::links::{Branch, KeptBranch, Links, entered};
 use crate::measuring::{Measure, measured};
 use crate::reading::{ahead, goal_depth, left, look, next_goal};
 use crate::settling::{predicate_at, settle};
-use apd_cells::scratch::Scratch;
 use apd_cells::stack::Stack;
+use apd_clauses::Program;
 use apd_ports::BUILTIN;
 use apd_term::tuple::canonical_tuple;
 use apd_term::{Pred, Sym, Tuple};
 use apd_trace::{Called, Look, Point, Step};
-use apd_unify::store::{Cell, Store};
+use apd_unify::scratch::Scratch;
+use apd_unify::store::Store;
 use std::alloc::{AllocError, Global};
 
 /// Links over a store, and the branches. Clauses see all parts; what frames they are is `frames_of` them.
@@ -53,34 +53,13 @@ fn here(store: &Store, links: &Links, innermost: usize) -> Branch
     }
 }
 
-/// The link of a clause that is entered for the goal of this box, or of a built-in goal that succeeds.
-fn entered<'a>(
-    box_no: u32,
-    depth: u32,
-    clause: u32,
-    head: Cell,
-    goals: &'a [Cell],
-    point: u32,
-    around: usize,
-) -> LinkRef<'a>
-    ensures { (g : Called) → IsIn box_no depth g →
-        link_of result ≡ entered_link g clause (instance_of head goals.now) point around }
-{
-    LinkRef {
-        box_no,
-        depth,
-        clause,
-        head,
-        goals,
-        done: 0,
-        point,
-        around,
-    }
-}
-
 impl Linked {
-    /// The frame of a query.
-    pub fn open(alloc: Global, query: &Tuple) -> Result<Linked, AllocError>
+    /// The frame of a query, over a store that has the large terms of the program once.
+    pub fn open(
+        alloc: Global,
+        query: &Tuple,
+        program: Option<&Program>,
+    ) -> Result<Linked, AllocError>
         requires { IsRunnable query.now }
         ensures framed { IfOk result AreFramed }
         ensures kept { IfOk result (λ l. frames_of l ≡ record {
@@ -101,17 +80,21 @@ impl Linked {
                 goals: Vec::new(alloc),
                 slots: Vec::new(alloc),
                 small: Vec::new(alloc),
+                floor: Vec::new(alloc),
+                hints: Vec::new(alloc),
             },
         };
-        let put = put_query(
+        let begun = begin(
             &mut linked.store,
             &mut linked.links,
-            &mut linked.made.goals,
+            &mut linked.made,
+            alloc,
             &tuple,
+            program,
         );
         // Dropped by calls: else each part of them is a step to check.
         drop(tuple);
-        match put {
+        match begun {
             Ok(()) => Ok(linked),
             Err(AllocError) => {
                 drop(linked);

@@ -1,8 +1,10 @@
 //! Links between clause instances.
 
 ghost use Rattle.std.specs.Prelude.{◌≡◌, ◌∷◌, [], ◌+◌, ◌<◌, ◌≤◌, length, reverse, None, Some, IfOk, OnOk, OnErr, MatchOption};
-ghost use Rattle.apd_frames.specs.Links.{link_of, link_in, row_at, row_of, handed_row, cells_of, IsSpanned};
-ghost use Rattle.apd_frames.specs.Linked.{numbered, oldest, Hands, MayHand};
+ghost use Rattle.apd_frames.specs.Links.{instance_of, link_of, link_in, row_at, row_of, handed_row, cells_of, IsSpanned};
+ghost use Rattle.apd_frames.specs.Linked.{entered_link, numbered, oldest, Hands, MayHand};
+ghost use Rattle.apd_frames.specs.Kept.{IsIn};
+ghost use Rattle.apd_trace.specs.declared.frame.Called.{Called};
 
 use apd_unify::store::{Cell, Mark};
 use std::alloc::{AllocError, Global};
@@ -196,6 +198,31 @@ impl KeptBranch {
             links: self.links as usize,
             innermost: self.innermost as usize,
         }
+    }
+}
+
+/// The link of a clause that is entered for the goal of this box, or of a built-in goal that succeeds.
+pub fn entered<'a>(
+    box_no: u32,
+    depth: u32,
+    clause: u32,
+    head: Cell,
+    goals: &'a [Cell],
+    point: u32,
+    around: usize,
+) -> LinkRef<'a>
+    ensures { (g : Called) → IsIn box_no depth g →
+        link_of result ≡ entered_link g clause (instance_of head goals.now) point around }
+{
+    LinkRef {
+        box_no,
+        depth,
+        clause,
+        head,
+        goals,
+        done: 0,
+        point,
+        around,
     }
 }
 

@@ -12,9 +12,9 @@ ghost use Rattle.apd_frames.specs.Linked.{frames_at, frame_in, frames_from, IsGo
 
 use crate::ahead::Ahead;
 use crate::links::{LinkRef, Links};
-use apd_cells::scratch::Scratch;
 use apd_term::Flat;
 use apd_trace::{Called, Look};
+use apd_unify::scratch::Scratch;
 use apd_unify::store::{Cell, Store};
 use std::alloc::AllocError;
 

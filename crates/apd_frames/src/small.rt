@@ -1,35 +1,11 @@
-//! Clauses whose variables have small numbers: an instance of such a clause needs no other numbers.
+//! Of which clauses it is noted that their variables have small numbers.
 
-use apd_term::{Flat, Sym, Tuple};
+use apd_clauses::small::has_small_variables;
+use apd_term::Tuple;
 
-/// Numbers up to this one are small. What stands for a clause's variables takes room for all numbers up to the greatest.
-const MOST: u64 = 255;
-
-/// Whether each variable of the term has a small number.
-fn are_small(term: &Flat) -> bool {
-    for symbol in term.symbols() {
-        if let Sym::Var(v) = symbol {
-            if *v > MOST {
-                return false;
-            }
-        }
-    }
-    true
-}
-
-/// Whether each variable of the clause has a small number. No contract asks for it: by great numbers an instance is as
-/// right, but may take much memory.
-fn has_small_variables(rule: &Tuple) -> bool {
-    for atom in rule.body.as_slice() {
-        if !are_small(atom) {
-            return false;
-        }
-    }
-    are_small(&rule.head)
-}
-
-/// Of clauses with numbers below this one it is noted that their variables have small numbers.
-const MOST_NOTED: u32 = 65_536;
+/// Of clauses with numbers below this one it is noted that their variables have small numbers. A run notes it anew, and may
+/// be short: so there are few.
+const MOST_NOTED: u32 = 1_024;
 
 /// Notes that the variables of the clause with this number have small numbers, where there is memory for that.
 fn note_small(small: &mut Vec<bool>, clause: u32) {
@@ -46,7 +22,7 @@ fn note_small(small: &mut Vec<bool>, clause: u32) {
     small[place] = true;
 }
 
-/// The same as [`has_small_variables`], which is noted of the clause with this number.
+/// Whether each variable of the clause with this number has a small number; that it has is noted.
 pub fn is_small(small: &mut Vec<bool>, clause: u32, rule: &Tuple) -> bool {
     let is_noted = match small.get(clause as usize) {
         Some(noted) => *noted,

@@ -138,13 +138,13 @@ spelled (compound f ts) = omega arith
 -- a term of the clause was loaded
 module _ (s s' : Stored) (old new : List Slot) (t : Term) (store : IsSound s) (slots : AreSlots s.cells s.variables old) (h : HasLoaded s s' old new t) where
   pub sound_then : IsSound s'
-  sound_then = subst IsSound (sym h.is) (sound_loaded s (apply (put_for s'.cells new) t) 0 store)
+  sound_then = subst IsSound (sym h.is) (sound_loaded s h.term 0 store)
 
   means_then : (v : ℕ) → meaning s'.cells s'.trail v ≡ meaning s.cells s.trail v
-  means_then v = ap (λ (z : Stored). meaning z.cells z.trail v) h.is ∙ meaning-loaded s (apply (put_for s'.cells new) t) 0 v
+  means_then v = ap (λ (z : Stored). meaning z.cells z.trail v) h.is ∙ meaning-loaded s h.term 0 v
 
   others_then : (c : ℕ) → c < length s.cells → term_at s' c ≡ term_at s c
-  others_then c l = ap (λ (z : Stored). term_at z c) h.is ∙ term_at-others s (apply (put_for s'.cells new) t) 0 c store l
+  others_then c l = ap (λ (z : Stored). term_at z c) h.is ∙ term_at-others s h.term 0 c store l
 
   value_newer : (owner owner' : ℕ → ℕ) (v n : ℕ) (a b : Slot) → IsSlot s.cells s.variables owner v a → IsSlot s'.cells s'.variables owner' v b → GetsOwn s.variables s'.cells a b → IsNumberOf s' n b
       → value_of s' n b ≡ value_of s n a
@@ -165,7 +165,7 @@ module _ (s s' : Stored) (old new : List Slot) (t : Term) (store : IsSound s) (s
 
   pub loaded_for : (c : ℕ) → c ≡ length s.cells → IsLoadedFor s s' old new t c
   loaded_for c e =
-      let u = apply (put_for s'.cells new) t in
+      let u = h.term in
       let n : length s'.cells ≡ length s.cells + length (spell (shifted 0 u)) = ap (λ (z : Stored). length z.cells) h.is ∙ length-append s.cells (spell (shifted 0 u)) in
       let there : s'.variables ≡ (loaded s u 0).variables = ap (λ (z : Stored). z.variables) h.is in
       record {
@@ -184,6 +184,7 @@ module _ (s s' : Stored) (old new : List Slot) (t : Term) (store : IsSound s) (s
         made = λ g f.
             made_loaded s s' u 0 c h.is e
             ∙ ap (apply (meaning s.cells s.trail)) (shifted_zero u)
+            ∙ h.same
             ∙ apply-followed_by (put_for s'.cells new) (meaning s.cells s.trail) t
             ∙ apply-agree (followed_by (put_for s'.cells new) (meaning s.cells s.trail)) (value_in s' g.of new) t (λ v o. value_put g v (h.set v o));
       }

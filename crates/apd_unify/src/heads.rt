@@ -1,18 +1,19 @@
 //! A clause's head that is matched with a goal where it stands. Of the head are loaded only subterms that meet a free
 //! variable of the goal, and variables that first meet a term with arguments.
 
-ghost use Rattle.std.specs.Prelude.{◌≡◌, ◌∷◌, ◌<◌, ◌≤◌, ◌^◌, ℕ, [], get_or, length, slice_get, Some, IfOk, OnOk};
+ghost use Rattle.std.specs.Prelude.{◌≡◌, ◌∷◌, ◌<◌, ◌≤◌, ◌^◌, ℕ, [], get_or, length, slice_get, Some, IfOk, OnOk, OnErr};
 ghost use Rattle.apd_term.specs.Term.{IsTerms, IsWhole, term_of};
 ghost use Rattle.apd_term.specs.declared.term.Sym.TheVariants.{Var};
-ghost use Rattle.apd_cells.specs.Slots.{AreSlots};
+ghost use Rattle.apd_cells.specs.Slots.{AreSlots, HasLoaded};
 ghost use Rattle.apd_cells.specs.Store.{IsSound, Keeps, symbol_at};
 ghost use Rattle.apd_cells.specs.Work.{AreRuns, IsRun, Leads};
 ghost use Rattle.apd_unify.specs.Heads.{GoesUnder, HasGoneOn, IsPastFirst, Matches, Meets};
 
+use crate::copies::{Hint, find_copied};
 use crate::unify::{Pairs, unify};
 use apd_cells::heap::Heap;
 use apd_cells::reading::Looking;
-use apd_cells::slots::{Slot, set_slot, slot_at};
+use apd_cells::slots::{Slot, Stretch, set_slot, slot_at};
 use apd_cells::stack::Stack;
 use apd_cells::walk::{Run, arity_of, next_run, pass_from};
 use apd_term::term::term_end;
@@ -24,6 +25,10 @@ use std::alloc::AllocError;
 pub struct Solver {
     pub looking: Looking,
     pub pairs: Stack<Pairs>,
+    /// What is expected of the clause's term that is loaded or matched next.
+    pub hints: Vec<Hint>,
+    /// What stands of it in the cells.
+    pub copied: Vec<Stretch>,
 }
 
 /// What was done with the term at a cell and one of a head's terms.
@@ -37,12 +42,35 @@ pub enum Met {
     Symbol(usize),
 }
 
+/// Loads a term of a clause's term, whose symbols are its own from a place on.
+pub fn load_part(
+    heap: &mut Heap,
+    solver: &mut Solver,
+    slots: &mut Vec<Slot>,
+    begin: usize,
+    symbols: &[Sym],
+) -> Result<usize, AllocError>
+    requires whole { IsWhole symbols.now }
+    requires slots { AreSlots heap.old.cells heap.old.variables slots.old.items }
+    ensures cell { IfOk result (λ c. c ≡ length heap.old.cells) }
+    ensures ok { OnOk result
+        (HasLoaded heap.old heap.new slots.old.items slots.new.items (term_of symbols.now)) }
+    ensures store { IsSound heap.old }
+    ensures err { OnErr result (heap.new ≡ heap.old) }
+{
+    let _variables = heap.variables();
+    let hints = solver.hints.as_slice();
+    find_copied(heap, symbols, begin, hints, &mut solver.copied)?;
+    heap.load_for(symbols, slots, solver.copied.as_slice())
+}
+
 /// Makes a term of a head, which is loaded, and the term at a cell equal.
 fn match_loaded(
     heap: &mut Heap,
     solver: &mut Solver,
     slots: &mut Vec<Slot>,
     at: usize,
+    begin: usize,
     symbols: &[Sym],
 ) -> Result<bool, AllocError>
     requires at { at < length heap.old.cells }
@@ -54,7 +82,7 @@ fn match_loaded(
     ensures kept { Keeps heap.old heap.new }
     ensures more { length heap.old.cells ≤ length heap.new.cells }
 {
-    let loaded = heap.load_for(symbols, slots)?;
+    let loaded = load_part(heap, solver, slots, begin, symbols)?;
     unify(heap, &mut solver.looking, &mut solver.pairs, at, loaded)
 }
 
@@ -66,6 +94,7 @@ fn match_variable(
     slots: &mut Vec<Slot>,
     at: usize,
     v: u64,
+    begin: usize,
     symbols: &[Sym],
 ) -> Result<bool, AllocError>
     requires at { at < length heap.old.cells }
@@ -85,7 +114,7 @@ fn match_variable(
         Slot::Given(cell) => unify(heap, &mut solver.looking, &mut solver.pairs, at, cell),
         Slot::New => {
             if arity > 0 {
-                return match_loaded(heap, solver, slots, at, symbols);
+                return match_loaded(heap, solver, slots, at, begin, symbols);
             }
             set_slot(slots, v, Slot::Given(at))?;
             Ok(true)
@@ -123,7 +152,7 @@ fn meet_symbol(
         return Ok(Met::Clash);
     };
     let past = term_end(head, from);
-    if !match_loaded(heap, solver, slots, end, &head[from..past])? {
+    if !match_loaded(heap, solver, slots, end, from, &head[from..past])? {
         return Ok(Met::Clash);
     }
     Ok(Met::Past(past))
@@ -152,7 +181,7 @@ fn meet(
     let Sym::Var(v) = head[from] else {
         return meet_symbol(heap, solver, slots, at, head, from);
     };
-    if !match_variable(heap, solver, slots, at, v, &head[from..from + 1])? {
+    if !match_variable(heap, solver, slots, at, v, from, &head[from..from + 1])? {
         return Ok(Met::Clash);
     }
     Ok(Met::Past(from + 1))

@@ -4,27 +4,29 @@ ghost use Rattle.std.specs.Prelude.{◌≡◌, ℕ, ◌+◌, ◌<◌, ◌≤◌,
 ghost use Rattle.std.specs.Bool.{OnTrue};
 ghost use Rattle.apd_term.specs.Term.{arguments, IsGround, Occurs, size};
 ghost use Rattle.apd_term.specs.Canonical.{shifted};
-ghost use Rattle.apd_cells.specs.Arguments.{HasOne, HasTwo};
 ghost use Rattle.apd_cells.specs.Counting.{MeasuredWithin};
-ghost use Rattle.apd_cells.specs.First.{AreApart, key_of, first_symbol};
+ghost use Rattle.apd_cells.specs.First.{key_of, first_symbol};
 ghost use Rattle.apd_cells.specs.Live.{store_of};
 ghost use Rattle.apd_cells.specs.Numbered.{IsNumbered};
 ghost use Rattle.apd_cells.specs.Ordered.{Numbers};
 ghost use Rattle.apd_cells.specs.Slots.{AreSlots};
 ghost use Rattle.apd_cells.specs.Store.{term_at, under_bindings, loaded, at_mark, Keeps, IsSound, SizeWithin};
+ghost use Rattle.apd_unify.specs.Arguments.{HasOne, HasTwo};
+ghost use Rattle.apd_unify.specs.Copies.{HasShared};
 ghost use Rattle.apd_unify.specs.Heads.{HasGoneOn, IsLoadedFor, Matches};
 ghost use Rattle.apd_unify.specs.Unified.{IsUnification};
 
-use crate::heads::{Solver, unify_head};
+use crate::arguments::{only_argument, two_arguments};
+use crate::copies::Hint;
+use crate::heads::{Solver, load_part, unify_head};
+use crate::scratch::{Scratch, numbered_within};
 use crate::unify::unify;
-use apd_cells::arguments::{only_argument, two_arguments};
 use apd_cells::counting::measured_within;
-use apd_cells::first::{are_clashing, first_symbol, key_at, key_of};
+use apd_cells::first::{first_symbol, key_at};
 use apd_cells::heap::Heap;
 use apd_cells::known::Extent;
 use apd_cells::live::Live;
 use apd_cells::reading::{Looking, is_ground_within, resolved, size_within};
-use apd_cells::scratch::{Scratch, numbered_within};
 use apd_cells::slots::Slot;
 use apd_cells::stack::Stack;
 use apd_cells::walk::Run;
@@ -60,6 +62,15 @@ impl Model for Store {
     ghost view = { λ s. s.heap };
 }
 
+/// Keeps these hints alone.
+fn keep_hints(kept: &mut Vec<Hint>, hints: &[Hint]) -> Result<(), AllocError> {
+    kept.clear();
+    for hint in hints {
+        kept.push(*hint)?;
+    }
+    Ok(())
+}
+
 impl Store {
     /// The store without a term.
     pub fn new(alloc: Global) -> Store
@@ -70,6 +81,8 @@ impl Store {
             solver: Solver {
                 looking: Looking::new(alloc),
                 pairs: Stack::new(alloc),
+                hints: Vec::new(alloc),
+                copied: Vec::new(alloc),
             },
             runs: Stack::new(alloc),
             alloc,
@@ -92,6 +105,30 @@ impl Store {
     {
         let cell = self.heap.load(t, 0)?;
         Ok(Cell(cell))
+    }
+
+    /// Loads a term without variables and a variable that is bound to it, whose cell it tells. The term's size is counted
+    /// once.
+    pub fn share(&mut self, t: &Flat) -> Result<Cell, AllocError>
+        requires { IsGround t.now }
+        ensures shared { OnOk result (HasShared self.old self.new) }
+        ensures kept { OnOk result (Keeps self.old self.new) }
+    {
+        let v = self.heap.variables() as u64;
+        let variable = Flat::variable(self.alloc, v)?;
+        let at = self.heap.load(&variable, 0)?;
+        let to = self.heap.load(t, 0)?;
+        self.heap.bind(v, to)?;
+        self.measure(Cell(at), u64::MAX)?;
+        Ok(Cell(at))
+    }
+
+    /// Of the clause's terms that are loaded next, and of its head, this is expected: where it is so, a term that stands in
+    /// the store isn't copied.
+    pub fn expect(&mut self, hints: &[Hint]) -> Result<(), AllocError>
+        ensures { self.new ≡ self.old }
+    {
+        keep_hints(&mut self.solver.hints, hints)
     }
 
     /// Applies a most general unifier of the terms at two cells to the terms of all cells; false
@@ -151,7 +188,7 @@ impl Store {
         ensures more { length self.old.cells ≤ length self.new.cells }
         ensures err { OnErr result (self.new ≡ self.old) }
     {
-        let cell = self.heap.load_for(t.symbols(), slots)?;
+        let cell = load_part(&mut self.heap, &mut self.solver, slots, 0, t.symbols())?;
         Ok(Cell(cell))
     }
 
@@ -177,15 +214,6 @@ impl Store {
         ensures sound { IsSound self.now }
     {
         self.heap.live()
-    }
-
-    /// Whether the first arguments of the term at a cell and of another begin so differently that
-    /// no term is an instance of both; false says nothing of instances.
-    pub fn differs(&self, cell: Cell, other: &Flat) -> bool
-        requires { cell.0 < length self.now.cells }
-        ensures { OnTrue result (AreApart (term_at self.now cell.0) other.now) }
-    {
-        are_clashing(key_at(&self.heap, cell.0), key_of(other))
     }
 
     /// What the first argument of the term at a cell begins with; a variable where it has none.

@@ -10,8 +10,8 @@ use Rattle.apd_unify.proofs.Matched.{loaded_for}
 use Rattle.apd_unify.proofs.Turning.{more_cells}
 use Rattle.apd_unify.proofs.store.Store.load_for.Goals as goal
 
-pub load_for-requires-clause-whole : goal.load_for-requires-clause-whole
-load_for-requires-clause-whole c = whole_from_spelled c.symbols.result.now c.args.t.now c.symbols.ensures
+pub load_part-requires-clause-whole : goal.load_part-requires-clause-whole
+load_part-requires-clause-whole c = whole_from_spelled c.symbols.result.now c.args.t.now c.symbols.ensures
 
 pub returns-in_err-cell-clause-kept : goal.returns-in_err-cell-clause-kept
 returns-in_err-cell-clause-kept c = subst (Keeps c.args.self.now) (sym (c.in_err-cell.ensures.err ∙ c.self.view_is)) (Keeps-self c.args.self.now)
@@ -22,10 +22,10 @@ returns-clause-ok c =
     let is : term_of c.symbols.result.now ≡ t = term_of_from_spelled c.symbols.result.now t c.symbols.ensures in
     let slots : AreSlots c.self.inside.heap.cells c.self.inside.heap.variables c.args.slots.now.items =
     subst (λ (s : Stored). AreSlots s.cells s.variables c.args.slots.now.items) (sym c.self.view_is) c.requires in
-    let k = loaded_for c.self.inside.heap c.load_for.new.self c.args.slots.now.items c.load_for.new.slots.items t c.in_ok-cell.ensures.store slots
-    (subst (HasLoaded c.self.inside.heap c.load_for.new.self c.args.slots.now.items c.load_for.new.slots.items) is c.in_ok-cell.ensures.ok) c.in_ok-cell.cell c.in_ok-cell.ensures.cell in
-    let there : IsLoadedFor c.args.self.now c.load_for.new.self c.args.slots.now.items c.load_for.new.slots.items t c.in_ok-cell.cell =
-    subst (λ (s : Stored). IsLoadedFor s c.load_for.new.self c.args.slots.now.items c.load_for.new.slots.items t c.in_ok-cell.cell) c.self.view_is k in
+    let k = loaded_for c.self.inside.heap c.load_part.new.heap c.args.slots.now.items c.load_part.new.slots.items t c.in_ok-cell.ensures.store slots
+    (subst (HasLoaded c.self.inside.heap c.load_part.new.heap c.args.slots.now.items c.load_part.new.slots.items) is c.in_ok-cell.ensures.ok) c.in_ok-cell.cell c.in_ok-cell.ensures.cell in
+    let there : IsLoadedFor c.args.self.now c.load_part.new.heap c.args.slots.now.items c.load_part.new.slots.items t c.in_ok-cell.cell =
+    subst (λ (s : Stored). IsLoadedFor s c.load_part.new.heap c.args.slots.now.items c.load_part.new.slots.items t c.in_ok-cell.cell) c.self.view_is k in
     there
 
 pub returns-clause-kept : goal.returns-clause-kept
@@ -34,10 +34,10 @@ returns-clause-kept c =
     let is : term_of c.symbols.result.now ≡ t = term_of_from_spelled c.symbols.result.now t c.symbols.ensures in
     let slots : AreSlots c.self.inside.heap.cells c.self.inside.heap.variables c.args.slots.now.items =
     subst (λ (s : Stored). AreSlots s.cells s.variables c.args.slots.now.items) (sym c.self.view_is) c.requires in
-    let k = loaded_for c.self.inside.heap c.load_for.new.self c.args.slots.now.items c.load_for.new.slots.items t c.in_ok-cell.ensures.store slots
-    (subst (HasLoaded c.self.inside.heap c.load_for.new.self c.args.slots.now.items c.load_for.new.slots.items) is c.in_ok-cell.ensures.ok) c.in_ok-cell.cell c.in_ok-cell.ensures.cell in
-    let there : IsLoadedFor c.args.self.now c.load_for.new.self c.args.slots.now.items c.load_for.new.slots.items t c.in_ok-cell.cell =
-    subst (λ (s : Stored). IsLoadedFor s c.load_for.new.self c.args.slots.now.items c.load_for.new.slots.items t c.in_ok-cell.cell) c.self.view_is k in
+    let k = loaded_for c.self.inside.heap c.load_part.new.heap c.args.slots.now.items c.load_part.new.slots.items t c.in_ok-cell.ensures.store slots
+    (subst (HasLoaded c.self.inside.heap c.load_part.new.heap c.args.slots.now.items c.load_part.new.slots.items) is c.in_ok-cell.ensures.ok) c.in_ok-cell.cell c.in_ok-cell.ensures.cell in
+    let there : IsLoadedFor c.args.self.now c.load_part.new.heap c.args.slots.now.items c.load_part.new.slots.items t c.in_ok-cell.cell =
+    subst (λ (s : Stored). IsLoadedFor s c.load_part.new.heap c.args.slots.now.items c.load_part.new.slots.items t c.in_ok-cell.cell) c.self.view_is k in
     there.gone.keeps
 
 pub returns-clause-more : goal.returns-clause-more
@@ -46,8 +46,8 @@ returns-clause-more c =
     let is : term_of c.symbols.result.now ≡ t = term_of_from_spelled c.symbols.result.now t c.symbols.ensures in
     let slots : AreSlots c.self.inside.heap.cells c.self.inside.heap.variables c.args.slots.now.items =
     subst (λ (s : Stored). AreSlots s.cells s.variables c.args.slots.now.items) (sym c.self.view_is) c.requires in
-    let k = loaded_for c.self.inside.heap c.load_for.new.self c.args.slots.now.items c.load_for.new.slots.items t c.in_ok-cell.ensures.store slots
-    (subst (HasLoaded c.self.inside.heap c.load_for.new.self c.args.slots.now.items c.load_for.new.slots.items) is c.in_ok-cell.ensures.ok) c.in_ok-cell.cell c.in_ok-cell.ensures.cell in
-    let there : IsLoadedFor c.args.self.now c.load_for.new.self c.args.slots.now.items c.load_for.new.slots.items t c.in_ok-cell.cell =
-    subst (λ (s : Stored). IsLoadedFor s c.load_for.new.self c.args.slots.now.items c.load_for.new.slots.items t c.in_ok-cell.cell) c.self.view_is k in
-    more_cells c.args.self.now c.load_for.new.self c.args.slots.now.items c.load_for.new.slots.items there.gone
+    let k = loaded_for c.self.inside.heap c.load_part.new.heap c.args.slots.now.items c.load_part.new.slots.items t c.in_ok-cell.ensures.store slots
+    (subst (HasLoaded c.self.inside.heap c.load_part.new.heap c.args.slots.now.items c.load_part.new.slots.items) is c.in_ok-cell.ensures.ok) c.in_ok-cell.cell c.in_ok-cell.ensures.cell in
+    let there : IsLoadedFor c.args.self.now c.load_part.new.heap c.args.slots.now.items c.load_part.new.slots.items t c.in_ok-cell.cell =
+    subst (λ (s : Stored). IsLoadedFor s c.load_part.new.heap c.args.slots.now.items c.load_part.new.slots.items t c.in_ok-cell.cell) c.self.view_is k in
+    more_cells c.args.self.now c.load_part.new.heap c.args.slots.now.items c.load_part.new.slots.items there.gone

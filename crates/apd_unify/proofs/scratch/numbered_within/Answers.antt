@@ -1,0 +1,29 @@
+use Rattle.std.proofs.Common.{◌∙◌, subst, sym}
+use Rattle.apd_term.specs.Canonical.{canonical_in}
+use Rattle.apd_term.proofs.Spelling.{whole_from_spelled, term_of_from_spelled}
+use Rattle.apd_cells.specs.Store.{term_at}
+use Rattle.apd_cells.specs.Ordered.{Writes, IsWritten, IsNumberedAnew}
+use Rattle.apd_cells.proofs.Placing.{numbered_anew}
+use Rattle.apd_unify.proofs.scratch.numbered_within.Goals as goal
+
+written : (c : goal.After-as_slice) → IsWritten c.scratch.inside.order c.write_within.new.order (term_at c.args.heap.now c.args.at) c.args.limit c.as_slice.result.now
+written c =
+    subst (IsWritten c.scratch.inside.order c.write_within.new.order (term_at c.args.heap.now c.args.at) c.args.limit) (sym c.as_slice.ensures.value)
+    (subst (λ b. Writes b c.scratch.inside.order c.write_within.new.order (term_at c.args.heap.now c.args.at) c.args.limit c.write_within.new.symbols.items)
+    c.if-not-written.false c.in_ok-written.ensures)
+
+pub copy_of-requires : goal.copy_of-requires
+copy_of-requires c =
+    let w = written c in
+    whole_from_spelled c.as_slice.result.now (canonical_in c.write_within.new.order (term_at c.args.heap.now c.args.at)) w.symbols_are
+
+pub returns : goal.returns
+returns c =
+    let w : IsWritten c.scratch.inside.order c.write_within.new.order (term_at c.args.heap.now c.args.at) c.args.limit c.as_slice.result.now =
+    subst (IsWritten c.scratch.inside.order c.write_within.new.order (term_at c.args.heap.now c.args.at) c.args.limit) (sym c.as_slice.ensures.value)
+    (subst (λ b. Writes b c.scratch.inside.order c.write_within.new.order (term_at c.args.heap.now c.args.at) c.args.limit c.write_within.new.symbols.items)
+    c.if-not-written.false c.in_ok-written.ensures) in
+    let t = term_at c.args.heap.now c.args.at in
+    let n = numbered_anew c.scratch.inside.order c.write_within.new.order t c.args.limit c.as_slice.result.now c.in_ok-term.term w
+    (c.in_ok-term.ensures ∙ term_of_from_spelled c.as_slice.result.now (canonical_in c.write_within.new.order t) w.symbols_are) in
+    subst (λ o. IsNumberedAnew o c.write_within.new.order t c.args.limit c.in_ok-term.term) c.scratch.view_is n

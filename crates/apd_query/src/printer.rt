@@ -1,6 +1,6 @@
 //! What a run is shown to: a printer of its lines.
 
-ghost use Rattle.std.specs.Prelude.{◌≡◌};
+ghost use Rattle.std.specs.Prelude.{◌≡◌, Ok};
 ghost use Rattle.apd_io.specs.Outside.{Counts};
 ghost use Rattle.apd_ports.specs.Hook.{is_write_fault};
 ghost use Rattle.apd_query.specs.Printing.{PrintsLine};
@@ -10,7 +10,7 @@ use apd_io::Sink;
 use apd_ports::{Admit, Event, Hook, HookFault};
 use apd_talk::Voice;
 use apd_term::Flat;
-use apd_text::{answer_line, port_line};
+use apd_text::{PortLine, answer_line};
 use std::alloc::AllocError;
 
 /// Prints the ports that a filter admits, and the answers with their numbers.
@@ -20,8 +20,23 @@ pub(crate) struct Printer<'v, 'q, 'a, 'l, 'k, K: Sink> {
     pub voice: &'v mut Voice<'l, 'k, K>,
     pub vars: &'q VarNames,
     pub admit: &'a mut Admit,
+    /// The line of the last port.
+    pub line: &'a mut PortLine,
     /// How many answers were printed.
     pub answers: u64,
+}
+
+/// Prints a line.
+fn print_text<K: Sink>(voice: &mut Voice<K>, text: &[u8]) -> Result<(), HookFault>
+    ensures line { PrintsLine voice.old.held voice.new.held (Ok text.now) result }
+    ensures log { voice.new.log ≡ voice.old.log }
+    ensures over { voice.new.over ≡ voice.old.over }
+    ensures cause { Counts is_write_fault voice.old.write_faults voice.new.write_faults result }
+{
+    match voice.print(text) {
+        Ok(()) => Ok(()),
+        Err(_) => Err(HookFault::WriteFault),
+    }
 }
 
 /// Prints a line, where there was memory for it.
@@ -37,10 +52,7 @@ fn print_line<K: Sink>(
     let Ok(text) = line else {
         return Err(HookFault::Memory);
     };
-    match voice.print(text.bytes()) {
-        Ok(()) => Ok(()),
-        Err(_) => Err(HookFault::WriteFault),
-    }
+    print_text(voice, text.bytes())
 }
 
 impl<K: Sink> Hook for Printer<'_, '_, '_, '_, '_, K> {
@@ -69,8 +81,10 @@ impl<K: Sink> Hook for Printer<'_, '_, '_, '_, '_, K> {
             Err(_) => return Err(HookFault::Memory),
         }
         let log = self.voice.log();
-        let line = port_line(self.voice.alloc(), &log.names, &log.ops, event);
-        print_line(self.voice, line)
+        match self.line.write(&log.names, &log.ops, event) {
+            Ok(()) => print_text(self.voice, self.line.bytes()),
+            Err(_) => Err(HookFault::Memory),
+        }
     }
 
     fn answer(&mut self, values: &Flat) -> Result<(), HookFault> {

@@ -22,7 +22,7 @@ use apd_io::Sink;
 use apd_ports::Admit;
 use apd_record::Record;
 use apd_talk::{Trouble, Voice};
-use apd_text::{Entry, end_line, head_line};
+use apd_text::{Entry, PortLine, end_line, head_line};
 
 /// Puts the entry of a run into the log, and prints its first line.
 fn begin_run<K: Sink>(state: &State, query: &Query, voice: &mut Voice<K>) -> Result<(), Trouble>
@@ -105,11 +105,14 @@ fn search<K: Sink>(
     ensures over { voice.new.over ≡ voice.old.over }
     ensures cause { HasWriteCause voice.old.write_faults voice.new.write_faults result }
 {
-    let mut admit = Admit::new(voice.alloc(), &state.filter)?;
+    let alloc = voice.alloc();
+    let mut admit = Admit::new(alloc, &state.filter)?;
+    let mut line = PortLine::new(alloc);
     let mut printer = Printer {
         voice,
         vars: &query.vars,
         admit: &mut admit,
+        line: &mut line,
         answers: 0,
     };
     show_to(state, query, &mut printer, history)

@@ -1,12 +1,12 @@
 //! The lines of a run.
 
-use apd_base::VarNames;
+use apd_base::{Text, VarNames};
 use apd_causes::{Query, Ran, RunEnd, RunError};
 use apd_clauses::goals_of;
 use apd_ports::{Event, Port};
 use apd_rows::{Scene, Trial, texts_of};
 use apd_term::{Flat, Tuple};
-use apd_text::{answer_line, end_line, head_line, port_line};
+use apd_text::{PortLine, answer_line, end_line, head_line};
 use std::alloc::{AllocError, Global};
 
 /// The box, its caller and its depth in each line of a port.
@@ -54,6 +54,14 @@ pub fn port_named(name: &str) -> Port {
     }
 }
 
+/// The line of a port.
+fn line_of(alloc: Global, scene: &Scene, event: &Event) -> Result<Text, AllocError> {
+    let Scene { names, ops } = scene;
+    let mut line = PortLine::new(alloc);
+    line.write(names, ops, event)?;
+    Text::copy_of(alloc, line.bytes())
+}
+
 /// Gives the line of a port.
 pub fn put_port(trial: &mut Trial) -> Option<()> {
     let atom = trial.term(1)?;
@@ -65,8 +73,7 @@ pub fn put_port(trial: &mut Trial) -> Option<()> {
         depth,
         atom,
     };
-    let Scene { names, ops } = &*trial.scene;
-    let line = port_line(trial.alloc, names, ops, &event);
+    let line = line_of(trial.alloc, &*trial.scene, &event);
     drop(event);
     trial.given.put_made_text(line);
     Some(())

@@ -12,7 +12,7 @@ use crate::lexeme::{Lexeme, Sort};
 use crate::variables::Variables;
 use apd_base::VarNames;
 use apd_term::{NameId, Names};
-use apd_token::{Kind, Token, content};
+use apd_token::{Kind, Token, bare_name, content};
 use std::alloc::{AllocError, Global};
 use std::mem::replace;
 
@@ -21,6 +21,23 @@ use std::mem::replace;
 pub(crate) struct Clause {
     pub lexemes: Vec<Lexeme>,
     pub vars: VarNames,
+}
+
+/// The name that a token without quotes is.
+fn bare(names: &mut Names, text: &[u8], token: &Token) -> Result<NameId, AllocError>
+    requires small { length text.now ≤ MAX_FILE }
+    requires utf8 { IsUtf8 text.now }
+    requires token { IsTokenOf text.now token.now }
+    requires kind { token.now.kind ≡ Kind.Name }
+    requires room { length names.old < MOST_NAMES }
+    ensures name { IfOk result (λ f. (v : List ℕ) ×
+        ContentOf token.now.kind (slice_range text.now token.now.start token.now.end) v ×
+        IsNameOf names.new f v) }
+    ensures named { IfOk result (λ f. f.0 < length names.new) }
+    ensures grown { GrowsBy 1 names.old names.new }
+{
+    let name = names.intern(bare_name(text, token))?;
+    Ok(name)
 }
 
 /// The name that a token's characters are.
@@ -64,7 +81,7 @@ fn sort_of(
     ensures grown { GrowsBy 1 names.old names.new }
 {
     match token.kind {
-        Kind::Name => Ok(Sort::Name(named(alloc, names, text, token)?)),
+        Kind::Name => Ok(Sort::Name(bare(names, text, token)?)),
         Kind::Quoted => Ok(Sort::Quoted(named(alloc, names, text, token)?)),
         Kind::Codes => {
             let value = content(alloc, text, token)?;
@@ -139,6 +156,9 @@ fn push_lexemes(
     Ok(())
 }
 
+/// There is room at once for so many lexemes of a clause.
+const USUAL: usize = 32;
+
 /// What the tokens of the clause that begins at a place stand for.
 pub(crate) fn lexemes(
     alloc: Global,
@@ -160,7 +180,7 @@ pub(crate) fn lexemes(
     ensures grown { IfOk result (λ c. GrowsBy (length c.lexemes.items) names.old names.new) }
     ensures kept { GrowsBy (length tokens.now - at) names.old names.new }
 {
-    let mut lexemes = Vec::new(alloc);
+    let mut lexemes = Vec::with_capacity(alloc, USUAL)?;
     let mut vars = Variables::new(alloc);
     match push_lexemes(alloc, names, text, tokens, at, &mut lexemes, &mut vars) {
         Ok(()) => {

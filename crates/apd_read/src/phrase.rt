@@ -130,7 +130,7 @@ fn highest(phrases: &[Phrase]) -> u16
 fn terms(alloc: Global, phrases: Vec<Phrase>) -> Result<Atoms, AllocError>
     ensures { IfOk result (λ ts. ts ≡ terms_in phrases.items) }
 {
-    let mut terms = Atoms::new(alloc);
+    let mut terms = Atoms::of_items(Vec::with_capacity(alloc, phrases.len())?);
     'phrases: for p in phrases {
         terms.push(p.term)?;
     }
@@ -157,11 +157,12 @@ pub(crate) fn call(
     })
 }
 
-/// The list of the terms, which ends with a tail.
+/// The list of the terms, which ends with a tail. There is room at once for elements of one symbol each.
 pub(crate) fn list_term(alloc: Global, terms: &[Flat], tail: &Flat) -> Result<Flat, AllocError>
     ensures { IfOk result (λ r. r ≡ list_term terms.now tail.now) }
 {
-    let mut spelled = Syms::new(alloc);
+    let room = terms.len().saturating_mul(2).saturating_add(1);
+    let mut spelled = Syms::of_items(Vec::with_capacity(alloc, room)?);
     'terms: for t in terms {
         spelled.push(Sym::Fun(CELL, 2))?;
         spelled.extend(t.symbols())?;

@@ -20,4 +20,4 @@ pub use bytes::{Class, Escape, Mark, Set, is_graphic, is_small, is_word};
 pub use found::Found;
 pub use items::{Kind, Token, Tokens};
 pub use scanner::{every_text_divides, one_division, tokens};
-pub use texts::{content, one_content};
+pub use texts::{bare_name, content, one_content};

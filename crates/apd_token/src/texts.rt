@@ -75,6 +75,17 @@ pub fn content(alloc: Global, text: &[u8], token: &Token) -> Result<Text, AllocE
     }
 }
 
+/// The bytes of a name without quotes, which stands for them.
+pub fn bare_name<'t>(text: &'t [u8], token: &Token) -> &'t [u8]
+    requires small { length text.now ≤ MAX_FILE }
+    requires token { IsTokenOf text.now token.now }
+    requires kind { token.now.kind ≡ Kind.Name }
+    ensures bytes { result.now ≡ slice_range text.now token.now.start token.now.end }
+    ensures utf8 { IsUtf8 text.now → IsUtf8 result.now }
+{
+    &text[token.start as usize..token.end as usize]
+}
+
 /// The law of one content: an item stands for one text.
 pub fn one_content()
     ensures { (k : Kind) (bytes u v : List ℕ) → HasText k → ContentOf k bytes u →

@@ -7,12 +7,11 @@ ghost use Rattle.indexmap.specs.IndexMap.{keys};
 ghost use Rattle.apd_term.specs.Matching.{is_instance};
 ghost use Rattle.apd_answers.specs.Questions.{with_values, canonical_question, Fits};
 ghost use Rattle.apd_answers.specs.declared.question.Question.TheVariants.{True};
-ghost use Rattle.apd_answers.specs.declared.question.Reply.TheVariants.{Unknown};
 ghost use Rattle.apd_answers.specs.Fitting.{AllFit};
 ghost use Rattle.apd_answers.specs.Once.{AreListedOnce, AreOnce};
 ghost use Rattle.apd_marks.specs.Places.{places_of};
 ghost use Rattle.apd_answers.specs.Marks.{mark_of, replied_mark};
-ghost use Rattle.apd_answers.specs.Store.{told_of_truth, decided_in, decided, is_doubted, empty_store, with_pair, same_question, is_kept};
+ghost use Rattle.apd_answers.specs.Store.{told_of_truth, decided_in, decided, empty_store, with_pair, same_question, is_kept, is_kept_as};
 ghost use Rattle.apd_answers.specs.Tellers.{IsFirstTold, IsNarrow, tellers};
 ghost use Rattle.apd_term.specs.Term.{predicate_of};
 ghost use Rattle.apd_cells.specs.First.{key_of};
@@ -21,7 +20,7 @@ ghost use Rattle.apd_answers.specs.Trust.{with_trust};
 
 use crate::kept::{copied, is_kept, marks_of, put_pair, reply_to};
 use crate::marks::{mark_of_form, with_reply};
-use crate::question::{Question, Reply};
+use crate::question::{Question, Reply, is_own_form};
 use crate::same::same_question;
 use crate::tellers::{
     ANY_ATOM, Teller, VARIABLE, earlier, first_told, is_narrow, mark_of_atoms, reply_in,
@@ -312,13 +311,32 @@ impl Answers {
         ensures ok { OnOk result (self.new ≡ with_pair self.old question.now reply.now) }
         ensures err { OnErr result (self.new ≡ self.old) }
     {
+        if is_own_form(question) {
+            return self.add_as(question, question, reply);
+        }
         let form = question.canonical(self.alloc)?;
-        let marks = marks_of(&form, question, reply);
-        let pairs = self.pairs.as_slice();
-        let places = self.replied_of(marks.replied);
-        let kept = is_kept(self.alloc, pairs, places, &form, reply);
+        let added = self.add_as(&form, question, reply);
         // Dropped by a call: else each part of it is a step to check, at each end of the function.
         drop(form);
+        added
+    }
+
+    /// The same of a question that has this canonical form.
+    fn add_as(
+        &mut self,
+        form: &Question,
+        question: &Question,
+        reply: &Reply,
+    ) -> Result<(), AllocError>
+        requires form { form.now ≡ canonical_question question.now }
+        requires fits { Fits question.now reply.now }
+        ensures ok { OnOk result (self.new ≡ with_pair self.old question.now reply.now) }
+        ensures err { OnErr result (self.new ≡ self.old) }
+    {
+        let marks = marks_of(form, question, reply);
+        let pairs = self.pairs.as_slice();
+        let places = self.replied_of(marks.replied);
+        let kept = is_kept(self.alloc, pairs, places, form, reply);
         if kept? {
             return Ok(());
         }
@@ -339,17 +357,19 @@ impl Answers {
     pub fn has(&self, question: &Question, reply: &Reply) -> Result<bool, AllocError>
         ensures { IfOk result (λ b. b ≡ is_kept self.now question.now reply.now) }
     {
+        if is_own_form(question) {
+            return self.has_form(question, reply);
+        }
         let form = question.canonical(self.alloc)?;
-        let places = self.replied_of(with_reply(mark_of_form(&form), reply));
-        is_kept(self.alloc, self.pairs.as_slice(), places, &form, reply)
+        self.has_form(&form, reply)
     }
 
-    /// Whether the reply Unknown is kept to whether an atom with the same canonical form is true.
-    pub fn unknown(&self, atom: &Flat) -> Result<bool, AllocError>
-        ensures { IfOk result (λ b. b ≡ is_doubted self.now atom.now) }
+    /// The same of a question that is in canonical form.
+    fn has_form(&self, form: &Question, reply: &Reply) -> Result<bool, AllocError>
+        ensures { IfOk result (λ b. b ≡ is_kept_as self.now.pairs form.now reply.now) }
     {
-        let question = Question::True(atom.copy(self.alloc)?);
-        self.has(&question, &Reply::Unknown)
+        let places = self.replied_of(with_reply(mark_of_form(form), reply));
+        is_kept(self.alloc, self.pairs.as_slice(), places, form, reply)
     }
 
     /// The predicates that are trusted, in the order in which they came.

@@ -387,6 +387,7 @@ impl Heap {
     }
 
     /// Takes back all that was done since the trail had so many notes.
+    #[inline(always)]
     pub fn undo(&mut self, mark: usize)
         requires { mark ≤ length self.old.trail }
         ensures { self.new ≡ at_mark mark self.old }

@@ -43,6 +43,7 @@ pub fn slot_at(slots: &[Slot], v: u64) -> Slot
 }
 
 /// Makes room for what stands for a variable.
+#[inline(always)]
 fn make_slot(slots: &mut Vec<Slot>, v: u64) -> Result<(), AllocError>
     ensures room { OnOk result (v < length slots.new.items) }
     ensures same { HasRoom slots.old.items slots.new.items }
@@ -112,29 +113,6 @@ fn append_placed(
     Ok(count)
 }
 
-/// The same as [`place`] gives. It stands twice since a function that is called once is compiled into the loop that calls it.
-fn place_one(
-    cells: &[Sym],
-    slots: &mut Vec<Slot>,
-    symbol: Sym,
-    variables: usize,
-) -> Result<Sym, AllocError>
-    requires { AreSlots cells.now variables slots.old.items }
-    ensures { IfOk result (Places cells.now variables slots.old.items slots.new.items symbol) }
-{
-    let Sym::Var(v) = symbol else {
-        return Ok(symbol);
-    };
-    match slot_at(slots.as_slice(), v) {
-        Slot::New => {
-            set_slot(slots, v, Slot::Own(cells.len()))?;
-            Ok(Sym::Var(variables as u64))
-        }
-        Slot::Own(cell) => Ok(cells[cell]),
-        Slot::Given(cell) => Ok(cells[cell]),
-    }
-}
-
 /// What is put for the next symbols of a clause's term: the symbol of a stretch that was found, or that for one symbol.
 fn place_next(
     cells: &[Sym],
@@ -157,7 +135,7 @@ fn place_next(
             return Ok(stretch);
         }
     }
-    let symbol = place_one(cells, slots, symbols[at], variables)?;
+    let symbol = place(cells, slots, symbols[at], variables)?;
     Ok(Stretch {
         from: at,
         size: 1,

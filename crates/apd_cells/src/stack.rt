@@ -1,6 +1,6 @@
 //! A stack.
 
-ghost use Rattle.std.specs.Prelude.{◌≡◌, ◌∷◌, [], length, drop, reverse, slice_get, Some, OnOk, OnErr, IfSome, MatchOption};
+ghost use Rattle.std.specs.Prelude.{◌≡◌, ◌∷◌, ◌<◌, [], length, drop, reverse, slice_get, vec_len, vec_capacity, Some, OnOk, OnErr, IfSome, MatchOption};
 
 use std::alloc::{AllocError, Global};
 use std::marker::Model;
@@ -19,6 +19,20 @@ impl<T> Model for Stack<T> {
     ghost view = { λ s. reverse s.oldest_first.items };
 }
 
+/// Room for one more element in a vector. Where it is there, as it mostly is, that takes a comparison: a step of a search
+/// pushes on several vectors, and each push would be a call.
+#[inline(always)]
+pub fn room_for_one<T>(v: &mut Vec<T>) -> Result<(), AllocError>
+    ensures items { v.new.items ≡ v.old.items }
+    ensures len { vec_len v.new ≡ vec_len v.old }
+    ensures room { OnOk result (vec_len v.new < vec_capacity v.new) }
+{
+    if v.len() < v.capacity() {
+        return Ok(());
+    }
+    v.reserve(1)
+}
+
 impl<T> Stack<T> {
     pub fn new(alloc: Global) -> Stack<T>
         ensures { result ≡ [] }
@@ -28,13 +42,15 @@ impl<T> Stack<T> {
         }
     }
 
+    #[inline(always)]
     pub fn push(&mut self, x: T) -> Result<(), AllocError>
     where
         T: Drop,
         ensures ok { OnOk result (self.new ≡ x ∷ self.old) }
         ensures err { OnErr result (self.new ≡ self.old) }
     {
-        self.oldest_first.push(x)?;
+        room_for_one(&mut self.oldest_first)?;
+        self.oldest_first.push_reserved(x);
         Ok(())
     }
 

@@ -14,6 +14,7 @@ use apd_term::{Flat, Sym};
 use std::alloc::AllocError;
 
 /// Free variables behind those that are there, until there are so many.
+#[inline(always)]
 pub(crate) fn make_room(bindings: &mut Vec<KeptBinding>, count: usize) -> Result<(), AllocError>
     ensures more { HasMore bindings.old.items bindings.new.items }
     ensures ok { OnOk result

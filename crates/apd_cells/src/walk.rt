@@ -147,6 +147,7 @@ impl Walk {
     }
 
     /// Passes the next symbol; none where the walk is at its end.
+    #[inline(always)]
     pub fn next(&mut self, heap: &Heap) -> Result<Option<Sym>, AllocError>
         requires { IsWalk heap.now.cells self.old }
         ensures right { OnOk result (IsWalk heap.now.cells self.new) }

@@ -1,14 +1,16 @@
 //! The clauses of a goal's predicate, and the first of them that can be entered.
 
-ghost use Rattle.std.specs.Prelude.{◌≡◌, ◌<◌, ◌≤◌, length, IfOk};
+ghost use Rattle.std.specs.Prelude.{◌≡◌, ◌<◌, ◌≤◌, length, IfOk, OnOk};
 ghost use Rattle.apd_term.specs.Term.{predicate_of};
 ghost use Rattle.apd_clauses.specs.Clauses.{IsProgram, tuples_of};
 ghost use Rattle.apd_trace.specs.declared.frame.Called.{Called};
 ghost use Rattle.apd_frames.specs.Kept.{Calls, MayCall};
 ghost use Rattle.apd_following.specs.Followed.{kept_of};
-ghost use Rattle.apd_engine.specs.Search.{Found, OfGoal, PassesBy, Skips, numbers_by};
+ghost use Rattle.apd_engine.specs.Search.{Found, OfGoal, PassesBy, Postpones, Skips, numbers_by};
 
+use crate::search::Choice;
 use apd_cells::first::{are_clashing, key_of};
+use apd_cells::stack::Stack;
 use apd_clauses::Program;
 use apd_following::following::Following;
 use apd_term::{Pred, Sym};
@@ -45,6 +47,7 @@ fn near(program: &Program, pred: Option<Pred>, key: Sym, from: usize, count: usi
 
 /// The place of the first of a predicate's clauses, which have these numbers, from this one on, that doesn't begin
 /// otherwise than the key says; or how many there are.
+#[inline(always)]
 fn next(program: &Program, pred: Option<Pred>, key: Sym, numbers: &[u32], from: usize) -> usize
     requires { numbers.now ≡ numbers_by pred program.now }
     ensures forward { from ≤ result }
@@ -63,6 +66,7 @@ fn next(program: &Program, pred: Option<Pred>, key: Sym, numbers: &[u32], from: 
 
 /// Enters the first of these clauses, which are of this predicate, from this index on that can be entered for the goal
 /// called in this box, and tells its index, or how many there are.
+#[inline(always)]
 pub fn find(
     frames: &mut Following,
     alloc: Global,
@@ -96,4 +100,26 @@ pub fn find(
         at = next(program, pred, key, numbers, at + 1);
     }
     Ok(at)
+}
+
+/// The greatest index that is kept.
+const MOST: usize = 4_294_967_295;
+
+/// The clauses of the goal called in this box wait from this index on, or its Fail where there is none.
+#[inline(always)]
+pub fn postpone(
+    stack: &mut Stack<Choice>,
+    box_no: u32,
+    next: usize,
+    count: usize,
+) -> Result<(), AllocError>
+    ensures { OnOk result (Postpones box_no next count stack.old stack.new) }
+{
+    if next < count {
+        if next > MOST {
+            return Err(AllocError);
+        }
+        return stack.push(Choice::Alternatives(box_no, next as u32));
+    }
+    stack.push(Choice::Closing(box_no))
 }

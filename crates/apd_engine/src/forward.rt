@@ -16,6 +16,7 @@ use std::boxed::Box;
 
 impl Search {
     /// The innermost frame calls its next goal, or exits, or answers.
+    #[inline(always)]
     pub fn forward(&mut self, alloc: Global, unread: Unread) -> Result<Given, AllocError>
         requires boxes { self.old.boxes < 2 ^ 32 - 1 }
         requires waits { Waits (stand self.old) }
@@ -42,6 +43,7 @@ impl Search {
     }
 
     /// The innermost frame calls its next goal.
+    #[inline(always)]
     fn call(&mut self, alloc: Global, unread: Unread) -> Result<Given, AllocError>
         requires boxes { self.old.boxes < 2 ^ 32 - 1 }
         requires waits { Waits (stand self.old) }
@@ -90,6 +92,7 @@ impl Search {
     }
 
     /// The same where somebody reads ports.
+    #[inline(always)]
     fn read_call(&mut self, alloc: Global, unread: Unread) -> Result<Option<Box<Item>>, AllocError>
         requires boxes { self.old.boxes < 2 ^ 32 - 1 }
         requires goes { IsOpen self.old.boxes self.old.frames.current }
@@ -106,6 +109,7 @@ impl Search {
     }
 
     /// The innermost frame's next goal is called, in a new box.
+    #[inline(always)]
     fn step_in(&mut self) -> Result<(), AllocError>
         requires { self.old.boxes < 2 ^ 32 - 1 }
         ensures called { OnOk result (stand self.new ≡ called_at (stand self.old)) }
@@ -119,6 +123,7 @@ impl Search {
     }
 
     /// The innermost frame is left at this exit.
+    #[inline(always)]
     fn exit(&mut self, exit: u32) -> Result<(), AllocError>
         ensures left { OnOk result (stand self.new ≡ left_at (stand self.old) exit) }
         ensures tuples { OnOk result (self.new.frames.tuples ≡ self.old.frames.tuples) }
@@ -131,6 +136,7 @@ impl Search {
     }
 
     /// The innermost frame exits, or answers, which is given whole.
+    #[inline(never)]
     fn ends(&mut self, alloc: Global) -> Result<Given, AllocError>
         requires boxes { self.old.boxes < 2 ^ 32 - 1 }
         requires waits { Waits (stand self.old) }

@@ -64,6 +64,7 @@ pub fn whole(alloc: Global, item: Item) -> Result<Given, AllocError>
 }
 
 /// The error of an instance that is too large.
+#[inline(never)]
 pub fn too_large(alloc: Global, box_no: u32) -> Result<Given, AllocError>
     ensures { IfOk result (λ given. IsWhole given (Item.Error RunError.Size box_no)) }
 {
@@ -95,6 +96,7 @@ pub fn is_user(pred: Option<Pred>) -> bool
 
 /// Whether the innermost frame's instance isn't too large for a point. Where points are read it is then kept, and the point
 /// is held.
+#[inline(always)]
 pub fn made(
     frames: &mut Following,
     before: Option<Step>,
@@ -137,6 +139,7 @@ pub fn of_point(unread: Unread) -> Given
 }
 
 /// A port of the box that the innermost frame leaves, and the frame's newest point.
+#[inline(always)]
 pub fn leaving(
     frames: &mut Following,
     alloc: Global,
@@ -160,6 +163,7 @@ pub fn leaving(
 }
 
 /// Fail of the goal that the frames call in this box; what was saved for it is given up.
+#[inline(always)]
 pub fn fail(
     frames: &mut Following,
     alloc: Global,

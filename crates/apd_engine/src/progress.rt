@@ -141,6 +141,7 @@ impl Progress {
     }
 
     /// Passes the next item; or tells how the run ended, where it passes no more after this.
+    #[inline(always)]
     fn pass<H: Hook>(
         &mut self,
         alloc: Global,
@@ -200,7 +201,8 @@ impl Progress {
         }
     }
 
-    /// Passes items until the run ends, and tells how.
+    /// Passes items until the run ends, and tells how. It is a function of its own, so that its loop has the registers.
+    #[inline(never)]
     pub fn pass_all<H: Hook>(
         &mut self,
         alloc: Global,

@@ -4,6 +4,7 @@ use Rattle.std.proofs.lemmas.Bool.{OnTrue_at, OnTrue_from}
 use Rattle.apd_cells.specs.Stored.{Stored}
 use Rattle.apd_cells.specs.Store.{at_mark, IsSound, Keeps}
 use Rattle.apd_cells.proofs.Keeping.{at_mark-at_mark, length-before}
+use Rattle.apd_cells.proofs.Undoing.{at_mark-here}
 use Rattle.apd_past.specs.declared.mirror.Mirror.{Mirror}
 use Rattle.apd_past.specs.Follows.{Follows}
 use Rattle.apd_past.specs.Live.{MayCatchUp}
@@ -70,3 +71,11 @@ begun m s none e f sound is = record {
   here = omega arith;
   same = subst (λ z. at_mark 0 z ≡ at_mark 0 s) (sym e) (sym (is ∙ e));
 }
+
+-- nothing was done that it hasn't followed
+pub level : (t : Tie) (s : Stored) → MayCatchUp t.mirror s t.followed → length s.trail ≤ t.followed → length t.mirror.notes ≤ t.followed → Follows t.mirror s
+level t s h all back =
+    let n = ap length h.follows.notes_are in
+    let is : h.earlier ≡ s =
+    sym (at_mark-here t.followed h.earlier (omega (arith, n, back))) ∙ h.same ∙ at_mark-here t.followed s all in
+    subst (Follows t.mirror) is h.follows

@@ -17,6 +17,7 @@ use apd_unify::store::{Cell, Store};
 use std::alloc::AllocError;
 
 /// The size of a goal that is kept alone, where it is asked for, unless it is larger than an instance may be.
+#[inline(always)]
 pub fn fact_of_goal(store: &Store, goal: Cell, is_sized: bool) -> Result<Fact, AllocError>
     requires { goal.0 < length store.now.cells }
     ensures { IfOk result (λ f. Holds f (canonical_tuple (tuple_of store.now goal []))) }

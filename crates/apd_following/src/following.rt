@@ -70,6 +70,7 @@ pub struct KeptFrame {
 
 /// Keeps the tuple at a head's cell and at goals' cells of the store that is followed, with what is known of
 /// it, and tells its number and how many goals it has.
+#[inline(always)]
 fn keep_at(
     tie: &mut Tie,
     spots: &mut Spots,
@@ -152,6 +153,7 @@ impl Following {
 
     /// Whether the innermost frame's instance is small enough for a point. No term is written. Sizes of long terms are kept on
     /// the way, so that later looks needn't count them.
+    #[inline(never)]
     pub fn measure(&mut self) -> Result<bool, AllocError>
         ensures fits { IfOk result (λ b. b ≡ fits self.old.current) }
         ensures kept { self.new ≡ self.old }
@@ -161,6 +163,7 @@ impl Following {
     }
 
     /// What is seen of the innermost frame's instance, of its variables too where that is asked for.
+    #[inline(always)]
     fn measured(&mut self, looks: bool) -> Result<Measure, AllocError>
         ensures measured { IfOk result (λ m. MeasuresInnermost m self.old.current) }
         ensures kept { self.new ≡ self.old }
@@ -169,6 +172,7 @@ impl Following {
     }
 
     /// The predicate of the innermost frame's next goal; none where it calls none.
+    #[inline(always)]
     pub fn predicate(&self) -> Option<Pred>
         ensures { (n : ℕ) (g : Called) → Calls self.now.current n g →
             result ≡ predicate_of g.atom }
@@ -178,6 +182,7 @@ impl Following {
 
     /// What the first argument of the innermost frame's next goal begins with; a variable where
     /// nothing is known of it.
+    #[inline(always)]
     pub fn key(&self) -> Sym
         ensures { IsKey result self.now.current }
     {
@@ -185,6 +190,7 @@ impl Following {
     }
 
     /// Enters a clause for the innermost frame's next goal, called in this box, where it can.
+    #[inline(always)]
     pub fn enter(
         &mut self,
         alloc: Global,
@@ -205,6 +211,7 @@ impl Following {
     }
 
     /// Solves the innermost frame's next goal, called in this box, if it is built in.
+    #[inline(always)]
     pub fn solve(&mut self, alloc: Global, box_no: u32, point: u32) -> Result<Solved, AllocError>
         requires { MayCall self.old.current }
         ensures alike { IfOk result (λ r. (g : Called) →
@@ -229,6 +236,7 @@ impl Following {
     }
 
     /// The innermost frame takes over an exit.
+    #[inline(always)]
     pub fn take_over(&mut self, point: u32) -> Result<(), AllocError>
         requires { Takes self.old.current }
         ensures taken { OnOk result (self.new ≡ record {
@@ -242,6 +250,7 @@ impl Following {
     }
 
     /// Saves the frames for a choice.
+    #[inline(always)]
     pub fn save(&mut self) -> Result<(), AllocError>
         ensures saved { OnOk result (self.new ≡ record {
           current = self.old.current;
@@ -254,6 +263,7 @@ impl Following {
     }
 
     /// Goes back to the frames as they were at the newest choice. They stay saved.
+    #[inline(always)]
     pub fn restore(&mut self)
         requires { 0 < length self.old.saved }
         ensures current { self.old.saved
@@ -279,6 +289,7 @@ impl Following {
 
     /// Keeps the innermost frame's instance, and tells of the frame; none exactly where it is too
     /// large.
+    #[inline(always)]
     pub fn keep(&mut self) -> Result<Option<KeptFrame>, AllocError>
         requires { 0 < length self.old.current }
         ensures frames { kept_of self.new ≡ kept_of self.old }
@@ -317,6 +328,7 @@ impl Following {
     }
 
     /// Keeps the innermost frame's instance, of which this is known, and tells of the frame.
+    #[inline(always)]
     fn keep_with(&mut self, fact: Fact) -> Result<KeptFrame, AllocError>
         requires some { 0 < length self.old.current }
         requires fact { HoldsInnermost fact self.old.current }
@@ -342,6 +354,7 @@ impl Following {
 
     /// Keeps the innermost frame's next goal alone, with its size where that is asked for, and tells its number; none
     /// where it calls none.
+    #[inline(always)]
     pub fn keep_goal(&mut self, is_sized: bool) -> Result<Option<u32>, AllocError>
         ensures frames { kept_of self.new ≡ kept_of self.old }
         ensures kept { IfOk result

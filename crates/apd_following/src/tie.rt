@@ -1,6 +1,7 @@
 //! A mirror that follows a store from time to time.
 
-ghost use Rattle.std.specs.Prelude.{◌≡◌, OnOk, [], min};
+ghost use Rattle.std.specs.Prelude.{◌≡◌, OnOk, [], length, min};
+ghost use Rattle.std.specs.Bool.{OnTrue};
 ghost use Rattle.apd_cells.specs.Stored.{Stored};
 ghost use Rattle.apd_cells.specs.Store.{at_mark, IsSound};
 ghost use Rattle.apd_past.specs.Follows.{Follows};
@@ -44,12 +45,30 @@ impl Tie {
         }
     }
 
-    /// Catches up with the store. What was at earlier moments stays.
-    pub fn catch_up(&mut self, store: &Store) -> Result<(), AllocError>
+    /// Whether it has followed all that was done to a store whose trail has so many notes. False says nothing.
+    fn is_level(&self, notes: usize) -> bool
+        ensures { (s : Stored) → notes ≡ length s.trail → IsTied self.now s →
+            OnTrue result (Follows self.now.mirror s) }
+    {
+        if !self.holds {
+            return false;
+        }
+        if self.followed < notes {
+            return false;
+        }
+        if self.followed < self.mirror.notes.len() {
+            return false;
+        }
+        true
+    }
+
+    /// Catches up with the store, as [`Tie::catch_up`] does. It is a function of its own, as there is mostly nothing to
+    /// follow.
+    #[inline(never)]
+    fn follow(&mut self, store: &Store) -> Result<(), AllocError>
         requires { IsTied self.old store.now }
         ensures tied { IsTied self.new store.now }
         ensures follows { OnOk result (Follows self.new.mirror store.now) }
-        ensures sound { OnOk result (IsSound store.now) }
         ensures kept { KeepsMoments self.old.mirror.past self.new.mirror.past }
     {
         if !self.holds {
@@ -61,6 +80,22 @@ impl Tie {
         self.followed = live.notes.len();
         self.holds = true;
         Ok(())
+    }
+
+    /// Catches up with the store. What was at earlier moments stays.
+    #[inline(always)]
+    pub fn catch_up(&mut self, store: &Store) -> Result<(), AllocError>
+        requires { IsTied self.old store.now }
+        ensures tied { IsTied self.new store.now }
+        ensures follows { OnOk result (Follows self.new.mirror store.now) }
+        ensures sound { OnOk result (IsSound store.now) }
+        ensures kept { KeepsMoments self.old.mirror.past self.new.mirror.past }
+    {
+        let live = store.live();
+        if self.is_level(live.notes.len()) {
+            return Ok(());
+        }
+        self.follow(store)
     }
 
     /// The store went back to an earlier mark.

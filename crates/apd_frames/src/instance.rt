@@ -246,6 +246,7 @@ fn instantiate_small(
 /// instance is of the goal's own cell, which has the head's term then, and of the cells of the clause's goals, which stand
 /// alone in `made`. The clause's canonical form is taken where its variables have great numbers. After false or want of
 /// memory more terms may be there, and some variables may be bound.
+#[inline(always)]
 pub fn instantiate(
     store: &mut Store,
     made: &mut Made,

@@ -196,6 +196,7 @@ impl Linked {
 
     /// The same, and where that is asked for and all goals are solved, whether it has variables. Sizes of long terms are
     /// kept on the way, so that later looks needn't count them.
+    #[inline(always)]
     pub fn measure(&mut self, looks: bool) -> Result<Measure, AllocError>
         requires { AreFramed self.old }
         ensures measured { IfOk result
@@ -209,6 +210,7 @@ impl Linked {
     }
 
     /// The predicate of the innermost frame's next goal; none where it calls none.
+    #[inline(always)]
     pub fn predicate(&self) -> Option<Pred>
         requires { AreFramed self.now }
         ensures { (n : ℕ) (g : Called) → Calls (frames_of self.now).current n g →
@@ -220,6 +222,7 @@ impl Linked {
 
     /// What the first argument of the innermost frame's next goal begins with; a variable where
     /// nothing is known of it.
+    #[inline(always)]
     pub fn key(&self) -> Sym
         requires { AreFramed self.now }
         ensures { IsKey result (frames_of self.now).current }
@@ -231,6 +234,7 @@ impl Linked {
     }
 
     /// Enters a clause for the innermost frame's next goal, called in this box, where it can.
+    #[inline(always)]
     pub fn enter(
         &mut self,
         alloc: Global,
@@ -265,6 +269,7 @@ impl Linked {
     }
 
     /// Solves the innermost frame's next goal, called in this box, if it is built in.
+    #[inline(always)]
     pub fn solve(&mut self, alloc: Global, box_no: u32, point: u32) -> Result<Solved, AllocError>
         requires framed { AreFramed self.old }
         requires deep { MayCall (frames_of self.old).current }
@@ -324,6 +329,7 @@ impl Linked {
     }
 
     /// Saves the frames for a choice.
+    #[inline(always)]
     pub fn save(&mut self) -> Result<(), AllocError>
         requires { AreFramed self.old }
         ensures framed { AreFramed self.new }

@@ -6,6 +6,7 @@ ghost use Rattle.apd_frames.specs.Linked.{entered_link, numbered, oldest, Hands,
 ghost use Rattle.apd_frames.specs.Kept.{IsIn};
 ghost use Rattle.apd_trace.specs.declared.frame.Called.{Called};
 
+use apd_cells::stack::room_for_one;
 use apd_unify::store::{Cell, Mark};
 use std::alloc::{AllocError, Global};
 use std::marker::Model;
@@ -89,34 +90,27 @@ impl Model for Links {
 /// The greatest number that is kept.
 const MOST: usize = 4_294_967_295;
 
-/// The number as it is kept; want of memory where it is too great.
-fn narrow(n: usize) -> Result<u32, AllocError>
-    ensures { IfOk result (λ k. k ≡ n) }
-{
-    if n > MOST {
-        return Err(AllocError);
-    }
-    Ok(n as u32)
-}
-
 /// The row of a link whose goals' cells are put behind so many others.
+#[inline(always)]
 fn row_of(link: &LinkRef<'_>, cells: usize) -> Result<Row, AllocError>
     ensures { IfOk result (λ r. r ≡ row_of link.now cells) }
 {
-    let from = narrow(cells)?;
-    let goals = narrow(link.goals.len())?;
-    let to = narrow(from as usize + goals as usize)?;
+    let goals = link.goals.len();
+    if goals > MOST || cells > MOST - goals || link.head.0 > MOST || link.around > MOST {
+        return Err(AllocError);
+    }
+    let to = (cells + goals) as u32;
     Ok(Row {
         box_no: link.box_no,
         depth: link.depth,
         clause: link.clause,
-        head: narrow(link.head.0)?,
-        from,
+        head: link.head.0 as u32,
+        from: cells as u32,
         to,
         cells: to,
         done: link.done,
         point: link.point,
-        around: narrow(link.around)?,
+        around: link.around as u32,
     })
 }
 
@@ -178,13 +172,13 @@ impl KeptBranch {
     pub fn of(branch: Branch) -> Result<KeptBranch, AllocError>
         ensures { IfOk result (λ b. b ≡ branch) }
     {
-        let mark = narrow(branch.mark.0)?;
-        let links = narrow(branch.links)?;
-        let innermost = narrow(branch.innermost)?;
+        if branch.mark.0 > MOST || branch.links > MOST || branch.innermost > MOST {
+            return Err(AllocError);
+        }
         Ok(KeptBranch {
-            mark,
-            links,
-            innermost,
+            mark: branch.mark.0 as u32,
+            links: branch.links as u32,
+            innermost: branch.innermost as u32,
         })
     }
 
@@ -243,6 +237,7 @@ impl Links {
     }
 
     /// The link with this number.
+    #[inline(always)]
     pub fn get(&self, number: usize) -> Option<LinkRef<'_>>
         ensures { MatchOption result
             (numbered self.now number ≡ None)
@@ -255,6 +250,7 @@ impl Links {
     }
 
     /// Puts a link behind the others, and tells its number.
+    #[inline(always)]
     pub fn push(&mut self, link: &LinkRef<'_>) -> Result<usize, AllocError>
         ensures ok { OnOk result (self.new ≡ link_of link.now ∷ self.old) }
         ensures number { IfOk result (λ n. n ≡ length self.old + 1) }
@@ -262,12 +258,14 @@ impl Links {
     {
         let row = row_of(link, self.cells.len())?;
         self.cells.extend_from_slice(link.goals)?;
-        self.oldest_first.push(row)?;
+        room_for_one(&mut self.oldest_first)?;
+        self.oldest_first.push_reserved(row);
         Ok(self.oldest_first.len())
     }
 
     /// Puts the link with this number behind the others once more, with one more goal solved, at a
     /// point, and tells its new number; none where no link has this number.
+    #[inline(always)]
     pub fn push_handed(&mut self, number: usize, point: u32) -> Result<Option<usize>, AllocError>
         requires { MayHand self.old number }
         ensures ok { IfOk result (λ o. Hands o self.old self.new number point) }
@@ -276,12 +274,18 @@ impl Links {
         let Some(row) = row_at(self.oldest_first.as_slice(), number) else {
             return Ok(None);
         };
-        let cells = narrow(self.cells.len())?;
-        self.oldest_first.push(handed(row, cells, point))?;
+        let cells = self.cells.len();
+        if cells > MOST {
+            return Err(AllocError);
+        }
+        room_for_one(&mut self.oldest_first)?;
+        self.oldest_first
+            .push_reserved(handed(row, cells as u32, point));
         Ok(Some(self.oldest_first.len()))
     }
 
     /// Keeps the oldest links, so many of them.
+    #[inline(always)]
     pub fn keep(&mut self, count: usize)
         requires { count ≤ length self.old }
         ensures { self.new ≡ oldest count self.old }

@@ -42,6 +42,7 @@ impl Measure {
 /// What is seen of a link's instance. Where its variables aren't looked for, or some goal isn't solved, no symbol is passed
 /// if the store tells that no term is long; before all goals are solved most instances have variables. Nor are they
 /// looked for in a built-in goal, whose variables nobody asks about.
+#[inline(always)]
 pub fn measured(store: &mut Store, link: &LinkRef<'_>, looks: bool) -> Result<Measure, AllocError>
     requires { IsThere store.old link.now }
     ensures measured { IfOk result

@@ -1,6 +1,6 @@
 //! What comes of a goal before any clause is tried.
 
-ghost use Rattle.std.specs.Prelude.{◌≡◌, ℕ, ◌<◌, ◌≤◌, length, IfOk, OnOk};
+ghost use Rattle.std.specs.Prelude.{◌≡◌, ◌<◌, ◌≤◌, length, IfOk};
 ghost use Rattle.apd_term.specs.Term.{integer, predicate_of};
 ghost use Rattle.apd_arith.specs.Builtins.{builtin_of_atom};
 ghost use Rattle.apd_trace.specs.BuiltIn.{outcome_of_is, outcome_of_comparison, outcome_of_two};
@@ -12,7 +12,7 @@ ghost use Rattle.apd_frames.specs.Values.{value_at, compared_at};
 use crate::builtin::{Solved, error_of};
 use crate::evaluating::{compare_at, value_at};
 use apd_arith::{Builtin, Comparison};
-use apd_term::{Flat, Pred, Sym};
+use apd_term::{Pred, Sym};
 use apd_unify::store::{Cell, Store};
 use std::alloc::{AllocError, Global};
 
@@ -28,6 +28,7 @@ pub fn predicate_at(store: &Store, goal: Cell) -> Option<Pred>
 }
 
 /// The built-in goal at a cell, if it is one.
+#[inline(always)]
 fn builtin_at(store: &Store, goal: Cell) -> Option<Builtin>
     requires { goal.0 < length store.now.cells }
     ensures { result ≡ builtin_of_atom (term_at store.now goal.0) }
@@ -52,25 +53,9 @@ fn equate(store: &mut Store, left: Cell, right: Cell) -> Result<Solved, AllocErr
     Ok(Solved::Failed)
 }
 
-/// Loads an integer.
-fn load_integer(store: &mut Store, alloc: Global, value: i64) -> Result<Cell, AllocError>
-    ensures kept { Keeps store.old store.new }
-    ensures cells { length store.old.cells ≤ length store.new.cells }
-    ensures there { IfOk result (λ c. c.0 < length store.new.cells) }
-    ensures made { IfOk result (λ c. term_at store.new c.0 ≡ integer value) }
-    ensures others { OnOk result ((c : ℕ) → c < length store.old.cells →
-        term_at store.new c ≡ term_at store.old c) }
-{
-    let term = Flat::integer(alloc, value)?;
-    let loaded = store.load(&term);
-    // Dropped by a call: else each part of it is a step to check, at each end of the function.
-    drop(term);
-    let there = loaded?;
-    Ok(there)
-}
-
 /// Makes the term at a cell equal to an integer, where they have a unifier.
-fn assign(store: &mut Store, alloc: Global, cell: Cell, value: i64) -> Result<Solved, AllocError>
+#[inline(always)]
+fn assign(store: &mut Store, cell: Cell, value: i64) -> Result<Solved, AllocError>
     requires { cell.0 < length store.old.cells }
     ensures kept { Keeps store.old store.new }
     ensures cells { length store.old.cells ≤ length store.new.cells }
@@ -78,7 +63,7 @@ fn assign(store: &mut Store, alloc: Global, cell: Cell, value: i64) -> Result<So
         (Equates (term_at store.old cell.0) (integer value)) r store.old store.new) }
 {
     let mark = store.mark();
-    let there = load_integer(store, alloc, value)?;
+    let there = store.load_integer(value)?;
     if store.unify(cell, there)? {
         return Ok(Solved::Entered);
     }
@@ -87,6 +72,7 @@ fn assign(store: &mut Store, alloc: Global, cell: Cell, value: i64) -> Result<So
 }
 
 /// Solves `is` of the terms at two cells.
+#[inline(always)]
 fn evaluate(store: &mut Store, alloc: Global, left: Cell, right: Cell) -> Result<Solved, AllocError>
     requires left { left.0 < length store.old.cells }
     requires right { right.0 < length store.old.cells }
@@ -97,12 +83,13 @@ fn evaluate(store: &mut Store, alloc: Global, left: Cell, right: Cell) -> Result
         r store.old store.new) }
 {
     match value_at(store, alloc, right) {
-        Ok(value) => assign(store, alloc, left, value),
+        Ok(value) => assign(store, left, value),
         Err(fault) => Ok(Solved::Fault(error_of(fault)?)),
     }
 }
 
 /// Solves a comparison of the terms at two cells.
+#[inline(always)]
 fn compare(
     store: &Store,
     alloc: Global,
@@ -124,6 +111,7 @@ fn compare(
 }
 
 /// Solves a built-in goal with the arguments at two cells.
+#[inline(always)]
 fn settle_two(
     store: &mut Store,
     alloc: Global,
@@ -154,6 +142,7 @@ fn settle_two(
 }
 
 /// Solves the goal at a cell, if it is built in. After want of memory some variables may be bound.
+#[inline(always)]
 pub fn settle(store: &mut Store, alloc: Global, goal: Cell) -> Result<Solved, AllocError>
     requires { goal.0 < length store.old.cells }
     ensures kept { Keeps store.old store.new }

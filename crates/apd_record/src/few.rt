@@ -69,6 +69,7 @@ impl FewPoints {
     }
 
     /// The list is this one from now on.
+    #[inline(always)]
     fn set(&mut self, few: Few)
         ensures { self.new ≡ points_in few }
     {
@@ -76,6 +77,7 @@ impl FewPoints {
     }
 
     /// Puts a point at the end; after want of memory the list is as before.
+    #[inline(always)]
     pub fn push(&mut self, point: PointId) -> Result<(), AllocError>
         ensures ok { OnOk result (self.new ≡ self.old ++ point ∷ []) }
         ensures err { OnErr result (self.new ≡ self.old) }

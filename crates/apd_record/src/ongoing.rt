@@ -70,6 +70,7 @@ impl Open {
     }
 
     /// Calls a goal, the head of the kept tuple with this number: a new box, and its number.
+    #[inline(always)]
     pub fn open_box(&mut self, atom: u32, from: PointId, user: bool) -> Result<u32, AllocError>
         requires from { from.0 < length self.old.points }
         requires few { length self.old.boxes < 2 ^ 32 - 1 }
@@ -92,6 +93,7 @@ impl Open {
     }
 
     /// A new point, and its number.
+    #[inline(always)]
     pub fn add_point(&mut self, point: OpenPoint) -> Result<PointId, AllocError>
         requires owner { point.owner ≤ length self.old.boxes }
         requires before { IsBelow (length self.old.points) point.before }

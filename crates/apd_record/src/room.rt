@@ -32,6 +32,7 @@ pub fn pass(boxes: &mut Vec<KeptBox>, place: usize, port: Port)
 }
 
 /// Room for a box.
+#[inline(always)]
 pub fn box_room(boxes: &mut Vec<KeptBox>, owned: &mut Vec<Owned>) -> Result<(), AllocError>
     ensures boxes { boxes.new.items ≡ boxes.old.items }
     ensures owned { owned.new.items ≡ owned.old.items }
@@ -45,6 +46,7 @@ pub fn box_room(boxes: &mut Vec<KeptBox>, owned: &mut Vec<Owned>) -> Result<(), 
 }
 
 /// Room for a point.
+#[inline(always)]
 pub fn point_room(points: &mut Vec<PackedPoint>, links: &mut Vec<Links>) -> Result<(), AllocError>
     ensures points { points.new.items ≡ points.old.items }
     ensures links { links.new.items ≡ links.old.items }

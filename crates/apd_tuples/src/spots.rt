@@ -4,6 +4,7 @@ ghost use Rattle.std.specs.Prelude.{◌≡◌, ◌∷◌, [], ◌++◌, ◌<◌,
 ghost use Rattle.apd_tuples.specs.Spots.{HasMore, HavePlaces, IsSpanned, place_of_cell, placed, placed_all, spot_at, spot_in};
 
 use crate::packed::KeptRow;
+use apd_cells::stack::room_for_one;
 use apd_past::past::{Moment, PastCell};
 use apd_unify::store::Cell;
 use std::alloc::{AllocError, Global};
@@ -66,16 +67,6 @@ impl Model for Spots {
 /// The greatest number that is kept.
 const MOST: usize = 4_294_967_295;
 
-/// The number as it is kept; want of memory where it is too great.
-fn narrow(n: usize) -> Result<u32, AllocError>
-    ensures { IfOk result (λ k. k ≡ n) }
-{
-    if n > MOST {
-        return Err(AllocError);
-    }
-    Ok(n as u32)
-}
-
 /// The place of a cell.
 fn place_of(places: &[PastCell], cell: Cell) -> PastCell
     requires { cell.0 < length places.now }
@@ -85,6 +76,7 @@ fn place_of(places: &[PastCell], cell: Cell) -> PastCell
 }
 
 /// Puts the places of cells behind the others.
+#[inline(always)]
 fn put_places(
     there: &mut Vec<PastCell>,
     places: &[PastCell],
@@ -161,6 +153,7 @@ impl Spots {
     /// # Errors
     ///
     /// Where there is no memory, or a row has no room for a number: what comes within a run's limits has room.
+    #[inline(always)]
     pub fn push(
         &mut self,
         places: &[PastCell],
@@ -177,21 +170,25 @@ impl Spots {
         ensures count { IfOk result (λ n. n.goals ≡ length goals.now) }
         ensures err { OnErr result (self.new ≡ self.old) }
     {
-        let number = narrow(self.rows.len())?;
-        let from = narrow(self.goals.len())?;
+        let number = self.rows.len();
+        let from = self.goals.len();
+        let count = goals.len();
+        if number > MOST || count > MOST || from > MOST - count {
+            return Err(AllocError);
+        }
         put_places(&mut self.goals, places, goals)?;
-        let to = narrow(self.goals.len())?;
         let kept = KeptRow::of(Row {
             head: place_of(places, head),
             moment,
-            from,
-            to,
+            from: from as u32,
+            to: (from + count) as u32,
             fact,
         })?;
-        self.rows.push(kept)?;
+        room_for_one(&mut self.rows)?;
+        self.rows.push_reserved(kept);
         Ok(Numbered {
-            number,
-            goals: to - from,
+            number: number as u32,
+            goals: count as u32,
         })
     }
 }

@@ -2,7 +2,7 @@
 
 ghost use Rattle.std.specs.Prelude.{◌≡◌, ℕ, ◌+◌, ◌<◌, ◌≤◌, ◌^◌, [], length, IfOk, OnOk, OnErr};
 ghost use Rattle.std.specs.Bool.{OnTrue};
-ghost use Rattle.apd_term.specs.Term.{arguments, IsGround, Occurs, size};
+ghost use Rattle.apd_term.specs.Term.{arguments, integer, IsGround, Occurs, size};
 ghost use Rattle.apd_term.specs.Canonical.{shifted};
 ghost use Rattle.apd_cells.specs.Counting.{MeasuredWithin};
 ghost use Rattle.apd_cells.specs.First.{key_of, first_symbol};
@@ -33,6 +33,7 @@ use apd_cells::walk::Run;
 use apd_term::{Flat, Sym};
 use std::alloc::{AllocError, Global};
 use std::marker::Model;
+use std::slice;
 
 /// The place of a term in a store.
 #[derive(Clone, Copy)]
@@ -129,6 +130,24 @@ impl Store {
         ensures { self.new ≡ self.old }
     {
         keep_hints(&mut self.solver.hints, hints)
+    }
+
+    /// Loads an integer. All other cells keep their terms. After want of memory nothing has changed.
+    pub fn load_integer(&mut self, value: i64) -> Result<Cell, AllocError>
+        ensures made { IfOk result (λ c. term_at self.new c.0 ≡ integer value) }
+        ensures there { IfOk result (λ c. c.0 < length self.new.cells) }
+        ensures others { OnOk result ((c : ℕ) → c < length self.old.cells →
+            term_at self.new c ≡ term_at self.old c) }
+        ensures kept { Keeps self.old self.new }
+        ensures cells { length self.old.cells ≤ length self.new.cells }
+        ensures err { OnErr result (self.new ≡ self.old) }
+    {
+        let symbol = Sym::Int(value);
+        let mut slots = Vec::new(self.alloc);
+        let cell = self
+            .heap
+            .load_for(slice::from_ref(&symbol), &mut slots, &[])?;
+        Ok(Cell(cell))
     }
 
     /// Applies a most general unifier of the terms at two cells to the terms of all cells; false
@@ -242,6 +261,7 @@ impl Store {
     }
 
     /// The cells of the arguments of a term that has two.
+    #[inline(always)]
     pub fn two_arguments(&self, cell: Cell) -> (Cell, Cell)
         requires inside { cell.0 < length self.now.cells }
         requires two { length (arguments (term_at self.now cell.0)) ≡ 2 }
@@ -259,6 +279,7 @@ impl Store {
     }
 
     /// Gives the store at a mark back, so that every cell is as it was there.
+    #[inline(always)]
     pub fn undo(&mut self, mark: Mark)
         requires { mark.0 ≤ length self.old.trail }
         ensures { self.new ≡ at_mark mark.0 self.old }

@@ -17,8 +17,8 @@ returns-then-stretch-at-clause-put c = λ means m.
 
 pub returns-clause-places : goal.returns-clause-places
 returns-clause-places c =
-    next_placed c.args.cells.now c.args.variables c.args.slots.now.items c.place_one.new.slots.items c.args.symbols.now c.args.at c.in_ok-symbol.symbol c.requires.there c.in_ok-symbol.ensures
+    next_placed c.args.cells.now c.args.variables c.args.slots.now.items c.place.new.slots.items c.args.symbols.now c.args.at c.in_ok-symbol.symbol c.requires.there c.in_ok-symbol.ensures
 
 pub returns-clause-put : goal.returns-clause-put
 returns-clause-put c = λ means m.
-    put_placed_one c.args.cells.now c.args.variables c.args.slots.now.items c.place_one.new.slots.items c.args.symbols.now c.args.at c.in_ok-symbol.symbol c.requires.there c.in_ok-symbol.ensures means
+    put_placed_one c.args.cells.now c.args.variables c.args.slots.now.items c.place.new.slots.items c.args.symbols.now c.args.at c.in_ok-symbol.symbol c.requires.there c.in_ok-symbol.ensures means

@@ -11,16 +11,16 @@ use Rattle.apd_frames.proofs.Settled.{clashed}
 use Rattle.apd_frames.proofs.settling.assign.Goals as goal
 
 pub returns-in_err-unify-clause-kept : goal.returns-in_err-unify-clause-kept
-returns-in_err-unify-clause-kept c = Keeps-trans c.args.store.now c.load_integer.new.store c.unify.new.self c.load_integer.ensures.kept c.unify.ensures.kept
+returns-in_err-unify-clause-kept c = Keeps-trans c.args.store.now c.load_integer.new.self c.unify.new.self c.load_integer.ensures.kept c.unify.ensures.kept
 
 pub returns-then-branch-clause-kept : goal.returns-then-branch-clause-kept
-returns-then-branch-clause-kept c = Keeps-trans c.args.store.now c.load_integer.new.store c.unify.new.self c.load_integer.ensures.kept c.unify.ensures.kept
+returns-then-branch-clause-kept c = Keeps-trans c.args.store.now c.load_integer.new.self c.unify.new.self c.load_integer.ensures.kept c.unify.ensures.kept
 
 -- where they have no unifier the store is as it was
 same : (c : goal.After-undo) → c.undo.new.self ≡ c.args.store.now
 same c =
     undone c.args.store.now c.unify.new.self c.undo.new.self c.mark-mark.result.0
-    (Keeps-trans c.args.store.now c.load_integer.new.store c.unify.new.self c.load_integer.ensures.kept c.unify.ensures.kept) c.mark-mark.ensures c.undo.ensures
+    (Keeps-trans c.args.store.now c.load_integer.new.self c.unify.new.self c.load_integer.ensures.kept c.unify.ensures.kept) c.mark-mark.ensures c.undo.ensures
 
 pub returns-clause-kept : goal.returns-clause-kept
 returns-clause-kept c = subst (Keeps c.args.store.now) (sym (same c)) (Keeps-self c.args.store.now)
@@ -31,8 +31,8 @@ returns-clause-cells c = omega (arith, ap (λ (s : Stored). length s.cells) (sam
 pub returns-clause-answer : goal.returns-clause-answer
 returns-clause-answer c =
     let fits : FitsSigned w64 c.args.value = search rules in
-    clashed c.args.store.now c.load_integer.new.store c.undo.new.self c.args.cell.0 c.in_ok-there.there.0 (term_at c.args.store.now c.args.cell.0) (integer c.args.value)
+    clashed c.args.store.now c.load_integer.new.self c.undo.new.self c.args.cell.0 c.in_ok-there.there.0 (term_at c.args.store.now c.args.cell.0) (integer c.args.value)
     (c.in_ok-there.ensures.others c.args.cell.0 c.requires)
     (c.in_ok-there.ensures.made ∙ ap integer (to_z-of_z w64 c.args.value fits))
-    (subst (λ r. IsUnification r c.load_integer.new.store c.unify.new.self c.args.cell.0 c.in_ok-there.there.0) c.if-branch.false c.in_ok-unify.ensures.answer)
+    (subst (λ r. IsUnification r c.load_integer.new.self c.unify.new.self c.args.cell.0 c.in_ok-there.there.0) c.if-branch.false c.in_ok-unify.ensures.answer)
     (same c)

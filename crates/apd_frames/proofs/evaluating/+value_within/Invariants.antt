@@ -1,4 +1,0 @@
-use Rattle.apd_frames.proofs.evaluating.+value_within.Given as goal
-
-abbrev pub decreases-value_within : goal.decreases-value_within
-decreases-value_within l = l.levels

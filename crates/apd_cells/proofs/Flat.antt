@@ -54,7 +54,7 @@ mutual
   size_all-applied s one none = refl
   size_all-applied s one (more t ts) = omega (arith, size-applied s one t, size_all-applied s one ts)
 
-single_size : (w : ℕ) (x : Term) → size x ≡ 1 → (v : ℕ) → size (term_for (single w x) v) ≡ 1
+pub single_size : (w : ℕ) (x : Term) → size x ≡ 1 → (v : ℕ) → size (term_for (single w x) v) ≡ 1
 single_size w x one v = elim (cases_eq w v) [
   | inl e ↦ ap size (term_for-same (w, x) [] v e) ∙ one
   | inr d ↦ ap size (term_for-other (w, x) [] v d)

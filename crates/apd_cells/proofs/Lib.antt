@@ -17,12 +17,9 @@ pub mod Keys
 pub mod Keeping
 pub mod Numbering
 pub mod Sizing
-pub mod Counts
-pub mod Measuring
+pub mod Recent
 pub mod Ordered
 pub mod Placing
 pub mod Seen
-pub mod Noticing
-pub mod Search
 pub mod Standing
 pub mod Stretching

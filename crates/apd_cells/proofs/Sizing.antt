@@ -43,7 +43,7 @@ known_there s n a ks i k l h e =
     known_now s k one.0 (omega (arith, one.1))
 
 -- one more note leaves right what it doesn't change
-known_next : (s new : Stored) (k : Known) → Keeps s new → length new.trail ≤ length s.trail + 1 → HasExtent new k.cell k.extent → IsKnown s k → IsKnown new k
+pub known_next : (s new : Stored) (k : Known) → Keeps s new → length new.trail ≤ length s.trail + 1 → HasExtent new k.cell k.extent → IsKnown s k → IsKnown new k
 known_next s new k keeps more now h = λ mark since within. elim (le_or_lt mark (length s.trail)) [
   | inl l ↦
       subst (λ (t : Stored). HasExtent t k.cell k.extent) (ap (at_mark mark) (sym keeps.1) ∙ at_mark-at_mark mark (length s.trail) new l keeps.0) (h mark since l)
@@ -71,7 +71,7 @@ known_bound s v to n a (k ∷ ks) l g h = (
 )
 
 -- one more term
-extent_loaded : (s : Stored) (t : Term) (base c : ℕ) (e : Extent) → IsStore s.cells s.variables s.trail → HasExtent s c e → HasExtent (loaded s t base) c e
+pub extent_loaded : (s : Stored) (t : Term) (base c : ℕ) (e : Extent) → IsStore s.cells s.variables s.trail → HasExtent s c e → HasExtent (loaded s t base) c e
 extent_loaded s t base c e h k =
     let same : term_at (loaded s t base) c ≡ term_at s c = term_at-others s t base c h k.inside in
     record {
@@ -90,7 +90,7 @@ known_loaded s t base n a (k ∷ ks) i l h = (
 )
 
 -- the store at a mark has so many notes
-length-at_mark : (mark : ℕ) (s : Stored) → mark ≤ length s.trail → length (at_mark mark s).trail ≡ mark
+pub length-at_mark : (mark : ℕ) (s : Stored) → mark ≤ length s.trail → length (at_mark mark s).trail ≡ mark
 length-at_mark mark s l = omega (arith, length-before s.cells s.variables s.trail (length s.trail - mark))
 
 -- what was found up to a mark is right there
@@ -110,7 +110,7 @@ before_one : (cells : List Sym) (n : ℕ) (note : Note) (notes : List Note) → 
 before_one cells n (Loaded c m) notes = before_none (take c cells) m notes
 before_one cells n (Bound v c) notes = before_none cells n notes
 
-before_is : (s : Stored) (note : Note) (notes : List Note) → s.trail ≡ note ∷ notes → at_mark (length notes) s ≡ before_note s.cells s.variables s.trail
+pub before_is : (s : Stored) (note : Note) (notes : List Note) → s.trail ≡ note ∷ notes → at_mark (length notes) s ≡ before_note s.cells s.variables s.trail
 before_is s note notes e =
     let one : length s.trail - length notes ≡ 1 = omega (arith, ap length e) in
     ap (before_notes s.cells s.variables s.trail) one ∙ ap (λ z. before_notes s.cells s.variables z 1) e ∙ before_one s.cells s.variables note notes
@@ -168,7 +168,7 @@ sized_none s ground_terms open_terms ground_left open_left e h f g = record {
 }
 
 -- one more is known
-known_here : (s : Stored) (k : Known) (e : Extent) → HasExtent s k.cell e → k.since ≡ length s.trail → k.extent.size ≡ e.size → e.above ≤ k.extent.above → IsKnown s k
+pub known_here : (s : Stored) (k : Known) (e : Extent) → HasExtent s k.cell e → k.since ≡ length s.trail → k.extent.size ≡ e.size → e.above ≤ k.extent.above → IsKnown s k
 known_here s k e h since size_is above_is = λ mark from within.
     (let now : HasExtent s k.cell k.extent = record { inside = h.inside; long = size_is ∙ h.long; below = λ v o. (let b = h.below v o in omega arith) } in
     subst (λ (t : Stored). HasExtent t k.cell k.extent) (sym (at_mark-here mark s (omega arith))) now)

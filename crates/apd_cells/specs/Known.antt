@@ -1,8 +1,11 @@
 -- Sizes of terms that are known without a count, and how long they stay right.
 use Rattle.std.specs.Prelude.{◌≡◌, ℕ, ◌<◌, ◌≤◌, List, [], ◌∷◌, length}
+use Rattle.apd_term.specs.declared.term.Sym.{Sym}
+use Rattle.apd_term.specs.declared.term.Sym.TheVariants.{Var, Int, Fun}
 use Rattle.apd_term.specs.Term.{Occurs, size}
 use Rattle.apd_cells.specs.declared.known.Extent.{Extent}
 use Rattle.apd_cells.specs.declared.known.Known.{Known}
+use Rattle.apd_cells.specs.declared.sizes.Sizes.{Sizes}
 use Rattle.apd_cells.specs.Stored.{Stored}
 use Rattle.apd_cells.specs.Store.{term_at, at_mark}
 
@@ -27,3 +30,19 @@ pub record AreSized (s : Stored) (ground_terms open_terms : List Known) : Type 0
   pub of_ground : AreKnown s (length s.trail) 0 ground_terms
   pub most : ℕ
   pub of_open : AreKnown s (length s.trail) most open_terms
+
+-- an integer or an atom: a binding to it changes no size, and brings no variable
+abbrev pub IsConstant : Sym → Type 0
+IsConstant (Var v) = ⊥
+IsConstant (Int i) = Unit {0}
+IsConstant (Fun f n) = n ≡ 0
+
+-- what was measured lately, the newest first: each was found after the next, and the newest at mark n or before
+abbrev pub AreRecent : Stored → ℕ → List Known → Type 0
+AreRecent s n [] = Unit {0}
+AreRecent s n (k ∷ ks) = IsKnown s k × (k.since ≤ n) × AreRecent s k.since ks
+
+-- all that is known of a store's terms
+pub record IsSized (s : Stored) (k : Sizes) : Type 0 where
+  pub kept : AreSized s k.ground_terms k.open_terms
+  pub lately : AreRecent s (length s.trail) k.recent

@@ -5,11 +5,9 @@ pub mod Kept
 pub mod Known
 pub mod Heap
 pub mod Work
-pub mod Counting
 pub mod Numbered
 pub mod First
 pub mod Ordered
 pub mod Live
-pub mod Noticed
 pub mod Slots
 pub mod Stretches

@@ -14,10 +14,9 @@ ghost use Rattle.apd_cells.specs.Stretches.{AreMeant, AreStretches};
 
 use crate::front::{Front, NOTHING, above_term};
 use crate::kept::{KeptBinding, KeptNote};
-use crate::known::{
-    Extent, KeptKnown, above_all, forget_above, forget_since, known_at, make_place,
-};
+use crate::known::Extent;
 use crate::live::Live;
+use crate::sizes::Sizes;
 use crate::slots::{Slot, Stretch, append_for};
 use crate::stack::Stack;
 use crate::symbols::{append, compound_at};
@@ -57,12 +56,8 @@ pub struct Heap {
     compounds: usize,
     /// No term that was loaded has more symbols.
     longest: usize,
-    /// The sizes of terms without variables, as far as they are known.
-    ground_terms: Stack<KeptKnown>,
-    /// The same of terms with variables.
-    open_terms: Stack<KeptKnown>,
-    /// The place of each cell in one of the two. What is left of earlier places says nothing.
-    places: Vec<u32>,
+    /// What is known of the sizes of terms.
+    sizes: Sizes,
 }
 
 impl Model for Heap {
@@ -70,7 +65,7 @@ impl Model for Heap {
     ghost use Rattle.apd_cells.specs.Flat.{compound_count, AreShort};
     ghost use Rattle.apd_cells.specs.Stored.{Stored, stored_code};
     ghost use Rattle.apd_cells.specs.Heap.{IsHeap, IsMarked};
-    ghost use Rattle.apd_cells.specs.Known.{AreSized};
+    ghost use Rattle.apd_cells.specs.Known.{IsSized};
 
     ghost Value = { Stored };
 
@@ -78,7 +73,7 @@ impl Model for Heap {
 
     ghost view = { λ h. record { cells = h.cells.items; variables = length h.bindings.items; trail = h.trail } };
 
-    ghost invariant = { λ h. IsHeap h.cells.items h.bindings.items h.trail × IsMarked h.cells.items h.trail h.touched h.front × (h.compounds ≡ compound_count h.cells.items h.trail) × AreShort h.cells.items h.trail h.longest × AreSized (record { cells = h.cells.items; variables = length h.bindings.items; trail = h.trail }) h.ground_terms h.open_terms };
+    ghost invariant = { λ h. IsHeap h.cells.items h.bindings.items h.trail × IsMarked h.cells.items h.trail h.touched h.front × (h.compounds ≡ compound_count h.cells.items h.trail) × AreShort h.cells.items h.trail h.longest × IsSized (record { cells = h.cells.items; variables = length h.bindings.items; trail = h.trail }) h.sizes };
 }
 
 impl Heap {
@@ -94,9 +89,7 @@ impl Heap {
             front: NOTHING,
             compounds: 0,
             longest: 0,
-            ground_terms: Stack::new(alloc),
-            open_terms: Stack::new(alloc),
-            places: Vec::new(alloc),
+            sizes: Sizes::new(alloc),
         }
     }
 
@@ -249,11 +242,23 @@ impl Heap {
     pub fn known(&self, at: usize) -> Option<Extent>
         ensures { IfSome result (HasExtent self.now at) }
     {
-        let place = *self.places.get(at)? as usize;
-        if let Some(extent) = known_at(&self.ground_terms, place, at) {
-            return Some(extent);
-        }
-        known_at(&self.open_terms, place, at)
+        self.sizes.known(at)
+    }
+
+    /// The extent of the term at a cell, where it was measured lately; none says nothing.
+    pub fn recalled(&self, at: usize) -> Option<Extent>
+        ensures { IfSome result (HasExtent self.now at) }
+    {
+        self.sizes.recalled(at)
+    }
+
+    /// Notes the extent of a term that was measured.
+    pub fn note(&mut self, at: usize, extent: Extent) -> Result<(), AllocError>
+        requires { HasExtent self.old at extent }
+        ensures { self.new ≡ self.old }
+    {
+        let since = self.trail.len();
+        self.sizes.note(at, extent, since)
     }
 
     /// Keeps the extent of the term at a cell, or nothing.
@@ -262,23 +267,7 @@ impl Heap {
         ensures { self.new ≡ self.old }
     {
         let since = self.trail.len();
-        make_place(&mut self.places, at)?;
-        if extent.above == 0 {
-            let Some(kept) = KeptKnown::of(at, extent, since) else {
-                return Ok(());
-            };
-            self.places[at] = u32::try_from(self.ground_terms.len()).unwrap_or(u32::MAX);
-            self.ground_terms.push(kept)?;
-            return Ok(());
-        }
-        let above = above_all(&self.open_terms, extent.above);
-        let size = extent.size;
-        let Some(kept) = KeptKnown::of(at, Extent { size, above }, since) else {
-            return Ok(());
-        };
-        self.places[at] = u32::try_from(self.open_terms.len()).unwrap_or(u32::MAX);
-        self.open_terms.push(kept)?;
-        Ok(())
+        self.sizes.keep(at, extent, since)
     }
 
     /// Binds a free variable to the term at a cell.
@@ -296,7 +285,7 @@ impl Heap {
         self.bindings[v as usize] = KeptBinding::at(to);
         self.compounds += compound;
         self.touched = self.touched.max(above);
-        forget_above(&mut self.open_terms, v);
+        self.sizes.forget_bound(self.cells.as_slice(), v, to);
         Ok(())
     }
 
@@ -367,8 +356,7 @@ impl Heap {
         ensures { self.new ≡ before_note self.old.cells self.old.variables self.old.trail }
     {
         let notes = self.trail.len();
-        forget_since(&mut self.ground_terms, notes);
-        forget_since(&mut self.open_terms, notes);
+        self.sizes.forget_newest(notes);
         let Some(newest) = self.trail.pop() else {
             return;
         };

@@ -3,11 +3,13 @@
 //! A size stays right as long as no variable of its term is bound, and as the trail is no shorter than where it was
 //! found. So what is known stands in stacks: a binding and an undoing drop what is newest there.
 
-ghost use Rattle.std.specs.Prelude.{◌≡◌, ℕ, ◌+◌, ◌-◌, ◌<◌, ◌≤◌, ◌^◌, max, length, OnOk, IfSome};
-ghost use Rattle.apd_cells.specs.Known.{AreKnown, HasExtent};
+ghost use Rattle.std.specs.Prelude.{◌≡◌, ℕ, ◌+◌, ◌-◌, ◌<◌, ◌≤◌, ◌⊎◌, ◌^◌, [], get_or, max, length, OnOk, IfSome};
+ghost use Rattle.apd_term.specs.declared.term.Sym.TheVariants.{Var};
+ghost use Rattle.apd_cells.specs.Known.{AreKnown, AreRecent, HasExtent, IsConstant};
 ghost use Rattle.apd_cells.specs.Stored.{Stored};
 
 use crate::stack::Stack;
+use apd_term::Sym;
 use std::alloc::AllocError;
 use std::marker::Model;
 use std::mem::size_of;
@@ -115,6 +117,56 @@ pub fn known_at(known: &Stack<KeptKnown>, place: usize, cell: usize) -> Option<E
         return None;
     }
     Some(found.extent)
+}
+
+/// What was measured lately of a cell's term, if it stands at this place, counted from the oldest.
+pub fn recent_at(recent: &Stack<KeptKnown>, place: usize, cell: usize) -> Option<Extent>
+    ensures { (s : Stored) (n : ℕ) → n ≤ length s.trail → AreRecent s n recent.now →
+        IfSome result (HasExtent s cell) }
+{
+    let kept = recent.get(place)?;
+    let found = kept.read();
+    if found.cell != cell {
+        return None;
+    }
+    Some(found.extent)
+}
+
+/// Forgets what was measured since the trail had so many notes.
+pub fn forget_recent(recent: &mut Stack<KeptKnown>, notes: usize)
+    ensures { (s : Stored) (n : ℕ) → AreRecent s n recent.old → AreRecent s (notes - 1) recent.new }
+{
+    'known: while let Some(newest) = recent.top() {
+        if newest.read().since < notes {
+            return;
+        }
+        recent.pop();
+    }
+}
+
+/// Forgets all that was measured, unless a binding to the term at this place leaves it right.
+pub fn forget_measured(recent: &mut Stack<KeptKnown>, cells: &[Sym], to: usize)
+    requires { to < length cells.now }
+    ensures { (recent.new ≡ []) ⊎
+        (IsConstant (get_or cells.now to (Var 0)) × (recent.new ≡ recent.old)) }
+{
+    match cells[to] {
+        Sym::Int(_) => {}
+        Sym::Fun(_, 0) => {}
+        _ => recent.clear(),
+    }
+}
+
+/// The extents of so many terms that were measured lately are kept.
+pub const MOST_RECENT: usize = 64;
+
+/// Forgets all that was measured, where it is much.
+pub fn forget_many(recent: &mut Stack<KeptKnown>)
+    ensures { (recent.new ≡ recent.old) ⊎ (recent.new ≡ []) }
+{
+    if recent.len() >= MOST_RECENT {
+        recent.clear();
+    }
 }
 
 /// Forgets what was found since the trail had so many notes.

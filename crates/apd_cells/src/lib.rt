@@ -1,7 +1,6 @@
-//! Terms in cells, with bindings that can be undone: what a cell's term is, and how long it is.
+//! Terms in cells, with bindings that can be undone, and with the sizes of terms that are known.
 #![tactic(auto)]
 
-pub mod counting;
 pub mod first;
 mod front;
 pub mod heap;
@@ -9,8 +8,7 @@ pub mod kept;
 pub mod known;
 pub mod live;
 pub mod order;
-pub mod reaching;
-pub mod reading;
+pub mod sizes;
 pub mod slots;
 pub mod stack;
 mod symbols;

@@ -1,5 +1,5 @@
 -- The sizes and variables of terms that are seen part by part.
-use Rattle.std.proofs.Common.{◌≡◌, ℕ, ◌+◌, ◌-◌, ◌<◌, ◌≤◌, List, [], ◌∷◌, ◌++◌, length, get_or, take, drop, map, refl, sym, ◌∙◌, ap, subst, arith, true, false, Bool, Option, Some, None}
+use Rattle.std.proofs.Common.{◌≡◌, ℕ, zero, suc, ◌+◌, ◌-◌, ◌<◌, ◌≤◌, List, [], ◌∷◌, ◌++◌, length, get_or, take, drop, map, refl, sym, ◌∙◌, ap, subst, arith, true, false, Bool, Option, Some, None}
 use Rattle.std.specs.Prelude.{not, nat_eq}
 use Rattle.std.proofs.lemmas.Bool.Decides.{nat_tests}
 use Rattle.std.specs.List.{flat_map}
@@ -11,17 +11,18 @@ use Rattle.apd_term.specs.Term.{variables, IsGround}
 use Rattle.apd_term.specs.Tuple.{variables_of_tuple}
 use Rattle.apd_unify.specs.declared.store.Cell.{Cell}
 use Rattle.apd_cells.specs.declared.known.Extent.{Extent}
-use Rattle.apd_cells.specs.Counting.{MeasuredWithin}
 use Rattle.apd_cells.specs.Stored.{Stored}
 use Rattle.apd_cells.specs.Store.{term_at, SizeWithin}
-use Rattle.apd_cells.proofs.Counts.{extent_ground}
+use Rattle.apd_resolved.specs.Counting.{MeasuredWithin}
+use Rattle.apd_resolved.proofs.Counts.{extent_ground}
 use Rattle.apd_trace.specs.Frames.{is_large}
 use Rattle.apd_trace.specs.declared.frame.Frame.{Frame}
-use Rattle.apd_frames.specs.Instances.{terms_in, tuple_in}
+use Rattle.apd_frames.specs.Instances.{cell_in, terms_in, tuple_in, IsInside}
 use Rattle.apd_frames.specs.Links.{Instance}
 use Rattle.apd_frames.specs.Kept.{fits}
 use Rattle.apd_frames.specs.Measures.{MeasuresInnermost}
 use Rattle.apd_frames.specs.declared.measuring.Measure.TheVariants.{TooLarge, Fits, Ground}
+use Rattle.apd_frames.proofs.Instancing.{inside_or}
 use Rattle.apd_frames.proofs.Writing.{IsCounting, counting_first, counting_more, counting_last, counted_head, counted_goal, next_left, none_left}
 
 -- a test has one answer
@@ -98,6 +99,38 @@ measured_goal_large s i n left b d o m l h is =
     let c = (get_or i.goals n d).0 in
     counted_goal (tuple_in s i) (term_at s c) (terms_in s (drop (n + 1) i.goals)) left (size_of o)
     (subst (λ ts. IsCounting (tuple_in s i) ts left) (next_left s i i.goals n d refl l) m.counting) (size_seen s c left o h) (ap size_of is)
+
+-- the same by places, where the head has place 0
+abbrev pub MeasuresTo : Stored → Instance → ℕ → ℕ → Bool → Type 0
+MeasuresTo s i zero left b = left ≡ 1000000
+MeasuresTo s i (suc n) left b = IsMeasuring s i n left b
+
+pub place_more : (s : Stored) (i : Instance) (p left left' : ℕ) (b b' : Bool) (o : Option Extent) (e : Extent) → MeasuresTo s i p left b → p ≤ length i.goals
+    → MeasuredWithin s (cell_in i p).0 left o → o ≡ Some e → left' ≡ left - e.size → OnTrue b' ((b ≡ true) × (e.above ≡ 0)) → MeasuresTo s i (suc p) left' b'
+place_more s i zero left left' b b' o e m l h is less g =
+    measuring_first s i o e left' b' (subst (λ k. MeasuredWithin s i.head.0 k o) m h) is (less ∙ ap (λ k. k - e.size) m)
+    (OnTrue_from b' (e.above ≡ 0) (λ t. (OnTrue_at t g).1))
+place_more s i (suc n) left left' b b' o e m l h is less g =
+    let j : n + 1 ≡ suc n = omega arith in
+    subst (λ k. IsMeasuring s i k left' b') j (measuring_more s i n left left' b b' i.head o e m (omega (arith, l)) h is less g)
+
+pub place_large : (s : Stored) (i : Instance) (p left : ℕ) (b : Bool) (o : Option Extent) → MeasuresTo s i p left b → p ≤ length i.goals
+    → MeasuredWithin s (cell_in i p).0 left o → o ≡ None → is_large (tuple_in s i) ≡ true
+place_large s i zero left b o m l h is = measured_head_large s i o (subst (λ k. MeasuredWithin s i.head.0 k o) m h) is
+place_large s i (suc n) left b o m l h is = measured_goal_large s i n left b i.head o m (omega (arith, l)) h is
+
+pub places_fit : (s : Stored) (i : Instance) (p left : ℕ) (b : Bool) → MeasuresTo s i p left b → length i.goals < p → is_large (tuple_in s i) ≡ false
+places_fit s i zero left b m l = absurd (omega arith)
+places_fit s i (suc n) left b m l = measured_fits s i n left b m (omega (arith, l))
+
+pub places_ground : (s : Stored) (i : Instance) (p left : ℕ) (b : Bool) → MeasuresTo s i p left b → length i.goals < p → b ≡ true → variables_of_tuple (tuple_in s i) ≡ []
+places_ground s i zero left b m l t = absurd (omega arith)
+places_ground s i (suc n) left b m l t = measured_ground s i n left b m (omega (arith, l)) t
+
+-- a place's cell is among the first n where the instance is
+pub cell_inside : (n : ℕ) (i : Instance) (p : ℕ) → IsInside n i → p ≤ length i.goals → (cell_in i p).0 < n
+cell_inside n i zero h l = h.head
+cell_inside n i (suc k) h l = inside_or n i.goals k i.head h.goals (omega (arith, l))
 
 -- what is said of the innermost frame tells whether its instance fits
 pub fits_not : (F : List Frame) → MeasuresInnermost TooLarge F → false ≡ fits F

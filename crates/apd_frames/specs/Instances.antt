@@ -1,5 +1,5 @@
 -- Instances of clauses in a store.
-use Rattle.std.specs.Prelude.{◌≡◌, ℕ, ◌<◌, ◌≤◌, List, [], ◌∷◌, length, map, Option, Some, None, Bool, true, false, not}
+use Rattle.std.specs.Prelude.{◌≡◌, ℕ, zero, suc, ◌<◌, ◌≤◌, List, [], ◌∷◌, get_or, length, map, Option, Some, None, Bool, true, false, not}
 use Rattle.apd_term.specs.Term.{Term, apply}
 use Rattle.apd_term.specs.Substitution.{term_for}
 use Rattle.apd_term.specs.Canonical.{shifted}
@@ -27,6 +27,11 @@ instance_where true head goals = Some (instance_of head goals)
 -- the tuple that an instance is
 abbrev pub tuple_in : Stored → Instance → Tuple
 tuple_in s i = record { head = term_at s i.head.0; body = terms_in s i.goals }
+
+-- the cell of an instance's head, which has place 0, or of the goal that stands before the place
+abbrev pub cell_in : Instance → ℕ → Cell
+cell_in i zero = i.head
+cell_in i (suc n) = get_or i.goals n i.head
 
 -- the cells are among the first n
 abbrev pub AreInside : ℕ → List Cell → Type 0

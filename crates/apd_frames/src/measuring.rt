@@ -1,18 +1,18 @@
 //! Whether an instance is small enough, and whether it has variables, seen in one walk.
 
-ghost use Rattle.std.specs.Prelude.{◌≡◌, List, IfOk};
+ghost use Rattle.std.specs.Prelude.{◌≡◌, ◌≤◌, List, length, IfOk};
 ghost use Rattle.apd_trace.specs.declared.frame.Frame.{Frame};
-ghost use Rattle.apd_frames.specs.Instances.{tuple_in};
+ghost use Rattle.apd_frames.specs.Instances.{cell_in, tuple_in};
 ghost use Rattle.apd_frames.specs.Kept.{fits};
 ghost use Rattle.apd_frames.specs.Linked.{IsThere};
-ghost use Rattle.apd_frames.specs.Links.{link_of};
+ghost use Rattle.apd_frames.specs.Links.{instance_of, link_of};
 ghost use Rattle.apd_frames.specs.Measures.{IsMeasured, MeasuresInnermost};
 
 use crate::instance::MOST_OF_EACH;
 use crate::links::LinkRef;
 use apd_base::{MOST_GOALS, MOST_INSTANCE_SYMBOLS};
 use apd_ports::BUILTIN;
-use apd_unify::store::Store;
+use apd_unify::store::{Cell, Store};
 use std::alloc::AllocError;
 
 /// What is seen of an instance.
@@ -39,6 +39,18 @@ impl Measure {
     }
 }
 
+/// The cell of a link's head, which has place 0, or of the goal that stands before the place.
+#[inline(always)]
+fn cell_at(head: Cell, goals: &[Cell], place: usize) -> Cell
+    requires { place ≤ length goals.now }
+    ensures { result ≡ cell_in (instance_of head goals.now) place }
+{
+    if place == 0 {
+        return head;
+    }
+    goals[place - 1]
+}
+
 /// What is seen of a link's instance. Where its variables aren't looked for, or some goal isn't solved, no symbol is passed
 /// if the store tells that no term is long; before all goals are solved most instances have variables. Nor are they
 /// looked for in a built-in goal, whose variables nobody asks about.
@@ -53,17 +65,17 @@ pub fn measured(store: &mut Store, link: &LinkRef<'_>, looks: bool) -> Result<Me
     if !looks && link.goals.len() <= MOST_GOALS && store.are_within(MOST_OF_EACH) {
         return Ok(Measure::Fits);
     }
-    let Some(head) = store.measure(link.head, MOST_INSTANCE_SYMBOLS)? else {
-        return Ok(Measure::TooLarge);
-    };
-    let mut left = MOST_INSTANCE_SYMBOLS - head.size;
-    let mut is_ground = head.above == 0;
-    'goals: for goal in link.goals {
-        let Some(term) = store.measure(*goal, left)? else {
+    let mut left = MOST_INSTANCE_SYMBOLS;
+    let mut is_ground = true;
+    let mut place: usize = 0;
+    'places: while place <= link.goals.len() {
+        let cell = cell_at(link.head, link.goals, place);
+        let Some(term) = store.measure(cell, left)? else {
             return Ok(Measure::TooLarge);
         };
         left -= term.size;
         is_ground = is_ground && term.above == 0;
+        place += 1;
     }
     if is_ground {
         return Ok(Measure::Ground);

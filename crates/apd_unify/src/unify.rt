@@ -8,9 +8,9 @@ ghost use Rattle.apd_unify.specs.Unified.{IsUnification};
 ghost use Rattle.apd_unify.specs.Unifying.{Solves, IsPairs, ArePairs, IsPast, IsPastTwin, GoesOn, HasArguments, IsDecomposed};
 
 use apd_cells::heap::Heap;
-use apd_cells::reading::{Looking, mentions};
 use apd_cells::stack::Stack;
 use apd_cells::walk::arity_of;
+use apd_resolved::reading::{Looking, mentions};
 use apd_term::Sym;
 use std::alloc::AllocError;
 

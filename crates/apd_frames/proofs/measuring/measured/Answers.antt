@@ -1,12 +1,11 @@
-use Rattle.std.proofs.Common.{◌≡◌, ◌∙◌, ◌<◌, arith, get_or, length, refl, subst, sym, true}
-use Rattle.std.specs.Bool.{OnTrue}
+use Rattle.std.proofs.Common.{◌≡◌, ◌∙◌, ◌+◌, ◌-◌, ◌<◌, suc, arith, length, refl, subst, sym, true}
 use Rattle.std.proofs.lemmas.Bool.{OnTrue_from}
-use Rattle.apd_cells.specs.Counting.{MeasuredWithin}
+use Rattle.apd_unify.specs.declared.store.Cell.{Cell}
 use Rattle.apd_cells.specs.Stored.{Stored}
-use Rattle.apd_frames.specs.Links.{link_of}
-use Rattle.apd_frames.proofs.Instancing.{inside_or}
+use Rattle.apd_resolved.specs.Counting.{MeasuredWithin}
+use Rattle.apd_frames.specs.Links.{Instance, link_of}
 use Rattle.apd_frames.proofs.Writing.{short_instance}
-use Rattle.apd_frames.proofs.Seeing.{measuring_first, measuring_more, measured_fits, measured_ground, measured_goal_large, measured_head_large, no_both, zero_so}
+use Rattle.apd_frames.proofs.Seeing.{MeasuresTo, cell_inside, place_large, place_more, places_fit, places_ground, no_both, zero_so}
 use Rattle.apd_frames.proofs.measuring.measured.Goals.{then-is_ground, else-is_ground}
 use Rattle.apd_frames.proofs.measuring.measured.Goals as goal
 
@@ -14,27 +13,46 @@ pub returns-then-are_within-clause-measured : goal.returns-then-are_within-claus
 returns-then-are_within-clause-measured c =
     short_instance c.args.store.now (link_of c.args.link.now).instance c.if-are_within.ensures (record { head = c.requires.head; goals = c.requires.goals }) (omega (arith, c.if-link-le-MOST_GOALS.true))
 
-pub goals-init : goal.goals-init
-goals-init c = record {
-  same = c.measure.ensures.same;
-  measuring = measuring_first c.args.store.now (link_of c.args.link.now).instance c.in_ok-head.field-0 c.in-Some.head _ _ c.in_ok-head.ensures.extent c.in-Some.is refl
-      (OnTrue_from _ (c.in-Some.head.above ≡ 0) (zero_so c.in-Some.head.above));
+pub places-init : goal.places-init
+places-init c = record { same = refl; measuring = refl }
+
+pub measure-requires : goal.measure-requires
+measure-requires c =
+    subst (λ (s : Stored). c.cell_at-cell.result.0 < length s.cells) (sym c.places.invariant.same)
+    (subst (λ (k : Cell). k.0 < length c.args.store.now.cells) (sym c.cell_at-cell.ensures)
+    (cell_inside (length c.args.store.now.cells) (link_of c.args.link.now).instance c.places.place (record { head = c.requires.head; goals = c.requires.goals }) c.places-test.true))
+
+pub returns-in_default-clause-measured : goal.returns-in_default-clause-measured
+returns-in_default-clause-measured c =
+    place_large c.args.store.now (link_of c.args.link.now).instance c.places.place c.places.left c.places.is_ground c.in_ok-term.field-0 c.places.invariant.measuring c.places-test.true
+    (subst (λ (k : Cell). MeasuredWithin c.args.store.now k.0 c.places.left c.in_ok-term.field-0) c.cell_at-cell.ensures
+    (subst (λ (s : Stored). MeasuredWithin s c.cell_at-cell.result.0 c.places.left c.in_ok-term.field-0) c.places.invariant.same c.in_ok-term.ensures.extent))
+    c.in_default.is
+
+pub places-preserved : goal.places-preserved
+places-preserved c = record {
+  same = c.measure.ensures.same ∙ c.places.invariant.same;
+  measuring =
+      let i : Instance = (link_of c.args.link.now).instance in
+      let one : suc c.places.place ≡ c.places.place + 1 = omega arith in
+      subst (λ p. MeasuresTo c.args.store.now i p (c.places.left - c.in-Some.term.size) c.if-is_ground.is_ground) one
+      (place_more c.args.store.now i c.places.place c.places.left (c.places.left - c.in-Some.term.size) c.places.is_ground c.if-is_ground.is_ground
+      c.in_ok-term.field-0 c.in-Some.term c.places.invariant.measuring c.places-test.true
+      (subst (λ (k : Cell). MeasuredWithin c.args.store.now k.0 c.places.left c.in_ok-term.field-0) c.cell_at-cell.ensures
+      (subst (λ (s : Stored). MeasuredWithin s c.cell_at-cell.result.0 c.places.left c.in_ok-term.field-0) c.places.invariant.same c.in_ok-term.ensures.extent))
+      c.in-Some.is refl
+      (OnTrue_from c.if-is_ground.is_ground ((c.places.is_ground ≡ true) × (c.in-Some.term.above ≡ 0)) (λ t. elim c.if-is_ground.branch [
+        | then-is_ground w ↦ (w.if-is_ground.true, zero_so c.in-Some.term.above (sym w.is_ground-is ∙ t))
+        | else-is_ground w ↦ absurd (no_both c.places.is_ground w.if-is_ground.false (sym w.is_ground-is ∙ t))
+      ])));
 }
 
-pub measure-requires-in-goals : goal.measure-requires-in-goals
-measure-requires-in-goals c =
-    subst (λ (s : Stored). (get_or c.args.link.now.goals.now c.goals.goal-index (record { 0 = 0 })).0 < length s.cells) (sym c.goals.invariant.same)
-    (inside_or (length c.args.store.now.cells) c.args.link.now.goals.now c.goals.goal-index (record { 0 = 0 }) c.requires.goals c.goals-test.true)
+pub returns-then-is_ground-2-clause-measured : goal.returns-then-is_ground-2-clause-measured
+returns-then-is_ground-2-clause-measured c = (
+  places_fit c.args.store.now (link_of c.args.link.now).instance c.places.place c.places.left c.places.is_ground c.places.invariant.measuring (omega (arith, c.places-test.false)),
+  places_ground c.args.store.now (link_of c.args.link.now).instance c.places.place c.places.left c.places.is_ground c.places.invariant.measuring (omega (arith, c.places-test.false)) c.if-is_ground-2.true,
+)
 
-pub goals-preserved : goal.goals-preserved
-goals-preserved c = record {
-  same = c.measure-in-goals.ensures.same ∙ c.goals.invariant.same;
-  measuring = measuring_more c.args.store.now (link_of c.args.link.now).instance c.goals.goal-index c.goals.left _ c.goals.is_ground c.if-is_ground.is_ground (record { 0 = 0 })
-      c.in_ok-term.field-0 c.in-Some-2.term c.goals.invariant.measuring c.goals-test.true
-      (subst (λ (s : Stored). MeasuredWithin s (get_or c.args.link.now.goals.now c.goals.goal-index (record { 0 = 0 })).0 c.goals.left c.in_ok-term.field-0) c.goals.invariant.same c.in_ok-term.ensures.extent)
-      c.in-Some-2.is refl
-      (OnTrue_from c.if-is_ground.is_ground ((c.goals.is_ground ≡ true) × (c.in-Some-2.term.above ≡ 0)) (λ t. elim c.if-is_ground.branch [
-        | then-is_ground w ↦ (w.if-is_ground.true, zero_so c.in-Some-2.term.above (sym w.is_ground-is ∙ t))
-        | else-is_ground w ↦ absurd (no_both c.goals.is_ground w.if-is_ground.false (sym w.is_ground-is ∙ t))
-      ]));
-}
+pub returns-clause-measured : goal.returns-clause-measured
+returns-clause-measured c =
+    places_fit c.args.store.now (link_of c.args.link.now).instance c.places.place c.places.left c.places.is_ground c.places.invariant.measuring (omega (arith, c.places-test.false))

@@ -2,7 +2,7 @@ use Rattle.std.proofs.Common.{◌≡◌, ◌∷◌, ◌+◌, ap, get_or, length,
 use Rattle.apd_cells.specs.Stored.{Stored}
 use Rattle.apd_cells.specs.Store.{MayBind}
 use Rattle.apd_cells.proofs.Following.{viewed}
-use Rattle.apd_cells.proofs.Sizing.{sized_bound}
+use Rattle.apd_cells.proofs.Recent.{sizes_bound}
 use Rattle.apd_cells.proofs.Touching.{heap_bound, marked_bound_by}
 use Rattle.apd_cells.specs.declared.heap.Binding.TheVariants.{At}
 use Rattle.apd_cells.specs.declared.heap.Note.TheVariants.{Bound}
@@ -26,10 +26,9 @@ invariant_of-self-2 c =
       compound_bound c.self.inside.cells.items c.self.inside.trail c.push.new.self c.args.v c.args.to c.self.inside.compounds c.compound_at-compound.result
           may.inside c.self.invariant.2 pushed (c.compound_at-compound.ensures ∙ ap (λ xs. compound_in (get_or xs c.args.to (Var 0))) c.as_slice.ensures.value),
       subst (λ z. AreShort c.self.inside.cells.items z c.self.inside.longest) (sym pushed) c.self.invariant.3,
-      sized_bound (viewed c.self.inside.cells.items c.self.inside.bindings.items c.self.inside.trail) _ c.args.v c.args.to
-          c.self.inside.ground_terms c.self.inside.open_terms c.forget_above.new.known
-          (rw (pushed, length-set c.self.inside.bindings.items c.args.v (At c.args.to)) refl) c.self.invariant.4
-          (c.forget_above.ensures (viewed c.self.inside.cells.items c.self.inside.bindings.items c.self.inside.trail)),
+      sizes_bound (viewed c.self.inside.cells.items c.self.inside.bindings.items c.self.inside.trail) _ c.args.v c.args.to c.self.inside.sizes c.forget_bound.new.self
+          (rw (pushed, length-set c.self.inside.bindings.items c.args.v (At c.args.to)) refl)
+          (c.forget_bound.ensures (viewed c.self.inside.cells.items c.self.inside.bindings.items c.self.inside.trail) (sym c.as_slice-2.ensures.value)) c.self.invariant.4,
     )
 
 pub overflow_add-self : goal.overflow_add-self

@@ -4,7 +4,7 @@ use Rattle.apd_term.specs.Term.{spell}
 use Rattle.apd_term.specs.Canonical.{shifted}
 use Rattle.apd_cells.proofs.Following.{viewed}
 use Rattle.apd_cells.proofs.Loading.{heap_loaded}
-use Rattle.apd_cells.proofs.Sizing.{sized_loaded}
+use Rattle.apd_cells.proofs.Recent.{sizes_loaded}
 use Rattle.apd_cells.proofs.Touching.{marked_loaded}
 use Rattle.apd_cells.proofs.Flat.{compound_loaded, short_loaded}
 use Rattle.apd_cells.proofs.heap.Heap.load.Goals as goal
@@ -25,7 +25,7 @@ invariant_of-self-2 c =
       c.self.invariant.2 ∙ sym (compound_loaded c.self.inside.cells.items c.append.new.cells.items c.self.inside.trail c.push.new.self _ c.in_default.ensures.front g),
       short_loaded c.self.inside.cells.items c.append.new.cells.items c.self.inside.trail c.push.new.self (length c.self.inside.bindings.items) c.self.inside.longest _ c.in_default.ensures.front g
           c.self.invariant.3 longest,
-      sized_loaded (viewed c.self.inside.cells.items c.self.inside.bindings.items c.self.inside.trail) _ c.args.t.now c.args.base
-          c.self.inside.ground_terms c.self.inside.open_terms c.self.invariant.0.kept
+      sizes_loaded (viewed c.self.inside.cells.items c.self.inside.bindings.items c.self.inside.trail) _ c.args.t.now c.args.base
+          c.self.inside.sizes c.self.invariant.0.kept
           (rw (c.in_default.ensures.cells, c.in_default.ensures.variables, g) refl) c.self.invariant.4,
     )

@@ -8,7 +8,7 @@ use Rattle.apd_cells.specs.Store.{meaning}
 use Rattle.apd_cells.specs.Stored.{Stored}
 use Rattle.apd_cells.proofs.Following.{viewed}
 use Rattle.apd_cells.proofs.Loading.{heap_loaded, viewed_loaded}
-use Rattle.apd_cells.proofs.Sizing.{sized_loaded}
+use Rattle.apd_cells.proofs.Recent.{sizes_loaded}
 use Rattle.apd_cells.proofs.Touching.{marked_loaded}
 use Rattle.apd_cells.proofs.Flat.{compound_loaded, short_loaded}
 use Rattle.apd_cells.proofs.heap.Heap.load_for.Goals as goal
@@ -32,8 +32,8 @@ invariant_of-self-2 c =
       c.self.invariant.2 ∙ sym (compound_loaded c.self.inside.cells.items c.append_for.new.cells.items c.self.inside.trail c.push.new.self _ c.in_default.ensures.front g),
       short_loaded c.self.inside.cells.items c.append_for.new.cells.items c.self.inside.trail c.push.new.self (length c.self.inside.bindings.items) c.self.inside.longest _ c.in_default.ensures.front g
           c.self.invariant.3 longest,
-      sized_loaded (viewed c.self.inside.cells.items c.self.inside.bindings.items c.self.inside.trail) _ t 0
-          c.self.inside.ground_terms c.self.inside.open_terms c.self.invariant.0.kept
+      sizes_loaded (viewed c.self.inside.cells.items c.self.inside.bindings.items c.self.inside.trail) _ t 0
+          c.self.inside.sizes c.self.invariant.0.kept
           (viewed_loaded (viewed c.self.inside.cells.items c.self.inside.bindings.items c.self.inside.trail) c.self.inside.cells.items c.append_for.new.cells.items
           c.self.inside.bindings.items c.append_for.new.bindings.items c.self.inside.trail c.push.new.self t 0 refl put.put put.count g) c.self.invariant.4,
     )

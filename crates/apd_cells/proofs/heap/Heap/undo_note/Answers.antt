@@ -2,10 +2,11 @@ use Rattle.std.proofs.Common.{◌≡◌, ◌∷◌, ◌∙◌, ap, arith, get_or
 use Rattle.std.proofs.lemmas.List.{length-set}
 use Rattle.apd_term.specs.declared.term.Sym.TheVariants.{Var}
 use Rattle.apd_cells.proofs.Following.{viewed}
-use Rattle.apd_cells.proofs.Sizing.{forgets, sized_before}
+use Rattle.apd_cells.proofs.Recent.{sizes_undone}
 use Rattle.apd_cells.proofs.Undoing.{before_load, heap_before_load}
 use Rattle.apd_cells.proofs.Touching.{heap_unbound, marked_unbound, marked_unloaded_by}
 use Rattle.apd_cells.proofs.Flat.{short_unloaded}
+use Rattle.apd_cells.specs.Heap.{IsHeap, IsMarked}
 use Rattle.apd_cells.specs.Flat.{AreShort, compound_count, compound_in}
 use Rattle.apd_cells.specs.declared.heap.Binding.TheVariants.{Free}
 use Rattle.apd_cells.specs.declared.heap.Note.TheVariants.{Bound, Loaded}
@@ -25,11 +26,10 @@ invariant_of-self-in-Loaded c =
       c.self.invariant.2 ∙ ap (compound_count c.self.inside.cells.items) newest ∙ rw c.truncate.ensures.items refl,
       rw c.truncate.ensures.items (short_unloaded c.self.inside.cells.items c.self.inside.trail c.pop.new.self c.in-Loaded.cells c.in-Loaded.variables c.self.inside.longest newest c.self.invariant.3),
       rw (c.truncate.ensures.items, c.truncate-in-Loaded.ensures.items)
-          (sized_before here _ (Loaded c.in-Loaded.cells c.in-Loaded.variables) c.pop.new.self
-          c.self.inside.ground_terms c.self.inside.open_terms c.forget_since.new.known c.forget_since-2.new.known newest
+          (sizes_undone here _ c.forget_newest.new.self
           (before_load here c.self.inside.cells.items c.self.inside.bindings.items c.self.inside.trail c.pop.new.self
           c.in-Loaded.cells c.in-Loaded.variables refl c.self.invariant.0 newest)
-          c.self.invariant.4 (forgets here c.len-notes.result c.self.inside.ground_terms c.forget_since.new.known c.len-notes.ensures c.forget_since.ensures) (forgets here c.len-notes.result c.self.inside.open_terms c.forget_since-2.new.known c.len-notes.ensures c.forget_since-2.ensures)),
+          (c.forget_newest.ensures here c.len-notes.ensures c.self.invariant.4)),
     )
 
 pub invariant_of-self-in-Bound : goal.invariant_of-self-in-Bound
@@ -46,7 +46,19 @@ invariant_of-self-in-Bound c =
         c.compound_at.ensures ∙ ap (λ xs. compound_in (get_or xs c.in-Bound.to (Var 0))) c.as_slice.ensures.value,
       ),
       subst (λ z. AreShort c.self.inside.cells.items z c.self.inside.longest) newest c.self.invariant.3,
-      sized_before here _ (Bound c.in-Bound.v c.in-Bound.to) c.pop.new.self c.self.inside.ground_terms c.self.inside.open_terms c.forget_since.new.known c.forget_since-2.new.known
-          newest (rw (newest, length-set c.self.inside.bindings.items c.in-Bound.v Free) refl) c.self.invariant.4 (forgets here c.len-notes.result c.self.inside.ground_terms c.forget_since.new.known c.len-notes.ensures c.forget_since.ensures)
-          (forgets here c.len-notes.result c.self.inside.open_terms c.forget_since-2.new.known c.len-notes.ensures c.forget_since-2.ensures),
+      sizes_undone here _ c.forget_newest.new.self
+          (rw (newest, length-set c.self.inside.bindings.items c.in-Bound.v Free) refl)
+          (c.forget_newest.ensures here c.len-notes.ensures c.self.invariant.4),
+    )
+
+pub invariant_of-self : goal.invariant_of-self
+invariant_of-self c =
+    let here = viewed c.self.inside.cells.items c.self.inside.bindings.items c.self.inside.trail in
+    let e : c.self.inside.trail ≡ c.pop.new.self = c.in_default.ensures.0 ∙ sym c.in_default.ensures.1 in (
+      subst (IsHeap c.self.inside.cells.items c.self.inside.bindings.items) e c.self.invariant.0,
+      subst (λ z. IsMarked c.self.inside.cells.items z c.self.inside.touched c.self.inside.front) e c.self.invariant.1,
+      c.self.invariant.2 ∙ ap (compound_count c.self.inside.cells.items) e,
+      subst (λ z. AreShort c.self.inside.cells.items z c.self.inside.longest) e c.self.invariant.3,
+      sizes_undone here _ c.forget_newest.new.self (rw (c.in_default.ensures.0, c.in_default.ensures.1) refl)
+          (c.forget_newest.ensures here c.len-notes.ensures c.self.invariant.4),
     )

@@ -1,0 +1,4 @@
+pub mod Counts
+pub mod Measuring
+pub mod Noticing
+pub mod Search

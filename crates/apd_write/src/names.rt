@@ -98,6 +98,7 @@ fn write_quoted_byte(byte: u8, out: &mut Text) -> Result<(), AllocError>
     }
 }
 
+#[inline(never)]
 fn write_quoted(name: &[u8], out: &mut Text) -> Result<(), AllocError>
     ensures { OnOk result (out.new ≡ out.old ++ quoted name.now) }
 {

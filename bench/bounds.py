@@ -440,6 +440,7 @@ def references(bench):
 
 def main():
     os.environ.setdefault("MALLOC_MMAP_THRESHOLD_", "131072")  # as ./apd does
+    os.environ.setdefault("MALLOC_TRIM_THRESHOLD_", "1048576")
     words = sys.argv[1:]
     only = ""
     if words[:1] == ["--only"]:

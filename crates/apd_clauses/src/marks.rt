@@ -1,7 +1,7 @@
 //! Marks: numbers that a predicate's clauses share whose first arguments begin alike, by which those
 //! are found that a goal may enter.
 
-ghost use Rattle.std.specs.Prelude.{◌≡◌, ◌≢◌, ◌++◌, [], ℕ, ◌<◌, ◌≤◌, List, length, get_or, IfSome, OnOk, OnErr};
+ghost use Rattle.std.specs.Prelude.{◌≡◌, ◌≢◌, ◌++◌, [], ℕ, ◌<◌, ◌≤◌, List, length, get_or, IfSome, IsTrue, OnOk, OnErr};
 ghost use Rattle.std.specs.List.Sorted.{IsNonDecreasing};
 ghost use Rattle.apd_clauses.specs.Marks.{HaveSameMarked, IsFirstFrom, NotesMark, mark_for, marked_at, part_of};
 
@@ -116,6 +116,37 @@ pub(crate) fn earlier(one: Option<u32>, other: Option<u32>) -> Option<u32>
     }
 }
 
+/// Whether all numbers before this place are below this one.
+fn are_below(numbers: &[u32], at: usize, number: u32) -> bool
+    requires { IsNonDecreasing numbers.now }
+    ensures { IsTrue result → (k : ℕ) → k < at → get_or numbers.now k 0 < number }
+{
+    if at == 0 {
+        return true;
+    }
+    match numbers.get(at - 1) {
+        Some(last) => *last < number,
+        None => false,
+    }
+}
+
+/// A place before which all numbers are below this one. The clauses of a predicate mostly stand together: then it is as far
+/// behind `from` as the number is above the one there, and isn't searched for.
+fn place_near(numbers: &[u32], from: usize, number: u32) -> usize
+    requires { IsNonDecreasing numbers.now }
+    ensures { (k : ℕ) → k < result → get_or numbers.now k 0 < number }
+{
+    let far = match numbers.get(from) {
+        Some(least) => number.saturating_sub(*least),
+        None => 0,
+    };
+    let near = from.saturating_add(far as usize);
+    if are_below(numbers, near, number) {
+        return near;
+    }
+    count_below(numbers, number)
+}
+
 /// The first place from this one on at which the numbers come to a number, or their end where
 /// there is none.
 pub(crate) fn place_of(numbers: &[u32], from: usize, number: Option<u32>) -> usize
@@ -125,7 +156,7 @@ pub(crate) fn place_of(numbers: &[u32], from: usize, number: Option<u32>) -> usi
         (λ n. (k : ℕ) → from ≤ k → k < result → get_or numbers.now k 0 < n) }
 {
     let place = match number {
-        Some(number) => count_below(numbers, number),
+        Some(number) => place_near(numbers, from, number),
         None => numbers.len(),
     };
     place.max(from)

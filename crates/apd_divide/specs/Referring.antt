@@ -19,12 +19,12 @@ IsLabelThere (labels.Recorded recorded exit) = exit.0 < length recorded.now.poin
 IsLabelThere (labels.Own label) = Unit {0}
 
 abbrev pub tuple_in : TuplePlace → Tuple
-tuple_in (tuples.Recorded recorded exit pred) = (point_of recorded.now exit.0).tuple
+tuple_in (tuples.Recorded exit pred recorded) = (point_of recorded.now exit.0).tuple
 tuple_in (tuples.Own tuple) = tuple.value
 
 -- the exit is there, and its head has the predicate
 abbrev pub IsTupleThere : TuplePlace → Type 0
-IsTupleThere (tuples.Recorded recorded exit pred) =
+IsTupleThere (tuples.Recorded exit pred recorded) =
     (exit.0 < length recorded.now.points) × (predicate_of (point_of recorded.now exit.0).tuple.head ≡ Some pred)
 IsTupleThere (tuples.Own tuple) = Unit {0}
 

@@ -6,6 +6,7 @@ use Rattle.std.specs.Option.{option_or}
 use Rattle.std.specs.List.Sorted.{IsNonDecreasing}
 use Rattle.std.proofs.lemmas.List.Elements.{All-cons, All-head, All-tail, All-weaker}
 use Rattle.std.proofs.lemmas.Option.{get_or_from_slice_get}
+use Rattle.apd_record.proofs.Atoms.{predicate-apply}
 use Rattle.apd_term.specs.Term.{Term, variable, integer, compound, none, more, predicate_of}
 use Rattle.apd_term.specs.declared.term.Pred.{Pred}
 use Rattle.apd_term.specs.declared.term.Sym.{Sym}
@@ -24,7 +25,6 @@ use Rattle.apd_answers.specs.declared.tellers.Teller.{Teller}
 use Rattle.apd_marks.proofs.Noting.{place_where, rises_where, within_where}
 use Rattle.apd_answers.specs.Store.{decided_in, told, told_of_truth}
 use Rattle.apd_answers.specs.Tellers.{IsFirstTold, IsNarrow, TellsNothing, any_atom, mark_by, mark_of_atoms, reply_in, tellers, telling_mark, telling_of}
-use Rattle.apd_answers.proofs.Trusted.{predicate-apply}
 
 -- Places rise, and are within.
 

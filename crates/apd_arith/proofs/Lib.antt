@@ -5,3 +5,4 @@ pub mod Memoryless
 pub mod Found
 pub mod Faulting
 pub mod Tests
+pub mod Instances

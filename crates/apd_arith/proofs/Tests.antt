@@ -1,8 +1,8 @@
 -- The tests of truth and of ground terms tell truth.
-use Rattle.std.proofs.Common.{◌≡◌, ◌&&◌, Bool, true, false, List, [], ◌∷◌, length, Option, Some, None, Result, Ok, Err, refl, ap, sym, ◌∙◌, arith}
+use Rattle.std.proofs.Common.{◌≡◌, Bool, true, false, List, [], ◌∷◌, length, Option, Some, None, Result, Ok, Err, refl, ap, sym, ◌∙◌, arith}
 use Rattle.std.specs.Prelude.{ℕ, ℤ, IsNone, IfSome, IsTrue, ◌↔◌}
 use Rattle.std.specs.Option.{unwrap_or}
-use Rattle.std.proofs.lemmas.Bool.{eqb-true}
+use Rattle.std.proofs.lemmas.Bool.{eqb-true, and_parts}
 use Rattle.std.specs.List.{list_all, AllByRecursion}
 use Rattle.apd_term.specs.Term.{Term, integer, arguments, variables, IsGround}
 use Rattle.apd_term.proofs.Opposite.{same_term-same, same_term-equal}
@@ -135,10 +135,6 @@ test_ground t is = empty_of (variables t) (eqb-true (length (variables t)) 0 is)
 pub ground_test : (t : Term) → IsGround t → is_ground t ≡ true
 ground_test t is = rw is refl
 
-both : (a b : Bool) → (a && b) ≡ true → (a ≡ true) × (b ≡ true)
-both true b is = (refl, is)
-both false b is = absurd (cc)
-
 pub all_ground : (ts : List Term) → list_all is_ground ts ≡ true → AllByRecursion IsGround ts
 all_ground [] is = tt
-all_ground (t ∷ ts) is = let h = both (is_ground t) (list_all is_ground ts) is in (test_ground t h.0, all_ground ts h.1)
+all_ground (t ∷ ts) is = let h = and_parts (is_ground t) (list_all is_ground ts) is in (test_ground t h.0, all_ground ts h.1)

@@ -55,7 +55,7 @@ arity_within (Var v) s h = omega arith
 arity_within (Int i) s h = omega arith
 arity_within (Fun f n) s h = omega (arith, (under_name f n s h).0, length-take n (read_all s))
 
-one_back : (s : List Sym) (at : ℕ) (d : Sym) → 0 < at → at ≤ length s → drop (at - 1) s ≡ get_or s (at - 1) d ∷ drop at s
+pub one_back : (s : List Sym) (at : ℕ) (d : Sym) → 0 < at → at ≤ length s → drop (at - 1) s ≡ get_or s (at - 1) d ∷ drop at s
 one_back s at d p l =
     let e : drop (at - 1) s ≡ get_or s (at - 1) d ∷ drop (at - 1 + 1) s = drop_more s (at - 1) d (omega arith) in
     let q : at - 1 + 1 ≡ at = omega arith in

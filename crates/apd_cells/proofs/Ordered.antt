@@ -7,8 +7,7 @@ use Rattle.std.proofs.lemmas.Bool.Decides.{Decides-eqb}
 use Rattle.std.proofs.lemmas.List.{length-append, length-set, get_or-set_same, get_or-set_other}
 use Rattle.apd_term.specs.Term.{Term, variable, IsAmong, Occurs}
 use Rattle.apd_term.specs.Canonical.{with_new, place_of, canonical_in}
-use Rattle.apd_term.proofs.Among.{IsAmong-left, IsAmong-right}
-use Rattle.apd_term.proofs.Variants.{apply-agree}
+use Rattle.apd_term.proofs.Variants.{apply-agree, with_new-adds, with_new-keeps}
 use Rattle.apd_cells.specs.Ordered.{IsFirst, IsNotBefore, IsPlace, HasPlaces, HasMorePlaces}
 
 same_number : {X : Type 0} (k m : ℕ) (x y : X) → k ≡ m → (if k == m then x else y) ≡ x
@@ -45,10 +44,6 @@ any_other (x ∷ xs) v n = not_first x v (x == v) (list_any (λ w. w == v) xs) (
 first_or_later : (x v : ℕ) (b r : Bool) → Decides b (x ≡ v) → (b || r) ≡ true → (x ≡ v) ⊎ (r ≡ true)
 first_or_later x v true r d e = inl (d.0 refl)
 first_or_later x v false r d e = inr e
-
-any_among : (xs : List ℕ) (v : ℕ) → list_any (λ w. w == v) xs ≡ true → IsAmong xs v
-any_among [] v e = cc
-any_among (x ∷ xs) v e = elim (first_or_later x v (x == v) (list_any (λ w. w == v) xs) (Decides-eqb x v) e) [ inl q ↦ inl q | inr r ↦ inr (any_among xs v r) ]
 
 -- a variable that was seen, and one that wasn't
 pub with_old : (seen : List ℕ) (v : ℕ) → IsAmong seen v → with_new seen v ≡ seen
@@ -195,27 +190,13 @@ pub places_few : (seen places : List ℕ) (v : ℕ) → HasPlaces seen places �
 places_few seen places v h few = λ i f l. absurd (omega (arith, f, l, few, length-append seen (v ∷ [])))
 
 -- what stands in an order stays there, at its place
-among_with : (seen : List ℕ) (v w : ℕ) → IsAmong seen w → IsAmong (with_new seen v) w
-among_with seen v w m = by (list_any (λ x. x == v) seen)
-  where
-    by : (b : Bool) → IsAmong (if b then seen else seen ++ v ∷ []) w
-    by true = m
-    by false = IsAmong-left seen (v ∷ []) w m
-
-among_self : (seen : List ℕ) (v : ℕ) → IsAmong (with_new seen v) v
-among_self seen v = by (list_any (λ x. x == v) seen) refl
-  where
-    by : (b : Bool) → list_any (λ x. x == v) seen ≡ b → IsAmong (if b then seen else seen ++ v ∷ []) v
-    by true e = any_among seen v e
-    by false e = IsAmong-right seen (v ∷ []) v (inl refl)
-
 pub among_fold : (vs seen : List ℕ) (w : ℕ) → IsAmong seen w → IsAmong (fold with_new seen vs) w
 among_fold [] seen w m = m
-among_fold (v ∷ vs) seen w m = among_fold vs (with_new seen v) w (among_with seen v w m)
+among_fold (v ∷ vs) seen w m = among_fold vs (with_new seen v) w (with_new-keeps seen v w m)
 
 pub among_seen : (vs seen : List ℕ) (w : ℕ) → IsAmong vs w → IsAmong (fold with_new seen vs) w
 among_seen [] seen w m = absurd m
-among_seen (v ∷ vs) seen w (inl e) = among_fold vs (with_new seen v) w (subst (IsAmong (with_new seen v)) e (among_self seen v))
+among_seen (v ∷ vs) seen w (inl e) = among_fold vs (with_new seen v) w (subst (IsAmong (with_new seen v)) e (with_new-adds seen v))
 among_seen (v ∷ vs) seen w (inr m) = among_seen vs (with_new seen v) w m
 
 place_behind : (seen ys : List ℕ) (w : ℕ) → IsAmong seen w → place_of (seen ++ ys) w ≡ place_of seen w
@@ -237,7 +218,7 @@ place_with seen v w m = by (list_any (λ x. x == v) seen)
 
 pub place_fold : (vs seen : List ℕ) (w : ℕ) → IsAmong seen w → place_of (fold with_new seen vs) w ≡ place_of seen w
 place_fold [] seen w m = refl
-place_fold (v ∷ vs) seen w m = place_fold vs (with_new seen v) w (among_with seen v w m) ∙ place_with seen v w m
+place_fold (v ∷ vs) seen w m = place_fold vs (with_new seen v) w (with_new-keeps seen v w m) ∙ place_with seen v w m
 
 -- a term whose variables have places keeps its form where more are seen
 pub canonical_kept : (vs seen : List ℕ) (t : Term) → ((v : ℕ) → Occurs v t → IsAmong seen v) → canonical_in (fold with_new seen vs) t ≡ canonical_in seen t

@@ -118,7 +118,7 @@ open_mark : (p : Pred) (v : ℕ) → mark_for p (Var v) ≡ mark_for p (Var 0)
 unfolding mark_for
 open_mark p v = refl
 
-own_predicate : (o : Option Pred) (p : Pred) → is_pred o p ≡ true → o ≡ Some p
+pub own_predicate : (o : Option Pred) (p : Pred) → is_pred o p ≡ true → o ≡ Some p
 own_predicate None p e = cc
 own_predicate (Some q) p e = ap Some (same_pred-true q p e)
 

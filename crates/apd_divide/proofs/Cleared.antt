@@ -3,6 +3,7 @@ use Rattle.std.proofs.Common.{◌≡◌, ℕ, zero, suc, ◌+◌, ◌<◌, ◌�
 use Rattle.std.specs.Prelude.{if◌then◌else◌}
 use Rattle.std.specs.Option.{option_map}
 use Rattle.std.proofs.lemmas.List.{append-nil, map-append, length-append, set_at}
+use Rattle.apd_record.proofs.Shaped.{mapped}
 use Rattle.apd_term.specs.Term.{Term}
 use Rattle.apd_term.specs.declared.tuple.Tuple.{Tuple}
 use Rattle.apd_divide.specs.declared.node.Row.{Row}
@@ -17,7 +18,7 @@ use Rattle.apd_divide.specs.Cleared.{cleared, all_cleared, cleared_below}
 use Rattle.apd_divide.specs.Growing.{blank}
 use Rattle.apd_divide.specs.Rows.{row, rows, rows_of, nodes, nodes_of}
 use Rattle.apd_divide.specs.Kept.{forest_from}
-use Rattle.apd_divide.proofs.Weights.{by_test, map_some, TakesSuspects, stopped, down, along, found, way-takes, such-lowers}
+use Rattle.apd_divide.proofs.Weights.{by_test, TakesSuspects, stopped, down, along, found, way-takes, such-lowers}
 use Rattle.apd_divide.proofs.Rows.{length-rows, length-rows_of, one_node}
 use Rattle.apd_divide.proofs.Kept.{at_place}
 use Rattle.apd_divide.proofs.Doubting.{joined, rows-joined}
@@ -105,12 +106,12 @@ module _ (such : Term → Bool) where
   mutual
     cut-same : (x : Tree) (c : Cut) → cut (to_such such) x ≡ Some c → cleared_below such (c.rest Cleared) ≡ cleared_below such x
     cut-same (node s n t ts) c e =
-        let m = map_some (at_node (node s n t)) (cut_among (to_such such) ts) c e in
+        let m = mapped (at_node (node s n t)) (cut_among (to_such such) ts) c e in
         subst (λ (d : Cut). cleared_below such (d.rest Cleared) ≡ node s n t (all_cleared such ts)) m.2 (ap (node s n t) (among-same ts m.0 m.1))
 
     down-same : (x : Tree) (c : Cut) → has_such such x ≡ true → (is_suspect x && such (label x)) ≡ false → cut (to_such such) x ≡ Some c → cleared such (c.rest Cleared) ≡ cleared such x
     down-same (node s n t ts) c h o e =
-        let m = map_some (at_node (node s n t)) (cut_among (to_such such) ts) c e in
+        let m = mapped (at_node (node s n t)) (cut_among (to_such such) ts) c e in
         let k = not_cleared s n t ts h in
         subst (λ (d : Cut). cleared such (d.rest Cleared) ≡ cleared such (node s n t ts)) m.2
         (passed s n t (m.0.rest Cleared) k o ∙ ap (node s n t) (among-same ts m.0 m.1) ∙ sym (passed s n t ts k o))
@@ -336,13 +337,13 @@ module _ (such : Term → Bool) where
     mutual
       cut_leaves : (x : Tree) (c : Cut) → cut way x ≡ Some c → have_such such (children x) ≡ false → LeavesNone c
       cut_leaves (node s n t ts) c e h =
-          let m = map_some (at_node (node s n t)) (cut_among way ts) c e in
+          let m = mapped (at_node (node s n t)) (cut_among way ts) c e in
           let k = among_leaves ts m.0 m.1 h in
           subst LeavesNone m.2 (record { chosen = k.chosen; rest = λ v. k.rest v })
 
       down_leaves : (x : Tree) (c : Cut) → cut way x ≡ Some c → 1 ≤ weight x → has_such such x ≡ false → LeavesNoneIn c
       down_leaves (node s n t ts) c e w h =
-          let m = map_some (at_node (node s n t)) (cut_among way ts) c e in
+          let m = mapped (at_node (node s n t)) (cut_among way ts) c e in
           let k = among_leaves ts m.0 m.1 (below_none (node s n t ts) w h) in
           subst LeavesNoneIn m.2 (record { chosen = k.chosen; rest = λ v. with_none s n t ts (m.0.rest v) h (k.rest v) })
 

@@ -1,9 +1,10 @@
 -- Walks over the rows of trees beside each other, into those that are open or doubted and past those that are cleared: the
 -- instances of the nodes that were judged unknown, and the first suspect that has such a label.
-use Rattle.std.proofs.Common.{◌≡◌, ℕ, suc, ◌+◌, ◌-◌, ◌<◌, ◌≤◌, ◌&&◌, ◌||◌, Bool, true, false, List, [], ◌∷◌, ◌++◌, length, get_or, drop, Option, Some, None, refl, sym, ◌∙◌, ap, arith, append_assoc}
+use Rattle.std.proofs.Common.{◌≡◌, ℕ, suc, ◌+◌, ◌-◌, ◌<◌, ◌≤◌, ◌&&◌, Bool, true, false, List, [], ◌∷◌, ◌++◌, length, get_or, drop, Option, Some, None, refl, sym, ◌∙◌, ap, arith, append_assoc}
 use Rattle.std.specs.Prelude.{MatchBool}
 use Rattle.std.specs.Option.{option_map}
 use Rattle.std.proofs.lemmas.List.{drop_at, drop-drop, length-append, length-drop, append-nil}
+use Rattle.std.proofs.lemmas.Bool.{or_parts}
 use Rattle.apd_term.specs.Term.{Term}
 use Rattle.apd_term.specs.declared.tuple.Tuple.{Tuple}
 use Rattle.apd_term.specs.declared.instance.Instance.{Instance}
@@ -155,10 +156,6 @@ map-suc : (o : Option ℕ) → option_map suc o ≡ option_map (λ j. 1 + j) o
 map-suc None = refl
 map-suc (Some j) = ap Some (omega arith)
 
-or_both : (a b : Bool) → (a || b) ≡ false → (a ≡ false) × (b ≡ false)
-or_both true b e = absurd (cc)
-or_both false b e = (refl, e)
-
 module _ (such : Term → Bool) where
   joined-first : (ts xs : Forest) → have_such such ts ≡ true → number_among (to_such such) (joined ts xs) ≡ number_among (to_such such) ts
   joined-first bare xs h = absurd (cc)
@@ -170,7 +167,7 @@ module _ (such : Term → Bool) where
   joined-later : (ts xs : Forest) → have_such such ts ≡ false → number_among (to_such such) (joined ts xs) ≡ option_map (λ j. nodes_of ts + j) (number_among (to_such such) xs)
   joined-later bare xs h = sym (map-none (number_among (to_such such) xs))
   joined-later (beside y ys) xs h =
-      let b = or_both (has_such such y) (have_such such ys) h in
+      let b = or_parts (has_such such y) (have_such such ys) h in
       rw b.0 (ap (option_map (λ k. nodes y + k)) (joined-later ys xs b.1) ∙ map-twice (nodes y) (nodes_of ys) (number_among (to_such such) xs))
 
   -- the first node has no such label: what is below it comes next

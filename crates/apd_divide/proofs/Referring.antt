@@ -11,18 +11,19 @@ use Rattle.apd_term.specs.Substitution.{IsInstance}
 use Rattle.apd_term.specs.Tuple.{variables_of_tuple}
 use Rattle.apd_term.specs.declared.term.Pred.{Pred}
 use Rattle.apd_term.specs.declared.tuple.Tuple.{Tuple}
-use Rattle.apd_term.proofs.Ground.{apply-ground}
+use Rattle.apd_term.proofs.Ground.{apply-ground, canonical-ground}
 use Rattle.apd_ports.specs.declared.point.Point.{Point}
 use Rattle.apd_record.specs.Recorded.{Recorded, box_at, point_at, is_user_atom}
 use Rattle.apd_record.specs.declared.rows.BoxRow.{BoxRow}
 use Rattle.apd_record.specs.Index.{id_of}
 use Rattle.apd_record.specs.Sound.{IsKept}
 use Rattle.apd_record.specs.Reading.{point_of, exits_in, exits_before, exits_to}
+use Rattle.apd_record.proofs.Missing.{both_empty}
 use Rattle.apd_divide.specs.declared.growing.Pending.{Pending}
 use Rattle.apd_divide.specs.Exits.{IsLabelled}
 use Rattle.apd_divide.specs.Solved.{IsSolvedBy, AreSolved}
 use Rattle.apd_divide.specs.Growing.{instance_at, calls_for, calls_at, stacked, IsGroundExit}
-use Rattle.apd_divide.proofs.Ground.{both_none, canonical-ground, instance_with-ground}
+use Rattle.apd_divide.proofs.Ground.{instance_with-ground}
 use Rattle.apd_divide.proofs.Solved.{point-is, same_some}
 use Rattle.apd_divide.proofs.Grown.{point_there, instance_done, instance_solved}
 
@@ -65,7 +66,7 @@ exit_within R m x a s = slice_get_within R.points x s.point s.there
 pub ground_label : (R : Recorded) (m x : ℕ) (a : Term) → IsSolvedBy R m a x → IfSome (point_at R x) (λ (p : Point). variables_of_tuple p.tuple ≡ []) → (point_of R x).tuple.head ≡ canonical a
 ground_label R m x a s h =
     let g : variables_of_tuple s.point.tuple ≡ [] = subst (λ o. IfSome o (λ (p : Point). variables_of_tuple p.tuple ≡ [])) s.there h in
-    let head = (both_none (variables s.point.tuple.head) (flat_map variables s.point.tuple.body) g).0 in
+    let head = (both_empty (variables s.point.tuple.head) (flat_map variables s.point.tuple.body) g).0 in
     let same : s.point.tuple.head ≡ a = sym (apply-ground s.instance.0 s.point.tuple.head head) ∙ s.instance.1 in
     ap (λ (p : Point). p.tuple.head) (point-is R x s.point s.there) ∙ canonical-ground s.point.tuple.head head ∙ ap canonical same
 

@@ -5,6 +5,7 @@ use Rattle.std.specs.List.{list_all}
 use Rattle.std.proofs.Math.Seq.{drop-cons}
 use Rattle.std.proofs.lemmas.List.Elements.{All-head, All-tail}
 use Rattle.std.proofs.lemmas.Option.{get_or_from_slice_get, slice_get-get_or, slice_get_within}
+use Rattle.apd_record.proofs.Atoms.{predicate-apply}
 use Rattle.apd_term.specs.Substitution.{IsInstance}
 use Rattle.apd_term.specs.Term.{Term, predicate_of}
 use Rattle.apd_term.specs.declared.term.Pred.{Pred}
@@ -12,51 +13,17 @@ use Rattle.apd_term.specs.declared.term.Sym.{Sym}
 use Rattle.apd_term.specs.declared.tuple.Tuple.{Tuple}
 use Rattle.apd_cells.specs.First.{AreClashing, key_of}
 use Rattle.apd_unify.proofs.Beginning.{key_of-apply}
-use Rattle.apd_clauses.specs.Clauses.{IsClause, IsProgram, clause_at, clauses_from, is_for, is_pred, numbers_from, numbers_of, tuples_of}
+use Rattle.apd_clauses.specs.Clauses.{IsClause, IsProgram, clause_at, clauses_from, is_for, is_pred, numbers_of, tuples_of}
 use Rattle.apd_clauses.specs.Marks.{PassesOver}
 use Rattle.apd_clauses.specs.declared.clause.Clause.{Clause}
 use Rattle.apd_clauses.proofs.Indexing.{same_pred-self}
 use Rattle.apd_clauses.proofs.Pure.{no_user}
+use Rattle.apd_clauses.proofs.Numbers.{IsNumberOf, number_of, same_count}
 use Rattle.apd_answers.specs.Store.{Store}
-use Rattle.apd_answers.proofs.Trusted.{predicate-apply}
 use Rattle.apd_findings.specs.Deciding.{covers_not}
 use Rattle.apd_findings.proofs.Clauses.{no_instance}
 
 -- Numbers of clauses.
-
-same_count : (n : ℕ) (p : Pred) (cs : List Clause) → length (clauses_from n p (tuples_of cs)) ≡ length (numbers_from n p cs)
-same_count n p [] = refl
-same_count n p (c ∷ cs) = either (is_for p c) (same_count (n + 1) p cs)
-  where
-    either : (b : Bool) → length (clauses_from (n + 1) p (tuples_of cs)) ≡ length (numbers_from (n + 1) p cs)
-        → length (if b then (n, c.tuple) ∷ clauses_from (n + 1) p (tuples_of cs) else clauses_from (n + 1) p (tuples_of cs))
-        ≡ length (if b then n ∷ numbers_from (n + 1) p cs else numbers_from (n + 1) p cs)
-    either true later = omega (arith, later)
-    either false later = later
-
--- a number in its place: the clause that has it, at the same place among the predicate's
-record IsNumberOf (n : ℕ) (xs : List (ℕ × Tuple)) (cs : List Clause) (at k : ℕ) : Type 0 where
-  clause : Clause
-  index : ℕ
-  number : k ≡ n + index
-  there : slice_get cs index ≡ Some clause
-  among : slice_get xs at ≡ Some (k, clause.tuple)
-
-behind : (n : ℕ) (c : Clause) (xs ys : List (ℕ × Tuple)) (cs : List Clause) (at at' k : ℕ) → IsNumberOf (n + 1) xs cs at k → slice_get ys at' ≡ slice_get xs at → IsNumberOf n ys (c ∷ cs) at' k
-behind n c xs ys cs at at' k h same = record { clause = h.clause; index = suc h.index; number = omega (arith, h.number); there = h.there; among = same ∙ h.among }
-
-number_of : (n : ℕ) (p : Pred) (cs : List Clause) (at k : ℕ) → slice_get (numbers_from n p cs) at ≡ Some k → IsNumberOf n (clauses_from n p (tuples_of cs)) cs at k
-number_of n p [] at k e = cc
-number_of n p (c ∷ cs) at k e = either (is_for p c) at e (λ at' e'. number_of (n + 1) p cs at' k e')
-  where
-    either : (b : Bool) (at : ℕ) → slice_get (if b then n ∷ numbers_from (n + 1) p cs else numbers_from (n + 1) p cs) at ≡ Some k
-        → ((at' : ℕ) → slice_get (numbers_from (n + 1) p cs) at' ≡ Some k → IsNumberOf (n + 1) (clauses_from (n + 1) p (tuples_of cs)) cs at' k)
-        → IsNumberOf n (if b then (n, c.tuple) ∷ clauses_from (n + 1) p (tuples_of cs) else clauses_from (n + 1) p (tuples_of cs)) (c ∷ cs) at k
-    either true zero e' later =
-        let same : n ≡ k = cc in
-        record { clause = c; index = 0; number = omega (arith, same); there = refl; among = ap (λ (j : ℕ). Some (j, c.tuple)) same }
-    either true (suc at) e' later = behind n c (clauses_from (n + 1) p (tuples_of cs)) ((n, c.tuple) ∷ clauses_from (n + 1) p (tuples_of cs)) cs at (suc at) k (later at e') refl
-    either false at e' later = behind n c (clauses_from (n + 1) p (tuples_of cs)) (clauses_from (n + 1) p (tuples_of cs)) cs at at k (later at e') refl
 
 module _ (p : Pred) (cs : List Clause) (numbers : List ℕ) (at : ℕ) (is : numbers ≡ numbers_of p cs) (within : at < length numbers) where
   number : IsNumberOf 1 (clauses_from 1 p (tuples_of cs)) cs at (get_or numbers at 0)

@@ -2,7 +2,7 @@
 use Rattle.std.proofs.Common.{◌≡◌, ◌≢◌, ◌⊎◌, ◌↔◌, inl, inr, ℕ, zero, suc, ◌+◌, ◌-◌, ◌<◌, ◌≤◌, Bool, true, false, cond, not, if◌then◌else◌, ◌||◌, List, [], ◌∷◌, ◌++◌, map, length, drop, get_or, Some, None, ltb, refl, sym, ◌∙◌, ap, subst, arith}
 use Rattle.std.specs.Bool.{Decides}
 use Rattle.std.specs.List.{list_any, position, position_or_len}
-use Rattle.std.proofs.lemmas.Bool.Decides.{nat_tests}
+use Rattle.std.proofs.lemmas.Bool.Decides.{nat_tests, not_from_Decides}
 use Rattle.std.proofs.lemmas.List.{drop_more, map-append}
 use Rattle.indexmap.specs.IndexSet.{insert_key}
 use Rattle.apd_term.specs.Canonical.{canonical}
@@ -63,15 +63,12 @@ behind-first n = omega arith
 shorter : (n m : ℕ) → ltb (1 + n) (suc m) ≡ true → ltb n m ≡ true
 shorter n m h = grind (arith, nat_tests)
 
-decided : {P : Type 0} (b : Bool) → Decides b P → b ≡ false → ¬ P
-decided b d e h = let g : true ≡ false = sym (d.1 h) ∙ e in cc
-
 module _ {X : Type 0} (f : X → List Part) (E : X → X → Bool) (same : (a b : X) → Decides (E a b) (f a ≡ f b)) where
   test-true : (k m : X) → E k m ≡ true → f m ≡ f k
   test-true k m e = sym ((same k m).0 e)
 
   test-false : (k m : X) → E k m ≡ false → f m ≢ f k
-  test-false k m e h = decided (E k m) (same k m) e (sym h)
+  test-false k m e h = not_from_Decides (E k m) (same k m) e (sym h)
 
   pub any-among : (ks : List X) (k : X) → list_any (E k) ks ≡ true → IsKeyAmong (map f ks) (f k)
   any-among [] k e = absurd (cc)

@@ -1,7 +1,9 @@
 -- What the pairs of a store say of atoms is what the lists have that are kept of it.
 use Rattle.std.proofs.Common.{◌≡◌, ◌⊎◌, inl, inr, map, ◌<◌, ◌≤◌, ◌+◌, ◌++◌, ◌&&◌, ℕ, zero, suc, Bool, true, false, List, [], ◌∷◌, length, take, Result, Ok, Err, refl, sym, ap, ◌∙◌, subst, arith, append_assoc}
+use Rattle.std.proofs.lemmas.Bool.{and_parts, or_right}
+use Rattle.std.proofs.lemmas.List.Folds.{list_any-append}
 use Rattle.std.specs.Prelude.{◌||◌, if◌then◌else◌, IfOk, IfSome, OnOk, slice_get}
-use Rattle.std.specs.List.{enumerate_from, list_any}
+use Rattle.std.specs.List.{enumerate_from}
 use Rattle.apd_term.specs.Canonical.{canonical}
 use Rattle.apd_term.specs.Matching.{is_instance}
 use Rattle.apd_term.specs.Substitution.{IsInstance, term_for}
@@ -17,7 +19,7 @@ use Rattle.apd_answers.specs.declared.question.Question.TheVariants as asks
 use Rattle.apd_answers.specs.declared.question.Reply.{Reply}
 use Rattle.apd_answers.specs.declared.question.Reply.TheVariants.{Yes, No, Values, Unknown}
 use Rattle.apd_answers.specs.declared.store.Pair.{Pair}
-use Rattle.apd_answers.proofs.Tests.{both, same_question-equal, same_reply-equal}
+use Rattle.apd_answers.proofs.Tests.{same_question-equal, same_reply-equal}
 use Rattle.apd_index.specs.Retrieval.{has_general, has_special}
 use Rattle.apd_findings.specs.Deciding.{some_pair, tells_no, tells_yes}
 use Rattle.apd_findings.specs.Parted.{AreAffirmed, AreDenied, affirmed_by, denied_by}
@@ -67,22 +69,14 @@ or-true true b h = refl
 or-true false true h = h refl
 or-true false false h = refl
 
-or-right : (a b : Bool) → b ≡ true → (a || b) ≡ true
-or-right true b h = refl
-or-right false b h = h
-
 or-assoc : (a b c : Bool) → (a || (b || c)) ≡ ((a || b) || c)
 or-assoc true b c = refl
 or-assoc false b c = refl
 
-any-append : {X : Type 0} (test : X → Bool) (xs ys : List X) → list_any test (xs ++ ys) ≡ (list_any test xs || list_any test ys)
-any-append test [] ys = refl
-any-append test (x ∷ xs) ys = ap (λ b. test x || b) (any-append test xs ys) ∙ or-assoc (test x) (list_any test xs) (list_any test ys)
-
 pair-any : (test : Question → Reply → Bool) (P : Question → Reply → Type 0) → ((q : Question) (r : Reply) → P q r → test q r ≡ true) → (pairs : List Pair) → SomePairIn P pairs → some_pair test pairs ≡ true
 pair-any test P h [] s = absurd s
 pair-any test P h (p ∷ pairs) (inl s) = let here = h p.question p.reply s in rw here refl
-pair-any test P h (p ∷ pairs) (inr s) = or-right (test p.question p.reply) (some_pair test pairs) (pair-any test P h pairs s)
+pair-any test P h (p ∷ pairs) (inr s) = or_right (test p.question p.reply) (some_pair test pairs) (pair-any test P h pairs s)
 
 -- a pair that is kept is the same as one of them
 same-kept : (pairs : List Pair) (q : Question) (r : Reply) → is_kept_in pairs q r ≡ true → SomePairIn (Same q r) pairs
@@ -92,7 +86,7 @@ same-kept (p ∷ pairs) q r e = by (same_question (canonical_question p.question
     by : (b : Bool) → (same_question (canonical_question p.question) (canonical_question q) && same_reply p.reply r) ≡ b → (b || is_kept_in pairs q r) ≡ true
         → (is_kept_in pairs q r ≡ true → SomePairIn (Same q r) pairs) → Same q r p.question p.reply ⊎ SomePairIn (Same q r) pairs
     by true f k later =
-        let h = both (same_question (canonical_question p.question) (canonical_question q)) (same_reply p.reply r) f in
+        let h = and_parts (same_question (canonical_question p.question) (canonical_question q)) (same_reply p.reply r) f in
         inl (same_question-equal (canonical_question p.question) (canonical_question q) h.0, same_reply-equal p.reply r h.1)
     by false f k later = inr (later k)
 
@@ -104,7 +98,7 @@ some-with test pairs q r same = by (is_kept_in pairs q r) refl
     by : (k : Bool) → is_kept_in pairs q r ≡ k → some_pair test (if k then pairs else pairs ++ record { question = q; reply = r } ∷ []) ≡ (some_pair test pairs || test q r)
     by true e = or-true (some_pair test pairs) (test q r) (λ t. pair-any test (Same q r) (λ x y s. same x y s t) pairs (same-kept pairs q r e))
     by false e =
-        any-append (λ (p : Pair). test p.question p.reply) pairs (record { question = q; reply = r } ∷ [])
+        list_any-append (λ (p : Pair). test p.question p.reply) pairs (record { question = q; reply = r } ∷ [])
         ∙ ap (λ b. some_pair test pairs || b) (or-false (test q r))
 
 -- What the same pair tells.
@@ -170,14 +164,14 @@ denied-tell a (asks.Below v w) r = refl
 module _ (pairs : List Pair) (q : Question) (r : Reply) (xs : List Term) where
   pub affirmed-with : AreAffirmed pairs xs → AreAffirmed (with_pair_in pairs q r) (xs ++ affirmed_by q r)
   affirmed-with h = λ a.
-      any-append (is_instance a) xs (affirmed_by q r)
+      list_any-append (is_instance a) xs (affirmed_by q r)
       ∙ ap (λ b. b || has_general (affirmed_by q r) a) (h a)
       ∙ ap (λ b. some_pair (tells_yes a) pairs || b) (affirmed-tell a q r)
       ∙ sym (some-with (tells_yes a) pairs q r (λ x y s t. (tells_yes-is a x y).1 (same-yes a q r x y s ((tells_yes-is a q r).0 t))))
 
   pub denied-with : AreDenied pairs xs → AreDenied (with_pair_in pairs q r) (xs ++ denied_by q r)
   denied-with h = λ a.
-      any-append (λ (x : Term). is_instance x a) xs (denied_by q r)
+      list_any-append (λ (x : Term). is_instance x a) xs (denied_by q r)
       ∙ ap (λ b. b || has_special (denied_by q r) a) (h a)
       ∙ ap (λ b. some_pair (tells_no a) pairs || b) (denied-tell a q r)
       ∙ sym (some-with (tells_no a) pairs q r (λ x y s t. (tells_no-is a x y).1 (same-no a q r x y s ((tells_no-is a q r).0 t))))

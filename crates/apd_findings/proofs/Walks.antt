@@ -1,7 +1,7 @@
 -- Walks that take over what is kept of numbers, and fresh edges that are followed.
 use Rattle.std.proofs.Common.{◌≡◌, ◌⊎◌, ◌↔◌, inl, inr, ℕ, zero, suc, ◌+◌, ◌*◌, ◌<◌, ◌≤◌, if◌then◌else◌, Bool, true, false, List, [], ◌∷◌, ◌++◌, length, take, drop, get_or, refl, sym, ◌∙◌, ap, subst, arith}
 use Rattle.std.proofs.lemmas.Bool.{cases_eq}
-use Rattle.std.proofs.lemmas.List.{take_more, drop_more, drop_all}
+use Rattle.std.proofs.lemmas.List.{take_more, drop_more, drop_all, length_push}
 use Rattle.apd_term.specs.Term.{IsAmong}
 use Rattle.apd_term.proofs.Among.{IsAmong-append, IsAmong-left, IsAmong-right}
 use Rattle.apd_bits.specs.Rows.{HasBit, HasNoBits, IsWithin, IsWithinBut, IsWithinEither, has_bit}
@@ -39,10 +39,6 @@ lacking-one row new k w e s (suc n) l = elim (cases_eq k n) [
       omega (arith, h, t)
 ]
 
-length-last : (xs : List ℕ) (x : ℕ) → length (xs ++ x ∷ []) ≡ length xs + 1
-length-last [] x = refl
-length-last (y ∷ xs) x = let h = length-last xs x in omega (arith, h)
-
 last-is : (xs : List ℕ) (x n : ℕ) → IsAmong (xs ++ x ∷ []) n → IsAmong xs n ⊎ (x ≡ n)
 last-is xs x n h = elim (IsAmong-append xs (x ∷ []) n h) [ inl a ↦ inl a | inr b ↦ elim b [ inl e ↦ inr e | inr z ↦ absurd z ] ]
 
@@ -60,7 +56,7 @@ module _ (next : ℕ) (seen waiting : List ℕ) where
     waits = λ n a. elim (last-is waiting next n (subst (λ ws. IsAmong ws n) e a)) [ inl b ↦ inl b | inr k ↦ inr (inl k) ];
     fewer = λ count w.
         let h = lacking-one seen new next kept unset set count (w next (inl refl)) in
-        let l : length waiting_new ≡ length waiting + 1 = ap length e ∙ length-last waiting next in
+        let l : length waiting_new ≡ length waiting + 1 = ap length e ∙ length_push waiting next in
         omega (arith, h, l);
   }
 
@@ -207,7 +203,7 @@ module _ (lists : List (List ℕ)) (first : ℕ) (row seen waiting rest : List �
         → 2 * lacking seen_new (length lists) + length waiting_new < 2 * lacking seen (length lists) + length waiting
     walk-smaller all seen_new waiting_new h =
         let f = h.fewer (length lists) (λ n a. all number n a) in
-        let l : length waiting ≡ length rest + 1 = ap length is ∙ length-last rest number in
+        let l : length waiting ≡ length rest + 1 = ap length is ∙ length_push rest number in
         omega (arith, f, l)
 
   pub walking-more : (fresh : List Edge) (seen_new waiting_new : List ℕ) → HasWaiting (get_or lists number []) seen rest seen_new waiting_new → HasSeen lists fresh (get_or lists number []) seen rest seen_new waiting_new

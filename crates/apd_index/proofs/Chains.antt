@@ -1,9 +1,10 @@
 -- Chains: what a push leaves of them, and how they begin.
-use Rattle.std.proofs.Common.{◌≡◌, ◌⊎◌, inl, inr, ℕ, zero, suc, ◌+◌, ◌-◌, ◌<◌, ◌≤◌, ◌==◌, ◌++◌, if◌then◌else◌, Bool, true, false, List, [], ◌∷◌, length, take, drop, get_or, Some, refl, sym, ap, ◌∙◌, subst, arith, append_assoc, length-append}
-use Rattle.std.specs.Prelude.{reverse, slice_get}
+use Rattle.std.proofs.Common.{◌≡◌, inl, inr, ℕ, ◌+◌, ◌-◌, ◌<◌, ◌≤◌, ◌==◌, ◌++◌, if◌then◌else◌, Bool, true, false, List, [], ◌∷◌, length, take, drop, get_or, refl, sym, ap, ◌∙◌, subst, arith, append_assoc, length-append}
+use Rattle.std.specs.Prelude.{reverse}
 use Rattle.std.proofs.lemmas.Bool.Decides.{nat_tests}
 use Rattle.std.proofs.lemmas.List.{drop_more, length-reverse, length-take-le, reverse-append, take-append-drop}
 use Rattle.std.proofs.lemmas.Option.{slice_get-get_or}
+use Rattle.apd_base.proofs.Lists.{slice_get-push}
 use Rattle.apd_index.specs.Chains.{AreFalling, chain}
 
 module _ {X : Type 0} (before : X → ℕ) where
@@ -72,15 +73,8 @@ module _ {X : Type 0} (before : X → ℕ) where
             ∙ ap (λ (ys : List X). ys ++ reverse older) (reverse-append (x ∷ []) newer)
             ∙ append_assoc (reverse newer) (x ∷ []) (reverse older)
 
--- an element of a list that got one more
-pub push-cases : {X : Type 0} (xs : List X) (x y : X) (i : ℕ) → slice_get (xs ++ x ∷ []) i ≡ Some y → (slice_get xs i ≡ Some y) ⊎ ((i ≡ length xs) × (x ≡ y))
-push-cases [] x y zero e = let h : x ≡ y = cc in inr (refl, h)
-push-cases [] x y (suc i) e = absurd (cc)
-push-cases (z ∷ xs) x y zero e = inl e
-push-cases (z ∷ xs) x y (suc i) e = elim (push-cases xs x y i e) [ inl h ↦ inl h | inr h ↦ inr (ap suc h.0, h.1) ]
-
 pub falling-push : {X : Type 0} (before : X → ℕ) (xs : List X) (x : X) → before x ≤ length xs → AreFalling before xs → AreFalling before (xs ++ x ∷ [])
-falling-push before xs x l falling i y e = elim (push-cases xs x y i e) [
+falling-push before xs x l falling i y e = elim (slice_get-push xs x i y e) [
   | inl h ↦ falling i y h
   | inr h ↦ subst (λ z. before z ≤ i) h.1 (let g = h.0 in omega (arith, l, g))
 ]

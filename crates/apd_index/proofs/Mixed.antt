@@ -1,6 +1,7 @@
 -- The digests of terms that stand one after another, and the stack that keeps them, the first on top.
-use Rattle.std.proofs.Common.{◌≡◌, ◌≤◌, ◌<◌, ℕ, zero, suc, ◌+◌, ◌-◌, List, [], ◌∷◌, ◌++◌, length, map, take, drop, reverse, get_or, refl, sym, ◌∙◌, ap, arith, append_assoc}
-use Rattle.std.proofs.lemmas.List.{append-nil, drop_all, drop_at, drop_more, drop-map, length-drop, length-reverse, map-append, reverse-append, reverse-reverse, take_at, take_rest, take-append-drop, take-map}
+use Rattle.std.proofs.Common.{◌≡◌, ◌≤◌, ◌<◌, ℕ, zero, suc, ◌-◌, List, [], ◌∷◌, ◌++◌, length, map, take, drop, reverse, get_or, refl, sym, ◌∙◌, ap, arith, append_assoc}
+use Rattle.std.proofs.lemmas.List.{append-nil, drop_all, drop_at, drop-map, length-drop, length-reverse, map-append, reverse-append, reverse-reverse, take_at, take_rest, take-append-drop, take-map}
+use Rattle.apd_arith.proofs.Values.{one_back}
 use Rattle.apd_term.specs.Term.{Term, Terms, variable, integer, compound, none, more, list_of, terms_of, first_of, read_all, spell, spell_all, term_of, arity_of}
 use Rattle.apd_term.specs.declared.term.Sym.{Sym}
 use Rattle.apd_term.specs.declared.term.Sym.TheVariants.{Var, Int, Fun}
@@ -70,12 +71,6 @@ digests-symbol (Var v) s = refl
 digests-symbol (Int i) s = refl
 digests-symbol (Fun f n) s = ap (λ (ds : List ℕ). digest (term_of (Fun f n ∷ s)) ∷ ds) (sym (drop-map digest n (read_all s)))
 
-one-back : (s : List Sym) (at : ℕ) (d : Sym) → 0 < at → at ≤ length s → drop (at - 1) s ≡ get_or s (at - 1) d ∷ drop at s
-one-back s at d p l =
-    let e : drop (at - 1) s ≡ get_or s (at - 1) d ∷ drop (at - 1 + 1) s = drop_more s (at - 1) d (omega arith) in
-    let q : at - 1 + 1 ≡ at = omega arith in
-    e ∙ ap (λ (k : ℕ). get_or s (at - 1) d ∷ drop k s) q
-
 -- the digests of the terms that begin with each of the symbols
 abbrev pub begun : List Sym → List ℕ
 begun [] = []
@@ -94,14 +89,14 @@ module _ (s : List Sym) (at : ℕ) (d : Sym) (vs : List ℕ) (n : ℕ) (p : 0 < 
       ∙ ap (λ (k : ℕ). k ∷ reverse left) (digest-is e)
       ∙ ap (λ (r : List ℕ). digest (term_of (x ∷ drop at s)) ∷ r) (f ∙ ap (drop (arity_of x)) h)
       ∙ sym (digests-symbol x (drop at s))
-      ∙ ap (λ (ys : List Sym). map digest (read_all ys)) (sym (one-back s at d p l))
+      ∙ ap (λ (ys : List Sym). map digest (read_all ys)) (sym (one_back s at d p l))
 
   pub begun-goes : (ds new : List ℕ) → n ≡ of_symbol x (reverse vs) → reverse ds ≡ begun (drop at s) → new ≡ ds ++ n ∷ [] → reverse new ≡ begun (drop (at - 1) s)
   begun-goes ds new e so_far g =
       ap reverse g ∙ reverse-append ds (n ∷ [])
       ∙ ap (λ (k : ℕ). k ∷ reverse ds) (digest-is e)
       ∙ ap (λ (r : List ℕ). digest (term_of (x ∷ drop at s)) ∷ r) so_far
-      ∙ ap begun (sym (one-back s at d p l))
+      ∙ ap begun (sym (one_back s at d p l))
 
 -- Those of all symbols are those of the subterms.
 

@@ -1,5 +1,5 @@
 -- The walk over a term's symbols notes the positions of its subterms.
-use Rattle.std.proofs.Common.{◌≡◌, ℕ, suc, ◌+◌, ◌-◌, ◌<◌, ◌≤◌, ◌==◌, ◌++◌, if◌then◌else◌, Bool, true, false, List, [], ◌∷◌, length, map, drop, take, get_or, refl, sym, ap, ◌∙◌, arith, append_assoc}
+use Rattle.std.proofs.Common.{◌≡◌, ℕ, suc, ◌+◌, ◌-◌, ◌<◌, ◌≤◌, ◌==◌, ◌++◌, if◌then◌else◌, Bool, true, false, List, [], ◌∷◌, length, map, drop, get_or, refl, sym, ap, ◌∙◌, arith, append_assoc}
 use Rattle.std.specs.Prelude.{reverse}
 use Rattle.std.proofs.lemmas.Bool.Decides.{nat_tests}
 use Rattle.std.proofs.lemmas.List.{append-nil, drop_all, drop_more, map-append, reverse-append}
@@ -85,12 +85,6 @@ none-left [] = refl
 none-left (x ∷ xs) = refl
 
 -- The loop.
-
--- a list whose last element isn't there
-pub emptied : {X : Type 0} (xs ys : List X) (n : ℕ) → xs ≡ ys ++ [] → ys ≡ take (n - 1) xs → n ≡ 0 → xs ≡ []
-emptied xs ys n e f z =
-    let g : n - 1 ≡ 0 = omega (arith, z) in
-    e ∙ ap (λ zs. zs ++ []) (f ∙ ap (λ k. take k xs) g)
 
 abbrev pub IsWalk : Term → List Sym → ℕ → List Parent → List Parent → Type 0
 IsWalk t xs i parents ps = ps ++ rest (drop i xs) (reverse parents) ≡ positions t

@@ -4,6 +4,8 @@ use Rattle.std.specs.Prelude.{IfOk, MatchBool, OnErr, OnOk, slice_get}
 use Rattle.std.specs.List.{list_any}
 use Rattle.std.proofs.lemmas.List.{take_more}
 use Rattle.std.proofs.lemmas.Option.{slice_get_past}
+use Rattle.std.proofs.lemmas.Bool.{and_from}
+use Rattle.std.proofs.lemmas.Map.Keys.{any_passes_from_place}
 use Rattle.apd_term.specs.Term.{Term, IsAmong}
 use Rattle.apd_term.specs.Matching.{is_instance}
 use Rattle.apd_term.specs.Substitution.{IsInstance}
@@ -16,7 +18,7 @@ use Rattle.apd_index.specs.Spots.{AllLeave}
 use Rattle.apd_index.specs.declared.nodes.Nodes.{Nodes}
 use Rattle.apd_bits.specs.Rows.{HasBit, IsClearNear, has_bit}
 use Rattle.apd_index.proofs.Noting.{notes-kept, notes-one}
-use Rattle.apd_index.proofs.Telling.{among-any, any-among, any-there, same-truth, there-any}
+use Rattle.apd_index.proofs.Telling.{among-any, any-among, any-there, same-truth}
 use Rattle.apd_marks.proofs.Walking.{lasting-marks}
 
 -- the atom at a place, where one more stands at the end
@@ -117,22 +119,18 @@ at-above xs a k t = by (slice_get xs k) refl t
   where
     by : (o : Option Term) → slice_get xs k ≡ o → is_above a o ≡ true → has_general xs a ≡ true
     by None e h = absurd (cc)
-    by (Some x) e h = there-any (is_instance a) xs k x e h
+    by (Some x) e h = any_passes_from_place (is_instance a) xs k x e h
 
 at-below : (xs : List Term) (a : Term) (k : ℕ) → is_below a (slice_get xs k) ≡ true → has_special xs a ≡ true
 at-below xs a k t = by (slice_get xs k) refl t
   where
     by : (o : Option Term) → slice_get xs k ≡ o → is_below a o ≡ true → has_special xs a ≡ true
     by None e h = absurd (cc)
-    by (Some x) e h = there-any (λ (y : Term). is_instance y a) xs k x e h
+    by (Some x) e h = any_passes_from_place (λ (y : Term). is_instance y a) xs k x e h
 
 both-right : (x y : Bool) → (x && y) ≡ true → y ≡ true
 both-right true y h = h
 both-right false y h = absurd (cc)
-
-both-true : (x y : Bool) → x ≡ true → y ≡ true → (x && y) ≡ true
-both-true true y g h = h
-both-true false y g h = g
 
 module _ (xs : List Term) (places : Index) (a : Term) where
   abbrev above_at : ℕ → Bool
@@ -160,7 +158,7 @@ module _ (xs : List Term) (row : List ℕ) (a : Term) where
   special-found : ((k : ℕ) (x : Term) → slice_get xs k ≡ Some x → IsInstance x a → HasBit row k) → has_special xs a ≡ true → SomeLeft xs row a
   special-found all h =
       let t = any-there (λ (y : Term). is_instance y a) xs h in
-      (t.0, both-true (has_bit row t.0) (is_below a (slice_get xs t.0)) (all t.0 t.1 t.2 ((is_instance-is t.1 a).0 t.3)) (ap (is_below a) t.2 ∙ t.3))
+      (t.0, and_from (has_bit row t.0) (is_below a (slice_get xs t.0)) (all t.0 t.1 t.2 ((is_instance-is t.1 a).0 t.3)) (ap (is_below a) t.2 ∙ t.3))
 
   pub special-told : (b : Bool) → ((k : ℕ) (x : Term) → slice_get xs k ≡ Some x → IsInstance x a → HasBit row k) → MatchBool b (SomeLeft xs row a) (NoneLeft xs row a) → b ≡ has_special xs a
   special-told true all h = sym (special-there h)

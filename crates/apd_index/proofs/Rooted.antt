@@ -1,5 +1,5 @@
 -- The marks of root symbols: an instance of an atom that is no variable has the same.
-use Rattle.std.proofs.Common.{◌≡◌, ◌<◌, ℕ, true, List, [], ◌∷◌, length, get_or, None, Some, Bool, Result, Ok, Err, refl, sym, ap, ◌∙◌, arith}
+use Rattle.std.proofs.Common.{◌≡◌, ℕ, true, List, [], ◌∷◌, get_or, None, Some, Bool, Result, Ok, Err, refl, sym, ap, ◌∙◌}
 use Rattle.std.specs.Prelude.{IfOk, slice_get}
 use Rattle.apd_term.specs.Term.{Term, variable, integer, compound, apply, spell}
 use Rattle.apd_term.specs.Matching.{is_instance}
@@ -10,11 +10,6 @@ use Rattle.apd_term.proofs.Spelling.{length-apply_all}
 use Rattle.apd_marks.specs.Positions.{top}
 use Rattle.apd_index.specs.Retrieval.{has_special, is_below, root_mark}
 use Rattle.apd_index.specs.Subterms.{noted, position}
-
-pub some-symbol : (t : Term) → 0 < length (spell t)
-some-symbol (variable v) = omega arith
-some-symbol (integer i) = omega arith
-some-symbol (compound f ts) = omega arith
 
 pub first-root : (t : Term) (d : Sym) → slice_get (noted (position top 1) (get_or (spell t) 0 d)) 0 ≡ root_mark t
 first-root (variable v) d = refl

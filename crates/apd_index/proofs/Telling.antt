@@ -3,6 +3,7 @@ use Rattle.std.proofs.Common.{◌≡◌, ◌<◌, ℕ, zero, suc, Bool, true, fa
 use Rattle.std.specs.Prelude.{◌||◌, slice_get}
 use Rattle.std.specs.List.{list_any}
 use Rattle.std.proofs.lemmas.List.{drop_more}
+use Rattle.std.proofs.lemmas.Bool.{or_right}
 use Rattle.apd_term.specs.Term.{IsAmong, Term}
 
 pub any-at : {X : Type 0} (test : X → Bool) (xs : List X) (i : ℕ) (d x : X) (b : Bool) → i < length xs → x ≡ get_or xs i d → b ≡ test x → b ≡ true → true ≡ list_any test (drop i xs)
@@ -10,10 +11,6 @@ any-at test xs i d x b l is told yes_told = sym (rw (drop_more xs i d l) (rw (sy
 
 pub any-here : {X : Type 0} (test : X → Bool) (xs : List X) (i : ℕ) (x : X) (b : Bool) → i < length xs → x ≡ get_or xs i x → b ≡ test x → b ≡ true → true ≡ list_any test (drop i xs)
 any-here test xs i x b = any-at test xs i x x b
-
-or-right : (a b : Bool) → b ≡ true → (a || b) ≡ true
-or-right true b h = refl
-or-right false b h = h
 
 -- of numbers
 
@@ -28,7 +25,7 @@ any-among test (x ∷ es) h = by (test x) refl h (λ later. any-among test es la
 pub among-any : (test : ℕ → Bool) (es : List ℕ) (e : ℕ) → IsAmong es e → test e ≡ true → list_any test es ≡ true
 among-any test [] e m t = absurd m
 among-any test (x ∷ es) e (inl same) t = let here : test x ≡ true = subst (λ y. test y ≡ true) (sym same) t in rw here refl
-among-any test (x ∷ es) e (inr later) t = or-right (test x) (list_any test es) (among-any test es e later t)
+among-any test (x ∷ es) e (inr later) t = or_right (test x) (list_any test es) (among-any test es e later t)
 
 -- of atoms by their places
 
@@ -40,11 +37,6 @@ any-there test (y ∷ xs) h = by (test y) refl h (λ later. any-there test xs la
         → (k : ℕ) × (x : Term) × (slice_get (y ∷ xs) k ≡ Some x) × (test x ≡ true)
     by true t h rest = (zero, y, refl, t)
     by false t h rest = let k = rest h in (suc k.0, k.1, k.2, k.3)
-
-pub there-any : (test : Term → Bool) (xs : List Term) (k : ℕ) (x : Term) → slice_get xs k ≡ Some x → test x ≡ true → list_any test xs ≡ true
-there-any test [] k x e t = absurd (cc)
-there-any test (y ∷ xs) zero x e t = let same : y ≡ x = cc in let here : test y ≡ true = subst (λ z. test z ≡ true) (sym same) t in rw here refl
-there-any test (y ∷ xs) (suc k) x e t = or-right (test y) (list_any test xs) (there-any test xs k x e t)
 
 -- two tests of which each passes where the other does
 pub same-truth : (x y : Bool) → (x ≡ true → y ≡ true) → (y ≡ true → x ≡ true) → x ≡ y

@@ -3,9 +3,9 @@ use Rattle.std.proofs.Common.{◌≡◌, ◌≢◌, inl, inr, ℕ, ◌<◌, ◌+
 use Rattle.std.specs.Prelude.{if◌then◌else◌, IfSome, nat_eq, slice_get}
 use Rattle.std.proofs.lemmas.Bool.{eqb-true}
 use Rattle.std.proofs.lemmas.Option.{slice_get-get_or}
+use Rattle.apd_base.proofs.Lists.{slice_get-push}
 use Rattle.indexmap.specs.IndexMap.{get}
 use Rattle.apd_term.specs.Term.{Term}
-use Rattle.apd_index.proofs.Chains.{push-cases}
 use Rattle.apd_index.specs.Columns.{AddsUnlike, Agree, AreIn, AreRepeats, AreUnlike, Firsts, HasUnlikes, IsAlike, IsFor, IsIn, IsUnlike, KeepsEntries, PutsFirst, PutsRepeat, column_at}
 use Rattle.apd_bits.specs.Rows.{IsWithinBut}
 use Rattle.apd_index.specs.declared.columns.Columns.{Columns}
@@ -29,7 +29,7 @@ firsts-go nodes a old new v number puts here so_far w c e = elim (puts w c e) [
 pub puts-repeat : (firsts : Firsts) (v number one : ℕ) (old new : List Repeat) → get nat_eq firsts v ≡ Some one → new ≡ old ++ record { one = one; other = number } ∷ [] → PutsRepeat firsts v number old new
 puts-repeat firsts v number one old new e is i r h =
     let here : Repeat = record { one = one; other = number } in
-    elim (push-cases old here r i (subst (λ (rs : List Repeat). slice_get rs i ≡ Some r) is h)) [
+    elim (slice_get-push old here i r (subst (λ (rs : List Repeat). slice_get rs i ≡ Some r) is h)) [
       | inl b ↦ inl b
       | inr new_one ↦ inr (e ∙ ap (λ (x : Repeat). Some x.one) new_one.1, ap (λ (x : Repeat). x.other) new_one.1)
     ]
@@ -105,7 +105,7 @@ pub none-in : (column es : List Entry) → es ≡ [] → AreIn column es
 none-in column es is e i = absurd (let h : None ≡ Some e = ap (λ (xs : List Entry). slice_get xs i.0) (sym is) ∙ i.1 in cc)
 
 pub pushed-in : (column old new : List Entry) (e : Entry) → new ≡ old ++ e ∷ [] → IsIn column e → AreIn column old → AreIn column new
-pushed-in column old new e is here so_far f i = elim (push-cases old e f i.0 (subst (λ (es : List Entry). slice_get es i.0 ≡ Some f) is i.1)) [
+pushed-in column old new e is here so_far f i = elim (slice_get-push old e i.0 f (subst (λ (es : List Entry). slice_get es i.0 ≡ Some f) is i.1)) [
   | inl b ↦ so_far f (i.0, b)
   | inr same ↦ subst (IsIn column) same.1 here
 ]

@@ -195,10 +195,6 @@ open-next nodes place opened new o is here are = subst (AreOpen nodes place) (sy
     by true = are
     by false = λ i p e. elim (pushed-last opened o p i e) [ inl before ↦ are i p before | inr same ↦ subst (IsOpen nodes place) same here ]
 
-pub told-by : {T E P Q : Type 0} (r : Result T E) → (P → Q) → OnOk r P → OnOk r Q
-told-by (Ok u) f h = f h
-told-by (Err u) f h = tt
-
 pub told : {T E P : Type 0} (r : Result T E) → P → OnOk r P
 told (Ok u) h = h
 told (Err u) h = tt

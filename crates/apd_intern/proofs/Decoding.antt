@@ -4,6 +4,7 @@ use Rattle.std.specs.Prelude.{slice_get, All}
 use Rattle.std.proofs.lemmas.List.{get_or_append_left, length_push, length-map, nil_from_length}
 use Rattle.std.proofs.lemmas.List.Elements.{All-head, All-tail, All-weaker}
 use Rattle.std.proofs.lemmas.Option.{slice_get_within, slice_get-get_or}
+use Rattle.apd_base.proofs.Lists.{slice_get-front, slice_get-last}
 use Rattle.apd_term.specs.Term.{Term, variable, terms_of, list_of, arity_of}
 use Rattle.apd_term.specs.declared.term.Sym.{Sym}
 use Rattle.apd_term.specs.declared.term.Sym.TheVariants.{Var, Int, Fun}
@@ -12,7 +13,7 @@ use Rattle.apd_intern.specs.declared.node.Node.{Node}
 use Rattle.apd_intern.specs.declared.node.Node.TheVariants.{Variable}
 use Rattle.apd_intern.specs.declared.node.Link.{Link}
 use Rattle.apd_intern.specs.Nodes.{AreDistinct, Adds, IsFrontOf, made, term_at, symbol_of, arguments_of, IsNode, term_of_node, decoded_on, decoded, AreNodes, IsTable}
-use Rattle.apd_intern.proofs.Lists.{slice_get-front, slice_get-last, distinct_push, distinct_at}
+use Rattle.apd_intern.proofs.Lists.{distinct_push, distinct_at}
 use Rattle.apd_intern.proofs.Linked.{node_kept, node_injective, length-arguments_of}
 
 -- terms at places that are there stay with more behind them

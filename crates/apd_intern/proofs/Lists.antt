@@ -1,29 +1,13 @@
 -- Lists that grow, and what stands in them once.
-use Rattle.std.proofs.Common.{◌≡◌, ◌≢◌, ◌⊎◌, ℕ, zero, suc, ◌<◌, Bool, true, false, List, [], ◌∷◌, ◌++◌, length, get_or, Some, refl, ap, sym, subst, ◌∙◌, inl, inr, if◌then◌else◌, append-nil, true≢false}
+use Rattle.std.proofs.Common.{◌≡◌, ◌≢◌, ℕ, ◌<◌, Bool, true, false, List, [], ◌∷◌, ◌++◌, length, get_or, Some, refl, ap, sym, subst, ◌∙◌, inl, inr, if◌then◌else◌, append-nil, true≢false}
 use Rattle.std.specs.Prelude.{slice_get}
 use Rattle.std.specs.Bool.{Decides}
 use Rattle.std.specs.List.{list_any}
 use Rattle.std.proofs.lemmas.List.Folds.{list_any_at}
 use Rattle.std.proofs.lemmas.Option.{slice_get_within, slice_get-get_or, get_or_from_slice_get}
+use Rattle.apd_base.proofs.Lists.{slice_get-push}
 use Rattle.indexmap.specs.IndexSet.{insert_key}
 use Rattle.apd_intern.specs.Nodes.{AreDistinct, Adds, IsFrontOf}
-
-pub slice_get-front : {X : Type 0} (xs more : List X) (k : ℕ) (x : X) → slice_get xs k ≡ Some x → slice_get (xs ++ more) k ≡ Some x
-slice_get-front [] more k x h = cc
-slice_get-front (y ∷ xs) more zero x h = h
-slice_get-front (y ∷ xs) more (suc k) x h = slice_get-front xs more k x h
-
-pub slice_get-last : {X : Type 0} (xs : List X) (y : X) → slice_get (xs ++ y ∷ []) (length xs) ≡ Some y
-slice_get-last [] y = refl
-slice_get-last (x ∷ xs) y = slice_get-last xs y
-
--- an element of a list with one more: an old one, or the new one
-pub slice_get-push : {X : Type 0} (xs : List X) (y : X) (k : ℕ) (z : X) → slice_get (xs ++ y ∷ []) k ≡ Some z → (slice_get xs k ≡ Some z) ⊎ ((k ≡ length xs) × (y ≡ z))
-slice_get-push [] y zero z h = inr (refl, cc)
-slice_get-push [] y (suc k) z h = cc
-slice_get-push (x ∷ xs) y zero z h = inl h
-slice_get-push (x ∷ xs) y (suc k) z h =
-    elim (slice_get-push xs y k z h) [ inl e ↦ inl e | inr e ↦ inr (ap suc e.0, e.1) ]
 
 pub distinct_push : {X : Type 0} (xs : List X) (y : X) → AreDistinct xs → ((k : ℕ) → slice_get xs k ≢ Some y) → AreDistinct (xs ++ y ∷ [])
 distinct_push xs y d n i j x a b =

@@ -1,5 +1,6 @@
 -- A body that is closed by the tests is closed by the replies; so where no clause is left, the goal is uncovered by them.
 use Rattle.std.proofs.Common.{◌≡◌, inl, inr, ℕ, ◌+◌, ◌&&◌, ◌||◌, not, true, false, List, [], ◌∷◌, Option, Some, None, refl, sym, ◌∙◌, subst}
+use Rattle.std.proofs.lemmas.Bool.{and_parts, not-true, or_cases}
 use Rattle.std.specs.Prelude.{IsSome}
 use Rattle.std.specs.List.{list_any, list_all, AllByRecursion}
 use Rattle.apd_term.specs.Term.{Term, IsGround}
@@ -24,10 +25,10 @@ use Rattle.apd_answers.specs.declared.store.Pair.{Pair}
 use Rattle.apd_answers.specs.Store.{Store, decided_in, SomePairIn, decided, told, same_question, SaysYes, SaysNo, SaysUncovered, TellsUncovered}
 use Rattle.apd_answers.specs.Findings.{IsByReplies, IsClosed, IsDenied, IsFalseBuiltin, instance_for}
 use Rattle.apd_answers.specs.Dialogue.{ends}
-use Rattle.apd_answers.proofs.Tests.{both, then_some-is, same_question-equal, some_passes}
+use Rattle.apd_answers.proofs.Tests.{then_some-is, same_question-equal, some_passes}
 use Rattle.apd_answers.proofs.Decided.{decided-no, first_there}
 use Rattle.apd_missing.specs.Missing.{Unanswered, Looked, is_false_builtin, is_no, is_denied_atom, is_denied, is_closed, first_open, first_undecided, turn_of_ground, turn_of, missing}
-use Rattle.apd_missing.proofs.Tests.{by_test, not_true, either}
+use Rattle.apd_missing.proofs.Tests.{by_test}
 
 builtin_is : (o : Option Builtin) → is_none o ≡ false → IsSome o
 builtin_is None e = absurd (cc)
@@ -35,12 +36,12 @@ builtin_is (Some g) e = refl
 
 false_builtin : (a : Term) → is_false_builtin a ≡ true → IsFalseBuiltin a
 false_builtin a e =
-    let p = both (not (is_user_atom a)) (is_ground a && not (is_true_atom a)) e in
-    let q = both (is_ground a) (not (is_true_atom a)) p.1 in
+    let p = and_parts (not (is_user_atom a)) (is_ground a && not (is_true_atom a)) e in
+    let q = and_parts (is_ground a) (not (is_true_atom a)) p.1 in
     record {
-      builtin = builtin_is (builtin_of_atom a) (not_true (is_user_atom a) p.0);
+      builtin = builtin_is (builtin_of_atom a) (not-true (is_user_atom a) p.0);
       has_no_variable = test_ground a q.0;
-      untrue = λ h. let f = sym (not_true (is_true_atom a) q.1) ∙ (is_true-is a).1 h in absurd (cc);
+      untrue = λ h. let f = sym (not-true (is_true_atom a) q.1) ∙ (is_true-is a).1 h in absurd (cc);
     }
 
 pub no_is : (o : Option Reply) → is_no o ≡ true → o ≡ Some No
@@ -76,18 +77,18 @@ user_is (Some g) e = absurd (cc)
 
 denied_is : (store : Store) (body : List Term) → is_denied store body ≡ true → IsDenied store body
 denied_is store body e =
-    let p = both (list_all is_ground body) (list_any (is_denied_atom store) body) e in
+    let p = and_parts (list_all is_ground body) (list_any (is_denied_atom store) body) e in
     record {
       has_no_variable = all_ground body p.0;
       denied = some_passes (is_denied_atom store) (λ a. (builtin_of_atom a ≡ None) × SaysNo store a)
-          (λ a f. let q = both (is_user_atom a) (is_no (decided store (asking.True a))) f in (user_is (builtin_of_atom a) q.0, decided-no store a (no_is (decided store (asking.True a)) q.1)))
+          (λ a f. let q = and_parts (is_user_atom a) (is_no (decided store (asking.True a))) f in (user_is (builtin_of_atom a) q.0, decided-no store a (no_is (decided store (asking.True a)) q.1)))
           body p.1;
     }
 
 pub closed_is : (store : Store) (t : Tuple) → is_closed store t ≡ true → IsClosed store t
-closed_is store t e = elim (either (list_any is_false_builtin t.body) (is_no (decided store (asking.Covers t)) || is_denied store t.body) e) [
+closed_is store t e = elim (or_cases (list_any is_false_builtin t.body) (is_no (decided store (asking.Covers t)) || is_denied store t.body) e) [
   | inl f ↦ inl (some_passes is_false_builtin IsFalseBuiltin false_builtin t.body f)
-  | inr f ↦ (elim (either (is_no (decided store (asking.Covers t))) (is_denied store t.body) f) [
+  | inr f ↦ (elim (or_cases (is_no (decided store (asking.Covers t))) (is_denied store t.body) f) [
     | inl g ↦ inr (inl (decided-uncovered store t (no_is (decided store (asking.Covers t)) g)))
     | inr g ↦ inr (inr (denied_is store t.body g))
   ])

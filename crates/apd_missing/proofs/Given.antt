@@ -1,5 +1,6 @@
 -- Bodies that the replies make true: those of a clause's instance without variables, and those with values for their variables.
 use Rattle.std.proofs.Common.{◌≡◌, inl, inr, ℕ, suc, ◌+◌, ◌++◌, ◌&&◌, ◌||◌, not, Bool, true, false, List, [], ◌∷◌, Option, Some, None, refl, sym, ◌∙◌, ap, subst, arith}
+use Rattle.std.proofs.lemmas.Bool.{and_parts, or_parts, not-true}
 use Rattle.std.specs.Prelude.{IsSome, slice_get}
 use Rattle.std.specs.List.{enumerate_from, flat_map, list_all, list_any, AllByRecursion}
 use Rattle.apd_term.specs.Term.{Term, variable, variables, apply, IsGround}
@@ -26,9 +27,8 @@ use Rattle.apd_answers.specs.Findings.{Affirms, IsTrueBy, instance_for}
 use Rattle.apd_answers.specs.Questions.{FitsBody, IsTrueIfBuiltin, body_with, with_values}
 use Rattle.apd_answers.specs.Store.{Store, decided, SaysYes, SomeTerm}
 use Rattle.apd_answers.proofs.Decided.{decided-yes, decided-truth}
-use Rattle.apd_answers.proofs.Tests.{both}
 use Rattle.apd_missing.specs.Missing.{Looked, is_false_builtin, is_no, is_denied, is_closed, first_open, is_undecided, first_undecided}
-use Rattle.apd_missing.proofs.Tests.{by_test, not_true}
+use Rattle.apd_missing.proofs.Tests.{by_test}
 use Rattle.apd_answers.proofs.Places.{values_ground}
 
 -- a body that has no variables, is true by the replies, and is one of an instance of the clause with this head
@@ -54,14 +54,14 @@ looked store goal n (c ∷ cs) l e =
     (λ t.
     let k : Some (record { clause = n; instance = instance_for c goal }) ≡ Some l = rw t at e in
     let same : (let x : Looked = record { clause = n; instance = instance_for c goal } in x) ≡ l = cc in
-    let p = both (is_instance goal c.head) (not (is_closed store (instance_for c goal))) t in
+    let p = and_parts (is_instance goal c.head) (not (is_closed store (instance_for c goal))) t in
     record {
       place = 0;
       rule = c;
       there = refl;
       number = sym (ap (λ (x : Looked). x.clause) same) ∙ (omega arith);
       matches = p.0;
-      is_open = not_true (is_closed store (instance_for c goal)) p.1;
+      is_open = not-true (is_closed store (instance_for c goal)) p.1;
       is = sym (ap (λ (x : Looked). x.instance) same);
     })
     (λ t.
@@ -92,7 +92,7 @@ ground_list : (ts : List Term) → AllByRecursion IsGround ts → flat_map varia
 ground_list [] h = refl
 ground_list (t ∷ ts) h = rw (h.0, ground_list ts h.1) refl
 
-list_ground : (ts : List Term) → flat_map variables ts ≡ [] → AllByRecursion IsGround ts
+pub list_ground : (ts : List Term) → flat_map variables ts ≡ [] → AllByRecursion IsGround ts
 list_ground [] h = tt
 list_ground (t ∷ ts) h = let p = parts (variables t) (flat_map variables ts) h in (p.0, list_ground ts p.1)
   where
@@ -137,7 +137,7 @@ all_granted : (store : Store) (body : List Term) → list_all is_ground body ≡
     → list_any (λ a. is_user_atom a && is_no (decided store (asking.True a))) body ≡ false → first_undecided store body ≡ None → AllByRecursion (Affirms store) body
 all_granted store [] t g f d u = tt
 all_granted store (a ∷ body) t g f d u =
-    let p = both (is_ground a) (list_all is_ground body) t in
+    let p = and_parts (is_ground a) (list_all is_ground body) t in
     let x = no_any is_false_builtin a body f in
     let y = no_any (λ b. is_user_atom b && is_no (decided store (asking.True b))) a body d in
     by_test (is_user_atom a && is_undecided (decided store (asking.True a)))
@@ -152,17 +152,13 @@ all_granted store (a ∷ body) t g f d u =
       all_granted store body p.1 g.1 x.1 y.1 (rw h at u),
     ))
 
-pub no_either : (a b : Bool) → (a || b) ≡ false → (a ≡ false) × (b ≡ false)
-no_either true b e = absurd (cc)
-no_either false b e = (refl, e)
-
 -- the body of an instance without variables that isn't closed, and of which all is decided
 pub given_ground : (store : Store) (rule : Tuple) (goal : Term) → IsGround goal → is_instance goal rule.head ≡ true → is_closed store (instance_for rule goal) ≡ false
     → list_all is_ground (instance_for rule goal).body ≡ true → first_undecided store (instance_for rule goal).body ≡ None → IsGiven store rule goal (instance_for rule goal).body
 given_ground store rule goal g m c t u =
     let body = (instance_for rule goal).body in
-    let p = no_either (list_any is_false_builtin body) (is_no (decided store (asking.Covers (instance_for rule goal))) || is_denied store body) c in
-    let q = no_either (is_no (decided store (asking.Covers (instance_for rule goal)))) (is_denied store body) p.1 in
+    let p = or_parts (list_any is_false_builtin body) (is_no (decided store (asking.Covers (instance_for rule goal))) || is_denied store body) c in
+    let q = or_parts (is_no (decided store (asking.Covers (instance_for rule goal)))) (is_denied store body) p.1 in
     let d : list_any (λ a. is_user_atom a && is_no (decided store (asking.True a))) body ≡ false = rw t at q.1 in
     let ground = all_ground body t in
     record {

@@ -1,6 +1,7 @@
 -- What stays as replies are added: clauses that are closed stay closed, and Yes to an atom closes none.
 use Rattle.std.proofs.Common.{◌≡◌, inl, inr, ℕ, zero, suc, ◌+◌, ◌<◌, ◌&&◌, ◌||◌, ◌++◌, not, Bool, true, false, List, [], ◌∷◌, take, drop, length, get_or, Option, Some, None, refl, sym, ◌∙◌, ap, subst, arith}
 use Rattle.std.proofs.lemmas.List.{drop_more, take_more}
+use Rattle.std.proofs.lemmas.Bool.{and_parts, or_right, and_from, not-false, or_cases}
 use Rattle.std.specs.Prelude.{slice_get}
 use Rattle.std.specs.Bool.{then_some}
 use Rattle.std.specs.List.{list_all, list_any, AllByRecursion}
@@ -17,24 +18,16 @@ use Rattle.apd_answers.specs.Findings.{instance_for}
 use Rattle.apd_answers.specs.Questions.{canonical_question}
 use Rattle.apd_answers.specs.Store.{Store, decided, told, same_question, with_pair}
 use Rattle.apd_answers.proofs.Fitted.{decided-kept, added_decides}
-use Rattle.apd_answers.proofs.Tests.{both}
 use Rattle.apd_missing.specs.Missing.{is_false_builtin, is_no, is_denied_atom, is_denied, is_closed, is_open, first_open, is_undecided, first_undecided}
 use Rattle.apd_missing.specs.Solving.{Keeps, ArePassed}
 use Rattle.apd_missing.proofs.Closed.{no_is}
-use Rattle.apd_missing.proofs.Tests.{by_test, either}
+use Rattle.apd_missing.proofs.Tests.{by_test}
 
 pub keeps_added : (store : Store) (q : Question) (r : Reply) → Keeps store (with_pair store q r)
 keeps_added store q r = λ x y e. decided-kept store q r x y e
 
 no_kept : (store after : Store) → Keeps store after → (x : Question) → is_no (decided store x) ≡ true → is_no (decided after x) ≡ true
 no_kept store after k x e = ap is_no (k x No (no_is (decided store x) e))
-
-or_right : (a b : Bool) → b ≡ true → (a || b) ≡ true
-or_right true b e = refl
-or_right false b e = e
-
-and_true : (a b : Bool) → a ≡ true → b ≡ true → (a && b) ≡ true
-and_true a b e f = rw (e, f) refl
 
 any_kept : (p q : Term → Bool) → ((t : Term) → p t ≡ true → q t ≡ true) → (ts : List Term) → list_any p ts ≡ true → list_any q ts ≡ true
 any_kept p q h [] e = e
@@ -45,32 +38,28 @@ any_kept p q h (t ∷ ts) e =
 
 -- a body that is closed
 pub closed_kept : (store after : Store) → Keeps store after → (t : Tuple) → is_closed store t ≡ true → is_closed after t ≡ true
-closed_kept store after k t e = elim (either (list_any is_false_builtin t.body) (is_no (decided store (asking.Covers t)) || is_denied store t.body) e) [
+closed_kept store after k t e = elim (or_cases (list_any is_false_builtin t.body) (is_no (decided store (asking.Covers t)) || is_denied store t.body) e) [
   | inl f ↦ rw f refl
   | inr f ↦ or_right (list_any is_false_builtin t.body) (is_no (decided after (asking.Covers t)) || is_denied after t.body)
-      (elim (either (is_no (decided store (asking.Covers t))) (is_denied store t.body) f) [
+      (elim (or_cases (is_no (decided store (asking.Covers t))) (is_denied store t.body) f) [
         | inl g ↦ let h = no_kept store after k (asking.Covers t) g in rw h refl
         | inr g ↦ or_right (is_no (decided after (asking.Covers t))) (is_denied after t.body)
-            (let w = both (list_all is_ground t.body) (list_any (is_denied_atom store) t.body) g in
-            and_true (list_all is_ground t.body) (list_any (is_denied_atom after) t.body) w.0
+            (let w = and_parts (list_all is_ground t.body) (list_any (is_denied_atom store) t.body) g in
+            and_from (list_all is_ground t.body) (list_any (is_denied_atom after) t.body) w.0
             (any_kept (is_denied_atom store) (is_denied_atom after)
             (λ a d.
-            let v = both (is_user_atom a) (is_no (decided store (asking.True a))) d in
-            and_true (is_user_atom a) (is_no (decided after (asking.True a))) v.0 (no_kept store after k (asking.True a) v.1))
+            let v = and_parts (is_user_atom a) (is_no (decided store (asking.True a))) d in
+            and_from (is_user_atom a) (is_no (decided after (asking.True a))) v.0 (no_kept store after k (asking.True a) v.1))
             t.body w.1))
       ])
 ]
-
-not_false : (b : Bool) → not b ≡ false → b ≡ true
-not_false true e = refl
-not_false false e = absurd (cc)
 
 pub passed_kept : (store after : Store) → Keeps store after → (goal : Term) (c : Tuple) → is_open store goal c ≡ false → is_open after goal c ≡ false
 passed_kept store after k goal c e =
     by_test (is_instance goal c.head)
     (λ m.
     let n : not (is_closed store (instance_for c goal)) ≡ false = rw m at e in
-    let h = closed_kept store after k (instance_for c goal) (not_false (is_closed store (instance_for c goal)) n) in
+    let h = closed_kept store after k (instance_for c goal) (not-false (is_closed store (instance_for c goal)) n) in
     rw (m, h) refl)
     (λ m. rw m refl)
 
@@ -198,8 +187,8 @@ pub closed_by_no : (store : Store) (t : Tuple) (i : ℕ) (a : Term) → list_all
 closed_by_no store t i a g l e u d =
     or_right (list_any is_false_builtin t.body) (is_no (decided store (asking.Covers t)) || is_denied store t.body)
     (or_right (is_no (decided store (asking.Covers t))) (is_denied store t.body)
-    (and_true (list_all is_ground t.body) (list_any (is_denied_atom store) t.body) g
-    (any_at (is_denied_atom store) t.body i a l e (and_true (is_user_atom a) (is_no (decided store (asking.True a))) u (ap is_no d)))))
+    (and_from (list_all is_ground t.body) (list_any (is_denied_atom store) t.body) g
+    (any_at (is_denied_atom store) t.body i a l e (and_from (is_user_atom a) (is_no (decided store (asking.True a))) u (ap is_no d)))))
 
 -- and No to the whole of it
 pub closed_by_covers : (store : Store) (t : Tuple) → decided store (asking.Covers t) ≡ Some No → is_closed store t ≡ true

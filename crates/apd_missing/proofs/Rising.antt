@@ -1,5 +1,6 @@
 -- The boxes that are looked at rise, and what comes next is a question that isn't decided or what was found by the replies.
 use Rattle.std.proofs.Common.{◌≡◌, ℕ, zero, suc, ◌-◌, ◌<◌, ◌≤◌, ◌&&◌, ◌||◌, inl, inr, true, false, List, [], ◌∷◌, length, Option, Some, None, refl, sym, ◌∙◌, ap, subst, arith}
+use Rattle.std.proofs.lemmas.Bool.{and_parts, or_parts}
 use Rattle.std.specs.Prelude.{slice_get}
 use Rattle.std.specs.Bool.{then_some}
 use Rattle.std.specs.Option.{option_or}
@@ -30,14 +31,12 @@ use Rattle.apd_answers.specs.Store.{Store, decided_in, SomePairIn, same_question
 use Rattle.apd_answers.proofs.Decided.{some_pair-added, some_pair-kept}
 use Rattle.apd_answers.proofs.Fitted.{fit_added, decided-covers}
 use Rattle.apd_answers.proofs.Pursued.{known-decided, known-asks, known-goes, known-ends}
-use Rattle.apd_answers.proofs.Tests.{both}
-use Rattle.apd_record.proofs.Lists.{get-below}
 use Rattle.apd_record.proofs.Keeping.{box_below}
 use Rattle.apd_missing.specs.Missing.{Unanswered, Looked, is_false_builtin, is_no, is_denied, is_closed, first_open, is_undecided, first_undecided, followed, state_after, after_values, alone, covers, turn_of_ground, turn_of, missing}
 use Rattle.apd_missing.specs.Known.{IsMissing, IsKnown, HasNext}
 use Rattle.apd_missing.specs.Next.{ComesNext}
 use Rattle.apd_missing.proofs.Closed.{ended-uncovered}
-use Rattle.apd_missing.proofs.Given.{looked, looked_clause, no_either, given_ground, given_values}
+use Rattle.apd_missing.proofs.Given.{looked, looked_clause, given_ground, given_values}
 use Rattle.apd_missing.proofs.Tests.{by_test}
 use Rattle.apd_missing.proofs.Walk.{next_followed}
 
@@ -63,7 +62,7 @@ undecided-is : (store : Store) (body : List Term) (a : Term) → first_undecided
 undecided-is store [] a e = absurd (cc)
 undecided-is store (b ∷ body) a e =
     by_test (is_user_atom b && is_undecided (decided store (asking.True b)))
-    (λ t. let k : Some b ≡ Some a = rw t at e in let same : b ≡ a = cc in subst (λ x. is_undecided (decided store (asking.True x)) ≡ true) same (both (is_user_atom b) (is_undecided (decided store (asking.True b))) t).1)
+    (λ t. let k : Some b ≡ Some a = rw t at e in let same : b ≡ a = cc in subst (λ x. is_undecided (decided store (asking.True x)) ≡ true) same (and_parts (is_user_atom b) (is_undecided (decided store (asking.True b))) t).1)
     (λ t. undecided-is store body a (rw t at e))
 
 pub lower_bound : (R : Recorded) (s t : Unanswered) (m : IsMissing R t.box_no t.goal) → s.box_no < t.box_no → length R.boxes - t.box_no < length R.boxes - s.box_no
@@ -155,8 +154,8 @@ module _ (P : List Tuple) (R : Recorded) (sound : IsSound P R) (full : IsFull P 
       → IsKnown R store (after_values R s l r) × (length R.boxes - (after_values R s l r).box_no < length R.boxes - s.box_no)
   covers_decided store s l No known o d =
       let k = looked store s.goal 1 P l o in
-      let p = no_either (list_any is_false_builtin l.instance.body) (is_no (decided store (asking.Covers l.instance)) || is_denied store l.instance.body) (ap (is_closed store) k.is ∙ k.is_open) in
-      let q = no_either (is_no (decided store (asking.Covers l.instance))) (is_denied store l.instance.body) p.1 in
+      let p = or_parts (list_any is_false_builtin l.instance.body) (is_no (decided store (asking.Covers l.instance)) || is_denied store l.instance.body) (ap (is_closed store) k.is ∙ k.is_open) in
+      let q = or_parts (is_no (decided store (asking.Covers l.instance))) (is_denied store l.instance.body) p.1 in
       let bad : true ≡ false = ap is_no (sym d ∙ decided_canonical store l.instance) ∙ q.0 in
       absurd (cc)
   covers_decided store s l Yes known o d = let c = decided-covers store (canonical_tuple l.instance) Yes known.fit d in absurd c.2

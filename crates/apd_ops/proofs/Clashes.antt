@@ -1,5 +1,6 @@
 -- When a definition would make two operators clash.
 use Rattle.std.proofs.Common.{◌≡◌, ℕ, ◌≤◌, Bool, true, false, Option, None, Some, ◌⊎◌, inl, inr, refl, sym, ◌∙◌, ap, subst, arith, eq-eqb, true≢false}
+use Rattle.std.proofs.lemmas.Bool.{and_parts, or_left, or_right, or_cases}
 use borrow.Author.Tests.{eqb-true}
 use Rattle.std.specs.Prelude.{nat_eq, ◌||◌, ◌&&◌, not, if◌then◌else◌, IsTrue}
 use Rattle.std.specs.List.{list_any, IsDistinct}
@@ -73,14 +74,6 @@ unless skip guard c f g free is = step (skip && nat_eq f g) c free is
 -- any entry of the map that clashes
 abbrev pub any_clash : Lists → ℕ → OpKind → ℕ → Bool
 any_clash t p k f = list_any (clashes_unless (is_prefix_kind k) f (p, k)) t.prefixes || list_any (clashes_unless (not (is_prefix_kind k)) f (p, k)) t.infixes
-
-or_left : (a b : Bool) → a ≡ true → (a || b) ≡ true
-or_left true b h = refl
-or_left false b h = absurd cc
-
-or_right : (a b : Bool) → b ≡ true → (a || b) ≡ true
-or_right true b h = refl
-or_right false b h = h
 
 in_prefixes : (t : Lists) (p : ℕ) (k : OpKind) (f g : ℕ) (m : Meaning) → prefix_in (table_of t) g ≡ Some m → (is_prefix_kind k && nat_eq f g) ≡ false → clashes (p, k) m ≡ true → any_clash t p k f ≡ true
 in_prefixes t p k f g m there free is = or_left _ _ (any_of (clashes_unless (is_prefix_kind k) f (p, k)) t.prefixes (g, m) (lookup_among g t.prefixes m (sym (meaning_at t.prefixes g) ∙ there)) (unless (is_prefix_kind k) true (clashes (p, k) m) f g free is))
@@ -206,14 +199,6 @@ unless_says : (a c : Bool) → (not a && c) ≡ true → (a ≡ false) × (c ≡
 unless_says true c h = absurd cc
 unless_says false c h = (refl, h)
 
-and_says : (a b : Bool) → (a && b) ≡ true → (a ≡ true) × (b ≡ true)
-and_says true b h = (refl, h)
-and_says false b h = absurd cc
-
-or_says : (a b : Bool) → (a || b) ≡ true → (a ≡ true) ⊎ (b ≡ true)
-or_says true b h = inl refl
-or_says false b h = inr h
-
 left_of : (k : OpKind) → groups_left k ≡ true → k ≡ Yfx
 left_of Xfx h = absurd cc
 left_of Xfy h = absurd cc
@@ -223,11 +208,11 @@ left_of Fy h = absurd cc
 
 clash_says : (p : ℕ) (k : OpKind) (n : Meaning) → clashes (p, k) n ≡ true → (p ≡ n.0) × ((right_kind k × (n.1 ≡ Yfx)) ⊎ ((k ≡ Yfx) × right_kind n.1))
 clash_says p k n h =
-    let a = and_says (nat_eq p n.0) (groups_right k && groups_left n.1 || groups_left k && groups_right n.1) h in (
+    let a = and_parts (nat_eq p n.0) (groups_right k && groups_left n.1 || groups_left k && groups_right n.1) h in (
       eqb-true p n.0 a.0,
-      elim (or_says (groups_right k && groups_left n.1) (groups_left k && groups_right n.1) a.1) [
-        | inl r ↦ let s = and_says (groups_right k) (groups_left n.1) r in inl (s.0, left_of n.1 s.1)
-        | inr l ↦ let s = and_says (groups_left k) (groups_right n.1) l in inr (left_of k s.0, s.1)
+      elim (or_cases (groups_right k && groups_left n.1) (groups_left k && groups_right n.1) a.1) [
+        | inl r ↦ let s = and_parts (groups_right k) (groups_left n.1) r in inl (s.0, left_of n.1 s.1)
+        | inr l ↦ let s = and_parts (groups_left k) (groups_right n.1) l in inr (left_of k s.0, s.1)
       ],
     )
 

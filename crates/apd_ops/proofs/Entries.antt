@@ -1,7 +1,8 @@
 -- Look-ups in the entries of a map, whose keys are distinct.
 use Rattle.std.proofs.Common.{◌≡◌, ℕ, List, [], ◌∷◌, Bool, true, false, cond, Option, Some, ◌⊎◌, inl, inr, refl, sym, ◌∙◌, ap, true≢false, eq-eqb}
+use Rattle.std.proofs.lemmas.Bool.{or_cases, or_left, or_right, cond-true, cond-false}
 use borrow.Author.Tests.{eqb-true}
-use Rattle.std.specs.Prelude.{nat_eq, ◌||◌}
+use Rattle.std.specs.Prelude.{nat_eq}
 use Rattle.std.specs.List.{list_any, IsDistinct}
 use Rattle.std.specs.Map.{lookup, keys_of}
 use Rattle.apd_ops.specs.Table.{Meaning}
@@ -12,18 +13,6 @@ Entry = ℕ × Meaning
 abbrev pub Among : Entry → List Entry → Type 0
 Among e [] = ⊥
 Among e (x ∷ xs) = (x ≡ e) ⊎ Among e xs
-
-or_cases : (a b : Bool) → (a || b) ≡ true → (a ≡ true) ⊎ (b ≡ true)
-or_cases true b h = inl refl
-or_cases false b h = inr h
-
-or_right : (a b : Bool) → b ≡ true → (a || b) ≡ true
-or_right true b h = refl
-or_right false b h = h
-
-or_left : (a b : Bool) → a ≡ true → (a || b) ≡ true
-or_left true b h = refl
-or_left false b h = absurd cc
 
 pub any_found : (test : Entry → Bool) (es : List Entry) → list_any test es ≡ true → (e : Entry) × Among e es × (test e ≡ true)
 any_found test [] h = absurd cc
@@ -51,14 +40,6 @@ lookup_among f (x ∷ xs) m h = elim (some_here (nat_eq f x.0) x.1 m (lookup (na
   | inr more ↦ inr (lookup_among f xs m more)
 ]
 
-cond_true : (b : Bool) (x y : Option Meaning) → b ≡ true → cond b x y ≡ x
-cond_true true x y h = refl
-cond_true false x y h = absurd cc
-
-cond_false : (b : Bool) (x y : Option Meaning) → b ≡ false → cond b x y ≡ y
-cond_false true x y h = absurd cc
-cond_false false x y h = refl
-
 -- no key of the others is this one
 other_key : (k : ℕ) (es : List Entry) (e : Entry) → IsDistinct nat_eq (k ∷ keys_of es) → Among e es → nat_eq e.0 k ≡ false
 unfolding IsDistinct
@@ -80,6 +61,6 @@ pub among_lookup : (es : List Entry) (e : Entry) → IsDistinct nat_eq (keys_of 
 unfolding IsDistinct
 among_lookup [] e d a = absurd a
 among_lookup (x ∷ xs) e d a = elim a [
-  | inl same ↦ cond_true (nat_eq e.0 x.0) (Some x.1) (lookup (nat_eq e.0) xs) (eq-eqb e.0 x.0 (ap (λ (y : Entry). y.0) (sym same))) ∙ ap (λ (y : Entry). Some y.1) same
-  | inr more ↦ cond_false (nat_eq e.0 x.0) (Some x.1) (lookup (nat_eq e.0) xs) (other_key x.0 xs e d more) ∙ among_lookup xs e d.1 more
+  | inl same ↦ cond-true (nat_eq e.0 x.0) (Some x.1) (lookup (nat_eq e.0) xs) (eq-eqb e.0 x.0 (ap (λ (y : Entry). y.0) (sym same))) ∙ ap (λ (y : Entry). Some y.1) same
+  | inr more ↦ cond-false (nat_eq e.0 x.0) (Some x.1) (lookup (nat_eq e.0) xs) (other_key x.0 xs e d more) ∙ among_lookup xs e d.1 more
 ]

@@ -1,6 +1,6 @@
 -- The test for a clash says what the relation says.
 use Rattle.std.proofs.Common.{◌≡◌, ◌≢◌, ℕ, ℤ, pos, negsuc, ◌≤◌, ◌<ℤ◌, Ok, Err, leb-true, leb-false, ◌<◌, List, [], ◌∷◌, ◌++◌, Bool, true, false, cond, Option, None, Some, Less, Equal, Greater, ◌⊎◌, inl, inr, refl, sym, ◌∙◌, ap, subst, eq-eqb, arith, map}
-use Rattle.std.proofs.lemmas.Bool.{ltb-true}
+use Rattle.std.proofs.lemmas.Bool.{ltb-true, and_parts, or_cases, or_left, or_right, and_from}
 use Rattle.std.proofs.lemmas.Int.{ints}
 use borrow.Author.Tests.{eqb-true}
 use Rattle.std.specs.Prelude.{nat_eq, nat_le, nat_lt, ◌||◌, ◌&&◌, if◌then◌else◌, is_some}
@@ -25,42 +25,22 @@ same_key x y = by (nat_lt x y) (nat_eq x y) refl
     by false true e h = eqb-true x y e
     by false false e h = absurd cc
 
-or_says : (a b : Bool) → (a || b) ≡ true → (a ≡ true) ⊎ (b ≡ true)
-or_says true b h = inl refl
-or_says false b h = inr h
-
-or_left : (a b : Bool) → a ≡ true → (a || b) ≡ true
-or_left true b h = refl
-or_left false b h = absurd cc
-
-or_right : (a b : Bool) → b ≡ true → (a || b) ≡ true
-or_right true b h = refl
-or_right false b h = h
-
-and_says : (a b : Bool) → (a && b) ≡ true → (a ≡ true) × (b ≡ true)
-and_says true b h = (refl, h)
-and_says false b h = absurd cc
-
-and_both : (a b : Bool) → a ≡ true → b ≡ true → (a && b) ≡ true
-and_both true b h k = k
-and_both false b h k = absurd cc
-
 -- a test that holds of some element holds of one
 any_some : (p : ℕ → Bool) (xs : List ℕ) → list_any p xs ≡ true → (x : ℕ) × (p x ≡ true)
 any_some p [] h = absurd cc
-any_some p (x ∷ xs) h = elim (or_says (p x) (list_any p xs) h) [ inl here ↦ (x, here) | inr there ↦ any_some p xs there ]
+any_some p (x ∷ xs) h = elim (or_cases (p x) (list_any p xs) h) [ inl here ↦ (x, here) | inr there ↦ any_some p xs there ]
 
 -- a test that holds of an element holds of some
 any_at : (p : ℕ → Bool) (q : ℕ) (xs : List ℕ) → list_any (eq_by_cmp nat_cmp q) xs ≡ true → p q ≡ true → list_any p xs ≡ true
 any_at p q [] there h = absurd cc
-any_at p q (x ∷ xs) there h = elim (or_says (eq_by_cmp nat_cmp q x) (list_any (eq_by_cmp nat_cmp q) xs) there) [
+any_at p q (x ∷ xs) there h = elim (or_cases (eq_by_cmp nat_cmp q x) (list_any (eq_by_cmp nat_cmp q) xs) there) [
   | inl here ↦ or_left (p x) (list_any p xs) (subst (λ y. p y ≡ true) (same_key q x here) h)
   | inr further ↦ or_right (p x) (list_any p xs) (any_at p q xs further h)
 ]
 
 any_first : (p : ℕ → Bool) (xs ys : List ℕ) → list_any p xs ≡ true → list_any p (xs ++ ys) ≡ true
 any_first p [] ys h = absurd cc
-any_first p (x ∷ xs) ys h = elim (or_says (p x) (list_any p xs) h) [ inl here ↦ or_left (p x) _ here | inr there ↦ or_right (p x) _ (any_first p xs ys there) ]
+any_first p (x ∷ xs) ys h = elim (or_cases (p x) (list_any p xs) h) [ inl here ↦ or_left (p x) _ here | inr there ↦ or_right (p x) _ (any_first p xs ys there) ]
 
 any_second : (p : ℕ → Bool) (xs ys : List ℕ) → list_any p ys ≡ true → list_any p (xs ++ ys) ≡ true
 any_second p [] ys h = h
@@ -89,8 +69,8 @@ clashing : (m n : Option Meaning) → is_clash m n ≡ true → Clashing m n
 clashing None n h = absurd cc
 clashing (Some m) None h = absurd cc
 clashing (Some m) (Some n) h =
-    let a = and_says (nat_eq m.0 n.0) (groups_right m.1 && groups_left n.1) h in
-    let b = and_says (groups_right m.1) (groups_left n.1) a.1 in
+    let a = and_parts (nat_eq m.0 n.0) (groups_right m.1 && groups_left n.1) h in
+    let b = and_parts (groups_right m.1) (groups_left n.1) a.1 in
     record {
       meaning = m;
       grouping = n;
@@ -100,7 +80,7 @@ clashing (Some m) (Some n) h =
     }
 
 clash_holds : (m n : Option Meaning) (a b : Meaning) → m ≡ Some a → n ≡ Some b → Clash a b → is_clash m n ≡ true
-clash_holds m n a b p q c = rw (p, q) (and_both (nat_eq a.0 b.0) (groups_right a.1 && groups_left b.1) (eq-eqb a.0 b.0 c.same) (and_both (groups_right a.1) (groups_left b.1) c.to_right (ap groups_left c.to_left)))
+clash_holds m n a b p q c = rw (p, q) (and_from (nat_eq a.0 b.0) (groups_right a.1 && groups_left b.1) (eq-eqb a.0 b.0 c.same) (and_from (groups_right a.1) (groups_left b.1) c.to_right (ap groups_left c.to_left)))
 
 module _ (t : Table) where
   abbrev at : ℕ → ℕ → Bool
@@ -114,7 +94,7 @@ module _ (t : Table) where
   clash_found h =
       let f = any_some (λ x. with_any x) (keys t.prefixes ++ keys t.infixes) h in
       let g = any_some (λ y. at f.0 y) (keys t.infixes) f.1 in
-      elim (or_says (is_clash (prefix_in t f.0) (infix_in t g.0)) (is_clash (infix_in t f.0) (infix_in t g.0)) g.1) [
+      elim (or_cases (is_clash (prefix_in t f.0) (infix_in t g.0)) (is_clash (infix_in t f.0) (infix_in t g.0)) g.1) [
         | inl p ↦ let c = clashing (prefix_in t f.0) (infix_in t g.0) p in record { name = f.0; left = g.0; meaning = c.meaning; grouping = c.grouping; is_meaning = inl c.is_meaning; is_infix = c.is_infix; clash = c.clash }
         | inr i ↦ let c = clashing (infix_in t f.0) (infix_in t g.0) i in record { name = f.0; left = g.0; meaning = c.meaning; grouping = c.grouping; is_meaning = inr c.is_meaning; is_infix = c.is_infix; clash = c.clash }
       ]

@@ -1,10 +1,11 @@
 -- What a filter admits after some events.
-use Rattle.std.proofs.Common.{◌≡◌, ℕ, Bool, true, false, not, List, [], ◌∷◌, ◌++◌, ◌&&◌, nat_eq, refl, ap, sym, ◌∙◌, subst, arith}
+use Rattle.std.proofs.Common.{◌≡◌, ℕ, Bool, true, false, not, List, [], ◌∷◌, ◌++◌, nat_eq, refl, ap, sym, ◌∙◌, subst, arith}
 use Rattle.std.specs.Prelude.{◌↔◌, IsTrue, Option, Some, None}
 use Rattle.std.specs.List.{fold}
 use Rattle.std.proofs.lemmas.Bool.Decides.{nat_tests}
 use Rattle.std.proofs.lemmas.List.Folds.{Any-from_list_any, list_any-from_Any}
 use Rattle.std.proofs.lemmas.List.Sums.{fold_push}
+use Rattle.std.proofs.lemmas.Bool.{and_parts}
 use Rattle.apd_term.specs.Term.{predicate_of}
 use Rattle.apd_term.specs.declared.term.Pred.{Pred}
 use Rattle.apd_ports.specs.Filter.{Admission, admits, after_event, before_events, inside_after, is_admitted, is_among, is_predicate}
@@ -31,14 +32,10 @@ by_boxes b es e =
     ap (λ (a : Admission). is_admitted a e) (skipping b es [])
     ∙ ap (λ (ns : List ℕ). not (is_among ns e.box_no)) (sym (fold_push (inside_after b) [] es e))
 
-both_true : (a b : Bool) → (a && b) ≡ true → (a ≡ true) × (b ≡ true)
-both_true true b is = (refl, is)
-both_true false b is = absurd (cc)
-
 listed : (o : Option Pred) (p : Pred) → is_predicate o p ≡ true → o ≡ Some p
 listed None p is = absurd (cc)
 listed (Some q) p is =
-    let h = both_true (nat_eq q.name.0 p.name.0) (nat_eq q.arity p.arity) is in
+    let h = and_parts (nat_eq q.name.0 p.name.0) (nat_eq q.arity p.arity) is in
     let name : q.name.0 ≡ p.name.0 = grind (arith, nat_tests, h.0) in
     let arity : q.arity ≡ p.arity = grind (arith, nat_tests, h.1) in
     ap (λ (n : ℕ). Some (record { name = record { 0 = n }; arity = q.arity })) name ∙ ap (λ (k : ℕ). Some (record { name = p.name; arity = k })) arity

@@ -5,21 +5,10 @@ use Rattle.std.proofs.lemmas.Bool.Decides.{nat_tests}
 use Rattle.std.proofs.lemmas.List.{append-nil}
 use Rattle.std.proofs.lemmas.List.Folds.{list_any-append}
 use Rattle.std.proofs.lemmas.List.Sums.{fold-append}
+use Rattle.std.proofs.lemmas.Bool.{or_cases, or_left, or_right}
 use Rattle.apd_ports.specs.Filter.{is_among, is_called_inside, with_box, inside_after}
 use Rattle.apd_ports.specs.Inside.{IsInside, by_caller, by_inner}
 use Rattle.apd_ports.specs.declared.event.Event.{Event}
-
-either_true : (a b : Bool) → (a || b) ≡ true → (a ≡ true) ⊎ (b ≡ true)
-either_true true b is = inl refl
-either_true false b is = inr is
-
-first_true : (a b : Bool) → a ≡ true → (a || b) ≡ true
-first_true true b is = refl
-first_true false b is = absurd (cc)
-
-second_true : (a b : Bool) → b ≡ true → (a || b) ≡ true
-second_true true b is = refl
-second_true false b is = is
 
 same_number : (m n : ℕ) → (m == n) ≡ true → m ≡ n
 same_number m n is = grind (arith, nat_tests)
@@ -36,9 +25,9 @@ among_with boxes m n = by (is_among boxes m)
   where
     by : (b : Bool) → is_among (if b then boxes else boxes ++ m ∷ []) n ≡ true → (is_among boxes n ≡ true) ⊎ (m ≡ n)
     by true is = inl is
-    by false is = elim (either_true (is_among boxes n) ((m == n) || false) (sym (added boxes m n) ∙ is)) [
+    by false is = elim (or_cases (is_among boxes n) ((m == n) || false) (sym (added boxes m n) ∙ is)) [
       | inl old ↦ inl old
-      | inr new ↦ inr (elim (either_true (m == n) false new) [ inl same ↦ same_number m n same | inr never ↦ absurd (cc) ])
+      | inr new ↦ inr (elim (or_cases (m == n) false new) [ inl same ↦ same_number m n same | inr never ↦ absurd (cc) ])
     ]
 
 among_self : (boxes : List ℕ) (m : ℕ) → is_among (with_box boxes m) m ≡ true
@@ -46,14 +35,14 @@ among_self boxes m = by (is_among boxes m) refl
   where
     by : (b : Bool) → is_among boxes m ≡ b → is_among (if b then boxes else boxes ++ m ∷ []) m ≡ true
     by true is = is
-    by false is = added boxes m m ∙ second_true (is_among boxes m) ((m == m) || false) (first_true (m == m) false (itself m))
+    by false is = added boxes m m ∙ or_right (is_among boxes m) ((m == m) || false) (or_left (m == m) false (itself m))
 
 among_more : (boxes : List ℕ) (m n : ℕ) → is_among boxes n ≡ true → is_among (with_box boxes m) n ≡ true
 among_more boxes m n old = by (is_among boxes m)
   where
     by : (b : Bool) → is_among (if b then boxes else boxes ++ m ∷ []) n ≡ true
     by true = old
-    by false = added boxes m n ∙ first_true (is_among boxes n) ((m == n) || false) old
+    by false = added boxes m n ∙ or_left (is_among boxes n) ((m == n) || false) old
 
 -- a box that is noted stays so
 stays_at : (b : ℕ) (e : Event) (boxes : List ℕ) (n : ℕ) → is_among boxes n ≡ true → is_among (inside_after b boxes e) n ≡ true
@@ -84,9 +73,9 @@ noted_in b before after e called =
 -- each box that is strictly inside is noted
 pub inside_noted : (b : ℕ) (es : List Event) (n : ℕ) → IsInside b es n → is_among (fold (inside_after b) [] es) n ≡ true
 inside_noted b es n (by_caller before after e is) =
-    noted_in b before after e (first_true (e.caller == b) _ (subst (λ (c : ℕ). (c == b) ≡ true) (sym is) (itself b)))
+    noted_in b before after e (or_left (e.caller == b) _ (subst (λ (c : ℕ). (c == b) ≡ true) (sym is) (itself b)))
 inside_noted b es n (by_inner before after e inner) =
-    noted_in b before after e (second_true (e.caller == b) _ (inside_noted b before e.caller inner))
+    noted_in b before after e (or_right (e.caller == b) _ (inside_noted b before e.caller inner))
 
 -- a box that is strictly inside stays so
 later : (b : ℕ) (es more : List Event) (n : ℕ) → IsInside b es n → IsInside b (es ++ more) n
@@ -103,7 +92,7 @@ unfolding AllInside
 next_inside b done e boxes so n = by (is_called_inside b boxes e) refl
   where
     here : is_called_inside b boxes e ≡ true → IsInside b (done ++ e ∷ []) e.box_no
-    here called = elim (either_true (e.caller == b) (is_among boxes e.caller) called) [
+    here called = elim (or_cases (e.caller == b) (is_among boxes e.caller) called) [
       | inl outer ↦ by_caller done [] e (same_number e.caller b outer)
       | inr inner ↦ by_inner done [] e (so e.caller inner)
     ]

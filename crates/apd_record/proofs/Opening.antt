@@ -1,9 +1,10 @@
 -- Rows of a search that goes on: what stands beside them stays right, and what record they tell.
 use Rattle.std.proofs.Common.{◌≡◌, ℕ, zero, suc, ◌+◌, ◌-◌, ◌^◌, ◌<◌, ◌≤◌, ◌==◌, Bool, false, List, [], ◌∷◌, ◌++◌, length, map, get_or, not, Option, Some, refl, ap, sym, subst, ◌∙◌, arith, inl, inr, length-append}
 use Rattle.std.specs.Prelude.{nat_lt, slice_get, All}
-use Rattle.std.proofs.lemmas.List.{get_or_append_left, length-map, map-append}
+use Rattle.std.proofs.lemmas.List.{get_or_append_left, length-map, map-append, length_push}
 use Rattle.std.proofs.lemmas.List.Elements.{All-nil, All-head, All-tail, All-weaker}
 use Rattle.std.proofs.lemmas.Option.{get_or_from_slice_get, slice_get_within}
+use Rattle.apd_base.proofs.Lists.{slice_get-front, slice_get-push}
 use Rattle.apd_term.specs.Term.{Term}
 use Rattle.apd_term.specs.declared.tuple.Tuple.{Tuple}
 use Rattle.apd_ports.specs.declared.event.Port.{Port}
@@ -27,14 +28,14 @@ use Rattle.apd_record.specs.Recorded.{Recorded, BoxRow, is_user_atom, noted, ope
 use Rattle.apd_record.specs.Sound.{IsKept}
 use Rattle.apd_record.proofs.Indexed.{box_index, nothing, nowhere, point_index}
 use Rattle.apd_record.proofs.KeptRows.{passed_rows, rows_box, rows_edited, rows_point}
-use Rattle.apd_record.proofs.Places.{length-edited, length-points, slice_get-push}
+use Rattle.apd_record.proofs.Places.{length-edited}
 use Rattle.apd_record.proofs.Shaped.{from_of, index_same, shape, within_same, Shape}
 
 -- Numbers that are there.
 
 within_box : (R : Recorded) (row : BoxRow) → IsWithin R → row.from < length R.points → IsWithin (record { boxes = R.boxes ++ row ∷ []; points = R.points })
 within_box R row h l =
-    let n : length (R.boxes ++ row ∷ []) ≡ length R.boxes + 1 = length-points R.boxes row in
+    let n : length (R.boxes ++ row ∷ []) ≡ length R.boxes + 1 = length_push R.boxes row in
     record {
       owner = λ p x at. omega (arith, h.owner p x at, n);
       later = h.later;
@@ -43,7 +44,7 @@ within_box R row h l =
 
 within_point : (R : Recorded) (x : Point) → IsWithin R → x.owner ≤ length R.boxes → IsBelow (length R.points) x.before → IsWithin (with_point R x)
 within_point R x h o b =
-    let n : length (R.points ++ x ∷ []) ≡ length R.points + 1 = length-points R.points x in
+    let n : length (R.points ++ x ∷ []) ≡ length R.points + 1 = length_push R.points x in
     record {
       owner = λ p y at. elim (slice_get-push R.points x p y at) [ inl e ↦ h.owner p y e | inr e ↦ subst (λ (z : Point). z.owner ≤ length R.boxes) e.1 o ];
       later = λ p y at. elim (slice_get-push R.points x p y at) [ inl e ↦ h.later p y e | inr e ↦ subst (λ k. IsBelow k y.before) (sym e.0) (subst (λ (z : Point). IsBelow (length R.points) z.before) e.1 b) ];
@@ -61,7 +62,7 @@ beside_box r o os l ls row bs h from few be oe le =
     let more : map (box_from [] []) (r.boxes ++ row ∷ []) ≡ map (box_from [] []) r.boxes ++ box_from [] [] row ∷ [] = map-append (box_from [] []) r.boxes (row ∷ []) in
     rw (be, oe, le)
     (record {
-      boxes = omega (arith, few, length-points r.boxes row);
+      boxes = omega (arith, few, length_push r.boxes row);
       points = h.points;
       within = subst (λ (rows : List BoxRow). IsWithin (record { boxes = rows; points = (blanked r).points })) (sym more) (within_box (blanked r) (box_from [] [] row) h.within there);
       index =
@@ -81,7 +82,7 @@ beside_point r o os l ls x xs e h owner below few earlier xe oe le =
     rw (xe, oe, le)
     (record {
       boxes = h.boxes;
-      points = omega (arith, few, length-points r.points x);
+      points = omega (arith, few, length_push r.points x);
       within = subst (λ (ps : List Point). IsWithin (record { boxes = (blanked r).boxes; points = ps })) (sym more) (within_point (blanked r) (blank_point x) h.within there (subst (λ k. IsBelow k x.before) (sym m) below));
       index =
           subst (λ (ps : List Point). IsIndex (record { boxes = (blanked r).boxes; points = ps }) (edited (owning (length r.points) (x.done == 0) (is_exit (blank_point x))) o x.owner) (linked x.before (length r.points) (l ++ nowhere e ∷ []))) (sym more)
@@ -179,16 +180,11 @@ atom_on : (kept more : List Tuple) (at : AtomPlace) → IsAtomThere [] kept at �
 atom_on kept more (Written p) h = absurd (omega (arith, h))
 atom_on kept more (Kept n) h = (ap (λ (t : Tuple). t.head) (get_or_append_left kept more no_tuple n h), omega (arith, h, length-append kept more))
 
-get-on : {X : Type 0} (xs ys : List X) (i : ℕ) (x : X) → slice_get xs i ≡ Some x → slice_get (xs ++ ys) i ≡ Some x
-get-on [] ys i x e = cc
-get-on (y ∷ xs) ys zero x e = e
-get-on (y ∷ xs) ys (suc i) x e = get-on xs ys i x e
-
 tuple_on : (kept more : List Tuple) (at : TuplePlace) → IsTupleThere 0 kept at → (tuple_there [] (kept ++ more) at ≡ tuple_there [] kept at) × IsTupleThere 0 (kept ++ more) at
 tuple_on kept more (Spanned s) h = absurd (omega (arith, h))
 tuple_on kept more (Held k) h = (
   get_or_append_left kept more no_tuple k.number (slice_get_within kept k.number h.tuple h.there),
-  record { tuple = h.tuple; there = get-on kept more k.number h.tuple h.there; goals = h.goals },
+  record { tuple = h.tuple; there = slice_get-front kept more k.number h.tuple h.there; goals = h.goals },
 )
 
 boxes_on : (kept more : List Tuple) (bs : List KeptBox) → All (λ (b : KeptBox). IsAtomThere [] kept b.atom) bs → map (box_from [] (kept ++ more)) bs ≡ map (box_from [] kept) bs

@@ -33,7 +33,7 @@ last_place-map g f [] = refl
 last_place-map g f (x ∷ xs) = ap (λ o. one_on o (f (g x))) (last_place-map g f xs)
 
 -- an element that stands in for another
-mapped : {X Y : Type 0} (g : X → Y) (o : Option X) (y : Y) → option_map g o ≡ Some y → (x : X) × (o ≡ Some x) × (g x ≡ y)
+pub mapped : {X Y : Type 0} (g : X → Y) (o : Option X) (y : Y) → option_map g o ≡ Some y → (x : X) × (o ≡ Some x) × (g x ≡ y)
 mapped g None y e = cc
 mapped g (Some x) y e = let is : g x ≡ y = cc in (x, refl, is)
 

@@ -2,6 +2,7 @@
 use Rattle.std.proofs.Common.{◌≡◌, ◌≢◌, ℕ, zero, suc, ◌+◌, ◌-◌, ◌<◌, ◌≤◌, List, [], ◌∷◌, ◌++◌, length, refl, sym, ◌∙◌, ap, subst, arith, length-append, append_assoc, append-nil, Option, Some, None, Bool, true, false, ◌⊎◌, inl, inr}
 use Rattle.std.specs.Prelude.{slice_get, if◌then◌else◌, ◌==◌, ◌&&◌, nat_lt, not}
 use Rattle.std.proofs.lemmas.Bool.Decides.{nat_tests}
+use Rattle.std.proofs.lemmas.Option.{slice_get_within}
 use Rattle.apd_term.specs.Term.{Term, variable}
 use Rattle.apd_term.specs.Canonical.{canonical, by_appearance, place_of}
 use Rattle.apd_term.specs.Tuple.{variables_of_tuple}
@@ -15,8 +16,8 @@ use Rattle.apd_ports.specs.declared.event.Port.TheVariants.{Call, Exit, Redo, Fa
 use Rattle.apd_ports.specs.declared.point.Point.{Point}
 use Rattle.apd_ports.specs.declared.point.Step.{Step}
 use Rattle.apd_record.specs.Recorded.{Recorded, goal_left, empty, with_point, numbers, is_exit_of, exits}
-use Rattle.apd_record.proofs.Lists.{get-below}
 use Rattle.apd_record.proofs.Keeping.{points_noted}
+use Rattle.apd_record.proofs.Readers.{none_done}
 use Rattle.apd_trace.specs.Frames.{apply_frame, apply_frames, goal_of, is_large, point_at, handed, entering, called, left, look_at, step_from, query_frame}
 use Rattle.apd_trace.specs.BuiltIn.{built, Solution, of_program, faulted, failed, solved, solution}
 use Rattle.apd_trace.specs.Trace.{Next, Out, nothing, emit, and_then, at_port, point_of, begun, tried, tries, hand, again, closing, over, succeeded, settled, turn, search_from, up_to_error, trace}
@@ -293,13 +294,8 @@ numbers-end {X} test n (y ∷ xs) x = either (test y) (numbers-end test (n + 1) 
     either true h = let e : (n + 1) + length xs ≡ n + suc (length xs) = omega arith in ap (λ ys. n ∷ ys) (h ∙ ap (λ m. numbers test (n + 1) xs ++ (if test x then m ∷ [] else [])) e)
     either false h = let e : (n + 1) + length xs ≡ n + suc (length xs) = omega arith in h ∙ ap (λ m. numbers test (n + 1) xs ++ (if test x then m ∷ [] else [])) e
 
-none_done : (ts : List Term) (d : ℕ) → slice_get ts d ≡ None → nat_lt d (length ts) ≡ false
-none_done [] d h = grind (arith, nat_tests)
-none_done (t ∷ ts) zero h = cc
-none_done (t ∷ ts) (suc d) h = let k = none_done ts d h in grind (arith, nat_tests)
-
 some_done : (ts : List Term) (d : ℕ) (a : Term) → slice_get ts d ≡ Some a → nat_lt d (length ts) ≡ true
-some_done ts d a h = let k = get-below ts d a h in grind (arith, nat_tests)
+some_done ts d a h = let k = slice_get_within ts d a h in grind (arith, nat_tests)
 
 module _ (n : ℕ) (some : 0 < n) where
   -- the exit that is made, and not yet passed

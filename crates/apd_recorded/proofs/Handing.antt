@@ -2,6 +2,7 @@
 use Rattle.std.proofs.Common.{◌≡◌, ℕ, zero, suc, ◌+◌, ◌<◌, List, [], ◌∷◌, length, refl, sym, ◌∙◌, ap, subst, arith, Option, Some, None, Bool, true, false, ◌⊎◌, inl, inr}
 use Rattle.std.specs.Prelude.{slice_get, if◌then◌else◌}
 use Rattle.std.proofs.Math.Nat.{eq-or-lt_of_le}
+use Rattle.std.proofs.lemmas.Option.{slice_get_within}
 use Rattle.apd_term.specs.Term.{Term, apply}
 use Rattle.apd_term.specs.Tuple.{canonical_tuple, IsTupleInstance}
 use Rattle.apd_causes.specs.declared.run.RunError.TheVariants.{Size}
@@ -17,7 +18,7 @@ use Rattle.apd_record.specs.declared.rows.BoxRow.{BoxRow}
 use Rattle.apd_record.specs.Sound.{IsKept, IsOwned, IsOpen, CameBy, ComeAlike, MayMake}
 use Rattle.apd_record.specs.Chain.{IsInnermost, AreChained}
 use Rattle.apd_record.specs.Full.{HasCompleteChild, IsFollowed, EntersAll, ExitsAll, AsksAll, FollowsAll}
-use Rattle.apd_record.proofs.Lists.{get-last, get-below, get-one, longer, passed-there}
+use Rattle.apd_record.proofs.Lists.{get-last, get-one, longer, passed-there}
 use Rattle.apd_record.proofs.Growing.{Grown, grown_then, grown_point, grown_noted, box_still}
 use Rattle.apd_record.proofs.Keeping.{kept_point, kept_noted, points_noted}
 use Rattle.apd_record.proofs.Chains.{chained_point, innermost_point}
@@ -70,7 +71,7 @@ noted_there R (suc n) port b h = passed-there port n R.boxes b h
 
 -- where a point was called from is below the number of points
 pub from_below : (R : Recorded) (n : ℕ) (b : BoxRow) → IsKept R → box_at R n ≡ Some b → b.from < length R.points
-from_below R n b kept h = let c = kept.called n b h in get-below R.points b.from c.caller c.there
+from_below R n b kept h = let c = kept.called n b h in slice_get_within R.points b.from c.caller c.there
 
 module _ (P : List Tuple) (k : ℕ) (next : Next) (next_meets : (F : List Frame) (Ts : List Tuple) (n m : ℕ) (R : Recorded) → IsReady R F Ts n m → Meets P k R (next F n m) (After R (start_of F))) where
   module _ (e f : Frame) (G : List Frame) (E T : Tuple) (Us : List Tuple) (n m : ℕ) (R : Recorded) (stack : Stack R (e ∷ f ∷ G) (E ∷ T ∷ Us)) (counted : Counted R n m) (newest : m ≡ suc e.point) (over : goal_of e ≡ None) (top : IsInnermost R f.box_no) where
@@ -88,8 +89,8 @@ module _ (P : List Tuple) (k : ℕ) (next : Next) (next_meets : (F : List Frame)
                 goal = apply c.0 e.tuple.head;
                 left_there = stack.placed.1.0.there;
                 exit_there = stack.placed.0.there;
-                point_earlier = get-below R.points f.point (point_with f T stack.placed.1.0.before) stack.placed.1.0.there;
-                exit_earlier = get-below R.points e.point (point_with e E stack.placed.0.before) stack.placed.0.there;
+                point_earlier = slice_get_within R.points f.point (point_with f T stack.placed.1.0.before) stack.placed.1.0.there;
+                exit_earlier = slice_get_within R.points e.point (point_with e E stack.placed.0.before) stack.placed.0.there;
                 is_exit = point_exit e E stack.placed.0.instance over;
                 child = stack.boxed.0.there;
                 called = stack.boxed.0.from;
@@ -106,7 +107,7 @@ module _ (P : List Tuple) (k : ℕ) (next : Next) (next_meets : (F : List Frame)
       where
         fresh : (i : ℕ) (q : Point) (before : Option Step) → point_in R i ≡ Some q → CameBy R i q before → ComeAlike q (new_point f e.point m) before (Some (step_from f.point e.point)) → ⊥
         fresh i q None at came alike = alike
-        fresh i q (Some s) at came alike = absurd (let lt = get-below R.points i q at in omega (arith, lt, came.exit_earlier, alike.1, counted.points, newest))
+        fresh i q (Some s) at came alike = absurd (let lt = slice_get_within R.points i q at in omega (arith, lt, came.exit_earlier, alike.1, counted.points, newest))
 
     ready_hand : IsReady (with_point R (new_point f e.point m)) (handed f m ∷ G) (canonical_tuple f.tuple ∷ Us) n (m + 1)
     ready_hand = (

@@ -13,7 +13,7 @@ use Rattle.apd_ports.specs.declared.event.Port.TheVariants.{Call, Exit, Redo, Fa
 use Rattle.apd_ports.specs.declared.point.Point.{Point}
 use Rattle.apd_record.specs.Recorded.{Recorded, box_at, point_at as point_in, empty, query_point, with_point, chain}
 use Rattle.apd_record.specs.declared.rows.BoxRow.{BoxRow}
-use Rattle.apd_record.specs.Sound.{clause_of, MayMake, IsKept, IsSound}
+use Rattle.apd_record.specs.Sound.{clause_of, IsKept, IsSound}
 use Rattle.apd_record.specs.Full.{IsFullAt, IsFull}
 use Rattle.apd_record.specs.Chain.{AreChained, EachOwnsNext}
 use Rattle.apd_record.proofs.Lists.{get-one}
@@ -22,6 +22,7 @@ use Rattle.apd_record.proofs.Keeping.{kept_empty, kept_point, sound_empty, sound
 use Rattle.apd_record.proofs.Trees.{bodies_are_proved}
 use Rattle.apd_record.proofs.Filling.{full_empty, full_opened, full_point, full_noted}
 use Rattle.apd_record.proofs.Chains.{chained_empty, chained_point, owns_next}
+use Rattle.apd_record.proofs.Told.{may_begin}
 use Rattle.apd_trace.specs.Frames.{query_frame, goal_of, look_at}
 use Rattle.apd_trace.specs.Trace.{search_from, turn, up_to_error, trace}
 use Rattle.apd_trace.specs.Run.{run_of, query_run, before_event}
@@ -47,9 +48,6 @@ bodies_of P all (suc i) r at = AreAtoms-of r.body (goals_are_atoms r.body (All-a
 pub no_box : (R : Recorded) (n : ℕ) (b : BoxRow) → R.boxes ≡ [] → box_at R n ≡ Some b → ⊥
 no_box R zero b e h = cc
 no_box R (suc n) b e h = let bad : slice_get [] n ≡ Some b = ap (λ bs. slice_get bs n) (sym e) ∙ h in cc
-
-pub may_begin : (query : Tuple) → MayMake empty (query_point query)
-may_begin query = record { came = (refl, refl); is_new = λ i q at alike. (cc); is_open = tt }
 
 module _ (P : List Tuple) (all : All IsClause P) (query : Tuple) (atoms : All IsAtom query.body) where
   pub ready : IsReady (with_point empty (query_point query)) (query_frame query ∷ []) (canonical_tuple query ∷ []) 0 1

@@ -3,6 +3,7 @@ use Rattle.std.proofs.Common.{◌≡◌, ◌≢◌, ℕ, zero, suc, ◌+◌, ◌
 use Rattle.std.specs.Prelude.{slice_get, if◌then◌else◌, ◌==◌}
 use Rattle.std.proofs.lemmas.Bool.Decides.{nat_tests}
 use Rattle.std.proofs.Math.Nat.{eq-or-lt_of_le}
+use Rattle.std.proofs.lemmas.Option.{slice_get_within}
 use Rattle.apd_term.specs.Term.{Term, variable, apply, variables, predicate_of}
 use Rattle.apd_term.specs.Canonical.{canonical, by_appearance, place_of, AreVariants}
 use Rattle.apd_term.specs.Substitution.{IsInstance, followed_by}
@@ -25,7 +26,7 @@ use Rattle.apd_record.specs.Sound.{clause_of, IsKept, MayOpen, IsAlwaysTrue}
 use Rattle.apd_record.specs.Chain.{IsActive, IsInnermost, AreChained}
 use Rattle.apd_record.specs.Full.{HasExit}
 use Rattle.apd_record.proofs.Atoms.{IsAtom-apply, user-same}
-use Rattle.apd_record.proofs.Lists.{get-last, get-below, get-one, longer}
+use Rattle.apd_record.proofs.Lists.{get-last, get-one, longer}
 use Rattle.apd_record.proofs.Growing.{IsSameCall, box_still, Grown, grown_same, grown_then, grown_point, grown_opened, grown_noted}
 use Rattle.apd_record.proofs.Keeping.{owner_below, kept_opened, kept_noted, points_noted}
 use Rattle.apd_record.proofs.Chains.{chained_opened, innermost_opened, innermost_builtin, innermost_point, innermost_one, chained_left, chained_back, chained_builtin}
@@ -53,7 +54,7 @@ new_box R atom from n h = let e : n + 1 ≡ suc n = omega arith in rw e (get-las
 
 -- nothing is to be settled past the end
 settled_past : (R : Recorded) (x : ℕ) → length R.points ≤ x → Settled R x
-settled_past R x past i p le at = absurd (let lt = get-below R.points i p at in omega (arith, lt, past, le))
+settled_past R x past i p le at = absurd (let lt = slice_get_within R.points i p at in omega (arith, lt, past, le))
 
 settled_noted : (R : Recorded) (n x : ℕ) (port : Port) → Settled R x → Settled (noted R n port) x
 settled_noted R n x port h i p le at = settled-grown R (noted R n port) (grown_noted R n port) i p (goal_left p) (h i p le (rw points_noted at at))
@@ -156,7 +157,7 @@ module _ (P : List Tuple) (heads : (c : ℕ) (r : Tuple) → clause_of P c ≡ S
     settled1 = settled_past Ropened (f.point + 1) (omega (arith, counted.points, newest.newest))
 
     none1 : EntersNone (length R.boxes) (length R.points) Ropened
-    none1 i p le at first = absurd (let lt = get-below R.points i p at in omega (arith, lt, le))
+    none1 i p le at first = absurd (let lt = slice_get_within R.points i p at in omega (arith, lt, le))
 
     nobody : (i : ℕ) (q : Point) → point_in R i ≡ Some q → q.owner ≢ g.box_no
     nobody i q at same = let le = owner_below R i q.owner (counted.kept.made i q at).owned in omega (arith, le, same, counted.boxes)
@@ -423,11 +424,11 @@ module _ (P : List Tuple) (heads : (c : ℕ) (r : Tuple) → clause_of P c ≡ S
             }
 
         none : EntersNone (length R.boxes) (length R.points) R
-        none i p le at first = absurd (let lt = get-below R.points i p at in omega (arith, lt, le))
+        none i p le at first = absurd (let lt = slice_get_within R.points i p at in omega (arith, lt, le))
 
         settled : Settled R f.point
         settled i p le at =
-            let lt = get-below R.points i p at in
+            let lt = slice_get_within R.points i p at in
             let i_is : f.point ≡ i = omega (arith, lt, le, counted.points, newest.newest) in
             let there : point_in R i ≡ Some (record { owner = f.box_no; clause = f.clause; done = f.done; tuple = T; before = stack.placed.0.before }) = subst (λ j. point_in R j ≡ Some (record { owner = f.box_no; clause = f.clause; done = f.done; tuple = T; before = stack.placed.0.before })) i_is stack.placed.0.there in
             let same : record { owner = f.box_no; clause = f.clause; done = f.done; tuple = T; before = stack.placed.0.before } ≡ p = get-one (point_in R i) (record { owner = f.box_no; clause = f.clause; done = f.done; tuple = T; before = stack.placed.0.before }) p there at in

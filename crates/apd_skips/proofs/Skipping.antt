@@ -130,9 +130,6 @@ module _ (s : List Sym) (skips : List Skip) (one other k i j : ℕ) (x y : Skip)
 
 -- Arguments, one place further to the front.
 
-begins : (s : List Sym) (at : ℕ) (d : Sym) → at < length s → drop at s ≡ get_or s at d ∷ drop (at + 1) s
-begins s at d l = drop_more s at d l
-
 size-begun : (x : Sym) (r : List Sym) → size (first_of (read_all (x ∷ r))) ≡ 1 + size_all (terms_of (take (arity_of x) (read_all r)))
 size-begun (Var v) r = refl
 size-begun (Int i) r = refl
@@ -145,16 +142,16 @@ same-begun (Fun f n) q r h = ap (λ (ts : List Term). compound f (terms_of ts)) 
 
 pub end-is : (s : List Sym) (at : ℕ) (d : Sym) → at < length s → end_behind s (at + 1) (arity_of (get_or s at d)) ≡ end_of s at
 end-is s at d l =
-    let e = ap (λ (x : List Sym). size (first_of (read_all x))) (begins s at d l) in
+    let e = ap (λ (x : List Sym). size (first_of (read_all x))) (drop_more s at d l) in
     let f = size-begun (get_or s at d) (drop (at + 1) s) in
     omega (arith, e, f)
 
 pub same-subterms : (s : List Sym) (i j : ℕ) (d e : Sym) → i < length s → j < length s → get_or s i d ≡ get_or s j e
     → terms_from s (i + 1) (arity_of (get_or s j e)) ≡ terms_from s (j + 1) (arity_of (get_or s j e)) → subterm_at s i ≡ subterm_at s j
 same-subterms s i j d e l m same h =
-    ap (λ (x : List Sym). first_of (read_all x)) (begins s i d l ∙ ap (λ (y : Sym). y ∷ drop (i + 1) s) same)
+    ap (λ (x : List Sym). first_of (read_all x)) (drop_more s i d l ∙ ap (λ (y : Sym). y ∷ drop (i + 1) s) same)
     ∙ same-begun (get_or s j e) (drop (i + 1) s) (drop (j + 1) s) h
-    ∙ ap (λ (x : List Sym). first_of (read_all x)) (sym (begins s j e m))
+    ∙ ap (λ (x : List Sym). first_of (read_all x)) (sym (drop_more s j e m))
 
 -- two terms of one symbol and no more
 pub same-constants : (s : List Sym) (i j n : ℕ) (d e : Sym) → i < length s → j < length s → get_or s i d ≡ get_or s j e → n ≡ arity_of (get_or s j e) → n ≡ 0 → subterm_at s i ≡ subterm_at s j

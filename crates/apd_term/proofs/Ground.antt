@@ -1,13 +1,18 @@
 -- Terms without variables.
-use Rattle.std.proofs.Common.{◌≡◌, ℕ, List, [], ◌∷◌, inl, inr, refl, subst, ◌∙◌}
+use Rattle.std.proofs.Common.{◌≡◌, ℕ, List, [], ◌∷◌, inl, inr, refl, sym, subst, ◌∙◌}
 use Rattle.std.specs.List.{flat_map}
 use Rattle.apd_term.specs.Term.{Term, variable, apply, variables, IsGround, IsAmong, Occurs}
+use Rattle.apd_term.specs.Canonical.{canonical, by_appearance, place_of}
 use Rattle.apd_term.proofs.Applying.{apply-variable, variables-apply}
 use Rattle.apd_term.proofs.Variants.{apply-agree}
 
 -- no substitution changes one
 pub apply-ground : (s : ℕ → Term) (t : Term) → IsGround t → apply s t ≡ t
 apply-ground s t g = apply-agree s variable t (λ v o. absurd (subst (λ vs. IsAmong vs v) g o)) ∙ apply-variable t
+
+-- it is its own canonical form
+pub canonical-ground : (t : Term) → IsGround t → t ≡ canonical t
+canonical-ground t g = sym (apply-ground (λ v. variable (place_of (by_appearance (variables t)) v)) t g)
 
 flat_map_none : (f : ℕ → List ℕ) (vs : List ℕ) → ((v : ℕ) → IsAmong vs v → f v ≡ []) → flat_map f vs ≡ []
 flat_map_none f [] h = refl

@@ -1,8 +1,8 @@
 -- What is read off two terms makes the one into the other.
-use Rattle.std.proofs.Common.{◌≡◌, ◌⊎◌, inl, inr, ℕ, ◌==◌, ◌&&◌, Bool, true, false, if◌then◌else◌, List, [], ◌∷◌, Option, Some, None, refl, sym, ◌∙◌, ap, subst, arith}
+use Rattle.std.proofs.Common.{◌≡◌, ◌⊎◌, inl, inr, ℕ, ◌==◌, true, if◌then◌else◌, List, [], ◌∷◌, Option, Some, None, refl, sym, ◌∙◌, ap, subst, arith}
 use Rattle.std.specs.Prelude.{◌↔◌, IsTrue}
 use Rattle.std.specs.Option.{unwrap_or, option_or}
-use Rattle.std.proofs.lemmas.Bool.{cases_eq}
+use Rattle.std.proofs.lemmas.Bool.{cases_eq, and_parts}
 use Rattle.std.proofs.lemmas.Bool.Decides.{Decides-eqb, Decides-int_eq, nat_tests}
 use Rattle.apd_term.specs.Term.{Term, Terms, variable, integer, compound, none, more, apply, apply_all, variables, variables_all, IsAmong, Occurs}
 use Rattle.apd_term.specs.Substitution.{IsInstance, IsMatch, term_for, IsFree}
@@ -22,10 +22,6 @@ mutual
   same_terms-same none = refl
   same_terms-same (more t ts) = rw (same_term-same t, same_terms-same ts) refl
 
-both : (a b : Bool) → (a && b) ≡ true → (a ≡ true) × (b ≡ true)
-both true b e = (refl, e)
-both false b e = absurd (cc)
-
 name_eta : (f g : NameId) → f.0 ≡ g.0 → f ≡ g
 name_eta f g e = ap (λ n. record { 0 = n }) e
 
@@ -40,7 +36,7 @@ mutual
   same_term-equal (compound f ts) (variable w) e = absurd (cc)
   same_term-equal (compound f ts) (integer j) e = absurd (cc)
   same_term-equal (compound f ts) (compound g us) e =
-      let p = both (f.0 == g.0) (same_terms ts us) e in
+      let p = and_parts (f.0 == g.0) (same_terms ts us) e in
       ap (λ n. compound n ts) (name_eta f g ((Decides-eqb f.0 g.0).0 p.0)) ∙ ap (compound g) (same_terms-equal ts us p.1)
 
   same_terms-equal : (ts us : Terms) → same_terms ts us ≡ true → ts ≡ us
@@ -48,7 +44,7 @@ mutual
   same_terms-equal none (more u us) e = absurd (cc)
   same_terms-equal (more t ts) none e = absurd (cc)
   same_terms-equal (more t ts) (more u us) e =
-      let p = both (same_term t u) (same_terms ts us) e in
+      let p = and_parts (same_term t u) (same_terms ts us) e in
       ap (λ x. more x ts) (same_term-equal t u p.0) ∙ ap (more u) (same_terms-equal ts us p.1)
 
 pub same_term-is : (a b : Term) → IsTrue (same_term a b) ↔ (a ≡ b)

@@ -30,6 +30,11 @@ mutual
   flat_map-variables_all none = refl
   flat_map-variables_all (more t ts) = rw (flat_map-append variable_in (spell t) (spell_all ts), flat_map-variables t, flat_map-variables_all ts) refl
 
+pub some_symbol : (t : Term) → 0 < length (spell t)
+some_symbol (variable v) = omega arith
+some_symbol (integer i) = omega arith
+some_symbol (compound f ts) = omega arith
+
 pub length-apply_all : (s : ℕ → Term) (ts : Terms) → length (list_of (apply_all s ts)) ≡ length (list_of ts)
 length-apply_all s none = refl
 length-apply_all s (more t ts) = omega (arith, length-apply_all s ts)

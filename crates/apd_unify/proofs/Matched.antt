@@ -5,14 +5,14 @@ use Rattle.std.proofs.lemmas.Bool.{cases_eq}
 use Rattle.std.proofs.lemmas.List.{append-nil, drop_more, get_or_append_left, length-append, take_at}
 use Rattle.apd_term.specs.declared.term.Sym.{Sym}
 use Rattle.apd_term.specs.declared.term.Sym.TheVariants.{Var, Int, Fun}
-use Rattle.apd_term.specs.Term.{Term, variable, integer, compound, none, terms_of, apply, spell, variables, arity_of, first_of, read_all, term_of, IsAmong, IsTerms, Occurs}
+use Rattle.apd_term.specs.Term.{Term, variable, compound, none, terms_of, apply, spell, variables, arity_of, first_of, read_all, term_of, IsAmong, IsTerms, Occurs}
 use Rattle.apd_term.specs.Substitution.{term_for, single, followed_by}
 use Rattle.apd_term.specs.Canonical.{shifted}
 use Rattle.apd_term.proofs.Among.{IsAmong-left, IsAmong-right, IsAmong-append}
 use Rattle.apd_term.proofs.Applying.{apply-followed_by, apply-same}
 use Rattle.apd_term.proofs.Variants.{apply-agree}
 use Rattle.apd_term.proofs.Pairs.{term_for-same, term_for-other}
-use Rattle.apd_term.proofs.Spelling.{under_name, list_of-terms_of}
+use Rattle.apd_term.proofs.Spelling.{under_name, list_of-terms_of, some_symbol}
 use Rattle.apd_unify.specs.Heads.{HasGoneOn, IsMade, IsMatched, IsLoadedFor, Matches}
 use Rattle.apd_unify.specs.Unified.{IsUnified, IsUnification}
 use Rattle.apd_unify.specs.Unifier.{OccursIn, BringsNoVariable, HasNoUnifier, IsUnifier}
@@ -130,11 +130,6 @@ sound_loaded s t base h =
       (omega (arith, length-append s.cells (spell u)), (above-ge s.variables (variables u), subst (λ z. IsStore z s.variables s.trail) (sym (take_at s.cells (spell u) (length s.cells) refl)) h)),
     )
 
-spelled : (t : Term) → 0 < length (spell t)
-spelled (variable v) = omega arith
-spelled (integer i) = omega arith
-spelled (compound f ts) = omega arith
-
 -- a term of the clause was loaded
 module _ (s s' : Stored) (old new : List Slot) (t : Term) (store : IsSound s) (slots : AreSlots s.cells s.variables old) (h : HasLoaded s s' old new t) where
   pub sound_then : IsSound s'
@@ -177,7 +172,7 @@ module _ (s s' : Stored) (old new : List Slot) (t : Term) (store : IsSound s) (s
           later = λ v. later_newer s.variables s'.cells (slot_at old v) (slot_at new v) (h.newer v);
           keeps = subst (Keeps s) (sym h.is) (Keeps-loaded s u 0);
         };
-        inside = omega (arith, n, e, spelled (shifted 0 u));
+        inside = omega (arith, n, e, some_symbol (shifted 0 u));
         values = λ g f v. value_newer slots.owner h.slots.owner v (g.of v) (slot_at old v) (slot_at new v) (slots.each v) (h.slots.each v) (h.newer v) (f v);
         means = means_then;
         others = others_then;

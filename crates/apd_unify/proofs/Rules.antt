@@ -3,13 +3,13 @@ use Rattle.std.proofs.Common.{ℤ, ◌≡◌, ◌≢◌, inl, inr, ℕ, ◌+◌,
 use Rattle.std.specs.Bool.{Decides}
 use Rattle.std.specs.List.{list_any, zip}
 use Rattle.std.specs.Ordering.{int_eq}
-use Rattle.std.proofs.lemmas.Bool.{cases_eq}
 use Rattle.std.proofs.lemmas.Bool.Decides.{Decides-eqb, Decides-int_eq, nat_tests}
 use Rattle.apd_term.specs.declared.term.NameId.{NameId}
 use Rattle.apd_term.specs.Term.{Term, Terms, variable, integer, compound, none, more, list_of, arguments, size, size_all, apply, apply_all, variables, variables_all, IsAmong, Occurs}
 use Rattle.apd_term.proofs.Spelling.{length-apply_all}
 use Rattle.apd_term.specs.Substitution.{Unifies}
 use Rattle.apd_term.proofs.Among.{IsAmong-left, IsAmong-right, IsAmong-append}
+use Rattle.apd_term.proofs.Variants.{any_of, any_among}
 use Rattle.apd_unify.specs.declared.rule.Rule.{Rule}
 use Rattle.apd_unify.specs.declared.rule.Rule.TheVariants.{Delete, Decompose, Clash, Cycle, Eliminate}
 use Rattle.apd_unify.specs.Unifier.{OccursIn, HasNoUnifier}
@@ -18,11 +18,6 @@ use Rattle.apd_unify.proofs.Rounds.{UnifiesAll, OccursInAll}
 use Rattle.apd_unify.proofs.Steps.{cycle}
 
 -- whether a variable stands in a list
-pub any_among : (vs : List ℕ) (v : ℕ) → IsAmong vs v → list_any (λ w. w == v) vs ≡ true
-any_among [] v m = absurd m
-any_among (x ∷ xs) v (inl e) = grind (arith, nat_tests)
-any_among (x ∷ xs) v (inr m) = let k = any_among xs v m in grind (arith, nat_tests)
-
 pub none_among : (vs : List ℕ) (v : ℕ) → ¬ IsAmong vs v → list_any (λ w. w == v) vs ≡ false
 none_among [] v n = refl
 none_among (x ∷ xs) v n =
@@ -30,15 +25,8 @@ none_among (x ∷ xs) v n =
     let later = none_among xs v (λ m. n (inr m)) in
     grind (arith, nat_tests)
 
-pub among_any : (vs : List ℕ) (v : ℕ) → list_any (λ w. w == v) vs ≡ true → IsAmong vs v
-among_any [] v h = cc
-among_any (x ∷ xs) v h = elim (cases_eq x v) [ inl e ↦ inl e | inr n ↦ inr (among_any xs v (later n)) ]
-  where
-    later : x ≢ v → list_any (λ y. y == v) xs ≡ true
-    later n = grind (arith, nat_tests)
-
 pub not_among : (vs : List ℕ) (v : ℕ) → list_any (λ w. w == v) vs ≡ false → ¬ IsAmong vs v
-not_among vs v h m = differ (sym h ∙ any_among vs v m)
+not_among vs v h m = differ (sym h ∙ any_of vs v m)
   where
     differ : false ≡ true → ⊥
     differ e = cc
@@ -127,7 +115,7 @@ variable_rule-right a b v (integer i) s = eliminates a b v (integer i) s (λ o. 
 variable_rule-right a b v (compound f ts) s = by_test (stands_in v (compound f ts)) refl
   where
     by_test : (x : Bool) → stands_in v (compound f ts) ≡ x → IsRightRule a b (if x then Cycle else Eliminate v (compound f ts))
-    by_test true h = λ u e. cycle u v (compound f ts) (among_any (variables_all ts) v h) (λ q. (cc)) (s.forced u e)
+    by_test true h = λ u e. cycle u v (compound f ts) (any_among (variables_all ts) v h) (λ q. (cc)) (s.forced u e)
     by_test false h = eliminates a b v (compound f ts) s (not_among (variables_all ts) v h)
 
 split_all : (u : ℕ → Term) (ts us : Terms) → apply_all u ts ≡ apply_all u us → UnifiesAll u (zip (list_of ts) (list_of us))
@@ -226,7 +214,7 @@ pub rule_for_variable-cycle : (v : ℕ) (t : Term) → t ≢ variable v → Occu
 rule_for_variable-cycle v (variable w) n (inl e) = absurd (n (ap variable e))
 rule_for_variable-cycle v (variable w) n (inr m) = absurd m
 rule_for_variable-cycle v (integer i) n m = absurd m
-rule_for_variable-cycle v (compound f ts) n m = rw (any_among (variables_all ts) v m) refl
+rule_for_variable-cycle v (compound f ts) n m = rw (any_of (variables_all ts) v m) refl
 
 pub rule_for_variable-free : (v : ℕ) (t : Term) → ¬ Occurs v t → Eliminate v t ≡ rule_for_variable v t
 rule_for_variable-free v (variable w) n = by_test (v == w) (Decides-eqb v w)

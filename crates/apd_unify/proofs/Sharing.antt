@@ -6,6 +6,7 @@ use Rattle.apd_term.specs.Term.{Term, variable, integer, compound, apply, spell,
 use Rattle.apd_term.specs.Canonical.{shifted}
 use Rattle.apd_term.specs.Substitution.{term_for, single}
 use Rattle.apd_term.proofs.Ground.{apply-ground}
+use Rattle.apd_term.proofs.Spelling.{some_symbol}
 use Rattle.apd_cells.specs.declared.heap.Binding.TheVariants.{Free}
 use Rattle.apd_unify.specs.Copies.{HasShared}
 use Rattle.apd_cells.specs.Stored.{Stored}
@@ -24,11 +25,6 @@ no_variable_first (compound f ts) w g e = cc
 
 ground_absent : (t : Term) (v : ℕ) → IsGround t → ¬ Occurs v t
 ground_absent t v g o = subst (λ vs. IsAmong vs v) g o
-
-some_symbol : (t : Term) → 0 < length (spell t)
-some_symbol (variable v) = omega arith
-some_symbol (integer i) = omega arith
-some_symbol (compound f ts) = omega arith
 
 -- a new variable v was loaded, and then a term t without variables
 module _ (old s1 s2 : Stored) (v to : ℕ) (t : Term) (sound : IsSound old) (sound1 : IsSound s1) (g : IsGround t) (is : v ≡ old.variables)

@@ -1,6 +1,7 @@
 use Rattle.std.proofs.Common.{get_or, refl}
+use Rattle.apd_marks.proofs.Walking.{emptied}
 use Rattle.apd_term.specs.declared.term.Sym.TheVariants.{Var}
-use Rattle.apd_index.proofs.Passing.{emptied, walk-begins, walk-ends, walk-goes, walk-stops}
+use Rattle.apd_index.proofs.Passing.{walk-begins, walk-ends, walk-goes, walk-stops}
 use Rattle.apd_index.proofs.positions.positions_of.Goals as goal
 
 pub symbols-init : goal.symbols-init

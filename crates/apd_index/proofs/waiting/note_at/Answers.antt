@@ -1,8 +1,8 @@
 use Rattle.std.proofs.Common.{◌≡◌, Some, sym, ap, ◌∙◌, subst}
+use Rattle.std.proofs.lemmas.Result.{on_ok_weaker}
 use Rattle.apd_term.specs.Term.{Term}
 use Rattle.apd_index.specs.Retrieval.{IsNoted}
 use Rattle.apd_index.proofs.Instances.{right-told}
-use Rattle.apd_index.proofs.Walked.{told-by}
 use Rattle.apd_index.proofs.waiting.note_at.Goals as goal
 
 pub returns-clause-columns : goal.returns-clause-columns
@@ -12,7 +12,7 @@ returns-clause-columns c =
 
 pub returns-clause-noted : goal.returns-clause-noted
 returns-clause-noted c =
-    told-by c.note_any.result
+    on_ok_weaker c.note_any.result
     (λ noted x e. subst (IsNoted c.note_any.new.table.nodes c.note_any.new.large.items c.args.place) (only (sym (c.in-Some.ensures ∙ ap (λ (y : Term). Some y) (sym c.atom-atom.ensures)) ∙ e)) noted)
     c.note_any.ensures.noted
   where

@@ -1,7 +1,7 @@
 use Rattle.std.proofs.Common.{inl, inr, ap, get_or, refl}
+use Rattle.apd_marks.proofs.Walking.{emptied}
 use Rattle.apd_term.specs.declared.term.Sym.TheVariants.{Var}
 use Rattle.apd_index.specs.Columns.{tagged}
-use Rattle.apd_index.proofs.Passing.{emptied}
 use Rattle.apd_index.proofs.Walked.{all-added, all-noted, digests-within, grow-none, grows-more, last-open, others-open, read, walked-begins, walked-goes}
 use Rattle.apd_index.proofs.walk.note_symbols.Goals as goal
 

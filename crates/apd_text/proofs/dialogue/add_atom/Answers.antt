@@ -1,6 +1,6 @@
 use Rattle.std.proofs.Common.{◌≡◌, ◌++◌, subst}
 use Rattle.std.specs.Prelude.{OnOk}
-use Rattle.apd_answers.proofs.Ground.{canonical-ground}
+use Rattle.apd_term.proofs.Ground.{canonical-ground}
 use Rattle.apd_text.specs.Lines.{goal_text}
 use Rattle.apd_text.proofs.dialogue.add_atom.Goals as goal
 

@@ -13,7 +13,7 @@ use Rattle.apd_trace.specs.declared.frame.Called.{Called}
 use Rattle.apd_trace.specs.declared.frame.Look.{Look}
 use Rattle.apd_trace.specs.declared.frame.Look.TheVariants.{Nothing, Goal, Exit as Exits, Answer as Answers}
 use Rattle.apd_trace.specs.declared.item.Item.TheVariants.{Error}
-use Rattle.apd_by_definition.specs.Searched.{Grows, IsFull, IsPast}
+use Rattle.apd_by_definition.specs.Searched.{Grows, IsFull, IsPast, most_numbers}
 
 past_then : (n m : ℕ) (o : Out) (f : ℕ → ℕ → Out) → IsPast n m o → Grows f → IsPast n m (and_then o f)
 past_then n m o f h k = (omega (arith, h.0, (k o.boxes o.points).0), omega (arith, h.1, (k o.boxes o.points).1))
@@ -75,8 +75,8 @@ search_grows P zero F n m = past_here n m
 search_grows P (suc k) F n m = turn_grows (search_from P k) (search_grows P k) P (look_of F (n + 1)) F n m
 
 -- a search that begins with no number left, and one that goes on from a full one
-pub full_boxes : (n m : ℕ) (o : Out) → 4294967295 ≤ n → IsPast n m o → IsFull o
+pub full_boxes : (n m : ℕ) (o : Out) → most_numbers ≤ n → IsPast n m o → IsFull o
 full_boxes n m o h k = inl (omega (arith, k.0))
 
-pub full_points : (n m : ℕ) (o : Out) → 4294967295 ≤ m → IsPast n m o → IsFull o
+pub full_points : (n m : ℕ) (o : Out) → most_numbers ≤ m → IsPast n m o → IsFull o
 full_points n m o h k = inr (omega (arith, k.1))

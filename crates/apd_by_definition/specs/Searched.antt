@@ -15,9 +15,13 @@ use Rattle.apd_by_definition.specs.declared.engine.search.Advance.TheVariants.{F
 abbrev pub out_of : Searched → Out
 out_of s = record { items = s.items.items; boxes = s.counts.boxes; points = s.counts.points }
 
+-- so many boxes have numbers, and so many points
+abbrev pub most_numbers : ℕ
+most_numbers = 4294967295
+
 -- it has as many boxes or points as have numbers
 abbrev pub IsFull : Out → Type 0
-IsFull o = (4294967295 ≤ o.boxes) ⊎ (4294967295 ≤ o.points)
+IsFull o = (most_numbers ≤ o.boxes) ⊎ (most_numbers ≤ o.points)
 
 -- this search was made, or it has too many boxes or points
 abbrev pub Makes : Option Searched → Out → Type 0

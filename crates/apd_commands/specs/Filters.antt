@@ -48,9 +48,13 @@ abbrev mutual
   predicates_of_list f (more t (more u none)) = if f.0 == CELL.0 then onto_predicates (predicate_from t) (listed_predicates u) else None
   predicates_of_list f (more t (more u (more v ts))) = None
 
--- a box: an integer from 1 to 4,294,967,295
+-- the greatest number that a box may have
+abbrev pub most_box : ℕ
+most_box = 4294967295
+
+-- a box: an integer from 1 to that number
 abbrev pub box_from : Term → Option ℕ
-box_from (integer (pos n)) = if nat_le 1 n && nat_le n 4294967295 then Some n else None
+box_from (integer (pos n)) = if nat_le 1 n && nat_le n most_box then Some n else None
 box_from t = None
 
 -- the filter that a name without arguments is

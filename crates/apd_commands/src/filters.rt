@@ -14,6 +14,9 @@ use apd_term::{Flat, NameId, Pred, Preds, Sym};
 use apd_text::Refusal;
 use std::alloc::{AllocError, Global};
 
+/// The greatest number that a box may have.
+const MOST_BOX: i64 = 4_294_967_295;
+
 /// The number of arguments that the first symbol is: an integer from 0 to 255.
 fn arity_in(symbols: &[Sym]) -> Option<u8>
     ensures { result ≡ arity_in symbols.now }
@@ -88,7 +91,7 @@ fn box_of(term: &Flat) -> Option<u32>
     ensures { result ≡ box_from term.now }
 {
     match term.symbols() {
-        [Sym::Int(box_no), ..] if *box_no >= 1 && *box_no <= 4294967295 => Some(*box_no as u32),
+        [Sym::Int(box_no), ..] if *box_no >= 1 && *box_no <= MOST_BOX => Some(*box_no as u32),
         _ => None,
     }
 }

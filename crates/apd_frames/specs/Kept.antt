@@ -1,5 +1,5 @@
 -- The frames that a search keeps.
-use Rattle.std.specs.Prelude.{◌≡◌, ℕ, ◌+◌, ◌<◌, List, [], ◌∷◌, Option, Some, None, Bool, true, false, not, refl}
+use Rattle.std.specs.Prelude.{◌≡◌, ℕ, ◌+◌, ◌<◌, ◌^◌, List, [], ◌∷◌, Option, Some, None, Bool, true, false, not, refl}
 use Rattle.std.specs.Coded.{Coded, code_by, coded_list, coded×}
 use Rattle.apd_frames.specs.Codes.{frame_code}
 use Rattle.apd_term.specs.declared.tuple.Tuple.{Tuple}
@@ -50,10 +50,14 @@ abbrev pub is_large_of : List Frame → Bool
 is_large_of [] = false
 is_large_of (f ∷ F) = is_large f.tuple
 
+-- one more than this depth is a number of 32 bits
+abbrev pub MayDeepen : ℕ → Type 0
+MayDeepen depth = depth + 1 < 2 ^ 32
+
 -- a goal of the innermost frame may have one more as its depth
 abbrev pub MayCall : List Frame → Type 0
 MayCall [] = Unit {0}
-MayCall (f ∷ F) = f.depth + 1 < 4294967296
+MayCall (f ∷ F) = MayDeepen f.depth
 
 -- the innermost frame has fewer than 64 goals solved
 abbrev pub Takes : List Frame → Type 0

@@ -6,7 +6,7 @@ ghost use Rattle.apd_cells.specs.Stored.{Stored};
 ghost use Rattle.apd_cells.specs.Store.{term_at};
 ghost use Rattle.apd_trace.specs.Frames.{left, look_of, owner_of};
 ghost use Rattle.apd_trace.specs.declared.frame.Called.{Called};
-ghost use Rattle.apd_frames.specs.Kept.{Calls, IsIn, MayCall, ahead_of};
+ghost use Rattle.apd_frames.specs.Kept.{Calls, IsIn, MayCall, MayDeepen, ahead_of};
 ghost use Rattle.apd_frames.specs.Links.{Link, link_of};
 ghost use Rattle.apd_frames.specs.Linked.{frames_at, frame_in, frames_from, IsGoalAt, IsThere};
 
@@ -119,7 +119,7 @@ pub fn look(
     box_no: u32,
 ) -> Result<Look, AllocError>
     requires inside { IsThere store.now link.now }
-    requires deep { link.now.depth + 1 < 4294967296 }
+    requires deep { MayDeepen link.now.depth }
     ensures { IfOk result
         (λ l. l ≡ look_of (frames_from store.now links.now link.now) box_no) }
 {

@@ -1,5 +1,5 @@
 -- Nodes: what is kept of a symbol that atoms have at a position, by its mark. The columns of its arguments have numbers.
-use Rattle.std.specs.Prelude.{ℕ, ◌≡◌, ◌+◌, ◌-◌, ◌<◌, ◌≤◌, List, [], Option, None, Some, get_or, length, map, nat_eq}
+use Rattle.std.specs.Prelude.{ℕ, ◌≡◌, ◌+◌, ◌-◌, ◌<◌, ◌≤◌, ◌^◌, List, [], Option, None, Some, get_or, length, map, nat_eq}
 use Rattle.indexmap.specs.IndexMap.{get}
 use Rattle.apd_term.specs.Term.{IsAmong}
 use Rattle.apd_index.specs.Chains.{AreFalling, links_from}
@@ -48,6 +48,10 @@ pub record KeepsFounders (old new : Nodes) : Type 0 where
   pub still : (m k : ℕ) → IsFounder old m k → IsFounder new m k
 
 -- The columns of arguments.
+
+-- the columns have numbers of 32 bits
+abbrev pub HaveNumbers : Slots → Type 0
+HaveNumbers slots = slots.first + slots.count ≤ 2 ^ 32 - 1
 
 -- the number is that of an argument's column, by the columns of all arguments; the argument is counted from the end
 abbrev pub IsNumberIn : Slots → ℕ → ℕ → Type 0

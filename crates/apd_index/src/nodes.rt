@@ -3,7 +3,7 @@
 
 ghost use Rattle.std.specs.Prelude.{◌≡◌, ◌+◌, ◌≤◌, ◌∷◌, ℕ, length, IfOk, IfSome, IsTrue, None, OnOk};
 ghost use Rattle.apd_term.specs.Term.{IsAmong};
-ghost use Rattle.apd_index.specs.Nodes.{AreKept, AreSlots, HasLinks, HasRow, IsFounder, IsNumber, IsNumberIn, IsRight, IsSound, KeepBits, KeepChains, KeepsFounders, KeepsNumbers, founder_at, noted_at, places};
+ghost use Rattle.apd_index.specs.Nodes.{AreKept, AreSlots, HasLinks, HasRow, HaveNumbers, IsFounder, IsNumber, IsNumberIn, IsRight, IsSound, KeepBits, KeepChains, KeepsFounders, KeepsNumbers, founder_at, noted_at, places};
 ghost use Rattle.apd_bits.specs.Rows.{HasBits, IsWithin};
 
 use crate::positions::Parent;
@@ -79,7 +79,7 @@ pub(crate) fn next_number(count: usize) -> Option<u32>
 /// The columns of a new symbol's arguments, where there are numbers left for them.
 fn slots_from(next: u32, count: u32) -> Slots
     ensures first { result.first ≡ next }
-    ensures fits { result.first + result.count ≤ 4294967295 }
+    ensures fits { HaveNumbers result }
 {
     match next.checked_add(count) {
         Some(_) => Slots { first: next, count },
@@ -93,8 +93,7 @@ fn slots_from(next: u32, count: u32) -> Slots
 /// The first number that is behind these columns, and not before the one that was.
 fn behind(next: u32, slots: Slots) -> u32
     ensures still { next ≤ result }
-    ensures behind { slots.first + slots.count ≤ 4294967295
-        → slots.first + slots.count ≤ result }
+    ensures behind { HaveNumbers slots → slots.first + slots.count ≤ result }
 {
     let end = slots.first.saturating_add(slots.count);
     if end > next {

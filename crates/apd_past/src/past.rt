@@ -7,6 +7,7 @@ ghost use Rattle.apd_term.specs.Spelling.{variable_in};
 ghost use Rattle.apd_term.specs.Term.{IsAmong, IsTerms};
 ghost use Rattle.apd_cells.specs.declared.heap.Binding.TheVariants.{Free, At};
 ghost use Rattle.apd_cells.specs.Store.{term_at, binding_of, bound, MayBind, IsSound};
+ghost use Rattle.apd_past.specs.declared.past.TheConstants.{MOST};
 ghost use Rattle.apd_past.specs.Mirror.{name, renamed_symbol};
 ghost use Rattle.apd_past.specs.History.{at_moment, present, unbound, with_done, with_one_variable, with_terms};
 
@@ -50,12 +51,12 @@ impl Model for Past {
 }
 
 /// The greatest number that is kept.
-const MOST: u64 = 4_294_967_294;
+pub(crate) const MOST: u64 = 4_294_967_294;
 
 /// The number as it is kept; want of memory where it is too great.
 pub(crate) fn narrow(n: u64) -> Result<u32, AllocError>
     ensures number { IfOk result (λ k. k ≡ n) }
-    ensures small { IfOk result (λ k. k < 4294967295) }
+    ensures small { IfOk result (λ k. k ≤ MOST) }
 {
     if n > MOST {
         return Err(AllocError);

@@ -14,7 +14,7 @@ use Rattle.apd_talk.specs.Moment.{Converses, Keeps, Moment, place}
 use Rattle.apd_talk.specs.Speech.{Lasting, Says, begun}
 use Rattle.apd_session.specs.Opening.{beginning_said}
 use Rattle.apd_session.specs.declared.opening.Start.{Start}
-use Rattle.apd_session.specs.Turns.{CanConverse, IsPrepared, Turns, conversation, opening}
+use Rattle.apd_session.specs.Turns.{CanConverse, IsPrepared, Turns, conversation, most_before, opening}
 use Rattle.apd_query.specs.declared.state.State.{State}
 use Rattle.apd_lines.proofs.Growing.{Grown-more, Grown-same, Grown-self}
 
@@ -89,7 +89,7 @@ fresh_kept = record { limit = omega arith; below = λ e. omega arith; none = λ 
 pub kept_at_first : (k : Kept) → k ≡ fresh → IsKept k
 kept_at_first k start = rw start fresh_kept
 
-pub can_begin : (s : State) (p : Moment) → IsPrepared (length p.spoken.log.names) s → length p.spoken.log.names ≤ 1000000000 → p.console ≡ fresh → CanConverse s p
+pub can_begin : (s : State) (p : Moment) → IsPrepared (length p.spoken.log.names) s → length p.spoken.log.names ≤ most_before → p.console ≡ fresh → CanConverse s p
 can_begin s p ready few start =
     let room : room_of p.console ≡ 16777216 = ap room_of start in
     record { ready = ready; room = omega (arith, few, room); few = omega (arith, room); sound = kept_at_first p.console start }

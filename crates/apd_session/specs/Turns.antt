@@ -42,11 +42,15 @@ pub record IsPrepared (n : ℕ) (s : State) : Type 0 where
   pub replies : AreReplies n s.replies
   pub referee : names_known s.referee ≤ n
 
+-- so many names may be kept before the first line, and so many bytes may come
+abbrev pub most_before : ℕ
+most_before = 1000000000
+
 -- the state is prepared, and with the bytes that may still be handed out there are fewer names than may be kept
 pub record CanConverse (s : State) (p : Moment) : Type 0 where
   pub ready : IsPrepared (length p.spoken.log.names) s
   pub room : length p.spoken.log.names + room_of p.console < MOST_NAMES
-  pub few : room_of p.console ≤ 1000000000
+  pub few : room_of p.console ≤ most_before
   pub sound : IsKept p.console
 
 -- by this script, from p to q, the conversation goes on from the state t, has ended, or broke off

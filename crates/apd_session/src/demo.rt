@@ -9,6 +9,7 @@ ghost use Rattle.apd_session.specs.Demo.{clause_found, demo_lines, first_clause,
 ghost use Rattle.apd_session.specs.Outcome.{IsSaid, status_shown};
 ghost use Rattle.apd_session.specs.Preparing.{IsStart};
 ghost use Rattle.apd_session.specs.Session.{demonstrates, shows};
+ghost use Rattle.apd_session.specs.Turns.{most_before};
 ghost use Rattle.apd_talk.specs.Speech.{Lasting, Says, plain};
 ghost use Rattle.apd_term.specs.Growth.{GrowsBy};
 
@@ -160,7 +161,7 @@ fn show<K: Sink>(
 ) -> Status
     requires empty { voice.old.log.entries.list ≡ [] }
     requires ready { IsStart (length voice.old.log.names) start.old }
-    requires few { length voice.old.log.names ≤ 1000000000 }
+    requires few { length voice.old.log.names ≤ most_before }
     requires lines { lines.old.bytes ≡ Some demo_lines }
     ensures said { Lasting voice.new.log.names (λ names. (reader : Reader names) →
         IsSaid result (shows reader voice.old.log.ops nodes start.old)
@@ -194,7 +195,7 @@ pub(crate) fn play<K: Sink>(nodes: u32, start: &mut Start, voice: &mut Voice<K>)
     requires nodes { IsNodeCount nodes }
     requires empty { voice.old.log.entries.list ≡ [] }
     requires ready { IsStart (length voice.old.log.names) start.old }
-    requires few { length voice.old.log.names ≤ 1000000000 }
+    requires few { length voice.old.log.names ≤ most_before }
     ensures said { Lasting voice.new.log.names (λ names. (reader : Reader names) →
         IsSaid result (demonstrates reader voice.old.log.ops nodes start.old)
         voice.new.log voice.old.held voice.new.held) }

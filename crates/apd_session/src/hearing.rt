@@ -5,7 +5,7 @@ ghost use Rattle.apd_session.specs.Known.{streams_by};
 ghost use Rattle.apd_session.specs.Opening.{hears};
 ghost use Rattle.apd_session.specs.Outcome.{GoesOn};
 ghost use Rattle.apd_session.specs.Preparing.{IsStart};
-ghost use Rattle.apd_session.specs.Turns.{opening};
+ghost use Rattle.apd_session.specs.Turns.{most_before, opening};
 ghost use Rattle.apd_talk.specs.Moment.{Converses, moment};
 
 use crate::notes::say_beginning;
@@ -22,7 +22,7 @@ fn converse_from_start<S: Source, K: Sink>(
     desk: &mut Desk<S, K>,
 ) -> Result<Ending, Trouble>
     requires ready { IsStart (length desk.old.voice.now.log.names) start.old }
-    requires few { length desk.old.voice.now.log.names ≤ 1000000000 }
+    requires few { length desk.old.voice.now.log.names ≤ most_before }
     requires start { desk.old.console.now ≡ fresh }
     ensures { Converses (opening start.old)
         (moment S.Source desk.old) (moment S.Source desk.new) result }
@@ -39,7 +39,7 @@ pub(crate) fn hear<S: Source, K: Sink>(
 ) -> Status
     requires empty { voice.old.log.entries.list ≡ [] }
     requires ready { IsStart (length voice.old.log.names) start.old }
-    requires few { length voice.old.log.names ≤ 1000000000 }
+    requires few { length voice.old.log.names ≤ most_before }
     ensures goes_on { GoesOn (hears voice.old.log.ops start.old) voice.old.log.names
         (streams_by S.Source input.old voice.old)
         (streams_by S.Source input.new voice.new) voice.new.log result }

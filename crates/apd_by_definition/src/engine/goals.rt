@@ -8,6 +8,7 @@ ghost use Rattle.apd_trace.specs.Trace.{at_port};
 ghost use Rattle.apd_trace.specs.BuiltIn.{built, solution};
 ghost use Rattle.apd_trace.specs.Renaming.{AreAlike, AreRenamed, IsBelow};
 ghost use Rattle.apd_by_definition.specs.Attempts.{attempt_of, solution_in, IsAttempt, IsAttemptBelow, IsUnder};
+ghost use Rattle.apd_by_definition.specs.declared.engine.goals.TheConstants.{BLOCK};
 ghost use Rattle.apd_engine.specs.Search.{numbers_for};
 
 use crate::engine::frames::FrameList;
@@ -27,7 +28,7 @@ pub(crate) const BLOCK: u64 = 4294967297;
 /// The clause with numbers of its own for its variables, above this one.
 fn renumbered(alloc: Global, rule: &Tuple, fresh: u64) -> Result<Tuple, AllocError>
     requires short { IsRunnable rule.now }
-    requires room { fresh + 4294967297 ≤ 2 ^ 64 - 1 }
+    requires room { fresh + BLOCK ≤ 2 ^ 64 - 1 }
     ensures { IfOk result (λ t. t ≡ shifted_tuple fresh (canonical_tuple rule.now)) }
 {
     let canonical = canonical_tuple(alloc, rule)?;
@@ -69,10 +70,10 @@ pub(crate) fn resolved(
 ) -> Result<Option<FrameList>, AllocError>
     requires below { IsBelow fresh frames.now }
     requires short { IsRunnable rule.now }
-    requires room { fresh + 4294967297 ≤ 2 ^ 64 - 1 }
+    requires room { fresh + BLOCK ≤ 2 ^ 64 - 1 }
     ensures renamed { IfOk result (AreRenamed
         (entering frames.now called.now rule.now clause point)) }
-    ensures below { IfOk result (λ o. IfSome o (IsBelow (fresh + 4294967297))) }
+    ensures below { IfOk result (λ o. IfSome o (IsBelow (fresh + BLOCK))) }
 {
     let Some(goal) = frames.goal() else {
         return Ok(None);

@@ -9,6 +9,7 @@ ghost use Rattle.apd_trace.specs.Frames.{handed_all, look_of, outer, query_frame
 ghost use Rattle.apd_trace.specs.Renaming.{IsBelow};
 ghost use Rattle.apd_trace.specs.Trace.{Out, begun, tries, hand, succeeded, settled, search_from, trace, turn};
 ghost use Rattle.apd_by_definition.specs.Searched.{Advances, Grows, IsFull, Makes, out_of, traced};
+ghost use Rattle.apd_by_definition.specs.declared.engine.goals.TheConstants.{BLOCK};
 ghost use Rattle.apd_frames.specs.Kept.{Takes};
 ghost use Rattle.apd_engine.specs.Search.{AllWait, IsOpen, numbers_for};
 
@@ -86,7 +87,7 @@ fn search_from(
     requires program { IsProgram program.now }
     requires open { IsOpen counts.boxes place.now.frames }
     requires below { IsBelow place.now.fresh place.now.frames }
-    requires room { place.now.fresh + 4294967297 * depth ≤ 2 ^ 64 - 1 }
+    requires room { place.now.fresh + BLOCK * depth ≤ 2 ^ 64 - 1 }
     ensures { IfOk result (λ o. Makes o (search_from
         (tuples_of program.now) depth place.now.frames counts.boxes counts.points)) }
 {
@@ -116,7 +117,7 @@ fn turn(
     requires program { IsProgram program.now }
     requires open { IsOpen counts.boxes place.now.frames }
     requires below { IsBelow place.now.fresh place.now.frames }
-    requires room { place.now.fresh + 4294967297 * (depth + 1) ≤ 2 ^ 64 - 1 }
+    requires room { place.now.fresh + BLOCK * (depth + 1) ≤ 2 ^ 64 - 1 }
     requires boxes { counts.boxes + 1 < 2 ^ 32 }
     requires look { look.now ≡ look_of place.now.frames (counts.boxes + 1) }
     ensures { IfOk result (λ o. Makes o (turn (search_from (tuples_of program.now) depth)
@@ -156,7 +157,7 @@ fn settled(
     requires deep { g.now.depth ≤ counts.boxes }
     requires waits { AllWait counts.boxes place.now.frames }
     requires below { IsBelow place.now.fresh place.now.frames }
-    requires room { place.now.fresh + 4294967297 * (depth + 1) ≤ 2 ^ 64 - 1 }
+    requires room { place.now.fresh + BLOCK * (depth + 1) ≤ 2 ^ 64 - 1 }
     ensures { IfOk result (λ o. Makes o (settled (search_from (tuples_of program.now) depth)
         (clauses_for g.now.atom (tuples_of program.now)) place.now.frames g.now
         (solution place.now.frames g.now counts.points) counts.boxes counts.points)) }
@@ -190,7 +191,7 @@ fn succeeded(
     requires program { IsProgram program.now }
     requires open { IsOpen counts.boxes entered.now.frames }
     requires below { IsBelow entered.now.fresh entered.now.frames }
-    requires room { entered.now.fresh + 4294967297 * depth ≤ 2 ^ 64 - 1 }
+    requires room { entered.now.fresh + BLOCK * depth ≤ 2 ^ 64 - 1 }
     ensures { IfOk result (λ o. Makes o (succeeded
         (search_from (tuples_of program.now) depth) g.now entered.now.frames counts.boxes counts.points)) }
 {
@@ -226,7 +227,7 @@ fn hand(
     requires program { IsProgram program.now }
     requires waits { AllWait counts.boxes place.now.frames }
     requires below { IsBelow place.now.fresh place.now.frames }
-    requires room { place.now.fresh + 4294967297 * depth ≤ 2 ^ 64 - 1 }
+    requires room { place.now.fresh + BLOCK * depth ≤ 2 ^ 64 - 1 }
     ensures { IfOk result (λ o. Makes o (hand
         (search_from (tuples_of program.now) depth) place.now.frames exit counts.boxes counts.points)) }
 {
@@ -268,7 +269,7 @@ fn tries(
     requires deep { g.now.depth ≤ counts.boxes }
     requires waits { AllWait counts.boxes place.now.frames }
     requires below { IsBelow place.now.fresh place.now.frames }
-    requires room { place.now.fresh + 4294967297 * (depth + 1) ≤ 2 ^ 64 - 1 }
+    requires room { place.now.fresh + BLOCK * (depth + 1) ≤ 2 ^ 64 - 1 }
     ensures { IfOk result (λ o. Makes o (tries
         (search_from (tuples_of program.now) depth) place.now.frames g.now
         (clauses_for g.now.atom (tuples_of program.now)) counts.boxes counts.points)) }
@@ -305,7 +306,7 @@ fn tried(
     requires deep { g.now.depth ≤ out.old.counts.boxes }
     requires waits { AllWait out.old.counts.boxes place.now.frames }
     requires below { IsBelow place.now.fresh place.now.frames }
-    requires room { place.now.fresh + 4294967297 * (depth + 1) ≤ 2 ^ 64 - 1 }
+    requires room { place.now.fresh + BLOCK * (depth + 1) ≤ 2 ^ 64 - 1 }
     ensures advances { IfOk result (λ b. Advances (out_of out.old)
         (tries (search_from (tuples_of program.now) depth) place.now.frames g.now
         (drop at (clauses_for g.now.atom (tuples_of program.now)))) b (out_of out.new)
@@ -352,7 +353,7 @@ fn begun(
     requires program { IsProgram program.now }
     requires open { IsOpen out.old.counts.boxes entered.now.frames }
     requires below { IsBelow entered.now.fresh entered.now.frames }
-    requires room { entered.now.fresh + 4294967297 * depth ≤ 2 ^ 64 - 1 }
+    requires room { entered.now.fresh + BLOCK * depth ≤ 2 ^ 64 - 1 }
     ensures advances { IfOk result (λ b. (others : ℕ → ℕ → Out) → Grows others →
         Advances (out_of out.old) (begun (search_from
         (tuples_of program.now) depth) g.now others entered.now.frames) b (out_of out.new) others) }

@@ -3,6 +3,7 @@ use Rattle.std.specs.Prelude.{nat_eq}
 use Rattle.std.proofs.lemmas.Bool.{eqb-true}
 use Rattle.indexmap.specs.IndexMap.{get}
 use Rattle.apd_index.proofs.Numbering.{IsFresh, absent, all-sound, founder-fresh, founder-there, founders-kept}
+use Rattle.apd_index.specs.Nodes.{HaveNumbers}
 use Rattle.apd_index.specs.declared.nodes.Node.{Node}
 use Rattle.apd_index.proofs.nodes.note.Goals as goal
 
@@ -16,7 +17,7 @@ returns-in_err-put_place-clause-sound c =
     let new : IsFresh nodes.next fresh = record { empty = refl; bare = refl; first = c.slots_from.ensures.first } in
     all-sound nodes c.args.mark fresh first is new c.requires _ node (λ m. grind (arith, (c.in_ok-nodes.ensures.update.0 node).0 m)) c.put_place.ensures.slots c.behind-nodes.ensures.still c.put_place.ensures.falling
     c.put_place.ensures.chains c.put_place.ensures.bits c.put_place.ensures.right
-    (λ none. c.behind-nodes.ensures.behind (subst (λ (n : Node). n.slots.first + n.slots.count ≤ 4294967295) (sym (absent nodes c.args.mark fresh first is new c.requires none)) c.slots_from.ensures.fits))
+    (λ none. c.behind-nodes.ensures.behind (subst (λ (n : Node). HaveNumbers n.slots) (sym (absent nodes c.args.mark fresh first is new c.requires none)) c.slots_from.ensures.fits))
 
 pub returns-clause-sound : goal.returns-clause-sound
 returns-clause-sound c =
@@ -28,7 +29,7 @@ returns-clause-sound c =
     let new : IsFresh nodes.next fresh = record { empty = refl; bare = refl; first = c.slots_from.ensures.first } in
     all-sound nodes c.args.mark fresh first is new c.requires _ node (λ m. grind (arith, (c.in_ok-nodes.ensures.update.0 node).0 m)) c.put_place.ensures.slots c.behind-nodes.ensures.still c.put_place.ensures.falling
     c.put_place.ensures.chains c.put_place.ensures.bits c.put_place.ensures.right
-    (λ none. c.behind-nodes.ensures.behind (subst (λ (n : Node). n.slots.first + n.slots.count ≤ 4294967295) (sym (absent nodes c.args.mark fresh first is new c.requires none)) c.slots_from.ensures.fits))
+    (λ none. c.behind-nodes.ensures.behind (subst (λ (n : Node). HaveNumbers n.slots) (sym (absent nodes c.args.mark fresh first is new c.requires none)) c.slots_from.ensures.fits))
 
 pub returns-in_err-put_place-clause-founders : goal.returns-in_err-put_place-clause-founders
 returns-in_err-put_place-clause-founders c =

@@ -1,5 +1,5 @@
 -- Parts of a log whose entries are right.
-use Rattle.std.proofs.Common.{◌≡◌, List, [], ◌∷◌, ◌++◌, refl}
+use Rattle.std.proofs.Common.{List, [], ◌∷◌, ◌++◌}
 use Rattle.apd_clauses.specs.declared.clause.Clause.{Clause}
 use Rattle.apd_answers.specs.Interpretation.{Interpretation}
 use Rattle.apd_divide.specs.declared.node.Strategy.{Strategy}
@@ -22,8 +22,3 @@ module _ (m : Interpretation) (program : List Clause) (strategy : Strategy) wher
       → (a : Account) (xs : List Entry) (e : Entry) → AreRight m program strategy a (xs ++ e ∷ []) → AreRight m program strategy a (xs ++ change e ∷ [])
   right-last change h a [] e r = (h a e r.0, tt)
   right-last change h a (x ∷ xs) e r = (r.0, right-last change h (after_entry program strategy a x) xs e r.1)
-
--- what entries tell one after another
-pub after-append : (program : List Clause) (strategy : Strategy) (a : Account) (xs ys : List Entry) → after_entries program strategy a (xs ++ ys) ≡ after_entries program strategy (after_entries program strategy a xs) ys
-after-append program strategy a [] ys = refl
-after-append program strategy a (e ∷ es) ys = after-append program strategy (after_entry program strategy a e) es ys

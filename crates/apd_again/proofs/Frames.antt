@@ -1,12 +1,12 @@
 -- Frames without what the query shows: the head of the query's frame is empty.
-use Rattle.std.proofs.Common.{◌≡◌, ℕ, zero, suc, ◌+◌, ◌<◌, ◌≤◌, List, [], ◌∷◌, ◌++◌, map, refl, ap, sym, ◌∙◌, subst, arith, ◌⊎◌, inl, inr, Bool, true, false, Option, Some, None}
-use Rattle.std.specs.Prelude.{if◌then◌else◌, ◌==◌, nat_lt, slice_get}
+use Rattle.std.proofs.Common.{◌≡◌, ℕ, ◌≤◌, List, [], ◌∷◌, map, refl, ap, sym, ◌∙◌, subst, arith, ◌⊎◌, inl, inr, Bool, true, false, Option, Some, None}
+use Rattle.std.specs.Prelude.{if◌then◌else◌, ◌==◌}
 use Rattle.std.specs.List.{flat_map}
 use Rattle.std.proofs.lemmas.Bool.Decides.{nat_tests}
-use Rattle.apd_term.specs.Term.{Term, variable, apply, variables, size, IsAmong}
+use Rattle.apd_term.specs.Term.{Term, variable, variables, size, IsAmong}
 use Rattle.apd_term.specs.Canonical.{canonical}
 use Rattle.apd_term.specs.Substitution.{term_for}
-use Rattle.apd_term.specs.Tuple.{apply_tuple, canonical_tuple, variables_of_tuple, size_of_tuple, sizes}
+use Rattle.apd_term.specs.Tuple.{apply_tuple, canonical_tuple, variables_of_tuple, size_of_tuple}
 use Rattle.apd_term.specs.declared.tuple.Tuple.{Tuple}
 use Rattle.apd_term.proofs.Among.{IsAmong-left, IsAmong-right, IsAmong-append}
 use Rattle.apd_term.proofs.Tuples.{IsTupleInstance-canonical, canonical_is_instance}
@@ -15,7 +15,7 @@ use Rattle.apd_unify.proofs.Textbook.{unifier_of-right}
 use Rattle.apd_ports.specs.declared.point.Step.{Step}
 use Rattle.apd_trace.specs.Frames.{is_large, apply_frame, apply_frames, variables_of_frames, above, shifted_tuple, apart, goal_of, next_goal, entered, under, resolved, entering, handed, outer, owner_of, left, look_at, look_of, point_at}
 use Rattle.apd_trace.specs.BuiltIn.{Solution, of_program, faulted, failed, solved, solved_or, built, outcome, solution_by, solution_at, solution}
-use Rattle.apd_trace.specs.Renaming.{IsBelow, AreRenamed, IsRenamed}
+use Rattle.apd_trace.specs.Renaming.{AreRenamed}
 use Rattle.apd_trace.specs.declared.frame.Frame.{Frame}
 use Rattle.apd_trace.specs.declared.frame.Called.{Called}
 use Rattle.apd_trace.specs.declared.frame.Look.{Look}

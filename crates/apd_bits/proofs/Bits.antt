@@ -6,7 +6,7 @@ use Rattle.std.proofs.lemmas.Bool.{eqb-true}
 use Rattle.std.proofs.lemmas.Bool.Decides.{eqb_tells}
 use Rattle.std.proofs.lemmas.List.{get_or-set_other, get_or-set_same}
 use Rattle.std.proofs.lemmas.Nat.Bits.{bit_at-lt, bit_at-zero, bit_at_and, bit_at_clear_other, bit_at_set_other, bit_at_set_same, bit_at_xor}
-use Rattle.apd_bits.specs.Rows.{HasBit, HasNoBits, IsClearNear, IsWithin, IsWithinBut}
+use Rattle.apd_bits.specs.Rows.{HasBit, HasNoBits, IsWithin, IsWithinBut}
 
 -- A bit of a word.
 
@@ -150,11 +150,6 @@ all-clear words i l zeros k h =
         within-or-past zero (suc b) = inl (omega arith)
         within-or-past (suc a) zero = inr (omega arith)
         within-or-past (suc a) (suc b) = elim (within-or-past a b) [ inl w ↦ inl (omega (arith, w)) | inr p ↦ inr (omega (arith, p)) ]
-
--- no bit of a word that is zero is set
-pub near-clear : (words : List ℕ) (place n : ℕ) → n ≡ get_or words (place / 64) 0 → n ≡ 0 → IsClearNear words place
-near-clear words place n is none k same =
-    ap (λ (word : ℕ). bit_at word (k % 64) == 1) (ap (λ (j : ℕ). get_or words j 0) same ∙ sym is ∙ none) ∙ ap (λ (bit : ℕ). bit == 1) (bit_at-zero (k % 64))
 
 -- A row that is longer.
 

@@ -94,10 +94,6 @@ module _ (whole : Run) (s : List Shown) (p a : ℕ) where
         answers_told = omega (arith, h.answers_told);
       }
 
--- the run before its first item
-pub starts_shown : (whole : Run) → Shows whole whole [] 0 0
-starts_shown whole = record { told = refl; end = refl; ports_told = omega arith; answers_told = omega arith }
-
 -- what is left of a run, at its next item
 module _ (budget answers : ℕ) (whole : Run) (items rest : List Item) (i : Item) (s : List Shown) (p a : ℕ) (first : items ≡ i ∷ rest) (was : Shows whole (run_of items (budget - p) (answers - a)) s p a) where
   at_item : (j : Item) → i ≡ j → Shows whole (run_of (j ∷ rest) (budget - p) (answers - a)) s p a

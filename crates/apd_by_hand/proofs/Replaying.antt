@@ -1,5 +1,5 @@
 -- When a record may be told the next thing of a run that never goes back.
-use Rattle.std.proofs.Common.{◌≡◌, ℕ, zero, suc, ◌+◌, ◌<◌, Bool, true, false, List, [], ◌∷◌, length, Option, Some, None, refl, sym, ap, ◌∙◌, arith}
+use Rattle.std.proofs.Common.{◌≡◌, ℕ, zero, suc, ◌+◌, ◌<◌, Bool, true, false, List, length, Option, Some, None, refl, sym, ap, ◌∙◌}
 use Rattle.std.specs.Prelude.{◌≤◌, IfOk, IfSome, Result, Ok, Err, slice_get}
 use Rattle.std.proofs.lemmas.Option.{none-some, slice_get-map, slice_get_within}
 use Rattle.std.specs.Option.{option_map, is_some}
@@ -24,11 +24,6 @@ use Rattle.apd_record.specs.Sound.{IsKept, IsOpen, MayOpen, MayMake, ComeAlike, 
 use Rattle.apd_record.proofs.Readers.{child-is, first-is, follow-is}
 use Rattle.apd_symptoms.proofs.Exits.{row_there}
 use Rattle.apd_by_hand.specs.Newest.{IsSolvedBy, as_term}
-
-pub get_there : {X : Type 0} (xs : List X) (i : ℕ) → i < length xs → (x : X) × (slice_get xs i ≡ Some x)
-get_there [] i h = absurd (omega (arith, h))
-get_there (x ∷ xs) zero h = (x, refl)
-get_there (x ∷ xs) (suc i) h = get_there xs i (omega (arith, h))
 
 pub no_image : {X Y : Type 0} (f : X → Y) (o : Option X) (r : Option Y) → r ≡ option_map f o → is_some r ≡ false → o ≡ None
 no_image f None r e n = refl

@@ -2,7 +2,7 @@
 use Rattle.std.proofs.Common.{◌≡◌, ℕ, ◌+◌, ◌<◌, ◌≤◌, List, [], ◌∷◌, ◌++◌, length, get_or, take, refl, sym, ◌∙◌, ap, subst, append_assoc}
 use Rattle.std.specs.List.{flat_map}
 use Rattle.std.specs.Prelude.{max}
-use Rattle.std.proofs.lemmas.List.{take_more, take_all, take_at, append-nil}
+use Rattle.std.proofs.lemmas.List.{take_more, take_all, append-nil}
 use Rattle.std.proofs.lemmas.List.Concat.{flat_map-append}
 use Rattle.apd_term.specs.declared.term.Sym.{Sym}
 use Rattle.apd_term.specs.declared.term.Sym.TheVariants.{Var, Int, Fun}
@@ -17,9 +17,6 @@ use Rattle.apd_cells.specs.Store.{above}
 pub above-append : (n : ℕ) (xs ys : List ℕ) → above n (xs ++ ys) ≡ above (above n xs) ys
 above-append n [] ys = refl
 above-append n (x ∷ xs) ys = above-append (max n (x + 1)) xs ys
-
-raising : ℕ → ℕ → Term
-raising base v = variable (base + v)
 
 -- what the raised front of some symbols is
 abbrev pub raised_front : ℕ → ℕ → List Sym → List Sym
@@ -60,9 +57,6 @@ appended_more base symbols i cells mid new n m k x y h l e r a q =
           ∙ ap (above n)
           (ap (λ z. flat_map variable_in front ++ z) (sym (append-nil (variable_in y))) ∙ sym (flat_map-append variable_in front (y ∷ [])) ∙ ap (flat_map variable_in) (sym more));
     }
-
-pub front_of : (old new more : List Sym) → new ≡ old ++ more → take (length old) new ≡ old
-front_of old new more e = ap (take (length old)) e ∙ take_at old more (length old) refl
 
 raised_all : (base : ℕ) (t : Term) (symbols : List Sym) (i : ℕ) → symbols ≡ spell t → length symbols ≤ i → raised_front base i symbols ≡ spell (shifted base t)
 raised_all base t symbols i e l =

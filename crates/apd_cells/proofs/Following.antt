@@ -82,26 +82,6 @@ heap_follows s cells bindings notes c v p x b e h l r is rb isb =
     let k = follows cells (length bindings) notes c v p h.kept m g to in
     subst (λ (y : Stored). HeapFollows y c p) e (record { inside = k.inside; same = k.same; smaller = k.smaller; start = (v, g) })
 
-pub heap_free : (s : Stored) (cells : List Sym) (bindings : List Binding) (notes : List Note) (c v : ℕ) (x : Sym) (b : Binding)
-    → viewed cells bindings notes ≡ s → IsHeap cells bindings notes → c < length s.cells → x ≡ get_or cells c x → x ≡ Var v
-    → b ≡ get_or bindings v b → b ≡ Free → (w : ℕ) → get_or s.cells c (Var 0) ≡ Var w → binding_of s.trail w ≡ Free
-heap_free s cells bindings notes c v x b e h l r is rb isb w j =
-    let m : c < length cells = subst (λ (y : Stored). c < length y.cells) (sym e) l in
-    let g : get_or cells c (Var 0) ≡ Var v = read_at cells c x (Var 0) m r ∙ is in
-    let below = variable-below cells (length bindings) notes c v h.kept m g in
-    let to : binding_of notes v ≡ Free = sym (h.agrees v) ∙ read_at bindings v b Free below rb ∙ isb in
-    let q : Var v ≡ Var w = sym g ∙ ap (λ (y : Stored). get_or y.cells c (Var 0)) e ∙ j in
-    let same : v ≡ w = cc in
-    subst (λ (y : Stored). binding_of y.trail w ≡ Free) e (subst (λ y. binding_of notes y ≡ Free) same to)
-
--- a symbol that is no variable has no binding
-pub not_variable : (s : Stored) (cells : List Sym) (bindings : List Binding) (notes : List Note) (c : ℕ) (x : Sym)
-    → viewed cells bindings notes ≡ s → c < length s.cells → x ≡ get_or cells c x → ((v : ℕ) → ¬ (x ≡ Var v))
-    → (w : ℕ) → get_or s.cells c (Var 0) ≡ Var w → binding_of s.trail w ≡ Free
-not_variable s cells bindings notes c x e l r n w j =
-    let m : c < length cells = subst (λ (y : Stored). c < length y.cells) (sym e) l in
-    absurd (n w (sym (read_at cells c x (Var 0) m r) ∙ ap (λ (y : Stored). get_or y.cells c (Var 0)) e ∙ j))
-
 -- where a variable's binding leads, as the program reads it
 pub heap_leads : (s : Stored) (cells : List Sym) (bindings : List Binding) (notes : List Note) (v p : ℕ) (b : Binding) → viewed cells bindings notes ≡ s → IsHeap cells bindings notes
     → v < length bindings → b ≡ get_or bindings v b → b ≡ At p → (p < length s.cells) × (binding_of s.trail v ≡ At p)

@@ -41,10 +41,6 @@ pub any_other : (xs : List ℕ) (v : ℕ) → ¬ IsAmong xs v → list_any (λ w
 any_other [] v n = refl
 any_other (x ∷ xs) v n = not_first x v (x == v) (list_any (λ w. w == v) xs) (Decides-eqb x v) (λ e. n (inl e)) (any_other xs v (λ m. n (inr m)))
 
-first_or_later : (x v : ℕ) (b r : Bool) → Decides b (x ≡ v) → (b || r) ≡ true → (x ≡ v) ⊎ (r ≡ true)
-first_or_later x v true r d e = inl (d.0 refl)
-first_or_later x v false r d e = inr e
-
 -- a variable that was seen, and one that wasn't
 pub with_old : (seen : List ℕ) (v : ℕ) → IsAmong seen v → with_new seen v ≡ seen
 with_old seen v m = ap (λ b. if b then seen else seen ++ v ∷ []) (any_old seen v m)
@@ -93,20 +89,6 @@ first_so seen v i none p =
 pub none_first : (seen : List ℕ) (v : ℕ) → IsNotBefore 0 seen v
 none_first seen v = λ i low. absurd (omega (arith, low))
 
-pub none_more : (seen : List ℕ) (v i : ℕ) → IsNotBefore i seen v → get_or seen i 0 ≢ v → IsNotBefore (i + 1) seen v
-none_more seen v i none here = λ j low there. either j low there (cases_eq j i)
-  where
-    either : (j : ℕ) → j < i + 1 → j < length seen → (j ≡ i) ⊎ (j ≢ i) → get_or seen j 0 ≢ v
-    either j low there (inl e) = subst (λ k. get_or seen k 0 ≢ v) (sym e) here
-    either j low there (inr n) = none j (omega (arith, low, n)) there
-
-pub none_few : (seen : List ℕ) (v i : ℕ) → IsNotBefore i seen v → (i < length seen → 16 ≤ i) → IsNotBefore 16 seen v
-none_few seen v i none enough = λ j low there. either j low there (cases_lt j i)
-  where
-    either : (j : ℕ) → j < 16 → j < length seen → (j < i) ⊎ (i ≤ j) → get_or seen j 0 ≢ v
-    either j low there (inl before) = none j before there
-    either j low there (inr le) = absurd (omega (arith, low, le, enough (omega (arith, le, there))))
-
 pub none_among : (seen : List ℕ) (v : ℕ) → IsNotBefore 16 seen v → length seen < 16 → ¬ IsAmong seen v
 none_among seen v none few = λ m.
     (let r = first_place seen v m in none r.0 (omega (arith, r.1.there, few)) r.1.there r.1.is)
@@ -121,10 +103,6 @@ unseen seen places v h none n m =
     let r = first_place seen v m in
     let t = place_there seen places v r.0 h none r.1 in
     n t.0 (subst (IsPlace seen v) (sym t.1) r.1)
-
--- a variable that was seen keeps the order as it is
-pub found_order : (seen : List ℕ) (v i : ℕ) → IsPlace seen v i → seen ≡ with_new seen v
-found_order seen v i p = sym (with_old seen v (among_place seen v i p))
 
 pub found_place : (seen places : List ℕ) (v i : ℕ) → HasPlaces seen places → IsNotBefore 16 seen v → IsPlace seen v i → i + 1 ≡ place_of seen v
 found_place seen places v i h none p =
@@ -184,10 +162,6 @@ places_new seen places v h n m = λ i f l. elim (cases_eq i (length seen)) [
       subst (λ w. (w < length (set places v (length seen))) × (get_or (set places v (length seen)) w 0 ≡ i)) (sym is)
       (places_set seen places v (length seen) h n i f before)
 ]
-
--- few need no table
-pub places_few : (seen places : List ℕ) (v : ℕ) → HasPlaces seen places → length seen < 16 → HasPlaces (seen ++ v ∷ []) places
-places_few seen places v h few = λ i f l. absurd (omega (arith, f, l, few, length-append seen (v ∷ [])))
 
 -- what stands in an order stays there, at its place
 pub among_fold : (vs seen : List ℕ) (w : ℕ) → IsAmong seen w → IsAmong (fold with_new seen vs) w

@@ -1,7 +1,7 @@
 -- Terms whose symbols are written with the places of their variables.
-use Rattle.std.proofs.Common.{◌≡◌, inl, ℕ, ◌+◌, ◌≤◌, List, [], ◌∷◌, ◌++◌, length, map, refl, sym, ◌∙◌, ap, subst, arith, append_assoc}
+use Rattle.std.proofs.Common.{◌≡◌, inl, ℕ, ◌+◌, List, [], ◌∷◌, ◌++◌, length, map, refl, sym, ◌∙◌, ap, subst, arith, append_assoc}
 use Rattle.std.specs.List.{fold, flat_map}
-use Rattle.std.proofs.lemmas.List.{append-nil, length-append}
+use Rattle.std.proofs.lemmas.List.{length-append}
 use Rattle.apd_term.specs.declared.term.Sym.{Sym}
 use Rattle.apd_term.specs.declared.term.Sym.TheVariants.{Var, Int, Fun}
 use Rattle.apd_term.specs.Term.{Term, variable, spell, size, variables}
@@ -68,16 +68,6 @@ writing_more first now next t out new before after x y w e n p is =
           ∙ append_assoc out (y ∷ []) (map (placed (fold with_new first (variables t))) after)
           ∙ ap (λ z. out ++ z ∷ map (placed (fold with_new first (variables t))) after) (sym q) ∙ h.text;
       count = omega (arith, ap length is, length-append out (y ∷ []), h.count);
-    }
-
-pub writing_last : (first now : List ℕ) (t : Term) (out left : List Sym) (limit : ℕ) → IsWriting first now t out left → left ≡ [] → length out ≤ limit
-    → IsWritten first now t limit out
-writing_last first now t out left limit w e l =
-    let h : IsWriting first now t out [] = subst (IsWriting first now t out) e w in
-    record {
-      within = omega (arith, h.count, l);
-      order = h.order;
-      symbols_are = sym (append-nil out) ∙ h.text ∙ ap (λ k. spell (canonical_in k t)) (sym h.order);
     }
 
 -- a term that was made of what was written

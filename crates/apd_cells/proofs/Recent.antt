@@ -129,12 +129,6 @@ recent_popped s n old new (Some k) e h =
     let r : AreRecent s n (k ∷ new) = subst (AreRecent s n) e h in
     recent_more s k.since n new (omega (arith, r.1)) r.2
 
--- the newest was measured last
-pub recent_top : (s : Stored) (n m : ℕ) (ks rest : List Known) (k : Known) → ks ≡ k ∷ rest → k.since ≤ m → AreRecent s n ks → AreRecent s m ks
-recent_top s n m ks rest k e l h =
-    let r : AreRecent s n (k ∷ rest) = subst (AreRecent s n) e h in
-    subst (AreRecent s m) (sym e) (r.0, l, r.2)
-
 -- what stands at a place from the oldest is right
 recent_at_place : (s : Stored) (n : ℕ) (ks : List Known) (i : ℕ) (k : Known) → n ≤ length s.trail → AreRecent s n ks → i < length ks → get_or ks i k ≡ k → HasExtent s k.cell k.extent
 recent_at_place s n [] i k l h w e = absurd (omega arith)

@@ -206,9 +206,3 @@ known_popped s n a old new None e h = subst (AreKnown s n a) (sym e.1) tt
 known_popped s n a old new (Some k) e h =
     let r : AreKnown s n a (k ∷ new) = subst (AreKnown s n a) e h in
     known_more s k.since n k.extent.above a new (omega (arith, r.1)) (omega (arith, r.2)) r.3
-
--- the newest has the greatest numbers
-pub known_top : (s : Stored) (n a m b : ℕ) (ks rest : List Known) (k : Known) → ks ≡ k ∷ rest → k.since ≤ m → k.extent.above ≤ b → AreKnown s n a ks → AreKnown s m b ks
-known_top s n a m b ks rest k e l g h =
-    let r : AreKnown s n a (k ∷ rest) = subst (AreKnown s n a) e h in
-    subst (AreKnown s m b) (sym e) (r.0, l, g, r.3)

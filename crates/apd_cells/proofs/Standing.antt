@@ -4,11 +4,11 @@ use Rattle.std.specs.List.{flat_map}
 use Rattle.std.proofs.Math.Seq.{get_or-append_seam}
 use Rattle.std.proofs.lemmas.Bool.{cases_eq}
 use Rattle.std.proofs.lemmas.Bool.Decides.{nat_tests}
-use Rattle.std.proofs.lemmas.List.{append-nil, get_or_append_left, get_or-set_same, get_or-set_other, length-append, map-append, take_all, take_more}
+use Rattle.std.proofs.lemmas.List.{append-nil, get_or_append_left, length-append, map-append, take_all, take_more}
 use Rattle.std.proofs.lemmas.List.Concat.{flat_map-append}
 use Rattle.apd_term.specs.declared.term.Sym.{Sym}
 use Rattle.apd_term.specs.declared.term.Sym.TheVariants.{Var, Int, Fun}
-use Rattle.apd_term.specs.Term.{Term, variable, apply, spell, variables, arity_of, IsAmong, Occurs}
+use Rattle.apd_term.specs.Term.{Term, variable, apply, spell, arity_of, IsAmong, Occurs}
 use Rattle.apd_term.specs.Spelling.{image, variable_in}
 use Rattle.apd_term.specs.Canonical.{shifted}
 use Rattle.apd_term.proofs.Among.{IsAmong-left, IsAmong-right, IsAmong-append}
@@ -18,7 +18,7 @@ use Rattle.apd_cells.specs.Slots.{slot_at, cell_of, IsSet, HasRoom, HasSet, IsSi
 use Rattle.apd_cells.specs.Store.{above}
 use Rattle.apd_cells.specs.declared.slots.Slot.{Slot}
 use Rattle.apd_cells.specs.declared.slots.Slot.TheVariants.{New, Own, Given}
-use Rattle.apd_cells.proofs.Appending.{above-append, front_of}
+use Rattle.apd_cells.proofs.Appending.{above-append}
 use Rattle.apd_cells.proofs.Loading.{above-ge, above-gt}
 
 new_one : (xs : List Slot) (v : ℕ) → slot_at (xs ++ New ∷ []) v ≡ slot_at xs v
@@ -29,12 +29,6 @@ new_one (x ∷ xs) (suc v) = new_one xs v
 
 pub room_one : (old mid new : List Slot) → HasRoom old mid → new ≡ mid ++ New ∷ [] → HasRoom old new
 room_one old mid new h e = λ v. ap (λ s. slot_at s v) e ∙ new_one mid v ∙ h v
-
-pub set_at : (old mid : List Slot) (v : ℕ) (x : Slot) → HasRoom old mid → v < length mid → HasSet old (set mid v x) v x
-set_at old mid v x h l = record {
-  here = get_or-set_same mid v x New l;
-  others = λ w n. get_or-set_other mid v w x New (λ e. n (sym e)) ∙ h w;
-}
 
 -- more cells
 pub single_more : (cells more : List Sym) (c : ℕ) → IsSingle cells c → IsSingle (cells ++ more) c
@@ -99,34 +93,8 @@ pub newer_trans : (cells more : List Sym) (n m k : ℕ) (a b c : List Slot) → 
 newer_trans cells more n m k a b c l s h j =
     λ v. newer_then cells more n m k s.owner v (slot_at a v) (slot_at b v) (slot_at c v) l (s.each v) (h v) (j v)
 
--- a symbol that is no variable is put as it is
-pub place_fixed : (cells : List Sym) (n : ℕ) (slots : List Slot) (x : Sym) → AreSlots cells n slots → ((v : ℕ) → ¬ (x ≡ Var v)) → Places cells n slots slots x x
-place_fixed cells n slots (Var v) h f = absurd (f v refl)
-place_fixed cells n slots (Int i) h f = record {
-  slots = slots_more cells (Int i ∷ []) n n slots (omega arith) h;
-  newer = newer_self n (cells ++ Int i ∷ []) slots;
-  put = refl;
-  set = λ v e. absurd (f v e);
-}
-place_fixed cells n slots (Fun g k) h f = record {
-  slots = slots_more cells (Fun g k ∷ []) n n slots (omega arith) h;
-  newer = newer_self n (cells ++ Fun g k ∷ []) slots;
-  put = refl;
-  set = λ v e. absurd (f v e);
-}
-
 var_is : (v w : ℕ) → Var v ≡ Var w → v ≡ w
 var_is v w e = cc
-
--- what stands for a variable is put for it
-pub place_set : (cells : List Sym) (n : ℕ) (slots : List Slot) (v : ℕ) (y : Sym) → AreSlots cells n slots → IsSet (slot_at slots v) → y ≡ get_or cells (cell_of (slot_at slots v)) (Var 0)
-    → Places cells n slots slots (Var v) y
-place_set cells n slots v y h s e = record {
-  slots = slots_more cells (y ∷ []) n (above n (variable_in y)) slots (above-ge n (variable_in y)) h;
-  newer = newer_self n (cells ++ y ∷ []) slots;
-  put = e ∙ sym (get_or_append_left cells (y ∷ []) (Var 0) (cell_of (slot_at slots v)) (single_at cells n slots v h s).inside);
-  set = λ w q. subst (λ j. IsSet (slot_at slots j)) (var_is v w q) s;
-}
 
 -- the owner of one more number
 abbrev pub with_owner : (ℕ → ℕ) → ℕ → ℕ → ℕ → ℕ
@@ -261,9 +229,6 @@ pub placing_more : (cells mid new : List Sym) (n m k : ℕ) (old ms slots : List
 placing_more cells mid new n m k old ms slots symbols i x y h l e p c q =
     let t : take (i + 1) symbols ≡ take i symbols ++ x ∷ [] = take_more symbols i (Var 0) l ∙ ap (λ z. take i symbols ++ z ∷ []) e in
     rw (q, c, t) (more_put cells mid n m old ms slots (take i symbols) x y h p)
-
-pub placing_front : (cells new : List Sym) (n m : ℕ) (old slots : List Slot) (xs : List Sym) → Placing cells new n m old slots xs → take (length cells) new ≡ cells
-placing_front cells new n m old slots xs h = front_of cells new (map (put_symbol new slots) xs) h.put
 
 spell_single : (x : Sym) → arity_of x ≡ 0 → spell (single_term x) ≡ x ∷ []
 spell_single (Var v) e = refl

@@ -16,7 +16,7 @@ use Rattle.apd_cells.specs.Slots.{slot_at, AreSlots, EachGetsOwn, IsPutFor, IsSe
 use Rattle.apd_cells.specs.Store.{above}
 use Rattle.apd_cells.specs.declared.slots.Stretch.{Stretch}
 use Rattle.apd_cells.specs.declared.slots.Slot.{Slot}
-use Rattle.apd_cells.proofs.Appending.{above-append, front_of}
+use Rattle.apd_cells.proofs.Appending.{above-append}
 use Rattle.apd_cells.proofs.Loading.{above-ge}
 use Rattle.apd_cells.proofs.Standing.{newer_self, newer_trans, same_puts, set_stays, shifted_zero, slots_more, images_put}
 
@@ -141,10 +141,6 @@ pub putting_more : (copied : List Stretch) (symbols cells mid new : List Sym) (n
 putting_more copied symbols cells mid new n m k old ms slots at end c h p put e q r =
     let t : take end symbols ≡ take at symbols ++ take c.size (drop at symbols) = ap (λ i. take i symbols) r ∙ take-add at c.size symbols in
     rw (q, e, t) (putting_on copied symbols cells mid n m old ms slots (take at symbols) (take c.size (drop at symbols)) c.symbol h p.slots p.newer put p.set)
-
-pub putting_front : (copied : List Stretch) (symbols cells new : List Sym) (n m : ℕ) (old slots : List Slot) (xs : List Sym) → Putting copied symbols cells new n m old slots xs
-    → take (length cells) new ≡ cells
-putting_front copied symbols cells new n m old slots xs h = front_of cells new h.ys h.put
 
 -- symbols with an image that spells terms spell terms themselves
 cancel : (t : Term) (s : List Sym) → IsTerms (spell t ++ s) → IsTerms s

@@ -4,7 +4,6 @@ pub mod Chains
 pub mod Parts
 pub mod Descents
 pub mod Onward
-pub mod Ending
 pub mod Fits
 pub mod Histories
 pub mod Taking

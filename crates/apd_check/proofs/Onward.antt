@@ -1,5 +1,5 @@
 -- The lines of a log, one after the other.
-use Rattle.std.proofs.Common.{◌≡◌, inl, inr, ◌≤◌, ◌<◌, ◌+◌, Bool, false, ℕ, List, [], ◌∷◌, length, Option, None, Some, refl, sym, subst, arith}
+use Rattle.std.proofs.Common.{◌≡◌, inl, inr, ◌≤◌, ◌<◌, ◌+◌, Bool, false, ℕ, List, ◌∷◌, length, Option, None, Some, refl, sym, subst, arith}
 use Rattle.std.specs.Option.{option_map}
 use Rattle.apd_base.specs.declared.limits.TheConstants.{MAX_FILE}
 use Rattle.apd_clauses.specs.declared.clause.Clause.{Clause}
@@ -12,7 +12,7 @@ use Rattle.apd_claims.specs.declared.claim.Claim.{Claim}
 use Rattle.apd_claims.specs.declared.claim.Claim.TheVariants.{Runs, Ends, Tells, Asks, Replies, Finds, Descends, Nothing, Garbled}
 use Rattle.apd_check.specs.declared.state.State.{State}
 use Rattle.apd_check.specs.declared.checked.Checked.{Checked}
-use Rattle.apd_check.specs.declared.checked.Checked.TheVariants.{Holds, Fails}
+use Rattle.apd_check.specs.declared.checked.Checked.TheVariants.{Fails}
 use Rattle.apd_text.specs.declared.check.Why.{Why}
 use Rattle.apd_check.specs.Checked.{IsChecked, IsJudged, IsJudgedBy, after_by, after_claim}
 use Rattle.apd_claims.specs.Saying.{claim_at, goes_on, said_from}
@@ -71,9 +71,6 @@ module _ (program : List Clause) (ops : Table) where
       pub count : number + length rest ≤ MAX_FILE + 1
       pub decide : Decide text first names s found in_group number rest
 
-    pub Checking-start : (names : List (List ℕ)) → IsKept first → length text ≤ MAX_FILE → Checking names first 0 false 1 text
-    Checking-start names kept short = record { kept = kept; few = omega arith; count = omega (arith, short); decide = λ n grew reader r h. h }
-
     module _ (names later : List (List ℕ)) (grew : Grown names later) (s t : State) (found : ℕ) (in_group : Bool) (number : ℕ) (rest line behind : List ℕ) (more : ℕ) (why : Option Why)
         (before : Checking names s found in_group number rest) (split : lines_of rest ≡ line ∷ lines_of behind) (shorter : length behind < length rest)
         (takes : Lasting later (λ n. (reader : Reader n) → Takes program s (claim_at reader ops in_group line (lines_of behind)) (option_map (claim_parted reader ops) (called_in line)) t more why)) where
@@ -95,8 +92,3 @@ module _ (program : List Clause) (ops : Table) where
           (subst (λ (ls : List (List ℕ)). IsFrom reader s found in_group number ls (Fails number w)) (sym split)
           (bad-line n reader s found in_group number line (lines_of behind) w
           (subst (Takes program s (claim_at reader ops in_group line (lines_of behind)) (option_map (claim_parted reader ops) (called_in line)) t more) is (takes n g reader))))
-
-    pub Checking-end : (names : List (List ℕ)) (s : State) (found : ℕ) (in_group : Bool) (number : ℕ) (rest : List ℕ) → Checking names s found in_group number rest → lines_of rest ≡ []
-        → Lasting names (λ n. (reader : Reader n) → IsFrom reader first 0 false 1 (lines_of text) (Holds found))
-    Checking-end names s found in_group number rest before end = λ n g reader.
-        before.decide n g reader (Holds found) (subst (λ (ls : List (List ℕ)). IsFrom reader s found in_group number ls (Holds found)) (sym end) refl)

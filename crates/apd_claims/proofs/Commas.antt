@@ -1,11 +1,9 @@
 -- The goals of a body, read off its symbols.
-use Rattle.std.proofs.Common.{◌≡◌, ◌≢◌, ◌==◌, ℕ, ◌+◌, ◌<◌, ◌≤◌, Bool, true, false, List, [], ◌∷◌, ◌++◌, length, take, drop, get_or, refl, ap, sym, ◌∙◌, arith, append_assoc, length-drop, length-take, length-append, subst}
-use Rattle.std.specs.List.{flat_map}
-use Rattle.std.proofs.lemmas.Bool.{eqb-true}
-use Rattle.std.proofs.lemmas.List.{append-nil, drop_at, drop-drop, drop_more}
-use Rattle.apd_term.specs.Term.{Term, compound, none, more, terms_of, spell, read_all, IsTerms, first_of, size}
+use Rattle.std.proofs.Common.{◌≡◌, ◌≢◌, ℕ, ◌+◌, ◌<◌, List, [], ◌∷◌, ◌++◌, length, take, drop, get_or, refl, ap, sym, ◌∙◌, arith, append_assoc, subst}
+use Rattle.std.proofs.lemmas.List.{append-nil, drop_more}
+use Rattle.apd_term.specs.Term.{Term, compound, terms_of, spell, read_all, IsTerms, first_of}
 use Rattle.apd_term.specs.Spelling.{term_of-spell}
-use Rattle.apd_term.proofs.Spelling.{IsTerms-tail, under_name, split_terms, length-spell, size_positive, read_all-flat_map_all, IsTerms-flat_map}
+use Rattle.apd_term.proofs.Spelling.{under_name, length-spell, size_positive, IsTerms-flat_map}
 use Rattle.apd_term.specs.declared.standard.TheConstants.{COMMA}
 use Rattle.apd_term.specs.declared.term.NameId.{NameId}
 use Rattle.apd_term.specs.declared.term.Sym.{Sym}

@@ -1,5 +1,5 @@
 -- The instances of candidates' lines, one after the other, while names are put at the end.
-use Rattle.std.proofs.Common.{◌≡◌, ◌++◌, true, ℕ, List, [], ◌∷◌, length, None, Some, refl, sym, ◌∙◌}
+use Rattle.std.proofs.Common.{◌≡◌, ◌++◌, true, ℕ, List, [], ◌∷◌, length, Some, ◌∙◌}
 use Rattle.std.specs.List.{AllByRecursion}
 use Rattle.apd_console.specs.Lines.{lines_of}
 use Rattle.apd_ops.specs.Table.{Table}
@@ -9,10 +9,9 @@ use Rattle.apd_term.specs.Named.{TupleIsNamed}
 use Rattle.apd_term.specs.declared.instance.Instance.{Instance}
 use Rattle.apd_talk.specs.Speech.{Lasting}
 use Rattle.apd_claims.specs.Saying.{instance_in, instances_in, is_candidate}
-use Rattle.apd_claims.specs.Sayable.{BeginsWithNone}
 use Rattle.apd_claims.specs.Texts.{KeepsFew}
-use Rattle.apd_claims.proofs.Grouping.{instances-end, instances-more, instances-none}
-use Rattle.apd_claims.proofs.Naming.{grown-none, grown-twice, instances-later, instances-push}
+use Rattle.apd_claims.proofs.Grouping.{instances-more}
+use Rattle.apd_claims.proofs.Naming.{grown-twice, instances-later, instances-push}
 
 module _ (ops : Table) (text : List ℕ) where
   -- these were told so far, and those of the lines that are left come behind them
@@ -21,13 +20,6 @@ module _ (ops : Table) (text : List ℕ) where
     pub few : KeepsFew first names
     pub named : AllByRecursion (λ (c : Instance). TupleIsNamed (length names) c.tuple) cs
     pub rest : Lasting names (λ n. (reader : Reader n) → instances_in reader ops [] (lines_of text) ≡ instances_in reader ops cs (lines_of left))
-
-  pub Listing-start : (names : List (List ℕ)) → Listing names names [] text
-  Listing-start names = record { grown = grown-none names; few = λ l. l; named = tt; rest = λ n g reader. refl }
-
-  pub Listing-end : (first names : List (List ℕ)) (cs : List Instance) (left : List ℕ) → Listing first names cs left → BeginsWithNone (lines_of left)
-      → Lasting names (λ n. (reader : Reader n) → Some cs ≡ instances_in reader ops [] (lines_of text))
-  Listing-end first names cs left before end = λ n g reader. sym (before.rest n g reader ∙ instances-end n reader ops cs (lines_of left) end)
 
   module _ (first names later : List (List ℕ)) (cs : List Instance) (left line behind : List ℕ) (before : Listing first names cs left) (grew : Grown names later) (keeps : KeepsFew names later)
       (split : lines_of left ≡ line ∷ lines_of behind) (yes : is_candidate line ≡ true) where
@@ -40,8 +32,3 @@ module _ (ops : Table) (text : List ℕ) where
           before.rest n (grown-twice names later n grew g) reader
           ∙ instances-more n reader ops cs c line (lines_of behind) (lines_of left) split yes (is n g reader);
     }
-
-    pub Listing-none : Lasting later (λ n. (reader : Reader n) → None ≡ instance_in reader ops line) → Lasting later (λ n. (reader : Reader n) → None ≡ instances_in reader ops [] (lines_of text))
-    Listing-none is = λ n g reader.
-        sym (before.rest n (grown-twice names later n grew g) reader
-        ∙ instances-none n reader ops cs line (lines_of behind) (lines_of left) split yes (is n g reader))

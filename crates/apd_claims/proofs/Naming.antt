@@ -1,5 +1,5 @@
 -- The names of what is made of a term are among those of the term; and a claim stays where more names come.
-use Rattle.std.proofs.Common.{◌≡◌, ◌<◌, ◌≤◌, ◌+◌, ◌==◌, ◌++◌, ℕ, Bool, true, false, List, [], ◌∷◌, length, Option, None, Some, refl, sym, ap, ◌∙◌, arith, append_assoc, length-append, subst}
+use Rattle.std.proofs.Common.{◌≡◌, ◌≤◌, ◌+◌, ◌==◌, ◌++◌, ℕ, Bool, true, false, List, [], ◌∷◌, length, Option, None, Some, refl, sym, ap, ◌∙◌, arith, append_assoc, length-append}
 use Rattle.std.specs.Prelude.{IfSome, if◌then◌else◌}
 use Rattle.std.specs.Bool.{then_some}
 use Rattle.std.specs.Str.{bytes_eq}
@@ -13,8 +13,6 @@ use Rattle.apd_term.specs.declared.instance.Instance.{Instance}
 use Rattle.apd_term.specs.declared.standard.TheConstants.{COMMA, NECK}
 use Rattle.apd_term.specs.StandardNames.{standard_names}
 use Rattle.apd_term.proofs.FirstNames.{standard_few}
-use Rattle.apd_term.specs.Names.{number_of, with_name}
-use Rattle.apd_term.proofs.Naming.{number_of-append, number_of-with_name, number_of_with_name_within, with_name_adds}
 use Rattle.apd_term.proofs.Named.{IsNamed-canonical, IsNamed-more, TupleIsNamed-canonical, TupleIsNamed-more}
 use Rattle.apd_ops.specs.Table.{Table}
 use Rattle.apd_answers.specs.Questions.{canonical_question}
@@ -152,20 +150,3 @@ calls-named names later c number (Some q) p g standard named other = call-named 
 pub instance-named : (n clause : ℕ) (o : Option Term) → IfSome o (IsNamed n) → IfSome (option_map (instance_with clause) o) (λ c. TupleIsNamed n c.tuple)
 instance-named n clause None named = tt
 instance-named n clause (Some t) named = tuple_in-named n t named
-
--- a name that was put among the names keeps its number
-pub number_stays : (old new n : List (List ℕ)) (text : List ℕ) → new ≡ with_name old text → Grown new n → number_of n text ≡ number_of new text
-number_stays old new n text is grew =
-    let within : number_of new text < length new = subst (λ (l : List (List ℕ)). number_of l text < length l) (sym is) (rw (number_of-with_name old text) (number_of_with_name_within old text)) in
-    ap (λ (l : List (List ℕ)). number_of l text) grew.1 ∙ number_of-append new grew.0 text within
-
-pub name_grows : (old new : List (List ℕ)) (text : List ℕ) → new ≡ with_name old text → Grown old new
-name_grows old new text is = let adds = with_name_adds old text in (adds.0, is ∙ adds.1)
-
-pub name_few : (old new : List (List ℕ)) (text : List ℕ) → new ≡ with_name old text → length new ≤ length old + 1
-name_few old new text is =
-    let adds = with_name_adds old text in
-    let l : length new ≡ length (old ++ adds.0) = ap (λ (x : List (List ℕ)). length x) (is ∙ adds.1) in
-    let m = length-append old adds.0 in
-    let few = adds.2 in
-    omega (arith, l, m, few)

@@ -8,10 +8,10 @@ use Rattle.apd_term.specs.Term.{predicate_of}
 use Rattle.apd_term.specs.declared.term.Pred.{Pred}
 use Rattle.apd_cells.specs.First.{key_of}
 use Rattle.apd_clauses.specs.declared.clause.Clause.{Clause}
-use Rattle.apd_clauses.specs.Clauses.{IsClause, IsProgram, same_pred}
-use Rattle.apd_clauses.specs.Index.{Index, IsIndexOf, Notes, HaveSameNumbers, numbers_at}
+use Rattle.apd_clauses.specs.Clauses.{IsClause, IsProgram}
+use Rattle.apd_clauses.specs.Index.{Index, IsIndexOf, Notes}
 use Rattle.apd_clauses.specs.Marks.{Marked, AreMarked, NotesMark, mark_by, mark_for, mark_of, marked, marked_at, numbers_where}
-use Rattle.apd_clauses.proofs.Indexing.{added, removed, not_empty, same_front, same_pred-self}
+use Rattle.apd_clauses.proofs.Indexing.{added, removed, not_empty, same_front}
 
 -- what is noted after one more number of a mark
 pub noted : (m n : Marked) (p q : ℕ) (xs : List ℕ) → marked_at m p ≡ xs → (k : ℕ)
@@ -105,20 +105,6 @@ last_is_marked cs ds c k m h e is none =
     not_empty (marked k ds) (1 + length ds) (sym there ∙ none)
 
 -- Both indexes.
-
--- a predicate's numbers before one more was noted, where the last of them was taken away again
-pub same_again : (a b c : Index) (p : Pred) (k i : ℕ) → Notes a p k b → Notes c p i b → HaveSameNumbers a c
-same_again a b c p k i one two q = either (same_pred p q) (sym (two q) ∙ one q)
-  where
-    either : (t : Bool) → (if t then numbers_at c q ++ i ∷ [] else numbers_at c q) ≡ (if t then numbers_at a q ++ k ∷ [] else numbers_at a q) → numbers_at c q ≡ numbers_at a q
-    either true x = same_front (numbers_at c q) (numbers_at a q) i k x
-    either false x = x
-
--- there is a number where one was noted
-pub is_there : (a b : Index) (p : Pred) (k : ℕ) → Notes a p k b → numbers_at b p ≡ [] → ⊥
-is_there a b p k notes none =
-    let whole : numbers_at b p ≡ numbers_at a p ++ k ∷ [] = notes p ∙ ap (λ t. if t then numbers_at a p ++ k ∷ [] else numbers_at a p) (same_pred-self p) in
-    not_empty (numbers_at a p) k (sym whole ∙ none)
 
 -- a program after a clause was put at its end and noted in both indexes
 pub added_both : {A B C D : Type 0} (cs new : List Clause) (c : Clause) (p : Pred) (k : ℕ) (m n : Index) (i j : Marked) (r : Result A B) (s : Result C D)

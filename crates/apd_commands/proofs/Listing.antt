@@ -21,13 +21,6 @@ pub record IsAt (list : Term) (before : List Pred) (rest : List Sym) : Type 0 wh
   pub spelled : rest ≡ spell left
   pub preds : with_front before (listed_predicates left) ≡ listed_predicates list
 
-pub at_first : (list : Term) → IsAt list [] (spell list)
-at_first list = record { left = list; spelled = refl; preds = same (listed_predicates list) }
-  where
-    same : (o : Option (List Pred)) → with_front [] o ≡ o
-    same None = refl
-    same (Some ps) = refl
-
 some_arguments : (t : Term) (ts : Terms) → (length (list_of (more t ts)) == 0) ≡ false
 some_arguments t ts = grind (arith, nat_tests)
 

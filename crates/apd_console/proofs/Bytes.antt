@@ -7,7 +7,7 @@ use Rattle.std.specs.Prelude.{IfSome, if◌then◌else◌, nat_eq}
 use Rattle.apd_io.specs.Outside.{IsOver, Left, Loses, Takes, late_by, raised}
 use Rattle.apd_console.specs.Lines.{InputEnd}
 use Rattle.apd_console.specs.Lines as lines
-use Rattle.apd_console.specs.Console.{Kept, IsKept, IsOnTime, fresh, Hands, CanFollow, room_of}
+use Rattle.apd_console.specs.Console.{Kept, IsKept, IsOnTime, Hands, CanFollow, room_of}
 
 Loses-self : (x : Option (List ℕ)) → Loses x x []
 Loses-self None = tt
@@ -47,9 +47,6 @@ replaced n bytes more is = rw is (take-append_seam bytes more)
 pub takes_read : (x y : Left) (bytes : List ℕ) (n : ℕ) → n ≤ length bytes → Loses x.bytes y.bytes (take n bytes) → y.taken ≡ raised n x.taken → Takes x y (take n bytes)
 takes_read x y bytes n within loses counted = record { loses = loses; few = omega (arith, length-take n bytes, within, counted) }
 
-pub takes_nothing : (x y : Left) → y.bytes ≡ x.bytes → y.taken ≡ x.taken → Takes x y []
-takes_nothing x y same counted = record { loses = rw same (Loses-self x.bytes); few = omega (arith, counted) }
-
 late_none : (none : Bool) (late : ℕ) → late ≡ 0 → late_by none late ≤ (if none then 1 else 0)
 late_none true late is = rw is (omega arith)
 late_none false late is = rw is (omega arith)
@@ -69,10 +66,6 @@ late_read before none x y going counted h = one_at_most none y.late (on_time_rea
 
 pub at_most_one : (k : Kept) (x : Left) → IsOnTime k x → x.late ≤ 1
 at_most_one k x few = one_at_most k.ended x.late few
-
--- a new console
-pub is_kept_fresh : IsKept fresh
-is_kept_fresh = record { limit = omega arith; below = λ e. absurd (let h : false ≡ true = e in cc); none = λ e. refl }
 
 -- where bytes are kept the input hasn't ended
 pub going-by : (t : Bool) (k : Kept) → k.ended ≡ t → IsKept k → 0 < length k.kept → k.ended ≡ false

@@ -13,10 +13,7 @@ use Rattle.apd_console.specs.Lines as lines
 use Rattle.apd_console.specs.Console.{Kept, IsKept, IsOnTime, room_of, CanFollow, Hands, HearsLine, HearsEnd}
 use Rattle.apd_console.specs.Draft.{Drafts, Drafted, TakesPart, ended_by}
 use Rattle.apd_console.proofs.Hearing.{hear-line, hear-last, hear-nothing, hear-fault, hear-over, NoNewline-append}
-use Rattle.apd_console.proofs.Bytes.{Takes-self, Hands-self, Hands-more, room-after}
-
-pub starts : (k : Kept) (x : Left) (draft : Draft) → Drafts draft.text draft.long [] → Drafted k k x x draft
-starts k x draft drafts = record { raw = []; hands = Hands-self k x; on_time = λ h. h; none = tt; drafts = drafts }
+use Rattle.apd_console.proofs.Bytes.{Takes-self, Hands-more, room-after}
 
 -- what a part hands out
 part_joins : (whole : Bool) (piece kept rest : List ℕ) → kept ≡ piece ++ ended_by whole rest → kept ++ [] ≡ (piece ++ ended_by whole []) ++ rest

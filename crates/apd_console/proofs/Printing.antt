@@ -1,5 +1,5 @@
 -- Bytes on their way to a sink.
-use Rattle.std.proofs.Common.{◌≡◌, ℕ, List, [], ◌++◌, take, drop, refl, ap, sym, ◌∙◌, append_assoc, Option, Some, None}
+use Rattle.std.proofs.Common.{◌≡◌, ℕ, List, [], ◌++◌, take, drop, refl, sym, append_assoc, Option, Some, None}
 use Rattle.std.proofs.lemmas.List.{append-nil, take-append-drop}
 use Rattle.apd_io.specs.Outside.{Adds}
 use Rattle.apd_console.specs.Print.{Prints, AddsFront}
@@ -16,9 +16,6 @@ Adds-more (Some xs) None z a b first second = absurd first
 Adds-more (Some xs) (Some ys) None a b first second = absurd second
 Adds-more (Some xs) (Some ys) (Some zs) a b first second = rw (second, first) (append_assoc xs a b)
 
-pub Prints-start : (x : Option (List ℕ)) (bytes : List ℕ) → Prints x x bytes bytes
-Prints-start x bytes = record { shown = []; parts = refl; adds = Adds-self x }
-
 pub Prints-more : (x y z : Option (List ℕ)) (bytes rest next : List ℕ) (n : ℕ) → Prints x y bytes rest → Adds y z (take n rest) → next ≡ drop n rest → Prints x z bytes next
 Prints-more x y z bytes rest next n before adds is = record {
   shown = before.shown ++ take n rest;
@@ -26,31 +23,9 @@ Prints-more x y z bytes rest next n before adds is = record {
   adds = Adds-more x y z _ _ before.adds adds;
 }
 
-pub Prints-all : (x y : Option (List ℕ)) (bytes rest : List ℕ) → Prints x y bytes rest → rest ≡ [] → Adds x y bytes
-Prints-all x y bytes rest prints none =
-    let e : bytes ≡ prints.shown = prints.parts ∙ ap (λ (r : List ℕ). prints.shown ++ r) none ∙ append-nil prints.shown in
-    rw e prints.adds
-
 pub Prints-front : (x y z : Option (List ℕ)) (bytes rest : List ℕ) → Prints x y bytes rest → z ≡ y → AddsFront x z bytes
 Prints-front x y z bytes rest prints same = (rest, record { shown = prints.shown; parts = prints.parts; adds = rw same prints.adds })
 
 -- a text that is printed piece by piece
 pub front_self : (x : Option (List ℕ)) (bytes : List ℕ) → AddsFront x x bytes
 front_self x bytes = (bytes, record { shown = []; parts = refl; adds = Adds-self x })
-
-pub piece_all : (x y z : Option (List ℕ)) (all rest piece next : List ℕ) → Prints x y all rest → Adds y z piece → rest ≡ piece ++ next → Prints x z all next
-piece_all x y z all rest piece next before adds is = record {
-  shown = before.shown ++ piece;
-  parts = before.parts ∙ ap (λ (r : List ℕ). before.shown ++ r) is ∙ sym (append_assoc before.shown piece next);
-  adds = Adds-more x y z _ _ before.adds adds;
-}
-
-pub piece_front : (x y z : Option (List ℕ)) (all rest piece next : List ℕ) → Prints x y all rest → AddsFront y z piece → rest ≡ piece ++ next → AddsFront x z all
-piece_front x y z all rest piece next before front is = (
-  front.0 ++ next,
-  record {
-    shown = before.shown ++ front.1.shown;
-    parts = before.parts ∙ ap (λ (r : List ℕ). before.shown ++ r) (is ∙ ap (λ (r : List ℕ). r ++ next) front.1.parts ∙ append_assoc front.1.shown front.0 next) ∙ sym (append_assoc before.shown front.1.shown (front.0 ++ next));
-    adds = Adds-more x y z _ _ before.adds front.1.adds;
-  },
-)

@@ -23,11 +23,11 @@ use Rattle.apd_clauses.proofs.Faults.{none_or}
 use Rattle.apd_clauses.proofs.Parts.{few_goals}
 use Rattle.apd_clauses.proofs.Indexing.{same_pred-true}
 use Rattle.apd_dcg.specs.declared.part.Part.{Part}
-use Rattle.apd_dcg.specs.declared.part.Part.TheVariants.{Terminals, Goal, Nonterminal}
+use Rattle.apd_dcg.specs.declared.part.Part.TheVariants.{Terminals}
 use Rattle.apd_dcg.specs.Parts.{parts, moves, with_move}
 use Rattle.apd_dcg.specs.Faults.{extended, unless_user, fault_of_rule_head, rule_head_fault, fault_of_nonterminal, nonterminal_fault, part_fault, first_part_fault, parts_fault, rule_fault}
-use Rattle.apd_dcg.specs.Rules.{with_states, onto, equation, goal_between, clause_with, new_variable, rule_term, clause_of_rule, rule_from, is_grammar_rule, clause_made}
-use Rattle.apd_dcg.proofs.Applied.{apply_part, IsNoVariable, AreFine, AreFine-left, map-both}
+use Rattle.apd_dcg.specs.Rules.{with_states, onto, clause_with, new_variable, rule_term, clause_of_rule, rule_from, is_grammar_rule, clause_made}
+use Rattle.apd_dcg.proofs.Applied.{IsNoVariable, AreFine, AreFine-left, map-both}
 
 -- Faults.
 
@@ -225,11 +225,6 @@ pub head_no_variable : (h : Term) → rule_head_fault h ≡ None → IsNoVariabl
 head_no_variable (variable v) e = cc
 head_no_variable (integer i) e = tt
 head_no_variable (compound f ts) e = tt
-
-pub goal-apply : (s : ℕ → Term) (p : Part) (a b : Term) → part_fault p ≡ None → apply s (goal_between p a b) ≡ goal_between (apply_part s p) (apply s a) (apply s b)
-goal-apply s (Terminals ts) a b e = ap (equation (apply s a)) (onto-apply s ts b)
-goal-apply s (Goal g) a b e = refl
-goal-apply s (Nonterminal n) a b e = states-apply s n a b (no_variable n e)
 
 -- two lists with the same two elements at their ends
 last_two : (xs ys : List Term) (a b c d : Term) → xs ++ a ∷ b ∷ [] ≡ ys ++ c ∷ d ∷ [] → (xs ≡ ys) × (a ≡ c) × (b ≡ d)

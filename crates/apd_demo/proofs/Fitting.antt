@@ -1,7 +1,6 @@
 -- What is replied about a tree is yes or no, to whether an atom is true.
 use Rattle.std.proofs.Common.{◌≡◌, ◌≢◌, ℕ, Bool, true, false, Option, Some, None}
 use Rattle.std.specs.Prelude.{if◌then◌else◌, nat_le}
-use Rattle.apd_answers.specs.Named.{ReplyIsNamed}
 use Rattle.apd_answers.specs.Questions.{Fits}
 use Rattle.apd_answers.specs.Repliers.{RepliesFit}
 use Rattle.apd_answers.specs.declared.question.Question.{Question}
@@ -40,8 +39,3 @@ fits_so t (asks.Below callee caller) = tt
 
 pub tree_fits : (t : TreeNodes) → RepliesFit (tree_reply t)
 tree_fits t q r e = given (FitsSo q) (tree_reply t q) r (fits_so t q) e
-
-named_so : (t : TreeNodes) (n : ℕ) (q : Question) → IfGiven (ReplyIsNamed n) (tree_reply t q)
-named_so t n (asks.True a) = about_has (ReplyIsNamed n) tt tt t.count (node_of t a)
-named_so t n (asks.Covers tuple) = tt
-named_so t n (asks.Below callee caller) = tt

@@ -65,9 +65,6 @@ module _ (such : Term → Bool) where
   map_none f None e = refl
   map_none f (Some a) e = absurd (cc)
 
-  enters : (x : Tree) → has_such such x ≡ true → (is_suspect x && such (label x)) ≡ false → cleared such x ≡ cleared_below such x
-  enters (node s c t ts) h e = passed s c t ts (not_cleared s c t ts h) e
-
   -- a label below a node is found
   below_has : (s : Standing) (c : ℕ) (t : Tuple) (ts : Forest) → has_such such (node s c t ts) ≡ true → (is_open s && such t.head) ≡ false → have_such such ts ≡ true
   below_has Open c t ts h e = rw e at h
@@ -99,9 +96,6 @@ module _ (such : Term → Bool) where
   -- what the first one leaves comes to the same
   marked-struck : (x : Tree) → (is_suspect x && such (label x)) ≡ true → cleared such (marked Cleared x) ≡ cleared such x
   marked-struck (node s c t ts) e = sym (struck s c t ts e)
-
-  at_node-below : (s : Standing) (c : ℕ) (t : Tuple) (us : Forest) → ¬ (s ≡ Cleared) → (is_open s && such t.head) ≡ false → cleared such (node s c t us) ≡ cleared_below such (node s c t us)
-  at_node-below s c t us n e = passed s c t us n e
 
   mutual
     cut-same : (x : Tree) (c : Cut) → cut (to_such such) x ≡ Some c → cleared_below such (c.rest Cleared) ≡ cleared_below such x

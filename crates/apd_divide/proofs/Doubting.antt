@@ -76,9 +76,6 @@ pub record Doubting (rs : List Row) (at : ℕ) (found wanted : List Instance) : 
   pub found_is : found ++ doubts_of left ≡ wanted
   pub within : at ≤ length rs
 
-pub doubting_first : (rs : List Row) (found : List Instance) → rs ≡ rows_of (forest_from rs) → Doubting rs 0 found (found ++ doubts_of (forest_from rs))
-doubting_first rs found e = record { left = forest_from rs; rows_are = e; found_is = refl; within = omega arith }
-
 pub record DoubtingAt (rs : List Row) (at : ℕ) (found wanted : List Instance) (r : Row) : Type 0 where
   pub positive : 1 ≤ r.span
   pub fits : at + r.span ≤ length rs

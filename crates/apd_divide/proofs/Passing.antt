@@ -133,6 +133,3 @@ passed such k rs h e =
           ap broadest (e ∙ replaced-is k y h n) ∙ broadest-three front y h.back ∙ ap (λ b. max (broadest front) (max b (broadest h.back))) (branching-below such (tree_of k))
           ∙ sym (broadest-three front (tree_of k) h.back) ∙ ap broadest (sym (kept_rows k h));
     }
-
-pub passed-none : (such : Term → Bool) (k : Kept) → IsKept k → EachIsTrue such (tree_of k) (tree_of k) → Passed such k k
-passed-none such k h e = record { kept = h; each = e; nodes = refl; branching = refl }

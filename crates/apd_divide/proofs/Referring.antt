@@ -1,13 +1,11 @@
 -- What is read of a recorded exit, and what isn't read: a ground exit's tuple is the instance with any label, and its head is the
 -- label of each goal that it solved.
-use Rattle.std.proofs.Common.{◌≡◌, ℕ, zero, suc, ◌+◌, ◌<◌, ◌≤◌, Bool, true, false, List, [], ◌∷◌, ◌++◌, length, get_or, Option, Some, None, refl, sym, ◌∙◌, ap, subst, arith}
+use Rattle.std.proofs.Common.{◌≡◌, ℕ, zero, suc, ◌<◌, Bool, true, false, List, [], ◌∷◌, length, Option, Some, None, sym, ◌∙◌, ap, subst, arith}
 use Rattle.std.specs.Prelude.{if◌then◌else◌, IfSome}
 use Rattle.std.specs.List.{flat_map}
-use Rattle.std.proofs.lemmas.List.{length-append}
 use Rattle.std.proofs.lemmas.Option.{slice_get_within}
-use Rattle.apd_term.specs.Term.{Term, variable, variables, predicate_of}
+use Rattle.apd_term.specs.Term.{Term, variables, predicate_of}
 use Rattle.apd_term.specs.Canonical.{canonical}
-use Rattle.apd_term.specs.Substitution.{IsInstance}
 use Rattle.apd_term.specs.Tuple.{variables_of_tuple}
 use Rattle.apd_term.specs.declared.term.Pred.{Pred}
 use Rattle.apd_term.specs.declared.tuple.Tuple.{Tuple}
@@ -17,14 +15,14 @@ use Rattle.apd_record.specs.Recorded.{Recorded, box_at, point_at, is_user_atom}
 use Rattle.apd_record.specs.declared.rows.BoxRow.{BoxRow}
 use Rattle.apd_record.specs.Index.{id_of}
 use Rattle.apd_record.specs.Sound.{IsKept}
-use Rattle.apd_record.specs.Reading.{point_of, exits_in, exits_before, exits_to}
+use Rattle.apd_record.specs.Reading.{point_of, exits_to}
 use Rattle.apd_record.proofs.Missing.{both_empty}
 use Rattle.apd_divide.specs.declared.growing.Pending.{Pending}
 use Rattle.apd_divide.specs.Exits.{IsLabelled}
 use Rattle.apd_divide.specs.Solved.{IsSolvedBy, AreSolved}
-use Rattle.apd_divide.specs.Growing.{instance_at, calls_for, calls_at, stacked, IsGroundExit}
+use Rattle.apd_divide.specs.Growing.{instance_at, calls_for, calls_at, IsGroundExit}
 use Rattle.apd_divide.proofs.Ground.{instance_with-ground}
-use Rattle.apd_divide.proofs.Solved.{point-is, same_some}
+use Rattle.apd_divide.proofs.Solved.{point-is}
 use Rattle.apd_divide.proofs.Grown.{point_there, instance_done, instance_solved}
 
 -- Reading.

@@ -52,12 +52,6 @@ weight-other (node Open c t ts) h e = absurd (cc)
 weight-other (node Cleared c t ts) h e = absurd (omega (arith, h))
 weight-other (node Doubted c t ts) h e = refl
 
--- none weighs more
-pub weight-most : (x : Tree) → weight x ≤ suspects x + 1
-weight-most (node Open c t ts) = omega arith
-weight-most (node Cleared c t ts) = omega arith
-weight-most (node Doubted c t ts) = omega arith
-
 -- a way that takes only nodes with suspects, and stops only at suspects
 pub record TakesSuspects (way : Way) : Type 0 where
   pub some : (x : Tree) (xs : Forest) → way.takes x xs ≡ true → 1 ≤ weight x

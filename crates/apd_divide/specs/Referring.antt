@@ -1,5 +1,5 @@
 -- Labels, instances and goals that are read from the record where they are wanted.
-use Rattle.std.specs.Prelude.{◌≡◌, ◌<◌, ℕ, List, length, get_or, Option, Some, None}
+use Rattle.std.specs.Prelude.{◌≡◌, ◌<◌, ℕ, List, length, get_or, Some}
 use Rattle.apd_term.specs.Term.{Term, variable, predicate_of}
 use Rattle.apd_term.specs.declared.tuple.Tuple.{Tuple}
 use Rattle.apd_record.specs.Reading.{point_of}

@@ -48,17 +48,6 @@ grows_same {old} {new} same = record { more = []; is = same ∙ sym (append-nil 
 pub grows_from : {old here new : List Tuple} → here ≡ old → Grows here new → Grows old new
 grows_from {old} {here} {new} same grows = subst (λ ts. Grows ts new) same grows
 
-pub grows_to : {old here new : List Tuple} → Grows old here → new ≡ here → Grows old new
-grows_to {old} {here} {new} grows same = subst (λ ts. Grows old ts) (sym same) grows
-
-pub grows_kept : (o : Option KeptFrame) (F : List Frame) {old new : List Tuple} → KeepsInstance o F old new → Grows old new
-grows_kept None F {old} {new} h = grows_same h.1
-grows_kept (Some n) F {old} {new} h = record { more = canonical_tuple h.1.frame.tuple ∷ []; is = h.1.more }
-
-pub grows_goal : (o : Option ℕ) (F : List Frame) {old new : List Tuple} → KeepsGoal o F old new → Grows old new
-grows_goal None F {old} {new} h = grows_same h.1
-grows_goal (Some n) F {old} {new} h = record { more = record { head = canonical h.1.goal; body = [] } ∷ []; is = h.1.more }
-
 pub tells_tuples : (kept here : List Tuple) (held : Option OpenPoint) (unread : Unread) (given : Given) (B : Item → Type 0) → kept ≡ here → Tells (record { tuples = here; held = held }) unread given B → Tells (record { tuples = kept; held = held }) unread given B
 tells_tuples kept here held unread given B same h = subst (λ ts. Tells (record { tuples = ts; held = held }) unread given B) (sym same) h
 
@@ -407,13 +396,3 @@ later_there R e Call later may = absurd (later refl)
 later_there R e Exit later may = may
 later_there R e Redo later may = may
 later_there R e Fail later may = may
-
-module _ (R : Recorded) (e : Event) (port : Port) (b : ℕ) (port_is : e.port ≡ port) (box_is : e.box_no ≡ b) (later : port ≢ Call) where
-  pub bare_told : noted R b port ≡ told_port R e e.port
-  bare_told =
-      ap (λ (n : ℕ). noted R n port) (sym box_is)
-      ∙ later_port R e port later
-      ∙ ap (told_port R e) (sym port_is)
-
-  pub bare_there : MayPass R e e.port → IsThere R b
-  bare_there may = subst (IsThere R) box_is (later_there R e port later (subst (MayPass R e) port_is may))

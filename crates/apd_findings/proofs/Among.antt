@@ -75,10 +75,6 @@ module _ (P : List Tuple) (R : Recorded) (store : Store) where
       → AreCandidates P R store (drop left cs) → AreCandidates P R store (drop (left - 1) cs)
   each-goes cs left c b l m e test goes rest = (before cs left c l m e).1 (test.0 goes, rest)
 
-  pub each-ends : (cs : List Instance) (left : ℕ) → left ≤ 0 → AreCandidates P R store (drop left cs) → true ≡ true ↔ AreCandidates P R store cs
-  each-ends cs zero l all = (λ k. all, λ k. refl)
-  each-ends cs (suc left) l all = absurd (omega (arith, l))
-
   -- All together.
 
   first-is : (cs : List Instance) (c : Instance) → 0 < length cs → c ≡ get_or cs 0 c → SaysNoToFirst store cs ↔ SaysNo store c.tuple.head

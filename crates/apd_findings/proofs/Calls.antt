@@ -1,11 +1,10 @@
 -- Calls that aren't below their callers, by what the record and the store say.
-use Rattle.std.proofs.Common.{◌≡◌, ◌↔◌, ◌<◌, ◌≤◌, ◌+◌, ◌&&◌, ℕ, zero, suc, Bool, true, false, List, [], ◌∷◌, length, drop, get_or, Result, Ok, Err, refl, sym, ap, ◌∙◌, arith}
+use Rattle.std.proofs.Common.{◌≡◌, ◌↔◌, ◌≤◌, ◌+◌, ◌&&◌, ℕ, zero, suc, Bool, true, false, List, [], ◌∷◌, length, Result, Ok, Err, refl, sym, ap, ◌∙◌, arith}
 use Rattle.std.specs.Prelude.{IsTrue, IfOk, IfSome, ◌==◌, nat_le, slice_get}
 use Rattle.std.specs.Option.{unwrap_or}
 use Rattle.std.specs.List.{list_all}
 use Rattle.std.specs.declared.alloc.AllocError.{AllocError}
 use Rattle.std.proofs.lemmas.Bool.{eqb-true, eq-eqb, leb-true, le-leb}
-use Rattle.std.proofs.lemmas.List.{drop_more, length-drop}
 use Rattle.apd_term.specs.Term.{Term}
 use Rattle.apd_term.specs.Canonical.{canonical}
 use Rattle.apd_term.proofs.Opposite.{same_term-is}
@@ -14,14 +13,14 @@ use Rattle.apd_record.specs.Recorded.{Recorded, box_at}
 use Rattle.apd_record.specs.declared.rows.BoxRow.{BoxRow}
 use Rattle.apd_record.specs.Reading.{no_row, call_atom, calling_point}
 use Rattle.apd_answers.specs.Bugs.{IsCall, earlier_atoms}
-use Rattle.apd_answers.specs.Findings.{Affirms, AllDescendByReplies, Apart, IsByReplies, IsViolationByReplies, IsWrongByReplies}
-use Rattle.apd_answers.specs.Store.{Store, SaysBelow}
+use Rattle.apd_answers.specs.Findings.{Affirms, Apart, IsByReplies, IsViolationByReplies, IsWrongByReplies}
+use Rattle.apd_answers.specs.Store.{Store}
 use Rattle.apd_answers.specs.declared.finding.Finding.{Finding}
 use Rattle.apd_answers.specs.declared.finding.Finding.TheVariants.{WrongInstance, Uncovered}
 use Rattle.apd_term.specs.declared.tuple.Tuple.{Tuple}
 use Rattle.apd_findings.specs.Calling.{IsBox, is_made_by, is_called_by, is_call_of, is_call}
-use Rattle.apd_findings.specs.Deciding.{affirms, is_uncovered, says_below}
-use Rattle.apd_findings.proofs.Tests.{and-is, all-is, affirms-is, is_uncovered-is, says_below-is}
+use Rattle.apd_findings.specs.Deciding.{affirms, is_uncovered}
+use Rattle.apd_findings.proofs.Tests.{and-is, all-is, affirms-is, is_uncovered-is}
 
 -- the atom that a reader gives
 atom-is : (R : Recorded) (n : ℕ) (a : Term) → IsBox R n → IfSome (box_at R n) (λ (r : BoxRow). a ≡ r.atom) → a ≡ call_atom R n

@@ -1,7 +1,6 @@
 -- Clauses, and their instances for a goal.
-use Rattle.std.proofs.Common.{◌≡◌, ◌≢◌, ◌+◌, ◌&&◌, ℕ, zero, suc, Bool, true, false, List, [], ◌∷◌, length, drop, map, Some, Result, Ok, Err, refl, sym, ap, ◌∙◌, subst, arith}
-use Rattle.std.specs.Prelude.{IfOk, slice_get}
-use Rattle.std.specs.List.{list_all}
+use Rattle.std.proofs.Common.{◌≡◌, ◌≢◌, ℕ, suc, Bool, true, false, List, [], ◌∷◌, length, map, Result, Ok, Err, refl, sym, ap, ◌∙◌}
+use Rattle.std.specs.Prelude.{IfOk}
 use Rattle.std.specs.declared.alloc.AllocError.{AllocError}
 use Rattle.apd_term.specs.Term.{Term, apply}
 use Rattle.apd_term.specs.Matching.{is_instance, matching}
@@ -10,8 +9,6 @@ use Rattle.apd_term.specs.Tuple.{apply_tuple, IsTupleInstance}
 use Rattle.apd_term.specs.declared.tuple.Tuple.{Tuple}
 use Rattle.apd_term.proofs.Applying.{apply-same}
 use Rattle.apd_term.proofs.Opposite.{is_instance-is, matching-only}
-use Rattle.apd_clauses.specs.Clauses.{clause_at, tuples_of}
-use Rattle.apd_clauses.specs.declared.clause.Clause.{Clause}
 use Rattle.apd_answers.specs.Findings.{instance_for}
 use Rattle.apd_answers.specs.Store.{Store}
 use Rattle.apd_findings.specs.Deciding.{is_tuple_instance, is_closed, covers_not}
@@ -49,21 +46,3 @@ pub instance_tested : (store : Store) (goal : Term) (c : Tuple) (s : List (ℕ �
     → IfOk r (λ b. b ≡ is_closed store t) → IfOk r (λ b. b ≡ covers_not store goal c)
 instance_tested store goal c s t (Ok b) m e h = h ∙ ap (is_closed store) (e ∙ instance_is goal c s m) ∙ sym (tested store goal c s m)
 instance_tested store goal c s t (Err x) m e h = tt
-
--- the clauses of a program one after the other
-module _ (test : Tuple → Bool) where
-  clause-more : (cs : List Clause) (i : ℕ) (c : Clause) → slice_get cs i ≡ Some c → list_all test (drop i (tuples_of cs)) ≡ (test c.tuple && list_all test (drop (suc i) (tuples_of cs)))
-  clause-more [] i c e = absurd (cc)
-  clause-more (d ∷ ds) zero c e = let same : d ≡ c = cc in rw same refl
-  clause-more (d ∷ ds) (suc i) c e = clause-more ds i c e
-
-  at-place : (cs : List Clause) (i : ℕ) (c : Clause) → clause_at cs (i + 1) ≡ Some c → slice_get cs i ≡ Some c
-  at-place cs i c e = let next : i + 1 ≡ suc i = omega arith in subst (λ (k : ℕ). clause_at cs k ≡ Some c) next e
-
-  more-at : (cs : List Clause) (i : ℕ) (c : Clause) → clause_at cs (i + 1) ≡ Some c → list_all test (drop i (tuples_of cs)) ≡ (test c.tuple && list_all test (drop (i + 1) (tuples_of cs)))
-  more-at cs i c e =
-      let next : suc i ≡ i + 1 = omega arith in
-      subst (λ (k : ℕ). list_all test (drop i (tuples_of cs)) ≡ (test c.tuple && list_all test (drop k (tuples_of cs)))) next (clause-more cs i c (at-place cs i c e))
-
-  pub clause-passes : (cs : List Clause) (i : ℕ) (c : Clause) (b : Bool) → clause_at cs (i + 1) ≡ Some c → b ≡ test c.tuple → b ≡ true → list_all test (drop i (tuples_of cs)) ≡ list_all test (drop (i + 1) (tuples_of cs))
-  clause-passes cs i c b e is passes = more-at cs i c e ∙ rw (sym is ∙ passes) refl

@@ -147,7 +147,3 @@ no_atom store goal cs e program = by cs program.clauses
         none : (o : Option Pred) → predicate_of c.tuple.head ≡ o → IsClause c.tuple → IsInstance goal c.tuple.head → ⊥
         none None f clause i = no_user c.tuple.head f clause.head
         none (Some q) f clause i = (let one : Some q ≡ None = sym (predicate-apply i.0 c.tuple.head q f) ∙ ap predicate_of i.1 ∙ e in cc)
-
-pub no_clause : (store : Store) (goal : Term) (cs : List Clause) → length cs ≡ 0 → true ≡ list_all (covers_not store goal) (tuples_of cs)
-no_clause store goal [] e = refl
-no_clause store goal (c ∷ cs) e = absurd (omega (arith, e))

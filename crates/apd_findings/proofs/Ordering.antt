@@ -370,9 +370,6 @@ put-else pairs q r o other h = record {
 pub above-within : (pairs : List Pair) (o : Orders) → AreOrders pairs o → AreWithin o.above.items
 above-within pairs o h a b i = let s = h.yes.sound a b i in let w = within-number (keys_of o) s.caller b s.is_high in let c = h.lists.above in omega (arith, w, c)
 
-pub denied-within : (pairs : List Pair) (o : Orders) (low n : ℕ) → AreOrders pairs o → IsAmong (get_or o.denied.items low []) n → n < length (keys_of o)
-denied-within pairs o low n h i = let s = h.no.sound low n i in within-number (keys_of o) s.caller n s.is_high
-
 module _ (store : Store) (o : Orders) (h : AreOrders store.pairs o) where
   led : (p : Term) (high : ℕ) → canonical p ≡ p → HasNumber (keys_of o) p high → (a : ℕ) → Reaches o.above.items high a → (q r : Term) → canonical r ≡ r → HasNumber (keys_of o) r a → Apart store q r → Apart store q p
   led p high e is n here q r f k apart = let equal : r ≡ p = sym f ∙ same-form (keys_of o) r p n k is ∙ e in subst (Apart store q) equal apart

@@ -69,10 +69,6 @@ or-true true b h = refl
 or-true false true h = h refl
 or-true false false h = refl
 
-or-assoc : (a b c : Bool) → (a || (b || c)) ≡ ((a || b) || c)
-or-assoc true b c = refl
-or-assoc false b c = refl
-
 pair-any : (test : Question → Reply → Bool) (P : Question → Reply → Type 0) → ((q : Question) (r : Reply) → P q r → test q r ≡ true) → (pairs : List Pair) → SomePairIn P pairs → some_pair test pairs ≡ true
 pair-any test P h [] s = absurd s
 pair-any test P h (p ∷ pairs) (inl s) = let here = h p.question p.reply s in rw here refl

@@ -1,14 +1,13 @@
 -- The tests tell what they test.
-use Rattle.std.proofs.Common.{◌≡◌, ◌↔◌, ◌⊎◌, inl, inr, ℕ, ◌&&◌, Bool, true, false, List, [], ◌∷◌, map, Option, None, Some, refl, sym, ap, ◌∙◌, subst}
+use Rattle.std.proofs.Common.{◌≡◌, ◌↔◌, ◌⊎◌, inl, inr, ◌&&◌, Bool, true, false, List, [], ◌∷◌, Option, None, Some, refl, sym, ap, ◌∙◌, subst}
 use Rattle.std.specs.Prelude.{not, ◌||◌, IsSome}
 use Rattle.std.specs.List.{list_any, list_all, AllByRecursion}
-use Rattle.apd_term.specs.Term.{Term, compound, more, terms_of, apply, apply_all, IsGround}
+use Rattle.apd_term.specs.Term.{Term, IsGround}
 use Rattle.apd_term.specs.Canonical.{canonical}
 use Rattle.apd_term.specs.Matching.{is_instance}
 use Rattle.apd_term.specs.Substitution.{IsInstance}
 use Rattle.apd_term.specs.Tuple.{canonical_tuple, apply_tuple, IsTupleInstance}
 use Rattle.apd_term.specs.declared.tuple.Tuple.{Tuple}
-use Rattle.apd_term.specs.declared.standard.TheConstants.{NIL}
 use Rattle.apd_term.proofs.Opposite.{is_instance-is}
 use Rattle.apd_arith.specs.Builtins.{builtin_of_atom, IsBuiltin}
 use Rattle.apd_arith.specs.Truth.{IsTrueAtom}
@@ -26,7 +25,7 @@ use Rattle.apd_answers.specs.declared.question.Reply.{Reply}
 use Rattle.apd_answers.specs.declared.question.Reply.TheVariants.{Yes, No, Values, Unknown}
 use Rattle.apd_answers.specs.declared.store.Pair.{Pair}
 use Rattle.apd_answers.proofs.Tests.{same_question-equal, same_question-same}
-use Rattle.apd_term.proofs.Tuples.{apply-terms_of, as_term-apply, as_term-injective}
+use Rattle.apd_term.proofs.Tuples.{as_term-apply, as_term-injective}
 use Rattle.apd_findings.specs.Deciding.{some_pair, tells_yes, tells_no, tells_same, says_yes, says_no, says_uncovered, says_same, says_below, says_not_below, affirms_by, affirms, as_term, is_tuple_instance, is_instance_of, is_false_builtin, is_denied_atom, is_denied, is_closed, covers_not, is_uncovered}
 use Rattle.apd_findings.proofs.Instances.{true_always, always_true}
 
@@ -43,11 +42,6 @@ or-is false b A B p q = (λ e. inr (q.0 e), λ h. elim h [ inl a ↦ absurd (let
 pub not-is : (a : Bool) (A : Type 0) → a ≡ true ↔ A → not a ≡ true ↔ (¬ A)
 not-is true A p = (λ e. absurd (cc), λ h. absurd (h (p.0 refl)))
 not-is false A p = (λ e. λ x. (let f : false ≡ true = p.1 x in cc), λ h. refl)
-
--- whether or not
-pub decide : (a : Bool) (A : Type 0) → a ≡ true ↔ A → A ⊎ (¬ A)
-decide true A p = inl (p.0 refl)
-decide false A p = inr (λ x. (let f : false ≡ true = p.1 x in cc))
 
 pub all-is : {X : Type 0} (test : X → Bool) (P : X → Type 0) → ((x : X) → test x ≡ true ↔ P x) → (xs : List X) → list_all test xs ≡ true ↔ AllByRecursion P xs
 all-is test P h [] = (λ e. tt, λ k. refl)
@@ -125,11 +119,6 @@ says_same-is : (store : Store) (question : Question) (said : Reply) → yes_or_n
 says_same-is store question said k P h =
     some_pair-is (tells_same (canonical_question question) said) P (λ q r. (λ e. (h q r).0 ((tells_same-is question said k q r).0 e), λ p. (tells_same-is question said k q r).1 ((h q r).1 p))) store.pairs
 
--- an atom of a pair that is kept with Yes
-pub kept-same : (pairs : List Pair) (a : Term) → some_pair (tells_same (canonical_question (asks.True a)) Yes) pairs ≡ true → SomePairIn (Same (asks.True a) Yes) pairs
-unfolding yes_or_no
-kept-same pairs a e = (some_pair-is (tells_same (canonical_question (asks.True a)) Yes) (Same (asks.True a) Yes) (tells_same-is (asks.True a) Yes refl) pairs).0 e
-
 uncovered-same : (t : Tuple) (q : Question) (r : Reply) → Same (asks.Covers t) No q r ↔ TellsUncovered t q r
 uncovered-same t (asks.True b) r = (λ s. (let e : asks.True (canonical b) ≡ asks.Covers (canonical_tuple t) = s.0 in cc), λ h. absurd h)
 uncovered-same t (asks.Covers u) Yes = (λ s. (let e : Yes ≡ No = s.1 in cc), λ h. absurd h)
@@ -175,15 +164,6 @@ affirms_by-is (Some goal) store a = stands-is a
 
 pub affirms-is : (store : Store) (a : Term) → affirms store a ≡ true ↔ Affirms store a
 affirms-is store a = affirms_by-is (builtin_of_atom a) store a
-
-one_list : (ts us : List Term) → terms_of ts ≡ terms_of us → ts ≡ us
-one_list [] [] e = refl
-one_list [] (u ∷ us) e = cc
-one_list (t ∷ ts) [] e = cc
-one_list (t ∷ ts) (u ∷ us) e = let rest : ts ≡ us = one_list ts us (cc) in let first : t ≡ u = cc in cc
-
-tuple_of : (a b : Term) (ts us : List Term) → a ≡ b → ts ≡ us → (let t : Tuple = record { head = a; body = ts } in t) ≡ record { head = b; body = us }
-tuple_of a b ts us e f = rw (e, f) refl
 
 pub tuple_instance-is : (t c : Tuple) → is_tuple_instance t c ≡ true ↔ IsTupleInstance t c
 tuple_instance-is t c = (

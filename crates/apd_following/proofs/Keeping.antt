@@ -1,5 +1,5 @@
 -- What was kept of frames.
-use Rattle.std.proofs.Common.{◌≡◌, ℕ, List, [], ◌∷◌, ◌++◌, length, Some, None, refl, sym, ◌∙◌, ap, subst}
+use Rattle.std.proofs.Common.{◌≡◌, ℕ, List, [], ◌∷◌, ◌++◌, length, Some, None, refl, ◌∙◌, ap, subst}
 use Rattle.std.proofs.lemmas.List.{append-nil}
 use Rattle.apd_term.specs.Term.{Term, variables}
 use Rattle.apd_term.specs.Canonical.{by_appearance, canonical, canonical_in}

@@ -24,9 +24,6 @@ pub size_alone : (s : Stored) (goal : Cell) (limit n : ℕ) (o : Option ℕ) →
 size_alone s goal limit n o h is =
     (subst (SizeWithin (term_at s goal.0) limit) is h).0 ∙ sym (size-canonical (term_at s goal.0)) ∙ ap (λ (t : Tuple). size t.head) (sym (alone (term_at s goal.0)))
 
-pub size_small : (s : Stored) (goal : Cell) (limit n : ℕ) (o : Option ℕ) → SizeWithin (term_at s goal.0) limit o → o ≡ Some n → n ≤ limit
-size_small s goal limit n o h is = (subst (SizeWithin (term_at s goal.0) limit) is h).1
-
 both_none : (xs ys : List ℕ) → xs ++ ys ≡ [] → (xs ≡ []) × (ys ≡ [])
 both_none [] ys e = (refl, e)
 both_none (x ∷ xs) ys e = absurd (cc)

@@ -1,5 +1,5 @@
 -- A clause's goals that are loaded with what stands for its variables, and the instance that comes of it.
-use Rattle.std.proofs.Common.{◌≡◌, ℕ, ◌+◌, ◌-◌, ◌<◌, ◌≤◌, Bool, true, false, Option, Some, None, List, [], ◌∷◌, ◌++◌, length, get_or, take, map, refl, sym, ◌∙◌, ap, subst, arith}
+use Rattle.std.proofs.Common.{◌≡◌, ℕ, ◌+◌, ◌-◌, ◌<◌, ◌≤◌, true, false, Some, None, List, [], ◌∷◌, ◌++◌, length, get_or, take, map, refl, sym, ◌∙◌, ap, subst, arith}
 use Rattle.std.proofs.lemmas.List.{take_all, map_more, map-append}
 use Rattle.apd_term.specs.Term.{Term, variable, apply}
 use Rattle.apd_term.specs.Substitution.{term_for, followed_by}
@@ -7,10 +7,10 @@ use Rattle.apd_term.specs.Tuple.{apply_tuple}
 use Rattle.apd_term.specs.declared.tuple.Tuple.{Tuple}
 use Rattle.apd_term.proofs.Applying.{apply-followed_by, apply-same}
 use Rattle.apd_term.proofs.Tuples.{apply_tuple-followed_by, apply_tuple-variable}
-use Rattle.apd_unify.specs.Heads.{HasGoneOn, IsLoadedFor, IsMatched, Matches}
+use Rattle.apd_unify.specs.Heads.{HasGoneOn, IsLoadedFor, Matches}
 use Rattle.apd_unify.specs.Unifier.{IsUnifier, HasNoUnifier}
 use Rattle.apd_unify.specs.declared.store.Cell.{Cell}
-use Rattle.apd_unify.proofs.Fitting.{HasNumbers, has_numbers, made_terms}
+use Rattle.apd_unify.proofs.Fitting.{has_numbers, made_terms}
 use Rattle.apd_unify.proofs.Matched.{fits_back, gone_self, gone_trans}
 use Rattle.apd_unify.proofs.Turning.{more_cells}
 use Rattle.apd_cells.specs.Slots.{AreSlots, Fits, Numbering, value_in}

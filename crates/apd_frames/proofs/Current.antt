@@ -195,22 +195,11 @@ predicate_in : (F : List Frame) (n : ℕ) (g : Called) (a : Term) → next_goal 
 predicate_in [] n g a e h = cc
 predicate_in (f ∷ F) n g a e h = predicate_by (goal_of f) f F n g a e h
 
-none_called : (F : List Frame) (n : ℕ) (g : Called) → next_goal F ≡ None → look_of F n ≡ Goal g → ⊥
-none_called [] n g e h = cc
-none_called (f ∷ F) n g e h = by (goal_of f) e h
-  where
-    by : (o : Option Term) → o ≡ None → look_at o f F n ≡ Goal g → ⊥
-    by None e' h' = elim (f.box_no == 0) as (λ b. (if b then Answers (canonical f.tuple.head) else Exits (left f F) f.point) ≡ Goal g → ⊥) [ true ↦ λ bad. cc | false ↦ λ bad. cc ] h'
-    by (Some a) e' h' = cc
-
 -- the predicate of the next goal
 module _ (s : Stored) (links : List Link) (k : ℕ) (bs : List Branch) (now : Kept) (view : view_of s links k bs ≡ now) where
   pub predicate_some : (c : Cell) (o : Option Pred) → IsGoalAt links k (Some c) → o ≡ predicate_of (term_at s c.0) → (n : ℕ) (g : Called) → Calls now.current n g → o ≡ predicate_of g.atom
   predicate_some c o at e n g h =
       e ∙ predicate_in (frames_at s links k) n g (term_at s c.0) (at.1 s) (subst (λ (x : Kept). Calls x.current n g) (sym view) h)
-
-  pub predicate_none : IsGoalAt links k None → (n : ℕ) (g : Called) → Calls now.current n g → (o : Option Pred) → o ≡ predicate_of g.atom
-  predicate_none at n g h o = absurd (none_called (frames_at s links k) n g (at s) (subst (λ (x : Kept). Calls x.current n g) (sym view) h))
 
 -- a link in front, in a store where a substitution was applied to the older frames
 pub front_applied : (f : ℕ → Term) (old new : Stored) (links : List Link) (g : Called) (c m k : ℕ) (i : Instance) (t : Tuple)

@@ -1,28 +1,25 @@
 -- Loading terms, and what unification makes of them.
-use Rattle.std.proofs.Common.{◌≡◌, ℕ, zero, suc, ◌+◌, ◌<◌, ◌≤◌, List, [], ◌∷◌, ◌++◌, length, get_or, take, map, refl, sym, ◌∙◌, ap, subst, arith, Bool, true, false}
+use Rattle.std.proofs.Common.{◌≡◌, ℕ, zero, suc, ◌+◌, ◌<◌, List, [], ◌∷◌, ◌++◌, length, get_or, take, map, refl, sym, ◌∙◌, ap, subst, arith, Bool, true, false}
 use Rattle.std.specs.List.{flat_map}
-use Rattle.std.proofs.lemmas.List.{take_all, map_more, map-append, length-append}
+use Rattle.std.proofs.lemmas.List.{map_more, map-append, length-append}
 use Rattle.apd_term.specs.Term.{Term, variable, integer, compound, apply, spell, variables, IsAmong, Occurs}
-use Rattle.apd_term.specs.Substitution.{term_for, followed_by}
+use Rattle.apd_term.specs.Substitution.{followed_by}
 use Rattle.apd_term.specs.Canonical.{shifted}
 use Rattle.apd_term.specs.declared.tuple.Tuple.{Tuple}
 use Rattle.apd_term.proofs.Among.{IsAmong-left, IsAmong-right}
 use Rattle.apd_term.proofs.Applying.{apply-followed_by, apply-same, apply-variable}
 use Rattle.apd_term.proofs.Variants.{apply-agree}
-use Rattle.apd_unify.specs.Unifier.{IsUnifier, HasNoUnifier}
+use Rattle.apd_unify.specs.Unifier.{HasNoUnifier}
 use Rattle.apd_unify.specs.declared.store.Cell.{Cell}
 use Rattle.apd_unify.specs.Copies.{HasShared}
 use Rattle.apd_cells.specs.Stored.{Stored}
 use Rattle.apd_cells.specs.Store.{term_at, meaning, loaded, at_mark, Keeps}
-use Rattle.apd_unify.specs.Unified.{IsUnified}
-use Rattle.apd_cells.specs.Numbered.{IsNumbered}
 use Rattle.apd_cells.proofs.Keeping.{meaning-loaded, Keeps-trans}
 use Rattle.apd_cells.proofs.Bindings.{Keeps-self}
 use Rattle.apd_trace.specs.Frames.{shifted_tuple}
-use Rattle.apd_frames.specs.Links.{Instance, instance_of}
+use Rattle.apd_frames.specs.Links.{instance_of}
 use Rattle.apd_frames.specs.Instances.{instance_where, terms_in, raised_in, AreInside, HasGrown, HasLaid, IsInstantiated, Instantiates}
 use Rattle.apd_frames.proofs.Branching.{inside_more}
-use Rattle.apd_frames.proofs.Linking.{tuple_of}
 
 pub grown_self : (s : Stored) → HasGrown s s
 grown_self s = record { kept = Keeps-self s; cells = omega arith; others = λ c l. refl; means = λ v. refl }
@@ -52,9 +49,6 @@ laid_then a b c h k = record {
   cells = omega (arith, h.cells, k.cells);
   others = λ d l. k.others d (omega (arith, l, h.cells)) ∙ h.others d l;
 }
-
-pub grown_same : (old s new : Stored) → HasGrown old s → new ≡ s → HasGrown old new
-grown_same old s new h is = subst (HasGrown old) (sym is) h
 
 pub terms_same : (s new : Stored) (cs : List Cell) → AreInside (length s.cells) cs → ((c : ℕ) → c < length s.cells → term_at new c ≡ term_at s c) → terms_in new cs ≡ terms_in s cs
 terms_same s new [] h o = refl
@@ -94,9 +88,6 @@ loaded_more old s new base terms i cs out t c h l at is k o here made e =
       inside = inside_one (length new.cells) cs c (inside_more (length s.cells) (length new.cells) cs (omega (arith, n)) h.inside) (omega (arith, n, here, spelled (shifted base t)));
     })
 
-pub loaded_all : (old s : Stored) (base : ℕ) (terms : List Term) (i : ℕ) (cs : List Cell) → AreLoaded old s base terms i cs → length terms ≤ i → terms_in s cs ≡ map (raised_in old base) terms
-loaded_all old s base terms i cs h le = h.made ∙ ap (map (raised_in old base)) (take_all i terms le)
-
 pub among_atom : (ts : List Term) (i v : ℕ) (d : Term) → i < length ts → IsAmong (variables (get_or ts i d)) v → IsAmong (flat_map variables ts) v
 among_atom [] i v d lt m = absurd (omega arith)
 among_atom (t ∷ ts) zero v d lt m = IsAmong-left (variables t) (flat_map variables ts) v m
@@ -113,11 +104,6 @@ loaded_free s t h =
 -- back at the mark of a store that was kept
 pub undone : (old mid new : Stored) (k : ℕ) → Keeps old mid → k ≡ length old.trail → new ≡ at_mark k mid → new ≡ old
 undone old mid new k h e is = is ∙ ap (λ j. at_mark j mid) e ∙ h.1
-
-pub inside_at : (n : ℕ) (cs : List Cell) (i : ℕ) (c : Cell) → AreInside n cs → i < length cs → c ≡ get_or cs i c → c.0 < n
-inside_at n [] i c h l e = absurd (omega arith)
-inside_at n (d ∷ cs) zero c h l e = subst (λ (x : Cell). x.0 < n) (sym e) h.0
-inside_at n (d ∷ cs) (suc i) c h l e = inside_at n cs i c h.1 (omega arith) e
 
 pub inside_or : (n : ℕ) (cs : List Cell) (i : ℕ) (d : Cell) → AreInside n cs → i < length cs → (get_or cs i d).0 < n
 inside_or n [] i d h l = absurd (omega arith)

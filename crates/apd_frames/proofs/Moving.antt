@@ -14,7 +14,7 @@ use Rattle.apd_cells.specs.First.{AreApart}
 use Rattle.apd_cells.proofs.Keeping.{meaning-loaded}
 use Rattle.apd_cells.proofs.Bindings.{Keeps-self}
 use Rattle.apd_trace.specs.Frames.{apply_frames, entering, entered, shifted_tuple, outer, handed_all, query_frame}
-use Rattle.apd_trace.specs.BuiltIn.{built, solution, of_program}
+use Rattle.apd_trace.specs.BuiltIn.{built, solution}
 use Rattle.apd_trace.specs.Renaming.{AreAlike}
 use Rattle.apd_trace.specs.declared.frame.Frame.{Frame}
 use Rattle.apd_trace.specs.declared.frame.Called.{Called}
@@ -47,10 +47,6 @@ view_kept s s' links k bs e = ap (λ (x : Stored). view_of x links k bs) e
 
 module _ (s : Stored) (links : List Link) (k : ℕ) (bs : List Branch) (now : Kept) (view : view_of s links k bs ≡ now) (f : IsFramed s links k bs) (g : Called) (r : Tuple) (c m : ℕ) where
   -- no goal is next, or its first argument differs from the clause's, or it doesn't unify with the clause's head
-  pub enters_nowhere : IsGoalAt links k None → Enters (entering now.current g r c m) false now now
-  enters_nowhere h =
-      let none : entering (frames_at s links k) g r c m ≡ None = rw (h s) refl in
-      (ap (λ (x : Kept). entering x.current g r c m) (sym view) ∙ none, refl)
 
   pub enters_no : (goal : Cell) → IsGoalAt links k (Some goal) → AreApart (term_at s goal.0) r.head → Enters (entering now.current g r c m) false now now
   enters_no goal h a =
@@ -93,8 +89,6 @@ module _ (s : Stored) (links : List Link) (k : ℕ) (bs : List Branch) (now : Ke
 
 -- a built-in goal
 module _ (s : Stored) (links : List Link) (k : ℕ) (bs : List Branch) (now : Kept) (view : view_of s links k bs ≡ now) (f : IsFramed s links k bs) (g : Called) (m : ℕ) where
-  pub solves_nowhere : IsGoalAt links k None → AreAlike (solution now.current g m) of_program
-  solves_nowhere h = subst (λ (x : Kept). AreAlike (solution x.current g m) of_program) view (rw (h s) tt)
 
   module _ (goal : Cell) (h : IsGoalAt links k (Some goal)) (s' : Stored) where
     pub solves_without : (r : Solved) (G : List Frame) → r ≢ Entered → Settles r s s' (term_at s goal.0) → AreAlike (solution now.current g m) (solution_as r G)

@@ -54,22 +54,6 @@ outcome-two t goal a b e first second =
     let two : arguments t ≡ a ∷ b ∷ [] = two_arguments (arguments t) a b l first second in
     ap (outcome_by (Some goal)) (sym two) ∙ ap (λ o. outcome_by o (arguments t)) e
 
--- a built-in goal that isn't one of the two without arguments has two
-pub two_places : (t : Term) (goal : Builtin) → Some goal ≡ builtin_of_atom t → goal ≢ True → goal ≢ Fail → length (arguments t) ≡ 2
-two_places t goal e n m = places-arguments t goal (sym e) ∙ two goal n m
-  where
-    two : (g : Builtin) → g ≢ True → g ≢ Fail → places g ≡ 2
-    two True n m = absurd (n refl)
-    two Fail n m = absurd (m refl)
-    two Unify n m = refl
-    two Is n m = refl
-    two Equal n m = refl
-    two Different n m = refl
-    two Less n m = refl
-    two LessEqual n m = refl
-    two Greater n m = refl
-    two GreaterEqual n m = refl
-
 pub outcome-of-two : (t : Term) (goal : Builtin) (a b : Term) → Some goal ≡ builtin_of_atom t → arguments t ≡ a ∷ b ∷ [] → outcome_of_two goal a b ≡ outcome t
 unfolding outcome
 outcome-of-two t goal a b e two = ap (outcome_by (Some goal)) (sym two) ∙ ap (λ o. outcome_by o (arguments t)) e

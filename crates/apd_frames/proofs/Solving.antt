@@ -18,8 +18,7 @@ use Rattle.apd_trace.proofs.Entered.{renamed_under}
 use Rattle.apd_trace.proofs.Renamed.{renamed_self}
 use Rattle.apd_cells.specs.Stored.{Stored}
 use Rattle.apd_cells.specs.Store.{term_at}
-use Rattle.apd_frames.specs.Kept.{Kept}
-use Rattle.apd_frames.specs.Solves.{HasClash, HasUnited, Settles, solution_as, Keeps}
+use Rattle.apd_frames.specs.Solves.{HasClash, HasUnited, Settles, solution_as}
 use Rattle.apd_frames.specs.declared.builtin.Solved.{Solved}
 use Rattle.apd_frames.specs.declared.builtin.Solved.TheVariants.{Program, Fault, Failed, Entered}
 use Rattle.apd_trace.specs.Renaming.{AreAlike}
@@ -61,15 +60,3 @@ module _ (F : List Frame) (g : Called) (m : ℕ) (a : Term) (goal : next_goal F 
   solves_other (Fault e) old new G n h = at (Faults e) (faulted e) h.1 refl
   solves_other Failed old new G n h = fails h.1
   solves_other Entered old new G n h = absurd (n refl)
-
-pub settles_same : (r : Solved) (old new : Stored) (a : Term) → r ≢ Entered → Settles r old new a → new ≡ old
-settles_same Program old new a n h = h.0
-settles_same (Fault e) old new a n h = h.0
-settles_same Failed old new a n h = h.0
-settles_same Entered old new a n h = absurd (n refl)
-
-pub keeps_same : (r : Solved) (old new : Kept) → r ≢ Entered → new ≡ old → Keeps r old new
-keeps_same Program old new n h = h
-keeps_same (Fault e) old new n h = h
-keeps_same Failed old new n h = h
-keeps_same Entered old new n h = absurd (n refl)

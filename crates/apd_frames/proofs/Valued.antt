@@ -1,23 +1,13 @@
 -- The value of a term by its first symbol and the values of its arguments.
-use Rattle.std.proofs.Common.{◌≡◌, ℕ, ℤ, List, [], ◌∷◌, length, map, Ok, Err, refl, sym, ◌∙◌, ap}
+use Rattle.std.proofs.Common.{◌≡◌, ℕ, List, [], ◌∷◌, length, map, Err, refl, sym, ◌∙◌, ap}
 use Rattle.std.proofs.lemmas.List.{length-map}
 use Rattle.apd_term.specs.Term.{Term, variable, integer, compound, arguments}
 use Rattle.apd_term.specs.declared.term.NameId.{NameId}
-use Rattle.apd_term.specs.declared.term.Sym.TheVariants.{Var, Int, Fun}
+use Rattle.apd_term.specs.declared.term.Sym.TheVariants.{Fun}
 use Rattle.apd_cells.specs.First.{first_symbol}
-use Rattle.apd_arith.specs.declared.fault.ArithFault.TheVariants.{Unbound, NotEvaluable}
+use Rattle.apd_arith.specs.declared.fault.ArithFault.TheVariants.{NotEvaluable}
 use Rattle.apd_arith.specs.Value.{Value, value, values, value_of}
 use Rattle.apd_arith.proofs.Values.{values-map}
-
-pub value-variable : (t : Term) (v : ℕ) → first_symbol t ≡ Var v → value t ≡ Err Unbound
-value-variable (variable w) v e = refl
-value-variable (integer i) v e = absurd (cc)
-value-variable (compound f ts) v e = absurd (cc)
-
-pub value-integer : (t : Term) (i : ℤ) → first_symbol t ≡ Int i → value t ≡ Ok i
-value-integer (variable w) i e = absurd (cc)
-value-integer (integer j) i e = let k : j ≡ i = cc in ap (λ (q : ℤ). let r : Value = Ok q in r) k
-value-integer (compound f ts) i e = absurd (cc)
 
 -- a name has as many arguments as its symbol says
 pub arguments-count : (t : Term) (f : NameId) (n : ℕ) → first_symbol t ≡ Fun f n → length (arguments t) ≡ n

@@ -58,16 +58,6 @@ head_written t seen new r o none h e =
     written_kept seen new (flat_map variables t.body) (order_of t) t.head r 1000000 n
     (order_next seen new (flat_map variables t.body) t.head r 1000000 n ∙ ap (λ s. fold with_new s (variables_of_tuple t)) none)
 
-pub numbering_first : (t : Tuple) (seen new : List ℕ) (r : Term) (body : List Term) (k : ℕ) (o : Option Term) → seen ≡ [] → Numbers seen new t.head 1000000 o → o ≡ Some r → body ≡ []
-    → k ≡ 1000000 - size r → IsNumbering t new t.body body k
-numbering_first t seen new r body k o none h e empty is =
-    let n = numbers_some seen new t.head r 1000000 o h e in
-    record {
-      order = order_next seen new (flat_map variables t.body) t.head r 1000000 n ∙ ap (λ s. fold with_new s (variables_of_tuple t)) none;
-      goals = ap (λ b. b ++ map (canonical_in (order_of t)) t.body) empty;
-      limit = omega (arith, is, n.within, n.size_is);
-    }
-
 pub numbering_more : (t : Tuple) (seen new : List ℕ) (x r : Term) (left body more : List Term) (k j : ℕ) (o : Option Term) → IsNumbering t seen (x ∷ left) body k → Numbers seen new x k o → o ≡ Some r
     → more ≡ body ++ r ∷ [] → j ≡ k - size r → IsNumbering t new left more j
 numbering_more t seen new x r left body more k j o w h e is less =
@@ -94,17 +84,6 @@ short_terms s (c ∷ cs) h i = omega (arith, h c.0 i.0, short_terms s cs h i.1)
 
 pub short_instance : (s : Stored) (i : Instance) → ((c : ℕ) → c < length s.cells → size (term_at s c) ≤ 15384) → IsInside (length s.cells) i → length i.goals ≤ 64 → is_large (tuple_in s i) ≡ false
 short_instance s i h p l = small_so (size_of_tuple (tuple_in s i)) (omega (arith, h i.head.0 p.head, short_terms s i.goals h p.goals, l))
-
-pub large_head : (t : Tuple) (seen new : List ℕ) (o : Option Term) → Numbers seen new t.head 1000000 o → o ≡ None → is_large t ≡ true
-large_head t seen new o h e =
-    let l : 1000000 < size t.head = subst (Numbers seen new t.head 1000000) e h in
-    large_so (size_of_tuple t) (omega (arith, l))
-
-pub large_goal : (t : Tuple) (seen new : List ℕ) (x : Term) (left body : List Term) (k : ℕ) (o : Option Term) → IsNumbering t seen (x ∷ left) body k → Numbers seen new x k o → o ≡ None
-    → is_large t ≡ true
-large_goal t seen new x left body k o w h e =
-    let l : k < size x = subst (Numbers seen new x k) e h in
-    large_so (size_of_tuple t) (omega (arith, l, w.limit))
 
 pub numbering_last : (t : Tuple) (seen : List ℕ) (left body : List Term) (head : Term) (k : ℕ) → IsNumbering t seen left body k → left ≡ [] → head ≡ canonical_in (order_of t) t.head
     → (is_large t ≡ false) × (record { head = head; body = body } ≡ canonical_tuple t)

@@ -1,10 +1,10 @@
 -- How long the program of a tree is at most.
-use Rattle.std.proofs.Common.{◌≡◌, ℕ, zero, suc, ◌+◌, ◌*◌, ◌<◌, ◌≤◌, List, [], ◌∷◌, ◌++◌, length, Bool, true, false, refl, arith}
+use Rattle.std.proofs.Common.{◌≡◌, ℕ, zero, suc, ◌+◌, ◌*◌, ◌<◌, ◌≤◌, List, [], ◌∷◌, ◌++◌, length, Bool, true, false, arith}
 use Rattle.std.proofs.lemmas.Fmt.{length-decimal-le}
 use Rattle.std.proofs.lemmas.List.{length-append}
 use Rattle.std.specs.Fmt.{decimal}
 use Rattle.std.specs.List.{range_with_len}
-use Rattle.std.specs.Prelude.{codes, filter, flat_map, if◌then◌else◌, nat_le}
+use Rattle.std.specs.Prelude.{codes, flat_map, if◌then◌else◌, nat_le}
 use Rattle.apd_gen.specs.Programs.{below, body_of, line_of, name_of, tree_text}
 
 name-short : (i : ℕ) → i < 100000 → length (name_of i) ≤ 6
@@ -12,13 +12,6 @@ name-short i few =
     let digits : length (decimal i) ≤ 5 = length-decimal-le 5 i (omega arith) (omega (arith, few)) (omega (arith, few)) in
     let all : length (name_of i) ≡ 1 + length (decimal i) = length-append (codes "n") (decimal i) in
     omega (arith, digits, all)
-
--- a body of at most two goals
-goal-short : (i : ℕ) → i < 100000 → length (codes " :- " ++ name_of i) ≤ 10
-goal-short i few =
-    let name = name-short i few in
-    let all : length (codes " :- " ++ name_of i) ≡ 4 + length (name_of i) = length-append (codes " :- ") (name_of i) in
-    omega (arith, name, all)
 
 more-short : (k : ℕ) → k < 100000 → length (codes ", " ++ name_of k) ≤ 8
 more-short k few =

@@ -27,9 +27,6 @@ use Rattle.apd_index.proofs.Rooted.{same-root}
 pub grows-none : (t : Table) → tables.IsSound t → tables.Grows t t
 grows-none t is = record { sound = is; kept = λ m k a. a; founders = record { still = λ m k f. f }; numbers = λ p c n. n; entries = λ c e i. i }
 
-pub adds-none : (nodes : Nodes) (columns : Columns) (a : Term) (k : ℕ) → AddsOf nodes columns a k columns
-adds-none nodes columns a k c e i = inl i
-
 pub grows-on : (t u v : Table) → tables.Grows t u → tables.Grows u v → tables.Grows t v
 grows-on t u v one two = record {
   sound = two.sound;

@@ -44,6 +44,3 @@ module _ (links : List Link) (last : ℕ) where
 
 pub row-still : (rows new : List (List ℕ)) (number : ℕ) (ps : List ℕ) → KeepBits rows new → HasRow rows number ps → HasRow new number ps
 row-still rows new number ps kept h = (let l = kept.0 in let g = h.0 in omega (arith, l, g), λ some k a. kept.1 (number - 1) k (h.1 some k a))
-
-pub row-none : (rows : List (List ℕ)) (ps : List ℕ) → HasRow rows 0 ps
-row-none rows ps = (omega arith, λ some. absurd (omega (arith, some)))

@@ -1,9 +1,8 @@
 -- Atoms of a list are found by their marks.
-use Rattle.std.proofs.Common.{◌≡◌, ◌⊎◌, inl, inr, ℕ, zero, suc, ◌+◌, ◌/◌, ◌<◌, ◌≤◌, ◌++◌, ◌&&◌, Bool, true, false, List, [], ◌∷◌, length, take, get_or, Option, None, Some, Result, Ok, Err, refl, sym, ap, ◌∙◌, subst, append_assoc}
+use Rattle.std.proofs.Common.{◌≡◌, ◌⊎◌, inl, inr, ℕ, zero, suc, ◌+◌, ◌<◌, ◌++◌, ◌&&◌, Bool, true, false, List, [], ◌∷◌, length, take, get_or, Option, None, Some, Result, Ok, Err, refl, sym, ap, ◌∙◌, subst, append_assoc}
 use Rattle.std.specs.Prelude.{IfOk, MatchBool, OnErr, OnOk, slice_get}
 use Rattle.std.specs.List.{list_any}
 use Rattle.std.proofs.lemmas.List.{take_more}
-use Rattle.std.proofs.lemmas.Option.{slice_get_past}
 use Rattle.std.proofs.lemmas.Bool.{and_from}
 use Rattle.std.proofs.lemmas.Map.Keys.{any_passes_from_place}
 use Rattle.apd_term.specs.Term.{Term, IsAmong}
@@ -12,11 +11,11 @@ use Rattle.apd_term.specs.Substitution.{IsInstance}
 use Rattle.apd_term.proofs.Opposite.{is_instance-is}
 use Rattle.apd_marks.specs.Places.{Index, Notes, places_at}
 use Rattle.apd_marks.specs.Positions.{IsLasting, all_marks, any_term, whole}
-use Rattle.apd_index.specs.Retrieval.{AreGenerals, AreKeptBut, AreKeptIn, AreNoted, AreSpecials, AreWholes, IsKnown, IsNoted, IsNotedBelow, NoneLeft, SomeLeft, has_general, has_special, is_above, is_below, is_left_below}
+use Rattle.apd_index.specs.Retrieval.{AreGenerals, AreKeptIn, AreSpecials, AreWholes, IsKnown, IsNoted, IsNotedBelow, NoneLeft, SomeLeft, has_general, has_special, is_above, is_below}
 use Rattle.apd_index.specs.Nodes.{AreKept, KeepsFounders}
 use Rattle.apd_index.specs.Spots.{AllLeave}
 use Rattle.apd_index.specs.declared.nodes.Nodes.{Nodes}
-use Rattle.apd_bits.specs.Rows.{HasBit, IsClearNear, has_bit}
+use Rattle.apd_bits.specs.Rows.{HasBit, has_bit}
 use Rattle.apd_index.proofs.Noting.{notes-kept, notes-one}
 use Rattle.apd_index.proofs.Telling.{among-any, any-among, any-there, same-truth}
 use Rattle.apd_marks.proofs.Walking.{lasting-marks}
@@ -47,17 +46,6 @@ pub above-kept : (xs : List Term) (old new : Nodes) (large larger : List ℕ) (w
 above-kept xs old new large larger waiting more kept founders still wait h k x e = elim (h k x e) [
   | inl noted ↦ inl (noted-kept old new large larger k x kept founders still noted)
   | inr w ↦ inr (w.0, w.1, wait w.0 k w.2)
-]
-
--- what waited at a mark is noted, and forgotten
-pub above-gathered : (xs : List Term) (old new : Nodes) (large larger : List ℕ) (waiting fewer : Index) (mark : ℕ) → AreKept old new → KeepsFounders old new → ((k : ℕ) → IsAmong large k → IsAmong larger k)
-    → AreNoted xs new larger (places_at waiting mark) → AreKeptBut mark waiting fewer → AreSpecials xs old large waiting → AreSpecials xs new larger fewer
-above-gathered xs old new large larger waiting fewer mark kept founders still noted but h k x e = elim (h k x e) [
-  | inl is ↦ inl (noted-kept old new large larger k x kept founders still is)
-  | inr w ↦ elim (but w.0 k w.2) [
-    | inl same ↦ inl (noted k x (subst (λ (m : ℕ). IsAmong (places_at waiting m) k) (sym same) w.2) e)
-    | inr a ↦ inr (w.0, w.1, a)
-  ]
 ]
 
 module _ (xs : List Term) (places : Index) (a : Term) where
@@ -165,16 +153,6 @@ module _ (xs : List Term) (row : List ℕ) (a : Term) where
   special-told false all none = same-truth false (has_special xs a) (λ e. absurd (cc)) (λ yes. let some = special-found all yes in sym (none some.0) ∙ some.1)
 
   -- no bit near a place, and places that were looked at
-
-  pub near-none : (place k : ℕ) → IsClearNear row place → k / 64 ≡ place / 64 → is_left_below xs row a k ≡ false
-  near-none place k clear same = rw (clear k same) refl
-
-  pub past-none : (k : ℕ) → length xs ≤ k → is_left_below xs row a k ≡ false
-  past-none k l = ap (λ (o : Option Term). has_bit row k && is_below a o) (slice_get_past xs k l) ∙ and-false (has_bit row k)
-    where
-      and-false : (b : Bool) → (b && false) ≡ false
-      and-false true = refl
-      and-false false = refl
 
 -- where there is memory
 

@@ -1,11 +1,9 @@
 -- Spots of an atom, and the places that they leave.
-use Rattle.std.proofs.Common.{◌≡◌, ◌⊎◌, inl, inr, ℕ, zero, suc, ◌++◌, List, [], ◌∷◌, Option, None, Some, sym, ◌∙◌, subst}
+use Rattle.std.proofs.Common.{◌≡◌, ◌⊎◌, inl, inr, ℕ, zero, suc, ◌++◌, List, [], ◌∷◌, Option, None, Some, sym, subst}
 use Rattle.std.specs.Prelude.{IfSome, slice_get}
 use Rattle.apd_term.specs.Term.{IsAmong, Term}
 use Rattle.apd_term.specs.declared.term.Sym.{Sym}
 use Rattle.apd_term.specs.declared.term.Sym.TheVariants.{Var, Int, Fun}
-use Rattle.apd_bits.specs.Rows.{HasBit, HasBits, IsWithin}
-use Rattle.apd_index.specs.Nodes.{founder_at, noted_at}
 use Rattle.apd_index.specs.Spots.{AreSpots, Leaves, IsSpot, StandsIn}
 use Rattle.apd_index.specs.Subterms.{noted, root}
 use Rattle.apd_index.specs.declared.nodes.Nodes.{Nodes}
@@ -23,15 +21,6 @@ spots-more a old new s is here so_far t h = elim (stands-last old s t (subst (λ
   | inl before ↦ so_far t before
   | inr same ↦ subst (IsSpot a) same here
 ]
-
-module _ (nodes : Nodes) (k : ℕ) (s : Spot) where
-  -- what is noted for the mark, or was first above, has its bit
-  pub begun : (row new : List ℕ) (founder : ℕ) → HasBits row (noted_at nodes s.mark) → IsWithin row new → HasBit new founder → Some founder ≡ founder_at nodes s.parent → Leaves nodes k s → HasBit new k
-  begun row new founder has kept set is (inl n) = kept k (has k n)
-  begun row new founder has kept set is (inr f) = let same : founder ≡ k = only (is ∙ f.is) in subst (HasBit new) same set
-    where
-      only : {x y : ℕ} → Some x ≡ Some y → x ≡ y
-      only e = cc
 
 -- the mark of a symbol is noted for it
 pub marked : (p : Parent) (x : Sym) (m : ℕ) (t : Term) → root t ≡ x → slice_get (noted p x) 0 ≡ Some m → IsAmong (noted p (root t)) m

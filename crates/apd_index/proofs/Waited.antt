@@ -1,15 +1,12 @@
 -- Atoms that waited are noted one after another.
-use Rattle.std.proofs.Common.{◌≡◌, ◌⊎◌, ◌<◌, ◌+◌, ◌++◌, inl, inr, ℕ, Bool, true, false, List, [], ◌∷◌, length, take, get_or, Option, Some, refl, sym, ap, ◌∙◌, subst}
-use Rattle.std.specs.Prelude.{IsTrue, if◌then◌else◌, nat_eq, slice_get, unwrap_or}
-use Rattle.std.proofs.lemmas.Bool.{eqb-true}
+use Rattle.std.proofs.Common.{◌≡◌, ◌<◌, ◌+◌, ◌++◌, inl, inr, ℕ, Bool, List, [], ◌∷◌, length, take, get_or, Some, sym, ap, ◌∙◌, subst}
+use Rattle.std.specs.Prelude.{IsTrue, slice_get}
 use Rattle.std.proofs.lemmas.List.{take_more}
-use Rattle.indexmap.specs.IndexMap.{get}
 use Rattle.apd_term.specs.Term.{IsAmong, Term}
 use Rattle.apd_term.proofs.Among.{IsAmong-append}
-use Rattle.apd_marks.specs.Places.{Index}
 use Rattle.apd_index.specs.Columns.{HasColumns}
 use Rattle.apd_index.specs.Nodes.{AreKept, KeepsFounders}
-use Rattle.apd_index.specs.Retrieval.{AreKeptBut, AreNoted, IsNoted}
+use Rattle.apd_index.specs.Retrieval.{AreNoted, IsNoted}
 use Rattle.apd_index.specs.Table.{Grows}
 use Rattle.apd_index.specs.declared.nodes.Nodes.{Nodes}
 use Rattle.apd_index.specs.declared.walk.Table.{Table}
@@ -38,11 +35,3 @@ noted-more xs places i place nodes further large larger l is kept founders still
         | inr none ↦ absurd none
       ]
     ]
-
--- a list that is put for a mark in place of what waits there
-pub forgotten : (old new : Index) (mark : ℕ) (ks : List ℕ) → ((q : ℕ) → get nat_eq new q ≡ (if nat_eq mark q then Some ks else get nat_eq old q)) → AreKeptBut mark old new
-forgotten old new mark ks updates q k a = by (nat_eq mark q) refl
-  where
-    by : (b : Bool) → nat_eq mark q ≡ b → (mark ≡ q) ⊎ IsAmong (unwrap_or (get nat_eq new q) []) k
-    by true e = inl (eqb-true mark q e)
-    by false e = inr (subst (λ (o : Option (List ℕ)). IsAmong (unwrap_or o []) k) (sym (updates q ∙ ap (λ (b : Bool). if b then Some ks else get nat_eq old q) e)) a)

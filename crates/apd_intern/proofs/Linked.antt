@@ -113,11 +113,6 @@ pub record IsPut (links : List Link) (ps : List ℕ) (i r : ℕ) : Type 0 where
   pub rest : IsRest links i r
   pub places : rest_at links i r ≡ reverse (take i ps)
 
-pub put_first : (links : List Link) (ps : List ℕ) (d : ℕ) → 0 < length ps → IsPut links ps 1 (get_or ps 0 d)
-put_first links [] d l = absurd (omega arith)
-put_first links (p ∷ []) d l = record { rest = tt; places = refl }
-put_first links (p ∷ q ∷ ps) d l = record { rest = tt; places = refl }
-
 pub put_next : (links links' : List Link) (ps : List ℕ) (i r q d : ℕ) → 0 < i → i < length ps → IsPut links ps i r
     → Adds links (record { first = get_or ps i d; rest = r }) links' → slice_get links' q ≡ Some (record { first = get_or ps i d; rest = r })
     → IsPut links' ps (i + 1) q

@@ -3,7 +3,7 @@ use Rattle.std.proofs.Common.{◌≡◌, ℕ, ◌+◌, ◌<◌, ◌≤◌, ◌^�
 use Rattle.std.specs.Prelude.{slice_get, All, OnErr}
 use Rattle.std.specs.Option.{option_map}
 use Rattle.std.proofs.lemmas.List.{get_or_append_left, take-append-le, drop-append-le, length-drop, length-map, map-append, get_or_at, drop_at, take_all}
-use Rattle.std.proofs.lemmas.List.Elements.{All-nil, All-head, All-tail, All-cons, All-push, All-get_or}
+use Rattle.std.proofs.lemmas.List.Elements.{All-nil, All-head, All-tail, All-cons, All-push}
 use Rattle.std.proofs.lemmas.Option.{slice_get-map, slice_get_within, get_or_from_slice_get, slice_get-get_or}
 use Rattle.apd_term.specs.declared.term.Sym.{Sym}
 use Rattle.apd_term.specs.Term.{Term, variable, spell, term_of, IsWhole}
@@ -88,10 +88,6 @@ on_err_at_all (Err e) P h = h
 
 pub listed_at : (symbols : List Sym) (shared : List Term) (spots : List Spot) (p : ℕ) (s : Spot) → slice_get spots p ≡ Some s → slice_get (listed symbols shared spots) p ≡ Some (kept_at symbols shared s)
 listed_at symbols shared spots p s at = slice_get-map (kept_at symbols shared) spots p ∙ ap (option_map (kept_at symbols shared)) at
-
-pub spot_kept : (symbols : List Sym) (shared : List Term) (spots : List Spot) (p : ℕ) (s : Spot) → AreListed symbols shared spots → slice_get spots p ≡ Some s → IsKept symbols shared s
-spot_kept symbols shared spots p s h at =
-    subst (IsKept symbols shared) (get_or_from_slice_get spots p s s at) (All-get_or (IsKept symbols shared) spots p s (slice_get_within spots p s at) h.kept)
 
 pub written_at : (symbols : List Sym) (shared : List Term) (spots : List Spot) (p from n : ℕ) (t : Term) → slice_get spots p ≡ Some (Written from n) → take n (drop from symbols) ≡ spell t
     → slice_get (listed symbols shared spots) p ≡ Some t

@@ -51,9 +51,6 @@ all_push : {X : Type 0} (P : X → Type 0) (xs : List X) (y : X) → AllByRecurs
 all_push P [] y h k = (k, tt)
 all_push P (x ∷ xs) y h k = (h.0, all_push P xs y h.1 k)
 
-pub grown_none : (t : Term) (terms : List Term) → GrowsBySubterms t terms terms
-grown_none t terms = ([], append-nil terms, tt)
-
 pub grown_more : (t s : Term) (old mid new : List Term) → GrowsBySubterms t old mid → Adds mid s new → IsSubterm s t → GrowsBySubterms t old new
 grown_more t s old mid new h a is =
     elim a [

@@ -13,7 +13,7 @@ use Rattle.apd_ops.specs.Table.{Table, IsTable}
 use Rattle.apd_read.specs.Reader.{Reader}
 use Rattle.apd_read.proofs.Unique.{one_answer}
 use Rattle.apd_load.specs.Lines.{line_at}
-use Rattle.apd_known.specs.Files.{States, at_end, after_term, after_reading, after_division, all_stated, stated_from, stated_in}
+use Rattle.apd_known.specs.Files.{States, at_end, after_term, after_reading, after_division, stated_from, stated_in}
 use Rattle.apd_known.specs.Statements.{with_clause}
 use Rattle.apd_known.specs.declared.file.Stated.{Stated}
 

@@ -2,7 +2,6 @@
 use Rattle.std.proofs.Common.{◌≡◌, ◌≢◌, ℕ, ◌+◌, ◌-◌, ◌<◌, ◌≤◌, zero, suc, List, [], ◌++◌, length, Option, None, Some, Result, Ok, Err, refl, sym, ◌∙◌, ap, subst, arith}
 use Rattle.std.proofs.lemmas.Bool.{lt-ltb, le-ltb}
 use Rattle.std.proofs.lemmas.List.{append-nil}
-use Rattle.std.specs.List.{slice_get}
 use Rattle.apd_term.specs.Growth.{Grown, GrowsBy}
 use Rattle.apd_term.specs.Named.{IsNamed}
 use Rattle.apd_causes.specs.declared.reading.Read.{Read}
@@ -12,7 +11,6 @@ use Rattle.apd_causes.specs.declared.faults.ReadFault.{ReadFault}
 use Rattle.apd_causes.specs.declared.faults.ReadFault.TheVariants as reading
 use Rattle.apd_token.specs.declared.items.Token.{Token}
 use Rattle.apd_token.specs.Grammar.{HasTokens}
-use Rattle.apd_token.proofs.Counting.{tokens_few}
 use Rattle.apd_ops.specs.Table.{Table, IsTable}
 use Rattle.apd_read.specs.Answer.{HasReading, IsReadFault}
 use Rattle.apd_read.specs.Reader.{Reader}
@@ -22,7 +20,7 @@ use Rattle.apd_load.specs.Program.{place_of_fault}
 use Rattle.apd_load.specs.declared.places.Place.{Place}
 use Rattle.apd_load.proofs.Newlines.{first_place}
 use Rattle.apd_load.proofs.Reaching.{grown_more, grown_length, grows_more}
-use Rattle.apd_known.specs.Files.{States, states, refused, at_end, after_term, after_reading, stated_from, all_stated}
+use Rattle.apd_known.specs.Files.{States, refused, at_end, after_term, after_reading, stated_from, all_stated}
 use Rattle.apd_known.specs.Statements.{with_clause}
 use Rattle.apd_known.specs.Steps.{IsStated, unread}
 use Rattle.apd_known.specs.declared.file.Stated.{Stated}

@@ -1,15 +1,15 @@
 -- What a clause says may be stated.
-use Rattle.std.proofs.Common.{◌≡◌, ◌==◌, ◌&&◌, ℕ, ◌<◌, arith, length, Bool, true, false, Option, Some, None, Result, Ok, Err, refl, sym, ap, subst, ◌∙◌}
+use Rattle.std.proofs.Common.{◌≡◌, ◌==◌, ◌&&◌, ℕ, ◌<◌, arith, length, Bool, true, false, Option, Some, None, Result, Ok, Err, refl, ap, subst, ◌∙◌}
 use Rattle.std.specs.Prelude.{if◌then◌else◌, slice_get}
 use Rattle.apd_term.specs.Named.{IsNamed}
-use Rattle.apd_term.specs.Term.{Term, Terms, variable, integer, compound, none, more, arguments, list_of, predicate_of}
+use Rattle.apd_term.specs.Term.{Term, variable, integer, compound, none, more, arguments, list_of, predicate_of}
 use Rattle.apd_term.specs.declared.standard.TheConstants.{DIVIDE, TRUSTED}
 use Rattle.apd_term.specs.declared.term.NameId.{NameId}
 use Rattle.apd_term.specs.declared.term.Pred.{Pred}
 use Rattle.apd_causes.specs.declared.faults.OracleCause.{OracleCause}
 use Rattle.apd_causes.specs.declared.faults.OracleCause.TheVariants.{NotAStatement, NotUserAtom}
 use Rattle.apd_clauses.specs.Kinds.{◌∕◌, kind_of}
-use Rattle.apd_clauses.specs.Predicates.{is_pred, same_pred}
+use Rattle.apd_clauses.specs.Predicates.{is_pred}
 use Rattle.apd_clauses.proofs.Indexing.{same_pred-true}
 use Rattle.apd_answers.specs.declared.store.Pair.{Pair}
 use Rattle.apd_known.specs.Indicators.{arity_from, indicated, name_alone, predicate_from}

@@ -1,5 +1,5 @@
 -- What a clause replies may be stated.
-use Rattle.std.proofs.Common.{◌≡◌, ◌==◌, ◌&&◌, ◌+◌, ◌<◌, ◌≤◌, ℕ, suc, arith, Bool, true, false, List, [], ◌∷◌, length, Option, Some, None, Result, Ok, Err, refl, sym, ap, subst, ◌∙◌}
+use Rattle.std.proofs.Common.{◌≡◌, ◌==◌, ◌&&◌, ◌+◌, ◌<◌, ℕ, suc, arith, Bool, true, false, List, length, Option, Some, None, Result, Ok, Err, refl, sym, ap, subst, ◌∙◌}
 use Rattle.std.specs.Prelude.{if◌then◌else◌, not}
 use Rattle.std.specs.Option.{option_map}
 use Rattle.std.proofs.lemmas.Bool.{eqb-true}
@@ -8,16 +8,15 @@ use Rattle.apd_term.specs.Term.{Term, Terms, variable, integer, compound, none, 
 use Rattle.apd_term.specs.declared.term.NameId.{NameId}
 use Rattle.apd_term.specs.Canonical.{canonical, place_of, by_appearance}
 use Rattle.apd_term.specs.Named.{IsNamed, AreNamed, AllNamed, TupleIsNamed}
-use Rattle.apd_term.specs.declared.standard.TheConstants.{TRUE, COVERS, BELOW, NECK}
+use Rattle.apd_term.specs.declared.standard.TheConstants.{TRUE, COVERS, BELOW}
 use Rattle.apd_term.specs.declared.term.Pred.{Pred}
 use Rattle.apd_term.specs.declared.tuple.Tuple.{Tuple}
 use Rattle.apd_term.proofs.Named.{AreNamed-more, IsNamed-canonical, IsNamed-more}
 use Rattle.apd_causes.specs.declared.faults.BodyFault.{BodyFault}
-use Rattle.apd_causes.specs.declared.faults.OracleCause.{OracleCause}
 use Rattle.apd_causes.specs.declared.faults.OracleCause.TheVariants.{NotAStatement, NotUserAtom, NotGround, WrongCount, BuiltinFalse}
 use Rattle.apd_clauses.specs.Bodies.{clause_from, conjuncts, fact, parts_of}
 use Rattle.apd_clauses.specs.Kinds.{◌∕◌, kind_of, IsUserAtom}
-use Rattle.apd_clauses.specs.Predicates.{is_pred, same_pred}
+use Rattle.apd_clauses.specs.Predicates.{is_pred}
 use Rattle.apd_clauses.proofs.Indexing.{same_pred-true}
 use Rattle.apd_clauses.specs.declared.kinds.Kind.{Kind}
 use Rattle.apd_clauses.specs.declared.kinds.Kind.TheVariants as kinds
@@ -34,12 +33,12 @@ use Rattle.apd_answers.specs.declared.question.Reply.TheVariants.{Yes, No, Value
 use Rattle.apd_answers.specs.declared.store.Pair.{Pair}
 use Rattle.apd_known.specs.Pairs.{IsStatable, MayCover}
 use Rattle.apd_known.specs.Statements.{is_own, is_of_own, is_own_atom, is_rule, pair_of, truth_stated, order_stated, values_stated, solution_stated, body_stated, cover_stated, reply_stated, truth_in}
-use Rattle.apd_known.specs.Told.{word_told, truth_told, values_told}
+use Rattle.apd_known.specs.Told.{word_told, values_told}
 use Rattle.apd_known.specs.declared.statements.Form.{Form}
 use Rattle.apd_known.specs.declared.statements.Form.TheVariants.{First, Second}
 use Rattle.apd_arith.specs.Truths.{is_ground}
 use Rattle.apd_known.specs.Truths.{is_true_if_builtin}
-use Rattle.apd_known.proofs.Telling.{no_yes, values_told_named, truth_told_fits, truth_told_named, word_told_fits, word_told_named}
+use Rattle.apd_known.proofs.Telling.{values_told_named, truth_told_fits, truth_told_named, word_told_fits, word_told_named}
 use Rattle.apd_arith.proofs.Tests.{all_ground, test_ground}
 use Rattle.apd_known.proofs.Truths.{all_pass}
 

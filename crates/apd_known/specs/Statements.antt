@@ -1,7 +1,7 @@
 -- What a clause of an oracle file states.
 use Rattle.std.specs.Prelude.{◌==◌, ◌&&◌, ◌+◌, ℤ, pos, negsuc, List, length, Bool, true, false, if◌then◌else◌, not, Option, None, Some, Result, Ok, Err}
 use Rattle.std.specs.List.{list_all}
-use Rattle.apd_term.specs.Term.{Term, Terms, variable, integer, compound, none, more, predicate_of}
+use Rattle.apd_term.specs.Term.{Term, integer, compound, none, more, predicate_of}
 use Rattle.apd_term.specs.Canonical.{canonical}
 use Rattle.apd_term.specs.declared.standard.TheConstants.{TRUE, COVERS, BELOW, FORM, NECK, TRUSTED}
 use Rattle.apd_term.specs.declared.tuple.Tuple.{Tuple}

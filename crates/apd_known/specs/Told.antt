@@ -1,7 +1,7 @@
 -- The reply that a term is.
-use Rattle.std.specs.Prelude.{◌==◌, List, [], ◌∷◌, Bool, if◌then◌else◌, Option, None, Some}
+use Rattle.std.specs.Prelude.{List, [], ◌∷◌, Bool, if◌then◌else◌, Option, None, Some}
 use Rattle.std.specs.Option.{option_map}
-use Rattle.apd_term.specs.Term.{Term, Terms, variable, integer, compound, none, more, arguments, predicate_of}
+use Rattle.apd_term.specs.Term.{Term, arguments, predicate_of}
 use Rattle.apd_term.specs.Listed.{listed}
 use Rattle.apd_term.specs.declared.standard.TheConstants.{YES, NO, UNKNOWN}
 use Rattle.apd_term.specs.declared.term.NameId.{NameId}

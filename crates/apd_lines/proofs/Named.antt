@@ -1,5 +1,5 @@
 -- The names of what was read of a line.
-use Rattle.std.proofs.Common.{◌≤◌, ◌*◌, ℕ, arith}
+use Rattle.std.proofs.Common.{◌≤◌, ℕ, arith}
 use Rattle.apd_base.specs.declared.limits.TheConstants.{MAX_LINE}
 use Rattle.apd_lines.specs.Lines.{LineIsNamed, LineIsReadOf}
 use Rattle.apd_lines.specs.declared.lines.LineRead.{LineRead}

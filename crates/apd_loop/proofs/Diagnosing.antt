@@ -13,7 +13,7 @@ use Rattle.apd_record.specs.Reading.{no_row, call_atom}
 use Rattle.apd_answers.specs.Store.{Store}
 use Rattle.apd_answers.specs.declared.question.Question.TheVariants as asking
 use Rattle.apd_answers.specs.declared.oracle.AskEnd.{AskEnd}
-use Rattle.apd_answers.specs.Dialogue.{goes, ends}
+use Rattle.apd_answers.specs.Dialogue.{goes}
 use Rattle.apd_answers.specs.Oracle.{Call}
 use Rattle.apd_answers.specs.Going.{Moment, at, Goes, Breaks}
 use Rattle.apd_answers.proofs.Going.{Goes-more, Goes-silent, Breaks-more}

@@ -14,7 +14,7 @@ use Rattle.apd_answers.specs.declared.question.Question.TheVariants as asking
 use Rattle.apd_answers.specs.declared.question.Reply.{Reply}
 use Rattle.apd_answers.specs.declared.question.Reply.TheVariants.{Yes, No, Values, Unknown}
 use Rattle.apd_answers.specs.Bugs.{earlier_atoms}
-use Rattle.apd_answers.specs.Questions.{Fits, is_yes}
+use Rattle.apd_answers.specs.Questions.{Fits}
 use Rattle.apd_answers.specs.Store.{Store, decided, is_doubted, with_pair, SomePair, TellsNo, TellsBelow, SaysYes, SaysNo, SaysBelow}
 use Rattle.apd_answers.specs.Dialogue.{Turn, asks, goes}
 use Rattle.apd_answers.specs.Findings.{Apart, said, through, Affirms, AllDescendByReplies}

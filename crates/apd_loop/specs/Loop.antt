@@ -1,6 +1,6 @@
 -- The diagnosis of a run that doesn't end (Shapiro 1983): among the calls of a chain it looks for one that isn't below its
 -- caller. Calls are numbered from 1.
-use Rattle.std.specs.Prelude.{ℕ, Bool, true, false, zero, suc, ◌+◌, ◌-◌, ◌/◌, nat_le, max, if◌then◌else◌, List, [], ◌∷◌, length, map, take, slice_get, Option, Some, None}
+use Rattle.std.specs.Prelude.{ℕ, zero, suc, ◌+◌, ◌-◌, ◌/◌, nat_le, max, if◌then◌else◌, List, [], ◌∷◌, length, map, take, slice_get, Option, Some, None}
 use Rattle.std.specs.Option.{unwrap_or}
 use Rattle.apd_term.specs.Term.{Term}
 use Rattle.apd_term.specs.Canonical.{canonical}

@@ -19,7 +19,7 @@ use Rattle.apd_answers.specs.Questions.{FitsAsked, is_yes}
 use Rattle.apd_answers.specs.Store.{Store, decided, with_pair}
 use Rattle.apd_answers.specs.Dialogue.{asks, goes, ends, next_turn}
 use Rattle.apd_answers.specs.Oracle.{Call, asking, telling}
-use Rattle.apd_answers.specs.Going.{Moment, at, Goes, Reaches, Breaks}
+use Rattle.apd_answers.specs.Going.{at, Breaks}
 use Rattle.apd_answers.specs.Going as ways
 use Rattle.apd_answers.proofs.Decided.{decided-truth}
 use Rattle.apd_answers.proofs.Fitted.{added_decided, decides-uncounted}

@@ -1,7 +1,6 @@
 -- The boxes that are looked at rise, and what comes next is a question that isn't decided or what was found by the replies.
-use Rattle.std.proofs.Common.{◌≡◌, ℕ, zero, suc, ◌-◌, ◌<◌, ◌≤◌, ◌&&◌, ◌||◌, inl, inr, true, false, List, [], ◌∷◌, length, Option, Some, None, refl, sym, ◌∙◌, ap, subst, arith}
+use Rattle.std.proofs.Common.{◌≡◌, ℕ, zero, suc, ◌-◌, ◌<◌, ◌&&◌, ◌||◌, inl, inr, true, false, List, [], ◌∷◌, length, Option, Some, None, refl, sym, ◌∙◌, ap, subst, arith}
 use Rattle.std.proofs.lemmas.Bool.{and_parts, or_parts}
-use Rattle.std.specs.Prelude.{slice_get}
 use Rattle.std.specs.Bool.{then_some}
 use Rattle.std.specs.Option.{option_or}
 use Rattle.std.specs.List.{list_all, list_any}
@@ -11,8 +10,7 @@ use Rattle.apd_term.specs.Tuple.{canonical_tuple}
 use Rattle.apd_term.specs.declared.tuple.Tuple.{Tuple}
 use Rattle.apd_term.proofs.Tuples.{IsTupleInstance-canonical, canonical_is_instance, AreTupleVariants_from_instances}
 use Rattle.apd_arith.specs.Truths.{is_ground}
-use Rattle.apd_record.specs.declared.rows.BoxRow.{BoxRow}
-use Rattle.apd_record.specs.Recorded.{Recorded, box_at, is_user_atom}
+use Rattle.apd_record.specs.Recorded.{Recorded, is_user_atom}
 use Rattle.apd_record.specs.Sound.{IsSound}
 use Rattle.apd_record.specs.Full.{IsFull}
 use Rattle.apd_answers.specs.declared.question.Question.{Question}

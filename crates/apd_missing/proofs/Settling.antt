@@ -1,5 +1,5 @@
 -- A question is settled by the store or by the oracle.
-use Rattle.std.proofs.Common.{◌≡◌, List, None, Result, Ok, Err, sym, subst}
+use Rattle.std.proofs.Common.{◌≡◌, None, Result, Ok, Err, sym, subst}
 use Rattle.std.specs.Prelude.{MatchResult, IsErr, IsErrAnd}
 use Rattle.apd_answers.specs.declared.question.Reply.{Reply}
 use Rattle.apd_answers.specs.declared.question.Asked.{Asked}

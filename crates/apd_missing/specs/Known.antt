@@ -1,5 +1,5 @@
 -- What is known of each goal that the diagnosis of a missing answer comes to.
-use Rattle.std.specs.Prelude.{◌≡◌, ℕ, ◌<◌, true, List, Option, Some, None}
+use Rattle.std.specs.Prelude.{◌≡◌, ℕ, ◌<◌, true, Option, Some, None}
 use Rattle.apd_term.specs.Term.{Term, IsGround}
 use Rattle.apd_term.specs.Substitution.{IsInstance}
 use Rattle.apd_arith.specs.Builtins.{builtin_of_atom}

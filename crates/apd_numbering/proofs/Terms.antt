@@ -2,7 +2,7 @@
 use Rattle.std.proofs.Common.{◌≡◌, ℕ, suc, ◌+◌, List, [], ◌∷◌, length, map, refl, sym, ◌∙◌, ap, Some}
 use Rattle.std.specs.List.{flat_map}
 use Rattle.std.specs.Option.{option_map}
-use Rattle.apd_term.specs.Term.{Term, Terms, variable, integer, compound, none, more, list_of, terms_of, apply, apply_all, variables, variables_all, size, size_all, arguments, predicate_of}
+use Rattle.apd_term.specs.Term.{Term, Terms, variable, integer, compound, none, more, list_of, apply, apply_all, variables, variables_all, size, size_all, arguments, predicate_of}
 use Rattle.apd_term.specs.Canonical.{canonical, canonical_in, by_appearance, place_of}
 use Rattle.apd_term.specs.Substitution.{IsInstance}
 use Rattle.apd_term.specs.Tuple.{apply_tuple, IsTupleInstance, variables_of_tuple, canonical_tuple, sizes, size_of_tuple}
@@ -53,10 +53,6 @@ mutual
 pub list_of-renumbered : (r : ℕ → ℕ) (ts : Terms) → list_of (renumbered_all r ts) ≡ renumbered_list r (list_of ts)
 list_of-renumbered r none = refl
 list_of-renumbered r (more t ts) = ap (λ us. renumbered r t ∷ us) (list_of-renumbered r ts)
-
-pub terms_of-renumbered : (r : ℕ → ℕ) (ts : List Term) → renumbered_all r (terms_of ts) ≡ terms_of (renumbered_list r ts)
-terms_of-renumbered r [] = refl
-terms_of-renumbered r (t ∷ ts) = ap (more (renumbered r t)) (terms_of-renumbered r ts)
 
 pub count-renumbered : (r : ℕ → ℕ) (ts : Terms) → length (list_of (renumbered_all r ts)) ≡ length (list_of ts)
 count-renumbered r none = refl

@@ -5,7 +5,7 @@ use Rattle.std.specs.Option.{option_map, option_or, unwrap_or}
 use Rattle.std.proofs.lemmas.Bool.Decides.{nat_tests}
 use Rattle.apd_term.specs.Term.{Term, Terms, variable, integer, compound, none, more, apply}
 use Rattle.apd_term.specs.Listed.{listed, listed_in}
-use Rattle.apd_term.specs.Matching.{same_term, same_terms, opposite, opposite_among, matching, is_instance}
+use Rattle.apd_term.specs.Matching.{same_term, same_terms, opposite, opposite_among, matching}
 use Rattle.apd_term.specs.Named.{IsNamed, AreNamed, AllNamed, TupleIsNamed, AllTuplesNamed}
 use Rattle.apd_term.specs.declared.standard.TheConstants.{CELL, NIL}
 use Rattle.apd_term.specs.declared.term.NameId.{NameId}
@@ -100,11 +100,6 @@ pub apply_matching-renumbered : (r : ℕ → ℕ) (general special t : Term) →
 apply_matching-renumbered r general special t =
     apply-same (matching (renumbered r general) (renumbered r special)) (λ v. renumbered r (matching general special v)) (matching-renumbered r general special) (renumbered r t)
     ∙ sym (renumbered-apply r (matching general special) t)
-
-pub is_instance-renumbered : (n : ℕ) (x : Renumbering n) (special general : Term) → is_instance (renumbered x.to special) (renumbered x.to general) ≡ is_instance special general
-is_instance-renumbered n x special general =
-    ap (λ t. same_term t (renumbered x.to special)) (apply_matching-renumbered x.to general special general)
-    ∙ same_term-renumbered n x (apply (matching general special) general) special
 
 -- Terms of the first names stay.
 

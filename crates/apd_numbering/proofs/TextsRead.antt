@@ -80,9 +80,3 @@ module _ (n : ℕ) (names others : List (List ℕ)) (b : Between n names others)
       → ReadAlike names others b.numbering.to o u
   kept-reading neither_reads i j = none_read
   kept-reading (both_reads p q h) i j = let k = twins-renumbered n names others b h.term i j in read_alike p q k.0 h.vars k.1
-
-  pub kept-term : {o u : Option Term} → TermsTwins (AreOfOneText names others) o u → IfSome o (IsNamed (length names)) → IfSome u (IsNamed (length others)) → TermsAlike names others b.numbering.to o u
-  kept-term no_term i j = none_alike
-  kept-term (both_terms t u h) i j =
-      let k = twins-renumbered n names others b h i j in
-      subst (λ v. TermsAlike names others b.numbering.to (Some t) (Some v)) (sym k.0) (terms_alike t k.1)

@@ -1,5 +1,5 @@
 -- The last name that is an operator.
-use Rattle.std.proofs.Common.{◌≡◌, ℕ, ◌≤◌, ◌<◌, Bool, true, false, Option, None, Some, refl, sym, ◌∙◌, arith}
+use Rattle.std.proofs.Common.{◌≡◌, ℕ, ◌≤◌, Bool, true, false, Option, Some, refl, sym, ◌∙◌, arith}
 use borrow.Author.Tests.{eqb-true, leb-true}
 use Rattle.std.specs.Prelude.{nat_eq, nat_le, ◌&&◌, not, if◌then◌else◌}
 use Rattle.apd_term.specs.declared.standard.TheConstants.{BIT_NOT}
@@ -11,18 +11,6 @@ use Rattle.apd_ops.specs.Ending.{EndsBy}
 use Rattle.apd_ops.proofs.Entries.{Entry}
 use Rattle.apd_ops.proofs.Looked.{given, prefix_at, infix_at}
 use Rattle.apd_ops.proofs.StandardTable.{all_of, in_prefixes, in_infixes}
-
-module _ (t : Table) (last f : ℕ) where
-  none_beyond : (o : Option Meaning) → ((m : Meaning) → o ≡ Some m → f ≤ last) → last < f → o ≡ None
-  none_beyond None low far = refl
-  none_beyond (Some m) low far = let l = low m refl in absurd (omega (arith, l, far))
-
-  -- a name behind the last one is no operator
-  pub no_prefix : EndsBy t last → last < f → prefix_in t f ≡ None
-  no_prefix ends far = none_beyond (prefix_in t f) (λ m h. ends.prefixes f m h) far
-
-  pub no_infix : EndsBy t last → last < f → infix_in t f ≡ None
-  no_infix ends far = none_beyond (infix_in t f) (λ m h. ends.infixes f m h) far
 
 -- a later name will do
 pub ends_later : (t : Table) (last next : ℕ) → last ≤ next → EndsBy t last → EndsBy t next

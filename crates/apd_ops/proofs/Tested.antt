@@ -1,12 +1,12 @@
 -- The test for a clash says what the relation says.
-use Rattle.std.proofs.Common.{◌≡◌, ◌≢◌, ℕ, ℤ, pos, negsuc, ◌≤◌, ◌<ℤ◌, Ok, Err, leb-true, leb-false, ◌<◌, List, [], ◌∷◌, ◌++◌, Bool, true, false, cond, Option, None, Some, Less, Equal, Greater, ◌⊎◌, inl, inr, refl, sym, ◌∙◌, ap, subst, eq-eqb, arith, map}
-use Rattle.std.proofs.lemmas.Bool.{ltb-true, and_parts, or_cases, or_left, or_right, and_from}
+use Rattle.std.proofs.Common.{◌≡◌, ◌≢◌, ℕ, ℤ, pos, negsuc, ◌≤◌, ◌<ℤ◌, Ok, Err, leb-true, leb-false, List, [], ◌∷◌, ◌++◌, Bool, true, false, cond, Option, None, Some, Less, Equal, Greater, ◌⊎◌, inl, inr, refl, sym, ◌∙◌, ap, subst, eq-eqb, arith}
+use Rattle.std.proofs.lemmas.Bool.{and_parts, or_cases, or_left, or_right, and_from}
 use Rattle.std.proofs.lemmas.Int.{ints}
 use borrow.Author.Tests.{eqb-true}
 use Rattle.std.specs.Prelude.{nat_eq, nat_le, nat_lt, ◌||◌, ◌&&◌, if◌then◌else◌, is_some}
 use Rattle.std.specs.List.{list_any}
 use Rattle.std.specs.Ordering.{nat_cmp, is_eq, eq_by_cmp}
-use Rattle.std.specs.FinMap.{FinMap, get, keys, contains_key-keys}
+use Rattle.std.specs.FinMap.{get, keys, contains_key-keys}
 use Rattle.apd_term.specs.declared.term.NameId.{NameId}
 use Rattle.apd_term.specs.declared.standard.TheConstants.{COMMA, BAR, NIL, CURLY}
 use Rattle.apd_ops.specs.declared.op.OpFault.{OpFault}

@@ -42,9 +42,6 @@ moved-none : (o : Option Parts) → moved [] o ≡ o
 moved-none None = refl
 moved-none (Some p) = refl
 
-pub cut-start : (bytes text : List ℕ) → cut bytes text ≡ moved (take 0 text) (cut bytes (drop 0 text))
-cut-start bytes text = sym (moved-none (cut bytes text))
-
 -- one place further
 pub cut-later : (bytes text : List ℕ) (i : ℕ) → i < length text → after bytes (drop i text) ≡ None → moved (take i text) (cut bytes (drop i text)) ≡ moved (take (i + 1) text) (cut bytes (drop (i + 1) text))
 cut-later bytes text i l e = let n : i + 1 ≡ suc i = omega arith in rw n (by text i l e)

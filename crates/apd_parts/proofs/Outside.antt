@@ -5,7 +5,6 @@ use Rattle.std.specs.Option.{option_map}
 use Rattle.std.proofs.lemmas.List.{append-nil, length-drop}
 use Rattle.apd_parts.specs.Parts.{Boxed, Led, box_outside, boxed_behind, boxed_in, digits_first, quote_after}
 use Rattle.apd_parts.specs.declared.boxes.Quote.{Quote}
-use Rattle.apd_parts.specs.declared.boxes.Quote.TheVariants.{Outside}
 
 -- what stands before is one with the bytes that were passed
 abbrev pub with_front : List ℕ → Boxed → Boxed
@@ -21,9 +20,6 @@ with-byte b front (Some p) = refl
 pub with-none : (o : Option Boxed) → boxed_with [] o ≡ o
 with-none None = refl
 with-none (Some p) = refl
-
-pub outside-start : (text : List ℕ) → boxed_in Outside text ≡ boxed_with (take 0 text) (boxed_in Outside (drop 0 text))
-outside-start text = sym (with-none (boxed_in Outside text))
 
 pub outside-later : (quote : Quote) (text : List ℕ) (i : ℕ) → i < length text → box_outside quote (drop i text) ≡ None
     → boxed_with (take i text) (boxed_in quote (drop i text)) ≡ boxed_with (take (i + 1) text) (boxed_in (quote_after quote (get_or text i 0)) (drop (i + 1) text))
@@ -47,13 +43,6 @@ outside-here quote text a i l e = by (drop i text) (omega (arith, l, length-drop
     by : (t : List ℕ) → 0 < length t → box_outside quote t ≡ Some a → boxed_with (take i text) (boxed_in quote t) ≡ Some (record { front = take i text; led = a })
     by [] k f = absurd (omega (arith, k))
     by (b ∷ t) k f = rw f (ap (λ (front : List ℕ). Some (record { front = front; led = a })) (append-nil (take i text)))
-
-pub outside-nowhere : (quote : Quote) (text : List ℕ) (i : ℕ) → length text ≤ i → boxed_with (take i text) (boxed_in quote (drop i text)) ≡ None
-outside-nowhere quote text i l = by (drop i text) (let d = length-drop i text in omega (arith, l, d))
-  where
-    by : (t : List ℕ) → length t ≤ 0 → boxed_with (take i text) (boxed_in quote t) ≡ None
-    by [] k = refl
-    by (b ∷ t) k = absurd (omega (arith, k))
 
 -- digits that stand first
 pub one-digit : (text : List ℕ) (i : ℕ) → i < length text → is_ascii_digit (get_or text i 0) ≡ true → i + digits_first (drop i text) ≡ (i + 1) + digits_first (drop (i + 1) text)

@@ -10,14 +10,13 @@ use Rattle.apd_cells.specs.declared.heap.Note.{Note}
 use Rattle.apd_cells.specs.declared.heap.Note.TheVariants.{Loaded, Bound}
 use Rattle.apd_cells.specs.declared.heap.Binding.TheVariants.{Free}
 use Rattle.apd_cells.specs.Stored.{Stored}
-use Rattle.apd_cells.specs.Store.{written, term_at, binding_of, bound, MayBind, IsStore, IsSound}
+use Rattle.apd_cells.specs.Store.{written, term_at, binding_of, MayBind, IsStore, IsSound}
 use Rattle.apd_cells.proofs.Written.{written-take}
 use Rattle.apd_cells.proofs.Meaning.{HasCells-of, binding-same, binding-other}
 use Rattle.apd_cells.proofs.Following.{written-variable}
 use Rattle.apd_cells.proofs.Touching.{occurs_in_cells}
 use Rattle.apd_cells.proofs.Numbering.{is_numbered, occurs_in_image}
 use Rattle.apd_past.specs.declared.past.PastCell.{PastCell}
-use Rattle.apd_past.specs.History.{unbound}
 use Rattle.apd_past.specs.Mirror.{place, name, renamed, bindings_there, AreRising, StandsIn}
 use Rattle.apd_past.proofs.Mirrored.{name_other, same_there}
 
@@ -71,32 +70,6 @@ bind_there s t places names v c h i b =
           let g = b.down k.0 k.1 in
           omega (arith, i.rising k.0 v g m, k.2));
     }
-
-pub bound_there : (s t : Stored) (places : List PastCell) (names : List ℕ) (v c : ℕ) → StandsIn s t places names
-    → StandsIn (bound s v c) (bound t (name names v) (place places c)) places names
-bound_there s t places names v c i = record {
-  cells = i.cells;
-  variables = i.variables;
-  rising = i.rising;
-  below = i.below;
-  inside = i.inside;
-  terms = i.terms;
-  bindings = ap (λ z. Bound (name names v) (place places c) ∷ z) i.bindings;
-}
-
--- the newest binding is taken back on both sides
-pub unbound_there : (cells : List Sym) (n : ℕ) (notes : List Note) (v c : ℕ) (t : Stored) (places : List PastCell) (names : List ℕ)
-    → StandsIn (record { cells = cells; variables = n; trail = Bound v c ∷ notes }) t places names
-    → StandsIn (record { cells = cells; variables = n; trail = notes }) (unbound t) places names
-unbound_there cells n notes v c t places names i = record {
-  cells = i.cells;
-  variables = i.variables;
-  rising = i.rising;
-  below = i.below;
-  inside = i.inside;
-  terms = i.terms;
-  bindings = ap (drop 1) i.bindings;
-}
 
 -- the bindings there don't depend on places and names that aren't used
 pub bindings_agree : (cells : List Sym) (n : ℕ) (notes : List Note) (places places' : List PastCell) (names names' : List ℕ) → IsStore cells n notes

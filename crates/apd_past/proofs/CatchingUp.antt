@@ -1,25 +1,21 @@
 -- A past catches up with a store.
-use Rattle.std.proofs.Common.{◌≡◌, ℕ, ◌+◌, ◌-◌, ◌<◌, ◌≤◌, List, length, take, drop, refl, sym, ◌∙◌, ap, subst, arith}
+use Rattle.std.proofs.Common.{◌≡◌, ℕ, ◌+◌, ◌≤◌, List, length, take, drop, refl, sym, ◌∙◌, ap, subst, arith}
 use Rattle.std.proofs.lemmas.List.{take_at, length-append}
 use Rattle.apd_term.specs.declared.term.Sym.{Sym}
 use Rattle.apd_cells.specs.declared.heap.Note.TheVariants.{Loaded, Bound}
 use Rattle.apd_cells.specs.Stored.{Stored}
-use Rattle.apd_cells.specs.Store.{at_mark, before_note, IsSound}
-use Rattle.apd_cells.proofs.Keeping.{at_mark-at_mark, length-before}
+use Rattle.apd_cells.specs.Store.{at_mark, IsSound}
 use Rattle.apd_cells.proofs.Undoing.{at_mark-here}
 use Rattle.apd_past.specs.declared.follow.Had.{Had}
 use Rattle.apd_past.specs.declared.mirror.Mirror.{Mirror}
 use Rattle.apd_past.specs.Follows.{Follows, with_load}
-use Rattle.apd_past.specs.Live.{HasExtentAt, MayCatchUp}
-use Rattle.apd_past.proofs.Marks.{IsStep, before_at, binding_step, front_at_mark, loading_step, sound_at_mark}
+use Rattle.apd_past.specs.Live.{HasExtentAt}
+use Rattle.apd_past.proofs.Marks.{IsStep, binding_step, front_at_mark, loading_step, sound_at_mark}
 
 -- no load was found between two places of the trail
 pub record IsQuiet (s : Stored) (at next : ℕ) : Type 0 where
   pub cells : length (at_mark at s).cells ≡ length (at_mark next s).cells
   pub variables : (at_mark at s).variables ≡ (at_mark next s).variables
-
-pub quiet_first : (s : Stored) (at : ℕ) → IsQuiet s at at
-quiet_first s at = record { cells = refl; variables = refl }
 
 pub quiet_more : (s : Stored) (at next v c : ℕ) → IsSound s → IsStep s next (Bound v c) → IsQuiet s at next → IsQuiet s at (next + 1)
 quiet_more s at next v c h p q =
@@ -46,25 +42,6 @@ pub record IsGoingBack (m : Mirror) (s : Stored) (kept : ℕ) : Type 0 where
   pub follows : Follows m store
   pub long : kept ≤ length store.trail
   pub same : at_mark kept store ≡ at_mark kept s
-
-pub back_first : (m : Mirror) (s : Stored) (kept : ℕ) → IsSound s → Follows m s → kept ≤ length s.trail → IsGoingBack m s kept
-back_first m s kept h f l = record { store = s; sound = h; follows = f; long = l; same = refl }
-
-pub back_more : (m m' : Mirror) (s : Stored) (kept : ℕ) → IsGoingBack m s kept → kept < length m.notes
-    → ((r : Stored) → IsSound r → Follows m r → Follows m' (before_note r.cells r.variables r.trail)) → IsGoingBack m' s kept
-back_more m m' s kept g l b =
-    let r = g.store in
-    let count : length m.notes ≡ length r.trail = ap length g.follows.notes_are in
-    let is : before_note r.cells r.variables r.trail ≡ at_mark (length r.trail - 1) r = before_at r (omega (arith, count, l)) in
-    let shorter : kept ≤ length r.trail - 1 = omega (arith, count, l) in
-    let within : length r.trail - 1 ≤ length r.trail = omega arith in
-    record {
-      store = at_mark (length r.trail - 1) r;
-      sound = sound_at_mark (length r.trail - 1) r g.sound;
-      follows = subst (Follows m') is (b r g.sound g.follows);
-      long = omega (arith, count, l, length-before r.cells r.variables r.trail (length r.trail - (length r.trail - 1)));
-      same = at_mark-at_mark kept (length r.trail - 1) r shorter within ∙ g.same;
-    }
 
 pub back_last : (m : Mirror) (s : Stored) (kept : ℕ) → IsGoingBack m s kept → length m.notes ≤ kept → Follows m (at_mark kept s)
 back_last m s kept g l =
@@ -105,8 +82,3 @@ loading s k c m had symbols h p e q =
 
 pub loaded_within : (s : Stored) (k c m : ℕ) (had : Had) → IsSound s → IsStep s k (Loaded c m) → HasExtentAt s (k + 1) had → c ≤ had.cells
 loaded_within s k c m had h p e = (let j = loading_step s k c m h p in omega (arith, j.within, e.cells_are))
-
--- where catching up begins
-pub catching_first : (m : Mirror) (s : Stored) (kept : ℕ) (m' : Mirror) → MayCatchUp m s kept
-    → ((r : Stored) → IsSound r → Follows m r → kept ≤ length r.trail → Follows m' (at_mark kept r)) → Follows m' (at_mark kept s)
-catching_first m s kept m' h b = subst (Follows m') h.same (b h.earlier h.sound h.follows h.there)

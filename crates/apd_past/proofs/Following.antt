@@ -1,5 +1,5 @@
 -- A past that follows a store step by step.
-use Rattle.std.proofs.Common.{◌≡◌, ℕ, ◌+◌, ◌<◌, ◌≤◌, List, [], ◌∷◌, ◌++◌, length, map, reverse, take, sym, ◌∙◌, ap, subst, arith}
+use Rattle.std.proofs.Common.{◌≡◌, ℕ, ◌+◌, ◌<◌, ◌≤◌, List, ◌∷◌, ◌++◌, length, map, reverse, take, sym, ◌∙◌, ap, subst, arith}
 use Rattle.std.specs.List.{flat_map}
 use Rattle.apd_term.specs.declared.term.Sym.{Sym}
 use Rattle.apd_term.specs.Spelling.{variable_in}
@@ -14,21 +14,12 @@ use Rattle.apd_cells.specs.Store.{before_note, IsStore, IsSound}
 use Rattle.apd_past.specs.declared.past.PastCell.{PastCell}
 use Rattle.apd_cells.proofs.Loading.{above-ge}
 use Rattle.apd_past.specs.declared.deeds.Deed.{Deed}
-use Rattle.apd_past.specs.History.{History, bindings_after, present, unbound, with_terms}
+use Rattle.apd_past.specs.History.{History, bindings_after, present, with_terms}
 use Rattle.apd_past.specs.Follows.{with_load}
 use Rattle.apd_past.specs.Mirror.{place, renamed_symbol, StandsIn}
-use Rattle.apd_past.specs.Names.{AreGoodNames, HasMoreNames, ArePlacedFrom}
-use Rattle.apd_past.proofs.Catching.{unbound_there, unloaded_there}
+use Rattle.apd_past.specs.Names.{HasMoreNames, ArePlacedFrom}
+use Rattle.apd_past.proofs.Catching.{unloaded_there}
 use Rattle.apd_past.proofs.Carrying.{ArePlaced, AreNamed, loaded_there, terms_behind, terms_renamed}
-
-pub before_bound : (s : Stored) (v c : ℕ) (notes : List Note) (t t' : Stored) (places : List PastCell) (names : List ℕ) → s.trail ≡ Bound v c ∷ notes
-    → StandsIn s t places names → t' ≡ unbound t → StandsIn (before_note s.cells s.variables s.trail) t' places names
-before_bound s v c notes t t' places names e i u =
-    let j : StandsIn (record { cells = s.cells; variables = s.variables; trail = Bound v c ∷ notes }) t places names =
-    subst (λ z. StandsIn (record { cells = s.cells; variables = s.variables; trail = z }) t places names) e i in
-    subst (λ z. StandsIn (before_note s.cells s.variables z) t' places names) (sym e)
-    (subst (λ z. StandsIn (record { cells = s.cells; variables = s.variables; trail = notes }) z places names) (sym u)
-    (unbound_there s.cells s.variables notes v c t places names j))
 
 pub before_loaded : (s : Stored) (c n : ℕ) (notes : List Note) (t : Stored) (places places' : List PastCell) (names names' : List ℕ) → IsSound s → s.trail ≡ Loaded c n ∷ notes
     → StandsIn s t places names → places' ≡ take c places → names' ≡ take n names → StandsIn (before_note s.cells s.variables s.trail) t places' names'
@@ -43,13 +34,6 @@ before_loaded s c n notes t places places' names names' h e i p q =
 pub notes_before : (s : Stored) (note : Note) (notes : List Note) → s.trail ≡ note ∷ notes → notes ≡ (before_note s.cells s.variables s.trail).trail
 notes_before s (Bound v c) notes e = ap (λ z. (before_note s.cells s.variables z).trail) (sym e)
 notes_before s (Loaded c n) notes e = ap (λ z. (before_note s.cells s.variables z).trail) (sym e)
-
-pub before_nothing : (s : Stored) → s.trail ≡ [] → before_note s.cells s.variables s.trail ≡ s
-before_nothing s e = ap (before_note s.cells s.variables) e ∙ ap (λ (z : List Note). record { cells = s.cells; variables = s.variables; trail = z }) (sym e)
-
--- a load
-pub good_of : (s t : Stored) (places : List PastCell) (names : List ℕ) → StandsIn s t places names → AreGoodNames names t.variables
-good_of s t places names i = record { rising = i.rising; below = i.below }
 
 -- the symbols that are loaded have names for their variables
 pub known_names : (s : Stored) (symbols : List Sym) (n v : ℕ) → IsSound (with_load s symbols n) → IsAmong (flat_map variable_in symbols) v → v < n

@@ -148,13 +148,3 @@ loading_step s k c m h p =
           ∙ ap (λ (z : ℕ). record { cells = take c b.cells ++ drop c b.cells; variables = b.variables; trail = Loaded z m ∷ p.rest }) (sym count)
           ∙ ap (λ (x : Stored). with_load x (drop c b.cells) b.variables) (sym a);
     }
-
--- a store before its newest note, by its mark
-pub before_at : (s : Stored) → 0 < length s.trail → before_note s.cells s.variables s.trail ≡ at_mark (length s.trail - 1) s
-before_at s l = by s.trail refl
-  where
-    by : (notes : List Note) → s.trail ≡ notes → before_note s.cells s.variables s.trail ≡ at_mark (length s.trail - 1) s
-    by [] e = absurd (omega (arith, l, ap length e))
-    by (note ∷ notes) e =
-        let k : length notes ≡ length s.trail - 1 = omega (arith, ap length e) in
-        sym (before_is s note notes e) ∙ ap (λ z. at_mark z s) k

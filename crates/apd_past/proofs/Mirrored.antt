@@ -143,14 +143,6 @@ same_there s t places names c h i l =
     ap (λ z. apply (meaning t.cells z) (written t.cells (place places c))) i.bindings
     ∙ term_there s.cells s.variables s.trail t.cells places names c h few (meaning_there s.cells s.variables s.trail t.cells places names h few i.rising i.terms) l (i.terms c l)
 
--- and so in canonical form
-pub canonical_there : (s t : Stored) (places : List PastCell) (names : List ℕ) (c : ℕ) → IsSound s → StandsIn s t places names → c < length s.cells
-    → canonical (term_at t (place places c)) ≡ canonical (term_at s c)
-canonical_there s t places names c h i l =
-    ap canonical (same_there s t places names c h i l)
-    ∙ canonical-renamed (name names) (λ x. place_of names x - 1) (term_at s c)
-    (λ v o. name_back names v i.rising (omega (arith, i.variables, (is_numbered s h).below c v l o)))
-
 -- the same of goals
 goals_there : (s t : Stored) (places : List PastCell) (names : List ℕ) (goals : List ℕ) → IsSound s → StandsIn s t places names → ((c : ℕ) → IsAmong goals c → c < length s.cells)
     → terms_at t (places_of places goals) ≡ map (renamed names) (map (term_at s) goals)

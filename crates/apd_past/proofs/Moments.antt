@@ -3,7 +3,7 @@ use Rattle.std.proofs.Common.{◌≡◌, ◌≢◌, inl, inr, ℕ, ◌<◌, ◌�
 use Rattle.std.specs.List.{flat_map}
 use Rattle.std.proofs.lemmas.Bool.{cases_eq}
 use Rattle.std.proofs.lemmas.Bool.Decides.{nat_tests}
-use Rattle.std.proofs.lemmas.List.{take-append-drop, take-append-le, take_all, reverse-append, get_or_append_left, length-append, append-nil}
+use Rattle.std.proofs.lemmas.List.{take-append-drop, take-append-le, reverse-append, get_or_append_left, length-append, append-nil}
 use Rattle.std.proofs.lemmas.List.Concat.{flat_map-append}
 use Rattle.apd_term.specs.declared.term.Sym.{Sym}
 use Rattle.apd_term.specs.declared.term.Sym.TheVariants.{Var}
@@ -22,7 +22,7 @@ use Rattle.apd_cells.proofs.Meaning.{HasCells-of, binding-same, binding-other}
 use Rattle.apd_cells.proofs.Loading.{above-ge, above-gt, IsTerms-append}
 use Rattle.apd_past.specs.declared.deeds.Deed.{Deed}
 use Rattle.apd_past.specs.Done.{Done, to_of, with_variables}
-use Rattle.apd_past.specs.History.{History, after_deed, bindings_after, store_after, at_moment, present, with_terms, with_done, IsRightDeed, IsRight, variables_of, IsPast}
+use Rattle.apd_past.specs.History.{History, after_deed, bindings_after, at_moment, with_terms, IsRightDeed, IsRight, variables_of, IsPast}
 
 -- deeds that were right leave a store's bindings
 sound_after : (cells : List Sym) (n : ℕ) (notes : List Note) (v : ℕ) (o : Option ℕ) → IsRightDeed cells n notes v o → IsStore cells n notes → IsStore cells n (after_deed v o notes)
@@ -163,12 +163,6 @@ term_kept h more m c r l = term-more h.cells more h.variables (bindings_after (r
 -- one more deed
 pub last_first : (deeds : List Deed) (d : Deed) → reverse (deeds ++ d ∷ []) ≡ d ∷ reverse deeds
 last_first deeds d = reverse-append deeds (d ∷ [])
-
-pub moment_kept : (h : History) (v : ℕ) (o : Option ℕ) (m : ℕ) → m ≤ length h.deeds → at_moment m (with_done h v o) ≡ at_moment m h
-moment_kept h v o m l = ap (λ ds. store_after h (reverse ds)) (take-append-le m h.deeds (record { variable = v; to = o } ∷ []) l)
-
-pub present_at : (h : History) (m : ℕ) → length h.deeds ≤ m → at_moment m h ≡ present h
-present_at h m l = ap (λ ds. store_after h (reverse ds)) (take_all m h.deeds l)
 
 pub past_done : (cells : List Sym) (n : ℕ) (deeds new : List Deed) (bound bound' : List ℕ) (v : ℕ) (o : Option ℕ) → IsPast cells n deeds bound
     → IsRightDeed cells n (bindings_after (reverse deeds)) v o → new ≡ deeds ++ record { variable = v; to = o } ∷ []

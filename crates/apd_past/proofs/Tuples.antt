@@ -42,12 +42,6 @@ head_written t seen new r none n =
     written_kept seen new (flat_map variables t.body) (order_of t) t.head r n
     (order_next seen new (flat_map variables t.body) t.head r n ∙ ap (λ s. fold with_new s (variables_of_tuple t)) none)
 
-pub writing_first : (t : Tuple) (seen new : List ℕ) (r : Term) (body : List Term) → seen ≡ [] → IsNumbered seen new t.head r → body ≡ [] → IsWriting t new t.body body
-writing_first t seen new r body none n empty = record {
-  order = order_next seen new (flat_map variables t.body) t.head r n ∙ ap (λ s. fold with_new s (variables_of_tuple t)) none;
-  goals = ap (λ b. b ++ map (canonical_in (order_of t)) t.body) empty;
-}
-
 pub writing_more : (t : Tuple) (seen new : List ℕ) (x r : Term) (left body more : List Term) → IsWriting t seen (x ∷ left) body → IsNumbered seen new x r → more ≡ body ++ r ∷ []
     → IsWriting t new left more
 writing_more t seen new x r left body more w n is =

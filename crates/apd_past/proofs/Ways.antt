@@ -136,25 +136,6 @@ linked_more kept new newest x v n h few l e is b j made =
     } in
     subst (λ z. AreLinked z (set newest v (Some n))) (sym made) right
 
--- one more variable
-pub linked_wider : (kept : List KeptDeed) (newest new : List (Option ℕ)) → AreLinked kept newest → new ≡ newest ++ None ∷ [] → AreLinked kept new
-linked_wider kept newest new h made =
-    let total : length (newest ++ None ∷ []) ≡ length newest + 1 = length-append newest (None ∷ []) in
-    let right : AreLinked kept (newest ++ None ∷ []) = record {
-      few = h.few;
-      ways = h.ways;
-      below = λ v i on. omega (arith, h.below v i on, total);
-      newest_is = λ v l. elim (cases_eq v (length newest)) [
-        | inl q ↦
-            let none : get_or (newest ++ None ∷ []) v None ≡ None = ap (λ z. get_or (newest ++ None ∷ []) z None) q ∙ get_or-append_seam newest None [] None in
-            subst (IsNewest (deeds_of kept) v (length kept)) (sym none) (λ i s on. absurd (omega (arith, h.below v i on, q)))
-        | inr o ↦
-            let m : v < length newest = omega (arith, l, total, o) in
-            subst (IsNewest (deeds_of kept) v (length kept)) (sym (get_or_append_left newest (None ∷ []) None v m)) (h.newest_is v m)
-      ];
-    } in
-    subst (AreLinked kept) (sym made) right
-
 -- the newest deed before a moment is sought among the newest ones before a later place
 pub record Seeks (deeds : List Deed) (v m : ℕ) (o : Option ℕ) : Type 0 where
   pub above : ℕ
@@ -222,17 +203,6 @@ seeks_first kept newest v m o x h l there e is = record {
   later = l;
   newest = subst (IsNewest (deeds_of kept) v (length kept)) (read_at newest v x None there e ∙ sym is) (h.newest_is v there);
 }
-
--- no deed is one on a variable that isn't there
-pub none_above : (kept : List KeptDeed) (newest : List (Option ℕ)) (v m : ℕ) → AreLinked kept newest → length newest ≤ v → IsNewest (deeds_of kept) v m None
-none_above kept newest v m h l = λ i s on. absurd (omega (arith, h.below v i on))
-
--- found
-pub found : (deeds : List Deed) (v m at : ℕ) → Seeks deeds v m (Some at) → at < m → IsNewest deeds v m (Some at)
-found deeds v m at h l = (l, h.newest.1, λ i g s on. h.newest.2 i g (omega (arith, h.later)) on)
-
-pub found_none : (deeds : List Deed) (v m : ℕ) → Seeks deeds v m None → IsNewest deeds v m None
-found_none deeds v m h = λ i s on. h.newest i (omega (arith, h.later)) on
 
 -- what the deed at a place says
 abbrev pub to_in : List Deed → Option ℕ → Option ℕ

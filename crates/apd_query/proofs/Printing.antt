@@ -31,11 +31,6 @@ pub event_prints : (ops : Table) (names vars : List (List ℕ)) (admission : Adm
 event_prints ops names vars admission x y count e line (Ok u) admitted is prints = (rw admitted (line_all x y line (port_text ops names e) is prints), refl)
 event_prints ops names vars admission x y count e line (Err fault) admitted is prints = rw admitted (line_front x y line (port_text ops names e) fault is prints)
 
-pub answer_prints : (ops : Table) (names vars : List (List ℕ)) (admission : Admission) (x y : Option (List ℕ)) (count number : ℕ) (a : Term) (line : Result (List ℕ) AllocError) →
-    number ≡ next_number count → IfOk line (λ t. t ≡ answer_text ops names vars number a) → PrintsLine x y line (Ok tt) → Prints ops names vars admission x y count number (Answer a) (Ok tt)
-answer_prints ops names vars admission x y count number a line counts is prints =
-    (subst (λ (n : ℕ). Adds x y (answer_text ops names vars n a)) counts (line_all x y line (answer_text ops names vars number a) is prints), counts)
-
 pub answer_fails : (ops : Table) (names vars : List (List ℕ)) (admission : Admission) (x y : Option (List ℕ)) (count number : ℕ) (a : Term) (line : Result (List ℕ) AllocError) (fault : HookFault) →
     number ≡ next_number count → IfOk line (λ t. t ≡ answer_text ops names vars number a) → PrintsLine x y line (Err fault) → Prints ops names vars admission x y count count (Answer a) (Err fault)
 answer_fails ops names vars admission x y count number a line fault counts is prints =

@@ -76,9 +76,6 @@ Stands-append o (Operator q ∷ xs) ys (inr s) = elim (Stands-append o xs ys s) 
 pub Stands-here : (ls : List Piece) (o : Op) (rs : List Piece) → Stands o (ls ++ Operator o ∷ rs)
 Stands-here ls o rs = Stands-right o ls (Operator o ∷ rs) (inl refl)
 
-pub Stands-behind : (ls : List Piece) (o : Op) (rs : List Piece) (q : Op) → Stands q rs → Stands q (ls ++ Operator o ∷ rs)
-Stands-behind ls o rs q s = Stands-right q ls (Operator o ∷ rs) (inr s)
-
 -- each operator of a term's pieces has at most the priority for which they are read
 pub bounded : {p : ℕ} {ps : List Piece} {t : Phrase} → Reads p ps t → (q : Op) → Stands q ps → q.priority ≤ p
 bounded one_operand q s = absurd s
@@ -216,10 +213,6 @@ Splits-unique (at_infix ls o rs m k l a b) (at_infix ms q ns n i j c d) e =
       | earlier xs x y ↦ absurd (not_earlier ls o rs ms q ns xs m n e x y)
       | later xs x y ↦ absurd (not_earlier ms q ns ls o rs xs n m (sym e) x y)
     ]
-
--- in a table without a clash the grammar has at most one term for the pieces
-pub Reads-unique : {p q : ℕ} {ps : List Piece} {t u : Phrase} → HasNoClash ps → Reads p ps t → Reads q ps u → t ≡ u
-Reads-unique c a b = Splits-unique (Splits_from_Reads c a) (Splits_from_Reads c b) refl
 
 -- two operators that cannot stand in one term: the second fits neither on the right of the first nor above it,
 -- and those between are weaker than the second

@@ -4,7 +4,7 @@ use Rattle.std.proofs.lemmas.List.{append-nil}
 use Rattle.apd_term.specs.declared.term.NameId.{NameId}
 use Rattle.apd_term.specs.Names.{number_of, with_name}
 use Rattle.apd_term.specs.Growth.{GrowsBy}
-use Rattle.apd_term.proofs.Naming.{number_of-append, with_name_adds, number_of-with_name, number_of_with_name_within}
+use Rattle.apd_term.proofs.Naming.{number_of-append, number_of-with_name, number_of_with_name_within}
 use Rattle.apd_token.specs.declared.items.Kind.{Kind}
 use Rattle.apd_token.specs.declared.items.Kind.TheVariants as kinds
 use Rattle.apd_token.specs.declared.items.Token.{Token}
@@ -21,9 +21,6 @@ grown_none xs = ([], sym (append-nil xs), omega arith)
 
 pub grown_at_most : (old new : List (List ℕ)) (m n : ℕ) → m ≤ n → GrowsBy m old new → GrowsBy n old new
 grown_at_most old new m n le g = let few = g.2 in (g.0, g.1, omega arith)
-
-pub grown_name : (names : List (List ℕ)) (v : List ℕ) → GrowsBy 1 names (with_name names v)
-grown_name names v = with_name_adds names v
 
 pub grown_both : (a b c : List (List ℕ)) (m n : ℕ) → GrowsBy m a b → GrowsBy n b c → GrowsBy (m + n) a c
 grown_both a b c m n g h =

@@ -37,7 +37,7 @@ use Rattle.apd_reading_back.proofs.Scanned.{scan_whole}
 use Rattle.apd_reading_back.proofs.Shown.{phrase}
 use Rattle.apd_reading_back.proofs.SpelledUtf8.{text_utf8}
 use Rattle.apd_reading_back.proofs.Words as words
-use Rattle.apd_reading_back.proofs.Words.{Word, Blank, kind_of, bytes_of, piece, pieces, spelled, variables_in, lexed, StandAt, pieces-append, spelled-append, text-pieces, variables_in-append}
+use Rattle.apd_reading_back.proofs.Words.{Word, Blank, kind_of, bytes_of, piece, pieces, spelled, variables_in, lexed, pieces-append, spelled-append, text-pieces, variables_in-append}
 
 -- The tokens of a line's words, with others behind them.
 module _ (names : List (List ℕ)) where

@@ -1,6 +1,6 @@
 -- The places of a tuple while it is written: those of its head and of its first goals stand behind those from before.
 use Rattle.std.proofs.Common.{◌≡◌, ℕ, suc, ◌+◌, ◌<◌, ◌≤◌, List, ◌∷◌, [], ◌++◌, length, take, drop, get_or, append_assoc, sym, ◌∙◌, ap, arith}
-use Rattle.std.proofs.lemmas.List.{get_or_at, length-append, length-map, length-take-le, take_all, take_more}
+use Rattle.std.proofs.lemmas.List.{get_or_at, length-append, length-map, take_all, take_more}
 use Rattle.std.proofs.lemmas.List.Prefix.{front_rest}
 use Rattle.apd_term.specs.Term.{Term, variable}
 use Rattle.apd_term.specs.declared.tuple.Tuple.{Tuple}

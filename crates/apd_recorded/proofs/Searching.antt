@@ -62,9 +62,6 @@ settled_noted R n x port h i p le at = settled-grown R (noted R n port) (grown_n
 counted_noted : (R : Recorded) (b : ℕ) (port : Port) (n m : ℕ) → AreChained (noted R b port) → Counted R n m → Counted (noted R b port) n m
 counted_noted R b port n m chained h = record { kept = kept_noted R b port h.kept; chained = chained; boxes = noted_boxes R b port n h.boxes; points = rw points_noted h.points }
 
-none_noted : (R : Recorded) (b n m : ℕ) (port : Port) → EntersNone n m R → EntersNone n m (noted R b port)
-none_noted R b n m port h i p le at first = h i p le (rw points_noted at at) first
-
 -- whether a goal is built in, by what comes of it
 is_user_by : (F : List Frame) (g : Called) (m : ℕ) (a : Term) → next_goal F ≡ Some a → solution F g m ≡ of_program → is_user_atom a ≡ true
 is_user_by F g m a is e = ap is_none ((program_is_not_built_in F g m a is).0 e)

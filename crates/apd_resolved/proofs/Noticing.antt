@@ -59,9 +59,6 @@ unseen_one (suc k) seen v l m = elim (cases_eq v k) [
   | inr d ↦ omega (arith, unseen_one k seen v (omega (arith, l, d)) m, counted_less seen v k)
 ]
 
-pub sees_none : (seen : List ℕ) → Sees seen seen []
-sees_none seen = record { more = []; is = sym (append-nil seen); only = λ u m. m; all = λ u m. absurd m; once = λ n h. omega arith }
-
 sees_with : (old mid : List ℕ) (vs : List ℕ) (v : ℕ) → Sees old mid vs → Sees old (with_new mid v) (vs ++ v ∷ [])
 sees_with old mid vs v h = elim (among_or_not mid v) [
   | inl m ↦ subst (λ z. Sees old z (vs ++ v ∷ [])) (sym (with_old mid v m)) (record {

@@ -1,11 +1,10 @@
 -- The variables that bindings lead to from a term are those that it has, with all bindings applied, and bound ones.
-use Rattle.std.proofs.Common.{◌≡◌, ◌≢◌, inl, inr, ℕ, zero, suc, ◌+◌, ◌-◌, ◌<◌, ◌≤◌, List, [], ◌∷◌, ◌++◌, length, get_or, take, refl, sym, ◌∙◌, ap, subst, arith}
+use Rattle.std.proofs.Common.{◌≡◌, ◌≢◌, inl, inr, ℕ, ◌+◌, ◌-◌, ◌<◌, ◌≤◌, List, [], ◌∷◌, length, get_or, take, refl, sym, ◌∙◌, ap, subst, arith}
 use Rattle.std.proofs.lemmas.Bool.{cases_eq}
 use Rattle.std.proofs.lemmas.List.{length-append}
 use Rattle.apd_term.specs.declared.term.Sym.{Sym}
-use Rattle.apd_term.specs.Term.{Term, variable, apply, variables, IsAmong, Occurs}
-use Rattle.apd_term.specs.Substitution.{term_for, single}
-use Rattle.apd_term.proofs.Among.{IsAmong-left, IsAmong-right, IsAmong-append, IsAmong-piece, IsAmong-flat_map}
+use Rattle.apd_term.specs.Term.{Term, apply, variables, IsAmong, Occurs}
+use Rattle.apd_term.proofs.Among.{IsAmong-left, IsAmong-append, IsAmong-piece, IsAmong-flat_map}
 use Rattle.apd_term.proofs.Applying.{variables-apply}
 use Rattle.apd_cells.specs.declared.heap.Binding.TheVariants.{Free, At}
 use Rattle.apd_cells.specs.declared.heap.Note.{Note}

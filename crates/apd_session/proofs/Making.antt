@@ -25,9 +25,9 @@ use Rattle.apd_reference.specs.Referees.{names_known}
 use Rattle.apd_reference.specs.declared.referee.Referee.{Referee}
 use Rattle.apd_term.specs.Growth.{Grown}
 use Rattle.apd_text.specs.declared.entry.Entry.TheVariants as entry
-use Rattle.apd_words.specs.Words.{AreLimits, InFile, OfLog, OfTree, Options, StandsAlone, Subject}
-use Rattle.apd_session.specs.Opening.{beginning_of, course_of, course_with, first_state, goes_on, opening_after, opening_by, opening_with, prepared_from, referred, stop, subject_text, text_in}
-use Rattle.apd_session.specs.Preparing.{Follows, HasSubject, HasText, IsBeginning, IsLoaded, IsPursued, IsReadyOpening, IsReviewed, IsStart, IsSubject, Opens, OpensAfter, OpensBy, OpensKnowing, OpensWith, Prepares, Pursues, Refers, States}
+use Rattle.apd_words.specs.Words.{AreLimits, InFile, OfLog, OfTree, Options, Subject}
+use Rattle.apd_session.specs.Opening.{beginning_of, course_of, course_with, first_state, goes_on, opening_after, opening_by, opening_with, referred, stop, subject_text, text_in}
+use Rattle.apd_session.specs.Preparing.{Follows, HasSubject, HasText, IsBeginning, IsLoaded, IsPursued, IsReadyOpening, IsReviewed, IsStart, Opens, OpensAfter, OpensBy, OpensKnowing, OpensWith, Prepares, Pursues, Refers}
 use Rattle.apd_session.specs.Roles as roles
 use Rattle.apd_session.specs.Roles.{Role, KnownReplies, Reference, FileLoad, Gives, Faults, AreLoads, IsFileLoad, IsNamedLoad, file_of, file_of_subject, log_of_subject}
 use Rattle.apd_session.specs.declared.opening.Course.{Course}
@@ -108,10 +108,6 @@ subject_file content failed name (Err e) h = tt
 pub subject_tree : (content : List ℕ → Option (List ℕ)) (failed : Type 0) (nodes : ℕ) (text : List ℕ) → subject_text (λ role. Gives []) (OfTree nodes) ≡ Ok text → HasSubject content failed (OfTree nodes) (Ok text)
 subject_tree content failed nodes text is = record { loading = Gives []; is = tt; faults = λ e. absurd (cc); so = is }
 
-pub subject_logged : (content : List ℕ → Option (List ℕ)) (failed : Type 0) (program log : List ℕ) (r : Result (Result (List ℕ) Stop) AllocError) → IfOk r (HasText content failed program) → IfOk r (HasSubject content failed (OfLog program log))
-subject_logged content failed program log (Ok x) h = record { loading = h.loading; is = h.is; faults = h.faults; so = h.so }
-subject_logged content failed program log (Err e) h = tt
-
 -- how a session goes on
 pub pursues_file : (content : List ℕ → Option (List ℕ)) (failed : Type 0) (name : List ℕ) → Pursues content failed (InFile name) (Ok Hears)
 pursues_file content failed name = record { loading = Gives []; is = tt; faults = λ e. absurd (cc); so = refl }
@@ -134,25 +130,6 @@ pursues_later content now failed fails subject x same rose r = record {
   is = subst (λ (c : List ℕ → Option (List ℕ)). IsNamedLoad c (log_of_subject subject) r.loading) same r.is;
   faults = λ e. rose (r.faults e);
   so = r.so;
-}
-
--- what an oracle file makes known
-pub prepares_stated : (content : List ℕ → Option (List ℕ)) (failed : Type 0) (ops : Table) (names : List (List ℕ)) (name text : List ℕ) (result : Result Prepared AllocError) → HasText content failed name (Ok text) →
-    IfOk result (States ops text names) → IfOk result (Prepares content failed ops names (Some name))
-prepares_stated content failed ops names name text (Ok x) h states = record {
-  loading = h.loading;
-  is = h.is;
-  faults = h.faults;
-  so = λ n grew reader. ap (prepared_from reader ops) h.so ∙ states n grew reader;
-}
-prepares_stated content failed ops names name text (Err e) h states = tt
-
-pub prepares_not : (content : List ℕ → Option (List ℕ)) (failed : Type 0) (ops : Table) (names : List (List ℕ)) (name : List ℕ) (why : Stop) → HasText content failed name (Err why) → Prepares content failed ops names (Some name) (Refuses why)
-prepares_not content failed ops names name why h = record {
-  loading = h.loading;
-  is = h.is;
-  faults = h.faults;
-  so = λ n grew reader. ap (prepared_from reader ops) h.so;
 }
 
 pub prepares_unnamed : (content : List ℕ → Option (List ℕ)) (failed : Type 0) (ops : Table) (names : List (List ℕ)) (store : Store) → store ≡ empty_store → Prepares content failed ops names None (Knows None store)
@@ -375,8 +352,3 @@ goes_ready n ops start (Err why) ready is = (ready.beginning, is n)
 pub closing_ready : (n m : ℕ) (l : Loaded) (statements : Option ℕ) → n ≤ m → IsLoaded n l → IsBeginning m (beginning_of l.program l.passed statements None)
 closing_ready n m l statements more is =
     record { passed = notes_more n m l.passed more is.passed; called = subst (NotesAreNamed m) is.warnings (notes_more n m l.warnings more is.called); reference = tt }
-
-pub alone_subject : (s : Subject) (oracle reference : Option (List ℕ)) → StandsAlone s oracle reference → IsSubject s
-alone_subject (InFile name) oracle reference alone = tt
-alone_subject (OfTree nodes) oracle reference alone = alone.0
-alone_subject (OfLog program log) oracle reference alone = tt

@@ -1,9 +1,8 @@
 -- Who is asked before the user, by what the file of a reference program gives.
 use Rattle.std.proofs.Common.{◌≡◌, ℕ, suc, ◌<◌, ◌≤◌, List, [], ◌∷◌, length, refl, ap, sym, ◌∙◌, arith, Bool, true, false, Option, Some, None, subst}
-use Rattle.std.specs.Prelude.{IfOk, Result, Ok, Err, if◌then◌else◌, nat_lt}
+use Rattle.std.specs.Prelude.{if◌then◌else◌, nat_lt}
 use Rattle.std.proofs.Math.Dec.{leb}
 use Rattle.std.proofs.lemmas.Bool.{le-leb, lt-leb}
-use Rattle.std.specs.declared.alloc.AllocError.{AllocError}
 use Rattle.apd_causes.specs.declared.faults.LoadCause.TheVariants as causes
 use Rattle.apd_clauses.specs.Clauses.{clause_at, tuples_of}
 use Rattle.apd_clauses.specs.declared.clause.Clause.{Clause}
@@ -15,35 +14,15 @@ use Rattle.apd_read.specs.Reader.{Reader}
 use Rattle.apd_reference.proofs.LowNames.{tuples_low}
 use Rattle.apd_reference.specs.Ready.{RightProgram}
 use Rattle.apd_reference.specs.declared.referee.Referee.TheVariants.{Nobody, Program}
-use Rattle.apd_session.specs.Opening.{last_line, referred_by, referred_from, refused_reference, reviewed}
-use Rattle.apd_session.specs.Preparing.{HasText, IsReferring, Refers, ReviewsText, is_read_fault, stops_referring}
+use Rattle.apd_session.specs.Opening.{last_line, referred_by, refused_reference, reviewed}
+use Rattle.apd_session.specs.Preparing.{IsReferring, Refers, ReviewsText, is_read_fault, stops_referring}
 use Rattle.apd_session.specs.Roles.{Gives, IsNamedLoad}
 use Rattle.apd_session.specs.declared.opening.Reviewed.{Reviewed}
-use Rattle.apd_session.specs.declared.opening.Stop.{Stop}
 use Rattle.apd_session.specs.declared.referring.Referring.{Referring}
-use Rattle.apd_session.specs.declared.referring.Referring.TheVariants.{Asks, Stops}
+use Rattle.apd_session.specs.declared.referring.Referring.TheVariants.{Asks}
 use Rattle.apd_term.specs.Growth.{Grown}
 use Rattle.apd_term.specs.Named.{AllTuplesNamed}
 use Rattle.apd_term.specs.StandardNames.{standard_names}
-
--- who is asked, by the text of a reference program
-pub refers_text : (content : List ℕ → Option (List ℕ)) (failed : Type 0) (budget : ℕ) (names : List (List ℕ)) (name text : List ℕ) (result : Result Referring AllocError) → HasText content failed name (Ok text) →
-    IfOk result (ReviewsText budget text names) → IfOk result (Refers content failed budget names (Some name))
-refers_text content failed budget names name text (Ok x) h reviews = record {
-  loading = h.loading;
-  is = h.is;
-  faults = h.faults;
-  so = λ n grew reader. ap (referred_from reader budget) h.so ∙ reviews n grew reader;
-}
-refers_text content failed budget names name text (Err e) h reviews = tt
-
-pub refers_not : (content : List ℕ → Option (List ℕ)) (failed : Type 0) (budget : ℕ) (names : List (List ℕ)) (name : List ℕ) (why : Stop) → HasText content failed name (Err why) → Refers content failed budget names (Some name) (Stops why)
-refers_not content failed budget names name why h = record {
-  loading = h.loading;
-  is = h.is;
-  faults = h.faults;
-  so = λ n grew reader. ap (referred_from reader budget) h.so;
-}
 
 pub refers_unnamed : (content : List ℕ → Option (List ℕ)) (failed : Type 0) (budget : ℕ) (names : List (List ℕ)) → Refers content failed budget names None (Asks Nobody None)
 refers_unnamed content failed budget names = record { loading = Gives []; is = tt; faults = λ e. absurd (cc); so = λ n grew reader. refl }

@@ -3,7 +3,6 @@ use Rattle.std.proofs.Common.{◌≡◌, ℕ, zero, suc, ◌<◌, List, [], ◌�
 use Rattle.std.specs.Prelude.{ℤ, Result, Ok, Err, IfOk, IfSome, OnOk, slice_get}
 use Rattle.apd_account.specs.Account.{with_told}
 use Rattle.apd_answers.specs.Dialogue.{Diagnosis}
-use Rattle.apd_answers.specs.declared.finding.Finding.{Finding}
 use Rattle.apd_answers.specs.declared.oracle.AskEnd.{AskEnd}
 use Rattle.apd_answers.specs.Store.{Store}
 use Rattle.apd_clauses.specs.Clauses.{IsProgram, tuples_of}
@@ -12,14 +11,13 @@ use Rattle.apd_clauses.proofs.Pure.{goals_are_atoms}
 use Rattle.apd_record.specs.Chain.{EachOwnsNext}
 use Rattle.apd_recorded.proofs.Law.{query_first, run_owns_next}
 use Rattle.apd_recorded.proofs.Recording.{program_clauses}
-use Rattle.apd_clauses.specs.declared.clause.Clause.{Clause}
 use Rattle.apd_commands.specs.declared.commands.Command.{Command}
 use Rattle.apd_commands.specs.declared.commands.Command.TheVariants as commands
 use Rattle.apd_console.specs.Console.{IsKept}
-use Rattle.apd_debug.specs.Diagnosed.{Diagnosed, SaysEnd, SaysEndIf, SaysLast, is_said, last_entry, next_after, trouble_of}
+use Rattle.apd_debug.specs.Diagnosed.{Diagnosed, SaysEndIf, SaysLast, is_said}
 use Rattle.apd_answers.specs.declared.question.Question.TheVariants.{True}
 use Rattle.apd_answers.specs.declared.question.Reply.TheVariants.{No, Yes}
-use Rattle.apd_debug.specs.NamedStates.{AreReplies, loop_entry}
+use Rattle.apd_debug.specs.NamedStates.{AreReplies}
 use Rattle.apd_debug.proofs.NamedReplies.{with_pair-replies}
 use Rattle.apd_debug.specs.NamedTrees.{AllPointsNamed, RecordIsNamed}
 use Rattle.apd_debug.specs.Stand.{ready}
@@ -42,7 +40,7 @@ use Rattle.apd_record.specs.Recorded.{Recorded, chain, point_at, query_point}
 use Rattle.apd_loop.specs.Loop.{loop, loop_start}
 use Rattle.apd_loop.specs.declared.LoopEnd.TheVariants as loop_ends
 use Rattle.apd_symptoms.specs.Chains.{stopped_chain}
-use Rattle.apd_symptoms.specs.Symptoms.{exit_of, line_found}
+use Rattle.apd_symptoms.specs.Symptoms.{exit_of}
 use Rattle.apd_symptoms.specs.Unanswered.{unanswered_box}
 use Rattle.apd_talk.specs.Moment.{Keeps, Moment, place, saying}
 use Rattle.apd_talk.specs.Speech.{Says, Spoken, Stays, one, plain}
@@ -50,7 +48,6 @@ use Rattle.apd_talk.specs.Talk.{Meaning, Place, Talks, after_step}
 use Rattle.apd_talk.specs.declared.talk.Next.{Next}
 use Rattle.apd_talk.specs.declared.talk.Next.TheVariants.{Goes}
 use Rattle.apd_talk.specs.declared.talk.Trouble.{Trouble}
-use Rattle.apd_talk.proofs.Speaking.{Says-err, Says-ok}
 use Rattle.apd_talk.proofs.Talking.{Talks-more}
 use Rattle.apd_term.specs.Growth.{Grown}
 use Rattle.apd_term.specs.Named.{IsNamed, TupleIsNamed}
@@ -59,13 +56,13 @@ use Rattle.apd_term.specs.declared.tuple.Tuple.{Tuple}
 use Rattle.apd_term.proofs.Applying.{apply-variable}
 use Rattle.apd_text.specs.Named.{ToldIsNamed}
 use Rattle.apd_text.specs.declared.entry.Entry.{Entry}
-use Rattle.apd_text.specs.declared.entry.Entry.TheVariants.{AllDescend, Found, Refused, Symptom}
+use Rattle.apd_text.specs.declared.entry.Entry.TheVariants.{Refused, Symptom}
 use Rattle.apd_text.specs.declared.entry.Refusal.{Refusal}
 use Rattle.apd_text.specs.declared.entry.Refusal.TheVariants.{NoRun}
 use Rattle.apd_text.specs.declared.entry.Told.{Told}
 use Rattle.apd_text.specs.declared.entry.Told.TheVariants.{Wrong, Missing, NoEnd}
 use Rattle.apd_session.specs.Diagnosing.{Answered, Diagnoses, answered}
-use Rattle.apd_session.specs.Steps.{Method, begins, by_loop, by_missing, by_wrong, carries_on, command_step, first_word, found_in, history_of, loop_at, loop_step, missing_at, missing_step, refused, situation, talker, wrong_at, wrong_of, wrong_step}
+use Rattle.apd_session.specs.Steps.{Method, begins, by_loop, by_missing, by_wrong, carries_on, command_step, first_word, history_of, loop_at, loop_step, missing_at, missing_step, refused, situation, talker, wrong_at, wrong_of, wrong_step}
 use Rattle.apd_session.specs.Turns.{IsPrepared, Leads, obeying}
 use Rattle.apd_session.proofs.Turning.{IsReady-more, leads_by}
 
@@ -206,23 +203,6 @@ refused_leads s command r p q console left reads over is sound result says goes 
     let leads = leads_by (λ ops names. refused ops names s r) p q console left reads over sound s result says goes (λ ops names. refl) (λ ops names. refl) ready_before in
     record { keeps = leads.keeps; course = λ names grew reader. rw (is p.spoken.log.ops names) (leads.course names grew reader); ready = leads.ready }
 
--- the last words of a diagnosis without a finding
-pub says_end : {U : Type 0} (end : AskEnd) (e : Entry) (p q : Spoken) (u : U) (n : Next) → is_said end ≡ true → e ≡ last_entry end → n ≡ next_after end → Says (one e) p q (Ok u) → SaysEnd end p q (Ok n)
-says_end end e p q u n said entry next says = rw said (Says-ok (one (last_entry end)) p q u n (subst (λ (x : Entry). Says (one x) p q (Ok u)) entry says), next)
-
-pub front_end : {U : Type 0} (end : AskEnd) (e : Entry) (p q : Spoken) (t : Trouble) → is_said end ≡ true → e ≡ last_entry end → Says {T = U} (one e) p q (Err t) → SaysEnd end p q (Err t)
-front_end {U} end e p q t said entry says = rw said (Says-err {T = U} (one (last_entry end)) p q t (subst (λ (x : Entry). Says {T = U} (one x) p q (Err t)) entry says), tt)
-
-pub no_end : (end : AskEnd) (p : Spoken) (t : Trouble) → is_said end ≡ false → t ≡ trouble_of end → SaysEnd end p p (Err t)
-no_end end p t silent why = rw silent (refl, ap (λ (x : Trouble). let r : Result Next Trouble = Err x in r) why)
-
--- and with one
-pub says_found : {U : Type 0} (program : List Clause) (f : Finding) (line : ℕ) (p q : Spoken) (u : U) → line ≡ line_found program f → Says (one (Found f line)) p q (Ok u) → SaysLast (found_in program) (Ok f) p q (Ok Goes)
-says_found program f line p q u is says = (Says-ok (one (found_in program f)) p q u Goes (subst (λ (l : ℕ). Says (one (Found f l)) p q (Ok u)) is says), refl)
-
-pub front_found : {U : Type 0} (program : List Clause) (f : Finding) (line : ℕ) (p q : Spoken) (t : Trouble) → line ≡ line_found program f → Says {T = U} (one (Found f line)) p q (Err t) → SaysLast (found_in program) (Ok f) p q (Err t)
-front_found {U} program f line p q t is says = (Says-err {T = U} (one (found_in program f)) p q t (subst (λ (l : ℕ). Says {T = U} (one (Found f l)) p q (Err t)) is says), tt)
-
 -- what is known of the last run
 pub run_kept : (n : ℕ) (s : State) (run : LastRun) → s.last ≡ Some run → IsReady n s → IsRunOf n s run
 run_kept n s run is ready = subst (λ (last : Option LastRun). IfSome last (IsRunOf n s)) is ready.last
@@ -248,20 +228,6 @@ run_calls s run calls is chained = rw (is, chained) refl
 
 pub loop_this : (s : State) (run : LastRun) (calls : List ℕ) → s.last ≡ Some run → calls ≡ chain run.history → by_loop.diagnosis s ≡ loop run.history calls s.strategy
 loop_this s run calls is chained = rw (is, chained) refl
-
--- and for the diagnosis of a run that doesn't end
-pub says_loop_found : {U : Type 0} (program : List Clause) (calls : ℕ) (f : Finding) (line : ℕ) (p q : Spoken) (u : U) → line ≡ line_found program f → Says (one (Found f line)) p q (Ok u) → SaysLast (loop_entry (line_found program) calls) (Ok (loop_ends.Found f)) p q (Ok Goes)
-says_loop_found program calls f line p q u is says = (Says-ok (one (found_in program f)) p q u Goes (subst (λ (l : ℕ). Says (one (Found f l)) p q (Ok u)) is says), refl)
-
-pub front_loop_found : {U : Type 0} (program : List Clause) (calls : ℕ) (f : Finding) (line : ℕ) (p q : Spoken) (t : Trouble) → line ≡ line_found program f → Says {T = U} (one (Found f line)) p q (Err t) →
-    SaysLast (loop_entry (line_found program) calls) (Ok (loop_ends.Found f)) p q (Err t)
-front_loop_found {U} program calls f line p q t is says = (Says-err {T = U} (one (found_in program f)) p q t (subst (λ (l : ℕ). Says {T = U} (one (Found f l)) p q (Err t)) is says), tt)
-
-pub says_descent : {U : Type 0} (line_of : Finding → ℕ) (calls : ℕ) (p q : Spoken) (u : U) → Says (one (AllDescend calls)) p q (Ok u) → SaysLast (loop_entry line_of calls) (Ok loop_ends.AllDescend) p q (Ok Goes)
-says_descent line_of calls p q u says = (Says-ok (one (AllDescend calls)) p q u Goes says, refl)
-
-pub front_descent : {U : Type 0} (line_of : Finding → ℕ) (calls : ℕ) (p q : Spoken) (t : Trouble) → Says {T = U} (one (AllDescend calls)) p q (Err t) → SaysLast (loop_entry line_of calls) (Ok loop_ends.AllDescend) p q (Err t)
-front_descent {U} line_of calls p q t says = (Says-err {T = U} (one (AllDescend calls)) p q t says, tt)
 
 -- what is said to a command about the last run
 module _ (ops : Table) (names : List (List ℕ)) (s : State) where
@@ -304,9 +270,6 @@ point_below (x ∷ ps) (suc i) p there = let below = point_below ps i p there in
 -- the label of an exit
 pub head_is : (R : Recorded) (e : ℕ) (p : Point) (t : Tuple) → point_at R e ≡ Some p → t ≡ p.tuple → (point_of R e).tuple.head ≡ t.head
 head_is R e p t there is = rw (there, is) refl
-
-pub label_named : (n : ℕ) (s : State) (run : LastRun) (e : ℕ) (p : Point) (t : Tuple) → s.last ≡ Some run → IsReady n s → point_at run.history e ≡ Some p → t ≡ p.tuple → IsNamed n t.head
-label_named n s run e p t last is there same = rw same (point_named n run.history.points e p there (run_named n s run last is).points).0
 
 pub labelled : (R : Recorded) (e : ℕ) (t : Tuple) (user : IsUserExit R e) → t ≡ user.point.tuple → IsLabelled R e t.head
 labelled R e t user is = record { exit = user; instance = (variable, apply-variable user.point.tuple.head ∙ ap (λ (u : Tuple). u.head) (sym is)) }

@@ -1,6 +1,6 @@
 -- A test that tells both ways whether a term is an instance of another is the one of its definition.
-use Rattle.std.proofs.Common.{◌≡◌, Bool, true, false, refl, sym, ◌∙◌}
-use Rattle.std.specs.Prelude.{◌↔◌, IsTrue, IfOk, MatchBool, Result, Ok, Err}
+use Rattle.std.proofs.Common.{◌≡◌, Bool, true, false, refl, sym}
+use Rattle.std.specs.Prelude.{IfOk, MatchBool, Result, Ok, Err}
 use Rattle.std.specs.declared.alloc.AllocError.{AllocError}
 use Rattle.apd_term.proofs.Opposite.{is_instance-is}
 use Rattle.apd_term.specs.Term.{Term}

@@ -1,5 +1,5 @@
 -- Variables that are matched with the subterms at places.
-use Rattle.std.proofs.Common.{◌≡◌, ◌≢◌, inl, inr, ℕ, ◌<◌, Bool, true, false, cond, List, [], ◌∷◌, length, map, get_or, None, Some, refl, sym, ap, ◌∙◌, subst, true≢false, eq-eqb, arith}
+use Rattle.std.proofs.Common.{◌≡◌, ◌≢◌, inl, inr, ℕ, ◌<◌, Bool, true, false, cond, List, [], ◌∷◌, length, map, get_or, None, Some, refl, sym, ap, ◌∙◌, true≢false, eq-eqb, arith}
 use Rattle.std.specs.Prelude.{nat_eq}
 use Rattle.std.specs.Map.{lookup}
 use Rattle.std.proofs.lemmas.Bool.{eqb-true}
@@ -13,7 +13,7 @@ use Rattle.apd_term.specs.declared.term.Sym.TheVariants.{Var}
 use Rattle.apd_term.specs.MatchStep.{IsStep}
 use Rattle.apd_term.specs.Substitution.{IsFree, term_for}
 use Rattle.apd_term.proofs.Pairs.{term_for-other, term_for-same}
-use Rattle.apd_skips.specs.Skips.{AreWithin, Firsts, HasSkips, IsSkip, end_of, placed, subterm_at}
+use Rattle.apd_skips.specs.Skips.{Firsts, HasSkips, IsSkip, end_of, placed, subterm_at}
 use Rattle.apd_skips.specs.declared.skips.Skip.{Skip}
 
 -- the skip of a symbol
@@ -73,10 +73,3 @@ module _ (s : List Sym) (v from end : ℕ) where
       ap (named s) (is ∙ insert_entry-new nat_eq old v from h) ∙ map-append (λ (f : ℕ × ℕ). (f.0, subterm_at s f.1)) old.entries ((v, from) ∷ []),
     ),
   )
-
-pub within-more : (old new : Firsts) (v from n : ℕ) → ((w : ℕ) → get nat_eq new w ≡ cond (nat_eq v w) (Some from) (get nat_eq old w)) → from < n → AreWithin old n → AreWithin new n
-within-more old new v from n is l h w p e = by (nat_eq v w) (sym (is w) ∙ e)
-  where
-    by : (b : Bool) → cond b (Some from) (get nat_eq old w) ≡ Some p → p < n
-    by true q = let same : from ≡ p = cc in subst (λ (x : ℕ). x < n) same l
-    by false q = h w p q

@@ -3,8 +3,8 @@ use Rattle.std.proofs.Common.{◌≡◌, ◌≢◌, ◌⊎◌, inl, inr, ℕ, ze
 use Rattle.std.specs.Prelude.{Some, slice_get, slice_set}
 use Rattle.std.specs.List.{flat_map}
 use Rattle.std.proofs.lemmas.Option.{slice_get-get_or}
-use Rattle.std.proofs.lemmas.List.{drop_all, drop_at, drop-drop, drop_more, length-drop}
-use Rattle.apd_term.specs.Term.{IsTerms, IsWhole, Term, compound, arity_of, first_of, read_all, size, size_all, spell, term_of, terms_of}
+use Rattle.std.proofs.lemmas.List.{drop_all, drop_at, drop-drop, length-drop}
+use Rattle.apd_term.specs.Term.{IsTerms, IsWhole, Term, first_of, read_all, size, size_all, spell, term_of, terms_of}
 use Rattle.apd_term.specs.declared.term.Sym.{Sym}
 use Rattle.apd_term.specs.declared.term.Sym.TheVariants.{Var, Int, Fun}
 use Rattle.apd_term.proofs.Matched.{IsTerms-drop}
@@ -38,9 +38,6 @@ whole-drop s w j = subst (λ (x : List Sym). IsTerms (drop j x)) w (IsTerms-drop
 pub record IsPassed (s : List Sym) (from k at : ℕ) : Type 0 where
   pub end : at ≡ end_behind s from k
   pub rest : read_all (drop at s) ≡ drop k (read_all (drop from s))
-
-pub passed-none : (s : List Sym) (from : ℕ) → IsPassed s from 0 from
-passed-none s from = record { end = omega arith; rest = refl }
 
 pub passed-behind : (s : List Sym) (from k at : ℕ) → IsPassed s from k at → from ≤ at
 passed-behind s from k at p = let e = p.end in omega (arith, e)
@@ -129,31 +126,3 @@ module _ (s : List Sym) (skips : List Skip) (one other k i j : ℕ) (x y : Skip)
       )
 
 -- Arguments, one place further to the front.
-
-size-begun : (x : Sym) (r : List Sym) → size (first_of (read_all (x ∷ r))) ≡ 1 + size_all (terms_of (take (arity_of x) (read_all r)))
-size-begun (Var v) r = refl
-size-begun (Int i) r = refl
-size-begun (Fun f n) r = omega arith
-
-same-begun : (x : Sym) (q r : List Sym) → take (arity_of x) (read_all q) ≡ take (arity_of x) (read_all r) → first_of (read_all (x ∷ q)) ≡ first_of (read_all (x ∷ r))
-same-begun (Var v) q r h = refl
-same-begun (Int i) q r h = refl
-same-begun (Fun f n) q r h = ap (λ (ts : List Term). compound f (terms_of ts)) h
-
-pub end-is : (s : List Sym) (at : ℕ) (d : Sym) → at < length s → end_behind s (at + 1) (arity_of (get_or s at d)) ≡ end_of s at
-end-is s at d l =
-    let e = ap (λ (x : List Sym). size (first_of (read_all x))) (drop_more s at d l) in
-    let f = size-begun (get_or s at d) (drop (at + 1) s) in
-    omega (arith, e, f)
-
-pub same-subterms : (s : List Sym) (i j : ℕ) (d e : Sym) → i < length s → j < length s → get_or s i d ≡ get_or s j e
-    → terms_from s (i + 1) (arity_of (get_or s j e)) ≡ terms_from s (j + 1) (arity_of (get_or s j e)) → subterm_at s i ≡ subterm_at s j
-same-subterms s i j d e l m same h =
-    ap (λ (x : List Sym). first_of (read_all x)) (drop_more s i d l ∙ ap (λ (y : Sym). y ∷ drop (i + 1) s) same)
-    ∙ same-begun (get_or s j e) (drop (i + 1) s) (drop (j + 1) s) h
-    ∙ ap (λ (x : List Sym). first_of (read_all x)) (sym (drop_more s j e m))
-
--- two terms of one symbol and no more
-pub same-constants : (s : List Sym) (i j n : ℕ) (d e : Sym) → i < length s → j < length s → get_or s i d ≡ get_or s j e → n ≡ arity_of (get_or s j e) → n ≡ 0 → subterm_at s i ≡ subterm_at s j
-same-constants s i j n d e l m same is none =
-    same-subterms s i j d e l m same (ap (λ (k : ℕ). terms_from s (i + 1) k) (sym is ∙ none) ∙ sym (ap (λ (k : ℕ). terms_from s (j + 1) k) (sym is ∙ none)))

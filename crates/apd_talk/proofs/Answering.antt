@@ -114,15 +114,3 @@ input_broken begun f l x y z w a b c d log log_now t sound broken =
       taken = input.taken;
       holds = rw so.1 (UttersFront-less begun log log_now z w broken.utterances so.0.utterances broken.says);
     }
-
--- where the input is told and no read failed, it is the input
-pub input_told : (known : List ℕ) (left now : Left) (failed : Type 0) (P : List ℕ → InputEnd → Type 0) → left.bytes ≡ Some known → SomeInput left now failed P → (failed → ⊥) → P known Ended
-input_told known left now failed P told some not = by some.ends refl
-  where
-    by : (ends : InputEnd) → some.ends ≡ ends → P known Ended
-    by Ended is =
-        let first : IsGiven (Some known) some.input some.ends = rw told at some.given in
-        let given : some.input ≡ known = rw is at first in
-        let here : P some.input Ended = rw is at some.holds in
-        subst (λ (i : List ℕ). P i Ended) given here
-    by Fails is = absurd (not (some.fails is))

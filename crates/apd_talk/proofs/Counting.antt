@@ -1,15 +1,11 @@
 -- What counts of faults say of a part of a conversation.
-use Rattle.std.proofs.Common.{◌≡◌, ℕ, ◌≤◌, arith, true, false, Bool}
+use Rattle.std.proofs.Common.{◌≡◌, ℕ}
 use Rattle.apd_io.specs.Outside.{Rose, Counted, is_load_fault}
 use Rattle.apd_io.specs.declared.fault.LoadFault.{LoadFault}
 use Rattle.apd_io.specs.declared.fault.LoadFault.TheVariants as loads
 use Rattle.apd_talk.specs.declared.talk.Trouble.{Trouble}
 use Rattle.apd_talk.specs.declared.talk.Trouble.TheVariants as troubles
 use Rattle.apd_talk.specs.Speech.{is_write_fault}
-
-pub counted_later : (b : Bool) (before now : ℕ) → Counted b before now → before ≤ now
-counted_later true before now h = h.1
-counted_later false before now h = omega (arith, h)
 
 pub write_rose : (before now : ℕ) (t : Trouble) → Counted (is_write_fault t) before now → t ≡ troubles.WriteFault → Rose before now
 write_rose before now troubles.WriteFault h is = h.0

@@ -187,17 +187,6 @@ pub Breaks-step : {E S : Type 0} (begun : E → E) (talker : Talker E S) (st : S
     Breaks begun (after_step talker st) (at k x a log y b) (at k x a log_now z c) t
 Breaks-step begun talker st k x y z a b c log log_now t says counts = Breaks-say begun (after_step talker st) k x y z a b c log log_now st.utterances t says counts (λ room more ends. step_begins talker st room more ends st.quits refl)
 
--- hearing a line and saying what its step says
-pub Talks-line : {E S : Type 0} (talker : Talker E S) (s : S) (line : Line) (k l : Kept) (x y : Left) (z w : Option (List ℕ)) (a b c d : ℕ) (log log_now : List E) → HearsLine k l x y line → b ≡ a → (talker.step s line).quits ≡ false → Utters log log_now z w (talker.step s line).utterances → d ≡ c →
-    Talks (replies talker s) (at k x a log z c) (at l y b log_now w d) (replies talker (talker.step s line).next)
-Talks-line talker s line k l x y z w a b c d log log_now hears reads goes says writes =
-    Talks-more _ _ _ _ (at l y b log z c) _ (Talks-hear talker s line k l x y z a b c log hears reads) (Talks-step talker (talker.step s line) l y z w b c d log log_now goes says writes)
-
-pub Ends-line : {E S : Type 0} (talker : Talker E S) (s : S) (line : Line) (k l : Kept) (x y : Left) (z w : Option (List ℕ)) (a b c d : ℕ) (log log_now : List E) → HearsLine k l x y line → b ≡ a → (talker.step s line).quits ≡ true → Utters log log_now z w (talker.step s line).utterances → d ≡ c →
-    Ends (replies talker s) (at k x a log z c) (at l y b log_now w d) Done
-Ends-line talker s line k l x y z w a b c d log log_now hears reads quits says writes =
-    Ends-more _ _ _ (at l y b log z c) _ _ (Talks-hear talker s line k l x y z a b c log hears reads) (Ends-step talker (talker.step s line) l y z w b c d log log_now quits says writes)
-
 pub Breaks-line : {E S : Type 0} (begun : E → E) (talker : Talker E S) (s : S) (line : Line) (k l : Kept) (x y : Left) (z w : Option (List ℕ)) (a b c d : ℕ) (log log_now : List E) (t : Trouble) → HearsLine k l x y line → b ≡ a → UttersFront begun log log_now z w (talker.step s line).utterances → Counted (is_write_fault t) c d →
     Breaks begun (replies talker s) (at k x a log z c) (at l y b log_now w d) t
 Breaks-line begun talker s line k l x y z w a b c d log log_now t hears reads says writes =

@@ -26,9 +26,6 @@ unlisted (Fun f n) rest whole no_cell no_end =
     let count : length (take n (read_all rest)) ≡ n = (under_name f n rest whole).0 in
     unlisted_args f n (take n (read_all rest)) count no_cell no_end
 
-listed_end : (x : Sym) (rest : List Sym) → x ≡ Fun NIL 0 → listed (first_of (read_all (x ∷ rest))) ≡ Some []
-listed_end x rest is = rw is refl
-
 -- the elements so far, and those of the rest
 pub record Listing (list : Term) (symbols : List Sym) (elements : List Term) (at : ℕ) : Type 0 where
   pub there : at < length symbols
@@ -56,11 +53,6 @@ Listing-more list symbols elements at end t before cell is = record {
   whole = cell.rest_whole;
   rest = before.rest ∙ ap (λ (u : Term). option_map (λ ts. elements ++ ts) (listed u)) cell.parts ∙ rw is (one_more elements (term_at symbols (at + 1)) (listed (term_at symbols end)));
 }
-
-pub Listing-end : (list : Term) (symbols : List Sym) (elements : List Term) (at : ℕ) (d : Sym) → Listing list symbols elements at → get_or symbols at d ≡ Fun NIL 0 → Some elements ≡ listed list
-Listing-end list symbols elements at d before is =
-    sym (before.rest ∙ ap (λ (x : List Sym). option_map (λ ts. elements ++ ts) (listed (first_of (read_all x)))) (drop_more symbols at d before.there)
-    ∙ ap (option_map (λ ts. elements ++ ts)) (listed_end (get_or symbols at d) (drop (at + 1) symbols) is) ∙ ap Some (append-nil elements))
 
 pub Listing-none : (list : Term) (symbols : List Sym) (elements : List Term) (at : ℕ) (d : Sym) → Listing list symbols elements at → get_or symbols at d ≢ Fun CELL 2 → get_or symbols at d ≢ Fun NIL 0 → None ≡ listed list
 Listing-none list symbols elements at d before no_cell no_end =

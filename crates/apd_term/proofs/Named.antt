@@ -1,6 +1,6 @@
 -- What is made of named terms is named.
 use Rattle.std.proofs.Common.{ℕ, ◌≤◌, List, [], ◌∷◌, arith, map}
-use Rattle.apd_term.specs.Term.{Term, Terms, variable, integer, compound, none, more, apply, apply_all, terms_of}
+use Rattle.apd_term.specs.Term.{Term, Terms, variable, integer, compound, none, more, apply, apply_all}
 use Rattle.apd_term.specs.Canonical.{canonical}
 use Rattle.apd_term.specs.Tuple.{apply_tuple, canonical_tuple}
 use Rattle.apd_term.specs.declared.tuple.Tuple.{Tuple}
@@ -45,7 +45,3 @@ IsNamed-canonical n t named = IsNamed-apply n _ t (λ v. tt) named
 
 pub TupleIsNamed-canonical : (n : ℕ) (t : Tuple) → TupleIsNamed n t → TupleIsNamed n (canonical_tuple t)
 TupleIsNamed-canonical n t named = (IsNamed-apply n _ t.head (λ v. tt) named.0, AllNamed-map n _ t.body (λ v. tt) named.1)
-
-pub AreNamed-terms_of : (n : ℕ) (ts : List Term) → AllNamed n ts → AreNamed n (terms_of ts)
-AreNamed-terms_of n [] named = tt
-AreNamed-terms_of n (t ∷ ts) named = (named.0, AreNamed-terms_of n ts named.1)

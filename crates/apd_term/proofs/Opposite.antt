@@ -1,7 +1,7 @@
 -- What is read off two terms makes the one into the other.
-use Rattle.std.proofs.Common.{◌≡◌, ◌⊎◌, inl, inr, ℕ, ◌==◌, true, if◌then◌else◌, List, [], ◌∷◌, Option, Some, None, refl, sym, ◌∙◌, ap, subst, arith}
+use Rattle.std.proofs.Common.{◌≡◌, ◌⊎◌, inl, inr, ℕ, ◌==◌, true, if◌then◌else◌, List, [], ◌∷◌, Some, None, refl, sym, ◌∙◌, ap, subst, arith}
 use Rattle.std.specs.Prelude.{◌↔◌, IsTrue}
-use Rattle.std.specs.Option.{unwrap_or, option_or}
+use Rattle.std.specs.Option.{unwrap_or}
 use Rattle.std.proofs.lemmas.Bool.{cases_eq, and_parts}
 use Rattle.std.proofs.lemmas.Bool.Decides.{Decides-eqb, Decides-int_eq, nat_tests}
 use Rattle.apd_term.specs.Term.{Term, Terms, variable, integer, compound, none, more, apply, apply_all, variables, variables_all, IsAmong, Occurs}
@@ -49,11 +49,6 @@ mutual
 
 pub same_term-is : (a b : Term) → IsTrue (same_term a b) ↔ (a ≡ b)
 same_term-is a b = (same_term-equal a b, λ e. subst (λ x. same_term a x ≡ true) e (same_term-same a))
-
--- a variable that stands in the general term
-option_or-same : {A : Type 0} (o p : Option A) (x : A) → (o ≡ Some x) ⊎ ((o ≡ None) × (p ≡ Some x)) → option_or o p ≡ Some x
-option_or-same o p x (inl e) = rw e refl
-option_or-same o p x (inr h) = rw h.0 h.1
 
 mutual
   pub opposite-same : (s : ℕ → Term) (v : ℕ) (t : Term) → ((opposite v t (apply s t) ≡ Some (s v)) × Occurs v t) ⊎ ((opposite v t (apply s t) ≡ None) × (Occurs v t → ⊥))

@@ -38,9 +38,6 @@ module _ (f : NameId) (s : List Sym) (at : ℕ) (d : Sym) (whole : IsTerms (drop
   pub pair_tail : IsTerms (drop (at + 1) s)
   pair_tail = IsTerms-tail (Fun f 2) (drop (at + 1) s) (subst IsTerms front whole)
 
-  pub pair_there : at + 1 < length s
-  pair_there = let t = two in let some : 0 < length (drop (at + 1) s) = positive (drop (at + 1) s) (omega (arith, t)) in let l = length-drop (at + 1) s in omega (arith, some, l)
-
   pub pair_is : (end : ℕ) → end ≡ at + 1 + size (term_at s (at + 1)) → IsPair f s at end
   pair_is end ends =
       let tail : List Sym = drop (at + 1) s in

@@ -7,7 +7,7 @@ use Rattle.std.proofs.lemmas.List.Concat.{flat_map-append}
 use Rattle.apd_term.specs.declared.term.NameId.{NameId}
 use Rattle.apd_term.specs.declared.term.Sym.{Sym}
 use Rattle.apd_term.specs.declared.term.Sym.TheVariants.{Var, Int, Fun}
-use Rattle.apd_term.specs.Term.{Term, Terms, variable, integer, compound, none, more, list_of, spell, spell_all, size, size_all, variables, variables_all, apply, apply_all, term_of, terms_of, read_all, first_of, IsTerms, IsWhole, arity_of, arguments}
+use Rattle.apd_term.specs.Term.{Term, Terms, variable, integer, compound, none, more, list_of, spell, spell_all, size, size_all, variables, variables_all, apply, apply_all, term_of, terms_of, read_all, first_of, IsTerms, arity_of, arguments}
 use Rattle.apd_term.specs.Spelling.{variable_in, image, read_all-spell, term_of-spell}
 
 mutual
@@ -122,9 +122,6 @@ split_terms s h l = split (read_all s) h
     split : (ts : List Term) → flat_map spell ts ≡ s → s ≡ spell (first_of ts) ++ flat_map spell (drop 1 ts)
     split [] e = absurd (omega (arith, ap length e))
     split (t ∷ ts) e = sym e
-
-pub spelled : (s : List Sym) (t : Term) → term_of s ≡ t → IsWhole s → s ≡ spell t
-spelled s t e h = sym h ∙ ap spell e
 
 pub size_positive : (t : Term) → 0 < size t
 size_positive (variable v) = omega arith

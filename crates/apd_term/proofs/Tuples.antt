@@ -1,15 +1,15 @@
 -- Laws of tuples: instances, canonical forms and sizes, by the laws of terms on the tuple as one term.
-use Rattle.std.proofs.Common.{◌≡◌, ℕ, ◌+◌, ◌<◌, ◌++◌, List, [], ◌∷◌, length, map, take, get_or, refl, sym, ◌∙◌, ap, subst, arith}
+use Rattle.std.proofs.Common.{◌≡◌, ℕ, ◌+◌, ◌<◌, ◌++◌, List, [], ◌∷◌, length, map, take, get_or, refl, sym, ◌∙◌, ap, arith}
 use Rattle.std.specs.List.{flat_map}
 use Rattle.std.proofs.lemmas.List.{take_more}
-use Rattle.apd_term.specs.Term.{Term, compound, more, terms_of, list_of, variable, apply, apply_all, variables, variables_all, size, size_all, IsAmong}
+use Rattle.apd_term.specs.Term.{Term, compound, more, terms_of, list_of, variable, apply, apply_all, variables, variables_all, size, size_all}
 use Rattle.apd_term.specs.Substitution.{followed_by, IsInstance}
 use Rattle.apd_term.specs.Canonical.{canonical, canonical_in, by_appearance, place_of, AreVariants}
-use Rattle.apd_term.specs.Tuple.{apply_tuple, IsTupleInstance, variables_of_tuple, canonical_tuple, AreTupleVariants, sizes, size_of_tuple}
+use Rattle.apd_term.specs.Tuple.{apply_tuple, IsTupleInstance, variables_of_tuple, canonical_tuple, AreTupleVariants, sizes}
 use Rattle.apd_term.specs.declared.tuple.Tuple.{Tuple}
 use Rattle.apd_term.proofs.Applying.{apply-followed_by, apply-variable}
 use Rattle.apd_term.proofs.Spelling.{list_of-terms_of}
-use Rattle.apd_term.proofs.Variants.{AreVariants_from_instances, IsInstance_from_variants, IsInstance-canonical, Occurs-canonical, size-variants}
+use Rattle.apd_term.proofs.Variants.{AreVariants_from_instances, IsInstance_from_variants, IsInstance-canonical}
 
 pub apply_list-followed_by : (s r : ℕ → Term) (ts : List Term) → map (apply r) (map (apply s) ts) ≡ map (apply (followed_by s r)) ts
 apply_list-followed_by s r [] = refl
@@ -24,9 +24,6 @@ apply_list-variable (t ∷ ts) = rw (apply-variable t, apply_list-variable ts) r
 
 pub apply_tuple-variable : (t : Tuple) → apply_tuple variable t ≡ t
 apply_tuple-variable t = rw (apply-variable t.head, apply_list-variable t.body) refl
-
-pub IsTupleInstance-same : (t : Tuple) → IsTupleInstance t t
-IsTupleInstance-same t = (variable, apply_tuple-variable t)
 
 pub IsTupleInstance-trans : (a b c : Tuple) → IsTupleInstance a b → IsTupleInstance b c → IsTupleInstance a c
 IsTupleInstance-trans a b c i j = (followed_by j.0 i.0, sym (apply_tuple-followed_by j.0 i.0 c) ∙ ap (apply_tuple i.0) j.1 ∙ i.1)
@@ -61,9 +58,6 @@ as_term-canonical t =
     ap (λ vs. canonical_in (by_appearance vs) (as_term t)) (as_term-variables t)
     ∙ as_term-apply (λ v. variable (place_of (by_appearance (variables_of_tuple t)) v)) t
 
-pub as_term-size : (t : Tuple) → size (as_term t) ≡ size_of_tuple t + 1
-as_term-size t = omega (arith, size-terms_of t.body)
-
 pub as_term-injective : (t u : Tuple) → as_term t ≡ as_term u → t ≡ u
 as_term-injective t u e =
     let heads : t.head ≡ u.head = cc in
@@ -97,16 +91,6 @@ IsTupleInstance-canonical t =
 
 pub canonical_is_instance : (t : Tuple) → IsTupleInstance (canonical_tuple t) t
 canonical_is_instance t = (λ v. variable (place_of (by_appearance (variables_of_tuple t)) v), refl)
-
--- the numbers of a canonical tuple's variables run from 1
-pub IsAmong-canonical_tuple : (t : Tuple) (v : ℕ) → IsAmong (variables_of_tuple (canonical_tuple t)) v → 0 < v
-IsAmong-canonical_tuple t v o =
-    let e : variables (canonical (as_term t)) ≡ variables_of_tuple (canonical_tuple t) = ap variables (as_term-canonical t) ∙ as_term-variables (canonical_tuple t) in
-    let k = Occurs-canonical (as_term t) v (subst (λ vs. IsAmong vs v) (sym e) o) in
-    omega (arith, k.0)
-
-pub size-tuple_variants : (a b : Tuple) → AreTupleVariants a b → size_of_tuple a ≡ size_of_tuple b
-size-tuple_variants a b e = omega (arith, as_term-size a, as_term-size b, size-variants (as_term a) (as_term b) (variants_of_term a b e))
 
 sizes-push : (ts : List Term) (t : Term) → sizes (ts ++ t ∷ []) ≡ sizes ts + size t
 sizes-push [] t = omega arith

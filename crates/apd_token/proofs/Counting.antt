@@ -15,10 +15,6 @@ abbrev pub Fits : ℕ → List Token → Type 0
 Fits total [] = Unit {0}
 Fits total (t ∷ ts) = (length ts + 1 + t.start ≤ total) × Fits total ts
 
-more_room : (n m : ℕ) → n ≤ m → (ts : List Token) → Fits n ts → Fits m ts
-more_room n m le [] f = tt
-more_room n m le (t ∷ ts) f = let h = f.0 in (omega arith, more_room n m le ts f.1)
-
 few_tokens : (at : ℕ) (spaced : Bool) (ps : List Piece) (text rest : List ℕ) → Divides at ps text rest → (length (tokens_of at spaced ps) ≤ length text) × Fits (at + length text) (tokens_of at spaced ps)
 few_tokens at spaced [] text rest d = (omega arith, tt)
 few_tokens at spaced (p ∷ ps) text rest d =

@@ -15,7 +15,6 @@ use Rattle.apd_token.specs.declared.bytes.Set.TheVariants as sets
 use Rattle.apd_token.specs.declared.bytes.Escape.{Escape}
 use Rattle.apd_token.specs.declared.bytes.Escape.TheVariants.{Newline, Octal, Hex, Simple, Unknown}
 use Rattle.apd_token.specs.declared.bytes.Class.TheVariants as classes
-use Rattle.apd_token.specs.declared.items.Kind.TheVariants.{Quoted, Codes}
 use Rattle.std.proofs.Math.Utf8.{scalar_cases}
 use Rattle.apd_causes.specs.declared.faults.TokenFault.TheVariants as faults
 use Rattle.apd_token.specs.declared.found.Found.{Found}
@@ -204,6 +203,3 @@ octal_some xs at upto code lt e h =
     let b = get_or xs at 0 in
     let form : CodeOf Octal b (slice_range xs (at + 1) upto) code = (h.digits, h.are, h.value ∙ ap (λ l. numeral 8 (l ++ h.digits)) (slice_one xs at lt), h.scalar) in
     record { beyond = omega (arith, h.count); within = h.within; is_code = subst (λ (k : Escape). CodeOf k b (slice_range xs (at + 1) upto) code) e form }
-
-pub kind_of_quote : (q : ℕ) → (b : Bool) → (q == 39) ≡ b → quoted_kind q ≡ (if b then Quoted else Codes)
-kind_of_quote q b e = rw e refl

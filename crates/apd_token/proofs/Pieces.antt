@@ -82,9 +82,6 @@ graphic_scans xs at upto k lt le e form all stops none =
     scans xs at upto (Item k) _ _ lt le first refl
     (graphic at k b bs (drop upto xs) e form' stops (λ begun. none (subst BeginsComment (sym split) begun)))
 
-pub all_digits : (xs : List ℕ) (at upto : ℕ) → at < upto → upto ≤ length xs → class_of (get_or xs at 0) ≡ classes.Digit → AllIn sets.Digits (slice_range xs (at + 1) upto) → AllIn sets.Digits (slice_range xs at upto)
-all_digits xs at upto lt le e all = subst (AllIn sets.Digits) (sym (slice_first xs at upto lt le)) (class_digit (get_or xs at 0) e, all)
-
 pub integer_scans : (xs : List ℕ) (at upto : ℕ) (w : Found) → at < upto → upto ≤ length xs
     → class_of (get_or xs at 0) ≡ classes.Digit
     → AllIn sets.Digits (slice_range xs (at + 1) upto) → StopsRun sets.Digits (drop upto xs)

@@ -1,9 +1,8 @@
 -- Parts of a text, and runs in them.
-use Rattle.std.proofs.Common.{◌≡◌, ℕ, ◌+◌, ◌-◌, ◌<◌, ◌≤◌, List, [], ◌∷◌, ◌++◌, length, get_or, take, drop, refl, sym, ◌∙◌, ap, subst, Bool, true, false, if◌then◌else◌, zero, suc, arith, add-one, append_assoc, length-append, length-take-le, length-drop, get_or-take, get_or-drop}
+use Rattle.std.proofs.Common.{◌≡◌, ℕ, ◌+◌, ◌-◌, ◌<◌, ◌≤◌, List, [], ◌∷◌, ◌++◌, length, get_or, take, drop, refl, sym, ◌∙◌, ap, subst, Bool, true, false, if◌then◌else◌, arith, add-one, append_assoc, length-append, length-take-le, length-drop, get_or-take, get_or-drop}
 use Rattle.std.specs.List.{slice_range}
 use Rattle.std.proofs.lemmas.List.{take_more, drop_more, append_cancel_right, get_or_at, get_or-append-add}
 use Rattle.std.proofs.lemmas.List.Folds.{drop_split}
-use Rattle.std.proofs.lemmas.Bool.Decides.{nat_tests}
 use Rattle.apd_token.specs.Bytes.{in_set, class_of}
 use Rattle.apd_token.specs.Quotes.{AllIn}
 use Rattle.apd_token.specs.Grammar.{HasNoClose, Begins}
@@ -86,11 +85,6 @@ drop_two xs at lt =
 pub slice_one : (xs : List ℕ) (a : ℕ) → a < length xs → slice_range xs a (a + 1) ≡ get_or xs a 0 ∷ []
 slice_one xs a lt = slice_more xs a a (omega arith) lt ∙ ap (λ l. l ++ get_or xs a 0 ∷ []) (slice_none xs a)
 
-pub AllIn_at : (set : Set) (xs : List ℕ) (k : ℕ) → AllIn set xs → k < length xs → in_set set (get_or xs k 0) ≡ true
-AllIn_at set [] k all lt = absurd (omega arith)
-AllIn_at set (x ∷ xs) zero all lt = all.0
-AllIn_at set (x ∷ xs) (suc k) all lt = AllIn_at set xs k all.1 (omega arith)
-
 -- the class of a byte, by its tests
 digit_chain : (a b c d e f g h i : Bool) → (if a then classes.Layout else (if b then classes.Small else (if c then classes.Capital else (if d then classes.Digit
     else (if e then classes.Graphic else (if f then classes.Bracket else (if g then classes.Solo else (if h then classes.Percent else (if i then classes.Quote else classes.Other))))))))) ≡ classes.Digit → d ≡ true
@@ -123,9 +117,6 @@ class_digit b e = digit_chain _ _ _ _ _ _ _ _ _ e
 
 pub class_graphic : (b : ℕ) → class_of b ≡ classes.Graphic → in_set sets.Symbols b ≡ true
 class_graphic b e = graphic_chain _ _ _ _ _ _ _ _ _ e
-
-pub digit_low : (b : ℕ) → in_set sets.Digits b ≡ true → 48 ≤ b
-digit_low b h = grind (arith, nat_tests)
 
 -- two parts side by side
 pub slice_join : (xs : List ℕ) (a b c : ℕ) → a ≤ b → b ≤ c → slice_range xs a c ≡ slice_range xs a b ++ slice_range xs b c

@@ -22,10 +22,6 @@ pub AllIn-right : (set : Set) (xs ys : List ℕ) → AllIn set (xs ++ ys) → Al
 AllIn-right set [] ys all = all
 AllIn-right set (x ∷ xs) ys all = AllIn-right set xs ys all.1
 
-pub AllIn-left : (set : Set) (xs ys : List ℕ) → AllIn set (xs ++ ys) → AllIn set xs
-AllIn-left set [] ys all = tt
-AllIn-left set (x ∷ xs) ys all = (all.0, AllIn-left set xs ys all.1)
-
 -- a closed comment isn't an open one
 comment_is_closed : (bytes after : List ℕ) → IsComment bytes → IsOpenComment bytes after → ⊥
 comment_is_closed bytes after closed open_one =

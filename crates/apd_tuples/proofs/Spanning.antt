@@ -46,9 +46,6 @@ wider goals goals' rows m h =
 pub wider_spots : (goals goals' : List PastCell) (rows : List Row) → HasMore goals goals' → AreSpanned (length goals) rows → spots_in goals' rows ≡ spots_in goals rows
 wider_spots goals goals' rows m h = ap (λ gs. spots_in gs rows) m.1 ∙ spots_more goals m.0 rows h
 
-pub wider_length : (goals goals' : List PastCell) → HasMore goals goals' → length goals ≤ length goals'
-wider_length goals goals' m = omega (arith, ap length m.1, length-append goals m.0)
-
 pub put_length : (goals goals' places : List PastCell) (cells : List Cell) → goals' ≡ goals ++ placed_all places cells → length goals' ≡ length goals + length cells
 put_length goals goals' places cells e = omega (arith, ap length e, length-append goals (placed_all places cells), length-map cells (place_of_cell places))
 

@@ -28,9 +28,3 @@ brings_no_variable a b (Some s) h = h.brings
 pub none_exactly : (a b : Term) (x : Option (List (ℕ × Term))) → IsAnswer a b x → IsNone x ↔ HasNoUnifier a b
 none_exactly a b None h = (λ e. h, λ n. refl)
 none_exactly a b (Some s) h = (λ e. (cc), λ n. absurd (n (term_for s) h.unifies))
-
--- and the other way, from the facts that a contract says
-pub IsAnswer_from_facts : (a b : Term) (x : Option (List (ℕ × Term))) → IfSome x (λ s. Unifies (term_for s) a b) → IfSome x (λ s. IsMostGeneral (term_for s) a b)
-    → IfSome x (λ s. BringsNoVariable s a b) → (IsNone x ↔ HasNoUnifier a b) → IsAnswer a b x
-IsAnswer_from_facts a b None u m i n = n.0 refl
-IsAnswer_from_facts a b (Some s) u m i n = record { unifies = u; most_general = m; brings = i }

@@ -1,11 +1,11 @@
 -- A term of a head and the term at a cell, which are made equal.
-use Rattle.std.proofs.Common.{◌≡◌, ◌≢◌, inl, inr, ℕ, zero, suc, ◌+◌, ◌<◌, ◌≤◌, Bool, true, false, List, [], ◌∷◌, ◌++◌, length, get_or, take, drop, refl, sym, ◌∙◌, ap, subst, arith, append_assoc}
-use Rattle.std.specs.Prelude.{OnOk, Option, Some, None, Result, Ok, Err, slice_get}
+use Rattle.std.proofs.Common.{◌≡◌, ◌≢◌, inl, inr, ℕ, ◌+◌, ◌<◌, ◌≤◌, Bool, true, false, List, [], ◌∷◌, ◌++◌, length, get_or, take, drop, refl, sym, ◌∙◌, ap, subst, arith, append_assoc}
+use Rattle.std.specs.Prelude.{OnOk, Some, Result, Ok, Err, slice_get}
 use Rattle.std.proofs.lemmas.Bool.{cases_eq}
 use Rattle.std.proofs.lemmas.List.{append-nil, drop_more, get_or_append_left, length-append, take_at}
 use Rattle.apd_term.specs.declared.term.Sym.{Sym}
 use Rattle.apd_term.specs.declared.term.Sym.TheVariants.{Var, Int, Fun}
-use Rattle.apd_term.specs.Term.{Term, variable, compound, none, terms_of, apply, spell, variables, arity_of, first_of, read_all, term_of, IsAmong, IsTerms, Occurs}
+use Rattle.apd_term.specs.Term.{Term, variable, compound, terms_of, apply, spell, variables, arity_of, first_of, read_all, term_of, IsTerms, Occurs}
 use Rattle.apd_term.specs.Substitution.{term_for, single, followed_by}
 use Rattle.apd_term.specs.Canonical.{shifted}
 use Rattle.apd_term.proofs.Among.{IsAmong-left, IsAmong-right, IsAmong-append}
@@ -13,7 +13,7 @@ use Rattle.apd_term.proofs.Applying.{apply-followed_by, apply-same}
 use Rattle.apd_term.proofs.Variants.{apply-agree}
 use Rattle.apd_term.proofs.Pairs.{term_for-same, term_for-other}
 use Rattle.apd_term.proofs.Spelling.{under_name, list_of-terms_of, some_symbol}
-use Rattle.apd_unify.specs.Heads.{HasGoneOn, IsMade, IsMatched, IsLoadedFor, Matches}
+use Rattle.apd_unify.specs.Heads.{HasGoneOn, IsLoadedFor, Matches}
 use Rattle.apd_unify.specs.Unified.{IsUnified, IsUnification}
 use Rattle.apd_unify.specs.Unifier.{OccursIn, BringsNoVariable, HasNoUnifier, IsUnifier}
 use Rattle.apd_unify.proofs.Beginning.{first_symbol-apply, apart_first, no_unifier_apart}
@@ -24,7 +24,6 @@ use Rattle.apd_cells.specs.Stored.{Stored}
 use Rattle.apd_cells.specs.Store.{written, meaning, term_at, symbol_at, loaded, IsEnd, IsSound, IsStore, Keeps}
 use Rattle.apd_cells.specs.declared.slots.Slot.{Slot}
 use Rattle.apd_cells.specs.declared.slots.Slot.TheVariants.{New, Own, Given}
-use Rattle.apd_cells.specs.declared.heap.Note.TheVariants.{Loaded}
 use Rattle.apd_cells.proofs.Bindings.{Keeps-self}
 use Rattle.apd_cells.proofs.Following.{written-variable}
 use Rattle.apd_cells.proofs.Keeping.{meaning-loaded, term_at-others, made_loaded, Keeps-loaded, Keeps-trans}
@@ -228,10 +227,6 @@ matched_slot r s s' slots at v x t store i was set is l u q =
     let set_there : IsSet (slot_at slots v) = subst IsSet (sym was) set in
     let inside = subst (λ y. cell_of y < length s.cells) was (inside_of s.cells s.variables i.owner v (slot_at slots v) (i.each v) set_there).inside in
     subst (Matches r s s' slots slots at) (sym is) (matched_cell r s s' slots at (cell_of x) v store i set_there (sym (ap cell_of was)) l inside u q)
-
-pub slot_inside : (s : Stored) (slots : List Slot) (v : ℕ) (x : Slot) → AreSlots s.cells s.variables slots → slot_at slots v ≡ x → IsSet x → cell_of x < length s.cells
-slot_inside s slots v x i was set =
-    subst (λ y. cell_of y < length s.cells) was (inside_of s.cells s.variables i.owner v (slot_at slots v) (i.each v) (subst IsSet (sym was) set)).inside
 
 -- the only symbol of a variable
 pub one_variable : (xs : List Sym) (v : ℕ) → slice_get xs 0 ≡ Some (Var v) → term_of xs ≡ variable v

@@ -1,23 +1,19 @@
 -- The terms of a goal and of a head are made equal one after another.
-use Rattle.std.proofs.Common.{◌≡◌, ◌⊎◌, inl, inr, ℕ, zero, suc, ◌+◌, ◌<◌, ◌≤◌, Option, Some, None, List, [], ◌∷◌, ◌++◌, length, get_or, take, drop, map, refl, sym, ◌∙◌, ap, subst, arith, append_assoc}
-use Rattle.std.specs.List.{flat_map, zip}
+use Rattle.std.proofs.Common.{◌≡◌, ◌⊎◌, inl, inr, ℕ, zero, suc, List, [], ◌∷◌, ◌++◌, length, take, drop, map, refl, sym, ◌∙◌, ap, subst, arith}
+use Rattle.std.specs.List.{zip}
 use Rattle.std.proofs.lemmas.Bool.{cases_eq}
-use Rattle.std.proofs.lemmas.List.{append-nil, drop-append-le, drop_more, length-append, length-drop, map-append}
-use Rattle.std.proofs.lemmas.List.Concat.{flat_map-append}
 use Rattle.apd_term.specs.declared.term.Sym.{Sym}
 use Rattle.apd_term.specs.declared.term.Sym.TheVariants.{Var, Int, Fun}
-use Rattle.apd_term.specs.Term.{Term, variable, compound, terms_of, list_of, apply, apply_all, spell, size, variables, first_of, read_all, IsAmong, IsTerms, Occurs}
-use Rattle.apd_term.specs.Spelling.{variable_in, read_all-spell}
+use Rattle.apd_term.specs.Term.{Term, variable, compound, terms_of, list_of, apply, apply_all, variables, read_all, IsAmong, IsTerms, Occurs}
 use Rattle.apd_term.specs.Substitution.{term_for, with_applied, followed_by, Unifies}
 use Rattle.apd_term.proofs.Among.{IsAmong-left, IsAmong-right, IsAmong-append}
 use Rattle.apd_term.proofs.Applying.{apply-followed_by, apply-same, apply-variable}
-use Rattle.apd_term.proofs.Variants.{apply-agree}
 use Rattle.apd_term.proofs.Pairs.{term_for-same, term_for-other}
-use Rattle.apd_term.proofs.Spelling.{under_name, list_of-terms_of, read_all-flat_map_all, IsTerms-flat_map, flat_map-variables}
+use Rattle.apd_term.proofs.Spelling.{under_name, list_of-terms_of}
 use Rattle.apd_unify.specs.Textbook.{Equation, apply_equations}
-use Rattle.apd_unify.specs.Unifier.{OccursIn, BringsNoVariable, HasNoUnifier, IsUnifier}
+use Rattle.apd_unify.specs.Unifier.{OccursIn, BringsNoVariable, IsUnifier}
 use Rattle.apd_unify.proofs.Rounds.{UnifiesAll, OccursInAll, apply_kept, Unifies-same, UnifiesAll-kept, UnifiesAll-followed_by, UnifiesAll-append, UnifiesAll-split, OccursInAll-append}
-use Rattle.apd_unify.proofs.Rules.{Decomposes, decomposes}
+use Rattle.apd_unify.proofs.Rules.{decomposes}
 use Rattle.apd_cells.proofs.Numbering.{occurs_in_image}
 use Rattle.apd_cells.proofs.Passing.{list_of-apply_all}
 

@@ -1,5 +1,5 @@
 -- A unifier of named terms brings in no other names.
-use Rattle.std.proofs.Common.{ℕ, zero, suc, ◌==◌, ◌&&◌, Bool, true, false, Option, Some, None, ◌≡◌, List, [], ◌∷◌, ◌++◌, ◌+◌, length, if◌then◌else◌, subst}
+use Rattle.std.proofs.Common.{ℕ, zero, suc, ◌==◌, ◌&&◌, Bool, true, false, Option, Some, None, List, [], ◌∷◌, ◌++◌, ◌+◌, length, if◌then◌else◌}
 use Rattle.std.specs.List.{zip}
 use Rattle.std.specs.Ordering.{int_eq}
 use Rattle.apd_term.specs.Term.{Term, Terms, variable, integer, compound, none, more, list_of, arguments, size, variables}
@@ -126,7 +126,3 @@ solution_in-named n (suc k) (suc m) (e ∷ es) found equations pairs =
 pub unifier_of-named : (n : ℕ) (a b : Term) → IsNamed n a → IsNamed n b → AnswerIsNamed n (unifier_of a b)
 unifier_of-named n a b left right =
     solution_in-named n (suc (length (variables a ++ variables b))) (size a + size b) ((a, b) ∷ []) [] (left, right, tt) tt
-
--- what the unifier of named terms puts for a variable is named
-pub images_of_unifier-named : (n : ℕ) (a b : Term) (s : List (ℕ × Term)) → IsNamed n a → IsNamed n b → unifier_of a b ≡ Some s → (v : ℕ) → IsNamed n (term_for s v)
-images_of_unifier-named n a b s left right is = term_for-named n s (subst (AnswerIsNamed n) is (unifier_of-named n a b left right))

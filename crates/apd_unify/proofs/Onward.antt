@@ -1,36 +1,25 @@
 -- One term of a head after another is made equal with one of a goal.
-use Rattle.std.proofs.Common.{◌≡◌, ◌≢◌, inl, inr, ℕ, zero, suc, ◌+◌, ◌-◌, ◌<◌, ◌≤◌, Bool, true, false, Option, Some, None, List, [], ◌∷◌, ◌++◌, length, get_or, take, drop, map, refl, sym, ◌∙◌, ap, subst, arith, append_assoc}
-use Rattle.std.specs.List.{flat_map, zip}
-use Rattle.std.proofs.lemmas.List.{append-nil, drop-append-le, drop_more, drop_all, length-append, length-drop, map-append}
+use Rattle.std.proofs.Common.{◌≡◌, inl, inr, ℕ, zero, suc, ◌+◌, ◌-◌, ◌<◌, ◌≤◌, List, [], ◌∷◌, ◌++◌, length, take, drop, map, refl, sym, ◌∙◌, ap, subst, arith}
+use Rattle.std.specs.List.{flat_map}
+use Rattle.std.proofs.lemmas.List.{drop-append-le, length-append, map-append}
 use Rattle.std.proofs.lemmas.List.Concat.{flat_map-append}
 use Rattle.apd_term.specs.declared.term.Sym.{Sym}
-use Rattle.apd_term.specs.declared.term.Sym.TheVariants.{Var, Int, Fun}
-use Rattle.apd_term.specs.Term.{Term, variable, apply, spell, size, variables, first_of, read_all, IsAmong, IsTerms, Occurs}
-use Rattle.apd_term.specs.Spelling.{variable_in, read_all-spell}
+use Rattle.apd_term.specs.Term.{Term, apply, spell, size, variables, first_of, read_all, IsAmong, IsTerms}
+use Rattle.apd_term.specs.Spelling.{variable_in}
 use Rattle.apd_term.specs.Substitution.{term_for, followed_by}
 use Rattle.apd_term.proofs.Among.{IsAmong-left, IsAmong-right, IsAmong-append}
-use Rattle.apd_term.proofs.Applying.{apply-followed_by, apply-same, apply-variable}
+use Rattle.apd_term.proofs.Applying.{apply-followed_by}
 use Rattle.apd_term.proofs.Variants.{apply-agree}
-use Rattle.apd_term.proofs.Spelling.{read_all-flat_map_all, IsTerms-flat_map, IsTerms-tail, flat_map-variables}
-use Rattle.apd_unify.specs.Heads.{HasGoneOn, IsMade, IsMatched, IsPastFirst, Matches, MeetsSymbol}
-use Rattle.apd_unify.specs.Textbook.{Equation, apply_equations}
-use Rattle.apd_unify.specs.Unifier.{HasNoUnifier, IsUnifier}
-use Rattle.apd_unify.proofs.Matched.{fits_back}
-use Rattle.apd_unify.proofs.Matching.{IsMatching, first_matching, last_matching, composed, term_for-composed, apply-composed, matched_round, matching_symbol, equations_between, zip_applied, zip_nothing}
+use Rattle.apd_term.proofs.Spelling.{read_all-flat_map_all, IsTerms-flat_map, flat_map-variables}
+use Rattle.apd_unify.specs.Heads.{IsPastFirst}
 use Rattle.apd_unify.proofs.Pairing.{past_run}
-use Rattle.apd_cells.specs.Slots.{slot_at, AreSlots, EachGetsAny, GetsAny, IsSlot, value_of, value_in, Numbering, Fits}
 use Rattle.apd_cells.specs.Stored.{Stored}
-use Rattle.apd_cells.specs.Store.{written, meaning, term_at, HasCells, IsSound, IsStore, Keeps}
-use Rattle.apd_cells.specs.Work.{run_of, IsRun, AreRuns, run_symbols, runs_symbols, GoesTo, PassesOn}
-use Rattle.apd_cells.specs.declared.slots.Slot.{Slot}
-use Rattle.apd_cells.specs.declared.slots.Slot.TheVariants.{New, Own, Given}
+use Rattle.apd_cells.specs.Store.{written, meaning, term_at, HasCells, IsSound}
+use Rattle.apd_cells.specs.Work.{run_of, IsRun, AreRuns, run_symbols, runs_symbols}
 use Rattle.apd_cells.specs.declared.walk.Run.{Run}
-use Rattle.apd_cells.proofs.Bindings.{Keeps-self}
 use Rattle.apd_cells.proofs.Compounds.{read_past}
-use Rattle.apd_cells.proofs.Keeping.{Keeps-trans}
 use Rattle.apd_cells.proofs.Meaning.{HasCells-of}
-use Rattle.apd_cells.proofs.Passing.{IsTerms-at, run_one, run_one-is, run_inside}
-use Rattle.apd_cells.proofs.Standing.{slots_more}
+use Rattle.apd_cells.proofs.Passing.{IsTerms-at, run_inside}
 use Rattle.apd_cells.proofs.Written.{IsTerms-drop, read_all-append}
 
 -- the first term of a run

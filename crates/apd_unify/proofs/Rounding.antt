@@ -1,5 +1,5 @@
 -- What a unification keeps, from one pair of terms to the next.
-use Rattle.std.proofs.Common.{Some, None, ◌≡◌, inl, inr, ℕ, ◌+◌, ◌-◌, ◌<◌, if◌then◌else◌, List, [], ◌∷◌, ◌++◌, length, map, refl, sym, ◌∙◌, ap, subst, arith}
+use Rattle.std.proofs.Common.{Some, None, ◌≡◌, inl, inr, ℕ, ◌+◌, ◌-◌, ◌<◌, List, [], ◌∷◌, ◌++◌, length, map, refl, sym, ◌∙◌, ap, subst, arith}
 use Rattle.std.specs.List.{zip}
 use Rattle.apd_term.specs.Term.{Term, terms_of, apply, apply_all, variables}
 use Rattle.apd_term.specs.Substitution.{term_for, single, extended, followed_by}

@@ -1,17 +1,14 @@
 -- Why what is done with one equation is right.
-use Rattle.std.proofs.Common.{◌≡◌, ◌≢◌, inl, inr, ℕ, ◌+◌, ◌<◌, List, [], ◌∷◌, length, get_or, refl, sym, ◌∙◌, ap, subst, arith}
+use Rattle.std.proofs.Common.{◌≡◌, ◌≢◌, inl, inr, ℕ, ◌+◌, ◌<◌, [], ◌∷◌, length, get_or, refl, sym, ◌∙◌, ap, subst, arith}
 use Rattle.apd_term.specs.declared.term.Sym.{Sym}
-use Rattle.apd_term.specs.declared.term.Sym.TheVariants.{Var, Int, Fun}
+use Rattle.apd_term.specs.declared.term.Sym.TheVariants.{Var}
 use Rattle.apd_term.specs.Term.{variable, apply, spell, arity_of, Occurs}
-use Rattle.apd_term.proofs.Spelling.{spell-injective}
 use Rattle.apd_unify.specs.Unifier.{HasNoUnifier}
 use Rattle.apd_unify.proofs.Steps.{cycle}
-use Rattle.apd_unify.specs.declared.unify.Solved.{Solved}
-use Rattle.apd_unify.specs.declared.unify.Solved.TheVariants.{Equal, Bound, Clash, Arguments}
 use Rattle.apd_cells.specs.Stored.{Stored}
 use Rattle.apd_cells.specs.Store.{meaning, term_at, bound, MayBind, IsStore, IsEnd}
 use Rattle.apd_cells.specs.Work.{run_symbols}
-use Rattle.apd_unify.specs.Unifying.{HasEliminated, HasArguments, Solves}
+use Rattle.apd_unify.specs.Unifying.{HasEliminated}
 use Rattle.apd_cells.proofs.Meaning.{meaning-free}
 use Rattle.apd_cells.proofs.Following.{written-variable, variable-below}
 use Rattle.apd_cells.proofs.Ending.{spell_end}
@@ -79,10 +76,6 @@ eliminated_swapped s new a b h = record {
   is = h.is;
 }
 
-pub equal_variables : (s : Stored) (v w a b : ℕ) → a < length s.cells → b < length s.cells
-    → get_or s.cells a (Var 0) ≡ Var v → get_or s.cells b (Var 0) ≡ Var w → IsEnd s a → IsEnd s b → v ≡ w → term_at s a ≡ term_at s b
-equal_variables s v w a b l m is it e f q = variable_end s a v l e is ∙ ap variable q ∙ sym (variable_end s b w m f it)
-
 -- a variable was bound to a term that it doesn't stand in
 pub bound_to_term : (s new : Stored) (v at to : ℕ) → at < length s.cells → get_or s.cells at (Var 0) ≡ Var v → IsEnd s at
     → ¬ Occurs v (term_at s to) → new ≡ bound s v to → HasEliminated s new at to
@@ -111,30 +104,3 @@ no_unifier_clash s a b x y h l m ea eb ex ey nx ny d =
       left = subst IsFixed (sym p) nx;
       right = subst IsFixed (sym q) ny;
     }) u u
-
--- equal symbols with nothing under them
-pub equal_atoms : (s : Stored) (a b : ℕ) (x y : Sym) → IsStore s.cells s.variables s.trail → a < length s.cells → b < length s.cells
-    → IsEnd s a → IsEnd s b → x ≡ get_or s.cells a (Var 0) → y ≡ get_or s.cells b (Var 0) → x ≡ y → arity_of x ≡ 0 → term_at s a ≡ term_at s b
-equal_atoms s a b x y h l m ea eb ex ey e z =
-    spell-injective (term_at s a) (term_at s b)
-    (one a l ea (ap arity_of (sym ex) ∙ z) ∙ ap (λ r. r ∷ []) (sym ex ∙ e ∙ ey) ∙ sym (one b m eb (ap arity_of (sym (e ∙ ey)) ∙ z)))
-  where
-    one : (c : ℕ) → c < length s.cells → IsEnd s c → arity_of (get_or s.cells c (Var 0)) ≡ 0 → spell (term_at s c) ≡ get_or s.cells c (Var 0) ∷ []
-    one c l e q = spell_end s c h l e ∙ ap (λ j. get_or s.cells c (Var 0) ∷ run_symbols s (c + 1) j) q
-
--- equal symbols with something under them
-pub has_arguments : (cells : List Sym) (a b n : ℕ) (x y : Sym) → x ≡ get_or cells a (Var 0) → y ≡ get_or cells b (Var 0) → x ≡ y → n ≡ arity_of x → n ≢ 0
-    → HasArguments cells a b n
-has_arguments cells a b n (Var v) y ex ey e m z = absurd (z m)
-has_arguments cells a b n (Int i) y ex ey e m z = absurd (z m)
-has_arguments cells a b n (Fun f k) y ex ey e m z = record {
-  f = f;
-  left_symbol = sym ex ∙ ap (Fun f) (sym m);
-  right_symbol = sym ey ∙ sym e ∙ ap (Fun f) (sym m);
-}
-
-pub solves_swapped : (r : Solved) (s new : Stored) (a b : ℕ) → Solves r s new b a → Solves r s new a b
-solves_swapped Equal s new a b h = (h.0, sym h.1)
-solves_swapped Bound s new a b h = eliminated_swapped s new b a h
-solves_swapped Clash s new a b h = (h.0, λ u g. h.1 u (sym g))
-solves_swapped (Arguments n) s new a b h = (h.0, record { f = h.1.f; left_symbol = h.1.right_symbol; right_symbol = h.1.left_symbol })

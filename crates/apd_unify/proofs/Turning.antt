@@ -1,32 +1,30 @@
 -- The turns of the loop that makes a goal and a head equal.
-use Rattle.std.proofs.Common.{◌≡◌, inl, inr, ℕ, zero, suc, ◌+◌, ◌-◌, ◌<◌, ◌≤◌, Bool, true, false, Option, Some, None, List, [], ◌∷◌, ◌++◌, length, get_or, take, drop, map, refl, sym, ◌∙◌, ap, subst, arith, append_assoc}
+use Rattle.std.proofs.Common.{◌≡◌, ℕ, zero, suc, ◌+◌, ◌<◌, ◌≤◌, true, false, Some, None, List, [], ◌∷◌, ◌++◌, length, get_or, take, drop, map, refl, sym, ◌∙◌, ap, subst, arith, append_assoc}
 use Rattle.std.specs.List.{flat_map, zip}
 use Rattle.std.proofs.lemmas.List.{append-nil, drop_all, drop_more, length-append}
 use Rattle.apd_term.specs.declared.term.Sym.{Sym}
 use Rattle.apd_term.specs.declared.term.Sym.TheVariants.{Var}
-use Rattle.apd_term.specs.Term.{Term, variable, apply, spell, size, arity_of, first_of, read_all, IsTerms}
+use Rattle.apd_term.specs.Term.{Term, apply, spell, size, arity_of, first_of, read_all, IsTerms}
 use Rattle.apd_term.specs.Spelling.{read_all-spell}
 use Rattle.apd_term.specs.Substitution.{term_for, followed_by}
 use Rattle.apd_term.proofs.Applying.{apply-followed_by, apply-same, apply-variable}
 use Rattle.apd_unify.specs.Heads.{HasGoneOn, IsMade, IsMatched, IsPastFirst, Matches, MeetsSymbol}
 use Rattle.apd_unify.specs.Textbook.{Equation, apply_equations}
-use Rattle.apd_unify.specs.Unifier.{HasNoUnifier, IsUnifier}
 use Rattle.apd_unify.proofs.Matched.{fits_back, gone_trans}
-use Rattle.apd_unify.proofs.Matching.{IsMatching, first_matching, last_matching, composed, term_for-composed, apply-composed, matched_round, matching_symbol, equations_between, zip_applied, zip_nothing}
+use Rattle.apd_unify.proofs.Matching.{IsMatching, first_matching, last_matching, composed, apply-composed, matched_round, matching_symbol, equations_between, zip_applied, zip_nothing}
 use Rattle.apd_unify.proofs.Onward.{runs_read, runs_terms, runs_whole, runs_more, runs_applied}
 use Rattle.apd_unify.proofs.Rounds.{UnifiesAll}
-use Rattle.apd_cells.specs.Slots.{slot_at, AreSlots, EachGetsAny, GetsAny, IsSlot, value_in, Numbering, Fits}
+use Rattle.apd_cells.specs.Slots.{AreSlots, value_in, Numbering, Fits}
 use Rattle.apd_cells.specs.Stored.{Stored}
-use Rattle.apd_cells.specs.Store.{written, meaning, term_at, IsSound, Keeps}
+use Rattle.apd_cells.specs.Store.{meaning, term_at, IsSound}
 use Rattle.apd_cells.specs.Work.{run_of, IsRun, AreRuns, Leads, run_symbols, runs_symbols, GoesTo, PassesOn}
 use Rattle.apd_cells.specs.declared.slots.Slot.{Slot}
-use Rattle.apd_cells.specs.declared.slots.Slot.TheVariants.{New, Own, Given}
 use Rattle.apd_cells.specs.declared.walk.Run.{Run}
 use Rattle.apd_cells.proofs.Bindings.{Keeps-self}
 use Rattle.apd_cells.proofs.Compounds.{read_past}
 use Rattle.apd_cells.proofs.Ending.{spell_end}
 use Rattle.apd_cells.proofs.Meaning.{HasCells-of}
-use Rattle.apd_cells.proofs.Passing.{run_one, run_one-is, run_inside}
+use Rattle.apd_cells.proofs.Passing.{run_one, run_one-is}
 use Rattle.apd_cells.proofs.Written.{IsTerms-drop, reads_something}
 
 -- the equations that are left

@@ -32,13 +32,6 @@ under_way_first a b = record {
   same = refl;
 }
 
-pub under_way_last : (a b : Term) (found : List (ℕ × Term)) → IsUnderWay a b [] found → Some found ≡ unifier_of a b
-under_way_last a b found w = last w.eliminations w.left w.same
-  where
-    last : (n : ℕ) → length (variables a ++ variables b) - length found < n → solution_in n w.steps [] found ≡ unifier_of a b → Some found ≡ unifier_of a b
-    last zero l e = absurd (omega arith)
-    last (suc n) l e = e
-
 -- what one rule does, with the two numbers taken apart
 record Unrolled (a b : Term) (e : Equation) (es : List Equation) (found : List (ℕ × Term)) (rule : Rule) : Type 0 where
   n : ℕ
@@ -197,10 +190,6 @@ eliminated_free a b l r items rest found rule v t k is =
     let w = subst (λ es. IsUnderWay a b es found) k.first k.under_way in
     let e = right_rule (l, r) (Eliminate v t) (sym is ∙ k.right) in
     w.round.free v (inl e.there)
-
-pub same_number_decomposed : (a b l r : Term) (items rest : List Equation) (found : List (ℕ × Term)) (rule : Rule)
-    → Takes a b l r items rest found rule → rule ≡ Decompose → length (arguments l) ≡ length (arguments r)
-same_number_decomposed a b l r items rest found rule k is = (right_rule (l, r) Decompose (sym is ∙ k.right)).same_number
 
 pub none_refused : (a b l r : Term) (items rest : List Equation) (found : List (ℕ × Term)) (rule : Rule)
     → Takes a b l r items rest found rule → ((rule ≡ Clash) ⊎ (rule ≡ Cycle)) → None ≡ unifier_of a b

@@ -1,6 +1,6 @@
 -- A finding by replies stays one by replies that are alike, in the form in which it is written, and for the record of the run that
 -- is made again.
-use Rattle.std.proofs.Common.{◌≡◌, ℕ, zero, suc, ◌+◌, ◌≤◌, inl, inr, ◌⊎◌, Bool, true, false, List, [], ◌∷◌, map, length, refl, sym, ◌∙◌, ap, subst, arith, Option, Some, None}
+use Rattle.std.proofs.Common.{◌≡◌, ℕ, zero, suc, ◌+◌, ◌≤◌, inl, inr, ◌⊎◌, Bool, true, false, List, [], ◌∷◌, map, refl, sym, ◌∙◌, ap, subst, arith, Option, Some, None}
 use Rattle.std.proofs.lemmas.List.{length-map}
 use Rattle.std.specs.Prelude.{slice_get, take, ◌==◌}
 use Rattle.std.specs.List.{AllByRecursion, list_any}
@@ -8,10 +8,9 @@ use Rattle.std.specs.Option.{unwrap_or, option_map}
 use Rattle.std.proofs.lemmas.Bool.Decides.{nat_tests}
 use Rattle.apd_term.specs.Term.{Term, variable, integer, compound, apply, variables, predicate_of, IsGround, IsAmong}
 use Rattle.apd_term.specs.Canonical.{canonical, by_appearance, place_of}
-use Rattle.apd_term.specs.Tuple.{canonical_tuple, variables_of_tuple, apply_tuple}
+use Rattle.apd_term.specs.Tuple.{canonical_tuple, variables_of_tuple}
 use Rattle.apd_term.specs.Substitution.{IsInstance, followed_by}
 use Rattle.apd_term.specs.declared.instance.Instance.{Instance}
-use Rattle.apd_term.specs.declared.term.Pred.{Pred}
 use Rattle.apd_term.specs.declared.tuple.Tuple.{Tuple}
 use Rattle.apd_term.proofs.Applying.{apply-followed_by, apply-variable}
 use Rattle.apd_term.proofs.Spelling.{length-apply_all}
@@ -21,13 +20,12 @@ use Rattle.apd_arith.specs.declared.goal.Builtin.{Builtin}
 use Rattle.apd_arith.specs.Builtins.{builtin_of_atom}
 use Rattle.apd_ports.specs.Filter.{is_predicate}
 use Rattle.apd_ports.specs.declared.point.Point.{Point}
-use Rattle.apd_record.specs.Recorded.{Recorded, IsExit, box_at, point_at}
-use Rattle.apd_record.specs.Full.{HasExit}
+use Rattle.apd_record.specs.Recorded.{Recorded, box_at}
 use Rattle.apd_record.specs.Reading.{no_point, row_of, call_atom, calling_point}
 use Rattle.apd_record.specs.Sound.{IsAlwaysTrue}
 use Rattle.apd_record.specs.declared.rows.BoxRow.{BoxRow}
 use Rattle.apd_answers.specs.Bugs.{earlier_atoms}
-use Rattle.apd_answers.specs.Findings.{IsTrueBy, IsTrueWhere, Affirms, IsHeadAmong, IsCandidate, AreCandidates, SaysNoToFirst, instance_for, IsFalseBuiltin, IsDenied, IsClosed, IsUncoveredByReplies, Apart, same, said, through, IsViolationByReplies, IsByReplies, AllDescendByReplies}
+use Rattle.apd_answers.specs.Findings.{IsTrueBy, IsTrueWhere, Affirms, IsHeadAmong, AreCandidates, SaysNoToFirst, instance_for, IsDenied, IsClosed, IsUncoveredByReplies, Apart, same, said, through, IsViolationByReplies, IsByReplies, AllDescendByReplies}
 use Rattle.apd_answers.specs.Store.{Store, SaysYes, SaysNo, SomeTerm}
 use Rattle.apd_answers.specs.Trust.{IsAnswered, IsGranted, is_trusted}
 use Rattle.apd_answers.specs.declared.finding.Finding.{Finding}

@@ -1,7 +1,7 @@
 -- What right and fair entries say is good.
 use Rattle.std.proofs.Common.{◌≡◌, ◌≢◌, ℕ, zero, suc, List, [], ◌∷◌, ◌++◌, length, refl, sym, ◌∙◌, ap, subst, Bool, Option, Some, None}
-use Rattle.std.specs.Prelude.{IfSome, IsSome, slice_get}
-use Rattle.apd_term.specs.Term.{Term, variable, integer, compound, variables, apply}
+use Rattle.std.specs.Prelude.{IfSome, slice_get}
+use Rattle.apd_term.specs.Term.{Term, variable, integer, compound, variables}
 use Rattle.apd_term.specs.Canonical.{canonical, by_appearance, place_of}
 use Rattle.apd_term.specs.declared.tuple.Tuple.{Tuple}
 use Rattle.apd_term.proofs.Spelling.{length-apply_all}
@@ -16,7 +16,7 @@ use Rattle.apd_ports.specs.declared.filter.Filter.{Filter}
 use Rattle.apd_record.specs.Recorded.{Recorded, chain}
 use Rattle.apd_record.specs.Sound.{clause_of}
 use Rattle.apd_trace.specs.Run.{query_run}
-use Rattle.apd_answers.specs.Dialogue.{Turn, asks, goes, ends}
+use Rattle.apd_answers.specs.Dialogue.{Turn}
 use Rattle.apd_answers.specs.Findings.{AllDescendByReplies, IsByReplies}
 use Rattle.apd_answers.specs.Interpretation.{Interpretation}
 use Rattle.apd_answers.specs.Questions.{canonical_question, Fits, FitsAsked}
@@ -37,10 +37,9 @@ use Rattle.apd_text.specs.declared.entry.Told.{Told}
 use Rattle.apd_text.specs.declared.entry.Told.TheVariants.{Wrong, Missing, NoEnd}
 use Rattle.apd_text.specs.declared.entry.Entry.{Entry}
 use Rattle.apd_text.specs.declared.entry.Entry.TheVariants as entry
-use Rattle.apd_account.specs.Account.{Account, Stage, Idle, Moves, Awaits, after_entry, after_turn, with_question, with_reply, with_told, at_stage}
-use Rattle.apd_account.specs.Inquiry.{Inquiry, begun_by, next_in}
+use Rattle.apd_account.specs.Account.{Account, Stage, Idle, Moves, Awaits, after_entry, after_turn, with_question, with_reply, at_stage}
+use Rattle.apd_account.specs.Inquiry.{Inquiry, begun_by}
 use Rattle.apd_account.specs.Right.{IsRight, AreRight, IsAnswer, IsQuestion}
-use Rattle.apd_again.specs.Bare.{bare_record}
 use Rattle.apd_claims.specs.declared.claim.Claim.{Claim}
 use Rattle.apd_claims.specs.declared.claim.Claim.TheVariants.{Tells, Asks, Replies, Finds, Descends}
 use Rattle.apd_check.specs.Checked.{after_claim, known_after, IsPlaced, IsReplyTo}

@@ -1,5 +1,5 @@
 -- What a session's entries are besides right.
-use Rattle.std.specs.Prelude.{◌≡◌, ◌≢◌, ℕ, ◌<◌, ◌≤◌, ⊤, List, [], ◌∷◌, Option, None, Some, IfSome}
+use Rattle.std.specs.Prelude.{◌≡◌, ◌≢◌, ℕ, ◌<◌, ◌≤◌, ⊤, List, [], ◌∷◌, Option, Some, IfSome}
 use Rattle.std.specs.List.{AllByRecursion}
 use Rattle.apd_term.specs.Tuple.{canonical_tuple}
 use Rattle.apd_base.specs.declared.limits.TheConstants.{MOST_SHOWN}

@@ -1,7 +1,6 @@
 -- What closes a term, frame by frame.
-use Rattle.std.proofs.Common.{ℕ, ◌≡◌, ◌+◌, List, [], ◌∷◌, ◌++◌, refl, ap, sym, ◌∙◌, arith, append_assoc, suc}
+use Rattle.std.proofs.Common.{ℕ, ◌≡◌, ◌+◌, List, [], ◌∷◌, ◌++◌, ap, sym, ◌∙◌, arith, append_assoc, suc}
 use Rattle.std.specs.Prelude.{codes, Some, None}
-use Rattle.std.proofs.lemmas.List.{append-nil}
 use Rattle.apd_ops.specs.Table.{Table}
 use Rattle.apd_write.specs.Writing.{Part}
 use Rattle.apd_write.specs.Pending.{AddsClosing, Leaves, resume, takes, takes_in_all, text_in}
@@ -30,9 +29,6 @@ pub record Closing (ops : Table) (names : List (List ℕ)) (frames frames_now : 
   pub adds : out_now ≡ out ++ marks
   pub count : takes_in_all frames ≡ takes_in_all frames_now
   pub text : (after : List Part → List ℕ) (ps : List Part) → resume ops names frames after ps ≡ marks ++ resume ops names frames_now after ps
-
-pub Closing-start : (ops : Table) (names : List (List ℕ)) (frames : List Frame) (out : List ℕ) → Closing ops names frames frames out out
-Closing-start ops names frames out = record { marks = []; adds = sym (append-nil out); count = refl; text = λ after ps. refl }
 
 pub Closing-more : (ops : Table) (names : List (List ℕ)) (frames frames_now popped next : List Frame) (f : Frame) (out out_now out_next : List ℕ) →
     Closing ops names frames frames_now out out_now → frames_now ≡ popped ++ f ∷ [] → Leaves ops names f popped next out_now out_next None →

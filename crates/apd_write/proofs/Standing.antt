@@ -138,9 +138,3 @@ Standing-start ops names max out s is = record {
   terms = rw (whole_read s is) (append-nil (spell (term_of s)) ∙ is);
   expects = rw (whole_read s is) (record { count = refl; text = ap (λ (x : List ℕ). out ++ x) (sym (append-nil (written ops names (term_of s) max))) });
 }
-
-pub Standing-end : (ops : Table) (names : List (List ℕ)) (whole : List ℕ) (frames : List Frame) (out : List ℕ) (here : Place) (s : List Sym) → s ≡ [] → Standing ops names whole frames out here s → ⊥
-Standing-end ops names whole frames out here s none_left standing =
-    let expects : Expects ops names whole frames out here [] = rw none_left at standing.expects in
-    let c = expects.count in
-    omega (arith, c)

@@ -100,9 +100,6 @@ free-space = refl
 closed-free : (t : List ℕ) (b : ℕ) (w : Watch) → IsCloser b → IsEnd (watched w t) → watched w (t ++ b ∷ []) ≡ Free
 closed-free t b w c e = watched-append w t (b ∷ []) ∙ c.closes e
 
-behind-free : (t u : List ℕ) (w : Watch) → watched w t ≡ Free → watched Free u ≡ Free → watched w (t ++ u) ≡ Free
-behind-free t u w e f = watched-append w t u ∙ ap (λ v. watched v u) e ∙ f
-
 pub behind-end : (t u : List ℕ) (w : Watch) → watched w t ≡ Free → IsEnd (watched Free u) → IsEnd (watched w (t ++ u))
 behind-end t u w e f = subst IsEnd (sym (watched-append w t u ∙ ap (λ v. watched v u) e)) f
 

@@ -1,5 +1,5 @@
 -- What is asked of a program's operators and of a session's entries, so that what was written is read back.
-use Rattle.std.specs.Prelude.{◌≡◌, ℕ, ◌+◌, ◌<◌, ◌≤◌, ◌^◌, ⊤, ◌++◌, false, codes, List, [], ◌∷◌, length, Option, None, Some}
+use Rattle.std.specs.Prelude.{◌≡◌, ℕ, ◌+◌, ◌<◌, ⊤, false, List, [], ◌∷◌, Some}
 use Rattle.std.specs.List.{AllByRecursion}
 use Rattle.apd_causes.specs.declared.run.Query.{Query}
 use Rattle.apd_ops.specs.declared.op.TheConstants.{MOST_PRIORITY}

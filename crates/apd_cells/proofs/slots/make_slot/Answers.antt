@@ -1,4 +1,3 @@
-use Rattle.std.proofs.Common.{refl}
 use Rattle.apd_cells.proofs.Standing.{room_one}
 use Rattle.apd_cells.proofs.slots.make_slot.Goals as goal
 

@@ -1,5 +1,4 @@
 use Rattle.std.proofs.Common.{◌∙◌, inl, inr, ◌+◌, ◌-◌, refl, arith}
-use Rattle.apd_cells.specs.Work.{Leads}
 use Rattle.apd_cells.proofs.Passing.{PutBack, passed_here, passed_into, put_back, nothing_back, left_fits, passes_into}
 use Rattle.apd_cells.proofs.walk.pass_from.Goals.{then-here-gt1+in_ok-push, else-here-gt1}
 use Rattle.apd_cells.proofs.walk.pass_from.Goals as goal

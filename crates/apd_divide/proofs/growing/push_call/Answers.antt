@@ -1,4 +1,4 @@
-use Rattle.std.proofs.Common.{List, ◌+◌, ◌++◌, ◌∙◌, ap, sym, length, vec_len, arith}
+use Rattle.std.proofs.Common.{List, ◌+◌, ◌++◌, ◌∙◌, ap, sym, length, arith}
 use Rattle.std.proofs.lemmas.List.{append-nil}
 use Rattle.apd_divide.specs.declared.growing.Pending.{Pending}
 use Rattle.apd_divide.specs.Referring.{goal_at}

@@ -1,4 +1,4 @@
-use Rattle.std.proofs.Common.{sym, ◌∙◌, subst}
+use Rattle.std.proofs.Common.{sym, ◌∙◌}
 use Rattle.std.proofs.lemmas.Result.{on_ok_weaker}
 use Rattle.apd_findings.proofs.Ordering.{row-is}
 use Rattle.apd_findings.proofs.Walks.{seen-before, seen-kept, seen-new, waits-before, waits-kept, waits-new}

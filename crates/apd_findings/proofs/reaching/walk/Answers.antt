@@ -1,4 +1,4 @@
-use Rattle.std.proofs.Common.{◌<◌, ◌≡◌, [], ◌∷◌, List, ℕ, get_or, length, sym, subst, ◌∙◌, rules}
+use Rattle.std.proofs.Common.{◌<◌, [], ◌∷◌, List, ℕ, length, subst, ◌∙◌, rules}
 use Rattle.apd_marks.proofs.Walking.{emptied}
 use Rattle.apd_findings.specs.Reaching.{HasSeen, HasWaiting}
 use Rattle.apd_findings.proofs.Marked.{at-default}

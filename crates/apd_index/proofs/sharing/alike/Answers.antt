@@ -1,4 +1,4 @@
-use Rattle.std.proofs.Common.{List, get_or, refl, subst}
+use Rattle.std.proofs.Common.{List, subst}
 use Rattle.apd_index.specs.Spots.{StandsIn}
 use Rattle.apd_index.specs.declared.sharing.Spot.{Spot}
 use Rattle.apd_index.proofs.Spotted.{some-leaves}

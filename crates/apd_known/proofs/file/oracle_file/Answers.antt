@@ -1,4 +1,3 @@
-use Rattle.std.proofs.Common.{length}
 use Rattle.apd_known.proofs.Dividing.{clauses_stated, token_fault_told}
 use Rattle.apd_known.proofs.file.oracle_file.Goals as goal
 

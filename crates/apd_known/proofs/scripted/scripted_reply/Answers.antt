@@ -1,4 +1,4 @@
-use Rattle.std.proofs.Common.{◌≡◌, ◌<◌, ◌&&◌, false, length, sym, ap, ◌∙◌, arith, Some}
+use Rattle.std.proofs.Common.{◌≡◌, ◌&&◌, false, sym, ap, ◌∙◌, arith, Some}
 use Rattle.apd_answers.specs.Questions.{canonical_question}
 use Rattle.apd_answers.specs.Store.{same_question}
 use Rattle.apd_known.specs.Scripts.{fits_asked}

@@ -1,4 +1,4 @@
-use Rattle.std.proofs.Common.{◌≡◌, Ok, Err, length, sym, ◌∙◌}
+use Rattle.std.proofs.Common.{Ok, Err, length, sym, ◌∙◌}
 use Rattle.std.proofs.lemmas.Result.{err_from_is_err_and}
 use Rattle.apd_talk.specs.Moment.{moment}
 use Rattle.apd_oracle.proofs.Waiting.{given_so, not_given, waited_for}

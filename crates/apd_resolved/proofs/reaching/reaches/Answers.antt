@@ -1,4 +1,4 @@
-use Rattle.std.proofs.Common.{◌≡◌, ◌+◌, ◌-◌, ◌<◌, Bool, true, false, length, refl, sym, subst, arith}
+use Rattle.std.proofs.Common.{◌≡◌, ◌+◌, ◌-◌, ◌<◌, true, false, length, refl, sym, subst, arith}
 use Rattle.apd_term.specs.Term.{variables}
 use Rattle.apd_cells.specs.Store.{written}
 use Rattle.apd_resolved.specs.Noticed.{unseen, Sees}

@@ -1,6 +1,5 @@
 use Rattle.std.proofs.Common.{refl}
-use Rattle.apd_unify.proofs.Matching.{matched_round, matching_symbol}
-use Rattle.apd_unify.proofs.Onward.{is_past_first, is_past_last, runs_applied}
+use Rattle.apd_unify.proofs.Onward.{is_past_first, is_past_last}
 use Rattle.apd_unify.proofs.heads.past_first.Goals as goal
 
 pub returns-then-here-eq1 : goal.returns-then-here-eq1

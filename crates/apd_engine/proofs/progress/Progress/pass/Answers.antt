@@ -1,4 +1,4 @@
-use Rattle.std.proofs.Common.{◌≡◌, ◌+◌, ◌<◌, true, false, refl, arith, sym}
+use Rattle.std.proofs.Common.{◌≡◌, ◌<◌, true, false, refl, arith, sym}
 use Rattle.std.proofs.lemmas.Result.{err_from_is_err_and}
 use Rattle.apd_clauses.specs.Clauses.{tuples_of}
 use Rattle.apd_engine.specs.Search.{stand}

@@ -1,4 +1,4 @@
-use Rattle.std.proofs.Common.{◌≡◌, subst}
+use Rattle.std.proofs.Common.{subst}
 use Rattle.std.specs.Prelude.{IfOk}
 use Rattle.apd_frames.specs.Framed.{frames_of}
 use Rattle.apd_frames.specs.Measures.{MeasuresInnermost}

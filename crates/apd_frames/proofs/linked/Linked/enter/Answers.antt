@@ -4,14 +4,12 @@ use Rattle.apd_cells.specs.Store.{Keeps}
 use Rattle.apd_cells.specs.Stored.{Stored}
 use Rattle.apd_cells.proofs.Bindings.{Keeps-self}
 use Rattle.apd_trace.specs.declared.frame.Called.{Called}
-use Rattle.apd_trace.specs.Frames.{entering}
-use Rattle.apd_frames.specs.Kept.{HasEntered}
 use Rattle.apd_frames.specs.Links.{Instance, instance_of, link_of}
 use Rattle.apd_frames.specs.Instances.{IsInstantiated}
 use Rattle.apd_frames.specs.Linked.{IsFramed}
 use Rattle.apd_frames.specs.Framed.{frames_of}
 use Rattle.apd_frames.proofs.Branching.{framed_kept}
-use Rattle.apd_frames.proofs.Current.{may_call_any, view_of}
+use Rattle.apd_frames.proofs.Current.{may_call_any}
 use Rattle.apd_frames.proofs.Instancing.{undone, no_instance, instance_there}
 use Rattle.apd_frames.proofs.Moving.{enters_back, enters_so, entered_framed}
 use Rattle.apd_frames.proofs.linked.Linked.enter.Goals as goal

@@ -1,5 +1,5 @@
-use Rattle.std.proofs.Common.{◌≡◌, ◌∙◌, refl, ap, subst, sym, None}
-use Rattle.apd_frames.specs.Linked.{numbered, handed_link, Hands, HasHanded, IsFramed}
+use Rattle.std.proofs.Common.{◌≡◌, ◌∙◌, refl, ap, subst, None}
+use Rattle.apd_frames.specs.Linked.{numbered, handed_link, Hands, HasHanded}
 use Rattle.apd_frames.specs.Framed.{frames_of}
 use Rattle.apd_frames.proofs.Current.{view_of, innermost_some, innermost_none, takes_on}
 use Rattle.apd_frames.proofs.Moving.{takes_over, takes_framed, takes_nothing}

@@ -94,7 +94,7 @@ fn fact(alloc: Global) -> Result<Tuple, AllocError>
 }
 
 /// The query begins.
-fn begin(alloc: Global, recorded: &mut Record) -> Result<(), AllocError>
+fn begin_query(alloc: Global, recorded: &mut Record) -> Result<(), AllocError>
     ensures { OnOk result (recorded.new ≡ begun query) }
 {
     let query = query(alloc)?;
@@ -110,7 +110,7 @@ fn begin(alloc: Global, recorded: &mut Record) -> Result<(), AllocError>
 fn call_r(alloc: Global, recorded: &mut Record) -> Result<(), AllocError>
     ensures { OnOk result (recorded.new ≡ r_called) }
 {
-    begin(alloc, recorded)?;
+    begin_query(alloc, recorded)?;
     let atom = call_of_r(alloc)?;
     let opened = recorded.open_box(&atom, PointId(0), true);
     drop(atom);

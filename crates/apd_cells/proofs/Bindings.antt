@@ -8,7 +8,7 @@ use Rattle.apd_term.proofs.Pairs.{term_for-same, term_for-other}
 use Rattle.apd_term.proofs.Applying.{apply-followed_by, variables-apply}
 use Rattle.std.specs.Bool.{Decides}
 use Rattle.std.proofs.lemmas.Bool.Decides.{Decides-eqb}
-use Rattle.apd_cells.specs.declared.heap.Note.TheVariants.{Bound}
+use Rattle.apd_cells.specs.declared.heap.TrailNote.TheVariants.{Bound}
 use Rattle.apd_cells.specs.Stored.{Stored}
 use Rattle.apd_cells.specs.Store.{meaning, term_at, bound, before_notes, at_mark, Keeps}
 use Rattle.apd_cells.proofs.Undoing.{at_mark-here}

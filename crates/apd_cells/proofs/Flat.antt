@@ -16,8 +16,8 @@ use Rattle.apd_term.proofs.Spelling.{length-spell, split_terms}
 use Rattle.apd_cells.proofs.Written.{IsTerms-drop, written-take}
 use Rattle.apd_cells.proofs.Meaning.{HasCells-of}
 use Rattle.apd_cells.proofs.Undoing.{le_or_lt}
-use Rattle.apd_cells.specs.declared.heap.Note.{Note}
-use Rattle.apd_cells.specs.declared.heap.Note.TheVariants.{Loaded, Bound}
+use Rattle.apd_cells.specs.declared.heap.TrailNote.{TrailNote}
+use Rattle.apd_cells.specs.declared.heap.TrailNote.TheVariants.{Loaded, Bound}
 use Rattle.apd_cells.specs.Stored.{Stored}
 use Rattle.apd_cells.specs.Store.{IsStore, meaning, term_at, written}
 use Rattle.apd_cells.specs.Flat.{compound_in, compound_count, AreShort}
@@ -27,7 +27,7 @@ compound_most (Var v) = omega arith
 compound_most (Int i) = omega arith
 compound_most (Fun f n) = grind (arith, nat_tests)
 
-pub compounds_within : (cells : List Sym) (notes : List Note) → compound_count cells notes ≤ length notes
+pub compounds_within : (cells : List Sym) (notes : List TrailNote) → compound_count cells notes ≤ length notes
 compounds_within cells [] = omega arith
 compounds_within cells (Loaded c n ∷ notes) = omega (arith, compounds_within (take c cells) notes)
 compounds_within cells (Bound v c ∷ notes) = omega (arith, compound_most (get_or cells c (Var 0)), compounds_within cells notes)
@@ -60,7 +60,7 @@ single_size w x one v = elim (cases_eq w v) [
   | inr d ↦ ap size (term_for-other (w, x) [] v d)
 ]
 
-pub flat_meaning : (cells : List Sym) (n : ℕ) (notes : List Note) → IsStore cells n notes → compound_count cells notes ≡ 0 → (v : ℕ) → size (meaning cells notes v) ≡ 1
+pub flat_meaning : (cells : List Sym) (n : ℕ) (notes : List TrailNote) → IsStore cells n notes → compound_count cells notes ≡ 0 → (v : ℕ) → size (meaning cells notes v) ≡ 1
 flat_meaning cells n [] h e v = refl
 flat_meaning cells n (Loaded c m ∷ notes) h e v = flat_meaning (take c cells) m notes h.1.1.1 e v
 flat_meaning cells n (Bound w c ∷ notes) h e v =
@@ -72,27 +72,27 @@ flat_meaning cells n (Bound w c ∷ notes) h e v =
     size-applied (term_for (single w x)) (single_size w x one) (meaning cells notes v) ∙ before v
 
 -- the count after one more note
-module _ (cells : List Sym) (notes later : List Note) where
+module _ (cells : List Sym) (notes later : List TrailNote) where
   pub compound_bound : (v to n k : ℕ) → to < length cells → n ≡ compound_count cells notes → later ≡ Bound v to ∷ notes → k ≡ compound_in (get_or cells to (Var 0)) → n + k ≡ compound_count cells later
   compound_bound v to n k inside is new one =
       let e : compound_count cells later ≡ k + compound_count cells notes = ap (compound_count cells) new ∙ ap (λ x. x + compound_count cells notes) (sym one) in
       omega (arith, e, is)
 
-pub compound_loaded : (cells longer : List Sym) (notes later : List Note) (n : ℕ) → take (length cells) longer ≡ cells → later ≡ Loaded (length cells) n ∷ notes → compound_count longer later ≡ compound_count cells notes
+pub compound_loaded : (cells longer : List Sym) (notes later : List TrailNote) (n : ℕ) → take (length cells) longer ≡ cells → later ≡ Loaded (length cells) n ∷ notes → compound_count longer later ≡ compound_count cells notes
 compound_loaded cells longer notes later n front new = ap (compound_count longer) new ∙ ap (λ xs. compound_count xs notes) front
 
 -- where the newest term is put, none is longer than before or than it
-short_more : (cells : List Sym) (notes : List Note) (j k : ℕ) → j ≤ k → AreShort cells notes j → AreShort cells notes k
+short_more : (cells : List Sym) (notes : List TrailNote) (j k : ℕ) → j ≤ k → AreShort cells notes j → AreShort cells notes k
 short_more cells [] j k l h = omega arith
 short_more cells (Loaded c n ∷ notes) j k l h = (omega (arith, h.0), short_more (take c cells) notes j k l h.1)
 short_more cells (Bound v c ∷ notes) j k l h = short_more cells notes j k l h
 
-pub short_loaded : (cells longer : List Sym) (notes later : List Note) (n j k : ℕ) → take (length cells) longer ≡ cells → later ≡ Loaded (length cells) n ∷ notes
+pub short_loaded : (cells longer : List Sym) (notes later : List TrailNote) (n j k : ℕ) → take (length cells) longer ≡ cells → later ≡ Loaded (length cells) n ∷ notes
     → AreShort cells notes j → k ≡ max j (length longer - length cells) → AreShort longer later k
 short_loaded cells longer notes later n j k front new h e =
     subst (λ z. AreShort longer z k) (sym new) (omega arith, subst (λ z. AreShort z notes k) (sym front) (short_more cells notes j k (omega arith) h))
 
-pub short_unloaded : (cells : List Sym) (notes before : List Note) (c n k : ℕ) → notes ≡ Loaded c n ∷ before → AreShort cells notes k → AreShort (take c cells) before k
+pub short_unloaded : (cells : List Sym) (notes before : List TrailNote) (c n k : ℕ) → notes ≡ Loaded c n ∷ before → AreShort cells notes k → AreShort (take c cells) before k
 short_unloaded cells notes before c n k e h = (subst (λ z. AreShort cells z k) e h).1
 
 -- a written term stands among the cells
@@ -104,7 +104,7 @@ written_inside cells c h l =
     let e : d ≡ spell t ++ rest = split_terms d (IsTerms-drop c cells h) (omega (arith, length-drop c cells)) in
     omega (arith, length-drop c cells, ap length e, length-append (spell t) rest, length-spell t)
 
-pub short_written : (cells : List Sym) (n : ℕ) (notes : List Note) (k c : ℕ) → IsStore cells n notes → AreShort cells notes k → c < length cells → size (written cells c) ≤ k
+pub short_written : (cells : List Sym) (n : ℕ) (notes : List TrailNote) (k c : ℕ) → IsStore cells n notes → AreShort cells notes k → c < length cells → size (written cells c) ≤ k
 short_written cells n [] k c h s l = omega (arith, written_inside cells c h.whole l, s)
 short_written cells n (Loaded b m ∷ notes) k c h s l = elim (le_or_lt b c) [
   | inl o ↦ omega (arith, written_inside cells c h.0.whole l, s.0, o)

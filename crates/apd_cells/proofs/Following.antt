@@ -5,7 +5,7 @@ use Rattle.apd_term.specs.declared.term.Sym.{Sym}
 use Rattle.apd_term.specs.declared.term.Sym.TheVariants.{Var, Int, Fun}
 use Rattle.apd_term.specs.Term.{variable, apply}
 use Rattle.apd_term.proofs.Among.{among_at}
-use Rattle.apd_cells.specs.declared.heap.Note.{Note}
+use Rattle.apd_cells.specs.declared.heap.TrailNote.{TrailNote}
 use Rattle.apd_cells.specs.declared.heap.Binding.TheVariants.{Free, At}
 use Rattle.apd_cells.specs.declared.heap.Binding.{Binding}
 use Rattle.apd_cells.specs.Heap.{IsHeap, IsVariable}
@@ -28,17 +28,17 @@ pub written-variable : (cells : List Sym) (c v : ℕ) → c < length cells → g
 written-variable cells c v l e = rw (drop_more cells c (Var 0) l, e) refl
 
 -- a variable in a cell is below the number of variables
-pub variable-below : (cells : List Sym) (n : ℕ) (notes : List Note) (c v : ℕ) → IsStore cells n notes → c < length cells
+pub variable-below : (cells : List Sym) (n : ℕ) (notes : List TrailNote) (c v : ℕ) → IsStore cells n notes → c < length cells
     → get_or cells c (Var 0) ≡ Var v → v < n
 variable-below cells n notes c v h l e = (HasCells-of cells n notes h).below v (among_at cells c v (Var 0) l e)
 
 -- one step along a binding
-pub record Follows (cells : List Sym) (notes : List Note) (c p : ℕ) : Type 0 where
+pub record Follows (cells : List Sym) (notes : List TrailNote) (c p : ℕ) : Type 0 where
   pub inside : p < length cells
   pub same : apply (meaning cells notes) (written cells p) ≡ apply (meaning cells notes) (written cells c)
   pub smaller : rank (get_or cells p (Var 0)) < rank (get_or cells c (Var 0))
 
-pub follows : (cells : List Sym) (n : ℕ) (notes : List Note) (c v p : ℕ) → IsStore cells n notes → c < length cells
+pub follows : (cells : List Sym) (n : ℕ) (notes : List TrailNote) (c v p : ℕ) → IsStore cells n notes → c < length cells
     → get_or cells c (Var 0) ≡ Var v → binding_of notes v ≡ At p → Follows cells notes c p
 follows cells n notes c v p h l e b =
     let k = leads_to cells n notes v p h b in
@@ -55,10 +55,10 @@ read_at (y ∷ ys) zero x d l e = sym e
 read_at (y ∷ ys) (suc c) x d l e = read_at ys c x d (omega arith) e
 
 -- the view of a heap
-abbrev pub viewed : List Sym → List Binding → List Note → Stored
+abbrev pub viewed : List Sym → List Binding → List TrailNote → Stored
 viewed cells bindings notes = record { cells = cells; variables = length bindings; trail = notes }
 
-pub heap_below : (s : Stored) (cells : List Sym) (bindings : List Binding) (notes : List Note) (c v : ℕ) (x : Sym)
+pub heap_below : (s : Stored) (cells : List Sym) (bindings : List Binding) (notes : List TrailNote) (c v : ℕ) (x : Sym)
     → viewed cells bindings notes ≡ s → IsHeap cells bindings notes → c < length s.cells → x ≡ get_or cells c x → x ≡ Var v → v < length bindings
 heap_below s cells bindings notes c v x e h l r is =
     let m : c < length cells = subst (λ (y : Stored). c < length y.cells) (sym e) l in
@@ -71,7 +71,7 @@ pub record HeapFollows (s : Stored) (c p : ℕ) : Type 0 where
   pub smaller : rank (get_or s.cells p (Var 0)) < rank (get_or s.cells c (Var 0))
   pub start : IsVariable (get_or s.cells c (Var 0))
 
-pub heap_follows : (s : Stored) (cells : List Sym) (bindings : List Binding) (notes : List Note) (c v p : ℕ) (x : Sym) (b : Binding)
+pub heap_follows : (s : Stored) (cells : List Sym) (bindings : List Binding) (notes : List TrailNote) (c v p : ℕ) (x : Sym) (b : Binding)
     → viewed cells bindings notes ≡ s → IsHeap cells bindings notes → c < length s.cells → x ≡ get_or cells c x → x ≡ Var v
     → b ≡ get_or bindings v b → b ≡ At p → HeapFollows s c p
 heap_follows s cells bindings notes c v p x b e h l r is rb isb =
@@ -83,7 +83,7 @@ heap_follows s cells bindings notes c v p x b e h l r is rb isb =
     subst (λ (y : Stored). HeapFollows y c p) e (record { inside = k.inside; same = k.same; smaller = k.smaller; start = (v, g) })
 
 -- where a variable's binding leads, as the program reads it
-pub heap_leads : (s : Stored) (cells : List Sym) (bindings : List Binding) (notes : List Note) (v p : ℕ) (b : Binding) → viewed cells bindings notes ≡ s → IsHeap cells bindings notes
+pub heap_leads : (s : Stored) (cells : List Sym) (bindings : List Binding) (notes : List TrailNote) (v p : ℕ) (b : Binding) → viewed cells bindings notes ≡ s → IsHeap cells bindings notes
     → v < length bindings → b ≡ get_or bindings v b → b ≡ At p → (p < length s.cells) × (binding_of s.trail v ≡ At p)
 heap_leads s cells bindings notes v p b e h l rb isb =
     let to : binding_of notes v ≡ At p = sym (h.agrees v) ∙ read_at bindings v b Free l rb ∙ isb in

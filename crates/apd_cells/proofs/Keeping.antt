@@ -5,8 +5,8 @@ use Rattle.apd_term.specs.declared.term.Sym.{Sym}
 use Rattle.apd_term.specs.Term.{Term, apply, spell, first_of, read_all}
 use Rattle.apd_term.specs.Canonical.{shifted}
 use Rattle.apd_term.specs.Spelling.{term_of-spell}
-use Rattle.apd_cells.specs.declared.heap.Note.{Note}
-use Rattle.apd_cells.specs.declared.heap.Note.TheVariants.{Loaded, Bound}
+use Rattle.apd_cells.specs.declared.heap.TrailNote.{TrailNote}
+use Rattle.apd_cells.specs.declared.heap.TrailNote.TheVariants.{Loaded, Bound}
 use Rattle.apd_cells.specs.Stored.{Stored}
 use Rattle.apd_cells.specs.Store.{written, meaning, term_at, IsStore, before_notes, at_mark, Keeps, loaded}
 use Rattle.apd_cells.proofs.Written.{written-append}
@@ -54,7 +54,7 @@ pub kept_same : (s new : Stored) → new ≡ s → HasKept s new
 kept_same s new e = rw e (record { others = λ c l. refl; kept = Keeps-self s })
 
 -- going back in two steps
-pub before_twice : (cells : List Sym) (n : ℕ) (notes : List Note) (j k : ℕ)
+pub before_twice : (cells : List Sym) (n : ℕ) (notes : List TrailNote) (j k : ℕ)
     → (let s = before_notes cells n notes j in before_notes s.cells s.variables s.trail k) ≡ before_notes cells n notes (j + k)
 before_twice cells n [] j k = refl
 before_twice cells n (Loaded c m ∷ notes) zero k = ap (before_notes cells n (Loaded c m ∷ notes)) (omega arith)
@@ -74,7 +74,7 @@ before_twice cells n (Bound v c ∷ notes) (suc j) k =
     ∙ before_twice cells n notes j k
     ∙ sym (not_zero (suc j + k) here (before_notes cells n notes (suc j + k - 1)) (omega arith) ∙ ap (before_notes cells n notes) f)
 
-pub length-before : (cells : List Sym) (n : ℕ) (notes : List Note) (j : ℕ) → length (before_notes cells n notes j).trail ≡ length notes - j
+pub length-before : (cells : List Sym) (n : ℕ) (notes : List TrailNote) (j : ℕ) → length (before_notes cells n notes j).trail ≡ length notes - j
 length-before cells n [] j = omega arith
 length-before cells n (Loaded c m ∷ notes) zero = omega arith
 length-before cells n (Loaded c m ∷ notes) (suc j) =

@@ -12,8 +12,8 @@ use Rattle.apd_term.specs.Spelling.{variable_in}
 use Rattle.apd_term.proofs.Spelling.{flat_map-variables}
 use Rattle.apd_term.proofs.Among.{IsAmong-append}
 use Rattle.apd_cells.proofs.Written.{IsTerms-spell, read_all-append}
-use Rattle.apd_cells.specs.declared.heap.Note.{Note}
-use Rattle.apd_cells.specs.declared.heap.Note.TheVariants.{Loaded}
+use Rattle.apd_cells.specs.declared.heap.TrailNote.{TrailNote}
+use Rattle.apd_cells.specs.declared.heap.TrailNote.TheVariants.{Loaded}
 use Rattle.apd_cells.specs.declared.heap.Binding.{Binding}
 use Rattle.apd_cells.specs.declared.heap.Binding.TheVariants.{Free}
 use Rattle.apd_cells.specs.Heap.{IsHeap, HasMore}
@@ -60,7 +60,7 @@ HasCells-more cells n t h = record {
   ];
 }
 
-pub heap_loaded : (cells new : List Sym) (bindings bnew : List Binding) (notes trail : List Note) (t : Term) (base : ℕ)
+pub heap_loaded : (cells new : List Sym) (bindings bnew : List Binding) (notes trail : List TrailNote) (t : Term) (base : ℕ)
     → IsHeap cells bindings notes → new ≡ cells ++ spell (shifted base t) → length bnew ≡ above (length bindings) (variables (shifted base t))
     → HasMore bindings bnew → trail ≡ Loaded (length cells) (length bindings) ∷ notes → IsHeap new bnew trail
 heap_loaded cells new bindings bnew notes trail t base h e n m i =
@@ -74,7 +74,7 @@ heap_loaded cells new bindings bnew notes trail t base h e n m i =
       agrees = λ v. get_or-more bindings bnew v m ∙ h.agrees v ∙ ap (λ z. binding_of z v) (sym i);
     }
 
-pub viewed_loaded : (s : Stored) (cells new : List Sym) (bindings bnew : List Binding) (notes trail : List Note) (t : Term) (base : ℕ)
+pub viewed_loaded : (s : Stored) (cells new : List Sym) (bindings bnew : List Binding) (notes trail : List TrailNote) (t : Term) (base : ℕ)
     → viewed cells bindings notes ≡ s → new ≡ cells ++ spell (shifted base t) → length bnew ≡ above (length bindings) (variables (shifted base t))
     → trail ≡ Loaded (length cells) (length bindings) ∷ notes → viewed new bnew trail ≡ loaded s t base
 viewed_loaded s cells new bindings bnew notes trail t base g e n i =

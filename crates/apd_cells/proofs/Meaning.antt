@@ -10,8 +10,8 @@ use Rattle.apd_term.specs.Substitution.{term_for, single}
 use Rattle.apd_term.proofs.Applying.{apply-followed_by, apply-variable}
 use Rattle.apd_term.proofs.Variants.{apply-agree}
 use Rattle.apd_term.proofs.Pairs.{term_for-same, term_for-other}
-use Rattle.apd_cells.specs.declared.heap.Note.{Note}
-use Rattle.apd_cells.specs.declared.heap.Note.TheVariants.{Loaded, Bound}
+use Rattle.apd_cells.specs.declared.heap.TrailNote.{TrailNote}
+use Rattle.apd_cells.specs.declared.heap.TrailNote.TheVariants.{Loaded, Bound}
 use Rattle.apd_cells.specs.declared.heap.Binding.TheVariants.{Free, At}
 use Rattle.apd_cells.specs.Store.{written, meaning, binding_of, HasCells, IsStore}
 use Rattle.apd_cells.proofs.Written.{written-take}
@@ -22,14 +22,14 @@ apply-absent v x t n =
     apply-agree (term_for (single v x)) variable t (λ w o. term_for-other (v, x) [] w (λ e. n (subst (λ y. Occurs y t) (sym e) o)))
     ∙ apply-variable t
 
-pub binding-other : (w c : ℕ) (notes : List Note) (v : ℕ) → w ≢ v → binding_of (Bound w c ∷ notes) v ≡ binding_of notes v
+pub binding-other : (w c : ℕ) (notes : List TrailNote) (v : ℕ) → w ≢ v → binding_of (Bound w c ∷ notes) v ≡ binding_of notes v
 binding-other w c notes v h = grind (arith, nat_tests)
 
-pub binding-same : (w c : ℕ) (notes : List Note) (v : ℕ) → w ≡ v → binding_of (Bound w c ∷ notes) v ≡ At c
+pub binding-same : (w c : ℕ) (notes : List TrailNote) (v : ℕ) → w ≡ v → binding_of (Bound w c ∷ notes) v ≡ At c
 binding-same w c notes v h = grind (arith, nat_tests)
 
 -- a free variable means itself
-pub meaning-free : (cells : List Sym) (notes : List Note) (v : ℕ) → binding_of notes v ≡ Free → meaning cells notes v ≡ variable v
+pub meaning-free : (cells : List Sym) (notes : List TrailNote) (v : ℕ) → binding_of notes v ≡ Free → meaning cells notes v ≡ variable v
 meaning-free cells [] v f = refl
 meaning-free cells (Loaded c n ∷ notes) v f = meaning-free (take c cells) notes v f
 meaning-free cells (Bound w c ∷ notes) v f = elim (cases_eq w v) [
@@ -40,7 +40,7 @@ meaning-free cells (Bound w c ∷ notes) v f = elim (cases_eq w v) [
       ∙ term_for-other (w, t) [] v d
 ]
 
-pub HasCells-of : (cells : List Sym) (n : ℕ) (notes : List Note) → IsStore cells n notes → HasCells cells n
+pub HasCells-of : (cells : List Sym) (n : ℕ) (notes : List TrailNote) → IsStore cells n notes → HasCells cells n
 HasCells-of cells n [] h = h
 HasCells-of cells n (Loaded c m ∷ notes) h = h.0
 HasCells-of cells n (Bound w c ∷ notes) h = HasCells-of cells n notes h.1
@@ -51,7 +51,7 @@ pub record LeadsTo (cells : List Sym) (n v c : ℕ) : Type 0 where
   pub below : v < n
   pub down : (w : ℕ) → get_or cells c (Var 0) ≡ Var w → w < v
 
-pub leads_to : (cells : List Sym) (n : ℕ) (notes : List Note) (v p : ℕ) → IsStore cells n notes → binding_of notes v ≡ At p → LeadsTo cells n v p
+pub leads_to : (cells : List Sym) (n : ℕ) (notes : List TrailNote) (v p : ℕ) → IsStore cells n notes → binding_of notes v ≡ At p → LeadsTo cells n v p
 leads_to cells n [] v p h e = cc
 leads_to cells n (Loaded c m ∷ notes) v p h e =
     let k = leads_to (take c cells) m notes v p h.1.1.1 e in
@@ -72,7 +72,7 @@ leads_to cells n (Bound w c ∷ notes) v p h e = elim (cases_eq w v) [
     at x y e = cc
 
 -- a bound variable means what the term at its cell means
-pub meaning-bound : (cells : List Sym) (n : ℕ) (notes : List Note) (v p : ℕ) → IsStore cells n notes → binding_of notes v ≡ At p
+pub meaning-bound : (cells : List Sym) (n : ℕ) (notes : List TrailNote) (v p : ℕ) → IsStore cells n notes → binding_of notes v ≡ At p
     → meaning cells notes v ≡ apply (meaning cells notes) (written cells p)
 meaning-bound cells n [] v p h e = cc
 meaning-bound cells n (Loaded c m ∷ notes) v p h e =

@@ -7,8 +7,8 @@ use Rattle.apd_term.proofs.Among.{IsAmong-flat_map}
 use Rattle.apd_term.proofs.Applying.{variables-apply}
 use Rattle.apd_term.proofs.Pairs.{term_for-other}
 use Rattle.apd_cells.proofs.Bindings.{Occurs-single}
-use Rattle.apd_cells.specs.declared.heap.Note.{Note}
-use Rattle.apd_cells.specs.declared.heap.Note.TheVariants.{Loaded, Bound}
+use Rattle.apd_cells.specs.declared.heap.TrailNote.{TrailNote}
+use Rattle.apd_cells.specs.declared.heap.TrailNote.TheVariants.{Loaded, Bound}
 use Rattle.apd_cells.specs.Stored.{Stored}
 use Rattle.apd_cells.specs.Store.{written, meaning, term_at, IsStore}
 use Rattle.apd_cells.specs.Numbered.{IsNumbered}
@@ -21,7 +21,7 @@ pub occurs_in_image : (s : ℕ → Term) (v : ℕ) (t : Term) → Occurs v (appl
 occurs_in_image s v t o = IsAmong-flat_map (λ w. variables (s w)) (variables t) v (subst (λ r. IsAmong r v) (variables-apply s t) o)
 
 -- a variable that stands in what another means is free
-settled_in : (cells : List Sym) (n : ℕ) (notes : List Note) (v w : ℕ) → IsStore cells n notes → Occurs v (meaning cells notes w) → meaning cells notes v ≡ variable v
+settled_in : (cells : List Sym) (n : ℕ) (notes : List TrailNote) (v w : ℕ) → IsStore cells n notes → Occurs v (meaning cells notes w) → meaning cells notes v ≡ variable v
 settled_in cells n [] v w h o = refl
 settled_in cells n (Loaded c m ∷ notes) v w h o = settled_in (take c cells) m notes v w h.1.1.1 o
 settled_in cells n (Bound x c ∷ notes) v w h o =

@@ -12,7 +12,7 @@ use Rattle.apd_term.specs.Spelling.{image}
 use Rattle.apd_term.proofs.Spelling.{length-apply_all, list_of-terms_of, spell_all-is, under_name, pass_at, length-read_all}
 use Rattle.apd_cells.proofs.Written.{IsTerms-drop, reads_something}
 use Rattle.apd_cells.specs.declared.heap.Binding.TheVariants.{Free}
-use Rattle.apd_cells.specs.declared.heap.Note.{Note}
+use Rattle.apd_cells.specs.declared.heap.TrailNote.{TrailNote}
 use Rattle.apd_cells.specs.Heap.{IsVariable}
 use Rattle.apd_cells.specs.Stored.{Stored}
 use Rattle.apd_cells.specs.Store.{meaning, term_at, binding_of, IsStore}
@@ -46,7 +46,7 @@ symbols_from s (Fun f k) xs m h =
     (sym (flat_map-append spell (map (apply s) us) (map (apply s) rest)) ∙ ap (flat_map spell) (sym (map-append (apply s) us rest)) ∙ ap (λ r. flat_map spell (map (apply s) r)) (sym all))
 
 -- a store's cells are whole terms from each of them on
-pub IsTerms-at : (cells : List Sym) (n : ℕ) (notes : List Note) (c : ℕ) → IsStore cells n notes → IsTerms (drop c cells)
+pub IsTerms-at : (cells : List Sym) (n : ℕ) (notes : List TrailNote) (c : ℕ) → IsStore cells n notes → IsTerms (drop c cells)
 IsTerms-at cells n notes c h = IsTerms-drop c cells (HasCells-of cells n notes h).whole
 
 -- what stands after one symbol

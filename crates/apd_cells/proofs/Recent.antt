@@ -7,9 +7,9 @@ use Rattle.apd_term.specs.declared.term.Sym.{Sym}
 use Rattle.apd_term.specs.declared.term.Sym.TheVariants.{Var, Int, Fun}
 use Rattle.apd_term.specs.Term.{Term, Occurs, apply, size, first_of, read_all}
 use Rattle.apd_term.specs.Substitution.{term_for, single}
-use Rattle.apd_cells.specs.declared.heap.Note.{Note}
+use Rattle.apd_cells.specs.declared.heap.TrailNote.{TrailNote}
 use Rattle.apd_cells.specs.declared.known.Extent.{Extent}
-use Rattle.apd_cells.specs.declared.known.Known.{Known}
+use Rattle.apd_cells.specs.declared.known.KnownExtent.{KnownExtent}
 use Rattle.apd_cells.specs.Stored.{Stored}
 use Rattle.apd_cells.specs.Store.{written, meaning, term_at, at_mark, before_note, bound, loaded, IsStore}
 use Rattle.apd_cells.specs.declared.sizes.Sizes.{Sizes}
@@ -50,11 +50,11 @@ extent_kept s v to c e k h =
       ];
     }
 
-pub recent_more : (s : Stored) (n m : ℕ) (ks : List Known) → n ≤ m → AreRecent s n ks → AreRecent s m ks
+pub recent_more : (s : Stored) (n m : ℕ) (ks : List KnownExtent) → n ≤ m → AreRecent s n ks → AreRecent s m ks
 recent_more s n m [] l h = tt
 recent_more s n m (k ∷ ks) l h = (h.0, omega (arith, h.1), h.2)
 
-recent_bound : (s : Stored) (v to n : ℕ) (ks : List Known) → n ≤ length s.trail → IsAlone (term_at s to) → AreRecent s n ks → AreRecent (bound s v to) n ks
+recent_bound : (s : Stored) (v to n : ℕ) (ks : List KnownExtent) → n ≤ length s.trail → IsAlone (term_at s to) → AreRecent s n ks → AreRecent (bound s v to) n ks
 recent_bound s v to n [] l a h = tt
 recent_bound s v to n (k ∷ ks) l a h = (
   known_next s (bound s v to) k (Keeps-bound s s v to (Keeps-self s)) (omega arith) (extent_kept s v to k.cell k.extent a (known_now s k h.0 (omega (arith, h.1)))) h.0,
@@ -62,7 +62,7 @@ recent_bound s v to n (k ∷ ks) l a h = (
   recent_bound s v to k.since ks (omega (arith, h.1)) a h.2,
 )
 
-recent_loaded : (s : Stored) (t : Term) (base n : ℕ) (ks : List Known) → IsStore s.cells s.variables s.trail → n ≤ length s.trail → AreRecent s n ks → AreRecent (loaded s t base) n ks
+recent_loaded : (s : Stored) (t : Term) (base n : ℕ) (ks : List KnownExtent) → IsStore s.cells s.variables s.trail → n ≤ length s.trail → AreRecent s n ks → AreRecent (loaded s t base) n ks
 recent_loaded s t base n [] i l h = tt
 recent_loaded s t base n (k ∷ ks) i l h = (
   known_next s (loaded s t base) k (Keeps-loaded s t base) (omega arith) (extent_loaded s t base k.cell k.extent i (known_now s k h.0 (omega (arith, h.1)))) h.0,
@@ -70,7 +70,7 @@ recent_loaded s t base n (k ∷ ks) i l h = (
   recent_loaded s t base k.since ks i (omega (arith, h.1)) h.2,
 )
 
-recent_before : (s : Stored) (mark n : ℕ) (ks : List Known) → mark ≤ length s.trail → AreRecent s n ks → AreRecent (at_mark mark s) n ks
+recent_before : (s : Stored) (mark n : ℕ) (ks : List KnownExtent) → mark ≤ length s.trail → AreRecent s n ks → AreRecent (at_mark mark s) n ks
 recent_before s mark n [] l h = tt
 recent_before s mark n (k ∷ ks) l h = (
   λ m since within.
@@ -81,27 +81,27 @@ recent_before s mark n (k ∷ ks) l h = (
 )
 
 -- after a load
-pub recent_after_load : (s new : Stored) (t : Term) (base : ℕ) (ks : List Known) → IsStore s.cells s.variables s.trail → new ≡ loaded s t base
+pub recent_after_load : (s new : Stored) (t : Term) (base : ℕ) (ks : List KnownExtent) → IsStore s.cells s.variables s.trail → new ≡ loaded s t base
     → AreRecent s (length s.trail) ks → AreRecent new (length new.trail) ks
 recent_after_load s new t base ks i e h =
     rw e (recent_more (loaded s t base) (length s.trail) (length (loaded s t base).trail) ks (omega arith) (recent_loaded s t base (length s.trail) ks i (omega arith) h))
 
 -- after a binding, where all was forgotten unless it was one to an integer or an atom
-pub recent_after_binding : (s new : Stored) (v to : ℕ) (ks left : List Known) → to < length s.cells → new ≡ bound s v to
+pub recent_after_binding : (s new : Stored) (v to : ℕ) (ks left : List KnownExtent) → to < length s.cells → new ≡ bound s v to
     → (left ≡ []) ⊎ (IsConstant (get_or s.cells to (Var 0)) × (left ≡ ks)) → AreRecent s (length s.trail) ks → AreRecent new (length new.trail) left
 recent_after_binding s new v to ks left l e (inl none) h = rw none tt
 recent_after_binding s new v to ks left l e (inr k) h =
     rw (e, k.1) (recent_more (bound s v to) (length s.trail) (length (bound s v to).trail) ks (omega arith) (recent_bound s v to (length s.trail) ks (omega arith) (alone_at s to l k.0) h))
 
-abbrev stored_of : Stored → List Note → Stored
+abbrev stored_of : Stored → List TrailNote → Stored
 stored_of s z = record { cells = s.cells; variables = s.variables; trail = z }
 
 -- where there is no note nothing is before one
 pub none_before : (s : Stored) → s.trail ≡ [] → before_note s.cells s.variables s.trail ≡ s
-none_before s e = ap (before_note s.cells s.variables) e ∙ ap (λ (z : List Note). stored_of s z) (sym e)
+none_before s e = ap (before_note s.cells s.variables) e ∙ ap (λ (z : List TrailNote). stored_of s z) (sym e)
 
 -- before the newest note, where what was measured since was forgotten
-pub recent_before_note : (s new : Stored) (notes : ℕ) (note : Note) (rest : List Note) (ks left : List Known) → notes ≡ length s.trail → s.trail ≡ note ∷ rest
+pub recent_before_note : (s new : Stored) (notes : ℕ) (note : TrailNote) (rest : List TrailNote) (ks left : List KnownExtent) → notes ≡ length s.trail → s.trail ≡ note ∷ rest
     → new ≡ before_note s.cells s.variables s.trail → ((t : Stored) (n : ℕ) → AreRecent t n ks → AreRecent t (notes - 1) left)
     → AreRecent s (length s.trail) ks → AreRecent new (length new.trail) left
 recent_before_note s new notes note rest ks left z e is f h =
@@ -113,7 +113,7 @@ recent_before_note s new notes note rest ks left z e is f h =
     (recent_before s (length rest) (notes - 1) left (omega arith) (f s (length s.trail) h)))
 
 -- one more was measured
-pub recent_one : (s : Stored) (k : Known) (ks more : List Known) → HasExtent s k.cell k.extent → k.since ≡ length s.trail → more ≡ k ∷ ks
+pub recent_one : (s : Stored) (k : KnownExtent) (ks more : List KnownExtent) → HasExtent s k.cell k.extent → k.since ≡ length s.trail → more ≡ k ∷ ks
     → AreRecent s (length s.trail) ks → AreRecent s (length s.trail) more
 recent_one s k ks more x since is h =
     subst (AreRecent s (length s.trail)) (sym is) (
@@ -123,25 +123,25 @@ recent_one s k ks more x since is h =
     )
 
 -- without the newest
-pub recent_popped : (s : Stored) (n : ℕ) (old new : List Known) (o : Option Known) → MatchOption o ((old ≡ []) × (new ≡ [])) (λ k. old ≡ k ∷ new) → AreRecent s n old → AreRecent s n new
+pub recent_popped : (s : Stored) (n : ℕ) (old new : List KnownExtent) (o : Option KnownExtent) → MatchOption o ((old ≡ []) × (new ≡ [])) (λ k. old ≡ k ∷ new) → AreRecent s n old → AreRecent s n new
 recent_popped s n old new None e h = subst (AreRecent s n) (sym e.1) tt
 recent_popped s n old new (Some k) e h =
     let r : AreRecent s n (k ∷ new) = subst (AreRecent s n) e h in
     recent_more s k.since n new (omega (arith, r.1)) r.2
 
 -- what stands at a place from the oldest is right
-recent_at_place : (s : Stored) (n : ℕ) (ks : List Known) (i : ℕ) (k : Known) → n ≤ length s.trail → AreRecent s n ks → i < length ks → get_or ks i k ≡ k → HasExtent s k.cell k.extent
+recent_at_place : (s : Stored) (n : ℕ) (ks : List KnownExtent) (i : ℕ) (k : KnownExtent) → n ≤ length s.trail → AreRecent s n ks → i < length ks → get_or ks i k ≡ k → HasExtent s k.cell k.extent
 recent_at_place s n [] i k l h w e = absurd (omega arith)
-recent_at_place s n (j ∷ ks) zero k l h w e = subst (λ (x : Known). HasExtent s x.cell x.extent) e (known_now s j h.0 (omega (arith, h.1)))
+recent_at_place s n (j ∷ ks) zero k l h w e = subst (λ (x : KnownExtent). HasExtent s x.cell x.extent) e (known_now s j h.0 (omega (arith, h.1)))
 recent_at_place s n (j ∷ ks) (suc i) k l h w e = recent_at_place s j.since ks i k (omega (arith, h.1)) h.2 (omega arith) e
 
-pub recent_there : (s : Stored) (n : ℕ) (ks : List Known) (i : ℕ) (k : Known) → n ≤ length s.trail → AreRecent s n ks → slice_get (reverse ks) i ≡ Some k → HasExtent s k.cell k.extent
+pub recent_there : (s : Stored) (n : ℕ) (ks : List KnownExtent) (i : ℕ) (k : KnownExtent) → n ≤ length s.trail → AreRecent s n ks → slice_get (reverse ks) i ≡ Some k → HasExtent s k.cell k.extent
 recent_there s n ks i k l h e =
     let within : i < length ks = omega (arith, slice_get_within (reverse ks) i k e, length-reverse ks) in
     recent_at_place s n ks (length ks - 1 - i) k l h (omega arith) (sym (get_or-reverse ks i k within) ∙ get_or_from_slice_get (reverse ks) i k k e)
 
 -- unless all was forgotten
-pub recent_room : (s : Stored) (n : ℕ) (ks left : List Known) → (left ≡ ks) ⊎ (left ≡ []) → AreRecent s n ks → AreRecent s n left
+pub recent_room : (s : Stored) (n : ℕ) (ks left : List KnownExtent) → (left ≡ ks) ⊎ (left ≡ []) → AreRecent s n ks → AreRecent s n left
 recent_room s n ks left (inl e) h = rw e h
 recent_room s n ks left (inr e) h = rw e tt
 
@@ -153,7 +153,7 @@ sizes_loaded s new t base k i e h = record {
 }
 
 -- before the newest note, if there is one
-pub recent_undone : (s : Stored) (z : List Note) (notes : ℕ) (ks left : List Known) → s.trail ≡ z → notes ≡ length s.trail
+pub recent_undone : (s : Stored) (z : List TrailNote) (notes : ℕ) (ks left : List KnownExtent) → s.trail ≡ z → notes ≡ length s.trail
     → ((t : Stored) (n : ℕ) → AreRecent t n ks → AreRecent t (notes - 1) left) → AreRecent s (length s.trail) ks
     → AreRecent (before_note s.cells s.variables s.trail) (length (before_note s.cells s.variables s.trail).trail) left
 recent_undone s [] notes ks left e z f h =
@@ -161,7 +161,7 @@ recent_undone s [] notes ks left e z f h =
     subst (λ (t : Stored). AreRecent t (length t.trail) left) (sym none) (recent_more s (notes - 1) (length s.trail) left (omega arith) (f s (length s.trail) h))
 recent_undone s (note ∷ rest) notes ks left e z f h = recent_before_note s (before_note s.cells s.variables s.trail) notes note rest ks left z e refl f h
 
-pub sized_undone : (s : Stored) (z : List Note) (notes : ℕ) (ground_terms open_terms ground_left open_left : List Known) → s.trail ≡ z → notes ≡ length s.trail
+pub sized_undone : (s : Stored) (z : List TrailNote) (notes : ℕ) (ground_terms open_terms ground_left open_left : List KnownExtent) → s.trail ≡ z → notes ≡ length s.trail
     → ((t : Stored) (n a : ℕ) → AreKnown t n a ground_terms → AreKnown t (notes - 1) a ground_left)
     → ((t : Stored) (n a : ℕ) → AreKnown t n a open_terms → AreKnown t (notes - 1) a open_left)
     → AreSized s ground_terms open_terms → AreSized (before_note s.cells s.variables s.trail) ground_left open_left

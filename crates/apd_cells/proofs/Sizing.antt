@@ -6,10 +6,10 @@ use Rattle.std.proofs.lemmas.List.{get_or-reverse, length-reverse, length-append
 use Rattle.apd_term.specs.declared.term.Sym.{Sym}
 use Rattle.apd_term.specs.Term.{Term, Occurs, size, spell}
 use Rattle.apd_term.specs.Canonical.{shifted}
-use Rattle.apd_cells.specs.declared.heap.Note.{Note}
-use Rattle.apd_cells.specs.declared.heap.Note.TheVariants.{Loaded, Bound}
+use Rattle.apd_cells.specs.declared.heap.TrailNote.{TrailNote}
+use Rattle.apd_cells.specs.declared.heap.TrailNote.TheVariants.{Loaded, Bound}
 use Rattle.apd_cells.specs.declared.known.Extent.{Extent}
-use Rattle.apd_cells.specs.declared.known.Known.{Known}
+use Rattle.apd_cells.specs.declared.known.KnownExtent.{KnownExtent}
 use Rattle.apd_cells.specs.Stored.{Stored}
 use Rattle.apd_cells.specs.Store.{written, term_at, at_mark, before_note, before_notes, bound, loaded, IsStore, Keeps}
 use Rattle.apd_cells.specs.Known.{HasExtent, IsKnown, AreKnown, AreSized}
@@ -19,31 +19,31 @@ use Rattle.apd_cells.proofs.Bindings.{meaning-bound-applied, Keeps-bound, Keeps-
 use Rattle.apd_cells.proofs.Keeping.{at_mark-at_mark, length-before, Keeps-loaded, term_at-others}
 
 -- greater bounds
-pub known_more : (s : Stored) (n m a b : ℕ) (ks : List Known) → n ≤ m → a ≤ b → AreKnown s n a ks → AreKnown s m b ks
+pub known_more : (s : Stored) (n m a b : ℕ) (ks : List KnownExtent) → n ≤ m → a ≤ b → AreKnown s n a ks → AreKnown s m b ks
 known_more s n m a b [] l g h = tt
 known_more s n m a b (k ∷ ks) l g h = (h.0, omega (arith, h.1), omega (arith, h.2), h.3)
 
 -- one of them, by its place from the newest
-known_one : (s : Stored) (n a : ℕ) (ks : List Known) (i : ℕ) (k : Known) → AreKnown s n a ks → i < length ks → get_or ks i k ≡ k → IsKnown s k × (k.since ≤ n)
+known_one : (s : Stored) (n a : ℕ) (ks : List KnownExtent) (i : ℕ) (k : KnownExtent) → AreKnown s n a ks → i < length ks → get_or ks i k ≡ k → IsKnown s k × (k.since ≤ n)
 known_one s n a [] i k h l e = absurd (omega arith)
-known_one s n a (j ∷ ks) zero k h l e = (subst (IsKnown s) e h.0, omega (arith, h.1, ap (λ (x : Known). x.since) e))
+known_one s n a (j ∷ ks) zero k h l e = (subst (IsKnown s) e h.0, omega (arith, h.1, ap (λ (x : KnownExtent). x.since) e))
 known_one s n a (j ∷ ks) (suc i) k h l e =
     let r = known_one s j.since j.extent.above ks i k h.3 (omega arith) e in
     (r.0, omega (arith, r.1, h.1))
 
 -- what is known is right now
-pub known_now : (s : Stored) (k : Known) → IsKnown s k → k.since ≤ length s.trail → HasExtent s k.cell k.extent
+pub known_now : (s : Stored) (k : KnownExtent) → IsKnown s k → k.since ≤ length s.trail → HasExtent s k.cell k.extent
 known_now s k h l = subst (λ (t : Stored). HasExtent t k.cell k.extent) (at_mark-here (length s.trail) s (omega arith)) (h (length s.trail) l (omega arith))
 
 -- what stands at a place from the oldest is right
-pub known_there : (s : Stored) (n a : ℕ) (ks : List Known) (i : ℕ) (k : Known) → n ≤ length s.trail → AreKnown s n a ks → slice_get (reverse ks) i ≡ Some k → HasExtent s k.cell k.extent
+pub known_there : (s : Stored) (n a : ℕ) (ks : List KnownExtent) (i : ℕ) (k : KnownExtent) → n ≤ length s.trail → AreKnown s n a ks → slice_get (reverse ks) i ≡ Some k → HasExtent s k.cell k.extent
 known_there s n a ks i k l h e =
     let within : i < length ks = omega (arith, slice_get_within (reverse ks) i k e, length-reverse ks) in
     let one = known_one s n a ks (length ks - 1 - i) k h (omega arith) (sym (get_or-reverse ks i k within) ∙ get_or_from_slice_get (reverse ks) i k k e) in
     known_now s k one.0 (omega (arith, one.1))
 
 -- one more note leaves right what it doesn't change
-pub known_next : (s new : Stored) (k : Known) → Keeps s new → length new.trail ≤ length s.trail + 1 → HasExtent new k.cell k.extent → IsKnown s k → IsKnown new k
+pub known_next : (s new : Stored) (k : KnownExtent) → Keeps s new → length new.trail ≤ length s.trail + 1 → HasExtent new k.cell k.extent → IsKnown s k → IsKnown new k
 known_next s new k keeps more now h = λ mark since within. elim (le_or_lt mark (length s.trail)) [
   | inl l ↦
       subst (λ (t : Stored). HasExtent t k.cell k.extent) (ap (at_mark mark) (sym keeps.1) ∙ at_mark-at_mark mark (length s.trail) new l keeps.0) (h mark since l)
@@ -61,7 +61,7 @@ extent_bound s v to c e l h =
       below = λ w o. h.below w (subst (Occurs w) same o);
     }
 
-pub known_bound : (s : Stored) (v to n a : ℕ) (ks : List Known) → n ≤ length s.trail → a ≤ v → AreKnown s n a ks → AreKnown (bound s v to) n a ks
+pub known_bound : (s : Stored) (v to n a : ℕ) (ks : List KnownExtent) → n ≤ length s.trail → a ≤ v → AreKnown s n a ks → AreKnown (bound s v to) n a ks
 known_bound s v to n a [] l g h = tt
 known_bound s v to n a (k ∷ ks) l g h = (
   known_next s (bound s v to) k (Keeps-bound s s v to (Keeps-self s)) (omega arith) (extent_bound s v to k.cell k.extent (omega (arith, h.2)) (known_now s k h.0 (omega (arith, h.1)))) h.0,
@@ -80,7 +80,7 @@ extent_loaded s t base c e h k =
       below = λ w o. k.below w (subst (Occurs w) same o);
     }
 
-pub known_loaded : (s : Stored) (t : Term) (base n a : ℕ) (ks : List Known) → IsStore s.cells s.variables s.trail → n ≤ length s.trail → AreKnown s n a ks → AreKnown (loaded s t base) n a ks
+pub known_loaded : (s : Stored) (t : Term) (base n a : ℕ) (ks : List KnownExtent) → IsStore s.cells s.variables s.trail → n ≤ length s.trail → AreKnown s n a ks → AreKnown (loaded s t base) n a ks
 known_loaded s t base n a [] i l h = tt
 known_loaded s t base n a (k ∷ ks) i l h = (
   known_next s (loaded s t base) k (Keeps-loaded s t base) (omega arith) (extent_loaded s t base k.cell k.extent i (known_now s k h.0 (omega (arith, h.1)))) h.0,
@@ -94,7 +94,7 @@ pub length-at_mark : (mark : ℕ) (s : Stored) → mark ≤ length s.trail → l
 length-at_mark mark s l = omega (arith, length-before s.cells s.variables s.trail (length s.trail - mark))
 
 -- what was found up to a mark is right there
-known_before : (s : Stored) (mark n a : ℕ) (ks : List Known) → mark ≤ length s.trail → AreKnown s n a ks → AreKnown (at_mark mark s) n a ks
+known_before : (s : Stored) (mark n a : ℕ) (ks : List KnownExtent) → mark ≤ length s.trail → AreKnown s n a ks → AreKnown (at_mark mark s) n a ks
 known_before s mark n a [] l h = tt
 known_before s mark n a (k ∷ ks) l h = (
   λ m since within.
@@ -106,18 +106,18 @@ known_before s mark n a (k ∷ ks) l h = (
 )
 
 -- the store before its newest note
-before_one : (cells : List Sym) (n : ℕ) (note : Note) (notes : List Note) → before_notes cells n (note ∷ notes) 1 ≡ before_note cells n (note ∷ notes)
+before_one : (cells : List Sym) (n : ℕ) (note : TrailNote) (notes : List TrailNote) → before_notes cells n (note ∷ notes) 1 ≡ before_note cells n (note ∷ notes)
 before_one cells n (Loaded c m) notes = before_none (take c cells) m notes
 before_one cells n (Bound v c) notes = before_none cells n notes
 
-pub before_is : (s : Stored) (note : Note) (notes : List Note) → s.trail ≡ note ∷ notes → at_mark (length notes) s ≡ before_note s.cells s.variables s.trail
+pub before_is : (s : Stored) (note : TrailNote) (notes : List TrailNote) → s.trail ≡ note ∷ notes → at_mark (length notes) s ≡ before_note s.cells s.variables s.trail
 before_is s note notes e =
     let one : length s.trail - length notes ≡ 1 = omega (arith, ap length e) in
     ap (before_notes s.cells s.variables s.trail) one ∙ ap (λ z. before_notes s.cells s.variables z 1) e ∙ before_one s.cells s.variables note notes
     ∙ ap (before_note s.cells s.variables) (sym e)
 
 -- after a load
-pub sized_loaded : (s new : Stored) (t : Term) (base : ℕ) (ground_terms open_terms : List Known) → IsStore s.cells s.variables s.trail → new ≡ loaded s t base
+pub sized_loaded : (s new : Stored) (t : Term) (base : ℕ) (ground_terms open_terms : List KnownExtent) → IsStore s.cells s.variables s.trail → new ≡ loaded s t base
     → AreSized s ground_terms open_terms → AreSized new ground_terms open_terms
 sized_loaded s new t base ground_terms open_terms i e h = rw e (record {
   of_ground = known_more (loaded s t base) (length s.trail) (length (loaded s t base).trail) 0 0 ground_terms (omega arith) (omega arith) (known_loaded s t base (length s.trail) 0 ground_terms i (omega arith) h.of_ground);
@@ -126,7 +126,7 @@ sized_loaded s new t base ground_terms open_terms i e h = rw e (record {
 })
 
 -- after a binding, where what it may change was forgotten
-pub sized_bound : (s new : Stored) (v to : ℕ) (ground_terms open_terms left : List Known) → new ≡ bound s v to → AreSized s ground_terms open_terms
+pub sized_bound : (s new : Stored) (v to : ℕ) (ground_terms open_terms left : List KnownExtent) → new ≡ bound s v to → AreSized s ground_terms open_terms
     → ((n a : ℕ) → AreKnown s n a open_terms → AreKnown s n v left) → AreSized new ground_terms left
 sized_bound s new v to ground_terms open_terms left e h f = rw e (record {
   of_ground = known_more (bound s v to) (length s.trail) (length (bound s v to).trail) 0 0 ground_terms (omega arith) (omega arith) (known_bound s v to (length s.trail) 0 ground_terms (omega arith) (omega arith) h.of_ground);
@@ -136,7 +136,7 @@ sized_bound s new v to ground_terms open_terms left e h f = rw e (record {
 })
 
 -- before the newest note, where what was found since was forgotten
-pub sized_before : (s new : Stored) (note : Note) (notes : List Note) (ground_terms open_terms ground_left open_left : List Known) → s.trail ≡ note ∷ notes
+pub sized_before : (s new : Stored) (note : TrailNote) (notes : List TrailNote) (ground_terms open_terms ground_left open_left : List KnownExtent) → s.trail ≡ note ∷ notes
     → new ≡ before_note s.cells s.variables s.trail → AreSized s ground_terms open_terms
     → ((n a : ℕ) → AreKnown s n a ground_terms → AreKnown s (length s.trail - 1) a ground_left)
     → ((n a : ℕ) → AreKnown s n a open_terms → AreKnown s (length s.trail - 1) a open_left) → AreSized new ground_left open_left
@@ -153,12 +153,12 @@ sized_before s new note notes ground_terms open_terms ground_left open_left e is
     })
 
 -- what is forgotten as the program counts notes
-pub forgets : (s : Stored) (notes : ℕ) (old left : List Known) → notes ≡ length s.trail → ((t : Stored) (n a : ℕ) → AreKnown t n a old → AreKnown t (notes - 1) a left)
+pub forgets : (s : Stored) (notes : ℕ) (old left : List KnownExtent) → notes ≡ length s.trail → ((t : Stored) (n a : ℕ) → AreKnown t n a old → AreKnown t (notes - 1) a left)
     → (n a : ℕ) → AreKnown s n a old → AreKnown s (length s.trail - 1) a left
 forgets s notes old left e f n a h = subst (λ m. AreKnown s (m - 1) a left) e (f s n a h)
 
 -- the same where there is no note
-pub sized_none : (s : Stored) (ground_terms open_terms ground_left open_left : List Known) → s.trail ≡ [] → AreSized s ground_terms open_terms
+pub sized_none : (s : Stored) (ground_terms open_terms ground_left open_left : List KnownExtent) → s.trail ≡ [] → AreSized s ground_terms open_terms
     → ((n a : ℕ) → AreKnown s n a ground_terms → AreKnown s (length s.trail - 1) a ground_left)
     → ((n a : ℕ) → AreKnown s n a open_terms → AreKnown s (length s.trail - 1) a open_left) → AreSized s ground_left open_left
 sized_none s ground_terms open_terms ground_left open_left e h f g = record {
@@ -168,12 +168,12 @@ sized_none s ground_terms open_terms ground_left open_left e h f g = record {
 }
 
 -- one more is known
-pub known_here : (s : Stored) (k : Known) (e : Extent) → HasExtent s k.cell e → k.since ≡ length s.trail → k.extent.size ≡ e.size → e.above ≤ k.extent.above → IsKnown s k
+pub known_here : (s : Stored) (k : KnownExtent) (e : Extent) → HasExtent s k.cell e → k.since ≡ length s.trail → k.extent.size ≡ e.size → e.above ≤ k.extent.above → IsKnown s k
 known_here s k e h since size_is above_is = λ mark from within.
     (let now : HasExtent s k.cell k.extent = record { inside = h.inside; long = size_is ∙ h.long; below = λ v o. (let b = h.below v o in omega arith) } in
     subst (λ (t : Stored). HasExtent t k.cell k.extent) (sym (at_mark-here mark s (omega arith))) now)
 
-pub sized_ground : (s : Stored) (k : Known) (ground_terms open_terms more : List Known) → HasExtent s k.cell k.extent → k.since ≡ length s.trail → k.extent.above ≡ 0
+pub sized_ground : (s : Stored) (k : KnownExtent) (ground_terms open_terms more : List KnownExtent) → HasExtent s k.cell k.extent → k.since ≡ length s.trail → k.extent.above ≡ 0
     → more ≡ k ∷ ground_terms → AreSized s ground_terms open_terms → AreSized s more open_terms
 sized_ground s k ground_terms open_terms more x since none is h = record {
   of_ground = subst (AreKnown s (length s.trail) 0) (sym is) (
@@ -186,7 +186,7 @@ sized_ground s k ground_terms open_terms more x since none is h = record {
   of_open = h.of_open;
 }
 
-pub sized_open : (s : Stored) (k : Known) (e : Extent) (ground_terms open_terms more : List Known) → HasExtent s k.cell e → k.since ≡ length s.trail → k.extent.size ≡ e.size
+pub sized_open : (s : Stored) (k : KnownExtent) (e : Extent) (ground_terms open_terms more : List KnownExtent) → HasExtent s k.cell e → k.since ≡ length s.trail → k.extent.size ≡ e.size
     → e.above ≤ k.extent.above → ((n a : ℕ) → AreKnown s n a open_terms → AreKnown s n k.extent.above open_terms)
     → more ≡ k ∷ open_terms → AreSized s ground_terms open_terms → AreSized s ground_terms more
 sized_open s k e ground_terms open_terms more x since size_is above_is all is h = record {
@@ -201,7 +201,7 @@ sized_open s k e ground_terms open_terms more x since size_is above_is all is h 
 }
 
 -- without the newest
-pub known_popped : (s : Stored) (n a : ℕ) (old new : List Known) (o : Option Known) → MatchOption o ((old ≡ []) × (new ≡ [])) (λ k. old ≡ k ∷ new) → AreKnown s n a old → AreKnown s n a new
+pub known_popped : (s : Stored) (n a : ℕ) (old new : List KnownExtent) (o : Option KnownExtent) → MatchOption o ((old ≡ []) × (new ≡ [])) (λ k. old ≡ k ∷ new) → AreKnown s n a old → AreKnown s n a new
 known_popped s n a old new None e h = subst (AreKnown s n a) (sym e.1) tt
 known_popped s n a old new (Some k) e h =
     let r : AreKnown s n a (k ∷ new) = subst (AreKnown s n a) e h in

@@ -13,8 +13,8 @@ use Rattle.apd_term.proofs.Spelling.{split_terms, flat_map-variables}
 use Rattle.apd_cells.proofs.Written.{IsTerms-drop, written-take}
 use Rattle.apd_cells.proofs.Bindings.{Occurs-single}
 use Rattle.apd_cells.specs.declared.front.Front.{Front}
-use Rattle.apd_cells.specs.declared.heap.Note.{Note}
-use Rattle.apd_cells.specs.declared.heap.Note.TheVariants.{Loaded, Bound}
+use Rattle.apd_cells.specs.declared.heap.TrailNote.{TrailNote}
+use Rattle.apd_cells.specs.declared.heap.TrailNote.TheVariants.{Loaded, Bound}
 use Rattle.apd_cells.specs.declared.heap.Binding.{Binding}
 use Rattle.apd_cells.specs.declared.heap.Binding.TheVariants.{Free, At}
 use Rattle.apd_cells.specs.Heap.{IsHeap, AllTouched, IsMarked}
@@ -44,7 +44,7 @@ from_image s v t h o =
     subst (IsAmong (variables t)) (sym (h m.0 m.2)) m.1
 
 -- no binding brings in a variable that none has touched
-pub untouched : (cells : List Sym) (n : ℕ) (notes : List Note) (k v w : ℕ) → IsStore cells n notes → AllTouched cells notes k → k ≤ v → Occurs v (meaning cells notes w) → v ≡ w
+pub untouched : (cells : List Sym) (n : ℕ) (notes : List TrailNote) (k v w : ℕ) → IsStore cells n notes → AllTouched cells notes k → k ≤ v → Occurs v (meaning cells notes w) → v ≡ w
 untouched cells n [] k v w h a l (inl e) = sym e
 untouched cells n [] k v w h a l (inr b) = absurd b
 untouched cells n (Loaded c m ∷ notes) k v w h a l o = untouched (take c cells) m notes k v w h.1.1.1 a l o
@@ -66,19 +66,19 @@ apart s touched front v at h m l f g o =
     let k = occurs_in_cells (take front.cells s.cells) front.variables at v m.whole there q in
     omega arith
 
-touched-more : (cells : List Sym) (notes : List Note) (j k : ℕ) → j ≤ k → AllTouched cells notes j → AllTouched cells notes k
+touched-more : (cells : List Sym) (notes : List TrailNote) (j k : ℕ) → j ≤ k → AllTouched cells notes j → AllTouched cells notes k
 touched-more cells [] j k l a = tt
 touched-more cells (Loaded c n ∷ notes) j k l a = touched-more (take c cells) notes j k l a
 touched-more cells (Bound v c ∷ notes) j k l a = (λ u o. (let q = a.0 u o in omega arith), touched-more cells notes j k l a.1)
 
 -- all variables of bindings' terms are below the number of variables
-pub touched-all : (cells : List Sym) (n : ℕ) (notes : List Note) → IsStore cells n notes → AllTouched cells notes n
+pub touched-all : (cells : List Sym) (n : ℕ) (notes : List TrailNote) → IsStore cells n notes → AllTouched cells notes n
 touched-all cells n [] h = tt
 touched-all cells n (Loaded c m ∷ notes) h = touched-more (take c cells) notes m n h.1.1.0 (touched-all (take c cells) m notes h.1.1.1)
 touched-all cells n (Bound v c ∷ notes) h = (λ u o. occurs_in_cells cells n c u (HasCells-of cells n notes h.1) h.0.inside o, touched-all cells n notes h.1)
 
 -- after a binding
-pub marked_bound : (cells : List Sym) (n : ℕ) (notes trail : List Note) (touched touched' : ℕ) (front : Front) (v c : ℕ) → IsStore cells n notes → IsMarked cells notes touched front
+pub marked_bound : (cells : List Sym) (n : ℕ) (notes trail : List TrailNote) (touched touched' : ℕ) (front : Front) (v c : ℕ) → IsStore cells n notes → IsMarked cells notes touched front
     → c < length cells → trail ≡ Bound v c ∷ notes → touched ≤ touched' → ((c < front.cells) × (front.variables ≤ touched')) ⊎ (n ≤ touched') → IsMarked cells trail touched' front
 marked_bound cells n notes trail touched touched' front v c h m l e k o =
     let below : (u : ℕ) → Occurs u (written cells c) → u < touched' = λ u p. elim o [
@@ -91,7 +91,7 @@ marked_bound cells n notes trail touched touched' front v c h m l e k o =
     rw e (record { bindings = (below, touched-more cells notes touched touched' k m.bindings); within = m.within; whole = m.whole })
 
 -- after a load
-pub marked_loaded : (cells new more : List Sym) (n : ℕ) (notes trail : List Note) (touched : ℕ) (old front : Front) → IsStore cells n notes → IsMarked cells notes touched old
+pub marked_loaded : (cells new more : List Sym) (n : ℕ) (notes trail : List TrailNote) (touched : ℕ) (old front : Front) → IsStore cells n notes → IsMarked cells notes touched old
     → new ≡ cells ++ more → trail ≡ Loaded (length cells) n ∷ notes → front ≡ record { cells = length cells; variables = n } → IsMarked new trail touched front
 marked_loaded cells new more n notes trail touched old front h m e is f =
     let t : take (length cells) (cells ++ more) ≡ cells = take_at cells more (length cells) refl in
@@ -102,7 +102,7 @@ marked_loaded cells new more n notes trail touched old front h m e is f =
     })
 
 -- after a load was taken back
-pub marked_unloaded : (cells : List Sym) (n : ℕ) (trail notes : List Note) (touched touched' c k : ℕ) (old front : Front) → IsStore cells n trail → IsMarked cells trail touched old
+pub marked_unloaded : (cells : List Sym) (n : ℕ) (trail notes : List TrailNote) (touched touched' c k : ℕ) (old front : Front) → IsStore cells n trail → IsMarked cells trail touched old
     → trail ≡ Loaded c k ∷ notes → front ≡ record { cells = 0; variables = 0 } → (touched' ≡ touched) ⊎ (touched' ≡ k) → IsMarked (take c cells) notes touched' front
 marked_unloaded cells n trail notes touched touched' c k old front h m e f o =
     let h' : IsStore cells n (Loaded c k ∷ notes) = subst (IsStore cells n) e h in
@@ -114,13 +114,13 @@ marked_unloaded cells n trail notes touched touched' c k old front h m e f o =
     rw f (record { bindings = all; within = omega arith; whole = record { whole = refl; below = λ v o. absurd o } })
 
 -- after a binding was taken back
-pub marked_unbound : (cells : List Sym) (trail notes : List Note) (touched v c : ℕ) (front : Front) → IsMarked cells trail touched front → trail ≡ Bound v c ∷ notes → IsMarked cells notes touched front
+pub marked_unbound : (cells : List Sym) (trail notes : List TrailNote) (touched v c : ℕ) (front : Front) → IsMarked cells trail touched front → trail ≡ Bound v c ∷ notes → IsMarked cells notes touched front
 marked_unbound cells trail notes touched v c front m e =
     let a : AllTouched cells (Bound v c ∷ notes) touched = subst (λ z. AllTouched cells z touched) e m.bindings in
     record { bindings = a.1; within = m.within; whole = m.whole }
 
 -- after a binding, as the program finds the number above its term's variables
-pub marked_bound_by : (cells : List Sym) (n : ℕ) (notes trail : List Note) (touched touched' above : ℕ) (front : Front) (v c : ℕ) → IsStore cells n notes → IsMarked cells notes touched front
+pub marked_bound_by : (cells : List Sym) (n : ℕ) (notes trail : List TrailNote) (touched touched' above : ℕ) (front : Front) (v c : ℕ) → IsStore cells n notes → IsMarked cells notes touched front
     → c < length cells → trail ≡ Bound v c ∷ notes → touched' ≡ max touched above → ((c < front.cells) × (above ≡ front.variables)) ⊎ (above ≡ n) → IsMarked cells trail touched' front
 marked_bound_by cells n notes trail touched touched' above front v c h m l e k (inl q) =
     marked_bound cells n notes trail touched touched' front v c h m l e (omega arith) (inl (q.0, (let r = q.1 in omega arith)))
@@ -128,13 +128,13 @@ marked_bound_by cells n notes trail touched touched' above front v c h m l e k (
     marked_bound cells n notes trail touched touched' front v c h m l e (omega arith) (inr (omega arith))
 
 -- after a load was taken back, as the program finds the number
-pub marked_unloaded_by : (cells : List Sym) (n : ℕ) (trail notes : List Note) (touched touched' c k : ℕ) (old front : Front) → IsStore cells n trail → IsMarked cells trail touched old
+pub marked_unloaded_by : (cells : List Sym) (n : ℕ) (trail notes : List TrailNote) (touched touched' c k : ℕ) (old front : Front) → IsStore cells n trail → IsMarked cells trail touched old
     → trail ≡ Loaded c k ∷ notes → front ≡ record { cells = 0; variables = 0 } → touched' ≡ min touched k → IsMarked (take c cells) notes touched' front
 marked_unloaded_by cells n trail notes touched touched' c k old front h m e f q =
     marked_unloaded cells n trail notes touched touched' c k old front h m e f (elim (le_or_lt touched k) [ inl l ↦ inl (omega arith) | inr l ↦ inr (omega arith) ])
 
 -- the heap after a binding
-pub heap_bound : (cells : List Sym) (bindings : List Binding) (notes trail : List Note) (v c : ℕ) → IsHeap cells bindings notes → MayBind cells (length bindings) notes v c
+pub heap_bound : (cells : List Sym) (bindings : List Binding) (notes trail : List TrailNote) (v c : ℕ) → IsHeap cells bindings notes → MayBind cells (length bindings) notes v c
     → trail ≡ Bound v c ∷ notes → IsHeap cells (set bindings v (At c)) trail
 heap_bound cells bindings notes trail v c h m e = record {
   kept = rw (e, length-set bindings v (At c)) (m, h.kept);
@@ -147,7 +147,7 @@ heap_bound cells bindings notes trail v c h m e = record {
 }
 
 -- the heap before a binding
-pub heap_unbound : (cells : List Sym) (bindings : List Binding) (trail notes : List Note) (v c : ℕ) → IsHeap cells bindings trail → trail ≡ Bound v c ∷ notes
+pub heap_unbound : (cells : List Sym) (bindings : List Binding) (trail notes : List TrailNote) (v c : ℕ) → IsHeap cells bindings trail → trail ≡ Bound v c ∷ notes
     → IsHeap cells (set bindings v Free) notes
 heap_unbound cells bindings trail notes v c h e =
     let k : IsStore cells (length bindings) (Bound v c ∷ notes) = subst (IsStore cells (length bindings)) e h.kept in

@@ -3,8 +3,8 @@ use Rattle.std.proofs.Common.{◌≡◌, ◌⊎◌, inl, inr, ℕ, zero, suc, �
 use Rattle.std.proofs.Math.ListN.{get_or-eq_default}
 use Rattle.std.proofs.lemmas.List.{length-take-le, get_or-take}
 use Rattle.apd_term.specs.declared.term.Sym.{Sym}
-use Rattle.apd_cells.specs.declared.heap.Note.{Note}
-use Rattle.apd_cells.specs.declared.heap.Note.TheVariants.{Loaded, Bound}
+use Rattle.apd_cells.specs.declared.heap.TrailNote.{TrailNote}
+use Rattle.apd_cells.specs.declared.heap.TrailNote.TheVariants.{Loaded, Bound}
 use Rattle.apd_cells.specs.declared.heap.Binding.{Binding}
 use Rattle.apd_cells.specs.declared.heap.Binding.TheVariants.{Free, At}
 use Rattle.apd_cells.specs.Heap.{IsHeap}
@@ -19,7 +19,7 @@ le_or_lt (suc a) zero = inr (omega arith)
 le_or_lt (suc a) (suc b) = elim (le_or_lt a b) [ inl l ↦ inl (omega arith) | inr l ↦ inr (omega arith) ]
 
 -- a variable that isn't below the number of variables is free
-pub free-above : (cells : List Sym) (n : ℕ) (notes : List Note) (v : ℕ) → IsStore cells n notes → n ≤ v → binding_of notes v ≡ Free
+pub free-above : (cells : List Sym) (n : ℕ) (notes : List TrailNote) (v : ℕ) → IsStore cells n notes → n ≤ v → binding_of notes v ≡ Free
 free-above cells n notes v h l = by (binding_of notes v) refl
   where
     by : (b : Binding) → binding_of notes v ≡ b → binding_of notes v ≡ Free
@@ -27,7 +27,7 @@ free-above cells n notes v h l = by (binding_of notes v) refl
     by (At p) e = let k = leads_to cells n notes v p h e in absurd (omega (arith, k.below))
 
 -- the heap before a term was loaded
-pub heap_before_load : (cells : List Sym) (bindings : List Binding) (trail notes : List Note) (c m : ℕ)
+pub heap_before_load : (cells : List Sym) (bindings : List Binding) (trail notes : List TrailNote) (c m : ℕ)
     → IsHeap cells bindings trail → trail ≡ Loaded c m ∷ notes → IsHeap (take c cells) (take m bindings) notes
 heap_before_load cells bindings trail notes c m h e =
     let k : IsStore cells (length bindings) (Loaded c m ∷ notes) = subst (IsStore cells (length bindings)) e h.kept in
@@ -40,7 +40,7 @@ heap_before_load cells bindings trail notes c m h e =
       ];
     }
 
-pub before_load : (s : Stored) (cells : List Sym) (bindings : List Binding) (trail notes : List Note) (c m : ℕ)
+pub before_load : (s : Stored) (cells : List Sym) (bindings : List Binding) (trail notes : List TrailNote) (c m : ℕ)
     → viewed cells bindings trail ≡ s → IsHeap cells bindings trail → trail ≡ Loaded c m ∷ notes
     → viewed (take c cells) (take m bindings) notes ≡ before_note s.cells s.variables s.trail
 before_load s cells bindings trail notes c m i h e =
@@ -50,7 +50,7 @@ before_load s cells bindings trail notes c m i h e =
     ∙ ap (before_note cells (length bindings)) (sym e)
     ∙ ap (λ (y : Stored). before_note y.cells y.variables y.trail) i
 
-pub before_none : (cells : List Sym) (n : ℕ) (notes : List Note) → before_notes cells n notes 0 ≡ record { cells = cells; variables = n; trail = notes }
+pub before_none : (cells : List Sym) (n : ℕ) (notes : List TrailNote) → before_notes cells n notes 0 ≡ record { cells = cells; variables = n; trail = notes }
 before_none cells n [] = refl
 before_none cells n (Loaded c m ∷ notes) = refl
 before_none cells n (Bound v c ∷ notes) = refl

@@ -3,8 +3,8 @@
 use Rattle.std.specs.Prelude.{ℕ, ◌+◌, ◌≤◌, ◌==◌, List, [], ◌∷◌, length, take, get_or, if◌then◌else◌}
 use Rattle.apd_term.specs.declared.term.Sym.{Sym}
 use Rattle.apd_term.specs.declared.term.Sym.TheVariants.{Var, Int, Fun}
-use Rattle.apd_cells.specs.declared.heap.Note.{Note}
-use Rattle.apd_cells.specs.declared.heap.Note.TheVariants.{Loaded, Bound}
+use Rattle.apd_cells.specs.declared.heap.TrailNote.{TrailNote}
+use Rattle.apd_cells.specs.declared.heap.TrailNote.TheVariants.{Loaded, Bound}
 
 -- 1 where the symbol has arguments
 abbrev pub compound_in : Sym → ℕ
@@ -13,13 +13,13 @@ compound_in (Int i) = 0
 compound_in (Fun f n) = if n == 0 then 0 else 1
 
 -- how many bindings lead to a term that has arguments
-abbrev pub compound_count : List Sym → List Note → ℕ
+abbrev pub compound_count : List Sym → List TrailNote → ℕ
 compound_count cells [] = 0
 compound_count cells (Loaded c n ∷ notes) = compound_count (take c cells) notes
 compound_count cells (Bound v c ∷ notes) = compound_in (get_or cells c (Var 0)) + compound_count cells notes
 
 -- no term that was loaded has more than k symbols
-abbrev pub AreShort : List Sym → List Note → ℕ → Type 0
+abbrev pub AreShort : List Sym → List TrailNote → ℕ → Type 0
 AreShort cells [] k = length cells ≤ k
 AreShort cells (Loaded c n ∷ notes) k = (length cells ≤ c + k) × AreShort (take c cells) notes k
 AreShort cells (Bound v c ∷ notes) k = AreShort cells notes k

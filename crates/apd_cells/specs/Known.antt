@@ -4,7 +4,7 @@ use Rattle.apd_term.specs.declared.term.Sym.{Sym}
 use Rattle.apd_term.specs.declared.term.Sym.TheVariants.{Var, Int, Fun}
 use Rattle.apd_term.specs.Term.{Occurs, size}
 use Rattle.apd_cells.specs.declared.known.Extent.{Extent}
-use Rattle.apd_cells.specs.declared.known.Known.{Known}
+use Rattle.apd_cells.specs.declared.known.KnownExtent.{KnownExtent}
 use Rattle.apd_cells.specs.declared.sizes.Sizes.{Sizes}
 use Rattle.apd_cells.specs.Stored.{Stored}
 use Rattle.apd_cells.specs.Store.{term_at, at_mark}
@@ -16,17 +16,17 @@ pub record HasExtent (s : Stored) (c : ℕ) (e : Extent) : Type 0 where
   pub below : (v : ℕ) → Occurs v (term_at s c) → v < e.above
 
 -- the extent was right at each mark since it was found
-abbrev pub IsKnown : Stored → Known → Type 0
+abbrev pub IsKnown : Stored → KnownExtent → Type 0
 IsKnown s k = (mark : ℕ) → k.since ≤ mark → mark ≤ length s.trail → HasExtent (at_mark mark s) k.cell k.extent
 
 -- what is known, the newest first: each was found after the next and has no smaller number above its variables; the
 -- newest was found at mark n or before, and its number is at most a
-abbrev pub AreKnown : Stored → ℕ → ℕ → List Known → Type 0
+abbrev pub AreKnown : Stored → ℕ → ℕ → List KnownExtent → Type 0
 AreKnown s n a [] = Unit {0}
 AreKnown s n a (k ∷ ks) = IsKnown s k × (k.since ≤ n) × (k.extent.above ≤ a) × AreKnown s k.since k.extent.above ks
 
 -- what is known of terms without variables, and of the others
-pub record AreSized (s : Stored) (ground_terms open_terms : List Known) : Type 0 where
+pub record AreSized (s : Stored) (ground_terms open_terms : List KnownExtent) : Type 0 where
   pub of_ground : AreKnown s (length s.trail) 0 ground_terms
   pub most : ℕ
   pub of_open : AreKnown s (length s.trail) most open_terms
@@ -38,7 +38,7 @@ IsConstant (Int i) = Unit {0}
 IsConstant (Fun f n) = n ≡ 0
 
 -- what was measured lately, the newest first: each was found after the next, and the newest at mark n or before
-abbrev pub AreRecent : Stored → ℕ → List Known → Type 0
+abbrev pub AreRecent : Stored → ℕ → List KnownExtent → Type 0
 AreRecent s n [] = Unit {0}
 AreRecent s n (k ∷ ks) = IsKnown s k × (k.since ≤ n) × AreRecent s k.since ks
 

@@ -8,8 +8,8 @@ use Rattle.apd_term.specs.Spelling.{variable_in}
 use Rattle.apd_term.specs.Canonical.{shifted}
 use Rattle.apd_term.specs.Substitution.{term_for, single}
 use Rattle.apd_cells.specs.Stored.{Stored}
-use Rattle.apd_cells.specs.declared.heap.Note.{Note}
-use Rattle.apd_cells.specs.declared.heap.Note.TheVariants.{Loaded, Bound}
+use Rattle.apd_cells.specs.declared.heap.TrailNote.{TrailNote}
+use Rattle.apd_cells.specs.declared.heap.TrailNote.TheVariants.{Loaded, Bound}
 use Rattle.apd_cells.specs.declared.heap.Binding.{Binding}
 use Rattle.apd_cells.specs.declared.heap.Binding.TheVariants.{Free, At}
 
@@ -19,7 +19,7 @@ written cells c = first_of (read_all (drop c cells))
 
 -- what the bindings of the trail make of each variable; each binding is done on all that is before it, and so the
 -- result is idempotent
-abbrev pub meaning : List Sym → List Note → ℕ → Term
+abbrev pub meaning : List Sym → List TrailNote → ℕ → Term
 meaning cells [] v = variable v
 meaning cells (Loaded c n ∷ notes) v = meaning (take c cells) notes v
 meaning cells (Bound w c ∷ notes) v = apply (term_for (single w (apply (meaning cells notes) (written cells c)))) (meaning cells notes v)
@@ -33,7 +33,7 @@ abbrev pub term_at : Stored → ℕ → Term
 term_at s c = under_bindings s (written s.cells c)
 
 -- what a variable is bound to
-abbrev pub binding_of : List Note → ℕ → Binding
+abbrev pub binding_of : List TrailNote → ℕ → Binding
 binding_of [] v = Free
 binding_of (Loaded c n ∷ notes) v = binding_of notes v
 binding_of (Bound w c ∷ notes) v = if w == v then At c else binding_of notes v
@@ -44,7 +44,7 @@ pub record HasCells (cells : List Sym) (variables : ℕ) : Type 0 where
   pub below : (v : ℕ) → IsAmong (flat_map variable_in cells) v → v < variables
 
 -- a free variable may be bound to the term at a cell: it doesn't occur there, and of two variables the greater is bound
-pub record MayBind (cells : List Sym) (variables : ℕ) (notes : List Note) (v c : ℕ) : Type 0 where
+pub record MayBind (cells : List Sym) (variables : ℕ) (notes : List TrailNote) (v c : ℕ) : Type 0 where
   pub inside : c < length cells
   pub below : v < variables
   pub free : binding_of notes v ≡ Free
@@ -52,19 +52,19 @@ pub record MayBind (cells : List Sym) (variables : ℕ) (notes : List Note) (v c
   pub down : (w : ℕ) → get_or cells c (Var 0) ≡ Var w → w < v
 
 -- every note of the trail was right when it was made
-abbrev pub IsStore : List Sym → ℕ → List Note → Type 0
+abbrev pub IsStore : List Sym → ℕ → List TrailNote → Type 0
 IsStore cells n [] = HasCells cells n
 IsStore cells n (Loaded c m ∷ notes) = HasCells cells n × ((c ≤ length cells) × ((m ≤ n) × IsStore (take c cells) m notes))
 IsStore cells n (Bound v c ∷ notes) = MayBind cells n notes v c × IsStore cells n notes
 
 -- the store before its newest note
-abbrev pub before_note : List Sym → ℕ → List Note → Stored
+abbrev pub before_note : List Sym → ℕ → List TrailNote → Stored
 before_note cells n [] = record { cells = cells; variables = n; trail = [] }
 before_note cells n (Loaded c m ∷ notes) = record { cells = take c cells; variables = m; trail = notes }
 before_note cells n (Bound v c ∷ notes) = record { cells = cells; variables = n; trail = notes }
 
 -- the store before so many of its newest notes
-abbrev pub before_notes : List Sym → ℕ → List Note → ℕ → Stored
+abbrev pub before_notes : List Sym → ℕ → List TrailNote → ℕ → Stored
 before_notes cells n [] k = record { cells = cells; variables = n; trail = [] }
 before_notes cells n (Loaded c m ∷ notes) k =
     if k == 0 then record { cells = cells; variables = n; trail = Loaded c m ∷ notes } else before_notes (take c cells) m notes (k - 1)

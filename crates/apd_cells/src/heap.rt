@@ -35,7 +35,7 @@ pub enum Binding {
 
 /// A note of the trail.
 #[derive(Clone, Copy)]
-pub enum Note {
+pub enum TrailNote {
     /// A term was loaded where so many cells and so many variables were.
     Loaded(usize, usize),
     /// A variable was bound to a cell.
@@ -361,13 +361,13 @@ impl Heap {
             return;
         };
         match newest.get() {
-            Note::Loaded(cells, variables) => {
+            TrailNote::Loaded(cells, variables) => {
                 self.cells.truncate(cells);
                 self.bindings.truncate(variables);
                 self.front = NOTHING;
                 self.touched = self.touched.min(variables);
             }
-            Note::Bound(v, to) => {
+            TrailNote::Bound(v, to) => {
                 self.bindings[v as usize] = KeptBinding::free();
                 self.compounds -= compound_at(self.cells.as_slice(), to);
             }

@@ -2,9 +2,9 @@
 
 ghost use Rattle.std.specs.Prelude.{◌≡◌, ◌<◌, ◌-◌, ◌^◌, IfOk, OnOk};
 ghost use Rattle.apd_cells.specs.declared.heap.Binding.TheVariants.{Free, At};
-ghost use Rattle.apd_cells.specs.declared.heap.Note.TheVariants.{Loaded, Bound};
+ghost use Rattle.apd_cells.specs.declared.heap.TrailNote.TheVariants.{Loaded, Bound};
 
-use crate::heap::{Binding, Note};
+use crate::heap::{Binding, TrailNote};
 use std::alloc::AllocError;
 use std::marker::Model;
 
@@ -18,10 +18,10 @@ pub struct KeptNote {
 }
 
 impl Model for KeptNote {
-    ghost use Rattle.apd_cells.specs.declared.heap.Note.{Note};
+    ghost use Rattle.apd_cells.specs.declared.heap.TrailNote.{TrailNote};
     ghost use Rattle.apd_cells.specs.Kept.{note_in};
 
-    ghost Value = { Note };
+    ghost Value = { TrailNote };
 
     ghost view = { λ n. note_in n.first n.second };
 }
@@ -78,13 +78,13 @@ impl KeptNote {
 
     /// The note.
     #[inline(always)]
-    pub fn get(&self) -> Note
+    pub fn get(&self) -> TrailNote
         ensures { result ≡ self.now }
     {
         if self.second < HALF {
-            return Note::Loaded(self.first as usize, self.second as usize);
+            return TrailNote::Loaded(self.first as usize, self.second as usize);
         }
-        Note::Bound(self.first as u64, (self.second - HALF) as usize)
+        TrailNote::Bound(self.first as u64, (self.second - HALF) as usize)
     }
 }
 

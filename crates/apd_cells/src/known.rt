@@ -41,7 +41,7 @@ impl Extent {
 
 /// The extent of the term at a cell, since the trail had so many notes.
 #[derive(Clone, Copy)]
-pub struct Known {
+pub struct KnownExtent {
     pub cell: usize,
     pub extent: Extent,
     pub since: usize,
@@ -59,9 +59,9 @@ pub struct KeptKnown {
 const _: () = prove!(size_of::<KeptKnown>() == 16);
 
 impl Model for KeptKnown {
-    ghost use Rattle.apd_cells.specs.declared.known.Known.{Known};
+    ghost use Rattle.apd_cells.specs.declared.known.KnownExtent.{KnownExtent};
 
-    ghost Value = { Known };
+    ghost Value = { KnownExtent };
 
     ghost view = { λ k. record {
       cell = k.cell;
@@ -92,10 +92,10 @@ impl KeptKnown {
 
     /// The extent.
     #[inline(always)]
-    pub fn read(&self) -> Known
+    pub fn read(&self) -> KnownExtent
         ensures { result ≡ self.now }
     {
-        Known {
+        KnownExtent {
             cell: self.cell as usize,
             extent: Extent {
                 size: self.size as u64,

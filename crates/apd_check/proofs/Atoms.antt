@@ -24,8 +24,8 @@ use Rattle.apd_claims.specs.declared.claim.Claim.{Claim}
 use Rattle.apd_claims.specs.declared.claim.Claim.TheVariants.{Garbled}
 use Rattle.apd_parts.specs.declared.boxes.Quote.TheVariants.{Outside}
 use Rattle.apd_claims.specs.declared.form.Calling.{Calling}
-use Rattle.apd_claims.specs.declared.form.Form.{Form}
-use Rattle.apd_claims.specs.declared.form.Form.TheVariants.{Query as Goals, End, Symptom, Framed, Call, Candidates, Candidate, Descent, Other, Unread}
+use Rattle.apd_claims.specs.declared.form.LineForm.{LineForm}
+use Rattle.apd_claims.specs.declared.form.LineForm.TheVariants.{Query as Goals, End, Symptom, Framed, Call, Candidates, Candidate, Descent, Other, Unread}
 use Rattle.apd_claims.specs.Claims.{call_between, call_in, called, claim_as, claim_of, entry_for, is_text, may_end, or_garbled, query_claim, query_told, told, written}
 use Rattle.apd_claims.specs.Forms.{form_in, with_newline}
 use Rattle.apd_parts.specs.Parts.{Boxed, boxed_in, boxed_where, if_some}
@@ -103,7 +103,7 @@ module _ {names : List (List ℕ)} (reader : Reader names) (ops : Table) where
       or-other (option_and_then (call_between reader ops whole c) (boxed_in Outside text)) (option_and_then (call_between reader ops whole c) (boxed_where (may_end reader ops) Outside [] text))
       (between-atoms whole c (boxed_in Outside text)) (between-atoms whole c (boxed_where (may_end reader ops) Outside [] text))
 
-  form-atoms : (in_group : Bool) (line : List ℕ) (lines : List (List ℕ)) (f : Form) → RunsAtoms (claim_by reader ops in_group line lines f)
+  form-atoms : (in_group : Bool) (line : List ℕ) (lines : List (List ℕ)) (f : LineForm) → RunsAtoms (claim_by reader ops in_group line lines f)
   form-atoms in_group line lines (Goals goals) = read-atoms (reading reader ops (codes "?- " ++ as_clause goals))
   form-atoms in_group line lines (End ran) = tt
   form-atoms in_group line lines (Symptom is_true text) = symptom-atoms is_true (term_in reader ops text)

@@ -39,7 +39,7 @@ use Rattle.apd_claims.proofs.Naming.{grown-none, grown-twice}
 use Rattle.apd_text.specs.declared.check.Why.{Why}
 use Rattle.apd_check.specs.Checked.{IsFound, IsFoundIn, IsJudged, IsRightFinding}
 use Rattle.apd_check.specs.Steps.{IsCallText, may_be}
-use Rattle.apd_check.specs.declared.state.State.{State}
+use Rattle.apd_check.specs.declared.state.LogState.{LogState}
 
 -- What is read where the line is parted is a call by the caller of the line, whose text stands there.
 
@@ -70,7 +70,7 @@ module _ {names : List (List ℕ)} (reader : Reader names) (ops : Table) (x : Ca
       by (Some q) (Some p) f = entry-call a a.number q p claim (is_callers ops names a.rest (Some (call_entry x.calling a.number q p))) refl f
 
   -- so its text is that of the caller in the record, where the finding is right
-  module _ (program : List Clause) (s : State) (place : ℕ) where
+  module _ (program : List Clause) (s : LogState) (place : ℕ) where
     found-text : (a : Led) → box_first (drop place x.text) ≡ Some a → IsFound program s (claim_parted reader ops x place) → bytes_eq (atom_text ops names (call_atom s.history x.calling.caller)) a.rest ≡ true
     found-text a there f = by f.0 f.3 (with-call (take place x.text) a (Finds f.0 f.1) (ap (option_and_then (claim_with reader ops x (take place x.text))) (sym there) ∙ f.2))
       where
@@ -137,7 +137,7 @@ module _ {names : List (List ℕ)} (reader : Reader names) (ops : Table) (x : Ca
 
 -- What was judged.
 
-pub right-judged : (program : List Clause) (s : State) (finding : Finding) (line : ℕ) (judged : Option Why) (b : Bool) → is_some judged ≡ not b → IsJudged program s (Finds finding line) judged
+pub right-judged : (program : List Clause) (s : LogState) (finding : Finding) (line : ℕ) (judged : Option Why) (b : Bool) → is_some judged ≡ not b → IsJudged program s (Finds finding line) judged
     → IsTrue b ↔ IsFound program s (Some (Finds finding line))
 right-judged program s finding line None true is j = (λ _. (finding, line, refl, j), λ _. refl)
 right-judged program s finding line None false is j = absurd (let e : false ≡ true = is in cc)
@@ -152,10 +152,10 @@ right-judged program s finding line (Some w) false is j = (λ no. absurd (cc), �
 
 -- Nothing that is said is no finding.
 
-pub nothing-found : (program : List Clause) (s : State) → IsTrue false ↔ IsFound program s None
+pub nothing-found : (program : List Clause) (s : LogState) → IsTrue false ↔ IsFound program s None
 nothing-found program s = (λ no. absurd (cc), λ f. absurd (let e : None ≡ Some (Finds f.0 f.1) = f.2 in cc))
 
-pub no-finding : (program : List Clause) (s : State) (claim : Claim) → ((finding : Finding) (line : ℕ) → claim ≡ Finds finding line → ⊥) → IsTrue false ↔ IsFound program s (Some claim)
+pub no-finding : (program : List Clause) (s : LogState) (claim : Claim) → ((finding : Finding) (line : ℕ) → claim ≡ Finds finding line → ⊥) → IsTrue false ↔ IsFound program s (Some claim)
 no-finding program s claim other = (λ no. absurd (cc), λ f. absurd (other f.0 f.1 (some-of f.2)))
 
 -- From place to place.
@@ -163,7 +163,7 @@ no-finding program s claim other = (λ no. absurd (cc), λ f. absurd (other f.0 
 either : (place j : ℕ) → (place ≤ j) ⊎ (j < place)
 either place j = elim (leb_tells place j) [ inl x ↦ inl x.1 | inr x ↦ inr x.1 ]
 
-module _ (program : List Clause) (ops : Table) (s : State) (x : CallLine) where
+module _ (program : List Clause) (ops : Table) (s : LogState) (x : CallLine) where
   abbrev pub IsFoundHere : {n : List (List ℕ)} → Reader n → ℕ → Type 0
   IsFoundHere reader place = IsFound program s (claim_parted reader ops x place)
 

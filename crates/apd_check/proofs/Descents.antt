@@ -13,8 +13,8 @@ use Rattle.apd_answers.specs.declared.question.Reply.TheVariants.{Yes}
 use Rattle.apd_answers.specs.declared.store.Pair.{Pair}
 use Rattle.apd_claims.specs.declared.claim.Claim.{Claim}
 use Rattle.apd_claims.specs.declared.claim.Claim.TheVariants.{Runs, Ends, Tells, Asks, Replies, Finds, Descends, Nothing, Garbled}
-use Rattle.apd_check.specs.declared.course.Course.{Course}
-use Rattle.apd_check.specs.declared.state.State.{State}
+use Rattle.apd_check.specs.declared.course.LogCourse.{LogCourse}
+use Rattle.apd_check.specs.declared.state.LogState.{LogState}
 use Rattle.apd_check.specs.Checked.{IsJudged, IsRightDescent, after_claim, known_after}
 use Rattle.apd_check.specs.Steps.{GoesOn, KnowsDescent, Leads, is_of_run}
 use Rattle.apd_text.specs.declared.check.Why.{Why}
@@ -42,7 +42,7 @@ module _ (program : List Clause) where
   reply-more known None r calls h = h
   reply-more known (Some asked) r calls h = descend-more known asked.question r calls h
 
-  right-after : (s : State) (claim : Claim) (n : ℕ) → is_of_run claim ≡ false → IsRightDescent program s n → IsRightDescent program (after_claim program s claim) n
+  right-after : (s : LogState) (claim : Claim) (n : ℕ) → is_of_run claim ≡ false → IsRightDescent program s n → IsRightDescent program (after_claim program s claim) n
   right-after s (Runs q) n e h = absurd (cc)
   right-after s (Ends ran) n e h = absurd (cc)
   right-after s (Tells q r) n e h = record { count = h.count; by_replies = descend-more s.known q r _ h.by_replies }
@@ -53,11 +53,11 @@ module _ (program : List Clause) where
   right-after s Nothing n e h = h
   right-after s Garbled n e h = h
 
-  known-next : (s t : State) (claim : Claim) (known : Option ℕ) → is_of_run claim ≡ false → KnowsDescent program s known → Leads program s claim t None → KnowsDescent program t known
+  known-next : (s t : LogState) (claim : Claim) (known : Option ℕ) → is_of_run claim ≡ false → KnowsDescent program s known → Leads program s claim t None → KnowsDescent program t known
   known-next s t claim None e h leads = tt
-  known-next s t claim (Some n) e h leads = subst (λ (x : State). IsRightDescent program x n) (sym leads.1) (right-after s claim n e h)
+  known-next s t claim (Some n) e h leads = subst (λ (x : LogState). IsRightDescent program x n) (sym leads.1) (right-after s claim n e h)
 
-  pub goes-on : (c d : Course) (claim : Claim) (r : Result (Option Why) AllocError) → KnowsDescent program c.state c.descent → d.descent ≡ (if is_of_run claim then None else c.descent)
+  pub goes-on : (c d : LogCourse) (claim : Claim) (r : Result (Option Why) AllocError) → KnowsDescent program c.state c.descent → d.descent ≡ (if is_of_run claim then None else c.descent)
       → IfOk r (Leads program c.state claim d.state) → IfOk r (GoesOn program c claim d)
   goes-on c d claim (Ok None) h e leads = (leads, subst (KnowsDescent program d.state) (sym e) (by (is_of_run claim) refl))
     where
@@ -67,20 +67,20 @@ module _ (program : List Clause) where
   goes-on c d claim (Ok (Some w)) h e leads = leads
   goes-on c d claim (Err x) h e leads = tt
 
-  pub goes-said : (c d : Course) (claim said : Claim) (r : Result (Option Why) AllocError) → claim ≡ said → IfOk r (GoesOn program c said d) → IfOk r (GoesOn program c claim d)
+  pub goes-said : (c d : LogCourse) (claim said : Claim) (r : Result (Option Why) AllocError) → claim ≡ said → IfOk r (GoesOn program c said d) → IfOk r (GoesOn program c claim d)
   goes-said c d claim said r e h = subst (λ (x : Claim). IfOk r (GoesOn program c x d)) (sym e) h
 
   -- so many calls descend, and no other number
-  right-known : (s : State) (known : Option ℕ) (n : ℕ) → known ≡ Some n → KnowsDescent program s known → IsRightDescent program s n
+  right-known : (s : LogState) (known : Option ℕ) (n : ℕ) → known ≡ Some n → KnowsDescent program s known → IsRightDescent program s n
   right-known s known n e h = subst (λ (o : Option ℕ). KnowsDescent program s o) e h
 
-  pub goes-known : (c : Course) (n calls : ℕ) → c.descent ≡ Some n → KnowsDescent program c.state c.descent → n ≡ calls → GoesOn program c (Descends calls) c None
+  pub goes-known : (c : LogCourse) (n calls : ℕ) → c.descent ≡ Some n → KnowsDescent program c.state c.descent → n ≡ calls → GoesOn program c (Descends calls) c None
   goes-known c n calls e h same = ((subst (IsRightDescent program c.state) same (right-known c.state c.descent n e h), refl), h)
 
-  pub goes-other : (c : Course) (n calls : ℕ) → c.descent ≡ Some n → KnowsDescent program c.state c.descent → ¬ (n ≡ calls) → GoesOn program c (Descends calls) c (Some why.Finding)
+  pub goes-other : (c : LogCourse) (n calls : ℕ) → c.descent ≡ Some n → KnowsDescent program c.state c.descent → ¬ (n ≡ calls) → GoesOn program c (Descends calls) c (Some why.Finding)
   goes-other c n calls e h differ = (λ k. differ ((right-known c.state c.descent n e h).count ∙ sym k.count), refl)
 
-  pub goes-judged : (c d : Course) (calls : ℕ) (judged : Option Why) → d.state ≡ c.state → IsJudged program c.state (Descends calls) judged
+  pub goes-judged : (c d : LogCourse) (calls : ℕ) (judged : Option Why) → d.state ≡ c.state → IsJudged program c.state (Descends calls) judged
       → MatchOption judged (d.descent ≡ Some calls) (λ w. d.descent ≡ None) → GoesOn program c (Descends calls) d judged
-  goes-judged c d calls None same j e = ((j, same), subst (KnowsDescent program d.state) (sym e) (subst (λ (s : State). IsRightDescent program s calls) (sym same) j))
+  goes-judged c d calls None same j e = ((j, same), subst (KnowsDescent program d.state) (sym e) (subst (λ (s : LogState). IsRightDescent program s calls) (sym same) j))
   goes-judged c d calls (Some w) same j e = j

@@ -13,7 +13,7 @@ use Rattle.apd_again.specs.Again.{answers_again}
 use Rattle.apd_recorded.proofs.Law.{run_sound}
 use Rattle.apd_claims.specs.declared.claim.Claim.{Claim}
 use Rattle.apd_claims.specs.declared.claim.Claim.TheVariants.{Runs, Ends, Tells, Asks, Replies, Finds, Descends, Nothing, Garbled}
-use Rattle.apd_check.specs.declared.state.State.{State}
+use Rattle.apd_check.specs.declared.state.LogState.{LogState}
 use Rattle.apd_check.specs.Checked.{after_claim, history_after}
 use Rattle.apd_check.specs.Right.{AsksAtoms, RunsAtoms}
 
@@ -30,7 +30,7 @@ module _ (program : List Clause) where
     history-sound (Some q) ran history atoms sound =
         run_sound (tuples_of program) (all_clauses program is) q.tuple atoms ran.ports (answers_again ran.end ran.answers)
 
-    pub after-sound : (s : State) (claim : Claim) → IsSound (tuples_of program) s.history → IfSome s.query AsksAtoms → RunsAtoms claim
+    pub after-sound : (s : LogState) (claim : Claim) → IsSound (tuples_of program) s.history → IfSome s.query AsksAtoms → RunsAtoms claim
         → IsSound (tuples_of program) (after_claim program s claim).history × IfSome (after_claim program s claim).query AsksAtoms
     after-sound s (Runs q) sound query atoms = (empty-sound, atoms)
     after-sound s (Ends ran) sound query atoms = (history-sound s.query ran s.history query sound, tt)

@@ -6,7 +6,7 @@ use Rattle.apd_answers.specs.declared.question.Asked.{Asked}
 use Rattle.apd_answers.specs.declared.question.Reply.{Reply}
 use Rattle.apd_claims.specs.declared.claim.Claim.{Claim}
 use Rattle.apd_claims.specs.declared.claim.Claim.TheVariants.{Runs, Ends, Tells, Asks, Replies, Finds, Descends as DescendsSo, Nothing, Garbled}
-use Rattle.apd_check.specs.declared.state.State.{State}
+use Rattle.apd_check.specs.declared.state.LogState.{LogState}
 use Rattle.apd_claims.specs.Saying.{Said}
 use Rattle.apd_check.specs.Checked.{Decided, IsReplyTo, IsJudged, IsFoundIn, IsJudgedBy, IsLineJudged, IsChecked, after_line, found_on, reason_for}
 use Rattle.apd_check.specs.declared.checked.Checked.{Checked}
@@ -25,7 +25,7 @@ one-reply None r a b p q = p ∙ sym q
 one-reply (Some asked) r a b p q = one-decided (FitsAsked asked r) why.Unfit a b p q
 
 module _ (program : List Clause) where
-  pub one-judged : (s : State) (claim : Claim) (a b : Option Why) → IsJudged program s claim a → IsJudged program s claim b → a ≡ b
+  pub one-judged : (s : LogState) (claim : Claim) (a b : Option Why) → IsJudged program s claim a → IsJudged program s claim b → a ≡ b
   one-judged s (Runs q) a b p r = p ∙ sym r
   one-judged s (Ends ran) a b p r = one-decided _ why.End a b p r
   one-judged s (Tells q reply) a b p r = one-decided _ why.Text a b p r
@@ -36,14 +36,14 @@ module _ (program : List Clause) where
   one-judged s Nothing a b p r = p ∙ sym r
   one-judged s Garbled a b p r = p ∙ sym r
 
-  one-judged_by : (s : State) (claim : Claim) (parted : Option (ℕ → Option Claim)) (a b : Option Why) → IsJudgedBy program s claim parted a → IsJudgedBy program s claim parted b → a ≡ b
+  one-judged_by : (s : LogState) (claim : Claim) (parted : Option (ℕ → Option Claim)) (a b : Option Why) → IsJudgedBy program s claim parted a → IsJudgedBy program s claim parted b → a ≡ b
   one-judged_by s claim None a b p r = one-judged s claim a b p r
   one-judged_by s claim (Some parted) a b p r = one-decided (IsFoundIn program s parted) (reason_for claim) a b p r
 
-  one-line : (s : State) (x : Said) (a b : Option Why) → IsLineJudged program s x a → IsLineJudged program s x b → a ≡ b
+  one-line : (s : LogState) (x : Said) (a b : Option Why) → IsLineJudged program s x a → IsLineJudged program s x b → a ≡ b
   one-line s x a b p r = one-judged_by s x.claim x.parted a b p r
 
-  pub one-checked : (s : State) (found : ℕ) (said : List Said) (a b : Checked) → IsChecked program s found said a → IsChecked program s found said b → a ≡ b
+  pub one-checked : (s : LogState) (found : ℕ) (said : List Said) (a b : Checked) → IsChecked program s found said a → IsChecked program s found said b → a ≡ b
   one-checked s found [] a b p q = p ∙ sym q
   one-checked s found (x ∷ xs) a b (inl p) (inl q) = one-checked (after_line program s x) (found + found_on x) xs a b p.1 q.1
   one-checked s found (x ∷ xs) a b (inl p) (inr q) = absurd (let e : None ≡ Some q.0 = one-line s x None (Some q.0) p.0 q.1 in cc)

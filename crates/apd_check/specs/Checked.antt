@@ -22,14 +22,14 @@ use Rattle.apd_loop.specs.Loop.{calls_in}
 use Rattle.apd_claims.specs.Saying.{Said, said_in}
 use Rattle.apd_claims.specs.declared.claim.Claim.{Claim}
 use Rattle.apd_claims.specs.declared.claim.Claim.TheVariants.{Runs, Ends, Tells, Asks, Replies, Finds, Descends, Nothing, Garbled}
-use Rattle.apd_check.specs.declared.state.State.{State}
+use Rattle.apd_check.specs.declared.state.LogState.{LogState}
 use Rattle.apd_check.specs.declared.checked.Checked.{Checked}
 use Rattle.apd_check.specs.declared.checked.Checked.TheVariants as checked
 use Rattle.apd_text.specs.declared.check.Why.{Why}
 use Rattle.apd_text.specs.declared.check.Why.TheVariants as why
 
 -- nothing was run or asked yet, and this is known
-abbrev pub first_state : Store → State
+abbrev pub first_state : Store → LogState
 first_state known = record { query = None; history = empty; known = known; waiting = None }
 
 -- P holds, or it doesn't and this is why
@@ -64,17 +64,17 @@ module _ (program : List Clause) where
   IsPlaced (Candidates cs) line = ⊤
 
   -- the finding follows from the replies, and its line is right
-  pub record IsRightFinding (s : State) (finding : Finding) (line : ℕ) : Type 0 where
+  pub record IsRightFinding (s : LogState) (finding : Finding) (line : ℕ) : Type 0 where
     pub by_replies : IsByReplies (tuples_of program) s.history s.known finding
     pub placed : IsPlaced finding line
 
   -- the calls of the chain are so many, and by the replies each is below the one before
-  pub record IsRightDescent (s : State) (calls : ℕ) : Type 0 where
+  pub record IsRightDescent (s : LogState) (calls : ℕ) : Type 0 where
     pub count : calls ≡ length (chain s.history)
     pub by_replies : AllDescendByReplies s.known (calls_in s.history (chain s.history))
 
   -- what a line says is good in this state, or why it isn't
-  abbrev pub IsJudged : State → Claim → Option Why → Type 0
+  abbrev pub IsJudged : LogState → Claim → Option Why → Type 0
   IsJudged s (Runs q) w = w ≡ None
   IsJudged s (Ends ran) w = Decided (EndsSo s.query ran) why.End w
   IsJudged s (Tells question reply) w = Decided (MayAsk question) why.Text w
@@ -95,7 +95,7 @@ module _ (program : List Clause) where
   known_after known (Some asked) reply = with_pair known asked.question reply
 
   -- the state behind a line that says this
-  abbrev pub after_claim : State → Claim → State
+  abbrev pub after_claim : LogState → Claim → LogState
   after_claim s (Runs q) = record { query = Some q; history = empty; known = s.known; waiting = None }
   after_claim s (Ends ran) = record { query = None; history = history_after s.query ran s.history; known = s.known; waiting = s.waiting }
   after_claim s (Tells question reply) = record { query = s.query; history = s.history; known = with_pair s.known question reply; waiting = None }
@@ -119,28 +119,28 @@ reason_for claim = why.Finding
 
 module _ (program : List Clause) where
   -- a finding is said, and is right
-  abbrev pub IsFound : State → Option Claim → Type 0
+  abbrev pub IsFound : LogState → Option Claim → Type 0
   IsFound s claim = (finding : Finding) × (line : ℕ) × (claim ≡ Some (Finds finding line)) × IsRightFinding program s finding line
 
   -- the line of a call says one if it is parted at some place; the words between two calls may stand in their atoms too, and then it
   -- can be read in several ways
-  abbrev pub IsFoundIn : State → (ℕ → Option Claim) → Type 0
+  abbrev pub IsFoundIn : LogState → (ℕ → Option Claim) → Type 0
   IsFoundIn s parted = (place : ℕ) × IsFound s (parted place)
 
-  abbrev pub IsJudgedBy : State → Claim → Option (ℕ → Option Claim) → Option Why → Type 0
+  abbrev pub IsJudgedBy : LogState → Claim → Option (ℕ → Option Claim) → Option Why → Type 0
   IsJudgedBy s claim None w = IsJudged program s claim w
   IsJudgedBy s claim (Some parted) w = Decided (IsFoundIn s parted) (reason_for claim) w
 
   -- a line is good in this state, or why it isn't; that of a call is good where it can be read as a finding that is right
-  abbrev pub IsLineJudged : State → Said → Option Why → Type 0
+  abbrev pub IsLineJudged : LogState → Said → Option Why → Type 0
   IsLineJudged s x w = IsJudgedBy s x.claim x.parted w
 
-  abbrev pub after_by : State → Claim → Option (ℕ → Option Claim) → State
+  abbrev pub after_by : LogState → Claim → Option (ℕ → Option Claim) → LogState
   after_by s claim None = after_claim program s claim
   after_by s claim (Some parted) = s
 
   -- the state behind a line
-  abbrev pub after_line : State → Said → State
+  abbrev pub after_line : LogState → Said → LogState
   after_line s x = after_by s x.claim x.parted
 
 abbrev pub found_by : Claim → Option (ℕ → Option Claim) → ℕ
@@ -153,14 +153,14 @@ found_on x = found_by x.claim x.parted
 
 module _ (program : List Clause) where
   -- all is good from here on, where so many findings were met before; or the first that isn't is in this line, for this reason
-  abbrev pub IsChecked : State → ℕ → List Said → Checked → Type 0
+  abbrev pub IsChecked : LogState → ℕ → List Said → Checked → Type 0
   IsChecked s found [] result = result ≡ checked.Holds found
   IsChecked s found (x ∷ xs) result =
       (IsLineJudged program s x None × IsChecked (after_line program s x) (found + found_on x) xs result)
       ⊎ ((w : Why) × IsLineJudged program s x (Some w) × (result ≡ checked.Fails x.line w))
 
   -- the state behind all that is said
-  abbrev pub after_all : State → List Said → State
+  abbrev pub after_all : LogState → List Said → LogState
   after_all s [] = s
   after_all s (x ∷ xs) = after_all (after_line program s x) xs
 

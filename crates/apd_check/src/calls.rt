@@ -15,7 +15,7 @@ ghost use Rattle.apd_check.specs.Steps.{IsCallText, may_be};
 
 use crate::judging::judge_finding;
 use crate::source::Source;
-use crate::state::State;
+use crate::state::LogState;
 use apd_base::Text;
 use apd_claims::{CallLine, Claim, lasting_text};
 use apd_clauses::Program;
@@ -27,7 +27,7 @@ use std::alloc::{AllocError, Global};
 fn is_right_claim(
     alloc: Global,
     program: &Program,
-    state: &State,
+    state: &LogState,
     claim: &Claim,
 ) -> Result<bool, AllocError>
     ensures { IfOk result (λ b. IsTrue b ↔ IsFound program.now state.now (Some claim.now)) }
@@ -45,7 +45,7 @@ fn is_right_claim(
 fn is_right(
     alloc: Global,
     program: &Program,
-    state: &State,
+    state: &LogState,
     claim: &Option<Claim>,
 ) -> Result<bool, AllocError>
     ensures { IfOk result (λ b. IsTrue b ↔ IsFound program.now state.now claim.now) }
@@ -70,7 +70,7 @@ fn may_be(wanted: &Option<Text>, text: &[u8]) -> bool
 #[derive(Clone, Copy)]
 struct Search<'a> {
     source: Source<'a>,
-    state: &'a State,
+    state: &'a LogState,
     call: &'a CallLine,
     /// The text of the caller's atom, where it stays so whatever names come later.
     wanted: &'a Option<Text>,
@@ -137,7 +137,7 @@ fn is_box(record: &Record, box_no: u32) -> bool
 }
 
 /// Computes ahead what tells of each call whether it isn't below the caller of this one. What was told stays as it is.
-pub(crate) fn prepare(state: &mut State, call: &CallLine) -> Result<(), AllocError>
+pub(crate) fn prepare(state: &mut LogState, call: &CallLine) -> Result<(), AllocError>
     ensures { state.new ≡ state.old }
 {
     let caller = call.calling.caller;
@@ -154,7 +154,7 @@ pub(crate) fn is_found(
     alloc: Global,
     source: &Source<'_>,
     names: &mut Names,
-    state: &State,
+    state: &LogState,
     call: &CallLine,
 ) -> Result<bool, AllocError>
     ensures names { Grown names.old names.new }

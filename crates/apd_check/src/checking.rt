@@ -12,12 +12,12 @@ ghost use Rattle.apd_check.specs.Steps.{IsKept, KnowsDescent};
 ghost use Rattle.apd_claims.specs.Texts.{KeepsFew};
 
 use crate::checked::Checked;
-use crate::course::Course;
+use crate::course::LogCourse;
 use crate::lines::take_line;
 use crate::source::Source;
 use apd_answers::Answers;
 use apd_base::Text;
-use apd_claims::{Place, goes_on};
+use apd_claims::{LogLine, goes_on};
 use apd_clauses::Program;
 use apd_io::Sink;
 use apd_ops::Ops;
@@ -32,7 +32,7 @@ fn check_lines(
     alloc: Global,
     source: &Source<'_>,
     names: &mut Names,
-    course: &mut Course,
+    course: &mut LogCourse,
     text: &[u8],
 ) -> Result<Checked, AllocError>
     requires size { length text.now ≤ MAX_FILE }
@@ -49,7 +49,7 @@ fn check_lines(
     let mut found: u32 = 0;
     let mut in_group = false;
     'lines: while let Some(first) = first_line(rest) {
-        let place = Place {
+        let place = LogLine {
             line: first.line,
             rest: first.rest,
             in_group,
@@ -87,7 +87,7 @@ pub fn check(
     ensures checked { IfOk result (λ r. Lasting names.new (λ n. (reader : Reader n) →
         IsCheckOf program.now ops.now reader known text.now r)) }
 {
-    let mut course = Course::first(alloc, known)?;
+    let mut course = LogCourse::first(alloc, known)?;
     let source = Source { program, ops };
     let checked = check_lines(alloc, &source, names, &mut course, text);
     drop(course);

@@ -10,7 +10,7 @@ ghost use Rattle.apd_check.specs.Steps.{GoesOn, IsKept, KnowsDescent, is_of_run}
 
 use crate::checked::Why;
 use crate::judging::judge_descent;
-use crate::state::State;
+use crate::state::LogState;
 use apd_answers::Answers;
 use apd_claims::Claim;
 use apd_clauses::Program;
@@ -18,8 +18,8 @@ use std::alloc::{AllocError, Global};
 
 /// What the lines so far tell, and of how many calls the last run's chain is, if they are known to descend.
 #[derive(Drop)]
-pub(crate) struct Course {
-    pub state: State,
+pub(crate) struct LogCourse {
+    pub state: LogState,
     pub descent: Option<u32>,
 }
 
@@ -63,13 +63,13 @@ fn known_by(judged: Option<Why>, calls: u32) -> Option<u32>
     }
 }
 
-impl Course {
+impl LogCourse {
     /// Nothing was run or asked yet, and this is known.
-    pub(crate) fn first(alloc: Global, known: Answers) -> Result<Course, AllocError>
+    pub(crate) fn first(alloc: Global, known: Answers) -> Result<LogCourse, AllocError>
         ensures { IfOk result (λ c. (c.state ≡ first_state known) × (c.descent ≡ None)) }
     {
-        Ok(Course {
-            state: State::first(alloc, known)?,
+        Ok(LogCourse {
+            state: LogState::first(alloc, known)?,
             descent: None,
         })
     }

@@ -11,7 +11,7 @@ ghost use Rattle.apd_check.specs.Checked.{IsJudged, IsLineOf, IsPlaced};
 ghost use Rattle.apd_claims.specs.declared.claim.Claim.TheVariants as claims;
 
 use crate::checked::Why;
-use crate::state::State;
+use crate::state::LogState;
 use apd_answers::Finding;
 use apd_clauses::Program;
 use apd_findings::{do_descend, is_by_replies};
@@ -46,7 +46,7 @@ fn is_placed(program: &Program, finding: &Finding, line: u32) -> bool
 pub(crate) fn judge_finding(
     alloc: Global,
     program: &Program,
-    state: &State,
+    state: &LogState,
     finding: &Finding,
     line: u32,
 ) -> Result<Option<Why>, AllocError>
@@ -89,7 +89,7 @@ fn canonical_calls(alloc: Global, history: &Record, chain: &[u32]) -> Result<Ato
 }
 
 /// Whether of the calls of these boxes each is below the one before by the replies.
-fn do_calls_descend(alloc: Global, state: &State, chain: &[u32]) -> Result<bool, AllocError>
+fn do_calls_descend(alloc: Global, state: &LogState, chain: &[u32]) -> Result<bool, AllocError>
     requires { HasBoxes state.now.history chain.now }
     ensures { IfOk result (λ b. IsTrue b ↔
         AllDescendByReplies state.now.known (calls_in state.now.history chain.now)) }
@@ -101,7 +101,7 @@ fn do_calls_descend(alloc: Global, state: &State, chain: &[u32]) -> Result<bool,
 /// Whether that is so of a chain, which is looked at in parts of so many; each ends with the call that the next one begins with.
 fn does_chain_descend(
     alloc: Global,
-    state: &State,
+    state: &LogState,
     chain: &[u32],
     most: usize,
 ) -> Result<bool, AllocError>
@@ -126,7 +126,7 @@ fn does_chain_descend(
 pub(crate) fn judge_descent(
     alloc: Global,
     program: &Program,
-    state: &State,
+    state: &LogState,
     calls: u32,
 ) -> Result<Option<Why>, AllocError>
     ensures { IfOk result (IsJudged program.now state.now (claims.Descends calls)) }

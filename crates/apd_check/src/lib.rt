@@ -18,4 +18,4 @@ mod steps;
 pub use checked::{Checked, Why};
 pub use checking::{check, check_for};
 pub use laws::{one_result, what_holds_is_right};
-pub use state::State;
+pub use state::LogState;

@@ -14,9 +14,9 @@ ghost use Rattle.apd_check.specs.Steps.{IsKept, KnowsDescent, Stays, Takes};
 
 use crate::calls::{is_found, prepare};
 use crate::checked::Why;
-use crate::course::Course;
+use crate::course::LogCourse;
 use crate::source::Source;
-use apd_claims::{CallLine, Claim, Place, claim_at};
+use apd_claims::{CallLine, Claim, LogLine, claim_at};
 use apd_ops::Ops;
 use apd_term::names::Names;
 use std::alloc::{AllocError, Global};
@@ -54,8 +54,8 @@ fn take_claim(
     alloc: Global,
     source: &Source<'_>,
     names: &mut Names,
-    course: &mut Course,
-    place: &Place<'_>,
+    course: &mut LogCourse,
+    place: &LogLine<'_>,
 ) -> Result<Taken, AllocError>
     requires kept { IsKept course.old.state }
     requires known { KnowsDescent source.now.program.now course.old.state course.old.descent }
@@ -79,7 +79,7 @@ fn judge_call(
     alloc: Global,
     ops: &Ops,
     names: &mut Names,
-    place: &Place<'_>,
+    place: &LogLine<'_>,
     found: bool,
 ) -> Result<Option<Why>, AllocError>
     ensures names { Grown names.old names.new }
@@ -103,8 +103,8 @@ pub(crate) fn take_line(
     alloc: Global,
     source: &Source<'_>,
     names: &mut Names,
-    course: &mut Course,
-    place: &Place<'_>,
+    course: &mut LogCourse,
+    place: &LogLine<'_>,
 ) -> Result<Taken, AllocError>
     requires kept { IsKept course.old.state }
     requires known { KnowsDescent source.now.program.now course.old.state course.old.descent }

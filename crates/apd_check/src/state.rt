@@ -7,7 +7,7 @@ use apd_record::Record;
 
 /// What the lines so far tell.
 #[derive(Drop)]
-pub struct State {
+pub struct LogState {
     /// The query whose run hasn't ended yet.
     pub query: Option<Query>,
     /// The record of the last run that ended.

@@ -12,7 +12,7 @@ use crate::checked::Why;
 use crate::fitting::fits;
 use crate::judging::{judge_descent, judge_finding};
 use crate::questions::judge_question;
-use crate::state::State;
+use crate::state::LogState;
 use apd_answers::{Answers, Asked, Finding, Question, Reply};
 use apd_causes::{Query, Ran};
 use apd_claims::Claim;
@@ -29,13 +29,13 @@ fn is_same_run(a: Ran, b: Ran) -> bool
     a == b
 }
 
-impl State {
+impl LogState {
     /// Nothing was run or asked yet, and this is known.
-    pub(crate) fn first(alloc: Global, known: Answers) -> Result<State, AllocError>
+    pub(crate) fn first(alloc: Global, known: Answers) -> Result<LogState, AllocError>
         ensures { IfOk result (λ s. s ≡ first_state known) }
     {
         let known = Parted::of(alloc, known)?;
-        Ok(State {
+        Ok(LogState {
             query: None,
             history: Record::new(alloc),
             known,

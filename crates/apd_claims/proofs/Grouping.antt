@@ -7,7 +7,6 @@ use Rattle.apd_parts.specs.Parts.{if_some}
 use Rattle.apd_claims.specs.Saying.{instance_in, instances_in, is_candidate}
 
 module _ (n : List (List ℕ)) (reader : Reader n) (ops : Table) where
-
   step : (cs : List Instance) (line : List ℕ) (lines : List (List ℕ)) (o : Option Instance) → is_candidate line ≡ true → o ≡ instance_in reader ops line
       → instances_in reader ops cs (line ∷ lines) ≡ if_some o (λ c. instances_in reader ops (cs ++ c ∷ []) lines) None
   step cs line lines o marked is = rw (marked, is) refl

@@ -26,9 +26,9 @@ use Rattle.apd_text.specs.Named.{EntryIsNamed, HasStandardNames, QuestionIsNamed
 use Rattle.apd_text.specs.declared.entry.Entry.{Entry}
 use Rattle.apd_text.proofs.MoreNames.{text_of-more}
 use Rattle.apd_claims.specs.declared.form.Calling.{Calling}
-use Rattle.apd_claims.specs.declared.form.Numbered.{Numbered}
-use Rattle.apd_claims.specs.declared.form.Frame.{Frame}
-use Rattle.apd_claims.specs.declared.form.Frame.TheVariants.{Truth, Cover, Order, Reply as Answer, Instance as WrongOne, Uncovered}
+use Rattle.apd_claims.specs.declared.form.NumberedQuestion.{NumberedQuestion}
+use Rattle.apd_claims.specs.declared.form.LineFrame.{LineFrame}
+use Rattle.apd_claims.specs.declared.form.LineFrame.TheVariants.{Truth, Cover, Order, Reply as Answer, Instance as WrongOne, Uncovered}
 use Rattle.apd_claims.specs.Claims.{asked, call_entry, claim_of, entry_for, fact, goals_in, is_text, pair_in, replied, reply_in, tuple_in, written}
 use Rattle.apd_parts.specs.Parts.{if_some}
 use Rattle.apd_claims.specs.Saying.{group_entry, instance_with}
@@ -74,10 +74,10 @@ reply_in-named n t named = either (truth_told t) (values_told t) (λ r e. truth_
 
 -- Entries.
 
-asked-named : (n : ℕ) (place : Numbered) (q : Question) → HasStandardNames n → QuestionIsNamed n q → EntryIsNamed n (asked place q)
+asked-named : (n : ℕ) (place : NumberedQuestion) (q : Question) → HasStandardNames n → QuestionIsNamed n q → EntryIsNamed n (asked place q)
 asked-named n place q standard named = (standard, question-named n q named)
 
-order-named : (n : ℕ) (place : Numbered) (t : Term) → HasStandardNames n → IsNamed n t → IfSome (option_map (asked place) (pair_in t)) (EntryIsNamed n)
+order-named : (n : ℕ) (place : NumberedQuestion) (t : Term) → HasStandardNames n → IsNamed n t → IfSome (option_map (asked place) (pair_in t)) (EntryIsNamed n)
 order-named n place (variable v) standard named = tt
 order-named n place (integer i) standard named = tt
 order-named n place (compound f none) standard named = tt
@@ -89,7 +89,7 @@ reply-named : (n : ℕ) (left : Option ℕ) (by_reference : Bool) (o : Option Re
 reply-named n left by_reference None standard named = tt
 reply-named n left by_reference (Some r) standard named = (standard, named)
 
-entry_for-named : (n : ℕ) (frame : Frame) (t : Term) → HasStandardNames n → IsNamed n t → IfSome (entry_for frame t) (EntryIsNamed n)
+entry_for-named : (n : ℕ) (frame : LineFrame) (t : Term) → HasStandardNames n → IsNamed n t → IfSome (entry_for frame t) (EntryIsNamed n)
 entry_for-named n (Truth place) t standard named = asked-named n place (asks.True t) standard named
 entry_for-named n (Cover place) t standard named = asked-named n place (asks.Covers (tuple_in t)) standard (tuple_in-named n t named)
 entry_for-named n (Order place) t standard named = order-named n place t standard named
@@ -97,7 +97,7 @@ entry_for-named n (Answer left by_reference) t standard named = reply-named n le
 entry_for-named n (WrongOne clause line) t standard named = (standard, tuple_in-named n t named)
 entry_for-named n Uncovered t standard named = (standard, named)
 
-pub framed-named : (names : List (List ℕ)) (frame : Frame) (o : Option Term) → Grown standard_names names → IfSome o (IsNamed (length names)) → IfSome (option_and_then (entry_for frame) o) (EntryIsNamed (length names))
+pub framed-named : (names : List (List ℕ)) (frame : LineFrame) (o : Option Term) → Grown standard_names names → IfSome o (IsNamed (length names)) → IfSome (option_and_then (entry_for frame) o) (EntryIsNamed (length names))
 framed-named names frame None standard named = tt
 framed-named names frame (Some t) standard named = entry_for-named (length names) frame t (standard_few names standard) named
 

@@ -29,9 +29,9 @@ use Rattle.apd_text.specs.declared.entry.Entry.TheVariants as entries
 use Rattle.apd_claims.specs.declared.claim.Claim.{Claim}
 use Rattle.apd_claims.specs.declared.claim.Claim.TheVariants.{Runs, Tells, Asks, Replies, Finds, Descends, Nothing, Garbled}
 use Rattle.apd_claims.specs.declared.form.Calling.{Calling}
-use Rattle.apd_claims.specs.declared.form.Numbered.{Numbered}
-use Rattle.apd_claims.specs.declared.form.Frame.{Frame}
-use Rattle.apd_claims.specs.declared.form.Frame.TheVariants.{Truth, Cover, Order, Reply as Answer, Instance, Uncovered}
+use Rattle.apd_claims.specs.declared.form.NumberedQuestion.{NumberedQuestion}
+use Rattle.apd_claims.specs.declared.form.LineFrame.{LineFrame}
+use Rattle.apd_claims.specs.declared.form.LineFrame.TheVariants.{Truth, Cover, Order, Reply as Answer, Instance, Uncovered}
 use Rattle.apd_claims.specs.Forms.{with_newline}
 use Rattle.apd_parts.specs.Parts.{Boxed, Led, boxed_in, boxed_where, if_some}
 use Rattle.apd_parts.specs.declared.boxes.Quote.TheVariants.{Outside}
@@ -66,14 +66,14 @@ reply_in t = option_or (truth_told t) (values_told t)
 
 -- Entries.
 
-abbrev pub asked : Numbered → Question → Entry
+abbrev pub asked : NumberedQuestion → Question → Entry
 asked place q = entries.Question place.number (record { question = canonical_question q; suspects = place.suspects })
 
 abbrev pub replied : Option ℕ → Bool → Reply → Entry
 replied left by_reference r = entries.Replied r left by_reference
 
 -- the entry whose text has this term in it
-abbrev pub entry_for : Frame → Term → Option Entry
+abbrev pub entry_for : LineFrame → Term → Option Entry
 entry_for (Truth place) t = Some (asked place (asks.True t))
 entry_for (Cover place) t = Some (asked place (asks.Covers (tuple_in t)))
 entry_for (Order place) t = option_map (asked place) (pair_in t)
@@ -139,7 +139,7 @@ module _ {names : List (List ℕ)} (reader : Reader names) (ops : Table) where
   abbrev pub symptom_claim : Bool → List ℕ → Claim
   symptom_claim is_true text = if_some (term_in reader ops text) (told is_true) Garbled
 
-  abbrev pub framed_claim : List ℕ → Frame → List ℕ → Claim
+  abbrev pub framed_claim : List ℕ → LineFrame → List ℕ → Claim
   framed_claim line frame text = claim_as ops names (with_newline line) (option_and_then (entry_for frame) (term_in reader ops text))
 
   -- Within a text of a term ` (box B) called by ` stands outside quotes only where `box` is a prefix operator, and then behind an

@@ -9,10 +9,10 @@ use Rattle.apd_causes.specs.declared.run.RunEnd.TheVariants.{Exhausted, Budget, 
 use Rattle.apd_causes.specs.declared.run.RunError.{RunError}
 use Rattle.apd_causes.specs.declared.run.RunError.TheVariants.{Unbound, NotEvaluable, Overflow, ZeroDivisor, Size}
 use Rattle.apd_text.specs.Lines.{end_text}
-use Rattle.apd_claims.specs.declared.form.Numbered.{Numbered}
-use Rattle.apd_claims.specs.declared.form.Frame.TheVariants.{Truth, Cover, Order, Reply, Instance, Uncovered}
-use Rattle.apd_claims.specs.declared.form.Form.{Form}
-use Rattle.apd_claims.specs.declared.form.Form.TheVariants.{Query, End, Symptom, Framed, Call, Candidates, Candidate, Descent, Other, Unread}
+use Rattle.apd_claims.specs.declared.form.NumberedQuestion.{NumberedQuestion}
+use Rattle.apd_claims.specs.declared.form.LineFrame.TheVariants.{Truth, Cover, Order, Reply, Instance, Uncovered}
+use Rattle.apd_claims.specs.declared.form.LineForm.{LineForm}
+use Rattle.apd_claims.specs.declared.form.LineForm.TheVariants.{Query, End, Symptom, Framed, Call, Candidates, Candidate, Descent, Other, Unread}
 use Rattle.apd_parts.specs.Parts.{Counted, Led, Parts, after, before, counted, cut, cut_last, if_some, led_by, number_64}
 
 -- the line and its newline
@@ -59,67 +59,67 @@ ran_in text =
     (failed_in text)))
 
 -- the end that was read, if the line is its text
-abbrev pub if_end : List ℕ → Ran → Form
+abbrev pub if_end : List ℕ → Ran → LineForm
 if_end line ran = if bytes_eq (end_text ran) (with_newline line) then End ran else Unread
 
-abbrev pub end_form : List ℕ → List ℕ → Form
+abbrev pub end_form : List ℕ → List ℕ → LineForm
 end_form line text = if_some (ran_in text) (if_end line) Unread
 
 -- Questions and replies.
 
 -- `true? A`, `covers? C` or `below? Q, P`, of which the last two terms are read as two arguments
-abbrev pub kind_form : Numbered → List ℕ → Form
+abbrev pub kind_form : NumberedQuestion → List ℕ → LineForm
 kind_form place text =
     if_some (after (codes "true? ") text) (Framed (Truth place))
     (if_some (after (codes "covers? ") text) (Framed (Cover place))
     (if_some (after (codes "below? ") text) (λ pair. Framed (Order place) (codes "below(" ++ pair ++ codes ")"))
     Unread))
 
-abbrev pub counted_form : ℕ → Counted → Form
+abbrev pub counted_form : ℕ → Counted → LineForm
 counted_form number c = kind_form (record { number = number; suspects = c.number }) c.text
 
-abbrev pub asked_form : Parts → Form
+abbrev pub asked_form : Parts → LineForm
 asked_form p = if_some (number_64 p.0) (λ number. counted_form number (counted (codes " suspects]") p.1)) Unread
 
-abbrev pub question_form : List ℕ → Form
+abbrev pub question_form : List ℕ → LineForm
 question_form text = if_some (cut (codes ": ") text) asked_form Unread
 
-abbrev pub framed_reply : Bool → Counted → Form
+abbrev pub framed_reply : Bool → Counted → LineForm
 framed_reply by_reference c = Framed (Reply c.number by_reference) c.text
 
 -- behind a reply that the reference program gave stands ` (reference)`
-abbrev pub reply_form : List ℕ → Form
+abbrev pub reply_form : List ℕ → LineForm
 reply_form text =
     if_some (before (codes " (reference)") text) (λ t. framed_reply true (counted (codes " left]") t)) (framed_reply false (counted (codes " left]") text))
 
 -- Findings.
 
 -- `C, line L: CLAUSE`
-abbrev pub placed_form : ℕ → Led → Form
+abbrev pub placed_form : ℕ → Led → LineForm
 placed_form clause b = Framed (Instance clause b.number) b.rest
 
-abbrev pub instance_form : List ℕ → Form
+abbrev pub instance_form : List ℕ → LineForm
 instance_form text = if_some (led_by (codes ", line ") text) (λ a. if_some (led_by (codes ": ") a.rest) (placed_form a.number) Unread) Unread
 
 -- `A)` behind `Q (box B) called by P`
-abbrev pub caller_form : ℕ → ℕ → ℕ → Parts → Form
+abbrev pub caller_form : ℕ → ℕ → ℕ → Parts → LineForm
 caller_form clause line goal p =
     if_some (led_by (codes ")") p.1) (λ a. Call (record { clause = clause; line = line; goal = goal; caller = a.number }) p.0) Unread
 
 -- `G: Q (box B) called by P (box A)`
-abbrev pub goal_form : ℕ → ℕ → Led → Form
+abbrev pub goal_form : ℕ → ℕ → Led → LineForm
 goal_form clause line g =
     if nat_le g.number 255 then if_some (cut_last (codes " (box ") g.rest) (caller_form clause line g.number) Unread else Unread
 
 -- `L, goal G: ..`
-abbrev pub call_line_form : ℕ → Led → Form
+abbrev pub call_line_form : ℕ → Led → LineForm
 call_line_form clause b = if_some (led_by (codes ": ") b.rest) (goal_form clause b.number) Unread
 
 -- `C, line L, goal G: ..`
-abbrev pub call_form : List ℕ → Form
+abbrev pub call_form : List ℕ → LineForm
 call_form text = if_some (led_by (codes ", line ") text) (λ a. if_some (led_by (codes ", goal ") a.rest) (call_line_form a.number) Unread) Unread
 
-abbrev pub bug_form : List ℕ → Form
+abbrev pub bug_form : List ℕ → LineForm
 bug_form text =
     if_some (after (codes "wrong instance of clause ") text) instance_form
     (if_some (after (codes "uncovered goal: ") text) (Framed Uncovered)
@@ -127,12 +127,12 @@ bug_form text =
     Unread))
 
 -- `all N calls descend`
-abbrev pub descent_form : List ℕ → Form
+abbrev pub descent_form : List ℕ → LineForm
 descent_form text = if_some (after (codes "all ") text) (λ t. if_some (led_by (codes " calls") t) (λ a. Descent a.number) Unread) Unread
 
 -- Lines.
 
-abbrev pub found_form : List ℕ → Form
+abbrev pub found_form : List ℕ → LineForm
 found_form line =
     if_some (after (codes "bug: ") line) bug_form
     (if_some (after (codes "candidates: ") line) (λ _. Candidates)
@@ -140,20 +140,20 @@ found_form line =
     (if_some (after (codes "no bug: ") line) descent_form
     Other)))
 
-abbrev pub talked_form : List ℕ → Form
+abbrev pub talked_form : List ℕ → LineForm
 talked_form line =
     if_some (after (codes "question ") line) question_form
     (if_some (after (codes "reply: ") line) reply_form
     (found_form line))
 
-abbrev pub told_form : List ℕ → Form
+abbrev pub told_form : List ℕ → LineForm
 told_form line =
     if_some (after (codes "symptom: not true: ") line) (Symptom false)
     (if_some (after (codes "symptom: true: ") line) (Symptom true)
     (talked_form line))
 
 -- what a line is
-unfoldable pub form_in : List ℕ → Form
+unfoldable pub form_in : List ℕ → LineForm
 form_in line =
     if_some (after (codes "run: ") line) Query
     (if_some (after (codes "end: ") line) (end_form line)

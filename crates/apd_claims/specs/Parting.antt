@@ -16,11 +16,11 @@ use Rattle.apd_claims.specs.Claims.{called, written}
 use Rattle.apd_claims.specs.Forms.{form_in, with_newline}
 use Rattle.apd_parts.specs.Parts.{Led, box_first}
 use Rattle.apd_claims.specs.declared.claim.Claim.{Claim}
-use Rattle.apd_claims.specs.declared.form.Form.{Form}
-use Rattle.apd_claims.specs.declared.form.Form.TheVariants.{Call}
+use Rattle.apd_claims.specs.declared.form.LineForm.{LineForm}
+use Rattle.apd_claims.specs.declared.form.LineForm.TheVariants.{Call}
 use Rattle.apd_claims.specs.declared.parting.CallLine.{CallLine}
 
-abbrev pub called_by : List ℕ → Form → Option CallLine
+abbrev pub called_by : List ℕ → LineForm → Option CallLine
 called_by line (Call c text) = Some (record { calling = c; text = text; whole = with_newline line })
 called_by line form = None
 

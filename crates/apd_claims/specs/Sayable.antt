@@ -7,8 +7,8 @@ use Rattle.apd_claims.specs.Forms.{is_shown}
 use Rattle.apd_claims.specs.Saying.{is_candidate}
 use Rattle.apd_claims.specs.declared.claim.Claim.{Claim}
 use Rattle.apd_claims.specs.declared.claim.Claim.TheVariants.{Runs, Ends, Tells}
-use Rattle.apd_claims.specs.declared.form.Form.{Form}
-use Rattle.apd_claims.specs.declared.form.Form.TheVariants.{End}
+use Rattle.apd_claims.specs.declared.form.LineForm.{LineForm}
+use Rattle.apd_claims.specs.declared.form.LineForm.TheVariants.{End}
 
 -- the first of the lines, if there is one, isn't that of a candidate
 abbrev pub BeginsWithNone : List (List ℕ) → Type 0
@@ -19,7 +19,7 @@ BeginsWithNone (line ∷ lines) = is_candidate line ≡ false
 abbrev pub IsShown : Ran → Type 0
 IsShown ran = is_shown ran.end ran.ports ran.answers ≡ true
 
-abbrev pub FormIsSayable : Form → Type 0
+abbrev pub FormIsSayable : LineForm → Type 0
 FormIsSayable (End ran) = IsShown ran
 FormIsSayable form = Unit {0}
 

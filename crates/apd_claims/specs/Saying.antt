@@ -12,8 +12,8 @@ use Rattle.apd_text.specs.declared.entry.Entry.{Entry}
 use Rattle.apd_text.specs.declared.entry.Entry.TheVariants as entries
 use Rattle.apd_claims.specs.declared.claim.Claim.{Claim}
 use Rattle.apd_claims.specs.declared.claim.Claim.TheVariants as claims
-use Rattle.apd_claims.specs.declared.form.Form.{Form}
-use Rattle.apd_claims.specs.declared.form.Form.TheVariants.{Query, End, Symptom, Framed, Call, Candidates, Candidate, Descent, Other, Unread}
+use Rattle.apd_claims.specs.declared.form.LineForm.{LineForm}
+use Rattle.apd_claims.specs.declared.form.LineForm.TheVariants.{Query, End, Symptom, Framed, Call, Candidates, Candidate, Descent, Other, Unread}
 use Rattle.apd_claims.specs.Claims.{call_claim, claim_as, framed_claim, run_claim, symptom_claim, tuple_in}
 use Rattle.apd_claims.specs.Forms.{form_in, with_newline}
 use Rattle.apd_claims.specs.Parting.{called_in, claim_parted}
@@ -60,7 +60,7 @@ module _ {names : List (List ℕ)} (reader : Reader names) (ops : Table) where
   group_claim line lines = claim_as ops names (group_text line lines) (option_map group_entry (instances_in [] lines))
 
   -- what a line of this form says, before these lines; in a group, a candidate's line says nothing more
-  abbrev pub claim_by : Bool → List ℕ → List (List ℕ) → Form → Claim
+  abbrev pub claim_by : Bool → List ℕ → List (List ℕ) → LineForm → Claim
   claim_by in_group line lines (Query goals) = run_claim reader ops goals
   claim_by in_group line lines (End ran) = claims.Ends ran
   claim_by in_group line lines (Symptom is_true text) = symptom_claim reader ops is_true text

@@ -19,7 +19,7 @@ ghost use Rattle.apd_claims.specs.declared.claim.Claim.TheVariants.{Garbled};
 
 use crate::claim::Claim;
 use crate::entries::entry_for;
-use crate::form::Frame;
+use crate::form::LineFrame;
 use crate::reading::{as_clause, read_term, read_whole};
 use apd_answers::{Question, Reply};
 use apd_base::Text;
@@ -140,7 +140,11 @@ pub(crate) fn claim_as(
 }
 
 /// The entry of a term that was read.
-fn entry_of(alloc: Global, frame: Frame, term: Option<Flat>) -> Result<Option<Entry>, AllocError>
+fn entry_of(
+    alloc: Global,
+    frame: LineFrame,
+    term: Option<Flat>,
+) -> Result<Option<Entry>, AllocError>
     ensures { IfOk result (λ e. e ≡ option_and_then (entry_for frame) term) }
 {
     match term {
@@ -155,7 +159,7 @@ pub(crate) fn framed_claim(
     ops: &Ops,
     names: &mut Names,
     line: &[u8],
-    frame: Frame,
+    frame: LineFrame,
     text: &[u8],
 ) -> Result<Claim, AllocError>
     ensures names { Grown names.old names.new }

@@ -4,7 +4,7 @@ ghost use Rattle.std.specs.Prelude.{◌≡◌, IfOk, IfSome};
 ghost use Rattle.apd_claims.specs.Forms.{boxed_in, counts_in, end_form, failed_in, ran_in, shown};
 ghost use Rattle.apd_claims.specs.Sayable.{FormIsSayable, IsShown};
 
-use crate::form::Form;
+use crate::form::LineForm;
 use apd_base::{MOST_SHOWN, Text};
 use apd_causes::{Ran, RunEnd, RunError};
 use apd_parts::{after, led_by};
@@ -89,18 +89,18 @@ fn ran_in(text: &[u8]) -> Option<Ran>
 }
 
 /// What a line is that begins as an end, before this text.
-pub(crate) fn end_form(alloc: Global, line: &[u8], text: &[u8]) -> Result<Form, AllocError>
+pub(crate) fn end_form(alloc: Global, line: &[u8], text: &[u8]) -> Result<LineForm, AllocError>
     ensures form { IfOk result (λ f. f ≡ end_form line.now text.now) }
     ensures sayable { IfOk result FormIsSayable }
 {
     let Some(ran) = ran_in(text) else {
-        return Ok(Form::Unread);
+        return Ok(LineForm::Unread);
     };
     let mut expected = Text::copy_of(alloc, line)?;
     expected.extend(b"\n")?;
     let written = end_line(alloc, ran)?;
     if written.bytes() != expected.bytes() {
-        return Ok(Form::Unread);
+        return Ok(LineForm::Unread);
     }
-    Ok(Form::End(ran))
+    Ok(LineForm::End(ran))
 }

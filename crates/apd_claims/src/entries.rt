@@ -5,7 +5,7 @@ ghost use Rattle.apd_term.specs.declared.standard.TheConstants as names;
 ghost use Rattle.apd_term.specs.declared.term.Sym.TheVariants as symbols;
 ghost use Rattle.apd_claims.specs.Claims.{asked, call_entry, entry_for, goals_in, pair_in, reply_in, tuple_in};
 
-use crate::form::{Calling, Frame, Numbered};
+use crate::form::{Calling, LineFrame, NumberedQuestion};
 use apd_answers::{Asked, Finding, Question, Reply};
 use apd_known::{truth_told, values_told};
 use apd_term::matching::piece_at;
@@ -90,7 +90,11 @@ fn reply_in(alloc: Global, term: &Flat) -> Result<Option<Reply>, AllocError>
 }
 
 /// A question, with its numbers.
-fn asked(alloc: Global, place: Numbered, question: Question) -> Result<Option<Entry>, AllocError>
+fn asked(
+    alloc: Global,
+    place: NumberedQuestion,
+    question: Question,
+) -> Result<Option<Entry>, AllocError>
     ensures { IfOk result (λ e. e ≡ Some (asked place question)) }
 {
     let form = question.canonical(alloc);
@@ -106,16 +110,24 @@ fn asked(alloc: Global, place: Numbered, question: Question) -> Result<Option<En
 }
 
 /// The question of a body.
-fn cover_entry(alloc: Global, place: Numbered, term: &Flat) -> Result<Option<Entry>, AllocError>
-    ensures { IfOk result (λ e. e ≡ entry_for (Frame.Cover place) term.now) }
+fn cover_entry(
+    alloc: Global,
+    place: NumberedQuestion,
+    term: &Flat,
+) -> Result<Option<Entry>, AllocError>
+    ensures { IfOk result (λ e. e ≡ entry_for (LineFrame.Cover place) term.now) }
 {
     let tuple = tuple_in(alloc, term)?;
     asked(alloc, place, Question::Covers(tuple))
 }
 
 /// The question of two terms.
-fn order_entry(alloc: Global, place: Numbered, term: &Flat) -> Result<Option<Entry>, AllocError>
-    ensures { IfOk result (λ e. e ≡ entry_for (Frame.Order place) term.now) }
+fn order_entry(
+    alloc: Global,
+    place: NumberedQuestion,
+    term: &Flat,
+) -> Result<Option<Entry>, AllocError>
+    ensures { IfOk result (λ e. e ≡ entry_for (LineFrame.Order place) term.now) }
 {
     match pair_in(alloc, term)? {
         Some(question) => asked(alloc, place, question),
@@ -130,7 +142,7 @@ fn reply_entry(
     by_reference: bool,
     term: &Flat,
 ) -> Result<Option<Entry>, AllocError>
-    ensures { IfOk result (λ e. e ≡ entry_for (Frame.Reply left by_reference) term.now) }
+    ensures { IfOk result (λ e. e ≡ entry_for (LineFrame.Reply left by_reference) term.now) }
 {
     match reply_in(alloc, term)? {
         Some(reply) => Ok(Some(Entry::Replied {
@@ -149,7 +161,7 @@ fn instance_entry(
     line: u32,
     term: &Flat,
 ) -> Result<Option<Entry>, AllocError>
-    ensures { IfOk result (λ e. e ≡ entry_for (Frame.Instance clause line) term.now) }
+    ensures { IfOk result (λ e. e ≡ entry_for (LineFrame.Instance clause line) term.now) }
 {
     let tuple = tuple_in(alloc, term)?;
     let finding = Finding::WrongInstance { clause, tuple };
@@ -159,18 +171,18 @@ fn instance_entry(
 /// The entry whose text has this term in it.
 pub(crate) fn entry_for(
     alloc: Global,
-    frame: Frame,
+    frame: LineFrame,
     term: Flat,
 ) -> Result<Option<Entry>, AllocError>
     ensures { IfOk result (λ e. e ≡ entry_for frame term) }
 {
     match frame {
-        Frame::Truth(place) => asked(alloc, place, Question::True(term)),
-        Frame::Cover(place) => cover_entry(alloc, place, &term),
-        Frame::Order(place) => order_entry(alloc, place, &term),
-        Frame::Reply { left, by_reference } => reply_entry(alloc, left, by_reference, &term),
-        Frame::Instance { clause, line } => instance_entry(alloc, clause, line, &term),
-        Frame::Uncovered => Ok(Some(Entry::Found {
+        LineFrame::Truth(place) => asked(alloc, place, Question::True(term)),
+        LineFrame::Cover(place) => cover_entry(alloc, place, &term),
+        LineFrame::Order(place) => order_entry(alloc, place, &term),
+        LineFrame::Reply { left, by_reference } => reply_entry(alloc, left, by_reference, &term),
+        LineFrame::Instance { clause, line } => instance_entry(alloc, clause, line, &term),
+        LineFrame::Uncovered => Ok(Some(Entry::Found {
             finding: Finding::Uncovered { goal: term },
             line: 0,
         })),

@@ -5,20 +5,20 @@ use apd_causes::Ran;
 
 /// The number of a question, and how many suspects it is about one of, where that is told.
 #[derive(Clone, Copy)]
-pub struct Numbered {
+pub struct NumberedQuestion {
     pub number: u64,
     pub suspects: Option<u32>,
 }
 
 /// What is said of one term.
 #[derive(Clone, Copy)]
-pub enum Frame {
+pub enum LineFrame {
     /// It is asked whether it is true.
-    Truth(Numbered),
+    Truth(NumberedQuestion),
     /// It is asked whether its body has a solution.
-    Cover(Numbered),
+    Cover(NumberedQuestion),
     /// It is asked whether the first of its two arguments is below the second.
-    Order(Numbered),
+    Order(NumberedQuestion),
     /// It is a reply, by the reference program or by a line, which leaves so many suspects, where that is told.
     Reply {
         left: Option<u32>,
@@ -44,7 +44,7 @@ pub struct Calling {
 
 /// What a line is by how it begins and by its numbers.
 #[derive(Drop)]
-pub enum Form {
+pub enum LineForm {
     /// Goals that are run.
     Query(Text),
     /// An end of a run.
@@ -52,7 +52,7 @@ pub enum Form {
     /// An atom, and whether it is said to be true.
     Symptom(bool, Text),
     /// What is said of this term.
-    Framed(Frame, Text),
+    Framed(LineFrame, Text),
     /// A call that isn't below its caller: the text has the two atoms, and the number of the call's box.
     Call(Calling, Text),
     /// How many candidates follow.

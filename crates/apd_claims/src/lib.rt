@@ -16,4 +16,4 @@ mod saying;
 pub use claim::Claim;
 pub use parting::{CallLine, lasting_text};
 pub use reading::MOST_READ_NAMES;
-pub use saying::{Place, claim_at, goes_on};
+pub use saying::{LogLine, claim_at, goes_on};

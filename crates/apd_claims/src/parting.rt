@@ -13,7 +13,7 @@ ghost use Rattle.apd_claims.specs.Texts.{KeepsFew};
 use crate::calls::called;
 use crate::claim::Claim;
 use crate::claims::{with_newline, written};
-use crate::form::{Calling, Form};
+use crate::form::{Calling, LineForm};
 use crate::forms::form_in;
 use apd_answers::Finding;
 use apd_base::Text;
@@ -139,7 +139,7 @@ impl CallLine {
         ensures { IfOk result (λ o. o ≡ called_in line.now) }
     {
         match form_in(alloc, line)? {
-            Form::Call(calling, text) => Ok(Some(CallLine {
+            LineForm::Call(calling, text) => Ok(Some(CallLine {
                 calling,
                 text,
                 whole: with_newline(alloc, line)?,

@@ -15,7 +15,7 @@ ghost use Rattle.apd_claims.specs.Texts.{KeepsFew};
 use crate::calls::call_claim;
 use crate::claim::Claim;
 use crate::claims::{claim_as, framed_claim, run_claim, symptom_claim, with_newline};
-use crate::form::Form;
+use crate::form::LineForm;
 use crate::forms::form_in;
 use crate::groups::group_claim;
 use apd_ops::Ops;
@@ -26,7 +26,7 @@ use std::alloc::{AllocError, Global};
 
 /// A line, with the text behind it, and whether candidates stand directly before it.
 #[derive(Clone, Copy)]
-pub struct Place<'a> {
+pub struct LogLine<'a> {
     pub line: &'a [u8],
     pub rest: &'a [u8],
     pub in_group: bool,
@@ -54,8 +54,8 @@ fn claim_by(
     alloc: Global,
     ops: &Ops,
     names: &mut Names,
-    place: &Place<'_>,
-    form: Form,
+    place: &LogLine<'_>,
+    form: LineForm,
 ) -> Result<Claim, AllocError>
     requires { FormIsSayable form }
     ensures names { Grown names.old names.new }
@@ -66,20 +66,20 @@ fn claim_by(
     ensures sayable { IfOk result IsSayable }
 {
     match form {
-        Form::Query(goals) => run_claim(alloc, ops, names, goals.bytes()),
-        Form::End(ran) => Ok(Claim::Ends(ran)),
-        Form::Symptom(is_true, text) => symptom_claim(alloc, ops, names, is_true, text.bytes()),
-        Form::Framed(frame, text) => {
+        LineForm::Query(goals) => run_claim(alloc, ops, names, goals.bytes()),
+        LineForm::End(ran) => Ok(Claim::Ends(ran)),
+        LineForm::Symptom(is_true, text) => symptom_claim(alloc, ops, names, is_true, text.bytes()),
+        LineForm::Framed(frame, text) => {
             framed_claim(alloc, ops, names, place.line, frame, text.bytes())
         }
-        Form::Call(calling, text) => {
+        LineForm::Call(calling, text) => {
             call_claim(alloc, ops, names, place.line, calling, text.bytes())
         }
-        Form::Candidates => group_claim(alloc, ops, names, place.line, place.rest),
-        Form::Candidate if place.in_group => Ok(Claim::Nothing),
-        Form::Descent(calls) => descent_claim(alloc, ops, names, place.line, calls),
-        Form::Other => Ok(Claim::Nothing),
-        Form::Candidate | Form::Unread => Ok(Claim::Garbled),
+        LineForm::Candidates => group_claim(alloc, ops, names, place.line, place.rest),
+        LineForm::Candidate if place.in_group => Ok(Claim::Nothing),
+        LineForm::Descent(calls) => descent_claim(alloc, ops, names, place.line, calls),
+        LineForm::Other => Ok(Claim::Nothing),
+        LineForm::Candidate | LineForm::Unread => Ok(Claim::Garbled),
     }
 }
 
@@ -88,7 +88,7 @@ pub fn claim_at(
     alloc: Global,
     ops: &Ops,
     names: &mut Names,
-    place: &Place<'_>,
+    place: &LogLine<'_>,
 ) -> Result<Claim, AllocError>
     ensures names { Grown names.old names.new }
     ensures few { KeepsFew names.old names.new }

@@ -6,7 +6,7 @@ use Rattle.std.proofs.lemmas.List.{append-nil, map-append, length-append, set_at
 use Rattle.apd_record.proofs.Shaped.{mapped}
 use Rattle.apd_term.specs.Term.{Term}
 use Rattle.apd_term.specs.declared.tuple.Tuple.{Tuple}
-use Rattle.apd_divide.specs.declared.node.Row.{Row}
+use Rattle.apd_divide.specs.declared.node.NodeRow.{NodeRow}
 use Rattle.apd_divide.specs.declared.node.Standing.{Standing}
 use Rattle.apd_divide.specs.declared.node.Standing.TheVariants.{Open, Cleared, Doubted}
 use Rattle.apd_divide.specs.declared.node.Strategy.{Strategy}
@@ -183,37 +183,37 @@ module _ (such : Term → Bool) where
   joined-cleared (beside y ys) xs = ap (beside (cleared such y)) (joined-cleared ys xs)
 
   -- What is done in the walk, and what is left.
-  pub record Clears (whole : Forest) (rs : List Row) (at : ℕ) : Type 0 where
-    pub front : List Row
+  pub record Clears (whole : Forest) (rs : List NodeRow) (at : ℕ) : Type 0 where
+    pub front : List NodeRow
     pub left : Forest
     pub place : length front ≡ at
     pub rows_are : rs ≡ front ++ rows_of left
     pub alike : map blank front ++ map blank (rows_of (all_cleared such left)) ≡ map blank (rows_of (all_cleared such whole))
 
-  pub clears_first : (rs : List Row) → rs ≡ rows_of (forest_from rs) → Clears (forest_from rs) rs 0
+  pub clears_first : (rs : List NodeRow) → rs ≡ rows_of (forest_from rs) → Clears (forest_from rs) rs 0
   clears_first rs e = record { front = []; left = forest_from rs; place = refl; rows_are = e; alike = refl }
 
   -- the row at the place
-  pub record ClearsAt (whole : Forest) (rs : List Row) (at : ℕ) (r : Row) : Type 0 where
+  pub record ClearsAt (whole : Forest) (rs : List NodeRow) (at : ℕ) (r : NodeRow) : Type 0 where
     pub positive : 1 ≤ r.span
     pub fits : at + r.span ≤ length rs
     pub passes : r.standing ≡ Cleared → Clears whole rs (at + r.span)
-    pub strikes : (is_open r.standing && such r.tuple.head) ≡ true → (q : Row) → q ≡ record r { standing = Cleared } → Clears whole (set rs at q) (at + r.span)
+    pub strikes : (is_open r.standing && such r.tuple.head) ≡ true → (q : NodeRow) → q ≡ record r { standing = Cleared } → Clears whole (set rs at q) (at + r.span)
     pub enters_it : ¬ (r.standing ≡ Cleared) → (is_open r.standing && such r.tuple.head) ≡ false → Clears whole rs (at + 1)
 
-  behind_front : (front : List Row) (a : Row) (more others : List Row) → map blank (front ++ a ∷ more) ++ map blank others ≡ map blank front ++ (blank a ∷ (map blank more ++ map blank others))
+  behind_front : (front : List NodeRow) (a : NodeRow) (more others : List NodeRow) → map blank (front ++ a ∷ more) ++ map blank others ≡ map blank front ++ (blank a ∷ (map blank more ++ map blank others))
   behind_front front a more others = ap (λ z. z ++ map blank others) (map-append blank front (a ∷ more)) ∙ append_assoc (map blank front) (blank a ∷ map blank more) (map blank others)
 
-  clears_tree : (whole : Forest) (rs : List Row) (at : ℕ) (r : Row) (front : List Row) (s : Standing) (c : ℕ) (t : Tuple) (ts xs : Forest) → length front ≡ at → rs ≡ front ++ rows_of (beside (node s c t ts) xs)
+  clears_tree : (whole : Forest) (rs : List NodeRow) (at : ℕ) (r : NodeRow) (front : List NodeRow) (s : Standing) (c : ℕ) (t : Tuple) (ts xs : Forest) → length front ≡ at → rs ≡ front ++ rows_of (beside (node s c t ts) xs)
       → map blank front ++ map blank (rows_of (all_cleared such (beside (node s c t ts) xs))) ≡ map blank (rows_of (all_cleared such whole)) → r ≡ get_or rs at r → ClearsAt whole rs at r
   clears_tree whole rs at r front s c t ts xs place rows_are alike is =
       let x = node s c t ts in
       let flat : rs ≡ front ++ row s c t ts ∷ (rows_of ts ++ rows_of xs) = rows_are in
       let a = at_place rs front at (row s c t ts) (rows_of ts ++ rows_of xs) flat place in
       let own : r ≡ row s c t ts = is ∙ a.is r in
-      let span : r.span ≡ nodes x = ap (λ (q : Row). q.span) own in
-      let stands : r.standing ≡ s = ap (λ (q : Row). q.standing) own in
-      let tests : (is_open r.standing && such r.tuple.head) ≡ (is_open s && such t.head) = ap (λ (q : Row). is_open q.standing && such q.tuple.head) own in
+      let span : r.span ≡ nodes x = ap (λ (q : NodeRow). q.span) own in
+      let stands : r.standing ≡ s = ap (λ (q : NodeRow). q.standing) own in
+      let tests : (is_open r.standing && such r.tuple.head) ≡ (is_open s && such t.head) = ap (λ (q : NodeRow). is_open q.standing && such q.tuple.head) own in
       let o = one_node x in
       let many : length rs ≡ length front + suc (length (rows_of ts) + length (rows_of xs)) =
       ap length flat ∙ length-append front (row s c t ts ∷ (rows_of ts ++ rows_of xs)) ∙ ap (λ n. length front + suc n) (length-append (rows_of ts) (rows_of xs)) in
@@ -236,7 +236,7 @@ module _ (such : Term → Bool) where
             };
         strikes = λ e q q_is.
             let now : cleared such x ≡ node Cleared c t ts = struck s c t ts (sym tests ∙ e) in
-            let blank_is : blank q ≡ blank (row Cleared c t ts) = ap blank (q_is ∙ ap (λ (z : Row). record z { standing = Cleared }) own) in
+            let blank_is : blank q ≡ blank (row Cleared c t ts) = ap blank (q_is ∙ ap (λ (z : NodeRow). record z { standing = Cleared }) own) in
             record {
               front = front ++ q ∷ rows_of ts;
               left = xs;
@@ -267,17 +267,17 @@ module _ (such : Term → Bool) where
       was_cleared Cleared m u us e = refl
       was_cleared Doubted m u us e = absurd (cc)
 
-      behind_place : (f : List Row) (q : Row) (us : Forest) (i span : ℕ) → length f ≡ i → span ≡ nodes_of us + 1 → length (f ++ q ∷ rows_of us) ≡ i + span
+      behind_place : (f : List NodeRow) (q : NodeRow) (us : Forest) (i span : ℕ) → length f ≡ i → span ≡ nodes_of us + 1 → length (f ++ q ∷ rows_of us) ≡ i + span
       behind_place f q us i n e g = let l = length-rows_of us in length-append f (q ∷ rows_of us) ∙ omega (arith, l, e, g)
 
-  pub clears_at : (whole : Forest) (rs : List Row) (at : ℕ) (r : Row) → at < length rs → Clears whole rs at → r ≡ get_or rs at r → ClearsAt whole rs at r
+  pub clears_at : (whole : Forest) (rs : List NodeRow) (at : ℕ) (r : NodeRow) → at < length rs → Clears whole rs at → r ≡ get_or rs at r → ClearsAt whole rs at r
   clears_at whole rs at r l h is = by h.left h.rows_are h.alike
     where
       by : (f : Forest) → rs ≡ h.front ++ rows_of f → map blank h.front ++ map blank (rows_of (all_cleared such f)) ≡ map blank (rows_of (all_cleared such whole)) → ClearsAt whole rs at r
       by bare e g = let n = ap length (e ∙ append-nil h.front) ∙ h.place in absurd (omega (arith, n, l))
       by (beside (node s c t ts) xs) e g = clears_tree whole rs at r h.front s c t ts xs h.place e g is
 
-  pub clears_all : (whole : Forest) (rs : List Row) (at : ℕ) → length rs ≤ at → Clears whole rs at → map blank rs ≡ map blank (rows_of (all_cleared such whole))
+  pub clears_all : (whole : Forest) (rs : List NodeRow) (at : ℕ) → length rs ≤ at → Clears whole rs at → map blank rs ≡ map blank (rows_of (all_cleared such whole))
   clears_all whole rs at l h = by h.left h.rows_are h.alike
     where
       by : (f : Forest) → rs ≡ h.front ++ rows_of f → map blank h.front ++ map blank (rows_of (all_cleared such f)) ≡ map blank (rows_of (all_cleared such whole)) → map blank rs ≡ map blank (rows_of (all_cleared such whole))

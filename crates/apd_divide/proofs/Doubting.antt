@@ -8,7 +8,7 @@ use Rattle.std.proofs.lemmas.Bool.{or_parts}
 use Rattle.apd_term.specs.Term.{Term}
 use Rattle.apd_term.specs.declared.tuple.Tuple.{Tuple}
 use Rattle.apd_term.specs.declared.instance.Instance.{Instance}
-use Rattle.apd_divide.specs.declared.node.Row.{Row}
+use Rattle.apd_divide.specs.declared.node.NodeRow.{NodeRow}
 use Rattle.apd_divide.specs.declared.node.Standing.{Standing}
 use Rattle.apd_divide.specs.declared.node.Standing.TheVariants.{Open, Cleared, Doubted}
 use Rattle.apd_divide.specs.Tree.{Tree, Forest, node, bare, beside, is_open, is_suspect, label, doubts, doubts_by, doubts_of}
@@ -42,7 +42,7 @@ doubts-joined bare ys = refl
 doubts-joined (beside x xs) ys = ap (λ d. doubts x ++ d) (doubts-joined xs ys) ∙ sym (append_assoc (doubts x) (doubts_of xs) (doubts_of ys))
 
 -- the row at a place of such a walk
-record Meets (rs : List Row) (at : ℕ) (r : Row) (s : Standing) (c : ℕ) (t : Tuple) (ts xs : Forest) : Type 0 where
+record Meets (rs : List NodeRow) (at : ℕ) (r : NodeRow) (s : Standing) (c : ℕ) (t : Tuple) (ts xs : Forest) : Type 0 where
   own : r ≡ row s c t ts
   positive : 1 ≤ r.span
   fits : at + r.span ≤ length rs
@@ -50,12 +50,12 @@ record Meets (rs : List Row) (at : ℕ) (r : Row) (s : Standing) (c : ℕ) (t : 
   inside : drop (at + 1) rs ≡ rows_of (joined ts xs)
   past : drop (at + r.span) rs ≡ rows_of xs
 
-meets : (rs : List Row) (at : ℕ) (r : Row) (s : Standing) (c : ℕ) (t : Tuple) (ts xs : Forest) → drop at rs ≡ rows_of (beside (node s c t ts) xs) → r ≡ get_or rs at r → Meets rs at r s c t ts xs
+meets : (rs : List NodeRow) (at : ℕ) (r : NodeRow) (s : Standing) (c : ℕ) (t : Tuple) (ts xs : Forest) → drop at rs ≡ rows_of (beside (node s c t ts) xs) → r ≡ get_or rs at r → Meets rs at r s c t ts xs
 meets rs at r s c t ts xs e is =
     let x = node s c t ts in
     let a = at_drop rs at (own_row x) (rows_of ts ++ rows_of xs) (e ∙ with_own x (rows_of xs)) in
     let own : r ≡ row s c t ts = is ∙ a.is r in
-    let span : r.span ≡ nodes x = ap (λ (q : Row). q.span) own in
+    let span : r.span ≡ nodes x = ap (λ (q : NodeRow). q.span) own in
     let o = one_node x in
     let w = a.within in
     let many : length rs - at ≡ nodes x + length (rows_of xs) =
@@ -70,13 +70,13 @@ meets rs at r s c t ts xs e is =
     }
 
 -- What was found so far, and what is left.
-pub record Doubting (rs : List Row) (at : ℕ) (found wanted : List Instance) : Type 0 where
+pub record Doubting (rs : List NodeRow) (at : ℕ) (found wanted : List Instance) : Type 0 where
   pub left : Forest
   pub rows_are : drop at rs ≡ rows_of left
   pub found_is : found ++ doubts_of left ≡ wanted
   pub within : at ≤ length rs
 
-pub record DoubtingAt (rs : List Row) (at : ℕ) (found wanted : List Instance) (r : Row) : Type 0 where
+pub record DoubtingAt (rs : List NodeRow) (at : ℕ) (found wanted : List Instance) (r : NodeRow) : Type 0 where
   pub positive : 1 ≤ r.span
   pub fits : at + r.span ≤ length rs
   pub opened : r.standing ≡ Open → Doubting rs (at + 1) found wanted
@@ -86,11 +86,11 @@ pub record DoubtingAt (rs : List Row) (at : ℕ) (found wanted : List Instance) 
 pub instance_is : (i : Instance) (c : ℕ) (t : Tuple) → i.clause ≡ c → i.tuple ≡ t → i ≡ record { clause = c; tuple = t }
 instance_is i c t e f = ap (λ k. record { clause = k; tuple = i.tuple }) e ∙ ap (λ u. record { clause = c; tuple = u }) f
 
-doubting_tree : (rs : List Row) (at : ℕ) (found wanted : List Instance) (r : Row) (s : Standing) (c : ℕ) (t : Tuple) (ts xs : Forest)
+doubting_tree : (rs : List NodeRow) (at : ℕ) (found wanted : List Instance) (r : NodeRow) (s : Standing) (c : ℕ) (t : Tuple) (ts xs : Forest)
     → drop at rs ≡ rows_of (beside (node s c t ts) xs) → found ++ doubts_of (beside (node s c t ts) xs) ≡ wanted → r ≡ get_or rs at r → DoubtingAt rs at found wanted r
 doubting_tree rs at found wanted r s c t ts xs e g is =
     let m = meets rs at r s c t ts xs e is in
-    let stands : r.standing ≡ s = ap (λ (q : Row). q.standing) m.own in
+    let stands : r.standing ≡ s = ap (λ (q : NodeRow). q.standing) m.own in
     let own : Instance = record { clause = c; tuple = t } in
     let p = m.positive in
     let f = m.fits in
@@ -111,29 +111,29 @@ doubting_tree rs at found wanted r s c t ts xs e g is =
         rows_are = m.inside;
         found_is =
             append_assoc found (i ∷ []) (doubts_of (joined ts xs)) ∙ ap (λ d. found ++ i ∷ d) (doubts-joined ts xs)
-            ∙ ap (λ j. found ++ j ∷ (doubts_of ts ++ doubts_of xs)) (instance_is i c t (a ∙ ap (λ (q : Row). q.clause) m.own) (b ∙ ap (λ (q : Row). q.tuple) m.own)) ∙ by Doubted h;
+            ∙ ap (λ j. found ++ j ∷ (doubts_of ts ++ doubts_of xs)) (instance_is i c t (a ∙ ap (λ (q : NodeRow). q.clause) m.own) (b ∙ ap (λ (q : NodeRow). q.tuple) m.own)) ∙ by Doubted h;
         within = omega (arith, p, f);
       };
     }
 
-none_there : (rs : List Row) (at : ℕ) → at < length rs → drop at rs ≡ [] → ⊥
+none_there : (rs : List NodeRow) (at : ℕ) → at < length rs → drop at rs ≡ [] → ⊥
 none_there rs at l e = let n : length rs - at ≡ 0 = sym (length-drop at rs) ∙ ap length e in omega (arith, n, l)
 
-pub doubting_at : (rs : List Row) (at : ℕ) (found wanted : List Instance) (r : Row) → at < length rs → Doubting rs at found wanted → r ≡ get_or rs at r → DoubtingAt rs at found wanted r
+pub doubting_at : (rs : List NodeRow) (at : ℕ) (found wanted : List Instance) (r : NodeRow) → at < length rs → Doubting rs at found wanted → r ≡ get_or rs at r → DoubtingAt rs at found wanted r
 doubting_at rs at found wanted r l h is = by h.left h.rows_are h.found_is
   where
     by : (f : Forest) → drop at rs ≡ rows_of f → found ++ doubts_of f ≡ wanted → DoubtingAt rs at found wanted r
     by bare e g = absurd (none_there rs at l e)
     by (beside (node s c t ts) xs) e g = doubting_tree rs at found wanted r s c t ts xs e g is
 
-some_left : (rs : List Row) (at : ℕ) (x : Tree) (xs : Forest) → length rs ≤ at → drop at rs ≡ rows_of (beside x xs) → ⊥
+some_left : (rs : List NodeRow) (at : ℕ) (x : Tree) (xs : Forest) → length rs ≤ at → drop at rs ≡ rows_of (beside x xs) → ⊥
 some_left rs at x xs l e =
     let n : length rs - at ≡ length (rows x) + length (rows_of xs) = sym (length-drop at rs) ∙ ap length e ∙ length-append (rows x) (rows_of xs) in
     let o = one_node x in
     let q = length-rows x in
     omega (arith, n, l, o, q)
 
-pub doubting_all : (rs : List Row) (at : ℕ) (found wanted : List Instance) → length rs ≤ at → Doubting rs at found wanted → found ≡ wanted
+pub doubting_all : (rs : List NodeRow) (at : ℕ) (found wanted : List Instance) → length rs ≤ at → Doubting rs at found wanted → found ≡ wanted
 doubting_all rs at found wanted l h = by h.left h.rows_are h.found_is
   where
     by : (f : Forest) → drop at rs ≡ rows_of f → found ++ doubts_of f ≡ wanted → found ≡ wanted
@@ -188,16 +188,16 @@ module _ (such : Term → Bool) where
   stops-such x xs h n = rw (h, n) refl
 
   -- what is left leads to where the whole leads
-  pub record Listing (whole : Forest) (rs : List Row) (at : ℕ) : Type 0 where
+  pub record Listing (whole : Forest) (rs : List NodeRow) (at : ℕ) : Type 0 where
     pub left : Forest
     pub rows_are : drop at rs ≡ rows_of left
     pub leads : number_among (to_such such) whole ≡ option_map (λ j. at + j) (number_among (to_such such) left)
     pub within : at ≤ length rs
 
-  pub listing_first : (rs : List Row) → rs ≡ rows_of (forest_from rs) → Listing (forest_from rs) rs 0
+  pub listing_first : (rs : List NodeRow) → rs ≡ rows_of (forest_from rs) → Listing (forest_from rs) rs 0
   listing_first rs e = record { left = forest_from rs; rows_are = e; leads = sym (map-none (number_among (to_such such) (forest_from rs))); within = omega arith }
 
-  pub record ListingAt (whole : Forest) (rs : List Row) (at : ℕ) (r : Row) : Type 0 where
+  pub record ListingAt (whole : Forest) (rs : List NodeRow) (at : ℕ) (r : NodeRow) : Type 0 where
     pub positive : 1 ≤ r.span
     pub fits : at + r.span ≤ length rs
     pub passes : r.standing ≡ Cleared → Listing whole rs (at + r.span)
@@ -220,12 +220,12 @@ module _ (such : Term → Bool) where
   none_at : (at : ℕ) → at + 0 ≡ at
   none_at at = omega arith
 
-  listing_tree : (whole : Forest) (rs : List Row) (at : ℕ) (r : Row) (s : Standing) (c : ℕ) (t : Tuple) (ts xs : Forest)
+  listing_tree : (whole : Forest) (rs : List NodeRow) (at : ℕ) (r : NodeRow) (s : Standing) (c : ℕ) (t : Tuple) (ts xs : Forest)
       → drop at rs ≡ rows_of (beside (node s c t ts) xs) → number_among (to_such such) whole ≡ option_map (λ j. at + j) (number_among (to_such such) (beside (node s c t ts) xs)) → r ≡ get_or rs at r → ListingAt whole rs at r
   listing_tree whole rs at r s c t ts xs e leads is =
       let m = meets rs at r s c t ts xs e is in
-      let stands : r.standing ≡ s = ap (λ (q : Row). q.standing) m.own in
-      let own : (is_open r.standing && such r.tuple.head) ≡ (is_open s && such t.head) = ap (λ (q : Row). is_open q.standing && such q.tuple.head) m.own in
+      let stands : r.standing ≡ s = ap (λ (q : NodeRow). q.standing) m.own in
+      let own : (is_open r.standing && such r.tuple.head) ≡ (is_open s && such t.head) = ap (λ (q : NodeRow). is_open q.standing && such q.tuple.head) m.own in
       let p = m.positive in
       let f = m.fits in
       record {
@@ -255,14 +255,14 @@ module _ (such : Term → Bool) where
             leads ∙ ap (option_map (λ j. at + j)) (stops-such (node s c t ts) xs (has-own s (such t.head) (have_such such ts) g) g) ∙ ap Some (none_at at);
       }
 
-  pub listing_at : (whole : Forest) (rs : List Row) (at : ℕ) (r : Row) → at < length rs → Listing whole rs at → r ≡ get_or rs at r → ListingAt whole rs at r
+  pub listing_at : (whole : Forest) (rs : List NodeRow) (at : ℕ) (r : NodeRow) → at < length rs → Listing whole rs at → r ≡ get_or rs at r → ListingAt whole rs at r
   listing_at whole rs at r l h is = by h.left h.rows_are h.leads
     where
       by : (f : Forest) → drop at rs ≡ rows_of f → number_among (to_such such) whole ≡ option_map (λ j. at + j) (number_among (to_such such) f) → ListingAt whole rs at r
       by bare e g = absurd (none_there rs at l e)
       by (beside (node s c t ts) xs) e g = listing_tree whole rs at r s c t ts xs e g is
 
-  pub listing_none : (whole : Forest) (rs : List Row) (at : ℕ) → length rs ≤ at → Listing whole rs at → number_among (to_such such) whole ≡ None
+  pub listing_none : (whole : Forest) (rs : List NodeRow) (at : ℕ) → length rs ≤ at → Listing whole rs at → number_among (to_such such) whole ≡ None
   listing_none whole rs at l h = by h.left h.rows_are h.leads
     where
       by : (f : Forest) → drop at rs ≡ rows_of f → number_among (to_such such) whole ≡ option_map (λ j. at + j) (number_among (to_such such) f) → number_among (to_such such) whole ≡ None

@@ -4,7 +4,7 @@ use Rattle.std.specs.Option.{option_map}
 use Rattle.apd_term.specs.Term.{Term}
 use Rattle.apd_term.specs.declared.term.Pred.{Pred}
 use Rattle.apd_divide.specs.declared.node.Standing.TheVariants.{Open, Cleared, Doubted}
-use Rattle.apd_divide.specs.declared.node.Row.{Row}
+use Rattle.apd_divide.specs.declared.node.NodeRow.{NodeRow}
 use Rattle.apd_term.specs.declared.instance.Instance.{Instance}
 use Rattle.apd_divide.specs.Tree.{Tree, Forest, node, bare, beside, children, clause_at, instance, doubts_of, candidates}
 use Rattle.apd_divide.specs.Choice.{Way, cut, to_such, first_such, has_such, have_such, is_listed}
@@ -21,20 +21,20 @@ module _ (such : Term → Bool) where
   abbrev way : Way
   way = to_such such
 
-  pub next_none : (x : Tree) (part : List Row) → part ≡ rows_of (children x) → number_among way (forest_from part) ≡ None → first_such such x ≡ None
+  pub next_none : (x : Tree) (part : List NodeRow) → part ≡ rows_of (children x) → number_among way (forest_from part) ≡ None → first_such such x ≡ None
   next_none x part is e =
       let f : number_among way (children x) ≡ None = ap (number_among way) (sym (forest-of part (children x) is)) ∙ e in
       let g : way_number way x ≡ None = way_below way x ∙ ap (option_map suc) f in
       there_none (cut way x) (cut-number way x ∙ ap is_there g)
 
 -- the root's instance, and those of the nodes that were judged unknown
-pub candidates_are : (k : Kept) (r : Row) (i : Instance) (part : List Row) (first made out : List Instance) → IsKept k → r ≡ get_or k.rows k.root r → i.clause ≡ r.clause → i.tuple ≡ r.tuple
+pub candidates_are : (k : Kept) (r : NodeRow) (i : Instance) (part : List NodeRow) (first made out : List Instance) → IsKept k → r ≡ get_or k.rows k.root r → i.clause ≡ r.clause → i.tuple ≡ r.tuple
     → part ≡ rows_of (children (tree_of k)) → first ≡ [] → made ≡ first ++ i ∷ [] → out ≡ made ++ doubts_of (forest_from part) → out ≡ candidates (tree_of k)
 candidates_are k r i part first made out kept is c t trees none one more =
     let x = tree_of k in
     let own : r ≡ own_row x = is ∙ (at_root k kept).is r in
     let same : i ≡ record { clause = clause_at x; tuple = instance x } =
-    instance_is i (clause_at x) (instance x) (c ∙ ap (λ (q : Row). q.clause) own ∙ own-clause x) (t ∙ ap (λ (q : Row). q.tuple) own ∙ own-instance x) in
+    instance_is i (clause_at x) (instance x) (c ∙ ap (λ (q : NodeRow). q.clause) own ∙ own-clause x) (t ∙ ap (λ (q : NodeRow). q.tuple) own ∙ own-instance x) in
     let m : made ≡ i ∷ [] = one ∙ ap (λ z. z ++ i ∷ []) none in
     more ∙ ap (λ z. z ++ doubts_of (forest_from part)) m ∙ ap (λ ts. i ∷ doubts_of ts) (forest-of part (children x) trees) ∙ ap (λ j. j ∷ doubts_of (children x)) same
 

@@ -3,7 +3,7 @@ use Rattle.std.proofs.Common.{◌≡◌, ℕ, suc, ◌+◌, ◌-◌, ◌≤◌, 
 use Rattle.std.proofs.lemmas.List.{append-nil, length-map, drop_at, drop-drop, take_at, take_more}
 use borrow.Rule.Slice.PartMut.{put_mid}
 use Rattle.apd_term.specs.Term.{Term}
-use Rattle.apd_divide.specs.declared.node.Row.{Row}
+use Rattle.apd_divide.specs.declared.node.NodeRow.{NodeRow}
 use Rattle.apd_divide.specs.Tree.{Tree, node, bare, beside, children}
 use Rattle.apd_divide.specs.Choice.{EachIsTrue}
 use Rattle.apd_divide.specs.Cleared.{all_cleared, cleared_below}
@@ -17,12 +17,12 @@ use Rattle.apd_divide.proofs.Seeking.{forest-of, whole-of}
 use Rattle.apd_divide.proofs.Stacked.{read_rows-blank, blank-forest}
 use Rattle.apd_divide.proofs.Cleared.{each-is_true, nodes-cleared_of, nodes-below, standing-below, branching-below, blank-cleared}
 
-module _ (such : Term → Bool) (k : Kept) (r : Row) (kept : IsKept k) (is : r ≡ get_or k.rows k.root r) where
+module _ (such : Term → Bool) (k : Kept) (r : NodeRow) (kept : IsKept k) (is : r ≡ get_or k.rows k.root r) where
   abbrev end : ℕ
   end = k.root + r.span
 
   -- the rows below the root
-  abbrev part : List Row
+  abbrev part : List NodeRow
   part = take (end - (k.root + 1)) (drop (k.root + 1) k.rows)
 
   part_is : part ≡ rows_of (children (tree_of k))
@@ -41,10 +41,10 @@ module _ (such : Term → Bool) (k : Kept) (r : Row) (kept : IsKept k) (is : r �
   below-nodes (node s c t ts) = refl
 
   span_is : r.span ≡ nodes (tree_of k)
-  span_is = ap (λ (q : Row). q.span) (is ∙ (at_root k kept).is r) ∙ own-span (tree_of k)
+  span_is = ap (λ (q : NodeRow). q.span) (is ∙ (at_root k kept).is r) ∙ own-span (tree_of k)
 
   -- once they were walked over
-  module _ (mid : List Row) (walked : map blank mid ≡ map blank (rows_of (all_cleared such (forest_from part)))) where
+  module _ (mid : List NodeRow) (walked : map blank mid ≡ map blank (rows_of (all_cleared such (forest_from part)))) where
     mid_blank : map blank mid ≡ map blank (rows_of (all_cleared such (children (tree_of k))))
     mid_blank = walked ∙ ap (λ f. map blank (rows_of (all_cleared such f))) (forest-of part (children (tree_of k)) part_is)
 
@@ -56,16 +56,16 @@ module _ (such : Term → Bool) (k : Kept) (r : Row) (kept : IsKept k) (is : r �
         let s = span_is in
         omega (arith, a, b, s)
 
-    abbrev walked_rows : List Row
+    abbrev walked_rows : List NodeRow
     walked_rows = put_mid (k.root + 1) (end - (k.root + 1)) k.rows mid
 
-    abbrev front : List Row
+    abbrev front : List NodeRow
     front = take k.root k.rows
 
-    abbrev behind : List Row
+    abbrev behind : List NodeRow
     behind = drop (end - (k.root + 1)) (drop (k.root + 1) k.rows)
 
-    abbrev own : Row
+    abbrev own : NodeRow
     own = own_row (tree_of k)
 
     walked_is : walked_rows ≡ front ++ own ∷ (mid ++ behind)
@@ -76,7 +76,7 @@ module _ (such : Term → Bool) (k : Kept) (r : Row) (kept : IsKept k) (is : r �
     from_root : drop k.root walked_rows ≡ own ∷ (mid ++ behind)
     from_root = ap (drop k.root) walked_is ∙ drop_at front (own ∷ (mid ++ behind)) k.root (front_length k kept)
 
-    abbrev tree_part : List Row
+    abbrev tree_part : List NodeRow
     tree_part = take (end - k.root) (drop k.root walked_rows)
 
     tree_part_is : tree_part ≡ own ∷ mid
@@ -84,7 +84,7 @@ module _ (such : Term → Bool) (k : Kept) (r : Row) (kept : IsKept k) (is : r �
         let m = mid_long in
         ap (take (end - k.root)) from_root ∙ take_at (own ∷ mid) behind (end - k.root) (omega (arith, m))
 
-    blank_root : (x : Tree) (m : List Row) → map blank m ≡ map blank (rows_of (all_cleared such (children x))) → map blank (own_row x ∷ m) ≡ map blank (rows (cleared_below such x))
+    blank_root : (x : Tree) (m : List NodeRow) → map blank m ≡ map blank (rows_of (all_cleared such (children x))) → map blank (own_row x ∷ m) ≡ map blank (rows (cleared_below such x))
     blank_root (node s c t ts) m e = ap (λ z. z ∷ map blank m) (sym (blank-cleared such s c t ts)) ∙ ap (λ z. blank (own_row (node s c t (all_cleared such ts))) ∷ z) e
 
     tree_blank : map blank tree_part ≡ map blank (rows wanted)
@@ -96,7 +96,7 @@ module _ (such : Term → Bool) (k : Kept) (r : Row) (kept : IsKept k) (is : r �
     pub tree-alike : map blank tree_part ≡ map blank (rows_of (forest_from tree_part))
     tree-alike = tree_blank ∙ ap (map blank) (sym (append-nil (rows wanted))) ∙ ap (λ f. map blank (rows_of f)) (sym tree_forest)
 
-    pub tree-replaced : (new : List Row) → new ≡ rows_of (forest_from tree_part) → put_mid k.root (end - k.root) walked_rows new ≡ replaced k wanted
+    pub tree-replaced : (new : List NodeRow) → new ≡ rows_of (forest_from tree_part) → put_mid k.root (end - k.root) walked_rows new ≡ replaced k wanted
     tree-replaced new e =
         let m = mid_long in
         let n = span_is in
@@ -117,10 +117,10 @@ pub record Passed (such : Term → Bool) (k new : Kept) : Type 0 where
   pub nodes : length new.rows ≡ length k.rows
   pub branching : broadest new.rows ≡ broadest k.rows
 
-abbrev with_rows : Kept → List Row → Kept
+abbrev with_rows : Kept → List NodeRow → Kept
 with_rows k rs = record { rows = rs; root = k.root }
 
-pub passed : (such : Term → Bool) (k : Kept) (rs : List Row) → IsKept k → rs ≡ replaced k (cleared_below such (tree_of k)) → Passed such k (with_rows k rs)
+pub passed : (such : Term → Bool) (k : Kept) (rs : List NodeRow) → IsKept k → rs ≡ replaced k (cleared_below such (tree_of k)) → Passed such k (with_rows k rs)
 passed such k rs h e =
     let y = cleared_below such (tree_of k) in
     let n = nodes-below such (tree_of k) in

@@ -17,7 +17,7 @@ use Rattle.apd_record.specs.Index.{id_of}
 use Rattle.apd_record.specs.Sound.{IsKept}
 use Rattle.apd_record.specs.Reading.{point_of, exits_to}
 use Rattle.apd_record.proofs.Missing.{both_empty}
-use Rattle.apd_divide.specs.declared.growing.Pending.{Pending}
+use Rattle.apd_divide.specs.declared.growing.PendingCall.{PendingCall}
 use Rattle.apd_divide.specs.Exits.{IsLabelled}
 use Rattle.apd_divide.specs.Solved.{IsSolvedBy, AreSolved}
 use Rattle.apd_divide.specs.Growing.{instance_at, calls_for, calls_at, IsGroundExit}
@@ -85,7 +85,7 @@ user_told R m x a o b s h u =
     let there : box_at R o ≡ Some s.row = ap (box_at R) (owner_is R m x a o s h) ∙ s.row_there in
     subst (λ z. IfSome z (λ (r : BoxRow). b ≡ r.is_user)) there u ∙ s.user
 
-abbrev one_call : Bool → Term → ℕ → List Pending
+abbrev one_call : Bool → Term → ℕ → List PendingCall
 one_call b a x = if b then record { exit = id_of x; label = canonical a } ∷ [] else []
 
 calls_one : (a : Term) (x : ℕ) (b : Bool) → b ≡ is_user_atom a → calls_for (a ∷ []) (x ∷ []) ≡ one_call b a x

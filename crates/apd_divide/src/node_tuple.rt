@@ -15,7 +15,7 @@ use std::marker::Model;
 
 /// Where a tuple is.
 #[derive(Drop)]
-pub enum TuplePlace<'a> {
+pub enum TupleSource<'a> {
     /// It is that of this recorded exit, and its head has this predicate. In this order it takes 24 bytes.
     Recorded(PointId, Pred, &'a Record),
     /// It is one of its own.
@@ -26,7 +26,7 @@ pub enum TuplePlace<'a> {
 /// the tuple.
 #[derive(Drop)]
 pub struct NodeTuple<'a> {
-    place: TuplePlace<'a>,
+    place: TupleSource<'a>,
 }
 
 impl<'a> Model for NodeTuple<'a> {
@@ -51,7 +51,7 @@ impl<'a> NodeTuple<'a> {
         ensures { result ≡ (point_of recorded.now exit.0).tuple }
     {
         NodeTuple {
-            place: TuplePlace::Recorded(exit, pred, recorded),
+            place: TupleSource::Recorded(exit, pred, recorded),
         }
     }
 
@@ -61,7 +61,7 @@ impl<'a> NodeTuple<'a> {
     {
         let spelled = Box::new(alloc, Spelled::of_tuple(alloc, tuple)?)?;
         Ok(NodeTuple {
-            place: TuplePlace::Own(spelled),
+            place: TupleSource::Own(spelled),
         })
     }
 
@@ -70,8 +70,8 @@ impl<'a> NodeTuple<'a> {
         ensures { result ≡ predicate_of self.now.head }
     {
         match &self.place {
-            TuplePlace::Recorded(_, pred, _) => Some(*pred),
-            TuplePlace::Own(spelled) => spelled.head().pred(),
+            TupleSource::Recorded(_, pred, _) => Some(*pred),
+            TupleSource::Own(spelled) => spelled.head().pred(),
         }
     }
 
@@ -80,8 +80,8 @@ impl<'a> NodeTuple<'a> {
         ensures { IfOk result (λ h. h ≡ self.now.head) }
     {
         match &self.place {
-            TuplePlace::Recorded(exit, _, recorded) => head_at(recorded, *exit),
-            TuplePlace::Own(spelled) => spelled.head().copy(alloc),
+            TupleSource::Recorded(exit, _, recorded) => head_at(recorded, *exit),
+            TupleSource::Own(spelled) => spelled.head().copy(alloc),
         }
     }
 
@@ -90,8 +90,8 @@ impl<'a> NodeTuple<'a> {
         ensures { IfOk result (λ t. t ≡ self.now) }
     {
         match &self.place {
-            TuplePlace::Recorded(exit, _, recorded) => tuple_at(recorded, *exit),
-            TuplePlace::Own(spelled) => spelled.tuple(alloc),
+            TupleSource::Recorded(exit, _, recorded) => tuple_at(recorded, *exit),
+            TupleSource::Own(spelled) => spelled.tuple(alloc),
         }
     }
 }

@@ -1,7 +1,7 @@
 //! The suspects of a proof tree as rows, one for each node.
 
 ghost use Rattle.std.specs.Prelude.{◌≡◌, ◌≤◌, ◌<◌, ◌↔◌, ◌++◌, ◌+◌, ◌^◌, length, slice_get, None, IsSome, IfSome, IfOk, OnOk};
-ghost use Rattle.apd_divide.specs.declared.node.Row.{Row};
+ghost use Rattle.apd_divide.specs.declared.node.NodeRow.{NodeRow};
 ghost use Rattle.apd_divide.specs.declared.node.Strategy.TheVariants.{Divide};
 ghost use Rattle.apd_divide.specs.Tree.{label, children, suspects, clause_at, instance, branching, lost_by, candidates, doubts_of};
 ghost use Rattle.apd_divide.specs.Choice.{judged, standing_for, is_listed, EachIsTrue};
@@ -12,7 +12,7 @@ ghost use Rattle.apd_divide.specs.Recorded.{tree};
 ghost use Rattle.apd_divide.specs.Exits.{IsLabelled};
 
 use crate::growing::grown;
-use crate::node::{NodeId, Row, Standing, Strategy, Verdict};
+use crate::node::{NodeId, NodeRow, Standing, Strategy, Verdict};
 use crate::spans::set_spans;
 use crate::walk::{chosen_place, clear_listed, first_listed};
 use apd_ports::PointId;
@@ -22,7 +22,7 @@ use std::alloc::{AllocError, Global};
 use std::marker::Model;
 
 /// The greatest number of nodes right below one.
-fn broadest(rows: &[Row<'_>]) -> u32
+fn broadest(rows: &[NodeRow<'_>]) -> u32
     ensures { result ≡ broadest rows.now }
 {
     let mut most: u32 = 0;
@@ -55,7 +55,7 @@ fn lost_by(standing: Standing, weight: u32) -> u32
 }
 
 /// The suspect at a place stands as it is judged: it has fewer suspects, and so have those above it.
-fn mark(rows: &mut [Row<'_>], root: usize, node: usize, standing: Standing)
+fn mark(rows: &mut [NodeRow<'_>], root: usize, node: usize, standing: Standing)
     requires kept { IsKept (kept_at rows.old root) }
     requires suspect { IsSome (cut_of (kept_at rows.old root) node) }
     requires there { node < length rows.old }
@@ -80,7 +80,7 @@ fn mark(rows: &mut [Row<'_>], root: usize, node: usize, standing: Standing)
 
 /// Judges suspects of these predicates true, the first in the order in which a node comes before those below it, until there is
 /// none.
-fn clear_below(rows: &mut [Row<'_>], root: usize, preds: &Preds)
+fn clear_below(rows: &mut [NodeRow<'_>], root: usize, preds: &Preds)
     requires kept { IsKept (kept_at rows.old root) }
     requires there { root < length rows.old }
     ensures { let k = kept_at rows.old root in
@@ -92,7 +92,7 @@ fn clear_below(rows: &mut [Row<'_>], root: usize, preds: &Preds)
 }
 
 /// The instance of a row.
-fn instance_of(alloc: Global, row: &Row<'_>) -> Result<Instance, AllocError>
+fn instance_of(alloc: Global, row: &NodeRow<'_>) -> Result<Instance, AllocError>
     ensures clause { IfOk result (λ i. i.clause ≡ row.now.clause) }
     ensures tuple { IfOk result (λ i. i.tuple ≡ row.now.tuple) }
 {
@@ -104,7 +104,11 @@ fn instance_of(alloc: Global, row: &Row<'_>) -> Result<Instance, AllocError>
 }
 
 /// Puts the instances of the nodes that were judged unknown, and aren't below one that was judged true, at the end.
-fn push_doubts(alloc: Global, rows: &[Row<'_>], instances: &mut Instances) -> Result<(), AllocError>
+fn push_doubts(
+    alloc: Global,
+    rows: &[NodeRow<'_>],
+    instances: &mut Instances,
+) -> Result<(), AllocError>
     requires { rows.now ≡ rows_of (forest_from rows.now) }
     ensures { OnOk result (instances.new ≡ instances.old ++ doubts_of (forest_from rows.now)) }
 {
@@ -127,7 +131,7 @@ fn push_doubts(alloc: Global, rows: &[Row<'_>], instances: &mut Instances) -> Re
 #[derive(Drop)]
 pub struct Suspects<'a> {
     alloc: Global,
-    rows: Vec<Row<'a>>,
+    rows: Vec<NodeRow<'a>>,
     root: usize,
 }
 
@@ -169,7 +173,7 @@ impl<'a> Suspects<'a> {
     }
 
     /// The rows of the trees below the root.
-    fn below(&self) -> &[Row<'a>]
+    fn below(&self) -> &[NodeRow<'a>]
         ensures trees { result.now ≡ rows_of (children (tree_of self.now)) }
         ensures within { self.now.root + length result.now < length self.now.rows }
         ensures few { length self.now.rows < 2 ^ 32 }
@@ -182,7 +186,7 @@ impl<'a> Suspects<'a> {
     pub fn label(&self, node: NodeId) -> Result<Flat, AllocError>
         requires { node.0 < length self.now.rows }
         ensures row { IfOk result (λ l. IfSome (slice_get self.now.rows node.0)
-            (λ (r : Row). l ≡ r.tuple.head)) }
+            (λ (r : NodeRow). l ≡ r.tuple.head)) }
         ensures suspect { IfOk result (λ l. IfSome (cut_of self.now node.0)
             (λ c. l ≡ label c.chosen)) }
     {

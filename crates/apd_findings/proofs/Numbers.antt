@@ -9,48 +9,48 @@ use Rattle.apd_term.specs.Canonical.{canonical}
 use Rattle.apd_term.specs.Term.{Term}
 use Rattle.apd_term.specs.declared.instance.Instance.{Instance}
 use Rattle.apd_answers.specs.Findings.{IsHeadAmong}
-use Rattle.apd_marks.specs.declared.keys.Part.{Part}
+use Rattle.apd_marks.specs.declared.keys.KeyPart.{KeyPart}
 use Rattle.apd_marks.specs.Keys.{key}
 use Rattle.apd_marks.proofs.Distinct.{key-injective}
 use Rattle.apd_findings.specs.Keys.{AreHeads, HasNumber, IsKeyAmong, IsNumber}
 
 -- Numbers.
 
-number-once : (ms : List (List Part)) (k : List Part) (a b : ℕ) → IsNumber ms k a → IsNumber ms k b → a ≡ b
+number-once : (ms : List (List KeyPart)) (k : List KeyPart) (a b : ℕ) → IsNumber ms k a → IsNumber ms k b → a ≡ b
 number-once [] k a b g h = absurd g
 number-once (m ∷ ms) k zero zero g h = refl
 number-once (m ∷ ms) k zero (suc b) g h = absurd (h.0 g)
 number-once (m ∷ ms) k (suc a) zero g h = absurd (g.0 h)
 number-once (m ∷ ms) k (suc a) (suc b) g h = ap suc (number-once ms k a b g.1 h.1)
 
-number-key : (ms : List (List Part)) (k j : List Part) (n : ℕ) → IsNumber ms k n → IsNumber ms j n → k ≡ j
+number-key : (ms : List (List KeyPart)) (k j : List KeyPart) (n : ℕ) → IsNumber ms k n → IsNumber ms j n → k ≡ j
 number-key [] k j n g h = absurd g
 number-key (m ∷ ms) k j zero g h = sym g ∙ h
 number-key (m ∷ ms) k j (suc n) g h = number-key ms k j n g.1 h.1
 
-number-more : (ms more : List (List Part)) (k : List Part) (n : ℕ) → IsNumber ms k n → IsNumber (ms ++ more) k n
+number-more : (ms more : List (List KeyPart)) (k : List KeyPart) (n : ℕ) → IsNumber ms k n → IsNumber (ms ++ more) k n
 number-more [] more k n g = absurd g
 number-more (m ∷ ms) more k zero g = g
 number-more (m ∷ ms) more k (suc n) g = (g.0, number-more ms more k n g.1)
 
-number-within : (ms : List (List Part)) (k : List Part) (n : ℕ) → IsNumber ms k n → n < length ms
+number-within : (ms : List (List KeyPart)) (k : List KeyPart) (n : ℕ) → IsNumber ms k n → n < length ms
 number-within [] k n g = absurd g
 number-within (m ∷ ms) k zero g = omega arith
 number-within (m ∷ ms) k (suc n) g = let h = number-within ms k n g.1 in omega (arith, h)
 
-pub same-number : (ms : List (List Part)) (x y : Term) (a b : ℕ) → canonical x ≡ canonical y → HasNumber ms x a → HasNumber ms y b → a ≡ b
+pub same-number : (ms : List (List KeyPart)) (x y : Term) (a b : ℕ) → canonical x ≡ canonical y → HasNumber ms x a → HasNumber ms y b → a ≡ b
 same-number ms x y a b e g h = number-once ms (key (canonical y)) a b (subst (λ (t : Term). IsNumber ms (key t) a) e g) h
 
-pub same-form : (ms : List (List Part)) (x y : Term) (n : ℕ) → HasNumber ms x n → HasNumber ms y n → canonical x ≡ canonical y
+pub same-form : (ms : List (List KeyPart)) (x y : Term) (n : ℕ) → HasNumber ms x n → HasNumber ms y n → canonical x ≡ canonical y
 same-form ms x y n g h = key-injective (canonical x) (canonical y) (number-key ms (key (canonical x)) (key (canonical y)) n g h)
 
-pub like-number : (ms : List (List Part)) (x y : Term) (n : ℕ) → canonical x ≡ canonical y → HasNumber ms x n → HasNumber ms y n
+pub like-number : (ms : List (List KeyPart)) (x y : Term) (n : ℕ) → canonical x ≡ canonical y → HasNumber ms x n → HasNumber ms y n
 like-number ms x y n e g = subst (λ (t : Term). IsNumber ms (key t) n) e g
 
-pub within-number : (ms : List (List Part)) (x : Term) (n : ℕ) → HasNumber ms x n → n < length ms
+pub within-number : (ms : List (List KeyPart)) (x : Term) (n : ℕ) → HasNumber ms x n → n < length ms
 within-number ms x n g = number-within ms (key (canonical x)) n g
 
-number-among : (ms : List (List Part)) (k : List Part) (n : ℕ) → IsNumber ms k n → IsKeyAmong ms k
+number-among : (ms : List (List KeyPart)) (k : List KeyPart) (n : ℕ) → IsNumber ms k n → IsKeyAmong ms k
 number-among [] k n g = absurd g
 number-among (m ∷ ms) k zero g = inl g
 number-among (m ∷ ms) k (suc n) g = inr (number-among ms k n g.1)
@@ -63,7 +63,7 @@ behind-first n = omega arith
 shorter : (n m : ℕ) → ltb (1 + n) (suc m) ≡ true → ltb n m ≡ true
 shorter n m h = grind (arith, nat_tests)
 
-module _ {X : Type 0} (f : X → List Part) (E : X → X → Bool) (same : (a b : X) → Decides (E a b) (f a ≡ f b)) where
+module _ {X : Type 0} (f : X → List KeyPart) (E : X → X → Bool) (same : (a b : X) → Decides (E a b) (f a ≡ f b)) where
   test-true : (k m : X) → E k m ≡ true → f m ≡ f k
   test-true k m e = sym ((same k m).0 e)
 
@@ -111,12 +111,12 @@ module _ {X : Type 0} (f : X → List Part) (E : X → X → Bool) (same : (a b 
       by true e = placed-there k ks e
       by false e = placed-behind k ks e
 
-  pub kept-number : (ks : List X) (k : X) (j : List Part) (n : ℕ) → IsNumber (map f ks) j n → IsNumber (map f (insert_key E ks k)) j n
+  pub kept-number : (ks : List X) (k : X) (j : List KeyPart) (n : ℕ) → IsNumber (map f ks) j n → IsNumber (map f (insert_key E ks k)) j n
   kept-number ks k j n g = by (list_any (E k) ks)
     where
       by : (b : Bool) → IsNumber (map f (if b then ks else ks ++ k ∷ [])) j n
       by true = g
-      by false = subst (λ (ms : List (List Part)). IsNumber ms j n) (sym (map-append f ks (k ∷ []))) (number-more (map f ks) (f k ∷ []) j n g)
+      by false = subst (λ (ms : List (List KeyPart)). IsNumber ms j n) (sym (map-append f ks (k ∷ []))) (number-more (map f ks) (f k ∷ []) j n g)
 
   one-more : (ks : List X) (k : X) → length (map f (ks ++ k ∷ [])) ≡ length (map f ks) + 1
   one-more [] k = refl
@@ -147,14 +147,14 @@ module _ {X : Type 0} (f : X → List Part) (E : X → X → Bool) (same : (a b 
       by false l g = absurd (cc)
 
   pub looked-up-as : (ks : List X) (k : X) (t : Term) (n : ℕ) → f k ≡ key (canonical t) → Some n ≡ position (E k) ks → HasNumber (map f ks) t n
-  looked-up-as ks k t n e g = subst (λ (j : List Part). IsNumber (map f ks) j n) e (looked-up ks k n g)
+  looked-up-as ks k t n e g = subst (λ (j : List KeyPart). IsNumber (map f ks) j n) e (looked-up ks k n g)
 
   pub not-looked-up : (ks : List X) (k : X) (t : Term) → f k ≡ key (canonical t) → false ≡ list_any (E k) ks → (n : ℕ) → ¬ HasNumber (map f ks) t n
-  not-looked-up ks k t e h n g = none-among ks k (sym h) (number-among (map f ks) (f k) n (subst (λ (j : List Part). IsNumber (map f ks) j n) (sym e) g))
+  not-looked-up ks k t e h n g = none-among ks k (sym h) (number-among (map f ks) (f k) n (subst (λ (j : List KeyPart). IsNumber (map f ks) j n) (sym e) g))
 
 -- A key that is put in.
 
-module _ {X : Type 0} (f : X → List Part) (E : X → X → Bool) (same : (a b : X) → Decides (E a b) (f a ≡ f b)) (ks news : List X) (k : X) (is : news ≡ insert_key E ks k) where
+module _ {X : Type 0} (f : X → List KeyPart) (E : X → X → Bool) (same : (a b : X) → Decides (E a b) (f a ≡ f b)) (ks news : List X) (k : X) (is : news ≡ insert_key E ks k) where
   pub placed-as : (t : Term) (n : ℕ) → n ≡ position_or_len (E k) ks → f k ≡ key (canonical t) → HasNumber (map f news) t n
   placed-as t n e g =
       subst (λ xs. HasNumber (map f xs) t n) (sym is)
@@ -168,14 +168,14 @@ module _ {X : Type 0} (f : X → List Part) (E : X → X → Bool) (same : (a b 
 
 -- Heads.
 
-key-behind : (ms : List (List Part)) (k j : List Part) → IsKeyAmong (ms ++ k ∷ []) j ↔ ((k ≡ j) ⊎ IsKeyAmong ms j)
+key-behind : (ms : List (List KeyPart)) (k j : List KeyPart) → IsKeyAmong (ms ++ k ∷ []) j ↔ ((k ≡ j) ⊎ IsKeyAmong ms j)
 key-behind [] k j = (λ h. h, λ h. h)
 key-behind (m ∷ ms) k j = let r = key-behind ms k j in (
   λ h. elim h [ inl e ↦ inr (inl e) | inr g ↦ elim (r.0 g) [ inl a ↦ inl a | inr b ↦ inr (inr b) ] ],
   λ h. elim h [ inl e ↦ inr (r.1 (inl e)) | inr g ↦ elim g [ inl a ↦ inl a | inr b ↦ inr (r.1 (inr b)) ] ],
 )
 
-module _ {X : Type 0} (f : X → List Part) (E : X → X → Bool) (same : (a b : X) → Decides (E a b) (f a ≡ f b)) where
+module _ {X : Type 0} (f : X → List KeyPart) (E : X → X → Bool) (same : (a b : X) → Decides (E a b) (f a ≡ f b)) where
   pub head-more : (ks : List X) (k : X) (later : List Instance) (c : Instance) → f k ≡ key (canonical c.tuple.head) → AreHeads (map f ks) later → AreHeads (map f (insert_key E ks k)) (c ∷ later)
   head-more ks k later c e heads a = by (list_any (E k) ks) refl
     where
@@ -193,8 +193,8 @@ module _ {X : Type 0} (f : X → List Part) (E : X → X → Bool) (same : (a b 
       by false t =
           let r = key-behind (map f ks) (f k) (key (canonical a)) in
           let m = map-append f ks (k ∷ []) in (
-            λ h. elim (r.0 (subst (λ (ms : List (List Part)). IsKeyAmong ms (key (canonical a))) m h)) [ inl g ↦ inl (to g) | inr g ↦ inr ((heads a).0 g) ],
-            λ h. subst (λ (ms : List (List Part)). IsKeyAmong ms (key (canonical a))) (sym m) (r.1 (elim h [ inl g ↦ inl (from g) | inr g ↦ inr ((heads a).1 g) ])),
+            λ h. elim (r.0 (subst (λ (ms : List (List KeyPart)). IsKeyAmong ms (key (canonical a))) m h)) [ inl g ↦ inl (to g) | inr g ↦ inr ((heads a).0 g) ],
+            λ h. subst (λ (ms : List (List KeyPart)). IsKeyAmong ms (key (canonical a))) (sym m) (r.1 (elim h [ inl g ↦ inl (from g) | inr g ↦ inr ((heads a).1 g) ])),
           )
 
   pub head-found : (ks : List X) (k : X) (later : List Instance) (a : Term) (b : Bool) → f k ≡ key (canonical a) → AreHeads (map f ks) later → b ≡ list_any (E k) ks → b ≡ true ↔ IsHeadAmong later a

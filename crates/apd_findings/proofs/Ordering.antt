@@ -18,7 +18,7 @@ use Rattle.apd_answers.specs.declared.question.Reply.{Reply}
 use Rattle.apd_answers.specs.declared.question.Reply.TheVariants.{Yes, No}
 use Rattle.apd_answers.specs.declared.store.Pair.{Pair}
 use Rattle.apd_marks.specs.Places.{Index}
-use Rattle.apd_marks.specs.declared.keys.Part.{Part}
+use Rattle.apd_marks.specs.declared.keys.KeyPart.{KeyPart}
 use Rattle.apd_bits.specs.Rows.{HasBit, has_bit}
 use Rattle.apd_findings.specs.declared.orders.Orders.{Orders}
 use Rattle.apd_findings.specs.Keys.{HasNumber}
@@ -90,7 +90,7 @@ said-now r keeps pairs x y = by (is_kept_in pairs (asks.Below x y) r) refl
 
 -- The lists of the numbers.
 
-none-listed : (keys : List (List Part)) (r : Reply) → AreSaid [] r keys []
+none-listed : (keys : List (List KeyPart)) (r : Reply) → AreSaid [] r keys []
 none-listed keys r = record { sound = λ low high a. absurd a; whole = λ x y h. absurd h }
 
 -- one more list, which is empty
@@ -111,7 +111,7 @@ pushed-empty lists lists_new x e f i = ap (λ ls. get_or ls i []) e ∙ by lists
     by (l ∷ ls) (suc i) = by ls i
 
 -- one more call has a number
-numbered-said : (pairs : List Pair) (r : Reply) (keys keys_new : List (List Part)) (lists lists_new : List (List ℕ)) → ((t : Term) (i : ℕ) → HasNumber keys t i → HasNumber keys_new t i)
+numbered-said : (pairs : List Pair) (r : Reply) (keys keys_new : List (List KeyPart)) (lists lists_new : List (List ℕ)) → ((t : Term) (i : ℕ) → HasNumber keys t i → HasNumber keys_new t i)
     → ((i : ℕ) → get_or lists_new i [] ≡ get_or lists i []) → AreSaid pairs r keys lists → AreSaid pairs r keys_new lists_new
 numbered-said pairs r keys keys_new lists lists_new kept is h = record {
   sound = λ low high a.
@@ -164,7 +164,7 @@ numbered pairs old new call n k h = record {
 }
 
 -- a pair that doesn't give this reply
-kept-said : (pairs : List Pair) (q : Question) (r k : Reply) (keys : List (List Part)) (lists : List (List ℕ)) → ((x y : Term) → ¬ TellsBelow k x y q r) → AreSaid pairs k keys lists → AreSaid (with_pair_in pairs q r) k keys lists
+kept-said : (pairs : List Pair) (q : Question) (r k : Reply) (keys : List (List KeyPart)) (lists : List (List ℕ)) → ((x y : Term) → ¬ TellsBelow k x y q r) → AreSaid pairs k keys lists → AreSaid (with_pair_in pairs q r) k keys lists
 kept-said pairs q r k keys lists other h = record {
   sound = λ low high a.
       let s = h.sound low high a in
@@ -221,7 +221,7 @@ module _ (lists : List (List ℕ)) (low high : ℕ) (lists_new : List (List ℕ)
     | inr n ↦ inl (subst (λ ns. IsAmong ns m) (p.others l n) a)
   ]
 
-pushed-said : (pairs : List Pair) (r : Reply) → Keeps r → (x y : Term) (keys : List (List Part)) (lists lists_new : List (List ℕ)) (low high : ℕ) → HasNumber keys x low → HasNumber keys y high
+pushed-said : (pairs : List Pair) (r : Reply) → Keeps r → (x y : Term) (keys : List (List KeyPart)) (lists lists_new : List (List ℕ)) (low high : ℕ) → HasNumber keys x low → HasNumber keys y high
     → IsPushed lists low high lists_new → AreSaid pairs r keys lists → AreSaid (with_pair_in pairs (asks.Below x y) r) r keys lists_new
 pushed-said pairs r keeps x y keys lists lists_new low high is_low is_high p h = record { sound = sound; whole = whole }
   where

@@ -7,11 +7,11 @@ use Rattle.apd_answers.specs.declared.question.Reply.TheVariants.{Yes, No}
 use Rattle.apd_answers.specs.declared.store.Pair.{Pair}
 use Rattle.apd_findings.specs.Keys.{HasNumber}
 use Rattle.apd_findings.specs.Reaching.{AreEdges, AreReached, Reaches}
-use Rattle.apd_marks.specs.declared.keys.Part.{Part}
+use Rattle.apd_marks.specs.declared.keys.KeyPart.{KeyPart}
 use Rattle.apd_findings.specs.declared.orders.Orders.{Orders}
 
 -- the keys of the calls that have numbers
-abbrev pub keys_of : Orders → List (List Part)
+abbrev pub keys_of : Orders → List (List KeyPart)
 keys_of o = map (λ v. v.items) o.keys.keys
 
 -- the pairs give this reply to whether the one call is below the other
@@ -19,7 +19,7 @@ abbrev pub IsSaid : List Pair → Reply → Term → Term → Type 0
 IsSaid pairs said x y = SomePairIn (TellsBelow said x y) pairs
 
 -- calls with these numbers, to which the pairs give this reply
-pub record Says (pairs : List Pair) (said : Reply) (keys : List (List Part)) (low high : ℕ) : Type 0 where
+pub record Says (pairs : List Pair) (said : Reply) (keys : List (List KeyPart)) (low high : ℕ) : Type 0 where
   pub callee : Term
   pub caller : Term
   pub is_said : IsSaid pairs said callee caller
@@ -27,7 +27,7 @@ pub record Says (pairs : List Pair) (said : Reply) (keys : List (List Part)) (lo
   pub is_high : HasNumber keys caller high
 
 -- the numbers of two calls, of which the list of the first has the second
-pub record IsListed (keys : List (List Part)) (lists : List (List ℕ)) (x y : Term) : Type 0 where
+pub record IsListed (keys : List (List KeyPart)) (lists : List (List ℕ)) (x y : Term) : Type 0 where
   pub low : ℕ
   pub high : ℕ
   pub is_low : HasNumber keys x low
@@ -35,7 +35,7 @@ pub record IsListed (keys : List (List Part)) (lists : List (List ℕ)) (x y : T
   pub among : IsAmong (get_or lists low []) high
 
 -- the lists have those orders to which the pairs give this reply, and no other
-pub record AreSaid (pairs : List Pair) (said : Reply) (keys : List (List Part)) (lists : List (List ℕ)) : Type 0 where
+pub record AreSaid (pairs : List Pair) (said : Reply) (keys : List (List KeyPart)) (lists : List (List ℕ)) : Type 0 where
   pub sound : (low high : ℕ) → IsAmong (get_or lists low []) high → Says pairs said keys low high
   pub whole : (x y : Term) → IsSaid pairs said x y → IsListed keys lists x y
 

@@ -18,7 +18,7 @@ use std::alloc::{AllocError, Global};
 
 /// A call that a finding names, with its caller.
 #[derive(Clone, Copy)]
-pub struct Called<'a> {
+pub struct NamedCall<'a> {
     pub clause: u32,
     pub goal: u8,
     pub caller: u32,
@@ -59,7 +59,7 @@ fn is_call_of(alloc: Global, record: &Record, box_no: u32, atom: &Flat) -> Resul
 }
 
 /// Whether the call is as the finding says.
-fn is_call(alloc: Global, record: &Record, called: &Called<'_>) -> Result<bool, AllocError>
+fn is_call(alloc: Global, record: &Record, called: &NamedCall<'_>) -> Result<bool, AllocError>
     ensures call { IfOk result
         (λ b. b ≡ is_call record.now called.now.clause called.now.goal called.now.caller
         called.now.callee called.now.caller_atom.now called.now.callee_atom.now) }
@@ -106,7 +106,7 @@ pub fn is_violation(
     alloc: Global,
     record: &Record,
     answers: &Parted,
-    called: &Called<'_>,
+    called: &NamedCall<'_>,
 ) -> Result<bool, AllocError>
     ensures { IfOk result
         (λ b. IsTrue b ↔ IsViolationByReplies record.now answers.now called.now.clause

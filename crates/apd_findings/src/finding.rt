@@ -4,7 +4,7 @@ ghost use Rattle.std.specs.Prelude.{◌≡◌, ◌↔◌, IsTrue, IfOk};
 ghost use Rattle.apd_clauses.specs.Clauses.{tuples_of};
 ghost use Rattle.apd_answers.specs.Findings.{IsByReplies};
 
-use crate::calling::{Called, is_violation};
+use crate::calling::{NamedCall, is_violation};
 use crate::candidates::are_candidates_by_replies;
 use crate::closing::is_uncovered;
 use crate::parted::Parted;
@@ -61,7 +61,7 @@ pub fn is_by_replies(
             caller_atom,
             callee_atom,
         } => {
-            let called = Called {
+            let called = NamedCall {
                 clause: *clause,
                 goal: *goal,
                 caller: *caller,

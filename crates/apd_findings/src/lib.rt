@@ -16,7 +16,7 @@ mod reaching;
 mod wrong;
 
 pub use always::is_always_true;
-pub use calling::{Called, is_violation};
+pub use calling::{NamedCall, is_violation};
 pub use candidates::are_candidates_by_replies;
 pub use closing::is_uncovered;
 pub use descending::do_descend;

@@ -89,7 +89,6 @@ module _ (s : Stored) (links : List Link) (k : ℕ) (bs : List Branch) (now : Ke
 
 -- a built-in goal
 module _ (s : Stored) (links : List Link) (k : ℕ) (bs : List Branch) (now : Kept) (view : view_of s links k bs ≡ now) (f : IsFramed s links k bs) (g : Called) (m : ℕ) where
-
   module _ (goal : Cell) (h : IsGoalAt links k (Some goal)) (s' : Stored) where
     pub solves_without : (r : Solved) (G : List Frame) → r ≢ Entered → Settles r s s' (term_at s goal.0) → AreAlike (solution now.current g m) (solution_as r G)
     solves_without r G n a = subst (λ (x : Kept). AreAlike (solution x.current g m) (solution_as r G)) view (solves_other (frames_at s links k) g m (term_at s goal.0) (h.1 s) r s s' G n a)

@@ -6,7 +6,7 @@ use Rattle.std.proofs.lemmas.List.{reverse-append, map-append, length-append, le
 use Rattle.std.proofs.lemmas.Option.{slice_get-map}
 use Rattle.std.proofs.Math.Seq.{take-append-add, drop-append_seam}
 use Rattle.apd_unify.specs.declared.store.Cell.{Cell}
-use Rattle.apd_frames.specs.declared.links.Row.{Row}
+use Rattle.apd_frames.specs.declared.links.LinkRow.{LinkRow}
 use Rattle.apd_frames.specs.declared.links.LinkRef.{LinkRef}
 use Rattle.apd_frames.specs.Links.{Link, instance_of, link_of, goals_in, link_in, links_in, row_at, row_of, handed_row, cells_of, IsSpanned, AreSpanned}
 use Rattle.apd_frames.specs.Linked.{numbered, oldest}
@@ -31,25 +31,25 @@ map-drop f zero xs = refl
 map-drop f (suc k) [] = refl
 map-drop f (suc k) (x ∷ xs) = map-drop f k xs
 
-spanned_more : (n m : ℕ) (rows : List Row) → n ≤ m → AreSpanned n rows → AreSpanned m rows
+spanned_more : (n m : ℕ) (rows : List LinkRow) → n ≤ m → AreSpanned n rows → AreSpanned m rows
 spanned_more n m [] le h = tt
 spanned_more n m (r ∷ older) le h = (h.0, omega (arith, h.1), h.2)
 
-spanned_drop : (n k : ℕ) (rows : List Row) → AreSpanned n rows → AreSpanned n (drop k rows)
+spanned_drop : (n k : ℕ) (rows : List LinkRow) → AreSpanned n rows → AreSpanned n (drop k rows)
 spanned_drop n zero rows h = h
 spanned_drop n (suc k) [] h = tt
 spanned_drop n (suc k) (r ∷ older) h = spanned_drop n k older (spanned_more r.cells n older h.1 h.2)
 
 -- the cells that were there with the newest row are enough
-spanned_own : (n : ℕ) (rows : List Row) → AreSpanned n rows → AreSpanned (cells_of rows) rows
+spanned_own : (n : ℕ) (rows : List LinkRow) → AreSpanned n rows → AreSpanned (cells_of rows) rows
 spanned_own n [] h = tt
 spanned_own n (r ∷ older) h = (h.0, omega arith, h.2)
 
-own_within : (n : ℕ) (rows : List Row) → AreSpanned n rows → cells_of rows ≤ n
+own_within : (n : ℕ) (rows : List LinkRow) → AreSpanned n rows → cells_of rows ≤ n
 own_within n [] h = omega arith
 own_within n (r ∷ older) h = h.1
 
-abbrev pub with_cells : Row → List Cell → Link
+abbrev pub with_cells : LinkRow → List Cell → Link
 with_cells r goals =
     record {
       box_no = r.box_no;
@@ -63,38 +63,38 @@ with_cells r goals =
 
 -- two lists of cells have the same first n
 module _ (n : ℕ) (xs ys : List Cell) (same : take n xs ≡ take n ys) where
-  goals_same : (r : Row) → r.to ≤ n → goals_in xs r ≡ goals_in ys r
+  goals_same : (r : LinkRow) → r.to ≤ n → goals_in xs r ≡ goals_in ys r
   goals_same r le = ap (drop r.from) (sym (front_of r.to n xs le) ∙ ap (take r.to) same ∙ front_of r.to n ys le)
 
-  links_same : (rows : List Row) (m : ℕ) → m ≤ n → AreSpanned m rows → links_in xs rows ≡ links_in ys rows
+  links_same : (rows : List LinkRow) (m : ℕ) → m ≤ n → AreSpanned m rows → links_in xs rows ≡ links_in ys rows
   links_same [] m le h = refl
   links_same (r ∷ older) m le h =
       ap (λ gs. with_cells r gs ∷ links_in xs older) (goals_same r (omega (arith, h.0.within, h.1)))
       ∙ ap (λ ls. link_in ys r ∷ ls) (links_same older r.cells (omega (arith, h.1)) h.2)
 
 -- cells were put behind
-pub more_cells : (cells goals : List Cell) (rows : List Row) → AreSpanned (length cells) rows → links_in (cells ++ goals) rows ≡ links_in cells rows
+pub more_cells : (cells goals : List Cell) (rows : List LinkRow) → AreSpanned (length cells) rows → links_in (cells ++ goals) rows ≡ links_in cells rows
 more_cells cells goals rows h =
     links_same (length cells) (cells ++ goals) cells (take-append-le (length cells) cells goals (omega arith)) rows (length cells) (omega arith) h
 
-pub more_spanned : (cells goals : List Cell) (rows : List Row) → AreSpanned (length cells) rows → AreSpanned (length (cells ++ goals)) rows
+pub more_spanned : (cells goals : List Cell) (rows : List LinkRow) → AreSpanned (length cells) rows → AreSpanned (length (cells ++ goals)) rows
 more_spanned cells goals rows h = spanned_more (length cells) (length (cells ++ goals)) rows (omega (arith, length-append cells goals)) h
 
 -- a link was put behind
-module _ (cells : List Cell) (rows : List Row) (l : LinkRef) (h : AreSpanned (length cells) (reverse rows)) where
+module _ (cells : List Cell) (rows : List LinkRow) (l : LinkRef) (h : AreSpanned (length cells) (reverse rows)) where
   own_goals : goals_in (cells ++ l.goals.now) (row_of l (length cells)) ≡ l.goals.now
   own_goals =
       ap (drop (length cells)) (take-append-add cells l.goals.now (length l.goals.now) ∙ ap (λ gs. cells ++ gs) (take_all (length l.goals.now) l.goals.now (omega arith)))
       ∙ drop-append_seam cells l.goals.now
 
-  pub pushed_link : (r : Row) → r ≡ row_of l (length cells) → links_in (cells ++ l.goals.now) (reverse (rows ++ r ∷ [])) ≡ link_of l ∷ links_in cells (reverse rows)
+  pub pushed_link : (r : LinkRow) → r ≡ row_of l (length cells) → links_in (cells ++ l.goals.now) (reverse (rows ++ r ∷ [])) ≡ link_of l ∷ links_in cells (reverse rows)
   pushed_link r e =
       ap (links_in (cells ++ l.goals.now)) (reverse-append rows (r ∷ []))
       ∙ ap (λ x. link_in (cells ++ l.goals.now) x ∷ links_in (cells ++ l.goals.now) (reverse rows)) e
       ∙ ap (λ gs. with_cells (row_of l (length cells)) gs ∷ links_in (cells ++ l.goals.now) (reverse rows)) own_goals
       ∙ ap (λ ls. link_of l ∷ ls) (more_cells cells l.goals.now (reverse rows) h)
 
-  pub pushed_spanned : (r : Row) → r ≡ row_of l (length cells) → AreSpanned (length (cells ++ l.goals.now)) (reverse (rows ++ r ∷ []))
+  pub pushed_spanned : (r : LinkRow) → r ≡ row_of l (length cells) → AreSpanned (length (cells ++ l.goals.now)) (reverse (rows ++ r ∷ []))
   pushed_spanned r e =
       let n : length (cells ++ l.goals.now) ≡ length cells + length l.goals.now = length-append cells l.goals.now in
       let x = row_of l (length cells) in
@@ -102,47 +102,47 @@ module _ (cells : List Cell) (rows : List Row) (l : LinkRef) (h : AreSpanned (le
       (subst (λ y. AreSpanned (length (cells ++ l.goals.now)) (y ∷ reverse rows)) (sym e)
       (record { order = omega arith; within = omega arith }, omega (arith, n), spanned_more (length cells) x.cells (reverse rows) (omega arith) h))
 
-spanned_last : (n : ℕ) (rows : List Row) (r : Row) → AreSpanned n (rows ++ r ∷ []) → IsSpanned n r
+spanned_last : (n : ℕ) (rows : List LinkRow) (r : LinkRow) → AreSpanned n (rows ++ r ∷ []) → IsSpanned n r
 spanned_last n [] r h = record { order = h.0.order; within = omega (arith, h.0.within, h.1) }
 spanned_last n (x ∷ rows) r h =
     let k = spanned_last x.cells rows r h.2 in
     record { order = k.order; within = omega (arith, k.within, h.1) }
 
-spanned_front : (n : ℕ) (rows : List Row) (r : Row) → AreSpanned n (rows ++ r ∷ []) → AreSpanned n rows
+spanned_front : (n : ℕ) (rows : List LinkRow) (r : LinkRow) → AreSpanned n (rows ++ r ∷ []) → AreSpanned n rows
 spanned_front n [] r h = tt
 spanned_front n (x ∷ rows) r h = (h.0, h.1, spanned_front x.cells rows r h.2)
 
-place_among : (n : ℕ) (rows : List Row) (i : ℕ) (r : Row) → AreSpanned n (reverse rows) → slice_get rows i ≡ Some r → IsSpanned n r
+place_among : (n : ℕ) (rows : List LinkRow) (i : ℕ) (r : LinkRow) → AreSpanned n (reverse rows) → slice_get rows i ≡ Some r → IsSpanned n r
 place_among n [] i r h e = cc
 place_among n (x ∷ rows) zero r h e =
     let is : x ≡ r = cc in
     subst (IsSpanned n) is (spanned_last n (reverse rows) x (subst (AreSpanned n) (reverse-append (x ∷ []) rows) h))
 place_among n (x ∷ rows) (suc i) r h e = place_among n rows i r (spanned_front n (reverse rows) x (subst (AreSpanned n) (reverse-append (x ∷ []) rows) h)) e
 
-pub row_among : (n : ℕ) (rows : List Row) (k : ℕ) (r : Row) → AreSpanned n (reverse rows) → row_at rows k ≡ Some r → IsSpanned n r
+pub row_among : (n : ℕ) (rows : List LinkRow) (k : ℕ) (r : LinkRow) → AreSpanned n (reverse rows) → row_at rows k ≡ Some r → IsSpanned n r
 row_among n rows zero r h e = cc
 row_among n rows (suc i) r h e = place_among n rows i r h e
 
 -- a link by its number is the row with that number
-pub numbered_row : (cells : List Cell) (rows : List Row) (k : ℕ) → numbered (links_in cells (reverse rows)) k ≡ option_map (link_in cells) (row_at rows k)
+pub numbered_row : (cells : List Cell) (rows : List LinkRow) (k : ℕ) → numbered (links_in cells (reverse rows)) k ≡ option_map (link_in cells) (row_at rows k)
 numbered_row cells rows zero = numbered-zero (links_in cells (reverse rows))
 numbered_row cells rows (suc i) =
     ap (λ ls. numbered ls (suc i)) (map-reverse (link_in cells) rows) ∙ numbered-reverse (map (link_in cells) rows) i ∙ slice_get-map (link_in cells) rows i
 
 -- a row was put behind once more, with one more goal solved
-module _ (cells : List Cell) (rows : List Row) (r : Row) (n m : ℕ) (e : n ≡ length cells) where
-  pub handed_links : (x : Row) → x ≡ handed_row r n m → links_in cells (reverse (rows ++ x ∷ [])) ≡ link_in cells (handed_row r n m) ∷ links_in cells (reverse rows)
+module _ (cells : List Cell) (rows : List LinkRow) (r : LinkRow) (n m : ℕ) (e : n ≡ length cells) where
+  pub handed_links : (x : LinkRow) → x ≡ handed_row r n m → links_in cells (reverse (rows ++ x ∷ [])) ≡ link_in cells (handed_row r n m) ∷ links_in cells (reverse rows)
   handed_links x is = ap (links_in cells) (reverse-append rows (x ∷ [])) ∙ ap (λ y. link_in cells y ∷ links_in cells (reverse rows)) is
 
-  pub handed_spanned : (x : Row) → x ≡ handed_row r n m → AreSpanned (length cells) (reverse rows) → IsSpanned (length cells) r → AreSpanned (length cells) (reverse (rows ++ x ∷ []))
+  pub handed_spanned : (x : LinkRow) → x ≡ handed_row r n m → AreSpanned (length cells) (reverse rows) → IsSpanned (length cells) r → AreSpanned (length cells) (reverse (rows ++ x ∷ []))
   handed_spanned x is h k =
       subst (AreSpanned (length cells)) (sym (reverse-append rows (x ∷ [])))
       (subst (λ y. AreSpanned (length cells) (y ∷ reverse rows)) (sym is)
       (record { order = k.order; within = omega (arith, e, k.within) }, omega (arith, e), subst (λ j. AreSpanned j (reverse rows)) (sym e) h))
 
 -- so many of the oldest rows were kept, and the cells that were there with them
-module _ (cells : List Cell) (rows : List Row) (count : ℕ) (h : AreSpanned (length cells) (reverse rows)) where
-  abbrev left : List Row
+module _ (cells : List Cell) (rows : List LinkRow) (count : ℕ) (h : AreSpanned (length cells) (reverse rows)) where
+  abbrev left : List LinkRow
   left = reverse (take count rows)
 
   left_spanned : AreSpanned (length cells) left
@@ -165,7 +165,7 @@ module _ (cells : List Cell) (rows : List Row) (count : ℕ) (h : AreSpanned (le
       ∙ ap (λ k. drop (k - count) (map f (reverse rows))) (sym n)
 
   -- the same, as what the calls make of them
-  module _ (rows' seen : List Row) (n : ℕ) (cells' : List Cell) (re : rows' ≡ take count rows) (se : seen ≡ rows') (ne : n ≡ cells_of (reverse seen)) (ce : cells' ≡ take n cells) where
+  module _ (rows' seen : List LinkRow) (n : ℕ) (cells' : List Cell) (re : rows' ≡ take count rows) (se : seen ≡ rows') (ne : n ≡ cells_of (reverse seen)) (ce : cells' ≡ take n cells) where
     count_there : n ≡ cells_of left
     count_there = ne ∙ ap (λ xs. cells_of (reverse xs)) (se ∙ re)
 
@@ -185,8 +185,8 @@ on_err_always (Ok x) P h = tt
 on_err_always (Err e) P h = h
 
 -- what a link by its number is, by the row with it
-pub numbered_none : (cells : List Cell) (rows : List Row) (k : ℕ) (o : Option Row) → o ≡ row_at rows k → o ≡ None → numbered (links_in cells (reverse rows)) k ≡ None
+pub numbered_none : (cells : List Cell) (rows : List LinkRow) (k : ℕ) (o : Option LinkRow) → o ≡ row_at rows k → o ≡ None → numbered (links_in cells (reverse rows)) k ≡ None
 numbered_none cells rows k o e is = numbered_row cells rows k ∙ ap (option_map (link_in cells)) (sym e ∙ is)
 
-pub numbered_some : (cells : List Cell) (rows : List Row) (k : ℕ) (o : Option Row) (r : Row) → o ≡ row_at rows k → o ≡ Some r → numbered (links_in cells (reverse rows)) k ≡ Some (link_in cells r)
+pub numbered_some : (cells : List Cell) (rows : List LinkRow) (k : ℕ) (o : Option LinkRow) (r : LinkRow) → o ≡ row_at rows k → o ≡ Some r → numbered (links_in cells (reverse rows)) k ≡ Some (link_in cells r)
 numbered_some cells rows k o r e is = numbered_row cells rows k ∙ ap (option_map (link_in cells)) (sym e ∙ is)

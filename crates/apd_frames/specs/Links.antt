@@ -2,7 +2,7 @@
 use Rattle.std.specs.Prelude.{ℕ, zero, suc, ◌+◌, ◌≤◌, List, [], ◌∷◌, length, map, take, drop, Option, None, slice_get}
 use Rattle.apd_unify.specs.declared.store.Cell.{Cell}
 use Rattle.apd_frames.specs.declared.links.Branch.{Branch}
-use Rattle.apd_frames.specs.declared.links.Row.{Row}
+use Rattle.apd_frames.specs.declared.links.LinkRow.{LinkRow}
 use Rattle.apd_frames.specs.declared.links.LinkRef.{LinkRef}
 
 -- the cells of a clause's head and of its body's goals
@@ -38,10 +38,10 @@ link_of l =
     }
 
 -- the goals of a row among the cells of all goals
-abbrev pub goals_in : List Cell → Row → List Cell
+abbrev pub goals_in : List Cell → LinkRow → List Cell
 goals_in cells r = drop r.from (take r.to cells)
 
-abbrev pub link_in : List Cell → Row → Link
+abbrev pub link_in : List Cell → LinkRow → Link
 link_in cells r =
     record {
       box_no = r.box_no;
@@ -53,32 +53,32 @@ link_in cells r =
       around = r.around;
     }
 
-abbrev pub links_in : List Cell → List Row → List Link
+abbrev pub links_in : List Cell → List LinkRow → List Link
 links_in cells rows = map (link_in cells) rows
 
 -- a row's goals are among the first n cells
-pub record IsSpanned (n : ℕ) (r : Row) : Type 0 where
+pub record IsSpanned (n : ℕ) (r : LinkRow) : Type 0 where
   pub order : r.from ≤ r.to
   pub within : r.to ≤ n
 
 -- the rows are given the newest first: the goals of each are among the cells that were there with it, no more than were
 -- there with a newer one, or are there now, n
-abbrev pub AreSpanned : ℕ → List Row → Type 0
+abbrev pub AreSpanned : ℕ → List LinkRow → Type 0
 AreSpanned n [] = Unit {0}
 AreSpanned n (r ∷ older) = IsSpanned r.cells r × (r.cells ≤ n) × AreSpanned r.cells older
 
 -- how many cells there were with the newest row
-abbrev pub cells_of : List Row → ℕ
+abbrev pub cells_of : List LinkRow → ℕ
 cells_of [] = 0
 cells_of (r ∷ older) = r.cells
 
 -- the row with a number, counted from 1 at the oldest, which stands first
-abbrev pub row_at : List Row → ℕ → Option Row
+abbrev pub row_at : List LinkRow → ℕ → Option LinkRow
 row_at rows zero = None
 row_at rows (suc i) = slice_get rows i
 
 -- the row of a link whose goals' cells are put behind n others
-abbrev pub row_of : LinkRef → ℕ → Row
+abbrev pub row_of : LinkRef → ℕ → LinkRow
 row_of l n =
     record {
       box_no = l.box_no;
@@ -94,7 +94,7 @@ row_of l n =
     }
 
 -- the row with one more goal solved, at point m, where there are n cells
-abbrev pub handed_row : Row → ℕ → ℕ → Row
+abbrev pub handed_row : LinkRow → ℕ → ℕ → LinkRow
 handed_row r n m =
     record {
       box_no = r.box_no;

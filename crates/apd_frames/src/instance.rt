@@ -90,7 +90,7 @@ fn put_query(
 }
 
 /// Puts a query as [`put_query`] does, and behind its terms the pieces of the program, whose cells stand in `made` then.
-pub fn begin(
+pub fn lay_query(
     store: &mut Store,
     links: &mut Links,
     made: &mut Made,

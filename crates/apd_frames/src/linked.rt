@@ -16,7 +16,7 @@ ghost use Rattle.apd_frames.specs.Solves.{solution_as, Keeps};
 
 use crate::ahead::Ahead;
 use crate::builtin::Solved;
-use crate::instance::{Made, begin, canonical_within, instantiate, is_within};
+use crate::instance::{Made, canonical_within, instantiate, is_within, lay_query};
 use crate::links::{Branch, KeptBranch, Links, entered};
 use crate::measuring::{Measure, measured};
 use crate::reading::{ahead, goal_depth, left, look, next_goal};
@@ -84,7 +84,7 @@ impl Linked {
                 hints: Vec::new(alloc),
             },
         };
-        let begun = begin(
+        let begun = lay_query(
             &mut linked.store,
             &mut linked.links,
             &mut linked.made,

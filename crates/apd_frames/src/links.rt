@@ -28,7 +28,7 @@ pub struct LinkRef<'a> {
 /// A link as it is kept. Its goals' cells stand among those of all links, and a link that is handed
 /// an exit shares them with the link that it comes from.
 #[derive(Clone, Copy)]
-pub struct Row {
+pub struct LinkRow {
     pub box_no: u32,
     pub depth: u32,
     pub clause: u32,
@@ -71,7 +71,7 @@ impl Model for KeptBranch {
 /// Links, numbered from 1. Clauses see their list, the newest first.
 #[derive(Drop)]
 pub struct Links {
-    oldest_first: Vec<Row>,
+    oldest_first: Vec<LinkRow>,
     /// The cells of all links' goals.
     cells: Vec<Cell>,
 }
@@ -92,7 +92,7 @@ const MOST: usize = 4_294_967_295;
 
 /// The row of a link whose goals' cells are put behind so many others.
 #[inline(always)]
-fn row_of(link: &LinkRef<'_>, cells: usize) -> Result<Row, AllocError>
+fn row_of(link: &LinkRef<'_>, cells: usize) -> Result<LinkRow, AllocError>
     ensures { IfOk result (λ r. r ≡ row_of link.now cells) }
 {
     let goals = link.goals.len();
@@ -100,7 +100,7 @@ fn row_of(link: &LinkRef<'_>, cells: usize) -> Result<Row, AllocError>
         return Err(AllocError);
     }
     let to = (cells + goals) as u32;
-    Ok(Row {
+    Ok(LinkRow {
         box_no: link.box_no,
         depth: link.depth,
         clause: link.clause,
@@ -115,7 +115,7 @@ fn row_of(link: &LinkRef<'_>, cells: usize) -> Result<Row, AllocError>
 }
 
 /// The row with this number, counted from 1.
-fn row_at(rows: &[Row], number: usize) -> Option<Row>
+fn row_at(rows: &[LinkRow], number: usize) -> Option<LinkRow>
     ensures { result ≡ row_at rows.now number }
 {
     if number == 0 {
@@ -128,7 +128,7 @@ fn row_at(rows: &[Row], number: usize) -> Option<Row>
 }
 
 /// The link that is kept as a row.
-fn link_in<'a>(cells: &'a [Cell], row: Row) -> LinkRef<'a>
+fn link_in<'a>(cells: &'a [Cell], row: LinkRow) -> LinkRef<'a>
     requires { IsSpanned (length cells.now) row }
     ensures { link_of result ≡ link_in cells.now row }
 {
@@ -145,11 +145,11 @@ fn link_in<'a>(cells: &'a [Cell], row: Row) -> LinkRef<'a>
 }
 
 /// The row with one more goal solved, at a point, where there are so many cells.
-fn handed(row: Row, cells: u32, point: u32) -> Row
+fn handed(row: LinkRow, cells: u32, point: u32) -> LinkRow
     requires { row.done < 64 }
     ensures { result ≡ handed_row row cells point }
 {
-    Row {
+    LinkRow {
         cells,
         done: row.done + 1,
         point,
@@ -158,7 +158,7 @@ fn handed(row: Row, cells: u32, point: u32) -> Row
 }
 
 /// How many cells there were with the newest row.
-fn cells_of(rows: &[Row]) -> usize
+fn cells_of(rows: &[LinkRow]) -> usize
     ensures { result ≡ cells_of (reverse rows.now) }
 {
     match rows.last() {

@@ -7,7 +7,7 @@ use Rattle.apd_index.specs.Nodes.{AreSlots, IsNumber, IsNumberIn, KeepsNumbers}
 use Rattle.apd_index.specs.Subterms.{digest, digests, position, positions, subterms}
 use Rattle.apd_index.specs.Table.{AddsNext, PutsNext, parent_of}
 use Rattle.apd_index.specs.declared.columns.Columns.{Columns}
-use Rattle.apd_index.specs.declared.columns.Entry.{Entry}
+use Rattle.apd_index.specs.declared.columns.ColumnEntry.{ColumnEntry}
 use Rattle.apd_index.specs.declared.nodes.Nodes.{Nodes}
 use Rattle.apd_index.specs.declared.positions.Parent.{Parent}
 use Rattle.apd_index.specs.declared.walk.Open.{Open}
@@ -23,7 +23,7 @@ IsPaired nodes ps ds n place c tag = (i : ℕ) × (i < n) × IsNumber nodes (get
 
 -- what is new are entries of so many positions, by their digests
 abbrev pub AddsPaired : Nodes → Columns → List Parent → List ℕ → ℕ → ℕ → Columns → Type 0
-AddsPaired nodes old ps ds n place new = (c : ℕ) (e : Entry) → IsIn (column_at new c) e → IsIn (column_at old c) e ⊎ ((e.place ≡ place) × IsPaired nodes ps ds n place c e.tag)
+AddsPaired nodes old ps ds n place new = (c : ℕ) (e : ColumnEntry) → IsIn (column_at new c) e → IsIn (column_at old c) e ⊎ ((e.place ≡ place) × IsPaired nodes ps ds n place c e.tag)
 
 pub paired-none : (nodes : Nodes) (columns : Columns) (ps : List Parent) (ds : List ℕ) (place : ℕ) → AddsPaired nodes columns ps ds 0 place columns
 paired-none nodes columns ps ds place c e there = inl there
@@ -58,7 +58,7 @@ module _ (nodes further : Nodes) (keeps : KeepsNumbers nodes further) (ps : List
         let r = so_far j (omega (arith, l, m)) in (
           r.0,
           keeps (get_or ps j nowhere) r.0 r.1,
-          elim (eqb_tells puts.0 r.0) [ inl e ↦ subst (λ (c : ℕ). EndsAt (column_at new c) place) e.1 puts.3 | inr o ↦ subst (λ (es : List Entry). EndsAt es place) (sym (puts.2 r.0 o.1)) r.2 ],
+          elim (eqb_tells puts.0 r.0) [ inl e ↦ subst (λ (c : ℕ). EndsAt (column_at new c) place) e.1 puts.3 | inr o ↦ subst (λ (es : List ColumnEntry). EndsAt es place) (sym (puts.2 r.0 o.1)) r.2 ],
         )
   ]
 

@@ -12,10 +12,10 @@ use Rattle.apd_index.specs.Table as tables
 use Rattle.apd_index.specs.Spots.{AllLeave, IsSpot}
 use Rattle.apd_index.specs.Subterms.{IsAt, digest, noted}
 use Rattle.apd_index.specs.declared.columns.Columns.{Columns}
-use Rattle.apd_index.specs.declared.columns.Entry.{Entry}
+use Rattle.apd_index.specs.declared.columns.ColumnEntry.{ColumnEntry}
 use Rattle.apd_index.specs.declared.nodes.Nodes.{Nodes}
 use Rattle.apd_index.specs.declared.positions.Parent.{Parent}
-use Rattle.apd_index.specs.declared.sharing.Spot.{Spot}
+use Rattle.apd_index.specs.declared.sharing.SymbolSpot.{SymbolSpot}
 use Rattle.apd_index.specs.declared.walk.Table.{Table}
 use Rattle.apd_marks.specs.Places.{Index, places_at}
 use Rattle.apd_index.specs.Retrieval.{AreSpecials, AreWholes, root_mark}
@@ -73,7 +73,7 @@ pub alike : (xs : List Term) (nodes : Nodes) (columns : Columns) (a x : Term) (k
 alike xs nodes columns a x k sound right there (s, is) p q c d v g h numbered_p numbered_q e f in_p in_q in_place_e in_place_f =
     sym (at p c e numbered_p in_p in_place_e (instance-at s a x p (variable v) is g)) ∙ at q d f numbered_q in_q in_place_f (instance-at s a x q (variable v) is h)
   where
-    at : (o : Parent) (b : ℕ) (n : Entry) → IsNumber nodes o b → IsIn (column_at columns b) n → n.place ≡ k → IsAt x o (s v) → tagged (digest (s v)) k ≡ n.tag
+    at : (o : Parent) (b : ℕ) (n : ColumnEntry) → IsNumber nodes o b → IsIn (column_at columns b) n → n.place ≡ k → IsAt x o (s v) → tagged (digest (s v)) k ≡ n.tag
     at o b n numbered stands in_place here =
         let r = right b n stands in
         let one : r.0 ≡ o = sound.own r.0 o b r.1 numbered in
@@ -84,7 +84,7 @@ alike xs nodes columns a x k sound right there (s, is) p q c d v g h numbered_p 
         only e' = cc
 
 -- an atom's spots are those of its instances too
-pub instance-spot : (a x : Term) (s : Spot) → IsInstance x a → IsSpot a s → IsSpot x s
+pub instance-spot : (a x : Term) (s : SymbolSpot) → IsInstance x a → IsSpot a s → IsSpot x s
 instance-spot a x s (f, is) (p, t, at, above, m) = (p, apply f t, instance-at f a x p t is at, above, subst (λ (y : Sym). IsAmong (noted p y) s.mark) (sym (root-stays f t p s.mark m)) m)
 
 -- each instance of the atom is looked at: its bit is left, or it is large, or it waits

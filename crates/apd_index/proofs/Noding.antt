@@ -3,32 +3,32 @@ use Rattle.std.proofs.Common.{◌≡◌, ◌⊎◌, inl, inr, ℕ, ◌-◌, ◌<
 use Rattle.apd_term.specs.Term.{IsAmong}
 use Rattle.apd_index.specs.Nodes.{HasLinks, HasRow, KeepBits, places}
 use Rattle.apd_bits.specs.Rows.{HasBit, HasBits, IsWithin}
-use Rattle.apd_index.specs.declared.nodes.Link.{Link}
+use Rattle.apd_index.specs.declared.nodes.PlaceLink.{PlaceLink}
 use Rattle.apd_index.proofs.Chains.{chain-at, chain-none}
 
-abbrev pub earlier : Link → ℕ
+abbrev pub earlier : PlaceLink → ℕ
 earlier l = l.before
 
-abbrev pub place_of : Link → ℕ
+abbrev pub place_of : PlaceLink → ℕ
 place_of l = l.place
 
-pub places-none : (links : List Link) → places links 0 ≡ []
+pub places-none : (links : List PlaceLink) → places links 0 ≡ []
 places-none links = ap (map place_of) (chain-none earlier (reverse links))
 
-pub places-at : (links : List Link) (last : ℕ) (d : Link) → HasLinks links → 0 < last → last ≤ length links → places links last ≡ (get_or links (last - 1) d).place ∷ places links (get_or links (last - 1) d).before
+pub places-at : (links : List PlaceLink) (last : ℕ) (d : PlaceLink) → HasLinks links → 0 < last → last ≤ length links → places links last ≡ (get_or links (last - 1) d).place ∷ places links (get_or links (last - 1) d).before
 places-at links last d falling some within = ap (map place_of) (chain-at earlier d links last falling some within)
 
 -- The loop that sets the bits of a chain.
 
 -- what isn't set is still ahead
-abbrev pub AreSet : List Link → List ℕ → ℕ → ℕ → Type 0
+abbrev pub AreSet : List PlaceLink → List ℕ → ℕ → ℕ → Type 0
 AreSet links row last at = (k : ℕ) → IsAmong (places links last) k → HasBit row k ⊎ IsAmong (places links at) k
 
-module _ (links : List Link) (last : ℕ) where
-  pub set-goes : (row new : List ℕ) (at : ℕ) (d l : Link) → HasLinks links → 0 < at → at ≤ length links → l ≡ get_or links (at - 1) d → IsWithin row new → HasBit new l.place → AreSet links row last at → AreSet links new last l.before
+module _ (links : List PlaceLink) (last : ℕ) where
+  pub set-goes : (row new : List ℕ) (at : ℕ) (d l : PlaceLink) → HasLinks links → 0 < at → at ≤ length links → l ≡ get_or links (at - 1) d → IsWithin row new → HasBit new l.place → AreSet links row last at → AreSet links new last l.before
   set-goes row new at d l falling some within is kept here so_far k a = elim (so_far k a) [
     | inl b ↦ inl (kept k b)
-    | inr r ↦ elim (subst (λ (ps : List ℕ). IsAmong ps k) (places-at links at d falling some within ∙ ap (λ (x : Link). x.place ∷ places links x.before) (sym is)) r) [
+    | inr r ↦ elim (subst (λ (ps : List ℕ). IsAmong ps k) (places-at links at d falling some within ∙ ap (λ (x : PlaceLink). x.place ∷ places links x.before) (sym is)) r) [
       | inl e ↦ inl (subst (HasBit new) e here)
       | inr later ↦ inr later
     ]

@@ -151,7 +151,6 @@ module _ (xs : List Term) (row : List ℕ) (a : Term) where
   pub special-told : (b : Bool) → ((k : ℕ) (x : Term) → slice_get xs k ≡ Some x → IsInstance x a → HasBit row k) → MatchBool b (SomeLeft xs row a) (NoneLeft xs row a) → b ≡ has_special xs a
   special-told true all h = sym (special-there h)
   special-told false all none = same-truth false (has_special xs a) (λ e. absurd (cc)) (λ yes. let some = special-found all yes in sym (none some.0) ∙ some.1)
-
   -- no bit near a place, and places that were looked at
 
 -- where there is memory

@@ -7,7 +7,7 @@ use Rattle.apd_index.specs.Columns.{HasColumns, IsIn, column_at}
 use Rattle.apd_index.specs.Nodes.{IsNumber}
 use Rattle.apd_index.specs.Nodes as nodes
 use Rattle.apd_index.specs.Table.{AreSame}
-use Rattle.apd_index.specs.declared.columns.Entry.{Entry}
+use Rattle.apd_index.specs.declared.columns.ColumnEntry.{ColumnEntry}
 use Rattle.apd_index.specs.declared.positions.Parent.{Parent}
 use Rattle.apd_index.specs.declared.walk.Table.{Table}
 
@@ -23,5 +23,5 @@ module _ (old new : Table) (same : AreSame old new) where
 
   pub same-right : (xs : List Term) → HasColumns xs old.nodes old.columns → HasColumns xs new.nodes new.columns
   same-right xs right c e i =
-      let r = right c e (subst (λ (es : List Entry). IsIn es e) (same-column c) i) in
+      let r = right c e (subst (λ (es : List ColumnEntry). IsIn es e) (same-column c) i) in
       (r.0, subst (λ (T : Type 0). T) (sym (same-number r.0 c)) r.1, r.2)

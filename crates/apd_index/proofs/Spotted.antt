@@ -8,16 +8,16 @@ use Rattle.apd_index.specs.Spots.{AreSpots, Leaves, IsSpot, StandsIn}
 use Rattle.apd_index.specs.Subterms.{noted, root}
 use Rattle.apd_index.specs.declared.nodes.Nodes.{Nodes}
 use Rattle.apd_index.specs.declared.positions.Parent.{Parent}
-use Rattle.apd_index.specs.declared.sharing.Spot.{Spot}
+use Rattle.apd_index.specs.declared.sharing.SymbolSpot.{SymbolSpot}
 
-stands-last : (spots : List Spot) (s t : Spot) → StandsIn (spots ++ s ∷ []) t → StandsIn spots t ⊎ (s ≡ t)
+stands-last : (spots : List SymbolSpot) (s t : SymbolSpot) → StandsIn (spots ++ s ∷ []) t → StandsIn spots t ⊎ (s ≡ t)
 stands-last [] s t (zero, e) = inr (cc)
 stands-last [] s t (suc i, e) = absurd (cc)
 stands-last (x ∷ spots) s t (zero, e) = inl (zero, e)
 stands-last (x ∷ spots) s t (suc i, e) = elim (stands-last spots s t (i, e)) [ inl h ↦ inl (suc h.0, h.1) | inr h ↦ inr h ]
 
-pub spots-more : (a : Term) (old new : List Spot) (s : Spot) → new ≡ old ++ s ∷ [] → IsSpot a s → AreSpots a old → AreSpots a new
-spots-more a old new s is here so_far t h = elim (stands-last old s t (subst (λ (ss : List Spot). StandsIn ss t) is h)) [
+pub spots-more : (a : Term) (old new : List SymbolSpot) (s : SymbolSpot) → new ≡ old ++ s ∷ [] → IsSpot a s → AreSpots a old → AreSpots a new
+spots-more a old new s is here so_far t h = elim (stands-last old s t (subst (λ (ss : List SymbolSpot). StandsIn ss t) is h)) [
   | inl before ↦ so_far t before
   | inr same ↦ subst (IsSpot a) same here
 ]
@@ -31,6 +31,6 @@ marked p x m t is e = subst (λ (y : Sym). IsAmong (noted p y) m) (sym is) (by x
     by (Int i) h = inl (cc)
     by (Fun f n) h = inl (cc)
 
-pub some-leaves : (o : Option Spot) (nodes : Nodes) (k : ℕ) {P : Spot → Type 0} → ((s : Spot) → P s → Leaves nodes k s) → IfSome o P → IfSome o (Leaves nodes k)
+pub some-leaves : (o : Option SymbolSpot) (nodes : Nodes) (k : ℕ) {P : SymbolSpot → Type 0} → ((s : SymbolSpot) → P s → Leaves nodes k s) → IfSome o P → IfSome o (Leaves nodes k)
 some-leaves None nodes k f h = tt
 some-leaves (Some s) nodes k f h = f s h

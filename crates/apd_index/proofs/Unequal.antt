@@ -9,7 +9,7 @@ use Rattle.apd_term.specs.Term.{Term}
 use Rattle.apd_index.specs.Columns.{AddsUnlike, Agree, AreIn, AreRepeats, AreUnlike, Firsts, HasUnlikes, IsAlike, IsFor, IsIn, IsUnlike, KeepsEntries, PutsFirst, PutsRepeat, column_at}
 use Rattle.apd_bits.specs.Rows.{IsWithinBut}
 use Rattle.apd_index.specs.declared.columns.Columns.{Columns}
-use Rattle.apd_index.specs.declared.columns.Entry.{Entry}
+use Rattle.apd_index.specs.declared.columns.ColumnEntry.{ColumnEntry}
 use Rattle.apd_index.specs.declared.gathered.Gathered.{Gathered}
 use Rattle.apd_index.specs.declared.nodes.Nodes.{Nodes}
 use Rattle.apd_index.specs.declared.unlike.Repeat.{Repeat}
@@ -83,14 +83,14 @@ each-put P old new key v e right h n = subst (λ o. IfSome o (P n)) (sym (e n)) 
     by false q = h n
 
 -- one more place for which the columns differ
-pub unlike-goes : (ones others : List Entry) (first old new : List ℕ) (one other : Entry) → IsIn ones one → IsIn others other → one.place ≡ other.place → one.tag ≢ other.tag → IsWithinBut new old one.place → AddsUnlike ones others first old → AddsUnlike ones others first new
+pub unlike-goes : (ones others : List ColumnEntry) (first old new : List ℕ) (one other : ColumnEntry) → IsIn ones one → IsIn others other → one.place ≡ other.place → one.tag ≢ other.tag → IsWithinBut new old one.place → AddsUnlike ones others first old → AddsUnlike ones others first new
 unlike-goes ones others first old new one other i j same differ only so_far k h = elim (only k h) [
   | inl b ↦ so_far k b
   | inr e ↦ inr (λ agree. differ (agree one other i j (sym e) (sym same ∙ sym e)))
 ]
 
 -- what differs by some of the entries differs by all
-pub unlike-more : (one other ones others : List Entry) (old new : List ℕ) → AreIn one ones → AreIn other others → AddsUnlike ones others old new → AreUnlike one other old → AreUnlike one other new
+pub unlike-more : (one other ones others : List ColumnEntry) (old new : List ℕ) → AreIn one ones → AreIn other others → AddsUnlike ones others old new → AreUnlike one other old → AreUnlike one other new
 unlike-more one other ones others old new in_one in_other adds before k h agree = elim (adds k h) [
   | inl b ↦ before k b agree
   | inr n ↦ n (λ e f i j. agree e f (in_one e i) (in_other f j))
@@ -98,14 +98,14 @@ unlike-more one other ones others old new in_one in_other adds before k h agree 
 
 -- Entries that are gathered.
 
-pub entry-in : (column : List Entry) (i : ℕ) (d : Entry) → i < length column → IsIn column (get_or column i d)
+pub entry-in : (column : List ColumnEntry) (i : ℕ) (d : ColumnEntry) → i < length column → IsIn column (get_or column i d)
 entry-in column i d l = (i, slice_get-get_or column i d l)
 
-pub none-in : (column es : List Entry) → es ≡ [] → AreIn column es
-none-in column es is e i = absurd (let h : None ≡ Some e = ap (λ (xs : List Entry). slice_get xs i.0) (sym is) ∙ i.1 in cc)
+pub none-in : (column es : List ColumnEntry) → es ≡ [] → AreIn column es
+none-in column es is e i = absurd (let h : None ≡ Some e = ap (λ (xs : List ColumnEntry). slice_get xs i.0) (sym is) ∙ i.1 in cc)
 
-pub pushed-in : (column old new : List Entry) (e : Entry) → new ≡ old ++ e ∷ [] → IsIn column e → AreIn column old → AreIn column new
-pushed-in column old new e is here so_far f i = elim (slice_get-push old e i.0 f (subst (λ (es : List Entry). slice_get es i.0 ≡ Some f) is i.1)) [
+pub pushed-in : (column old new : List ColumnEntry) (e : ColumnEntry) → new ≡ old ++ e ∷ [] → IsIn column e → AreIn column old → AreIn column new
+pushed-in column old new e is here so_far f i = elim (slice_get-push old e i.0 f (subst (λ (es : List ColumnEntry). slice_get es i.0 ≡ Some f) is i.1)) [
   | inl b ↦ so_far f (i.0, b)
   | inr same ↦ subst (IsIn column) same.1 here
 ]

@@ -4,22 +4,22 @@ use Rattle.indexmap.specs.IndexMap.{get}
 use Rattle.apd_term.specs.Term.{IsAmong}
 use Rattle.apd_index.specs.Chains.{AreFalling, links_from}
 use Rattle.apd_bits.specs.Rows.{HasBits, IsWithin}
-use Rattle.apd_index.specs.declared.nodes.Link.{Link}
-use Rattle.apd_index.specs.declared.nodes.Node.{Node}
+use Rattle.apd_index.specs.declared.nodes.PlaceLink.{PlaceLink}
+use Rattle.apd_index.specs.declared.nodes.SymbolNode.{SymbolNode}
 use Rattle.apd_index.specs.declared.nodes.Nodes.{Nodes}
 use Rattle.apd_index.specs.declared.nodes.Slots.{Slots}
 use Rattle.apd_index.specs.declared.positions.Parent.{Parent}
 
 -- the places of a chain, the last one first
-abbrev pub places : List Link → ℕ → List ℕ
-places links last = map (λ (l : Link). l.place) (links_from links last)
+abbrev pub places : List PlaceLink → ℕ → List ℕ
+places links last = map (λ (l : PlaceLink). l.place) (links_from links last)
 
 -- each link tells of one that was there when it was put
-abbrev pub HasLinks : List Link → Type 0
-HasLinks links = AreFalling (λ (l : Link). l.before) links
+abbrev pub HasLinks : List PlaceLink → Type 0
+HasLinks links = AreFalling (λ (l : PlaceLink). l.before) links
 
 -- the places of a node's chain, where there is a node
-abbrev pub places_of : List Link → Option Node → List ℕ
+abbrev pub places_of : List PlaceLink → Option SymbolNode → List ℕ
 places_of links None = []
 places_of links (Some n) = places links n.last
 
@@ -32,7 +32,7 @@ abbrev pub AreKept : Nodes → Nodes → Type 0
 AreKept old new = (m k : ℕ) → IsAmong (noted_at old m) k → IsAmong (noted_at new m) k
 
 -- the founder of a mark: of the places that are noted for it, the first one
-abbrev pub founder_of : Option Node → Option ℕ
+abbrev pub founder_of : Option SymbolNode → Option ℕ
 founder_of None = None
 founder_of (Some n) = Some n.founder
 
@@ -57,7 +57,7 @@ HaveNumbers slots = slots.first + slots.count ≤ 2 ^ 32 - 1
 abbrev pub IsNumberIn : Slots → ℕ → ℕ → Type 0
 IsNumberIn s left number = (0 < left) × (left ≤ s.count) × (s.first + left ≡ number + 1)
 
-abbrev pub IsNumberOf : Option Node → ℕ → ℕ → Type 0
+abbrev pub IsNumberOf : Option SymbolNode → ℕ → ℕ → Type 0
 IsNumberOf None left number = ⊥
 IsNumberOf (Some n) left number = IsNumberIn n.slots left number
 
@@ -76,7 +76,7 @@ AreSlots nodes mark s = (left c : ℕ) → IsNumberIn s left c → IsNumber node
 -- Chains and rows that get more.
 
 -- what was a chain is the same still
-abbrev pub KeepChains : List Link → List Link → Type 0
+abbrev pub KeepChains : List PlaceLink → List PlaceLink → Type 0
 KeepChains old new = (length old ≤ length new) × ((last : ℕ) → last ≤ length old → links_from new last ≡ links_from old last)
 
 -- each row has the bits that it had
@@ -90,13 +90,13 @@ HasRow rows number ps = (number ≤ length rows) × (0 < number → HasBits (get
 -- What is right of all nodes.
 
 -- the node's chain is there, and the row that it tells has the bits of its places
-pub record IsRight (links : List Link) (rows : List (List ℕ)) (n : Node) : Type 0 where
+pub record IsRight (links : List PlaceLink) (rows : List (List ℕ)) (n : SymbolNode) : Type 0 where
   pub within : n.last ≤ length links
   pub row : HasRow rows n.row (places links n.last)
 
 pub record IsSound (nodes : Nodes) : Type 0 where
   pub falling : HasLinks nodes.links.items
-  pub right : (m : ℕ) (n : Node) → get nat_eq nodes.nodes m ≡ Some n → IsRight nodes.links.items nodes.rows.items n
+  pub right : (m : ℕ) (n : SymbolNode) → get nat_eq nodes.nodes m ≡ Some n → IsRight nodes.links.items nodes.rows.items n
   -- each number is that of one position, and below the next one
   pub below : (p : Parent) (c : ℕ) → IsNumber nodes p c → c < nodes.next
   pub own : (p q : Parent) (c : ℕ) → IsNumber nodes p c → IsNumber nodes q c → p ≡ q

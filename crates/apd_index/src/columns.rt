@@ -12,7 +12,7 @@ use std::alloc::{AllocError, Global};
 /// The place of an atom, and a tag: bits of the digest of what it has at a position, with the place mixed in. Two entries with one tag
 /// are of one place, but by chance. The entry before is counted from 1, and 0 is none.
 #[derive(Clone, Copy)]
-pub(crate) struct Entry {
+pub(crate) struct ColumnEntry {
     pub place: u32,
     pub tag: u32,
     pub before: u32,
@@ -29,7 +29,7 @@ pub(crate) struct Head {
 #[derive(Drop)]
 pub(crate) struct Columns {
     pub heads: Vec<Head>,
-    pub entries: Vec<Entry>,
+    pub entries: Vec<ColumnEntry>,
 }
 
 impl Columns {
@@ -98,7 +98,7 @@ pub(crate) fn put(
     let Some(last) = next_number(columns.entries.len()) else {
         return Ok(false);
     };
-    columns.entries.push(Entry {
+    columns.entries.push(ColumnEntry {
         place,
         tag: tagged(digest, place),
         before: head.last,

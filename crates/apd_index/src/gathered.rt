@@ -5,16 +5,16 @@ ghost use Rattle.std.specs.Prelude.{◌≤◌, length, IfOk, List};
 ghost use Rattle.apd_index.specs.Chains.{entries_from};
 ghost use Rattle.apd_index.specs.Columns.{AreColumns, AreIn, HasEntries, HasGathered, column_at};
 ghost use Rattle.apd_index.specs.declared.columns.Columns.{Columns as Table};
-ghost use Rattle.apd_index.specs.declared.columns.Entry.{Entry as Put};
+ghost use Rattle.apd_index.specs.declared.columns.ColumnEntry.{ColumnEntry as Put};
 
-use crate::columns::{Columns, Entry};
+use crate::columns::{ColumnEntry, Columns};
 use indexmap::IndexMap;
 use std::alloc::{AllocError, Global};
 
 /// The entries of a column in the order in which they were put, as far as they were gathered: up to this one.
 #[derive(Drop)]
 pub(crate) struct Gathered {
-    pub entries: Vec<Entry>,
+    pub entries: Vec<ColumnEntry>,
     pub upto: u32,
 }
 
@@ -22,7 +22,12 @@ pub(crate) struct Gathered {
 pub(crate) type Gatherings = IndexMap<usize, Gathered>;
 
 /// The entries of a chain from one down to another, the last one first.
-fn newer(alloc: Global, entries: &[Entry], from: u32, upto: u32) -> Result<Vec<Entry>, AllocError>
+fn newer(
+    alloc: Global,
+    entries: &[ColumnEntry],
+    from: u32,
+    upto: u32,
+) -> Result<Vec<ColumnEntry>, AllocError>
     requires falling { HasEntries entries.now }
     requires within { from ≤ length entries.now }
     ensures { IfOk result (λ newer. AreIn (entries_from entries.now from) newer.items) }
@@ -38,7 +43,7 @@ fn newer(alloc: Global, entries: &[Entry], from: u32, upto: u32) -> Result<Vec<E
 }
 
 /// Puts entries behind others, the last one first.
-fn put_back(entries: &mut Vec<Entry>, newer: &[Entry]) -> Result<(), AllocError>
+fn put_back(entries: &mut Vec<ColumnEntry>, newer: &[ColumnEntry]) -> Result<(), AllocError>
     ensures { (column : List Put) → AreIn column entries.old.items → AreIn column newer.now
         → AreIn column entries.new.items }
 {
@@ -49,7 +54,7 @@ fn put_back(entries: &mut Vec<Entry>, newer: &[Entry]) -> Result<(), AllocError>
 }
 
 /// Brings what is gathered of a column up to date.
-fn go_on(
+fn gather_newer(
     alloc: Global,
     columns: &Columns,
     number: usize,
@@ -81,11 +86,11 @@ pub(crate) fn gather(
         entries: Vec::new(alloc),
         upto: 0,
     });
-    go_on(alloc, columns, number, gathered)
+    gather_newer(alloc, columns, number, gathered)
 }
 
 /// What is gathered of a column.
-pub(crate) fn entries_of(gatherings: &Gatherings, number: usize) -> &[Entry]
+pub(crate) fn entries_of(gatherings: &Gatherings, number: usize) -> &[ColumnEntry]
     ensures { (columns : Table) → HasGathered columns gatherings.now
         → AreIn (column_at columns number) result.now }
 {

@@ -24,7 +24,7 @@ pub(crate) struct Slots {
 /// The places that are noted for a symbol at a position: the last link of their chain, how many they are, their row, and the first one, the
 /// founder; and the columns of the symbol's arguments. Links and rows are counted from 1, and 0 is none.
 #[derive(Clone, Copy)]
-pub(crate) struct Node {
+pub(crate) struct SymbolNode {
     pub last: u32,
     pub count: u32,
     pub row: u32,
@@ -34,14 +34,14 @@ pub(crate) struct Node {
 
 /// What is told of a symbol that was noted: the columns of its arguments, and whether the place is its founder.
 #[derive(Clone, Copy)]
-pub(crate) struct Noted {
+pub(crate) struct NotedSymbol {
     pub slots: Slots,
     pub is_founder: bool,
 }
 
 /// A place, and the link before it.
 #[derive(Clone, Copy)]
-pub(crate) struct Link {
+pub(crate) struct PlaceLink {
     pub place: u32,
     pub before: u32,
 }
@@ -49,8 +49,8 @@ pub(crate) struct Link {
 /// Nodes by marks of symbols, with their chains and rows, and the first number that no column has.
 #[derive(Drop)]
 pub(crate) struct Nodes {
-    pub nodes: IndexMap<u64, Node>,
-    pub links: Vec<Link>,
+    pub nodes: IndexMap<u64, SymbolNode>,
+    pub links: Vec<PlaceLink>,
     pub rows: Vec<Row>,
     pub next: u32,
 }
@@ -103,7 +103,7 @@ fn behind(next: u32, slots: Slots) -> u32
 }
 
 /// Sets the bits of a chain.
-fn set_chain(row: &mut Row, links: &[Link], last: u32) -> Result<(), AllocError>
+fn set_chain(row: &mut Row, links: &[PlaceLink], last: u32) -> Result<(), AllocError>
     requires falling { HasLinks links.now }
     requires within { last ≤ length links.now }
     ensures kept { IsWithin row.old row.new }
@@ -119,7 +119,7 @@ fn set_chain(row: &mut Row, links: &[Link], last: u32) -> Result<(), AllocError>
 }
 
 /// A row with the bits of a chain.
-pub(crate) fn row_of_chain(alloc: Global, links: &[Link], last: u32) -> Result<Row, AllocError>
+pub(crate) fn row_of_chain(alloc: Global, links: &[PlaceLink], last: u32) -> Result<Row, AllocError>
     requires falling { HasLinks links.now }
     requires within { last ≤ length links.now }
     ensures { IfOk result (λ row. HasBits row (places links.now last)) }
@@ -133,8 +133,8 @@ pub(crate) fn row_of_chain(alloc: Global, links: &[Link], last: u32) -> Result<R
 fn row_with(
     alloc: Global,
     rows: &mut Vec<Row>,
-    links: &[Link],
-    node: Node,
+    links: &[PlaceLink],
+    node: SymbolNode,
     place: u32,
 ) -> Result<u32, AllocError>
     requires falling { HasLinks links.now }
@@ -162,9 +162,9 @@ fn row_with(
 /// Puts a place at the end of a node's chain, and its bit into the node's row. Where there is no number for a link, there is no room.
 fn put_place(
     alloc: Global,
-    links: &mut Vec<Link>,
+    links: &mut Vec<PlaceLink>,
     rows: &mut Vec<Row>,
-    node: &mut Node,
+    node: &mut SymbolNode,
     place: u32,
 ) -> Result<(), AllocError>
     requires falling { HasLinks links.old.items }
@@ -183,7 +183,7 @@ fn put_place(
         return Err(AllocError);
     };
     let row = row_with(alloc, rows, links.as_slice(), *node, place)?;
-    links.push(Link {
+    links.push(PlaceLink {
         place,
         before: node.last,
     })?;
@@ -200,7 +200,7 @@ pub(crate) fn note(
     mark: u64,
     count: u8,
     place: u32,
-) -> Result<Noted, AllocError>
+) -> Result<NotedSymbol, AllocError>
     requires { IsSound nodes.old }
     ensures sound { IsSound nodes.new }
     ensures kept { AreKept nodes.old nodes.new }
@@ -212,7 +212,7 @@ pub(crate) fn note(
     ensures first { founder_at nodes.old mark ≡ None
         → OnOk result (IsFounder nodes.new mark place) }
 {
-    let node = nodes.nodes.entry(mark)?.or_insert(Node {
+    let node = nodes.nodes.entry(mark)?.or_insert(SymbolNode {
         last: 0,
         count: 0,
         row: 0,
@@ -221,7 +221,7 @@ pub(crate) fn note(
     });
     nodes.next = behind(nodes.next, node.slots);
     put_place(alloc, &mut nodes.links, &mut nodes.rows, node, place)?;
-    Ok(Noted {
+    Ok(NotedSymbol {
         slots: node.slots,
         is_founder: node.founder == place,
     })

@@ -46,7 +46,7 @@ fn wait(parents: &mut Vec<Parent>, mark: u64, left: u64) -> Result<(), AllocErro
 }
 
 /// Puts the parents that are left after a symbol was read as the next one of a parent.
-fn go_on(parents: &mut Vec<Parent>, parent: Parent, symbol: Sym) -> Result<(), AllocError>
+fn put_parents(parents: &mut Vec<Parent>, parent: Parent, symbol: Sym) -> Result<(), AllocError>
     ensures { OnOk result (parents.new.items ≡ onward parent symbol parents.old.items) }
 {
     wait(parents, parent.mark, parent.left.saturating_sub(1))?;
@@ -71,7 +71,7 @@ pub(crate) fn positions_of(alloc: Global, term: &Flat) -> Result<Vec<Parent>, Al
             return Ok(positions);
         };
         positions.push(parent)?;
-        go_on(&mut parents, parent, *symbol)?;
+        put_parents(&mut parents, parent, *symbol)?;
     }
     Ok(positions)
 }

@@ -5,7 +5,7 @@ ghost use Rattle.apd_index.specs.Chains.{entries_from};
 ghost use Rattle.apd_index.specs.Columns.{Agree, AreColumns, AreRepeats, HasEntries, HasUnlikes, IsAlike, PutsFirst, PutsRepeat, column_at};
 ghost use Rattle.apd_bits.specs.Rows.{HasBit};
 
-use crate::columns::{Columns, Entry};
+use crate::columns::{ColumnEntry, Columns};
 use crate::nodes::{Nodes, number_at};
 use crate::positions::positions_of;
 use crate::unlike::{Repeat, Unlikes, is_of, keep, key_of};
@@ -78,7 +78,7 @@ pub(crate) fn prepare(
 
 /// Clears the bits of places for which two columns have different tags. Their places fall, so they are walked at once; entries
 /// with one tag are passed without a look at their places.
-fn strike(row: &mut Row, entries: &[Entry], one: u32, other: u32)
+fn strike(row: &mut Row, entries: &[ColumnEntry], one: u32, other: u32)
     requires falling { HasEntries entries.now }
     requires one { one ≤ length entries.now }
     requires other { other ≤ length entries.now }

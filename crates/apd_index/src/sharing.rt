@@ -6,7 +6,7 @@ ghost use Rattle.apd_term.specs.Term.{IsAmong};
 ghost use Rattle.apd_marks.specs.Positions.{any_term};
 ghost use Rattle.apd_index.specs.Nodes.{IsFounder, IsSound, noted_at};
 ghost use Rattle.apd_index.specs.Spots.{AreSpots, Leaves, IsSpot, StandsIn};
-ghost use Rattle.apd_index.specs.declared.sharing.Spot.{Spot as SpotValue};
+ghost use Rattle.apd_index.specs.declared.sharing.SymbolSpot.{SymbolSpot as SpotValue};
 ghost use Rattle.apd_bits.specs.Rows.{HasBit};
 
 use crate::nodes::{Nodes, bits_of, count_at, founder_at, row_at};
@@ -18,13 +18,13 @@ use std::alloc::{AllocError, Global};
 
 /// A symbol of an atom: its mark, and that of the symbol above it.
 #[derive(Clone, Copy)]
-pub(crate) struct Spot {
+pub(crate) struct SymbolSpot {
     pub parent: u64,
     pub mark: u64,
 }
 
 /// The spots of the atom's symbols, but for variables. The contract says that they are spots of it, and leaves open which.
-fn spots_of(alloc: Global, atom: &Flat) -> Result<Vec<Spot>, AllocError>
+fn spots_of(alloc: Global, atom: &Flat) -> Result<Vec<SymbolSpot>, AllocError>
     ensures { IfOk result (λ spots. AreSpots atom.now spots.items) }
 {
     let positions = positions_of(alloc, atom)?;
@@ -35,7 +35,7 @@ fn spots_of(alloc: Global, atom: &Flat) -> Result<Vec<Spot>, AllocError>
         let Some(mark) = mark_of(position, symbols[i]) else {
             continue;
         };
-        spots.push(Spot {
+        spots.push(SymbolSpot {
             parent: position.mark,
             mark,
         })?;
@@ -44,7 +44,7 @@ fn spots_of(alloc: Global, atom: &Flat) -> Result<Vec<Spot>, AllocError>
 }
 
 /// The spot for whose mark the fewest places are noted; none where each has more than there are. The contract says that it is one of these.
-fn rarest(nodes: &Nodes, spots: &[Spot]) -> Option<Spot>
+fn rarest(nodes: &Nodes, spots: &[SymbolSpot]) -> Option<SymbolSpot>
     ensures { IfSome result (StandsIn spots.now) }
 {
     let mut rarest = None;
@@ -60,7 +60,7 @@ fn rarest(nodes: &Nodes, spots: &[Spot]) -> Option<Spot>
 }
 
 /// A row with the bits of the places that a spot leaves; without a spot, of all that are noted.
-fn begin(alloc: Global, nodes: &Nodes, spot: Option<Spot>) -> Result<Row, AllocError>
+fn first_row(alloc: Global, nodes: &Nodes, spot: Option<SymbolSpot>) -> Result<Row, AllocError>
     requires { IsSound nodes.now }
     ensures { IfOk result (λ row. (k : ℕ) → IsAmong (noted_at nodes.now any_term) k
         → IfSome spot (Leaves nodes.now k) → HasBit row k) }
@@ -76,7 +76,7 @@ fn begin(alloc: Global, nodes: &Nodes, spot: Option<Spot>) -> Result<Row, AllocE
 }
 
 /// The founder of the symbol above a spot, where the row has its bit.
-fn kept_founder(nodes: &Nodes, spot: Spot, row: &Row) -> Option<usize>
+fn kept_founder(nodes: &Nodes, spot: SymbolSpot, row: &Row) -> Option<usize>
     ensures kept { (k : ℕ) → IsFounder nodes.now spot.parent k → HasBit row.now k
         → result ≡ Some k }
     ensures there { IfSome result (HasBit row.now) }
@@ -88,7 +88,7 @@ fn kept_founder(nodes: &Nodes, spot: Spot, row: &Row) -> Option<usize>
 }
 
 /// Leaves those bits that a spot leaves, where its mark has a row.
-fn meet(nodes: &Nodes, spot: Spot, row: &mut Row) -> Result<(), AllocError>
+fn strike_out(nodes: &Nodes, spot: SymbolSpot, row: &mut Row) -> Result<(), AllocError>
     requires { IsSound nodes.now }
     ensures { OnOk result ((k : ℕ) → HasBit row.old k → Leaves nodes.now k spot
         → HasBit row.new k) }
@@ -111,9 +111,9 @@ pub(crate) fn alike(alloc: Global, nodes: &Nodes, atom: &Flat) -> Result<Row, Al
         → ((s : SpotValue) → IsSpot atom.now s → Leaves nodes.now k s) → HasBit row k) }
 {
     let spots = spots_of(alloc, atom)?;
-    let mut row = begin(alloc, nodes, rarest(nodes, spots.as_slice()))?;
+    let mut row = first_row(alloc, nodes, rarest(nodes, spots.as_slice()))?;
     'spots: for spot in spots.as_slice() {
-        meet(nodes, *spot, &mut row)?;
+        strike_out(nodes, *spot, &mut row)?;
     }
     Ok(row)
 }

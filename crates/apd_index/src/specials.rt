@@ -6,7 +6,7 @@ ghost use Rattle.apd_marks.specs.Positions.{any_term};
 ghost use Rattle.apd_index.specs.Columns.{HasColumns, HasUnlikes, IsAlike};
 ghost use Rattle.apd_index.specs.Nodes.{noted_at};
 ghost use Rattle.apd_index.specs.Spots.{Leaves, IsSpot};
-ghost use Rattle.apd_index.specs.declared.sharing.Spot.{Spot};
+ghost use Rattle.apd_index.specs.declared.sharing.SymbolSpot.{SymbolSpot};
 ghost use Rattle.apd_index.specs.Retrieval.{AreSpecials, AreWholes, NoneLeft, SomeLeft, has_special, is_below, is_left_below};
 ghost use Rattle.apd_bits.specs.Rows.{HasBit};
 ghost use Rattle.apd_index.specs.Table.{Grows, IsSound};
@@ -67,7 +67,7 @@ fn likely(alloc: Global, table: &Table, unlikes: &Unlikes, atom: &Flat) -> Resul
     requires sound { IsSound table.now }
     requires unlikes { HasUnlikes table.now.columns unlikes.now }
     ensures { IfOk result (λ row. (k : ℕ) → IsAmong (noted_at table.now.nodes any_term) k
-        → ((s : Spot) → IsSpot atom.now s → Leaves table.now.nodes k s)
+        → ((s : SymbolSpot) → IsSpot atom.now s → Leaves table.now.nodes k s)
         → IsAlike table.now.nodes table.now.columns atom.now k → HasBit row k) }
 {
     let mut row = alike(alloc, &table.nodes, atom)?;

@@ -5,7 +5,7 @@ ghost use Rattle.std.specs.Prelude.{◌≡◌, IsTrue};
 ghost use Rattle.apd_index.specs.Columns.{AddsUnlike, AreColumns, HasGathered, HasPairs, HasUnlikes, IsUnlike};
 ghost use Rattle.apd_index.specs.declared.columns.Columns.{Columns as Table};
 
-use crate::columns::{Columns, Entry};
+use crate::columns::{ColumnEntry, Columns};
 use crate::gathered::{Gatherings, entries_of, gather};
 use apd_bits::Row;
 use apd_marks::mixed;
@@ -93,7 +93,12 @@ fn is_kept(pairs: &Pairs, repeat: Repeat) -> bool {
 
 /// Walks two columns on, and sets the bits of places for which they have different tags. Their places rise, so they are walked at
 /// once; entries with one tag are passed without a look at their places.
-fn walk(row: &mut Row, ones: &[Entry], others: &[Entry], from: Walked) -> Result<Walked, AllocError>
+fn walk(
+    row: &mut Row,
+    ones: &[ColumnEntry],
+    others: &[ColumnEntry],
+    from: Walked,
+) -> Result<Walked, AllocError>
     ensures { AddsUnlike ones.now others.now row.old row.new }
 {
     let mut i = from.ones;
@@ -118,7 +123,7 @@ fn walk(row: &mut Row, ones: &[Entry], others: &[Entry], from: Walked) -> Result
 }
 
 /// Brings what is kept of a pair up to date.
-fn go_on(gatherings: &Gatherings, unlike: &mut Unlike) -> Result<(), AllocError>
+fn bring_pair(gatherings: &Gatherings, unlike: &mut Unlike) -> Result<(), AllocError>
     ensures { (columns : Table) → HasGathered columns gatherings.now
         → IsUnlike columns unlike.old → IsUnlike columns unlike.new }
 {
@@ -135,13 +140,13 @@ fn bring(gatherings: &Gatherings, pairs: &mut Pairs, key: u64) -> Result<(), All
         → HasPairs columns pairs.old → HasPairs columns pairs.new }
 {
     match pairs.get_mut(&key) {
-        Some(unlike) => go_on(gatherings, unlike),
+        Some(unlike) => bring_pair(gatherings, unlike),
         None => Ok(()),
     }
 }
 
 /// Keeps the pair, of which nothing may be known yet.
-fn begin(alloc: Global, pairs: &mut Pairs, repeat: Repeat) -> Result<(), AllocError>
+fn open_pair(alloc: Global, pairs: &mut Pairs, repeat: Repeat) -> Result<(), AllocError>
     ensures { (columns : Table) → HasPairs columns pairs.old → HasPairs columns pairs.new }
 {
     if is_kept(pairs, repeat) {
@@ -164,6 +169,6 @@ pub(crate) fn keep(
 {
     gather(alloc, columns, &mut unlikes.gatherings, repeat.one)?;
     gather(alloc, columns, &mut unlikes.gatherings, repeat.other)?;
-    begin(alloc, &mut unlikes.pairs, repeat)?;
+    open_pair(alloc, &mut unlikes.pairs, repeat)?;
     bring(&unlikes.gatherings, &mut unlikes.pairs, key_of(repeat))
 }

@@ -145,7 +145,7 @@ fn note_constant(
 }
 
 /// Notes a symbol that is read as the next one of a parent, and puts what is left to be read.
-fn go_on(
+fn note_next(
     alloc: Global,
     nodes: &mut Nodes,
     open: &mut Vec<Open>,
@@ -205,7 +205,7 @@ fn note_symbols(
             return Ok(is_right);
         };
         is_right = put_next(&mut table.columns, is_right, parent, digests[i], place)?;
-        go_on(
+        note_next(
             alloc,
             &mut table.nodes,
             &mut open,

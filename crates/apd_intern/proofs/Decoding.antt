@@ -9,9 +9,9 @@ use Rattle.apd_term.specs.Term.{Term, variable, terms_of, list_of, arity_of}
 use Rattle.apd_term.specs.declared.term.Sym.{Sym}
 use Rattle.apd_term.specs.declared.term.Sym.TheVariants.{Var, Int, Fun}
 use Rattle.apd_term.proofs.Spelling.{list_of-terms_of}
-use Rattle.apd_intern.specs.declared.node.Node.{Node}
-use Rattle.apd_intern.specs.declared.node.Node.TheVariants.{Variable}
-use Rattle.apd_intern.specs.declared.node.Link.{Link}
+use Rattle.apd_intern.specs.declared.node.TermNode.{TermNode}
+use Rattle.apd_intern.specs.declared.node.TermNode.TheVariants.{Variable}
+use Rattle.apd_intern.specs.declared.node.ArgumentsLink.{ArgumentsLink}
 use Rattle.apd_intern.specs.Nodes.{AreDistinct, Adds, IsFrontOf, made, term_at, symbol_of, arguments_of, IsNode, term_of_node, decoded_on, decoded, AreNodes, IsTable}
 use Rattle.apd_intern.proofs.Lists.{distinct_push, distinct_at}
 use Rattle.apd_intern.proofs.Linked.{node_kept, node_injective, length-arguments_of}
@@ -24,43 +24,43 @@ map_front terms more m (p ∷ ps) l h =
     let e : term_at (terms ++ more) p ≡ term_at terms p = get_or_append_left terms more (variable 0) p (omega (arith, there, l)) in
     rw e (ap (λ ts. term_at terms p ∷ ts) (map_front terms more m ps l (All-tail (λ p. p < m) p ps h)))
 
-term_front : (links : List Link) (terms more : List Term) (m : ℕ) (node : Node) → m ≤ length terms → IsNode links m node → term_of_node links (terms ++ more) node ≡ term_of_node links terms node
+term_front : (links : List ArgumentsLink) (terms more : List Term) (m : ℕ) (node : TermNode) → m ≤ length terms → IsNode links m node → term_of_node links (terms ++ more) node ≡ term_of_node links terms node
 term_front links terms more m node l h = ap (made (symbol_of node)) (map_front terms more m (arguments_of links node) l h.1)
 
-decoded_front : (links : List Link) (terms : List Term) (nodes : List Node) → IsFrontOf terms (decoded_on links terms nodes)
+decoded_front : (links : List ArgumentsLink) (terms : List Term) (nodes : List TermNode) → IsFrontOf terms (decoded_on links terms nodes)
 decoded_front links terms [] = ([], append-nil terms)
 decoded_front links terms (node ∷ nodes) =
     let t : Term = term_of_node links terms node in
     let r = decoded_front links (terms ++ t ∷ []) nodes in
     (t ∷ r.0, sym (append_assoc terms (t ∷ []) r.0) ∙ r.1)
 
-pub decoded_push : (links : List Link) (terms : List Term) (nodes : List Node) (node : Node)
+pub decoded_push : (links : List ArgumentsLink) (terms : List Term) (nodes : List TermNode) (node : TermNode)
     → decoded_on links terms (nodes ++ node ∷ []) ≡ decoded_on links terms nodes ++ term_of_node links (decoded_on links terms nodes) node ∷ []
 decoded_push links terms [] node = refl
 decoded_push links terms (n ∷ nodes) node = decoded_push links (terms ++ term_of_node links terms n ∷ []) nodes node
 
-length-decoded_on : (links : List Link) (terms : List Term) (nodes : List Node) → length (decoded_on links terms nodes) ≡ length terms + length nodes
+length-decoded_on : (links : List ArgumentsLink) (terms : List Term) (nodes : List TermNode) → length (decoded_on links terms nodes) ≡ length terms + length nodes
 length-decoded_on links terms [] = omega arith
 length-decoded_on links terms (n ∷ nodes) =
     let t : Term = term_of_node links terms n in
     omega (arith, length-decoded_on links (terms ++ t ∷ []) nodes, length_push terms t)
 
-pub length-decoded : (links : List Link) (nodes : List Node) → length (decoded links nodes) ≡ length nodes
+pub length-decoded : (links : List ArgumentsLink) (nodes : List TermNode) → length (decoded links nodes) ≡ length nodes
 length-decoded links nodes = omega (arith, length-decoded_on links [] nodes)
 
-nodes_push : (links : List Link) (m : ℕ) (nodes : List Node) (node : Node) → AreNodes links m nodes → IsNode links (m + length nodes) node → AreNodes links m (nodes ++ node ∷ [])
+nodes_push : (links : List ArgumentsLink) (m : ℕ) (nodes : List TermNode) (node : TermNode) → AreNodes links m nodes → IsNode links (m + length nodes) node → AreNodes links m (nodes ++ node ∷ [])
 nodes_push links m [] node h k = (subst (λ i. IsNode links i node) (omega arith) k, tt)
 nodes_push links m (n ∷ nodes) node h k =
     let e : m + suc (length nodes) ≡ (m + 1) + length nodes = omega arith in
     (h.0, nodes_push links (m + 1) nodes node h.1 (subst (λ i. IsNode links i node) e k))
 
-nodes_kept : (links more : List Link) (m : ℕ) (nodes : List Node) → AreNodes links m nodes → AreNodes (links ++ more) m nodes
+nodes_kept : (links more : List ArgumentsLink) (m : ℕ) (nodes : List TermNode) → AreNodes links m nodes → AreNodes (links ++ more) m nodes
 nodes_kept links more m [] h = tt
 nodes_kept links more m (n ∷ nodes) h =
     let k = node_kept links more n h.0.0 in
     ((k.0, subst (All (λ p. p < m)) (sym k.1) h.0.1), nodes_kept links more (m + 1) nodes h.1)
 
-decoded_kept : (links more : List Link) (terms : List Term) (m : ℕ) (nodes : List Node) → AreNodes links m nodes → decoded_on (links ++ more) terms nodes ≡ decoded_on links terms nodes
+decoded_kept : (links more : List ArgumentsLink) (terms : List Term) (m : ℕ) (nodes : List TermNode) → AreNodes links m nodes → decoded_on (links ++ more) terms nodes ≡ decoded_on links terms nodes
 decoded_kept links more terms m [] h = refl
 decoded_kept links more terms m (n ∷ nodes) h =
     let k = node_kept links more n h.0.0 in
@@ -68,7 +68,7 @@ decoded_kept links more terms m (n ∷ nodes) h =
     ∙ decoded_kept links more (terms ++ term_of_node links terms n ∷ []) (m + 1) nodes h.1
 
 -- the node at a place, and its term there
-node_there : (links : List Link) (terms : List Term) (nodes : List Node) (m i k : ℕ) (node : Node)
+node_there : (links : List ArgumentsLink) (terms : List Term) (nodes : List TermNode) (m i k : ℕ) (node : TermNode)
     → m ≡ length terms → k ≡ m + i → AreNodes links m nodes → slice_get nodes i ≡ Some node
     → IsNode links k node × (slice_get (decoded_on links terms nodes) k ≡ Some (term_of_node links (decoded_on links terms nodes) node))
 node_there links terms [] m i k node e f h at = cc
@@ -87,7 +87,7 @@ node_there links terms (n ∷ nodes) m (suc i) k node e f h at =
     let t : Term = term_of_node links terms n in
     node_there links (terms ++ t ∷ []) nodes (m + 1) i k node (omega (arith, e, length_push terms t)) (omega (arith, f)) h.1 at
 
-pub node_at : (links : List Link) (nodes : List Node) (k : ℕ) (node : Node) → AreNodes links 0 nodes → slice_get nodes k ≡ Some node
+pub node_at : (links : List ArgumentsLink) (nodes : List TermNode) (k : ℕ) (node : TermNode) → AreNodes links 0 nodes → slice_get nodes k ≡ Some node
     → IsNode links k node × (slice_get (decoded links nodes) k ≡ Some (term_of_node links (decoded links nodes) node))
 node_at links nodes k node h at = node_there links [] nodes 0 k k node refl (omega arith) h at
 
@@ -124,13 +124,13 @@ all_below : (m n : ℕ) (ps : List ℕ) → m ≤ n → All (λ p. p < m) ps →
 all_below m n ps l h = All-weaker (λ p. p < m) (λ p. p < n) (λ p k. omega (arith, l, k)) ps h
 
 -- the term of a node that isn't there isn't there
-new_term : (links : List Link) (nodes : List Node) (node : Node) → IsTable links nodes → IsNode links (length nodes) node
+new_term : (links : List ArgumentsLink) (nodes : List TermNode) (node : TermNode) → IsTable links nodes → IsNode links (length nodes) node
     → ((k : ℕ) → slice_get nodes k ≢ Some node) → (k : ℕ) → slice_get (decoded links nodes) k ≢ Some (term_of_node links (decoded links nodes) node)
 new_term links nodes node h own absent k at =
     let terms : List Term = decoded links nodes in
     let n : length terms ≡ length nodes = length-decoded links nodes in
     let below : k < length nodes = omega (arith, n, slice_get_within terms k (term_of_node links terms node) at) in
-    let other : Node = get_or nodes k (Variable 0) in
+    let other : TermNode = get_or nodes k (Variable 0) in
     let other-at : slice_get nodes k ≡ Some other = slice_get-get_or nodes k (Variable 0) below in
     let there = node_at links nodes k other h.ordered other-at in
     let some : Some (term_of_node links terms other) ≡ Some (term_of_node links terms node) = sym there.1 ∙ at in
@@ -144,7 +144,7 @@ new_term links nodes node h own absent k at =
     absent k (other-at ∙ ap Some same)
 
 -- a table with one more node
-pub table_push : (links : List Link) (nodes : List Node) (node : Node) (nodes' : List Node) → IsTable links nodes → IsNode links (length nodes) node
+pub table_push : (links : List ArgumentsLink) (nodes : List TermNode) (node : TermNode) (nodes' : List TermNode) → IsTable links nodes → IsNode links (length nodes) node
     → Adds nodes node nodes' → length nodes' < 2 ^ 32
     → IsTable links nodes' × Adds (decoded links nodes) (term_of_node links (decoded links nodes) node) (decoded links nodes')
 table_push links nodes node nodes' h own a few =
@@ -166,7 +166,7 @@ table_push links nodes node nodes' h own a few =
     ]
 
 -- and with more links
-pub table_kept : (links links' : List Link) (nodes : List Node) → IsTable links nodes → IsFrontOf links links' → (AreDistinct links → AreDistinct links')
+pub table_kept : (links links' : List ArgumentsLink) (nodes : List TermNode) → IsTable links nodes → IsFrontOf links links' → (AreDistinct links → AreDistinct links')
     → IsTable links' nodes × (decoded links' nodes ≡ decoded links nodes)
 table_kept links links' nodes h front distinct =
     let is : decoded links' nodes ≡ decoded links nodes = subst (λ ls. decoded ls nodes ≡ decoded links nodes) front.1 (decoded_kept links front.0 [] 0 nodes h.ordered) in (

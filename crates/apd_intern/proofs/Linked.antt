@@ -6,16 +6,16 @@ use Rattle.std.proofs.lemmas.Bool.Decides.{Decides-eqb, Decides-int_eq, nat_test
 use Rattle.std.proofs.lemmas.Option.{slice_get_within, get_or_from_slice_get}
 use Rattle.std.proofs.lemmas.List.{get_or_append_left, take_more, reverse-append, take_at, drop_at, length-reverse, take_all, take-append-drop, length-drop, length-take, get_or-drop}
 use Rattle.apd_term.specs.Term.{arity_of}
-use Rattle.apd_intern.specs.declared.node.Node.{Node}
-use Rattle.apd_intern.specs.declared.node.Node.TheVariants.{Variable, Integer, Compound}
-use Rattle.apd_intern.specs.declared.node.Link.{Link}
-use Rattle.apd_intern.specs.contracts.node.NodePartialEq.TheImpl as node_impl
-use Rattle.apd_intern.specs.contracts.node.LinkPartialEq.TheImpl as link_impl
+use Rattle.apd_intern.specs.declared.node.TermNode.{TermNode}
+use Rattle.apd_intern.specs.declared.node.TermNode.TheVariants.{Variable, Integer, Compound}
+use Rattle.apd_intern.specs.declared.node.ArgumentsLink.{ArgumentsLink}
+use Rattle.apd_intern.specs.contracts.node.TermNodePartialEq.TheImpl as node_impl
+use Rattle.apd_intern.specs.contracts.node.ArgumentsLinkPartialEq.TheImpl as link_impl
 use Rattle.apd_intern.specs.Nodes.{AreDistinct, IsFrontOf, Adds, no_link, link_at, rest_at, IsRest, all_at, AreAll, arguments_of, IsLinked, symbol_of}
 use Rattle.apd_intern.proofs.Lists.{distinct_at, adds_front}
 
 -- the program's `==` on nodes and on links
-pub node_eq : (a b : Node) → Decides (node_impl.eq-value.it a b) (a ≡ b)
+pub node_eq : (a b : TermNode) → Decides (node_impl.eq-value.it a b) (a ≡ b)
 node_eq (Variable v) (Variable w) = let d = Decides-eqb v w in (λ e. ap Variable (d.0 e), λ e. d.1 (cc))
 node_eq (Integer v) (Integer w) = let d = Decides-int_eq v w in (λ e. ap Integer (d.0 e), λ e. d.1 (cc))
 node_eq (Compound f n x r) (Compound g m y s) =
@@ -26,7 +26,7 @@ node_eq (Compound f n x r) (Compound g m y s) =
     grind (arith, nat_tests)
 node_eq _ _ = (λ e. (cc), λ e. (cc))
 
-pub link_eq : (a b : Link) → Decides (link_impl.eq-value.it a b) (a ≡ b)
+pub link_eq : (a b : ArgumentsLink) → Decides (link_impl.eq-value.it a b) (a ≡ b)
 link_eq a b =
     let d = Decides-eqb a.first b.first in
     let k = Decides-eqb a.rest b.rest in
@@ -34,17 +34,17 @@ link_eq a b =
 
 -- Links with more behind them.
 
-pub rest_kept : (links more : List Link) (n r : ℕ) → IsRest links n r → IsRest (links ++ more) n r × (rest_at (links ++ more) n r ≡ rest_at links n r)
+pub rest_kept : (links more : List ArgumentsLink) (n r : ℕ) → IsRest links n r → IsRest (links ++ more) n r × (rest_at (links ++ more) n r ≡ rest_at links n r)
 rest_kept links more zero r h = (h, refl)
 rest_kept links more (suc zero) r h = (tt, refl)
 rest_kept links more (suc (suc n)) r h =
     let e : link_at (links ++ more) r ≡ link_at links r = get_or_append_left links more no_link r h.0 in
     let k = rest_kept links more (suc n) (link_at links r).rest h.1 in (
-      (omega (arith, h.0, length-append links more), subst (λ (l : Link). IsRest (links ++ more) (suc n) l.rest) (sym e) k.0),
-      ap (λ (l : Link). l.first ∷ rest_at (links ++ more) (suc n) l.rest) e ∙ ap (λ ps. (link_at links r).first ∷ ps) k.1,
+      (omega (arith, h.0, length-append links more), subst (λ (l : ArgumentsLink). IsRest (links ++ more) (suc n) l.rest) (sym e) k.0),
+      ap (λ (l : ArgumentsLink). l.first ∷ rest_at (links ++ more) (suc n) l.rest) e ∙ ap (λ ps. (link_at links r).first ∷ ps) k.1,
     )
 
-pub node_kept : (links more : List Link) (node : Node) → IsLinked links node → IsLinked (links ++ more) node × (arguments_of (links ++ more) node ≡ arguments_of links node)
+pub node_kept : (links more : List ArgumentsLink) (node : TermNode) → IsLinked links node → IsLinked (links ++ more) node × (arguments_of (links ++ more) node ≡ arguments_of links node)
 node_kept links more (Variable v) h = (tt, refl)
 node_kept links more (Integer i) h = (tt, refl)
 node_kept links more (Compound f zero x r) h = (h, refl)
@@ -53,21 +53,21 @@ node_kept links more (Compound f (suc n) x r) h =
 
 -- Nodes are told by their symbols and arguments.
 
-pub length-rest_at : (links : List Link) (n r : ℕ) → length (rest_at links n r) ≡ n
+pub length-rest_at : (links : List ArgumentsLink) (n r : ℕ) → length (rest_at links n r) ≡ n
 length-rest_at links zero r = refl
 length-rest_at links (suc zero) r = refl
 length-rest_at links (suc (suc n)) r = ap suc (length-rest_at links (suc n) (link_at links r).rest)
 
-pub length-arguments_of : (links : List Link) (node : Node) → length (arguments_of links node) ≡ arity_of (symbol_of node)
+pub length-arguments_of : (links : List ArgumentsLink) (node : TermNode) → length (arguments_of links node) ≡ arity_of (symbol_of node)
 length-arguments_of links (Variable v) = refl
 length-arguments_of links (Integer i) = refl
 length-arguments_of links (Compound f zero x r) = refl
 length-arguments_of links (Compound f (suc n) x r) = ap suc (length-rest_at links n r)
 
-same_link : (a b : Link) → a.first ≡ b.first → a.rest ≡ b.rest → a ≡ b
+same_link : (a b : ArgumentsLink) → a.first ≡ b.first → a.rest ≡ b.rest → a ≡ b
 same_link a b e f = ap (λ p. record { first = p; rest = a.rest }) e ∙ ap (λ r. record { first = b.first; rest = r }) f
 
-rest_injective : (links : List Link) → AreDistinct links → (n r s : ℕ) → IsRest links n r → IsRest links n s → rest_at links n r ≡ rest_at links n s → r ≡ s
+rest_injective : (links : List ArgumentsLink) → AreDistinct links → (n r s : ℕ) → IsRest links n r → IsRest links n s → rest_at links n r ≡ rest_at links n s → r ≡ s
 rest_injective links d zero r s h k e = h ∙ sym k
 rest_injective links d (suc zero) r s h k e = cc
 rest_injective links d (suc (suc n)) r s h k e =
@@ -76,7 +76,7 @@ rest_injective links d (suc (suc n)) r s h k e =
     let later : (link_at links r).rest ≡ (link_at links s).rest = rest_injective links d (suc n) (link_at links r).rest (link_at links s).rest h.1 k.1 rest in
     distinct_at links no_link r s d h.0 k.0 (same_link (link_at links r) (link_at links s) first later)
 
-pub node_injective : (links : List Link) → AreDistinct links → (a b : Node) → IsLinked links a → IsLinked links b
+pub node_injective : (links : List ArgumentsLink) → AreDistinct links → (a b : TermNode) → IsLinked links a → IsLinked links b
     → symbol_of a ≡ symbol_of b → arguments_of links a ≡ arguments_of links b → a ≡ b
 node_injective links d (Variable v) (Variable w) h k e g = let x : v ≡ w = cc in ap Variable x
 node_injective links d (Integer v) (Integer w) h k e g = let x : v ≡ w = cc in ap Integer x
@@ -94,26 +94,26 @@ node_injective links d _ _ h k e g = absurd (cc)
 
 -- Arguments that are put, the last one first.
 
-rest_step : (links : List Link) (n r p q : ℕ) → 0 < n → IsRest links n r → slice_get links q ≡ Some (record { first = p; rest = r })
+rest_step : (links : List ArgumentsLink) (n r p q : ℕ) → 0 < n → IsRest links n r → slice_get links q ≡ Some (record { first = p; rest = r })
     → IsRest links (n + 1) q × (rest_at links (n + 1) q ≡ p ∷ rest_at links n r)
 rest_step links zero r p q l h at = absurd (omega arith)
 rest_step links (suc n) r p q l h at =
     let e : link_at links q ≡ record { first = p; rest = r } = get_or_from_slice_get links q (record { first = p; rest = r }) no_link at in
     let two : suc n + 1 ≡ suc (suc n) = omega arith in
     subst (λ k. IsRest links k q × (rest_at links k q ≡ p ∷ rest_at links (suc n) r)) (sym two) (
-      (slice_get_within links q (record { first = p; rest = r }) at, subst (λ (k : Link). IsRest links (suc n) k.rest) (sym e) h),
-      ap (λ (k : Link). k.first ∷ rest_at links (suc n) k.rest) e,
+      (slice_get_within links q (record { first = p; rest = r }) at, subst (λ (k : ArgumentsLink). IsRest links (suc n) k.rest) (sym e) h),
+      ap (λ (k : ArgumentsLink). k.first ∷ rest_at links (suc n) k.rest) e,
     )
 
 reverse_more : (ps : List ℕ) (i d : ℕ) → i < length ps → reverse (take (i + 1) ps) ≡ get_or ps i d ∷ reverse (take i ps)
 reverse_more ps i d l = ap reverse (take_more ps i d l) ∙ reverse-append (take i ps) (get_or ps i d ∷ [])
 
 -- the first i of these places are put
-pub record IsPut (links : List Link) (ps : List ℕ) (i r : ℕ) : Type 0 where
+pub record IsPut (links : List ArgumentsLink) (ps : List ℕ) (i r : ℕ) : Type 0 where
   pub rest : IsRest links i r
   pub places : rest_at links i r ≡ reverse (take i ps)
 
-pub put_next : (links links' : List Link) (ps : List ℕ) (i r q d : ℕ) → 0 < i → i < length ps → IsPut links ps i r
+pub put_next : (links links' : List ArgumentsLink) (ps : List ℕ) (i r q d : ℕ) → 0 < i → i < length ps → IsPut links ps i r
     → Adds links (record { first = get_or ps i d; rest = r }) links' → slice_get links' q ≡ Some (record { first = get_or ps i d; rest = r })
     → IsPut links' ps (i + 1) q
 put_next links links' ps i r q d l m h a at =
@@ -127,11 +127,11 @@ put_next links links' ps i r q d l m h a at =
       places = s.1 ∙ ap (λ xs. get_or ps i d ∷ xs) (k1 ∙ h.places) ∙ sym (reverse_more ps i d m);
     }
 
-pub front_front : (a b c : List Link) → IsFrontOf a b → IsFrontOf b c → IsFrontOf a c
+pub front_front : (a b c : List ArgumentsLink) → IsFrontOf a b → IsFrontOf b c → IsFrontOf a c
 front_front a b c h k =
     (h.0 ++ k.0, cc_append a h.0 k.0 ∙ ap (λ xs. xs ++ k.0) h.1 ∙ k.1)
   where
-    cc_append : (xs ys zs : List Link) → xs ++ (ys ++ zs) ≡ (xs ++ ys) ++ zs
+    cc_append : (xs ys zs : List ArgumentsLink) → xs ++ (ys ++ zs) ≡ (xs ++ ys) ++ zs
     cc_append [] ys zs = refl
     cc_append (x ∷ xs) ys zs = ap (λ ws. x ∷ ws) (cc_append xs ys zs)
 
@@ -160,14 +160,14 @@ last_first ps n from end d e f l =
     (last_reversed ps n from e).0 ∙ ap reverse (sym whole ∙ more) ∙ reverse-append (take (end - from) tail) (get_or tail (end - from) d ∷ []) ∙ ap (λ x. x ∷ reverse (take (end - from) tail)) read
 
 -- the arguments of a name, which are put
-pub put_all : (links : List Link) (n p r : ℕ) (ps : List ℕ) → length ps + 1 ≡ n → IsRest links (length ps) r → rest_at links (length ps) r ≡ ps
+pub put_all : (links : List ArgumentsLink) (n p r : ℕ) (ps : List ℕ) → length ps + 1 ≡ n → IsRest links (length ps) r → rest_at links (length ps) r ≡ ps
     → AreAll links n p r × (all_at links n p r ≡ p ∷ ps)
 put_all links zero p r ps e h is = absurd (omega (arith, e))
 put_all links (suc n) p r ps e h is =
     let k : length ps ≡ n = omega (arith, e) in
     (subst (λ m. IsRest links m r) k h, ap (λ qs. p ∷ qs) (subst (λ m. rest_at links m r ≡ ps) k is))
 
-pub node_arguments : (links : List Link) (ps slice : List ℕ) (n from end p r : ℕ) → from + n ≡ length ps → end + 1 ≡ length ps → 0 < n
+pub node_arguments : (links : List ArgumentsLink) (ps slice : List ℕ) (n from end p r : ℕ) → from + n ≡ length ps → end + 1 ≡ length ps → 0 < n
     → slice ≡ take (end - from) (drop from ps) → p ≡ get_or ps end p → IsRest links (length slice) r → rest_at links (length slice) r ≡ reverse slice
     → AreAll links n p r × (all_at links n p r ≡ take n (reverse ps))
 node_arguments links ps slice n from end p r e f l is at h put =

@@ -9,14 +9,14 @@ use Rattle.apd_term.specs.declared.term.Sym.{Sym}
 use Rattle.apd_term.specs.Term.{Term, variable, spell, term_of, IsWhole}
 use Rattle.apd_term.specs.Spelling.{term_of-spell}
 use Rattle.apd_term.proofs.Spelling.{whole_from_spelled}
-use Rattle.apd_intern.specs.declared.term_list.Spot.{Spot}
-use Rattle.apd_intern.specs.declared.term_list.Spot.TheVariants.{Written, Shared}
+use Rattle.apd_intern.specs.declared.term_list.TermSpot.{TermSpot}
+use Rattle.apd_intern.specs.declared.term_list.TermSpot.TheVariants.{Written, Shared}
 use Rattle.apd_intern.specs.Nodes.{IsFrontOf}
 use Rattle.apd_intern.specs.Listed.{kept_at, IsKept, Keeps, listed, AreListed, MayAdd}
 
 -- Growing.
 
-spot_front : (symbols more : List Sym) (shared others : List Term) (s : Spot) → IsKept symbols shared s
+spot_front : (symbols more : List Sym) (shared others : List Term) (s : TermSpot) → IsKept symbols shared s
     → IsKept (symbols ++ more) (shared ++ others) s × (kept_at (symbols ++ more) (shared ++ others) s ≡ kept_at symbols shared s)
 spot_front symbols more shared others (Written from n) h =
     let within : from + n ≤ length symbols = h.0 in
@@ -25,7 +25,7 @@ spot_front symbols more shared others (Written from n) h =
     ((omega (arith, within, length-append symbols more), subst IsWhole (sym e) h.1), ap term_of e)
 spot_front symbols more shared others (Shared p) h = (omega (arith, h, length-append shared others), get_or_append_left shared others (variable 0) p h)
 
-spots_front : (symbols more : List Sym) (shared others : List Term) (spots : List Spot) → All (IsKept symbols shared) spots
+spots_front : (symbols more : List Sym) (shared others : List Term) (spots : List TermSpot) → All (IsKept symbols shared) spots
     → All (IsKept (symbols ++ more) (shared ++ others)) spots × (listed (symbols ++ more) (shared ++ others) spots ≡ listed symbols shared spots)
 spots_front symbols more shared others [] h = (All-nil (IsKept (symbols ++ more) (shared ++ others)), refl)
 spots_front symbols more shared others (s ∷ spots) h =
@@ -36,11 +36,11 @@ spots_front symbols more shared others (s ∷ spots) h =
     )
 
 -- the terms at the same spots
-pub record IsSame (symbols : List Sym) (shared : List Term) (spots : List Spot) (symbols' : List Sym) (shared' : List Term) : Type 0 where
+pub record IsSame (symbols : List Sym) (shared : List Term) (spots : List TermSpot) (symbols' : List Sym) (shared' : List Term) : Type 0 where
   pub held : AreListed symbols' shared' spots
   pub same : listed symbols' shared' spots ≡ listed symbols shared spots
 
-pub listed_front : (symbols symbols' : List Sym) (shared shared' : List Term) (spots : List Spot) → AreListed symbols shared spots → IsFrontOf symbols symbols' → IsFrontOf shared shared'
+pub listed_front : (symbols symbols' : List Sym) (shared shared' : List Term) (spots : List TermSpot) → AreListed symbols shared spots → IsFrontOf symbols symbols' → IsFrontOf shared shared'
     → IsSame symbols shared spots symbols' shared'
 listed_front symbols symbols' shared shared' spots h f g =
     let P : List Sym → List Term → Type 0 = λ cs ts. All (IsKept cs ts) spots × (listed cs ts spots ≡ listed symbols shared spots) in
@@ -49,11 +49,11 @@ listed_front symbols symbols' shared shared' spots h f g =
     record { held = record { kept = moved.0; few = h.few }; same = moved.1 }
 
 -- one more spot
-pub record IsLonger (symbols : List Sym) (shared : List Term) (spots spots' : List Spot) (t : Term) : Type 0 where
+pub record IsLonger (symbols : List Sym) (shared : List Term) (spots spots' : List TermSpot) (t : Term) : Type 0 where
   pub held : AreListed symbols shared spots'
   pub grown : listed symbols shared spots' ≡ listed symbols shared spots ++ t ∷ []
 
-pub listed_push : (symbols : List Sym) (shared : List Term) (spots spots' : List Spot) (s : Spot) (t : Term) → AreListed symbols shared spots → Keeps symbols shared s t
+pub listed_push : (symbols : List Sym) (shared : List Term) (spots spots' : List TermSpot) (s : TermSpot) (t : Term) → AreListed symbols shared spots → Keeps symbols shared s t
     → spots' ≡ spots ++ s ∷ [] → length spots' < 2 ^ 32 → IsLonger symbols shared spots spots' t
 listed_push symbols shared spots spots' s t h k e few =
     record {
@@ -62,7 +62,7 @@ listed_push symbols shared spots spots' s t h k e few =
     }
 
 -- the place of the new one
-pub longer_at : (symbols : List Sym) (shared : List Term) (spots spots' : List Spot) (t : Term) (p : ℕ) → IsLonger symbols shared spots spots' t → p ≡ length spots
+pub longer_at : (symbols : List Sym) (shared : List Term) (spots spots' : List TermSpot) (t : Term) (p : ℕ) → IsLonger symbols shared spots spots' t → p ≡ length spots
     → slice_get (listed symbols shared spots') p ≡ Some t
 longer_at symbols shared spots spots' t p h is =
     let ts : List Term = listed symbols shared spots in
@@ -86,10 +86,10 @@ on_err_at_all (Err e) P h = h
 
 -- Reading.
 
-pub listed_at : (symbols : List Sym) (shared : List Term) (spots : List Spot) (p : ℕ) (s : Spot) → slice_get spots p ≡ Some s → slice_get (listed symbols shared spots) p ≡ Some (kept_at symbols shared s)
+pub listed_at : (symbols : List Sym) (shared : List Term) (spots : List TermSpot) (p : ℕ) (s : TermSpot) → slice_get spots p ≡ Some s → slice_get (listed symbols shared spots) p ≡ Some (kept_at symbols shared s)
 listed_at symbols shared spots p s at = slice_get-map (kept_at symbols shared) spots p ∙ ap (option_map (kept_at symbols shared)) at
 
-pub written_at : (symbols : List Sym) (shared : List Term) (spots : List Spot) (p from n : ℕ) (t : Term) → slice_get spots p ≡ Some (Written from n) → take n (drop from symbols) ≡ spell t
+pub written_at : (symbols : List Sym) (shared : List Term) (spots : List TermSpot) (p from n : ℕ) (t : Term) → slice_get spots p ≡ Some (Written from n) → take n (drop from symbols) ≡ spell t
     → slice_get (listed symbols shared spots) p ≡ Some t
 written_at symbols shared spots p from n t at e = listed_at symbols shared spots p (Written from n) at ∙ ap Some (ap term_of e ∙ term_of-spell t)
 

@@ -6,14 +6,14 @@ use Rattle.std.proofs.lemmas.List.Elements.{All-take, All-drop, All-cons, All-we
 use Rattle.std.proofs.lemmas.Option.{slice_get_within, get_or_from_slice_get}
 use Rattle.apd_term.specs.Term.{Term, variable, arity_of}
 use Rattle.apd_term.specs.declared.term.Sym.{Sym}
-use Rattle.apd_intern.specs.declared.node.Node.{Node}
-use Rattle.apd_intern.specs.declared.node.Link.{Link}
+use Rattle.apd_intern.specs.declared.node.TermNode.{TermNode}
+use Rattle.apd_intern.specs.declared.node.ArgumentsLink.{ArgumentsLink}
 use Rattle.apd_intern.specs.Nodes.{AreDistinct, Adds, IsFrontOf, AreThere, made, applied, term_at, symbol_of, arguments_of, IsLinked, IsNode, term_of_node, decoded, IsTable}
 use Rattle.apd_intern.proofs.Lists.{adds_front}
 use Rattle.apd_intern.proofs.Decoding.{map_front, table_push, table_kept, node_at, length-decoded}
 
 -- a symbol whose arguments stand at the first of these places is put as a node
-pub record IsPlaced (links links' : List Link) (nodes nodes' : List Node) (s : Sym) (ps : List ℕ) (node : Node) : Type 0 where
+pub record IsPlaced (links links' : List ArgumentsLink) (nodes nodes' : List TermNode) (s : Sym) (ps : List ℕ) (node : TermNode) : Type 0 where
   pub table : IsTable links nodes
   pub front : IsFrontOf links links'
   pub distinct : AreDistinct links → AreDistinct links'
@@ -24,7 +24,7 @@ pub record IsPlaced (links links' : List Link) (nodes nodes' : List Node) (s : S
   pub adds : Adds nodes node nodes'
   pub few : length nodes' < 2 ^ 32
 
-module _ (links links' : List Link) (nodes nodes' : List Node) (s : Sym) (ps : List ℕ) (node : Node) (h : IsPlaced links links' nodes nodes' s ps node) where
+module _ (links links' : List ArgumentsLink) (nodes nodes' : List TermNode) (s : Sym) (ps : List ℕ) (node : TermNode) (h : IsPlaced links links' nodes nodes' s ps node) where
   node_term : (terms : List Term) → term_of_node links' terms node ≡ made s (take (arity_of s) (map (term_at terms) ps))
   node_term terms =
       ap (λ z. made z (map (term_at terms) (arguments_of links' node))) h.symbol
@@ -73,13 +73,13 @@ module _ (links links' : List Link) (nodes nodes' : List Node) (s : Sym) (ps : L
       ap (λ t. t ∷ map (term_at new) (drop (arity_of s) ps)) (own ∙ node_term new ∙ ap (made s) taken) ∙ ap (λ ts. made s (take (arity_of s) (map (term_at old) ps)) ∷ ts) dropped
 
 -- the terms after a symbol is put as a node
-pub record IsAfter (old : List Term) (links : List Link) (nodes : List Node) (s : Sym) (ps : List ℕ) (node : Node) : Type 0 where
+pub record IsAfter (old : List Term) (links : List ArgumentsLink) (nodes : List TermNode) (s : Sym) (ps : List ℕ) (node : TermNode) : Type 0 where
   pub table : IsTable links nodes
   pub adds : Adds old (made s (take (arity_of s) (map (term_at old) ps))) (decoded links nodes)
   pub there : (p : ℕ) → slice_get nodes p ≡ Some node → AreThere (decoded links nodes) (p ∷ drop (arity_of s) ps)
   pub terms : (p : ℕ) → slice_get nodes p ≡ Some node → map (term_at (decoded links nodes)) (p ∷ drop (arity_of s) ps) ≡ applied s (map (term_at old) ps)
 
-pub after : (old : List Term) (links links' : List Link) (nodes nodes' : List Node) (s : Sym) (ps : List ℕ) (node : Node) → decoded links nodes ≡ old → IsTable links nodes
+pub after : (old : List Term) (links links' : List ArgumentsLink) (nodes nodes' : List TermNode) (s : Sym) (ps : List ℕ) (node : TermNode) → decoded links nodes ≡ old → IsTable links nodes
     → IsFrontOf links links' → (AreDistinct links → AreDistinct links') → AreThere old ps → symbol_of node ≡ s → IsLinked links' node → arguments_of links' node ≡ take (arity_of s) ps
     → Adds nodes node nodes' → length nodes' < 2 ^ 32 → IsAfter old links' nodes' s ps node
 after old links links' nodes nodes' s ps node e table front distinct there is linked arguments adds few =

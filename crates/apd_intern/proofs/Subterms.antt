@@ -11,9 +11,9 @@ use Rattle.apd_term.specs.declared.term.Sym.{Sym}
 use Rattle.apd_term.specs.declared.term.Sym.TheVariants.{Var, Int, Fun}
 use Rattle.apd_term.specs.Spelling.{read_all-spell}
 use Rattle.apd_term.proofs.Spelling.{length-spell, under_name, IsTerms-tail, IsTerms-flat_map, list_of-terms_of}
-use Rattle.apd_intern.specs.declared.node.Node.{Node}
-use Rattle.apd_intern.specs.declared.node.Node.TheVariants.{Variable}
-use Rattle.apd_intern.specs.declared.node.Link.{Link}
+use Rattle.apd_intern.specs.declared.node.TermNode.{TermNode}
+use Rattle.apd_intern.specs.declared.node.TermNode.TheVariants.{Variable}
+use Rattle.apd_intern.specs.declared.node.ArgumentsLink.{ArgumentsLink}
 use Rattle.apd_intern.specs.Nodes.{Adds, AreThere, made, applied, term_at, terms_at, symbol_of, arguments_of, decoded, term_of_node, IsTable}
 use Rattle.apd_intern.specs.Subterms.{IsSubterm, IsSubtermOfSome, GrowsBySubterms, StandsBefore, HaveEarlierArguments}
 use Rattle.apd_intern.proofs.Decoding.{node_at, length-decoded}
@@ -104,12 +104,12 @@ made_earlier terms i (Var v) us h = tt
 made_earlier terms i (Int v) us h = tt
 made_earlier terms i (Fun f n) us h = subst (AllByRecursion (StandsBefore terms i)) (sym (list_of-terms_of us)) h
 
-pub arguments_earlier : (links : List Link) (nodes : List Node) → IsTable links nodes → HaveEarlierArguments (decoded links nodes)
+pub arguments_earlier : (links : List ArgumentsLink) (nodes : List TermNode) → IsTable links nodes → HaveEarlierArguments (decoded links nodes)
 arguments_earlier links nodes h i t at =
     let terms : List Term = decoded links nodes in
     let within : i < length terms = slice_get_within terms i t at in
     let n : length terms ≡ length nodes = length-decoded links nodes in
-    let node : Node = get_or nodes i (Variable 0) in
+    let node : TermNode = get_or nodes i (Variable 0) in
     let there = node_at links nodes i node h.ordered (slice_get-get_or nodes i (Variable 0) (omega (arith, n, within))) in
     let some : Some t ≡ Some (term_of_node links terms node) = sym at ∙ there.1 in
     let same : t ≡ term_of_node links terms node = cc in

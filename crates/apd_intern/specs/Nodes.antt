@@ -4,9 +4,9 @@ use Rattle.std.proofs.Common.{zero, suc}
 use Rattle.apd_term.specs.Term.{Term, variable, integer, compound, terms_of, arity_of}
 use Rattle.apd_term.specs.declared.term.Sym.{Sym}
 use Rattle.apd_term.specs.declared.term.Sym.TheVariants.{Var, Int, Fun}
-use Rattle.apd_intern.specs.declared.node.Node.{Node}
-use Rattle.apd_intern.specs.declared.node.Node.TheVariants.{Variable, Integer, Compound}
-use Rattle.apd_intern.specs.declared.node.Link.{Link}
+use Rattle.apd_intern.specs.declared.node.TermNode.{TermNode}
+use Rattle.apd_intern.specs.declared.node.TermNode.TheVariants.{Variable, Integer, Compound}
+use Rattle.apd_intern.specs.declared.node.ArgumentsLink.{ArgumentsLink}
 
 -- Lists that grow.
 
@@ -46,72 +46,72 @@ terms_at terms places = map (term_at terms) (reverse places)
 
 -- Nodes.
 
-abbrev pub symbol_of : Node → Sym
+abbrev pub symbol_of : TermNode → Sym
 symbol_of (Variable v) = Var v
 symbol_of (Integer i) = Int i
 symbol_of (Compound f n first rest) = Fun f n
 
-abbrev pub no_link : Link
+abbrev pub no_link : ArgumentsLink
 no_link = record { first = 0; rest = 0 }
 
-abbrev pub link_at : List Link → ℕ → Link
+abbrev pub link_at : List ArgumentsLink → ℕ → ArgumentsLink
 link_at links r = get_or links r no_link
 
 -- the places of n arguments
-abbrev pub rest_at : List Link → ℕ → ℕ → List ℕ
+abbrev pub rest_at : List ArgumentsLink → ℕ → ℕ → List ℕ
 rest_at links zero r = []
 rest_at links (suc zero) r = r ∷ []
 rest_at links (suc (suc n)) r = (link_at links r).first ∷ rest_at links (suc n) (link_at links r).rest
 
 -- the links of n arguments are there
-abbrev pub IsRest : List Link → ℕ → ℕ → Type 0
+abbrev pub IsRest : List ArgumentsLink → ℕ → ℕ → Type 0
 IsRest links zero r = r ≡ 0
 IsRest links (suc zero) r = Unit {0}
 IsRest links (suc (suc n)) r = (r < length links) × IsRest links (suc n) (link_at links r).rest
 
 -- the places of a node's arguments
-abbrev pub all_at : List Link → ℕ → ℕ → ℕ → List ℕ
+abbrev pub all_at : List ArgumentsLink → ℕ → ℕ → ℕ → List ℕ
 all_at links zero first rest = []
 all_at links (suc n) first rest = first ∷ rest_at links n rest
 
-abbrev pub AreAll : List Link → ℕ → ℕ → ℕ → Type 0
+abbrev pub AreAll : List ArgumentsLink → ℕ → ℕ → ℕ → Type 0
 AreAll links zero first rest = (first ≡ 0) × (rest ≡ 0)
 AreAll links (suc n) first rest = IsRest links n rest
 
-abbrev pub arguments_of : List Link → Node → List ℕ
+abbrev pub arguments_of : List ArgumentsLink → TermNode → List ℕ
 arguments_of links (Variable v) = []
 arguments_of links (Integer i) = []
 arguments_of links (Compound f n first rest) = all_at links n first rest
 
 -- the links of a node are there
-abbrev pub IsLinked : List Link → Node → Type 0
+abbrev pub IsLinked : List ArgumentsLink → TermNode → Type 0
 IsLinked links (Variable v) = Unit {0}
 IsLinked links (Integer i) = Unit {0}
 IsLinked links (Compound f n first rest) = AreAll links n first rest
 
 -- the node's links are there, and its arguments are among the first m nodes
-abbrev pub IsNode : List Link → ℕ → Node → Type 0
+abbrev pub IsNode : List ArgumentsLink → ℕ → TermNode → Type 0
 IsNode links m node = IsLinked links node × All (λ p. p < m) (arguments_of links node)
 
 -- the term of a node over the terms of earlier ones
-abbrev pub term_of_node : List Link → List Term → Node → Term
+abbrev pub term_of_node : List ArgumentsLink → List Term → TermNode → Term
 term_of_node links terms node = made (symbol_of node) (map (term_at terms) (arguments_of links node))
 
 -- the terms of further nodes, behind those of earlier ones
-abbrev pub decoded_on : List Link → List Term → List Node → List Term
+abbrev pub decoded_on : List ArgumentsLink → List Term → List TermNode → List Term
 decoded_on links terms [] = terms
 decoded_on links terms (node ∷ nodes) = decoded_on links (terms ++ term_of_node links terms node ∷ []) nodes
 
-abbrev pub decoded : List Link → List Node → List Term
+abbrev pub decoded : List ArgumentsLink → List TermNode → List Term
 decoded links nodes = decoded_on links [] nodes
 
 -- each of these nodes has its arguments among those before it, where m stand before the first
-abbrev pub AreNodes : List Link → ℕ → List Node → Type 0
+abbrev pub AreNodes : List ArgumentsLink → ℕ → List TermNode → Type 0
 AreNodes links m [] = Unit {0}
 AreNodes links m (node ∷ nodes) = IsNode links m node × AreNodes links (m + 1) nodes
 
 -- nodes and links that are distinct terms
-pub record IsTable (links : List Link) (nodes : List Node) : Type 0 where
+pub record IsTable (links : List ArgumentsLink) (nodes : List TermNode) : Type 0 where
   pub linked : AreDistinct links
   pub ordered : AreNodes links 0 nodes
   pub distinct : AreDistinct (decoded links nodes)

@@ -1,6 +1,6 @@
 //! Where nodes, links and terms were found last, so that most look-ups need no search.
 
-use crate::node::{Link, Node};
+use crate::node::{ArgumentsLink, TermNode};
 use apd_term::{Flat, Sym};
 use std::alloc::{AllocError, Global};
 
@@ -60,16 +60,16 @@ pub fn key_of_number(n: u64) -> Key {
 }
 
 /// The key of a node.
-pub fn key_of(node: Node) -> Key {
+pub fn key_of(node: TermNode) -> Key {
     match node {
-        Node::Variable(v) => key_of_number(v),
-        Node::Integer(i) => key_of_number(i.unsigned_abs()),
-        Node::Compound(name, _, first, rest) => spread(first, rest, name.0),
+        TermNode::Variable(v) => key_of_number(v),
+        TermNode::Integer(i) => key_of_number(i.unsigned_abs()),
+        TermNode::Compound(name, _, first, rest) => spread(first, rest, name.0),
     }
 }
 
 /// The key of a link.
-pub fn key_of_link(link: Link) -> Key {
+pub fn key_of_link(link: ArgumentsLink) -> Key {
     spread(link.first, link.rest, 0)
 }
 

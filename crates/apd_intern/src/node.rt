@@ -12,7 +12,7 @@ use std::alloc::AllocError;
 
 /// A term by its symbol and the places of its arguments.
 #[derive(Clone, Copy, PartialEq, Eq, Hash)]
-pub enum Node {
+pub enum TermNode {
     /// A variable with its number.
     Variable(u64),
     /// An integer.
@@ -24,7 +24,7 @@ pub enum Node {
 
 /// Two arguments or more: the place of the first, and where the others are.
 #[derive(Clone, Copy, PartialEq, Eq, Hash)]
-pub struct Link {
+pub struct ArgumentsLink {
     pub first: u32,
     pub rest: u32,
 }
@@ -33,18 +33,18 @@ pub struct Link {
 const MOST: usize = 4_294_967_295;
 
 /// The symbol of a node.
-pub fn symbol_of(node: Node) -> Sym
+pub fn symbol_of(node: TermNode) -> Sym
     ensures { result ≡ symbol_of node }
 {
     match node {
-        Node::Variable(v) => Sym::Var(v),
-        Node::Integer(i) => Sym::Int(i),
-        Node::Compound(name, arity, _, _) => Sym::Fun(name, arity),
+        TermNode::Variable(v) => Sym::Var(v),
+        TermNode::Integer(i) => Sym::Int(i),
+        TermNode::Compound(name, arity, _, _) => Sym::Fun(name, arity),
     }
 }
 
 /// Where the link stands, if it stands where the hints say.
-fn find_link(links: &IndexMap<Link, ()>, hints: &Hints, link: Link) -> Option<u32>
+fn find_link(links: &IndexMap<ArgumentsLink, ()>, hints: &Hints, link: ArgumentsLink) -> Option<u32>
     ensures { IfSome result (λ p. slice_get (keys links.now) p ≡ Some link) }
 {
     let place = hints.get(key_of_link(link))?;
@@ -54,9 +54,9 @@ fn find_link(links: &IndexMap<Link, ()>, hints: &Hints, link: Link) -> Option<u3
 
 /// Where a link stands, which is put at the end if it isn't there.
 fn put_link(
-    links: &mut IndexMap<Link, ()>,
+    links: &mut IndexMap<ArgumentsLink, ()>,
     hints: &mut Hints,
-    link: Link,
+    link: ArgumentsLink,
 ) -> Result<u32, AllocError>
     ensures place { IfOk result (λ p. slice_get (keys links.new) p ≡ Some link) }
     ensures adds { Adds (keys links.old) link (keys links.new) }
@@ -74,7 +74,7 @@ fn put_link(
 
 /// Where arguments are that have these places, the last one first.
 fn put_rest(
-    links: &mut IndexMap<Link, ()>,
+    links: &mut IndexMap<ArgumentsLink, ()>,
     hints: &mut Hints,
     places: &[u32],
 ) -> Result<u32, AllocError>
@@ -89,7 +89,7 @@ fn put_rest(
     }
     let mut rest = places[0];
     'places: for i in 1..places.len() {
-        let link = Link {
+        let link = ArgumentsLink {
             first: places[i],
             rest,
         };
@@ -100,11 +100,11 @@ fn put_rest(
 
 /// The node of a symbol over the newest of these places, which are taken off.
 pub fn node_of(
-    links: &mut IndexMap<Link, ()>,
+    links: &mut IndexMap<ArgumentsLink, ()>,
     hints: &mut Hints,
     symbol: Sym,
     places: &mut Vec<u32>,
-) -> Result<Node, AllocError>
+) -> Result<TermNode, AllocError>
     requires { arity_of symbol ≤ length places.old.items }
     ensures symbol { IfOk result (λ n. symbol_of n ≡ symbol) }
     ensures linked { IfOk result (λ n. IsLinked (keys links.new) n) }
@@ -116,22 +116,22 @@ pub fn node_of(
     ensures distinct { AreDistinct (keys links.old) → AreDistinct (keys links.new) }
 {
     match symbol {
-        Sym::Var(v) => Ok(Node::Variable(v)),
-        Sym::Int(i) => Ok(Node::Integer(i)),
-        Sym::Fun(name, 0) => Ok(Node::Compound(name, 0, 0, 0)),
+        Sym::Var(v) => Ok(TermNode::Variable(v)),
+        Sym::Int(i) => Ok(TermNode::Integer(i)),
+        Sym::Fun(name, 0) => Ok(TermNode::Compound(name, 0, 0, 0)),
         Sym::Fun(name, arity) => {
             let end = places.len() - 1;
             let from = places.len() - arity as usize;
             let first = places[end];
             let rest = put_rest(links, hints, &places[from..end])?;
             places.truncate(from);
-            Ok(Node::Compound(name, arity, first, rest))
+            Ok(TermNode::Compound(name, arity, first, rest))
         }
     }
 }
 
 /// Where the node stands, if it stands where the hints say.
-fn find_by_hint(nodes: &IndexMap<Node, ()>, hints: &Hints, node: Node) -> Option<u32>
+fn find_by_hint(nodes: &IndexMap<TermNode, ()>, hints: &Hints, node: TermNode) -> Option<u32>
     ensures { IfSome result (λ p. slice_get (keys nodes.now) p ≡ Some node) }
 {
     let place = hints.get(key_of(node))?;
@@ -141,9 +141,9 @@ fn find_by_hint(nodes: &IndexMap<Node, ()>, hints: &Hints, node: Node) -> Option
 
 /// Where the node stands, which is put at the end if it isn't there.
 pub fn put_node(
-    nodes: &mut IndexMap<Node, ()>,
+    nodes: &mut IndexMap<TermNode, ()>,
     hints: &mut Hints,
-    node: Node,
+    node: TermNode,
 ) -> Result<u32, AllocError>
     requires { length (keys nodes.old) < 2 ^ 32 }
     ensures place { IfOk result (λ p. slice_get (keys nodes.new) p ≡ Some node) }

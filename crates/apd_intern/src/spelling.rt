@@ -2,22 +2,25 @@
 
 ghost use Rattle.std.specs.Prelude.{◌≡◌, ◌<◌, ◌++◌, ◌∷◌, [], List, length, reverse, IfOk, IfSome, IfNone, OnOk, Some, slice_get};
 ghost use Rattle.apd_intern.specs.Nodes.{IsTable, decoded, arguments_of, IsLinked};
-ghost use Rattle.apd_intern.specs.declared.node.Link.{Link};
+ghost use Rattle.apd_intern.specs.declared.node.ArgumentsLink.{ArgumentsLink};
 ghost use Rattle.apd_intern.specs.Pending.{IsPending, places_left};
 
-use crate::node::{Link, Node, symbol_of};
+use crate::node::{ArgumentsLink, TermNode, symbol_of};
 use apd_term::{Flat, Syms};
 use std::alloc::{AllocError, Global};
 
 /// Arguments that are still to be spelled: how many, one or more, and where.
 #[derive(Clone, Copy)]
-pub struct Pending {
+pub struct PendingArguments {
     pub count: u8,
     pub at: u32,
 }
 
 /// Takes off the place that is to be spelled next.
-fn next_place(links: &[Link], pending: &mut Vec<Pending>) -> Result<Option<u32>, AllocError>
+fn next_place(
+    links: &[ArgumentsLink],
+    pending: &mut Vec<PendingArguments>,
+) -> Result<Option<u32>, AllocError>
     requires { IsPending links.now (reverse pending.old.items) }
     ensures next { IfOk result (λ next. IfSome next
         (λ p. places_left links.now (reverse pending.old.items) ≡
@@ -26,14 +29,14 @@ fn next_place(links: &[Link], pending: &mut Vec<Pending>) -> Result<Option<u32>,
         (places_left links.now (reverse pending.old.items) ≡ [])) }
     ensures rest { OnOk result (IsPending links.now (reverse pending.new.items)) }
 {
-    let Some(Pending { count, at }) = pending.pop() else {
+    let Some(PendingArguments { count, at }) = pending.pop() else {
         return Ok(None);
     };
     if count <= 1 {
         return Ok(Some(at));
     }
     let link = links[at as usize];
-    pending.push(Pending {
+    pending.push(PendingArguments {
         count: count - 1,
         at: link.rest,
     })?;
@@ -41,22 +44,22 @@ fn next_place(links: &[Link], pending: &mut Vec<Pending>) -> Result<Option<u32>,
 }
 
 /// The node's arguments are to be spelled next.
-fn push_arguments(node: Node, pending: &mut Vec<Pending>) -> Result<(), AllocError>
-    ensures next { OnOk result ((links : List Link) → IsLinked links node →
+fn push_arguments(node: TermNode, pending: &mut Vec<PendingArguments>) -> Result<(), AllocError>
+    ensures next { OnOk result ((links : List ArgumentsLink) → IsLinked links node →
         places_left links (reverse pending.new.items) ≡
         arguments_of links node ++ places_left links (reverse pending.old.items)) }
-    ensures rest { OnOk result ((links : List Link) → IsLinked links node →
+    ensures rest { OnOk result ((links : List ArgumentsLink) → IsLinked links node →
         IsPending links (reverse pending.old.items) → IsPending links (reverse pending.new.items)) }
 {
-    if let Node::Compound(_, arity, first, rest) = node {
+    if let TermNode::Compound(_, arity, first, rest) = node {
         if arity > 1 {
-            pending.push(Pending {
+            pending.push(PendingArguments {
                 count: arity - 1,
                 at: rest,
             })?;
         }
         if arity > 0 {
-            pending.push(Pending {
+            pending.push(PendingArguments {
                 count: 1,
                 at: first,
             })?;
@@ -68,8 +71,8 @@ fn push_arguments(node: Node, pending: &mut Vec<Pending>) -> Result<(), AllocErr
 /// The term of the node at a place.
 pub fn spelled(
     alloc: Global,
-    nodes: &[Node],
-    links: &[Link],
+    nodes: &[TermNode],
+    links: &[ArgumentsLink],
     place: u32,
 ) -> Result<Flat, AllocError>
     requires table { IsTable links.now nodes.now }
@@ -78,7 +81,7 @@ pub fn spelled(
 {
     let mut symbols = Syms::new(alloc);
     let mut pending = Vec::new(alloc);
-    pending.push(Pending {
+    pending.push(PendingArguments {
         count: 1,
         at: place,
     })?;

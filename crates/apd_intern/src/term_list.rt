@@ -19,7 +19,7 @@ const MOST: usize = 4_294_967_295;
 
 /// Where a term is kept.
 #[derive(Clone, Copy, PartialEq, Eq)]
-pub enum Spot {
+pub enum TermSpot {
     /// Its symbols begin here among all that are written out, and are so many.
     Written(u32, u8),
     /// It has this place among the terms that are kept once.
@@ -34,7 +34,7 @@ pub struct TermList {
     alloc: Global,
     symbols: Vec<Sym>,
     shared: Terms,
-    spots: Vec<Spot>,
+    spots: Vec<TermSpot>,
     hints: Hints,
 }
 
@@ -80,7 +80,7 @@ fn are_same(a: &[Sym], b: &[Sym]) -> bool
 }
 
 /// Writes a small term's symbols out, behind all others. Want of memory too where there would be 2 ^ 32 symbols.
-fn write(symbols: &mut Vec<Sym>, t: &Flat) -> Result<Spot, AllocError>
+fn write(symbols: &mut Vec<Sym>, t: &Flat) -> Result<TermSpot, AllocError>
     requires { length (spell t.now) < 256 }
     ensures front { IsFrontOf symbols.old.items symbols.new.items }
     ensures spot { IfOk result (λ s. (terms : List Term) → Keeps symbols.new.items terms s t.now) }
@@ -92,11 +92,11 @@ fn write(symbols: &mut Vec<Sym>, t: &Flat) -> Result<Spot, AllocError>
         return Err(AllocError);
     }
     symbols.extend_from_slice(more)?;
-    Ok(Spot::Written(from as u32, size as u8))
+    Ok(TermSpot::Written(from as u32, size as u8))
 }
 
 /// One more spot, and its place.
-fn push_spot(spots: &mut Vec<Spot>, spot: Spot) -> Result<u32, AllocError>
+fn push_spot(spots: &mut Vec<TermSpot>, spot: TermSpot) -> Result<u32, AllocError>
     requires { length spots.old.items < 2 ^ 32 }
     ensures place { IfOk result (λ p. p ≡ length spots.old.items) }
     ensures ok { OnOk result (spots.new.items ≡ spots.old.items ++ spot ∷ []) }
@@ -112,7 +112,7 @@ fn push_spot(spots: &mut Vec<Spot>, spot: Spot) -> Result<u32, AllocError>
 }
 
 /// The spot at a place, if there is one.
-fn spot_at(spots: &[Spot], place: u32) -> Option<Spot>
+fn spot_at(spots: &[TermSpot], place: u32) -> Option<TermSpot>
     ensures { IfSome result (λ s. slice_get spots.now place ≡ Some s) }
 {
     let spot = spots.get(place as usize)?;
@@ -120,7 +120,7 @@ fn spot_at(spots: &[Spot], place: u32) -> Option<Spot>
 }
 
 /// The place, if this spot stands there.
-fn found_spot(spots: &[Spot], spot: Spot, place: Option<u32>) -> Option<u32>
+fn found_spot(spots: &[TermSpot], spot: TermSpot, place: Option<u32>) -> Option<u32>
     ensures { IfSome result (λ p. slice_get spots.now p ≡ Some spot) }
 {
     let place = place?;
@@ -147,7 +147,7 @@ impl TermList {
         ensures { IfSome result (λ p. slice_get self.now p ≡ Some t.now) }
     {
         let place = place?;
-        let Spot::Written(from, size) = spot_at(&self.spots, place)? else {
+        let TermSpot::Written(from, size) = spot_at(&self.spots, place)? else {
             return None;
         };
         if are_same(piece(&self.symbols, from, size), t.symbols()) {
@@ -184,7 +184,7 @@ impl TermList {
         ensures err { OnErr result (self.new ≡ self.old) }
     {
         let number = self.shared.put(t)?.0 as u32;
-        let spot = Spot::Shared(number);
+        let spot = TermSpot::Shared(number);
         if let Some(place) = found_spot(&self.spots, spot, guess) {
             return Ok(place);
         }
@@ -217,11 +217,11 @@ impl TermList {
         ensures { IfOk result (λ t. slice_get self.now place ≡ Some t) }
     {
         match self.spots[place as usize] {
-            Spot::Written(from, size) => Flat::copy_of(
+            TermSpot::Written(from, size) => Flat::copy_of(
                 self.alloc,
                 piece(&self.symbols, from, size),
             ),
-            Spot::Shared(number) => self.shared.get(TermId(number as usize)),
+            TermSpot::Shared(number) => self.shared.get(TermId(number as usize)),
         }
     }
 }

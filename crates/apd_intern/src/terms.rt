@@ -6,7 +6,7 @@ ghost use Rattle.apd_intern.specs.Nodes.{Adds, AreDistinct, AreThere, terms_at, 
 ghost use Rattle.apd_intern.specs.Subterms.{HaveEarlierArguments, GrowsBySubterms};
 
 use crate::hints::Hints;
-use crate::node::{Link, Node, node_of, put_node};
+use crate::node::{ArgumentsLink, TermNode, node_of, put_node};
 use crate::spelling::spelled;
 use apd_term::{Flat, Sym};
 use indexmap::IndexMap;
@@ -23,8 +23,8 @@ pub struct TermId(pub usize);
 #[derive(Drop)]
 pub struct Terms {
     alloc: Global,
-    nodes: IndexMap<Node, ()>,
-    links: IndexMap<Link, ()>,
+    nodes: IndexMap<TermNode, ()>,
+    links: IndexMap<ArgumentsLink, ()>,
     node_hints: Hints,
     link_hints: Hints,
     /// The places of a term's symbols while it is put, kept from term to term so that its memory is taken once.

@@ -30,7 +30,7 @@ use Rattle.apd_answers.proofs.Once.{put-again}
 use Rattle.apd_known.specs.Pairs.{AllMayTrust, AllStatable}
 use Rattle.apd_known.specs.Statements.{statement_added}
 use Rattle.apd_known.specs.declared.file.Stated.{Stated}
-use Rattle.apd_known.specs.declared.statements.Form.TheVariants.{Second}
+use Rattle.apd_known.specs.declared.statements.FileForm.TheVariants.{Second}
 use Rattle.apd_text.specs.Named.{HasStandardNames}
 use Rattle.apd_kept.specs.Kept.{known_text, pair_line, pair_term, statement_of, reply_term, trust_line, trust_term}
 use Rattle.apd_kept.specs.Law.{CanBeWritten, CanReadBack, IsShallow, IsWritableStore, ReadsBackAs}

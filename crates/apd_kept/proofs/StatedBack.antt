@@ -39,7 +39,7 @@ use Rattle.apd_known.specs.Statements.{body_stated, cover_stated, is_own, is_of_
 use Rattle.apd_known.specs.Told.{truth_told, values_told, word_told}
 use Rattle.apd_term.specs.Listed.{listed}
 use Rattle.apd_known.specs.Truths.{is_true_if_builtin, passes}
-use Rattle.apd_known.specs.declared.statements.Form.TheVariants.{Second}
+use Rattle.apd_known.specs.declared.statements.FileForm.TheVariants.{Second}
 use Rattle.apd_record.proofs.Missing.{both_empty}
 use Rattle.apd_kept.specs.Kept.{apart_from, pair_term, reply_term, trust_term, variable_count}
 use Rattle.apd_kept.proofs.Clauses.{clause_back_from}

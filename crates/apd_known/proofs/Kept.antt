@@ -21,8 +21,8 @@ use Rattle.apd_ports.specs.Filter.{is_predicate}
 use Rattle.apd_known.specs.Pairs.{AllMayTrust, AllStatable, IsStatable, MayTrust}
 use Rattle.apd_known.specs.Statements.{form_numbered, form_stated, integer_of, nothing_stated, statement_added, term_stated, with_clause, with_said, with_statement}
 use Rattle.apd_known.specs.declared.file.Stated.{Stated}
-use Rattle.apd_known.specs.declared.statements.Form.{Form}
-use Rattle.apd_known.specs.declared.statements.Form.TheVariants.{First, Second}
+use Rattle.apd_known.specs.declared.statements.FileForm.{FileForm}
+use Rattle.apd_known.specs.declared.statements.FileForm.TheVariants.{First, Second}
 use Rattle.apd_known.specs.declared.statements.Statement.{Statement}
 use Rattle.apd_known.specs.declared.statements.Statement.TheVariants.{Replies, Trusts}
 use Rattle.apd_known.proofs.Saying.{MaySay, said_may}
@@ -96,7 +96,7 @@ so_far_more n m (Some s) le h = record { pairs = all_more n m s.answers.pairs le
 
 -- the form states nothing
 abbrev pub StatesNothing : Stated → Type 0
-StatesNothing now = (form : Form) × (nothing_stated form ≡ now)
+StatesNothing now = (form : FileForm) × (nothing_stated form ≡ now)
 
 no_statement : (number : Option ℤ) (now : Stated) → form_numbered number ≡ Ok now → StatesNothing now
 no_statement None now e = absurd (cc)
@@ -120,7 +120,7 @@ form_first (compound f (more t none)) now e = by_name (f.0 == FORM.0) e
 form_first (compound f (more t (more u ts))) now e = absurd (cc)
 
 -- what holds of nothing and, where it holds before, with a clause more
-pub holds_next : (P : Stated → Type 0) (s : Option Stated) (now : Stated) (t : Term) → with_clause s t ≡ Ok now → ((form : Form) → P (nothing_stated form))
+pub holds_next : (P : Stated → Type 0) (s : Option Stated) (now : Stated) (t : Term) → with_clause s t ≡ Ok now → ((form : FileForm) → P (nothing_stated form))
     → ((x : Stated) (said : Statement) → s ≡ Some x → term_stated x.form t ≡ Ok said → P (with_statement x said)) → P now
 holds_next P None now t e first further = let f = form_first t now e in subst P f.1 (first f.0)
 holds_next P (Some s) now t e first further = by_statement (term_stated s.form t) refl e

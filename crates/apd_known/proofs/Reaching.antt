@@ -17,7 +17,7 @@ use Rattle.apd_read.specs.Reader.{Reader}
 use Rattle.apd_read.proofs.Readers.{reader_reads, reader_faults}
 use Rattle.apd_load.specs.Lines.{line_at, IsPlace}
 use Rattle.apd_load.specs.Program.{place_of_fault}
-use Rattle.apd_load.specs.declared.places.Place.{Place}
+use Rattle.apd_load.specs.declared.places.TextPlace.{TextPlace}
 use Rattle.apd_load.proofs.Newlines.{first_place}
 use Rattle.apd_load.proofs.Reaching.{grown_more, grown_length, grows_more}
 use Rattle.apd_known.specs.Files.{States, refused, at_end, after_term, after_reading, stated_from, all_stated}
@@ -99,7 +99,7 @@ module _ (ops : Table) (text : List ℕ) (tokens : List Token) where
         subst (λ x. IsStated wanted new (Err x)) (sym e) (fault_refused f faults)
 
 -- the text up to a token where a clause begins
-pub record Goes (ops : Table) (text : List ℕ) (tokens : List Token) (at : ℕ) (before names : List (List ℕ)) (s : Option Stated) (last : Place) : Type 0 where
+pub record Goes (ops : Table) (text : List ℕ) (tokens : List Token) (at : ℕ) (before names : List (List ℕ)) (s : Option Stated) (last : TextPlace) : Type 0 where
   pub within : at ≤ length tokens
   pub grows : GrowsBy at before names
   pub last_is : IsPlace text last
@@ -117,7 +117,7 @@ goes_first ops text tokens names = record {
   reaches = reaches_first ops text tokens names;
 }
 
-module _ (ops : Table) (text : List ℕ) (tokens : List Token) (at : ℕ) (before names new : List (List ℕ)) (s : Option Stated) (last later : Place) (goes : Goes ops text tokens at before names s last)
+module _ (ops : Table) (text : List ℕ) (tokens : List Token) (at : ℕ) (before names new : List (List ℕ)) (s : Option Stated) (last later : TextPlace) (goes : Goes ops text tokens at before names s last)
     (lt : at < length tokens) (table : IsTable ops) (are : HasTokens text tokens) where
   pub goes_next : (r : Read) (now : Stated) → GrowsBy (r.next - at) names new → at < r.next → r.next ≤ length tokens → ((more : List (List ℕ)) → HasReading ops (new ++ more) text tokens at r)
       → IsNamed (length new) r.term → IsPlace text later → with_clause s r.term ≡ Ok now → Goes ops text tokens r.next before new (Some now) later

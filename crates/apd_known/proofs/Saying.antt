@@ -15,8 +15,8 @@ use Rattle.apd_answers.specs.declared.store.Pair.{Pair}
 use Rattle.apd_known.specs.Indicators.{arity_from, indicated, name_alone, predicate_from}
 use Rattle.apd_known.specs.Pairs.{IsStatable, MayTrust, SaidFits}
 use Rattle.apd_known.specs.Statements.{is_own, of_reply, reply_stated, term_stated, trust_stated}
-use Rattle.apd_known.specs.declared.statements.Form.{Form}
-use Rattle.apd_known.specs.declared.statements.Form.TheVariants.{First, Second}
+use Rattle.apd_known.specs.declared.statements.FileForm.{FileForm}
+use Rattle.apd_known.specs.declared.statements.FileForm.TheVariants.{First, Second}
 use Rattle.apd_known.specs.declared.statements.Statement.{Statement}
 use Rattle.apd_known.specs.declared.statements.Statement.TheVariants.{Replies, Trusts}
 use Rattle.apd_known.proofs.Stating.{kind_own, reply_fits, reply_may}
@@ -56,7 +56,7 @@ reply_says P (Err cause) said holds e = absurd (cc)
 reply_says P (Ok pair) said holds e = let same : Replies pair ≡ said = cc in subst P same (holds pair refl)
 
 -- trust
-trust_says : (P : Statement → Type 0) (form : Form) (o : Option Pred) (said : Statement) → ((p : Pred) → o ≡ Some p → is_own (kind_of p) ≡ true → P (Trusts p)) → trust_stated form o ≡ Ok said → P said
+trust_says : (P : Statement → Type 0) (form : FileForm) (o : Option Pred) (said : Statement) → ((p : Pred) → o ≡ Some p → is_own (kind_of p) ≡ true → P (Trusts p)) → trust_stated form o ≡ Ok said → P said
 trust_says P First o said holds e = absurd (cc)
 trust_says P Second None said holds e = absurd (cc)
 trust_says P Second (Some p) said holds e = by_kind (is_own (kind_of p)) refl e
@@ -66,7 +66,7 @@ trust_says P Second (Some p) said holds e = by_kind (is_own (kind_of p)) refl e
     by_kind false own q = absurd (cc)
 
 -- what holds of each reply and of all trust that a clause may say holds of what it says
-says : (P : Statement → Type 0) (form : Form) (t : Term) (said : Statement) → ((pair : Pair) → reply_stated form t ≡ Ok pair → P (Replies pair)) →
+says : (P : Statement → Type 0) (form : FileForm) (t : Term) (said : Statement) → ((pair : Pair) → reply_stated form t ≡ Ok pair → P (Replies pair)) →
     ((f : NameId) (a : Term) (p : Pred) → t ≡ compound f (more a none) → predicate_from a ≡ Some p → is_own (kind_of p) ≡ true → P (Trusts p)) → term_stated form t ≡ Ok said → P said
 unfolding term_stated
 says P form (variable v) said replies trusts e = reply_says P (reply_stated form (variable v)) said replies e
@@ -80,17 +80,17 @@ says P form (compound f (more a none)) said replies trusts e = by_name (f.0 == T
 says P form (compound f (more a (more b ts))) said replies trusts e = reply_says P (reply_stated form (compound f (more a (more b ts)))) said replies e
 
 -- what a term says may be stated, with the names of the term
-pub said_may : (n : ℕ) (form : Form) (t : Term) (said : Statement) → IsNamed n t → term_stated form t ≡ Ok said → MaySay n said
+pub said_may : (n : ℕ) (form : FileForm) (t : Term) (said : Statement) → IsNamed n t → term_stated form t ≡ Ok said → MaySay n said
 said_may n form t said named e =
     says (MaySay n) form t said (λ pair is. reply_may n pair form t named is)
     (λ f a p is tells own. record { own = kind_own (kind_of p) own; named = predicate_known n a p (subst (IsNamed n) is named).1.0 tells }) e
 
 -- so the reply that is stated fits
-pub said_fits : (form : Form) (t : Term) (said : Statement) → term_stated form t ≡ Ok said → SaidFits said
+pub said_fits : (form : FileForm) (t : Term) (said : Statement) → term_stated form t ≡ Ok said → SaidFits said
 said_fits form t said e = says SaidFits form t said (λ pair is. reply_fits form t pair is) (λ f a p is tells own. tt) e
 
 -- a term that isn't `trusted` of one argument replies, if it says anything
-pub other_statement : (form : Form) (t : Term) → is_pred (predicate_of t) (TRUSTED ∕ 1) ≡ false → term_stated form t ≡ of_reply (reply_stated form t)
+pub other_statement : (form : FileForm) (t : Term) → is_pred (predicate_of t) (TRUSTED ∕ 1) ≡ false → term_stated form t ≡ of_reply (reply_stated form t)
 unfolding term_stated reply_stated
 other_statement form (variable v) e = refl
 other_statement form (integer i) e = refl
@@ -108,7 +108,7 @@ trust_arguments (variable v) e = absurd (cc)
 trust_arguments (integer i) e = absurd (cc)
 trust_arguments (compound f ts) e = ap (λ (p : Pred). p.arity) (same_pred-true (f ∕ length (list_of ts)) (TRUSTED ∕ 1) e)
 
-pub trust_statement : (form : Form) (t a : Term) → is_pred (predicate_of t) (TRUSTED ∕ 1) ≡ true → slice_get (arguments t) 0 ≡ Some a → term_stated form t ≡ trust_stated form (predicate_from a)
+pub trust_statement : (form : FileForm) (t a : Term) → is_pred (predicate_of t) (TRUSTED ∕ 1) ≡ true → slice_get (arguments t) 0 ≡ Some a → term_stated form t ≡ trust_stated form (predicate_from a)
 unfolding term_stated
 trust_statement form (variable v) a e there = absurd (cc)
 trust_statement form (integer i) a e there = absurd (cc)

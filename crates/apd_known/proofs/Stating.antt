@@ -34,8 +34,8 @@ use Rattle.apd_answers.specs.declared.store.Pair.{Pair}
 use Rattle.apd_known.specs.Pairs.{IsStatable, MayCover}
 use Rattle.apd_known.specs.Statements.{is_own, is_of_own, is_own_atom, is_rule, pair_of, truth_stated, order_stated, values_stated, solution_stated, body_stated, cover_stated, reply_stated, truth_in}
 use Rattle.apd_known.specs.Told.{word_told, values_told}
-use Rattle.apd_known.specs.declared.statements.Form.{Form}
-use Rattle.apd_known.specs.declared.statements.Form.TheVariants.{First, Second}
+use Rattle.apd_known.specs.declared.statements.FileForm.{FileForm}
+use Rattle.apd_known.specs.declared.statements.FileForm.TheVariants.{First, Second}
 use Rattle.apd_arith.specs.Truths.{is_ground}
 use Rattle.apd_known.specs.Truths.{is_true_if_builtin}
 use Rattle.apd_known.proofs.Telling.{values_told_named, truth_told_fits, truth_told_named, word_told_fits, word_told_named}
@@ -161,12 +161,12 @@ module _ (n : ℕ) (pair : Pair) where
       by_test false rule q = absurd (cc)
 
   -- in a file of either form a word is a reply to whether an atom is true
-  word_may : (form : Form) (a r : Term) (s : Reply) → truth_in form r ≡ Some s → Fits (True a) s × ReplyIsNamed n s
+  word_may : (form : FileForm) (a r : Term) (s : Reply) → truth_in form r ≡ Some s → Fits (True a) s × ReplyIsNamed n s
   word_may First a r s is = (word_told_fits (True a) r s tt tt is, word_told_named n r s is)
   word_may Second a r s is = (truth_told_fits (True a) r s tt tt tt is, truth_told_named n r s is)
 
   -- what a term replies may be stated, with the names of the term
-  pub reply_may : (form : Form) (t : Term) → IsNamed n t → reply_stated form t ≡ Ok pair → IsStatable n pair
+  pub reply_may : (form : FileForm) (t : Term) → IsNamed n t → reply_stated form t ≡ Ok pair → IsStatable n pair
   unfolding reply_stated
   reply_may form (variable v) named e = absurd (cc)
   reply_may form (integer i) named e = absurd (cc)
@@ -209,7 +209,7 @@ mutual
       (IsNamed-more (bound t) (bound t + bounds ts) t (omega arith) (bound_named t), AreNamed-more (bounds ts) (bound t + bounds ts) ts (omega arith) (bounds_named ts))
 
 -- so the reply that is stated fits
-pub reply_fits : (form : Form) (t : Term) (pair : Pair) → reply_stated form t ≡ Ok pair → Fits pair.question pair.reply
+pub reply_fits : (form : FileForm) (t : Term) (pair : Pair) → reply_stated form t ≡ Ok pair → Fits pair.question pair.reply
 reply_fits form t pair e = (reply_may (bound t) pair form t (bound_named t) e).fits
 
 -- a term that is a name with three arguments

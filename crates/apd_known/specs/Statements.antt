@@ -26,8 +26,8 @@ use Rattle.apd_known.specs.Told.{truth_told, word_told, values_told}
 use Rattle.apd_arith.specs.Truths.{is_ground}
 use Rattle.apd_known.specs.Truths.{is_true_if_builtin}
 use Rattle.apd_known.specs.declared.file.Stated.{Stated}
-use Rattle.apd_known.specs.declared.statements.Form.{Form}
-use Rattle.apd_known.specs.declared.statements.Form.TheVariants.{First, Second}
+use Rattle.apd_known.specs.declared.statements.FileForm.{FileForm}
+use Rattle.apd_known.specs.declared.statements.FileForm.TheVariants.{First, Second}
 use Rattle.apd_known.specs.declared.statements.Statement.{Statement}
 use Rattle.apd_known.specs.declared.statements.Statement.TheVariants.{Replies, Trusts}
 
@@ -47,7 +47,7 @@ abbrev pub pair_of : Question → Reply → Pair
 pair_of question reply = record { question = question; reply = reply }
 
 -- the reply that a word is to whether an atom is true; in a file of the second form it needn't be known
-abbrev pub truth_in : Form → Term → Option Reply
+abbrev pub truth_in : FileForm → Term → Option Reply
 truth_in First t = word_told t
 truth_in Second t = truth_told t
 
@@ -91,7 +91,7 @@ cover_stated c None = Err NotAStatement
 cover_stated c (Some reply) = if is_rule c then body_stated (clause_from c) reply else Err NotAStatement
 
 -- the question and the reply that a clause states, or the first cause why it states none
-unfoldable pub reply_stated : Form → Term → Result Pair OracleCause
+unfoldable pub reply_stated : FileForm → Term → Result Pair OracleCause
 reply_stated form (compound f (more a (more r none))) =
     if f.0 == TRUE.0 then truth_stated a (truth_in form r)
     else (if f.0 == COVERS.0 then cover_stated a (values_told r) else Err NotAStatement)
@@ -99,7 +99,7 @@ reply_stated form (compound f (more q (more p (more r none)))) = if f.0 == BELOW
 reply_stated form t = Err NotAStatement
 
 -- `trusted(P/N)`, which a file of the first form doesn't have: what the program proves of a predicate is true
-abbrev pub trust_stated : Form → Option Pred → Result Statement OracleCause
+abbrev pub trust_stated : FileForm → Option Pred → Result Statement OracleCause
 trust_stated First p = Err NotAStatement
 trust_stated Second None = Err NotAStatement
 trust_stated Second (Some p) = if is_own (kind_of p) then Ok (Trusts p) else Err NotUserAtom
@@ -109,12 +109,12 @@ of_reply (Err cause) = Err cause
 of_reply (Ok pair) = Ok (Replies pair)
 
 -- what a clause of a file of this form states, or the first cause why it is no statement
-unfoldable pub term_stated : Form → Term → Result Statement OracleCause
+unfoldable pub term_stated : FileForm → Term → Result Statement OracleCause
 term_stated form (compound f (more p none)) = if f.0 == TRUSTED.0 then trust_stated form (predicate_from p) else Err NotAStatement
 term_stated form t = of_reply (reply_stated form t)
 
 -- no statement yet
-abbrev pub nothing_stated : Form → Stated
+abbrev pub nothing_stated : FileForm → Stated
 nothing_stated form = record { form = form; answers = empty_store; statements = 0 }
 
 -- `form(1)`, `form(2)`

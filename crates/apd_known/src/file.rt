@@ -10,7 +10,7 @@ ghost use Rattle.apd_known.specs.Pairs.{AllMayTrust, AllStatable, SaidFits};
 ghost use Rattle.apd_known.specs.Statements.{form_numbered, form_stated, integer_of, nothing_stated, statement_added, term_stated, with_clause, with_said};
 ghost use Rattle.apd_known.specs.Steps.{IsStated, unread, undivided};
 
-use crate::statements::{Form, Statement, term_stated};
+use crate::statements::{FileForm, Statement, term_stated};
 use apd_answers::Answers;
 use apd_causes::{OracleCause, ReadFault, TokenFault};
 use apd_load::{FIRST, line_of, place_of_fault, place_of_token_fault};
@@ -25,7 +25,7 @@ use std::alloc::{AllocError, Global};
 #[derive(Drop)]
 pub struct Stated {
     /// The file's form.
-    pub form: Form,
+    pub form: FileForm,
     /// The replies, each with its question, and the predicates that are trusted, in the file's order; one that is repeated is
     /// kept once.
     pub answers: Answers,
@@ -90,7 +90,7 @@ fn integer_of(term: &Flat) -> Option<i64>
 }
 
 /// No statement yet, in a file of this form.
-fn nothing_stated(alloc: Global, form: Form) -> Stated
+fn nothing_stated(alloc: Global, form: FileForm) -> Stated
     ensures { result ≡ nothing_stated form }
 {
     Stated {
@@ -106,8 +106,8 @@ fn form_numbered(alloc: Global, number: Option<i64>) -> Result<Stated, OracleCau
 {
     match number {
         None => Err(OracleCause::NoForm),
-        Some(1) => Ok(nothing_stated(alloc, Form::First)),
-        Some(2) => Ok(nothing_stated(alloc, Form::Second)),
+        Some(1) => Ok(nothing_stated(alloc, FileForm::First)),
+        Some(2) => Ok(nothing_stated(alloc, FileForm::Second)),
         Some(_) => Err(OracleCause::BadForm),
     }
 }

@@ -6,7 +6,7 @@ ghost use Rattle.apd_term.specs.declared.standard.TheConstants as names;
 ghost use Rattle.apd_clauses.specs.Bodies.{clause_from};
 ghost use Rattle.apd_clauses.specs.Kinds.{◌∕◌};
 ghost use Rattle.apd_clauses.specs.Predicates.{is_pred};
-ghost use Rattle.apd_known.specs.declared.statements.Form.{Form};
+ghost use Rattle.apd_known.specs.declared.statements.FileForm.{FileForm};
 ghost use Rattle.apd_known.specs.Statements.{is_rule, is_own_atom, body_stated, cover_stated, of_reply, order_stated, reply_stated, solution_stated, term_stated, trust_stated, truth_in, truth_stated, values_stated};
 
 use crate::indicators::predicate_from;
@@ -22,7 +22,7 @@ use std::alloc::{AllocError, Global};
 
 /// Which statements an oracle file may have.
 #[derive(Clone, Copy)]
-pub enum Form {
+pub enum FileForm {
     /// Replies that are yes, no, or values.
     First,
     /// Besides these, replies that something isn't known, and trust in predicates.
@@ -39,7 +39,7 @@ pub(crate) enum Statement {
 }
 
 /// The question and the reply that a clause states, or why it states none.
-type Stated = Result<Pair, OracleCause>;
+type StatedPair = Result<Pair, OracleCause>;
 
 /// Whether the term is an atom of a predicate that a program may define.
 fn is_own_atom(term: &Flat) -> bool
@@ -52,17 +52,17 @@ fn is_own_atom(term: &Flat) -> bool
 }
 
 /// The reply that a word is to whether an atom is true, in a file of this form.
-fn truth_in(form: Form, word: &Flat) -> Option<Reply>
+fn truth_in(form: FileForm, word: &Flat) -> Option<Reply>
     ensures { result ≡ truth_in form word.now }
 {
     match form {
-        Form::First => word_told(word),
-        Form::Second => truth_told(word),
+        FileForm::First => word_told(word),
+        FileForm::Second => truth_told(word),
     }
 }
 
 /// What `true(A, R)` states.
-fn truth_stated(atom: Flat, reply: Option<Reply>) -> Stated
+fn truth_stated(atom: Flat, reply: Option<Reply>) -> StatedPair
     ensures { result ≡ truth_stated atom reply }
 {
     let Some(reply) = reply else {
@@ -83,7 +83,7 @@ fn order_stated(
     callee: &Flat,
     caller: &Flat,
     reply: Option<Reply>,
-) -> Result<Stated, AllocError>
+) -> Result<StatedPair, AllocError>
     ensures { IfOk result (λ s. s ≡ order_stated callee.now caller.now reply) }
 {
     let Some(reply) = reply else {
@@ -97,7 +97,7 @@ fn order_stated(
 }
 
 /// What values of a body's variables state.
-fn values_stated(alloc: Global, tuple: Tuple, values: Atoms) -> Result<Stated, AllocError>
+fn values_stated(alloc: Global, tuple: Tuple, values: Atoms) -> Result<StatedPair, AllocError>
     ensures { IfOk result (λ s. s ≡ values_stated tuple values) }
 {
     if !are_ground(&values) {
@@ -117,7 +117,7 @@ fn values_stated(alloc: Global, tuple: Tuple, values: Atoms) -> Result<Stated, A
 }
 
 /// What a reply to whether a clause with a ground head covers states.
-fn solution_stated(alloc: Global, tuple: Tuple, reply: Reply) -> Result<Stated, AllocError>
+fn solution_stated(alloc: Global, tuple: Tuple, reply: Reply) -> Result<StatedPair, AllocError>
     ensures { IfOk result (λ s. s ≡ solution_stated tuple reply) }
 {
     match reply {
@@ -131,7 +131,7 @@ fn solution_stated(alloc: Global, tuple: Tuple, reply: Reply) -> Result<Stated, 
 }
 
 /// What a reply to whether a clause covers states.
-fn body_stated(alloc: Global, clause: &Flat, reply: Reply) -> Result<Stated, AllocError>
+fn body_stated(alloc: Global, clause: &Flat, reply: Reply) -> Result<StatedPair, AllocError>
     ensures { IfOk result (λ s. s ≡ body_stated (clause_from clause.now) reply) }
 {
     match clause_of(alloc, clause) {
@@ -156,7 +156,11 @@ fn is_rule(term: &Flat) -> bool
 }
 
 /// What `covers(C, R)` states.
-fn cover_stated(alloc: Global, clause: &Flat, reply: Option<Reply>) -> Result<Stated, AllocError>
+fn cover_stated(
+    alloc: Global,
+    clause: &Flat,
+    reply: Option<Reply>,
+) -> Result<StatedPair, AllocError>
     ensures { IfOk result (λ s. s ≡ cover_stated clause.now reply) }
 {
     match reply {
@@ -166,7 +170,7 @@ fn cover_stated(alloc: Global, clause: &Flat, reply: Option<Reply>) -> Result<St
 }
 
 /// What a clause of the predicate `true/2` states.
-fn truth_clause(alloc: Global, form: Form, term: &Flat) -> Result<Stated, AllocError>
+fn truth_clause(alloc: Global, form: FileForm, term: &Flat) -> Result<StatedPair, AllocError>
     requires { is_pred (predicate_of term.now) (names.TRUE ∕ 2) ≡ true }
     ensures { IfOk result (λ s. s ≡ reply_stated form term.now) }
 {
@@ -176,9 +180,9 @@ fn truth_clause(alloc: Global, form: Form, term: &Flat) -> Result<Stated, AllocE
 }
 
 /// What a clause of the predicate `covers/2` states.
-fn cover_clause(alloc: Global, term: &Flat) -> Result<Stated, AllocError>
+fn cover_clause(alloc: Global, term: &Flat) -> Result<StatedPair, AllocError>
     requires { is_pred (predicate_of term.now) (names.COVERS ∕ 2) ≡ true }
-    ensures { (form : Form) → IfOk result (λ s. s ≡ reply_stated form term.now) }
+    ensures { (form : FileForm) → IfOk result (λ s. s ≡ reply_stated form term.now) }
 {
     let clause = term.arg(alloc, 0)?;
     let reply = term.arg(alloc, 1)?;
@@ -186,9 +190,9 @@ fn cover_clause(alloc: Global, term: &Flat) -> Result<Stated, AllocError>
 }
 
 /// What a clause of the predicate `below/3` states.
-fn order_clause(alloc: Global, term: &Flat) -> Result<Stated, AllocError>
+fn order_clause(alloc: Global, term: &Flat) -> Result<StatedPair, AllocError>
     requires { is_pred (predicate_of term.now) (names.BELOW ∕ 3) ≡ true }
-    ensures { (form : Form) → IfOk result (λ s. s ≡ reply_stated form term.now) }
+    ensures { (form : FileForm) → IfOk result (λ s. s ≡ reply_stated form term.now) }
 {
     let callee = term.arg(alloc, 0)?;
     let caller = term.arg(alloc, 1)?;
@@ -198,7 +202,7 @@ fn order_clause(alloc: Global, term: &Flat) -> Result<Stated, AllocError>
 
 /// The question and the reply that a clause states, or the first cause why it states none.
 #[tactic(auto, unfolding(crate::specs::Statements::reply_stated))]
-fn reply_stated(alloc: Global, form: Form, term: &Flat) -> Result<Stated, AllocError>
+fn reply_stated(alloc: Global, form: FileForm, term: &Flat) -> Result<StatedPair, AllocError>
     ensures { IfOk result (λ s. s ≡ reply_stated form term.now) }
 {
     match term.pred() {
@@ -225,11 +229,11 @@ fn reply_stated(alloc: Global, form: Form, term: &Flat) -> Result<Stated, AllocE
 }
 
 /// What `trusted(P)` states, where P tells this predicate, if it tells one.
-fn trust_stated(form: Form, told: Option<Pred>) -> Result<Statement, OracleCause>
+fn trust_stated(form: FileForm, told: Option<Pred>) -> Result<Statement, OracleCause>
     ensures { result ≡ trust_stated form told }
 {
     match (form, told) {
-        (Form::Second, Some(pred)) => match kind_of(pred) {
+        (FileForm::Second, Some(pred)) => match kind_of(pred) {
             Kind::User => Ok(Statement::Trusts(pred)),
             _ => Err(OracleCause::NotUserAtom),
         },
@@ -238,7 +242,7 @@ fn trust_stated(form: Form, told: Option<Pred>) -> Result<Statement, OracleCause
 }
 
 /// A reply as a statement.
-fn of_reply(stated: Stated) -> Result<Statement, OracleCause>
+fn of_reply(stated: StatedPair) -> Result<Statement, OracleCause>
     ensures { result ≡ of_reply stated }
 {
     match stated {
@@ -263,7 +267,7 @@ fn is_trust(term: &Flat) -> bool
 /// What a clause of a file of this form states, or the first cause why it is no statement.
 pub(crate) fn term_stated(
     alloc: Global,
-    form: Form,
+    form: FileForm,
     term: &Flat,
 ) -> Result<Result<Statement, OracleCause>, AllocError>
     ensures { IfOk result (λ s. s ≡ term_stated form term.now) }

@@ -11,8 +11,8 @@ use Rattle.apd_term.specs.Term.{Term, size, spell, variable}
 use Rattle.apd_term.specs.declared.term.Sym.{Sym}
 use Rattle.apd_term.specs.declared.term.Sym.TheVariants.{Var, Int, Fun}
 use Rattle.apd_marks.specs.Keys.{key, part_of}
-use Rattle.apd_marks.specs.declared.keys.Part.{Part}
-use Rattle.apd_marks.specs.declared.keys.Part.TheVariants.{Size}
+use Rattle.apd_marks.specs.declared.keys.KeyPart.{KeyPart}
+use Rattle.apd_marks.specs.declared.keys.KeyPart.TheVariants.{Size}
 use Rattle.apd_marks.proofs.Distinct.{key-injective}
 use Rattle.apd_loop.specs.Keys.{mark, AreShared, HasSize, IsNoted}
 use Rattle.apd_loop.proofs.EqualCalls.{not_both, Tells}
@@ -33,7 +33,7 @@ mark-tells ns q p h e = by (list_any (nat_eq (size q)) ns) refl (list_any (nat_e
     by false x true y e = absurd (key-no_size (spell p) (size q) (sym e))
     by false x false y e = let s : size p ≡ size q = cc in absurd (not_both (list_any (nat_eq (size q)) ns) (h s) x)
 
-each : (m : Term → List Part) (q : Term) (ps : List Term) → ((j : ℕ) → j < length ps → m q ≡ m (get_or ps j (variable 0)) → q ≡ get_or ps j (variable 0)) → Tells m q ps
+each : (m : Term → List KeyPart) (q : Term) (ps : List Term) → ((j : ℕ) → j < length ps → m q ≡ m (get_or ps j (variable 0)) → q ≡ get_or ps j (variable 0)) → Tells m q ps
 each m q [] h = tt
 each m q (p ∷ ps) h = (h zero (omega arith), each m q ps (λ j l. h (suc j) (omega (arith, l))))
 

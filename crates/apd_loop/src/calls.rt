@@ -14,13 +14,13 @@ use std::marker::Model;
 /// The calls of the boxes of a chain in canonical form. Each is read from the record when it is asked for.
 /// Clauses see their list.
 #[derive(Drop)]
-pub struct Calls<'a> {
+pub struct ChainCalls<'a> {
     alloc: Global,
     recorded: &'a Record,
     chain: &'a [u32],
 }
 
-impl<'a> Model for Calls<'a> {
+impl<'a> Model for ChainCalls<'a> {
     ghost use Rattle.std.specs.Prelude.{List};
     ghost use Rattle.std.specs.Coded.{coded_list};
     ghost use Rattle.apd_term.specs.Term.{Term};
@@ -37,13 +37,13 @@ impl<'a> Model for Calls<'a> {
     ghost invariant = { λ c. HasBoxes c.recorded.now c.chain.now };
 }
 
-impl<'a> Calls<'a> {
+impl<'a> ChainCalls<'a> {
     /// Those of a record's boxes.
-    pub fn of(alloc: Global, recorded: &'a Record, chain: &'a [u32]) -> Calls<'a>
+    pub fn of(alloc: Global, recorded: &'a Record, chain: &'a [u32]) -> ChainCalls<'a>
         requires { HasBoxes recorded.now chain.now }
         ensures { result ≡ calls_in recorded.now chain.now }
     {
-        Calls {
+        ChainCalls {
             alloc,
             recorded,
             chain,

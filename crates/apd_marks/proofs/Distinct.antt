@@ -6,13 +6,13 @@ use Rattle.apd_term.specs.Term.{Term, spell}
 use Rattle.apd_term.specs.declared.term.Sym.{Sym}
 use Rattle.apd_term.specs.declared.term.Sym.TheVariants.{Var, Int, Fun}
 use Rattle.apd_term.proofs.Spelling.{spell-injective}
-use Rattle.apd_marks.specs.declared.keys.Part.{Part}
-use Rattle.apd_marks.specs.declared.keys.Part.TheVariants.{Variable, Integer, Name, Size}
-use Rattle.apd_marks.specs.contracts.keys.PartPartialEq.TheImpl.{eq-value}
+use Rattle.apd_marks.specs.declared.keys.KeyPart.{KeyPart}
+use Rattle.apd_marks.specs.declared.keys.KeyPart.TheVariants.{Variable, Integer, Name, Size}
+use Rattle.apd_marks.specs.contracts.keys.KeyPartPartialEq.TheImpl.{eq-value}
 use Rattle.apd_marks.specs.Keys.{key, part_of}
 
 -- the program's `==` on parts
-pub part_eq : (a b : Part) → Decides (eq-value.it a b) (a ≡ b)
+pub part_eq : (a b : KeyPart) → Decides (eq-value.it a b) (a ≡ b)
 part_eq (Variable v) (Variable w) = let d = Decides-eqb v w in (λ e. ap Variable (d.0 e), λ e. d.1 (cc))
 part_eq (Integer v) (Integer w) = let d = Decides-int_eq v w in (λ e. ap Integer (d.0 e), λ e. d.1 (cc))
 part_eq (Name f n) (Name g m) = let d = Decides-eqb f g in let k = Decides-eqb n m in grind (arith, nat_tests)

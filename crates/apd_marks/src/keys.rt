@@ -8,7 +8,7 @@ use std::alloc::{AllocError, Global};
 
 /// A part of a key: a symbol, or a size that stands for a term of which no other has it.
 #[derive(Clone, Copy, PartialEq, Eq, Hash)]
-pub enum Part {
+pub enum KeyPart {
     Variable(u64),
     Integer(i64),
     Name(u32, u8),
@@ -16,18 +16,18 @@ pub enum Part {
 }
 
 /// The symbol as a part of a key.
-fn part_of(symbol: Sym) -> Part
+fn part_of(symbol: Sym) -> KeyPart
     ensures { result ≡ part_of symbol }
 {
     match symbol {
-        Sym::Var(v) => Part::Variable(v),
-        Sym::Int(i) => Part::Integer(i),
-        Sym::Fun(name, arity) => Part::Name(name.0, arity),
+        Sym::Var(v) => KeyPart::Variable(v),
+        Sym::Int(i) => KeyPart::Integer(i),
+        Sym::Fun(name, arity) => KeyPart::Name(name.0, arity),
     }
 }
 
 /// The key of a term, which no other term has.
-pub fn key_of(alloc: Global, term: &Flat) -> Result<Vec<Part>, AllocError>
+pub fn key_of(alloc: Global, term: &Flat) -> Result<Vec<KeyPart>, AllocError>
     ensures { IfOk result (λ k. k.items ≡ key term.now) }
 {
     let mut parts = Vec::new(alloc);

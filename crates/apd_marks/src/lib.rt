@@ -6,7 +6,7 @@ mod mixing;
 mod places;
 mod positions;
 
-pub use keys::{Part, key_of};
+pub use keys::{KeyPart, key_of};
 pub use mixing::{mixed, with_term};
 pub use places::{Places, forget, note, with_mark};
 pub use positions::{ANY_TERM, all_marks, marks_of, whole};

@@ -58,7 +58,7 @@ fn note(marks: &mut Vec<u64>, parent: Parent, symbol: Sym) -> Result<(), AllocEr
 }
 
 /// Puts the parents that are left after a symbol was read as the next one of a parent.
-fn go_on(parents: &mut Vec<Parent>, parent: Parent, symbol: Sym) -> Result<(), AllocError>
+fn put_parents(parents: &mut Vec<Parent>, parent: Parent, symbol: Sym) -> Result<(), AllocError>
     ensures { OnOk result (parents.new.items ≡ onward parent symbol parents.old.items) }
 {
     wait(parents, parent.mark, parent.left.saturating_sub(1))?;
@@ -83,7 +83,7 @@ pub fn marks_of(alloc: Global, term: &Flat) -> Result<Vec<u64>, AllocError>
             return Ok(marks);
         };
         note(&mut marks, parent, *symbol)?;
-        go_on(&mut parents, parent, *symbol)?;
+        put_parents(&mut parents, parent, *symbol)?;
     }
     Ok(marks)
 }

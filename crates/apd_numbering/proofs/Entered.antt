@@ -15,9 +15,9 @@ use Rattle.apd_answers.specs.declared.question.Reply.{Reply}
 use Rattle.apd_answers.specs.declared.question.Reply.TheVariants.{Yes, No, Values, Unknown}
 use Rattle.apd_claims.specs.Claims.{asked, claim_as, claim_of, entry_for, fact, goals_in, is_text, or_garbled, pair_in, replied, reply_in, tuple_in, written}
 use Rattle.apd_claims.specs.declared.claim.Claim.{Claim}
-use Rattle.apd_claims.specs.declared.form.Frame.{Frame}
-use Rattle.apd_claims.specs.declared.form.Frame.TheVariants.{Truth, Cover, Order, Reply as Answer, Instance, Uncovered}
-use Rattle.apd_claims.specs.declared.form.Numbered.{Numbered}
+use Rattle.apd_claims.specs.declared.form.LineFrame.{LineFrame}
+use Rattle.apd_claims.specs.declared.form.LineFrame.TheVariants.{Truth, Cover, Order, Reply as Answer, Instance, Uncovered}
+use Rattle.apd_claims.specs.declared.form.NumberedQuestion.{NumberedQuestion}
 use Rattle.apd_clauses.specs.Kinds.{◌∕◌}
 use Rattle.apd_clauses.specs.Predicates.{is_pred}
 use Rattle.apd_known.specs.Told.{is_word, truth_told, values_of, values_told}
@@ -274,12 +274,12 @@ module _ (n : ℕ) (names others : List (List ℕ)) (a : BeginAlike n names othe
   canonical-shared (asks.Covers t) i = shared_tuple-canonical names others b.numbering.to t i
   canonical-shared (asks.Below q p) i = (shared-canonical names others b.numbering.to q i.0, shared-canonical names others b.numbering.to p i.1)
 
-  pub asked-twins : (place : Numbered) (q : Question) → QuestionIsShared names others b.numbering.to q → EntryTwins names others b.numbering.to (asked place q) (asked place (renumbered_question b.numbering.to q))
+  pub asked-twins : (place : NumberedQuestion) (q : Question) → QuestionIsShared names others b.numbering.to q → EntryTwins names others b.numbering.to (asked place q) (asked place (renumbered_question b.numbering.to q))
   asked-twins place q i =
       subst (λ p. EntryTwins names others b.numbering.to (asked place q) (entries.Question place.number (record { question = p; suspects = place.suspects }))) (sym (question-renumbered b.numbering.to q))
       (question_entry place.number (record { question = canonical_question q; suspects = place.suspects }) (canonical-shared q i))
 
-  order-twins : (place : Numbered) (o : Option Question) → IfSome o (QuestionIsShared names others b.numbering.to)
+  order-twins : (place : NumberedQuestion) (o : Option Question) → IfSome o (QuestionIsShared names others b.numbering.to)
       → EntriesTwins names others b.numbering.to (option_map (asked place) o) (option_map (asked place) (option_map (renumbered_question b.numbering.to) o))
   order-twins place None i = no_entry
   order-twins place (Some q) i = some_entry (asked-twins place q i)
@@ -289,7 +289,7 @@ module _ (n : ℕ) (names others : List (List ℕ)) (a : BeginAlike n names othe
   answer-twins left by_reference None i = no_entry
   answer-twins left by_reference (Some reply) i = some_entry (reply_entry reply left by_reference i)
 
-  pub entry-twins : (frame : Frame) (t : Term) → IsShared names others b.numbering.to t → EntriesTwins names others b.numbering.to (entry_for frame t) (entry_for frame (renumbered b.numbering.to t))
+  pub entry-twins : (frame : LineFrame) (t : Term) → IsShared names others b.numbering.to t → EntriesTwins names others b.numbering.to (entry_for frame t) (entry_for frame (renumbered b.numbering.to t))
   entry-twins (Truth place) t i = some_entry (asked-twins place (asks.True t) i)
   entry-twins (Cover place) t i =
       subst (λ u. EntriesTwins names others b.numbering.to (entry_for (Cover place) t) (Some (asked place (asks.Covers u)))) (sym (tuple_in-renumbered n b.numbering t))

@@ -8,7 +8,7 @@ use Rattle.apd_answers.specs.declared.finding.Finding.{Finding}
 use Rattle.apd_answers.specs.declared.finding.Finding.TheVariants as findings
 use Rattle.apd_check.specs.Checked.{IsChecked, IsFound, IsFoundIn, IsJudged, IsJudgedBy, IsRightFinding, after_by, after_claim, found_by, found_in}
 use Rattle.apd_check.specs.declared.checked.Checked.TheVariants as checked
-use Rattle.apd_check.specs.declared.state.State.{State}
+use Rattle.apd_check.specs.declared.state.LogState.{LogState}
 use Rattle.apd_claims.specs.Claims.{call_entry, called, is_text, written}
 use Rattle.apd_claims.specs.Forms.{form_in, with_newline}
 use Rattle.apd_claims.specs.Parting.{called_by, claim_parted, claim_with, is_callers}
@@ -17,8 +17,8 @@ use Rattle.apd_claims.specs.Saying.{claim_by, goes_on, said_from}
 use Rattle.apd_claims.specs.declared.claim.Claim.{Claim}
 use Rattle.apd_claims.specs.declared.claim.Claim.TheVariants.{Finds, Garbled}
 use Rattle.apd_claims.specs.declared.form.Calling.{Calling}
-use Rattle.apd_claims.specs.declared.form.Form.{Form}
-use Rattle.apd_claims.specs.declared.form.Form.TheVariants.{Query, End, Symptom, Framed, Call, Candidates, Candidate, Descent, Other, Unread}
+use Rattle.apd_claims.specs.declared.form.LineForm.{LineForm}
+use Rattle.apd_claims.specs.declared.form.LineForm.TheVariants.{Query, End, Symptom, Framed, Call, Candidates, Candidate, Descent, Other, Unread}
 use Rattle.apd_claims.specs.declared.parting.CallLine.{CallLine}
 use Rattle.apd_clauses.specs.Clauses.{tuples_of}
 use Rattle.apd_clauses.specs.declared.clause.Clause.{Clause}
@@ -60,7 +60,7 @@ of_atoms ops names whole c number true (Some q) (Some p) f line e = by (is_text 
     by true h = let same : f ≡ findings.Violation c.clause c.goal c.caller number p q = cc in record { callee = q; caller = p; callee_is = refl; caller_is = refl; is = same }
 
 -- the state and the count behind a line are the other's, renumbered
-record Step (n : ℕ) (r : ℕ → ℕ) (program : List Clause) (t : State) (c : Claim) (f : Option (ℕ → Option Claim)) (d : Claim) (g : Option (ℕ → Option Claim)) : Type 0 where
+record Step (n : ℕ) (r : ℕ → ℕ) (program : List Clause) (t : LogState) (c : Claim) (f : Option (ℕ → Option Claim)) (d : Claim) (g : Option (ℕ → Option Claim)) : Type 0 where
   judged : IsJudgedBy program (renumbered_state r t) d g None
   behind : after_by program (renumbered_state r t) d g ≡ renumbered_state r (after_by program t c f)
   count : found_by d g ≡ found_by c f
@@ -69,7 +69,7 @@ record Step (n : ℕ) (r : ℕ → ℕ) (program : List Clause) (t : State) (c :
 module _ (n : ℕ) (names others : List (List ℕ)) (a : BeginAlike n names others) (b : Between n names others) (has : HasAll names others) (ops : Table) (few : HasFewOperators n ops) (table : IsTable ops) (r : Reader names) (s : Reader others)
     (program : List Clause) (first : AllTuplesNamed n (tuples_of program)) (clauses : AllTuplesNamed (length names) (tuples_of program)) where
   -- a call that was found has the atoms of boxes
-  found-kept : (t : State) → StateIsNamed (length names) t → (c : Calling) (number : ℕ) (o v : Option Term) (f : Finding) (line : ℕ) → IsOfAtoms c number o v f → IsRightFinding program t f line
+  found-kept : (t : LogState) → StateIsNamed (length names) t → (c : Calling) (number : ℕ) (o v : Option Term) (f : Finding) (line : ℕ) → IsOfAtoms c number o v f → IsRightFinding program t f line
       → (q p : Term) → o ≡ Some q → v ≡ Some p → IsNamed (length names) q × IsNamed (length names) p
   found-kept t named c number o v f line k right q p i j =
       let h = subst (IsByReplies (tuples_of program) t.history t.known) k.is right.by_replies in
@@ -79,7 +79,7 @@ module _ (n : ℕ) (names others : List (List ℕ)) (a : BeginAlike n names othe
         subst (IsNamed (length names)) (h.call.callers ∙ caller) (IsNamed-canonical (length names) _ (call_atom-named (length names) t.history c.caller named.boxes)),
       )
 
-  call-holds : (t : State) → StateIsNamed (length names) t → (x : CallLine) (place : ℕ) (f : Finding) (line : ℕ) → IsRightFinding program t f line → (o : Option Led)
+  call-holds : (t : LogState) → StateIsNamed (length names) t → (x : CallLine) (place : ℕ) (f : Finding) (line : ℕ) → IsRightFinding program t f line → (o : Option Led)
       → option_and_then (claim_with r ops x (take place x.text)) o ≡ Some (Finds f line)
       → option_and_then (claim_with s ops x (take place x.text)) o ≡ option_map (renumbered_claim b.numbering.to) (option_and_then (claim_with r ops x (take place x.text)) o)
   call-holds t named x place f line right None e = absurd cc
@@ -89,14 +89,14 @@ module _ (n : ℕ) (names others : List (List ℕ)) (a : BeginAlike n names othe
       let i : CallIsKept r ops front l = found-kept t named x.calling l.number (term_in r ops front) (term_in r ops l.rest) f line k right in
       with-alike n names others a b ops few table r s x front l i (call-kept n names others a has ops few table r s front l i)
 
-  found-holds : (t : State) → StateIsNamed (length names) t → (x : CallLine) → IsFoundIn program t (claim_parted r ops x) → IsFoundIn program (renumbered_state b.numbering.to t) (claim_parted s ops x)
+  found-holds : (t : LogState) → StateIsNamed (length names) t → (x : CallLine) → IsFoundIn program t (claim_parted r ops x) → IsFoundIn program (renumbered_state b.numbering.to t) (claim_parted s ops x)
   found-holds t named x h =
       let k = h.1 in
       let same : claim_parted s ops x h.0 ≡ option_map (renumbered_claim b.numbering.to) (claim_parted r ops x h.0) = call-holds t named x h.0 k.0 k.1 k.3 (box_first (drop h.0 x.text)) k.2 in
       (h.0, subst (IsFound program (renumbered_state b.numbering.to t)) (sym same) (found-renumbered n program first b.numbering t (claim_parted r ops x h.0) k))
 
   -- a line that isn't of a call
-  plain-step : (t : State) → StateIsNamed (length names) t → (c d : Claim) → d ≡ renumbered_claim b.numbering.to c → IsJudged program t c None → ClaimIsNamed (length names) c → Step (length names) b.numbering.to program t c None d None
+  plain-step : (t : LogState) → StateIsNamed (length names) t → (c d : Claim) → d ≡ renumbered_claim b.numbering.to c → IsJudged program t c None → ClaimIsNamed (length names) c → Step (length names) b.numbering.to program t c None d None
   plain-step t named c d e j i = record {
     judged = subst (λ k. IsJudged program (renumbered_state b.numbering.to t) k None) (sym e) (judged-renumbered n program first b.numbering t c None j);
     behind = ap (after_claim program (renumbered_state b.numbering.to t)) e ∙ after-renumbered n program first b.numbering t c;
@@ -104,17 +104,17 @@ module _ (n : ℕ) (names others : List (List ℕ)) (a : BeginAlike n names othe
     named = after-named (length names) program t c clauses named i;
   }
 
-  good : (t : State) (c : Claim) → IsJudged program t c None → c ≡ Garbled → ⊥
+  good : (t : LogState) (c : Claim) → IsJudged program t c None → c ≡ Garbled → ⊥
   good t c j e = let h : None ≡ Some why.Text = subst (λ k. IsJudged program t k None) e j in absurd cc
 
-  step-of : (t : State) → StateIsNamed (length names) t → (in_group : Bool) (line : List ℕ) (lines : List (List ℕ)) (form : Form) → IsNoCall form
+  step-of : (t : LogState) → StateIsNamed (length names) t → (in_group : Bool) (line : List ℕ) (lines : List (List ℕ)) (form : LineForm) → IsNoCall form
       → IsJudged program t (claim_by r ops in_group line lines form) None → ClaimIsNamed (length names) (claim_by r ops in_group line lines form)
       → Step (length names) b.numbering.to program t (claim_by r ops in_group line lines form) None (claim_by s ops in_group line lines form) None
   step-of t named in_group line lines form plain j i =
       plain-step t named (claim_by r ops in_group line lines form) (claim_by s ops in_group line lines form)
       (form-holds n names others a b has ops few table r s in_group line lines form plain (good t (claim_by r ops in_group line lines form) j) i) j i
 
-  line-step : (t : State) → StateIsNamed (length names) t → (in_group : Bool) (line : List ℕ) (lines : List (List ℕ)) (form : Form)
+  line-step : (t : LogState) → StateIsNamed (length names) t → (in_group : Bool) (line : List ℕ) (lines : List (List ℕ)) (form : LineForm)
       → IsJudgedBy program t (claim_by r ops in_group line lines form) (option_map (claim_parted r ops) (called_by line form)) None
       → IsNamedBy (length names) (claim_by r ops in_group line lines form) (option_map (claim_parted r ops) (called_by line form))
       → Step (length names) b.numbering.to program t (claim_by r ops in_group line lines form) (option_map (claim_parted r ops) (called_by line form))
@@ -131,7 +131,7 @@ module _ (n : ℕ) (names others : List (List ℕ)) (a : BeginAlike n names othe
   line-step t named in_group line lines Other j i = step-of t named in_group line lines Other tt j i
   line-step t named in_group line lines Unread j i = step-of t named in_group line lines Unread tt j i
 
-  pub lines-hold : (t : State) → StateIsNamed (length names) t → (in_group : Bool) (number : ℕ) (lines : List (List ℕ)) (found count : ℕ) → AllSaidNamed (length names) (said_from r ops in_group number lines)
+  pub lines-hold : (t : LogState) → StateIsNamed (length names) t → (in_group : Bool) (number : ℕ) (lines : List (List ℕ)) (found count : ℕ) → AllSaidNamed (length names) (said_from r ops in_group number lines)
       → IsChecked program t found (said_from r ops in_group number lines) (checked.Holds count) → IsChecked program (renumbered_state b.numbering.to t) found (said_from s ops in_group number lines) (checked.Holds count)
   lines-hold t named in_group number [] found count i h = h
   lines-hold t named in_group number (line ∷ lines) found count i (inr h) = (let e : checked.Holds count ≡ checked.Fails number h.0 = h.2 in absurd cc)

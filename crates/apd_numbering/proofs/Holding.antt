@@ -14,11 +14,11 @@ use Rattle.apd_claims.specs.Forms.{with_newline}
 use Rattle.apd_claims.specs.Reading.{as_clause}
 use Rattle.apd_claims.specs.Saying.{claim_by, group_entry, group_text, instance_at, instance_in, instance_with, instances_in, is_candidate}
 use Rattle.apd_claims.specs.declared.claim.Claim.TheVariants.{Garbled}
-use Rattle.apd_claims.specs.declared.form.Form.{Form}
-use Rattle.apd_claims.specs.declared.form.Form.TheVariants.{Query, End, Symptom, Framed, Call, Candidates, Candidate, Descent, Other, Unread}
-use Rattle.apd_claims.specs.declared.form.Frame.{Frame}
-use Rattle.apd_claims.specs.declared.form.Frame.TheVariants.{Truth, Cover, Order, Reply as Answer, Instance as OfClause, Uncovered}
-use Rattle.apd_claims.specs.declared.form.Numbered.{Numbered}
+use Rattle.apd_claims.specs.declared.form.LineForm.{LineForm}
+use Rattle.apd_claims.specs.declared.form.LineForm.TheVariants.{Query, End, Symptom, Framed, Call, Candidates, Candidate, Descent, Other, Unread}
+use Rattle.apd_claims.specs.declared.form.LineFrame.{LineFrame}
+use Rattle.apd_claims.specs.declared.form.LineFrame.TheVariants.{Truth, Cover, Order, Reply as Answer, Instance as OfClause, Uncovered}
+use Rattle.apd_claims.specs.declared.form.NumberedQuestion.{NumberedQuestion}
 use Rattle.apd_ops.specs.Table.{IsTable, Table}
 use Rattle.apd_parts.specs.Parts.{Led, if_some}
 use Rattle.apd_read.specs.Reader.{Reader}
@@ -46,7 +46,7 @@ use Rattle.apd_numbering.proofs.Twins.{AreOfOneText, AreTwins, compound_twin, in
 use Rattle.apd_numbering.proofs.Written.{IsShared, twins-renumbered}
 
 -- the line isn't that of a call
-abbrev pub IsNoCall : Form → Type 0
+abbrev pub IsNoCall : LineForm → Type 0
 IsNoCall (Query goals) = ⊤
 IsNoCall (End ran) = ⊤
 IsNoCall (Symptom is_true text) = ⊤
@@ -80,12 +80,12 @@ module _ (n : ℕ) (names others : List (List ℕ)) (a : BeginAlike n names othe
       by true h j = j
       by false h j = absurd (h refl)
 
-  kept-entry : (frame : Frame) {t u : Term} → AreTwins (AreOfOneText names others) t u → IsNamed (length names) t → EntriesTwins names others b.numbering.to (entry_for frame t) (entry_for frame u)
+  kept-entry : (frame : LineFrame) {t u : Term} → AreTwins (AreOfOneText names others) t u → IsNamed (length names) t → EntriesTwins names others b.numbering.to (entry_for frame t) (entry_for frame u)
   kept-entry frame {t} h i =
       let k = kept h i in
       subst (λ v. EntriesTwins names others b.numbering.to (entry_for frame t) (entry_for frame v)) (sym k.0) (entry-twins n names others a b ops few frame t k.1)
 
-  order-entry : (place : Numbered) (whole : List ℕ) {t u : Term} → AreTwins (AreOfOneText names others) t u → (claim_as ops names whole (entry_for (Order place) t) ≡ Garbled → ⊥)
+  order-entry : (place : NumberedQuestion) (whole : List ℕ) {t u : Term} → AreTwins (AreOfOneText names others) t u → (claim_as ops names whole (entry_for (Order place) t) ≡ Garbled → ⊥)
       → ClaimIsNamed (length names) (claim_as ops names whole (entry_for (Order place) t)) → EntriesTwins names others b.numbering.to (entry_for (Order place) t) (entry_for (Order place) u)
   order-entry place whole (variable_twin v) good i = no_entry
   order-entry place whole (integer_twin z) good i = no_entry
@@ -105,7 +105,7 @@ module _ (n : ℕ) (names others : List (List ℕ)) (a : BeginAlike n names othe
   answer-named whole left by_reference t None e good i = absurd (good refl)
   answer-named whole left by_reference t (Some reply) e good i = reply_in-back (length names) many t reply e (known-claim whole (replied left by_reference reply) good i)
 
-  frame-holds : (frame : Frame) (whole : List ℕ) {o u : Option Term} → TermsTwins (AreOfOneText names others) o u → (claim_as ops names whole (option_and_then (entry_for frame) o) ≡ Garbled → ⊥)
+  frame-holds : (frame : LineFrame) (whole : List ℕ) {o u : Option Term} → TermsTwins (AreOfOneText names others) o u → (claim_as ops names whole (option_and_then (entry_for frame) o) ≡ Garbled → ⊥)
       → ClaimIsNamed (length names) (claim_as ops names whole (option_and_then (entry_for frame) o)) → EntriesTwins names others b.numbering.to (option_and_then (entry_for frame) o) (option_and_then (entry_for frame) u)
   frame-holds frame whole no_term good i = no_entry
   frame-holds (Truth place) whole (both_terms t u h) good i = kept-entry (Truth place) h (canonical-back (length names) t (known-claim whole (asked place (asks.True t)) good i))
@@ -195,7 +195,7 @@ module _ (n : ℕ) (names others : List (List ℕ)) (a : BeginAlike n names othe
   symptom-holds true (both_terms t u h) i = ap (told true) (kept h i.0).0
   symptom-holds false (both_terms t u h) i = ap (told false) (kept h i.0).0
 
-  pub form-holds : (in_group : Bool) (line : List ℕ) (lines : List (List ℕ)) (form : Form) → IsNoCall form → (claim_by r ops in_group line lines form ≡ Garbled → ⊥)
+  pub form-holds : (in_group : Bool) (line : List ℕ) (lines : List (List ℕ)) (form : LineForm) → IsNoCall form → (claim_by r ops in_group line lines form ≡ Garbled → ⊥)
       → ClaimIsNamed (length names) (claim_by r ops in_group line lines form) → claim_by s ops in_group line lines form ≡ renumbered_claim b.numbering.to (claim_by r ops in_group line lines form)
   form-holds in_group line lines (Query goals) plain good i = run-holds (reading-twins n names others a ops few table r s (codes "?- " ++ as_clause goals)) good i
   form-holds in_group line lines (End ran) plain good i = refl

@@ -26,7 +26,7 @@ use Rattle.apd_claims.specs.declared.claim.Claim.TheVariants.{Runs, Ends, Tells,
 use Rattle.apd_check.specs.Checked.{Decided, IsReplyTo, made_again, EndsSo, IsPlaced, IsRightFinding, IsRightDescent, IsJudged, history_after, known_after, after_claim, found_in, reason_for, IsFound, IsFoundIn, IsJudgedBy, after_by, after_line, found_by, found_on, IsChecked}
 use Rattle.apd_check.specs.declared.checked.Checked.{Checked}
 use Rattle.apd_check.specs.declared.checked.Checked.TheVariants as checked
-use Rattle.apd_check.specs.declared.state.State.{State}
+use Rattle.apd_check.specs.declared.state.LogState.{LogState}
 use Rattle.apd_text.specs.declared.check.Why.{Why}
 use Rattle.apd_text.specs.declared.check.Why.TheVariants as why
 use Rattle.apd_numbering.specs.Claims.{renumbered_query, renumbered_claim, renumbered_state, ArePartedAs, AreSaidAs}
@@ -83,14 +83,14 @@ module _ (n : ℕ) (program : List Clause) (named : AllTuplesNamed n (tuples_of 
   ends-renumbered x None ran h = h
   ends-renumbered x (Some q) ran h = ap ran_of (made_again-renumbered x q ran) ∙ ran-renumbered x.to (made_again program q ran) ∙ h
 
-  right_finding : (x : Renumbering n) (s : State) (f : Finding) (line : ℕ) → IsRightFinding program s f line → IsRightFinding program (renumbered_state x.to s) (renumbered_finding x.to f) line
+  right_finding : (x : Renumbering n) (s : LogState) (f : Finding) (line : ℕ) → IsRightFinding program s f line → IsRightFinding program (renumbered_state x.to s) (renumbered_finding x.to f) line
   right_finding x s f line h = record {
     by_replies = subst (λ P. IsByReplies P (renumbered_record x.to s.history) (renumbered_store x.to s.known) (renumbered_finding x.to f)) (renumbered_tuples-named n x (tuples_of program) named)
         (by_replies-renumbered n x (tuples_of program) s.history s.known f h.by_replies);
     placed = placed-renumbered x.to program f line h.placed;
   }
 
-  right_descent : (x : Renumbering n) (s : State) (calls : ℕ) → IsRightDescent program s calls → IsRightDescent program (renumbered_state x.to s) calls
+  right_descent : (x : Renumbering n) (s : LogState) (calls : ℕ) → IsRightDescent program s calls → IsRightDescent program (renumbered_state x.to s) calls
   right_descent x s calls h = record {
     count = h.count ∙ ap length (sym (chain-renumbered x.to s.history));
     by_replies = subst (AllDescendByReplies (renumbered_store x.to s.known))
@@ -104,13 +104,13 @@ module _ (n : ℕ) (program : List Clause) (named : AllTuplesNamed n (tuples_of 
   ends_back x None ran h = h
   ends_back x (Some q) ran h = sym (ap ran_of (made_again-renumbered x q ran) ∙ ran-renumbered x.to (made_again program q ran)) ∙ h
 
-  finding_back : (x : Renumbering n) (s : State) (f : Finding) (line : ℕ) → IsRightFinding program (renumbered_state x.to s) (renumbered_finding x.to f) line → IsRightFinding program s f line
+  finding_back : (x : Renumbering n) (s : LogState) (f : Finding) (line : ℕ) → IsRightFinding program (renumbered_state x.to s) (renumbered_finding x.to f) line → IsRightFinding program s f line
   finding_back x s f line h =
       subst (λ t. IsRightFinding program t f line) (state-back x.to x.back x.again s)
       (subst (λ g. IsRightFinding program (renumbered_state x.back (renumbered_state x.to s)) g line) (finding-back x.to x.back x.again f)
       (right_finding (opposite_of n x) (renumbered_state x.to s) (renumbered_finding x.to f) line h))
 
-  descent_back : (x : Renumbering n) (s : State) (calls : ℕ) → IsRightDescent program (renumbered_state x.to s) calls → IsRightDescent program s calls
+  descent_back : (x : Renumbering n) (s : LogState) (calls : ℕ) → IsRightDescent program (renumbered_state x.to s) calls → IsRightDescent program s calls
   descent_back x s calls h = subst (λ t. IsRightDescent program t calls) (state-back x.to x.back x.again s) (right_descent (opposite_of n x) (renumbered_state x.to s) calls h)
 
   may_ask_back : (x : Renumbering n) (q : Question) → MayAsk (renumbered_question x.to q) → MayAsk q
@@ -129,7 +129,7 @@ module _ (n : ℕ) (program : List Clause) (named : AllTuplesNamed n (tuples_of 
   reply_to-renumbered x (Some a) reply w h =
       decided-other (FitsAsked a reply) (FitsAsked (renumbered_asked x.to a) (renumbered_reply x.to reply)) why.Unfit (fits_asked-renumbered n x a reply) (fits_back x a reply) w h
 
-  pub judged-renumbered : (x : Renumbering n) (s : State) (c : Claim) (w : Option Why) → IsJudged program s c w → IsJudged program (renumbered_state x.to s) (renumbered_claim x.to c) w
+  pub judged-renumbered : (x : Renumbering n) (s : LogState) (c : Claim) (w : Option Why) → IsJudged program s c w → IsJudged program (renumbered_state x.to s) (renumbered_claim x.to c) w
   judged-renumbered x s (Runs q) w h = h
   judged-renumbered x s (Ends ran) w h =
       decided-other (EndsSo program s.query ran) (EndsSo program (option_map (renumbered_query x.to) s.query) ran) why.End (ends-renumbered x s.query ran) (ends_back x s.query ran) w h
@@ -157,7 +157,7 @@ module _ (n : ℕ) (program : List Clause) (named : AllTuplesNamed n (tuples_of 
   known-renumbered x store None reply = refl
   known-renumbered x store (Some a) reply = with_pair-renumbered n x store a.question reply
 
-  pub after-renumbered : (x : Renumbering n) (s : State) (c : Claim) → after_claim program (renumbered_state x.to s) (renumbered_claim x.to c) ≡ renumbered_state x.to (after_claim program s c)
+  pub after-renumbered : (x : Renumbering n) (s : LogState) (c : Claim) → after_claim program (renumbered_state x.to s) (renumbered_claim x.to c) ≡ renumbered_state x.to (after_claim program s c)
   after-renumbered x s (Runs q) = refl
   after-renumbered x s (Ends ran) = rw (history-renumbered x s.query ran s.history) refl
   after-renumbered x s (Tells question reply) = rw (with_pair-renumbered n x s.known question reply) refl
@@ -170,16 +170,16 @@ module _ (n : ℕ) (program : List Clause) (named : AllTuplesNamed n (tuples_of 
 
   -- A line of a call.
 
-  pub found-renumbered : (x : Renumbering n) (s : State) (o : Option Claim) → IsFound program s o → IsFound program (renumbered_state x.to s) (option_map (renumbered_claim x.to) o)
+  pub found-renumbered : (x : Renumbering n) (s : LogState) (o : Option Claim) → IsFound program s o → IsFound program (renumbered_state x.to s) (option_map (renumbered_claim x.to) o)
   found-renumbered x s o h = (renumbered_finding x.to h.0, h.1, ap (option_map (renumbered_claim x.to)) h.2, right_finding x s h.0 h.1 h.3)
 
-  found_back : (x : Renumbering n) (s : State) (o : Option Claim) → IsFound program (renumbered_state x.to s) (option_map (renumbered_claim x.to) o) → IsFound program s o
+  found_back : (x : Renumbering n) (s : LogState) (o : Option Claim) → IsFound program (renumbered_state x.to s) (option_map (renumbered_claim x.to) o) → IsFound program s o
   found_back x s o h =
       subst (IsFound program s) (option-back (renumbered_claim x.to) (renumbered_claim x.back) (claim-back x.to x.back x.again) o)
       (subst (λ t. IsFound program t (option_map (renumbered_claim x.back) (option_map (renumbered_claim x.to) o))) (state-back x.to x.back x.again s)
       (found-renumbered (opposite_of n x) (renumbered_state x.to s) (option_map (renumbered_claim x.to) o) h))
 
-  by-renumbered : (x : Renumbering n) (s : State) (c d : Claim) → d ≡ renumbered_claim x.to c → (f g : Option (ℕ → Option Claim)) → ArePartedAs x.to f g → (w : Option Why)
+  by-renumbered : (x : Renumbering n) (s : LogState) (c d : Claim) → d ≡ renumbered_claim x.to c → (f g : Option (ℕ → Option Claim)) → ArePartedAs x.to f g → (w : Option Why)
       → IsJudgedBy program s c f w → IsJudgedBy program (renumbered_state x.to s) d g w
   by-renumbered x s c d e None None p w h = subst (λ k. IsJudged program (renumbered_state x.to s) k w) (sym e) (judged-renumbered x s c w h)
   by-renumbered x s c d e None (Some g) p w h = absurd p
@@ -190,7 +190,7 @@ module _ (n : ℕ) (program : List Clause) (named : AllTuplesNamed n (tuples_of 
       (λ k. (k.0, subst (IsFound program (renumbered_state x.to s)) (sym (p k.0)) (found-renumbered x s (f k.0) k.1)))
       (λ k. (k.0, found_back x s (f k.0) (subst (IsFound program (renumbered_state x.to s)) (p k.0) k.1))) w h)
 
-  behind-renumbered : (x : Renumbering n) (s : State) (c d : Claim) → d ≡ renumbered_claim x.to c → (f g : Option (ℕ → Option Claim)) → ArePartedAs x.to f g
+  behind-renumbered : (x : Renumbering n) (s : LogState) (c d : Claim) → d ≡ renumbered_claim x.to c → (f g : Option (ℕ → Option Claim)) → ArePartedAs x.to f g
       → after_by program (renumbered_state x.to s) d g ≡ renumbered_state x.to (after_by program s c f)
   behind-renumbered x s c d e None None p = ap (after_claim program (renumbered_state x.to s)) e ∙ after-renumbered x s c
   behind-renumbered x s c d e None (Some g) p = absurd p
@@ -204,7 +204,7 @@ module _ (n : ℕ) (program : List Clause) (named : AllTuplesNamed n (tuples_of 
   count-renumbered x c d e (Some f) (Some g) p = refl
 
   -- All that lines say.
-  pub checked-renumbered : (x : Renumbering n) (s : State) (found : ℕ) (xs ys : List Said) (result : Checked) → AreSaidAs x.to xs ys
+  pub checked-renumbered : (x : Renumbering n) (s : LogState) (found : ℕ) (xs ys : List Said) (result : Checked) → AreSaidAs x.to xs ys
       → IsChecked program s found xs result → IsChecked program (renumbered_state x.to s) found ys result
   checked-renumbered x s found [] [] result all h = h
   checked-renumbered x s found [] (b ∷ ys) result all h = absurd all

@@ -6,8 +6,8 @@ use Rattle.std.proofs.lemmas.List.{append-nil}
 use Rattle.apd_causes.specs.declared.reading.Read.{Read}
 use Rattle.apd_claims.specs.Forms.{form_in}
 use Rattle.apd_claims.specs.Reading.{as_clause}
-use Rattle.apd_claims.specs.declared.form.Form.{Form}
-use Rattle.apd_claims.specs.declared.form.Form.TheVariants.{Query, End, Symptom, Framed, Call, Candidates, Candidate, Descent, Other, Unread}
+use Rattle.apd_claims.specs.declared.form.LineForm.{LineForm}
+use Rattle.apd_claims.specs.declared.form.LineForm.TheVariants.{Query, End, Symptom, Framed, Call, Candidates, Candidate, Descent, Other, Unread}
 use Rattle.apd_ops.specs.Table.{IsTable, Table}
 use Rattle.apd_parts.specs.Parts.{Led}
 use Rattle.apd_read.specs.Reader.{Reader}
@@ -52,7 +52,7 @@ module _ (n : ℕ) (names others : List (List ℕ)) (a : BeginAlike n names othe
       let k = i x.0 y.0 x.1 y.1 in
       (twins-kept names others has x.2 k.0, twins-kept names others has y.2 k.1)
 
-  form-kept : (form : Form) → FormIsKept r ops form → FormIsKept s ops form
+  form-kept : (form : LineForm) → FormIsKept r ops form → FormIsKept s ops form
   form-kept (Query goals) i = text-kept (codes "?- " ++ as_clause goals) i
   form-kept (End ran) i = tt
   form-kept (Symptom is_true text) i = text-kept (as_clause text) i

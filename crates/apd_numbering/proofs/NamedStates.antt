@@ -7,7 +7,7 @@ use Rattle.apd_again.specs.Again.{answers_again}
 use Rattle.apd_causes.specs.declared.run.Query.{Query}
 use Rattle.apd_causes.specs.declared.run.Ran.{Ran}
 use Rattle.apd_check.specs.Checked.{after_claim, history_after, made_again}
-use Rattle.apd_check.specs.declared.state.State.{State}
+use Rattle.apd_check.specs.declared.state.LogState.{LogState}
 use Rattle.apd_claims.specs.declared.claim.Claim.{Claim}
 use Rattle.apd_claims.specs.declared.claim.Claim.TheVariants.{Runs, Ends, Tells, Asks, Replies, Finds, Descends, Nothing, Garbled}
 use Rattle.apd_clauses.specs.Clauses.{tuples_of}
@@ -31,7 +31,7 @@ use Rattle.apd_numbering.specs.Said.{ClaimIsNamed}
 abbrev pub BoxesAreNamed : ℕ → List BoxRow → Type 0
 BoxesAreNamed n bs = AllByRecursion (λ (b : BoxRow). IsNamed n b.atom) bs
 
-pub record StateIsNamed (n : ℕ) (s : State) : Type 0 where
+pub record StateIsNamed (n : ℕ) (s : LogState) : Type 0 where
   pub query : IfSome s.query (λ q. TupleIsNamed n q.tuple)
   pub boxes : BoxesAreNamed n s.history.boxes
 
@@ -75,7 +75,7 @@ history-named n program None ran R clauses query all = all
 history-named n program (Some q) ran R clauses query all = again-named n program q ran clauses query
 
 -- the state behind what is said
-pub after-named : (n : ℕ) (program : List Clause) (s : State) (c : Claim) → AllTuplesNamed n (tuples_of program) → StateIsNamed n s → ClaimIsNamed n c → StateIsNamed n (after_claim program s c)
+pub after-named : (n : ℕ) (program : List Clause) (s : LogState) (c : Claim) → AllTuplesNamed n (tuples_of program) → StateIsNamed n s → ClaimIsNamed n c → StateIsNamed n (after_claim program s c)
 after-named n program s (Runs q) clauses h i = record { query = i; boxes = tt }
 after-named n program s (Ends ran) clauses h i = record { query = tt; boxes = history-named n program s.query ran s.history clauses h.query h.boxes }
 after-named n program s (Tells question reply) clauses h i = record { query = h.query; boxes = h.boxes }

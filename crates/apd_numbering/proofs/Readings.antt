@@ -15,8 +15,8 @@ use Rattle.apd_term.proofs.FirstNames.{length-standard_names}
 use Rattle.apd_term.proofs.Naming.{number_of-append, number_of_text, number_of_within, text_of_name-append}
 use Rattle.apd_ops.specs.Table.{IsTable, Table, infix_in, prefix_in}
 use Rattle.apd_token.specs.Grammar.{HasTokens}
-use Rattle.apd_token.specs.declared.items.Kind.{Kind}
-use Rattle.apd_token.specs.declared.items.Kind.TheVariants as kinds
+use Rattle.apd_token.specs.declared.items.TokenKind.{TokenKind}
+use Rattle.apd_token.specs.declared.items.TokenKind.TheVariants as kinds
 use Rattle.apd_token.specs.declared.items.Token.{Token}
 use Rattle.apd_read.specs.Answer.{HasReading, place_of}
 use Rattle.apd_read.specs.Lexemes.{AreLexemes, IsSort, no_lexeme, then_lexeme}
@@ -106,7 +106,7 @@ module _ (names others : List (List ℕ)) where
   named-sort : (v : List ℕ) (f : NameId) → f.0 ≡ number_of names v → AreOfOneText names others f.0 (number_of others v)
   named-sort v f e = (v, e, refl)
 
-  sort-twins : (k : Kind) (bytes : List ℕ) (vars : List (List ℕ)) (s : Sort) (after : List (List ℕ)) → IsSort k names bytes vars s after
+  sort-twins : (k : TokenKind) (bytes : List ℕ) (vars : List (List ℕ)) (s : Sort) (after : List (List ℕ)) → IsSort k names bytes vars s after
       → (t : Sort) × SortTwins (AreOfOneText names others) s t × IsSort k others bytes vars t after
   sort-twins kinds.Name bytes vars s after h = (
     sorts.Name (record { 0 = number_of others h.0 }),

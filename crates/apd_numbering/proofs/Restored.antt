@@ -16,7 +16,7 @@ use Rattle.apd_answers.specs.declared.question.Question.TheVariants.{True, Cover
 use Rattle.apd_answers.specs.declared.question.Reply.{Reply}
 use Rattle.apd_answers.specs.declared.question.Reply.TheVariants.{Yes, No, Values, Unknown}
 use Rattle.apd_answers.specs.declared.store.Pair.{Pair}
-use Rattle.apd_check.specs.declared.state.State.{State}
+use Rattle.apd_check.specs.declared.state.LogState.{LogState}
 use Rattle.apd_claims.specs.declared.claim.Claim.{Claim}
 use Rattle.apd_claims.specs.declared.claim.Claim.TheVariants.{Runs, Ends, Tells, Asks, Replies, Finds, Descends, Nothing, Garbled}
 use Rattle.apd_numbering.specs.Claims.{renumbered_query, renumbered_claim, renumbered_state}
@@ -89,6 +89,6 @@ module _ (r s : ℕ → ℕ) (e : (i : ℕ) → s (r i) ≡ i) where
   claim-back Nothing = refl
   claim-back Garbled = refl
 
-  pub state-back : (x : State) → renumbered_state s (renumbered_state r x) ≡ x
+  pub state-back : (x : LogState) → renumbered_state s (renumbered_state r x) ≡ x
   state-back x =
       rw (option-back (renumbered_query r) (renumbered_query s) query-back x.query, record-back x.history, store-back x.known, option-back (renumbered_asked r) (renumbered_asked s) asked-back x.waiting) refl

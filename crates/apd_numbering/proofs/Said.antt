@@ -15,9 +15,9 @@ use Rattle.apd_claims.specs.Reading.{as_clause, reading, term_in}
 use Rattle.apd_claims.specs.Saying.{claim_by, goes_on, group_entry, group_text, instance_at, instance_in, instance_with, instances_in, is_candidate, said_from}
 use Rattle.apd_claims.specs.declared.claim.Claim.TheVariants.{Garbled}
 use Rattle.apd_claims.specs.declared.form.Calling.{Calling}
-use Rattle.apd_claims.specs.declared.form.Form.{Form}
-use Rattle.apd_claims.specs.declared.form.Form.TheVariants.{Query, End, Symptom, Framed, Call, Candidates, Candidate, Descent, Other, Unread}
-use Rattle.apd_claims.specs.declared.form.Frame.{Frame}
+use Rattle.apd_claims.specs.declared.form.LineForm.{LineForm}
+use Rattle.apd_claims.specs.declared.form.LineForm.TheVariants.{Query, End, Symptom, Framed, Call, Candidates, Candidate, Descent, Other, Unread}
+use Rattle.apd_claims.specs.declared.form.LineFrame.{LineFrame}
 use Rattle.apd_claims.specs.declared.parting.CallLine.{CallLine}
 use Rattle.apd_ops.specs.Table.{IsTable, Table}
 use Rattle.apd_parts.specs.Parts.{Boxed, Led, box_first, boxed_in, boxed_where, if_some}
@@ -95,7 +95,7 @@ module _ (n : ℕ) (names others : List (List ℕ)) (a : BeginAlike n names othe
 
   -- Texts in a frame.
 
-  frame-alike : (frame : Frame) {o u : Option Term} → TermsAlike names others b.numbering.to o u → EntriesTwins names others b.numbering.to (option_and_then (entry_for frame) o) (option_and_then (entry_for frame) u)
+  frame-alike : (frame : LineFrame) {o u : Option Term} → TermsAlike names others b.numbering.to o u → EntriesTwins names others b.numbering.to (option_and_then (entry_for frame) o) (option_and_then (entry_for frame) u)
   frame-alike frame none_alike = no_entry
   frame-alike frame (terms_alike t i) = entry-twins n names others a b ops few frame t i
 
@@ -209,7 +209,7 @@ module _ (n : ℕ) (names others : List (List ℕ)) (a : BeginAlike n names othe
 
   -- Lines.
 
-  form-alike : (in_group : Bool) (line : List ℕ) (lines : List (List ℕ)) → AllByRecursion (LineIsKept r ops) lines → AllByRecursion (LineIsKept s ops) lines → (form : Form) → FormIsKept r ops form → FormIsKept s ops form
+  form-alike : (in_group : Bool) (line : List ℕ) (lines : List (List ℕ)) → AllByRecursion (LineIsKept r ops) lines → AllByRecursion (LineIsKept s ops) lines → (form : LineForm) → FormIsKept r ops form → FormIsKept s ops form
       → claim_by s ops in_group line lines form ≡ renumbered_claim b.numbering.to (claim_by r ops in_group line lines form)
   form-alike in_group line lines i j (Query goals) k m = run-alike (reading-alike (codes "?- " ++ as_clause goals) k m)
   form-alike in_group line lines i j (End ran) k m = refl
@@ -224,7 +224,7 @@ module _ (n : ℕ) (names others : List (List ℕ)) (a : BeginAlike n names othe
   form-alike in_group line lines i j Other k m = refl
   form-alike in_group line lines i j Unread k m = refl
 
-  places-alike : (line : List ℕ) (form : Form) → FormIsKept r ops form → FormIsKept s ops form
+  places-alike : (line : List ℕ) (form : LineForm) → FormIsKept r ops form → FormIsKept s ops form
       → ArePartedAs b.numbering.to (option_map (claim_parted r ops) (called_by line form)) (option_map (claim_parted s ops) (called_by line form))
   places-alike line (Query goals) k m = tt
   places-alike line (End ran) k m = tt

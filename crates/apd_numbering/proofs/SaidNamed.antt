@@ -16,7 +16,7 @@ use Rattle.apd_claims.specs.Parting.{called_by, called_in, claim_parted}
 use Rattle.apd_claims.specs.Saying.{claim_at, claim_by, goes_on, said_from}
 use Rattle.apd_claims.specs.declared.claim.Claim.{Claim}
 use Rattle.apd_claims.specs.declared.claim.Claim.TheVariants.{Nothing}
-use Rattle.apd_claims.specs.declared.form.Form.TheVariants.{Candidate}
+use Rattle.apd_claims.specs.declared.form.LineForm.TheVariants.{Candidate}
 use Rattle.apd_claims.specs.declared.parting.CallLine.{CallLine}
 use Rattle.apd_console.specs.Lines.{lines_of}
 use Rattle.apd_ops.specs.Table.{Table}

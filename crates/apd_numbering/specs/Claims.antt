@@ -2,7 +2,7 @@
 use Rattle.std.specs.Prelude.{◌≡◌, ℕ, List, [], ◌∷◌, Option, None, Some, ⊤}
 use Rattle.std.specs.Option.{option_map}
 use Rattle.apd_causes.specs.declared.run.Query.{Query}
-use Rattle.apd_check.specs.declared.state.State.{State}
+use Rattle.apd_check.specs.declared.state.LogState.{LogState}
 use Rattle.apd_claims.specs.Saying.{Said}
 use Rattle.apd_claims.specs.declared.claim.Claim.{Claim}
 use Rattle.apd_claims.specs.declared.claim.Claim.TheVariants.{Runs, Ends, Tells, Asks, Replies, Finds, Descends, Nothing, Garbled}
@@ -24,7 +24,7 @@ renumbered_claim r (Descends calls) = Descends calls
 renumbered_claim r Nothing = Nothing
 renumbered_claim r Garbled = Garbled
 
-abbrev pub renumbered_state : (ℕ → ℕ) → State → State
+abbrev pub renumbered_state : (ℕ → ℕ) → LogState → LogState
 renumbered_state r s = record {
   query = option_map (renumbered_query r) s.query;
   history = renumbered_record r s.history;

@@ -4,8 +4,8 @@ use Rattle.std.specs.List.{AllByRecursion}
 use Rattle.std.specs.Option.{option_and_then}
 use Rattle.apd_claims.specs.Forms.{form_in}
 use Rattle.apd_claims.specs.Reading.{as_clause, reading, term_in}
-use Rattle.apd_claims.specs.declared.form.Form.{Form}
-use Rattle.apd_claims.specs.declared.form.Form.TheVariants.{Query, Symptom, Framed, Call}
+use Rattle.apd_claims.specs.declared.form.LineForm.{LineForm}
+use Rattle.apd_claims.specs.declared.form.LineForm.TheVariants.{Query, Symptom, Framed, Call}
 use Rattle.apd_console.specs.Lines.{lines_of}
 use Rattle.apd_ops.specs.Table.{Table}
 use Rattle.apd_parts.specs.Parts.{Led, after, box_first, led_by}
@@ -27,7 +27,7 @@ module _ {names : List (List ℕ)} (reader : Reader names) (ops : Table) where
   CallIsKept front a = (q p : Term) → term_in reader ops front ≡ Some q → term_in reader ops a.rest ≡ Some p → IsNamed (length names) q × IsNamed (length names) p
 
   -- the texts that are read of a line of this form; those of a call wherever its line can be parted
-  abbrev pub FormIsKept : Form → Type 0
+  abbrev pub FormIsKept : LineForm → Type 0
   FormIsKept (Query goals) = TextIsKept (codes "?- " ++ as_clause goals)
   FormIsKept (Symptom is_true text) = TextIsKept (as_clause text)
   FormIsKept (Framed frame text) = TextIsKept (as_clause text)

@@ -22,7 +22,7 @@ ghost use Rattle.apd_claims.specs.Saying.{Said, said_in};
 ghost use Rattle.apd_check.specs.Checked.{IsCheckOf, IsChecked};
 ghost use Rattle.apd_check.specs.declared.checked.Checked.TheVariants.{Holds};
 ghost use Rattle.apd_check.specs.declared.checked.Checked.{Checked};
-ghost use Rattle.apd_check.specs.declared.state.State.{State};
+ghost use Rattle.apd_check.specs.declared.state.LogState.{LogState};
 ghost use Rattle.apd_written.specs.Texts.{IsShort};
 ghost use Rattle.apd_written.specs.Uttered.{AllUttered, AllWritten};
 ghost use Rattle.apd_numbering.specs.Claims.{AreSaidAs, renumbered_state};
@@ -55,7 +55,7 @@ pub fn findings_are_renumbered()
 /// Lines that say the same by another numbering are checked alike.
 pub fn checks_are_renumbered()
     ensures { (n : ℕ) (program : List Clause) → AllTuplesNamed n (tuples_of program) →
-        (x : Renumbering n) (s : State) (found : ℕ) (xs ys : List Said) (result : Checked) →
+        (x : Renumbering n) (s : LogState) (found : ℕ) (xs ys : List Said) (result : Checked) →
         AreSaidAs x.to xs ys → IsChecked program s found xs result →
         IsChecked program (renumbered_state x.to s) found ys result }
 {}

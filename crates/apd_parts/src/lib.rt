@@ -8,5 +8,5 @@ mod parts;
 pub use boxes::{Boxed, Quote, box_first, box_outside, boxed_in, quote_after, word_begins};
 pub use lines::{FirstLine, first_line};
 pub use parts::{
-    Led, Parts, Tagged, after, before, counted, cut, cut_last, led_by, number_32, number_64,
+    FrontAndRest, Led, Tagged, after, before, counted, cut, cut_last, led_by, number_32, number_64,
 };

@@ -6,7 +6,7 @@ ghost use Rattle.apd_parts.specs.Parts.{after, before, counted, cut, cut_last, l
 
 /// What stands on both sides of some bytes.
 #[derive(Clone, Copy)]
-pub struct Parts<'a> {
+pub struct FrontAndRest<'a> {
     pub front: &'a [u8],
     pub rest: &'a [u8],
 }
@@ -20,13 +20,13 @@ pub fn after<'a>(beginning: &[u8], text: &'a [u8]) -> Option<&'a [u8]>
 }
 
 /// What stands before these bytes and behind them, where they first stand in the text.
-pub fn cut<'a>(bytes: &[u8], text: &'a [u8]) -> Option<Parts<'a>>
+pub fn cut<'a>(bytes: &[u8], text: &'a [u8]) -> Option<FrontAndRest<'a>>
     ensures { MatchOption result (cut bytes.now text.now ≡ None)
         (λ p. cut bytes.now text.now ≡ Some (p.front.now, p.rest.now)) }
 {
     'places: for i in 0..text.len() {
         if let Some(rest) = after(bytes, &text[i..]) {
-            return Some(Parts {
+            return Some(FrontAndRest {
                 front: &text[..i],
                 rest,
             });
@@ -36,7 +36,7 @@ pub fn cut<'a>(bytes: &[u8], text: &'a [u8]) -> Option<Parts<'a>>
 }
 
 /// The same, where they last stand in it.
-pub fn cut_last<'a>(bytes: &[u8], text: &'a [u8]) -> Option<Parts<'a>>
+pub fn cut_last<'a>(bytes: &[u8], text: &'a [u8]) -> Option<FrontAndRest<'a>>
     ensures { MatchOption result (cut_last bytes.now text.now ≡ None)
         (λ p. cut_last bytes.now text.now ≡ Some (p.front.now, p.rest.now)) }
 {
@@ -44,7 +44,7 @@ pub fn cut_last<'a>(bytes: &[u8], text: &'a [u8]) -> Option<Parts<'a>>
     'places: while i > 0 {
         i -= 1;
         if let Some(rest) = after(bytes, &text[i..]) {
-            return Some(Parts {
+            return Some(FrontAndRest {
                 front: &text[..i],
                 rest,
             });

@@ -10,8 +10,8 @@ use Rattle.apd_term.specs.Spelling.{image}
 use Rattle.apd_term.proofs.Spelling.{spell-apply}
 use Rattle.apd_term.proofs.Tuples.{apply-terms_of}
 use Rattle.apd_term.proofs.Variants.{apply-agree}
-use Rattle.apd_cells.specs.declared.heap.Note.{Note}
-use Rattle.apd_cells.specs.declared.heap.Note.TheVariants.{Loaded}
+use Rattle.apd_cells.specs.declared.heap.TrailNote.{TrailNote}
+use Rattle.apd_cells.specs.declared.heap.TrailNote.TheVariants.{Loaded}
 use Rattle.apd_cells.specs.Stored.{Stored}
 use Rattle.apd_cells.specs.Store.{written, IsStore, IsSound}
 use Rattle.apd_cells.proofs.Written.{IsTerms-drop, written-append, reads_something}
@@ -82,7 +82,7 @@ pub record AreNamed (n n' m' : ℕ) (names names' : List ℕ) : Type 0 where
   pub rising : AreRising names'
   pub below : (v : ℕ) → v < n' → name names' v < m'
 
-pub loaded_there : (cells ys : List Sym) (n n' m' : ℕ) (notes : List Note) (t : Stored) (places places' : List PastCell) (names names' : List ℕ)
+pub loaded_there : (cells ys : List Sym) (n n' m' : ℕ) (notes : List TrailNote) (t : Stored) (places places' : List PastCell) (names names' : List ℕ)
     → IsStore (cells ++ ys) n' (Loaded (length cells) n ∷ notes) → IsStore cells n notes → IsSound t → StandsIn (record { cells = cells; variables = n; trail = notes }) t places names
     → ArePlaced cells ys (length t.cells) places places' → AreNamed n n' m' names names'
     → StandsIn (record { cells = cells ++ ys; variables = n'; trail = Loaded (length cells) n ∷ notes })

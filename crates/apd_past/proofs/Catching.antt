@@ -6,8 +6,8 @@ use Rattle.apd_term.specs.declared.term.Sym.{Sym}
 use Rattle.apd_term.specs.declared.term.Sym.TheVariants.{Var, Int, Fun}
 use Rattle.apd_term.specs.Term.{variable, Occurs}
 use Rattle.apd_term.proofs.Variants.{apply-agree}
-use Rattle.apd_cells.specs.declared.heap.Note.{Note}
-use Rattle.apd_cells.specs.declared.heap.Note.TheVariants.{Loaded, Bound}
+use Rattle.apd_cells.specs.declared.heap.TrailNote.{TrailNote}
+use Rattle.apd_cells.specs.declared.heap.TrailNote.TheVariants.{Loaded, Bound}
 use Rattle.apd_cells.specs.declared.heap.Binding.TheVariants.{Free}
 use Rattle.apd_cells.specs.Stored.{Stored}
 use Rattle.apd_cells.specs.Store.{written, term_at, binding_of, MayBind, IsStore, IsSound}
@@ -21,7 +21,7 @@ use Rattle.apd_past.specs.Mirror.{place, name, renamed, bindings_there, AreRisin
 use Rattle.apd_past.proofs.Mirrored.{name_other, same_there}
 
 -- a variable that is free here is free there
-free_there : (cells : List Sym) (n : ℕ) (notes : List Note) (places : List PastCell) (names : List ℕ) (v : ℕ) → IsStore cells n notes → n ≤ length names → AreRising names
+free_there : (cells : List Sym) (n : ℕ) (notes : List TrailNote) (places : List PastCell) (names : List ℕ) (v : ℕ) → IsStore cells n notes → n ≤ length names → AreRising names
     → v < length names → binding_of notes v ≡ Free → binding_of (bindings_there places names notes) (name names v) ≡ Free
 free_there cells n [] places names v h l rising m f = refl
 free_there cells n (Loaded c k ∷ notes) places names v h l rising m f =
@@ -72,7 +72,7 @@ bind_there s t places names v c h i b =
     }
 
 -- the bindings there don't depend on places and names that aren't used
-pub bindings_agree : (cells : List Sym) (n : ℕ) (notes : List Note) (places places' : List PastCell) (names names' : List ℕ) → IsStore cells n notes
+pub bindings_agree : (cells : List Sym) (n : ℕ) (notes : List TrailNote) (places places' : List PastCell) (names names' : List ℕ) → IsStore cells n notes
     → ((v : ℕ) → v < n → name names v ≡ name names' v) → ((c : ℕ) → c < length cells → place places c ≡ place places' c)
     → bindings_there places names notes ≡ bindings_there places' names' notes
 bindings_agree cells n [] places places' names names' h f g = refl
@@ -85,7 +85,7 @@ bindings_agree cells n (Bound v c ∷ notes) places places' names names' h f g =
     ∙ ap (λ z. Bound (name names' v) (place places' c) ∷ z) (bindings_agree cells n notes places places' names names' h.1 f g)
 
 -- a load is taken back here, and there nothing is done
-pub unloaded_there : (cells : List Sym) (n : ℕ) (notes : List Note) (c m : ℕ) (t : Stored) (places : List PastCell) (names : List ℕ)
+pub unloaded_there : (cells : List Sym) (n : ℕ) (notes : List TrailNote) (c m : ℕ) (t : Stored) (places : List PastCell) (names : List ℕ)
     → IsStore cells n (Loaded c m ∷ notes) → StandsIn (record { cells = cells; variables = n; trail = Loaded c m ∷ notes }) t places names
     → StandsIn (record { cells = take c cells; variables = m; trail = notes }) t (take c places) (take m names)
 unloaded_there cells n notes c m t places names h i =

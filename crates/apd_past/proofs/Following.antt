@@ -7,8 +7,8 @@ use Rattle.apd_term.specs.Term.{IsAmong, IsTerms}
 use Rattle.apd_term.proofs.Among.{IsAmong-right}
 use Rattle.std.proofs.lemmas.List.{length-append}
 use Rattle.std.proofs.lemmas.List.Concat.{flat_map-append}
-use Rattle.apd_cells.specs.declared.heap.Note.{Note}
-use Rattle.apd_cells.specs.declared.heap.Note.TheVariants.{Loaded, Bound}
+use Rattle.apd_cells.specs.declared.heap.TrailNote.{TrailNote}
+use Rattle.apd_cells.specs.declared.heap.TrailNote.TheVariants.{Loaded, Bound}
 use Rattle.apd_cells.specs.Stored.{Stored}
 use Rattle.apd_cells.specs.Store.{before_note, IsStore, IsSound}
 use Rattle.apd_past.specs.declared.past.PastCell.{PastCell}
@@ -21,7 +21,7 @@ use Rattle.apd_past.specs.Names.{HasMoreNames, ArePlacedFrom}
 use Rattle.apd_past.proofs.Catching.{unloaded_there}
 use Rattle.apd_past.proofs.Carrying.{ArePlaced, AreNamed, loaded_there, terms_behind, terms_renamed}
 
-pub before_loaded : (s : Stored) (c n : ℕ) (notes : List Note) (t : Stored) (places places' : List PastCell) (names names' : List ℕ) → IsSound s → s.trail ≡ Loaded c n ∷ notes
+pub before_loaded : (s : Stored) (c n : ℕ) (notes : List TrailNote) (t : Stored) (places places' : List PastCell) (names names' : List ℕ) → IsSound s → s.trail ≡ Loaded c n ∷ notes
     → StandsIn s t places names → places' ≡ take c places → names' ≡ take n names → StandsIn (before_note s.cells s.variables s.trail) t places' names'
 before_loaded s c n notes t places places' names names' h e i p q =
     let j : StandsIn (record { cells = s.cells; variables = s.variables; trail = Loaded c n ∷ notes }) t places names =
@@ -31,7 +31,7 @@ before_loaded s c n notes t places places' names names' h e i p q =
     (rw (p, q) (unloaded_there s.cells s.variables notes c n t places names k j))
 
 -- notes that are the store's, and those before the newest
-pub notes_before : (s : Stored) (note : Note) (notes : List Note) → s.trail ≡ note ∷ notes → notes ≡ (before_note s.cells s.variables s.trail).trail
+pub notes_before : (s : Stored) (note : TrailNote) (notes : List TrailNote) → s.trail ≡ note ∷ notes → notes ≡ (before_note s.cells s.variables s.trail).trail
 notes_before s (Bound v c) notes e = ap (λ z. (before_note s.cells s.variables z).trail) (sym e)
 notes_before s (Loaded c n) notes e = ap (λ z. (before_note s.cells s.variables z).trail) (sym e)
 

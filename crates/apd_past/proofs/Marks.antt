@@ -3,8 +3,8 @@ use Rattle.std.proofs.Common.{◌≡◌, ℕ, zero, suc, ◌+◌, ◌-◌, ◌<�
 use Rattle.std.proofs.Math.Seq.{drop-append_seam}
 use Rattle.std.proofs.lemmas.List.{append-nil, take-append-drop, length-drop, length-reverse, reverse-append, take_more, length-take-le}
 use Rattle.apd_term.specs.declared.term.Sym.{Sym}
-use Rattle.apd_cells.specs.declared.heap.Note.{Note}
-use Rattle.apd_cells.specs.declared.heap.Note.TheVariants.{Loaded, Bound}
+use Rattle.apd_cells.specs.declared.heap.TrailNote.{TrailNote}
+use Rattle.apd_cells.specs.declared.heap.TrailNote.TheVariants.{Loaded, Bound}
 use Rattle.apd_cells.specs.Stored.{Stored}
 use Rattle.apd_cells.specs.Store.{before_note, before_notes, at_mark, bound, MayBind, IsStore, IsSound}
 use Rattle.apd_cells.proofs.Keeping.{at_mark-at_mark}
@@ -13,7 +13,7 @@ use Rattle.apd_cells.proofs.Undoing.{before_none}
 use Rattle.apd_past.specs.Follows.{with_load}
 
 -- the notes at a mark
-before_trail : (cells : List Sym) (n : ℕ) (notes : List Note) (j : ℕ) → (before_notes cells n notes j).trail ≡ drop j notes
+before_trail : (cells : List Sym) (n : ℕ) (notes : List TrailNote) (j : ℕ) → (before_notes cells n notes j).trail ≡ drop j notes
 before_trail cells n [] zero = refl
 before_trail cells n [] (suc j) = refl
 before_trail cells n (Loaded c m ∷ notes) zero = refl
@@ -30,7 +30,7 @@ before_trail cells n (Bound v c ∷ notes) (suc j) =
     ∙ before_trail cells n notes j
 
 -- a store at a mark is sound
-sound_before : (cells : List Sym) (n : ℕ) (notes : List Note) (j : ℕ) → IsStore cells n notes → IsSound (before_notes cells n notes j)
+sound_before : (cells : List Sym) (n : ℕ) (notes : List TrailNote) (j : ℕ) → IsStore cells n notes → IsSound (before_notes cells n notes j)
 sound_before cells n [] zero h = h
 sound_before cells n [] (suc j) h = h
 sound_before cells n (Loaded c m ∷ notes) zero h = h
@@ -50,7 +50,7 @@ pub sound_at_mark : (k : ℕ) (s : Stored) → IsSound s → IsSound (at_mark k 
 sound_at_mark k s h = sound_before s.cells s.variables s.trail (length s.trail - k) h
 
 -- its cells are the first ones
-front_before : (cells : List Sym) (n : ℕ) (notes : List Note) (j : ℕ) → (rest : List Sym) × (cells ≡ (before_notes cells n notes j).cells ++ rest)
+front_before : (cells : List Sym) (n : ℕ) (notes : List TrailNote) (j : ℕ) → (rest : List Sym) × (cells ≡ (before_notes cells n notes j).cells ++ rest)
 front_before cells n [] zero = ([], sym (append-nil cells))
 front_before cells n [] (suc j) = ([], sym (append-nil cells))
 front_before cells n (Loaded c m ∷ notes) zero = ([], sym (append-nil cells))
@@ -75,23 +75,23 @@ front_before cells n (Bound v c ∷ notes) (suc j) =
 pub front_at_mark : (k : ℕ) (s : Stored) → (rest : List Sym) × (s.cells ≡ (at_mark k s).cells ++ rest)
 front_at_mark k s = front_before s.cells s.variables s.trail (length s.trail - k)
 
-before_is : (s : Stored) (note : Note) (notes : List Note) → s.trail ≡ note ∷ notes → at_mark (length notes) s ≡ before_note s.cells s.variables s.trail
+before_is : (s : Stored) (note : TrailNote) (notes : List TrailNote) → s.trail ≡ note ∷ notes → at_mark (length notes) s ≡ before_note s.cells s.variables s.trail
 before_is s note notes e =
     let j : length s.trail - length notes ≡ 1 = omega (arith, ap length e) in
     ap (before_notes s.cells s.variables s.trail) j ∙ ap (λ z. before_notes s.cells s.variables z 1) e ∙ one note
     ∙ ap (before_note s.cells s.variables) (sym e)
   where
-    one : (note : Note) → before_notes s.cells s.variables (note ∷ notes) 1 ≡ before_note s.cells s.variables (note ∷ notes)
+    one : (note : TrailNote) → before_notes s.cells s.variables (note ∷ notes) 1 ≡ before_note s.cells s.variables (note ∷ notes)
     one (Loaded c m) = before_none (take c s.cells) m notes
     one (Bound v c) = before_none s.cells s.variables notes
 
 -- the note at a place of the trail, whose notes are given the oldest first
-pub record IsStep (s : Stored) (k : ℕ) (note : Note) : Type 0 where
-  pub rest : List Note
+pub record IsStep (s : Stored) (k : ℕ) (note : TrailNote) : Type 0 where
+  pub rest : List TrailNote
   pub trail : (at_mark (k + 1) s).trail ≡ note ∷ rest
   pub before : at_mark k s ≡ before_note (at_mark (k + 1) s).cells (at_mark (k + 1) s).variables (at_mark (k + 1) s).trail
 
-pub step_at : (s : Stored) (notes : List Note) (k : ℕ) (d : Note) → s.trail ≡ reverse notes → k < length notes → IsStep s k (get_or notes k d)
+pub step_at : (s : Stored) (notes : List TrailNote) (k : ℕ) (d : TrailNote) → s.trail ≡ reverse notes → k < length notes → IsStep s k (get_or notes k d)
 step_at s notes k d e l =
     let b = at_mark (k + 1) s in
     let count : length s.trail ≡ length notes = ap length e ∙ length-reverse notes in
@@ -121,7 +121,7 @@ binding_step s k v c h p =
     let a : at_mark k s ≡ record { cells = b.cells; variables = b.variables; trail = p.rest } = p.before ∙ ap (before_note b.cells b.variables) p.trail in
     let u : IsStore b.cells b.variables (Bound v c ∷ p.rest) = subst (IsStore b.cells b.variables) p.trail (sound_at_mark (k + 1) s h) in
     record {
-      made = ap (λ (z : List Note). record { cells = b.cells; variables = b.variables; trail = z }) p.trail ∙ ap (λ (x : Stored). bound x v c) (sym a);
+      made = ap (λ (z : List TrailNote). record { cells = b.cells; variables = b.variables; trail = z }) p.trail ∙ ap (λ (x : Stored). bound x v c) (sym a);
       may = subst (λ (x : Stored). MayBind x.cells x.variables x.trail v c) (sym a) u.0;
     }
 
@@ -143,7 +143,7 @@ loading_step s k c m h p =
       within = within;
       cells = ap (λ (x : Stored). length x.cells) a ∙ count;
       variables = ap (λ (x : Stored). x.variables) a;
-      made = ap (λ (z : List Note). record { cells = b.cells; variables = b.variables; trail = z }) p.trail
+      made = ap (λ (z : List TrailNote). record { cells = b.cells; variables = b.variables; trail = z }) p.trail
           ∙ ap (λ (z : List Sym). record { cells = z; variables = b.variables; trail = Loaded c m ∷ p.rest }) (sym (take-append-drop c b.cells))
           ∙ ap (λ (z : ℕ). record { cells = take c b.cells ++ drop c b.cells; variables = b.variables; trail = Loaded z m ∷ p.rest }) (sym count)
           ∙ ap (λ (x : Stored). with_load x (drop c b.cells) b.variables) (sym a);

@@ -14,8 +14,8 @@ use Rattle.apd_term.proofs.Tuples.{as_term, as_term-apply, as_term-variables, as
 use Rattle.apd_term.proofs.Applying.{apply-followed_by}
 use Rattle.apd_term.proofs.Variants.{apply-agree, canonical-renamed}
 use Rattle.apd_term.proofs.Pairs.{term_for-same, term_for-other}
-use Rattle.apd_cells.specs.declared.heap.Note.{Note}
-use Rattle.apd_cells.specs.declared.heap.Note.TheVariants.{Loaded, Bound}
+use Rattle.apd_cells.specs.declared.heap.TrailNote.{TrailNote}
+use Rattle.apd_cells.specs.declared.heap.TrailNote.TheVariants.{Loaded, Bound}
 use Rattle.apd_cells.specs.Stored.{Stored}
 use Rattle.apd_cells.specs.Store.{written, meaning, term_at, IsStore, IsSound}
 use Rattle.apd_cells.proofs.Written.{written-take}
@@ -57,7 +57,7 @@ name_back names v h l = (let k = back names v h l in omega (arith, k))
         place_other n ns (get_or ns v 0) d ∙ omega (arith, j)
 
 -- what a variable means has only variables of the store, or is itself
-means_below : (cells : List Sym) (n : ℕ) (notes : List Note) (x v : ℕ) → IsStore cells n notes → Occurs x (meaning cells notes v) → (x ≡ v) ⊎ (x < n)
+means_below : (cells : List Sym) (n : ℕ) (notes : List TrailNote) (x v : ℕ) → IsStore cells n notes → Occurs x (meaning cells notes v) → (x ≡ v) ⊎ (x < n)
 means_below cells n [] x v h (inl e) = inl (sym e)
 means_below cells n [] x v h (inr b) = absurd b
 means_below cells n (Loaded c m ∷ notes) x v h o = elim (means_below (take c cells) m notes x v h.1.1.1 o) [
@@ -80,7 +80,7 @@ abbrev pub TermsThere : List Sym → List Sym → List PastCell → List ℕ →
 TermsThere cells there places names = (c : ℕ) → c < length cells → written there (place places c) ≡ renamed names (written cells c)
 
 -- a term there, where variables mean there what they mean here
-term_there : (cells : List Sym) (n : ℕ) (notes : List Note) (there : List Sym) (places : List PastCell) (names : List ℕ) (c : ℕ) → IsStore cells n notes → n ≤ length names
+term_there : (cells : List Sym) (n : ℕ) (notes : List TrailNote) (there : List Sym) (places : List PastCell) (names : List ℕ) (c : ℕ) → IsStore cells n notes → n ≤ length names
     → ((v : ℕ) → v < length names → meaning there (bindings_there places names notes) (name names v) ≡ renamed names (meaning cells notes v))
     → c < length cells → written there (place places c) ≡ renamed names (written cells c)
     → apply (meaning there (bindings_there places names notes)) (written there (place places c)) ≡ renamed names (apply (meaning cells notes) (written cells c))
@@ -106,7 +106,7 @@ single_there names w x t h l m = elim (cases_eq w x) [
       ∙ ap (renamed names) (sym (term_for-other (w, t) [] x d))
 ]
 
-pub meaning_there : (cells : List Sym) (n : ℕ) (notes : List Note) (there : List Sym) (places : List PastCell) (names : List ℕ) → IsStore cells n notes → n ≤ length names
+pub meaning_there : (cells : List Sym) (n : ℕ) (notes : List TrailNote) (there : List Sym) (places : List PastCell) (names : List ℕ) → IsStore cells n notes → n ≤ length names
     → AreRising names → TermsThere cells there places names → (v : ℕ) → v < length names
     → meaning there (bindings_there places names notes) (name names v) ≡ renamed names (meaning cells notes v)
 meaning_there cells n [] there places names h l rising terms v m = refl

@@ -12,8 +12,8 @@ use Rattle.apd_term.specs.Spelling.{variable_in}
 use Rattle.apd_term.specs.Substitution.{term_for, single}
 use Rattle.apd_term.proofs.Among.{IsAmong-append}
 use Rattle.apd_term.proofs.Variants.{apply-agree}
-use Rattle.apd_cells.specs.declared.heap.Note.{Note}
-use Rattle.apd_cells.specs.declared.heap.Note.TheVariants.{Loaded, Bound}
+use Rattle.apd_cells.specs.declared.heap.TrailNote.{TrailNote}
+use Rattle.apd_cells.specs.declared.heap.TrailNote.TheVariants.{Loaded, Bound}
 use Rattle.apd_cells.specs.declared.heap.Binding.{Binding}
 use Rattle.apd_cells.specs.declared.heap.Binding.TheVariants.{Free, At}
 use Rattle.apd_cells.specs.Store.{above, written, meaning, term_at, binding_of, HasCells, MayBind, IsStore, IsSound}
@@ -25,7 +25,7 @@ use Rattle.apd_past.specs.Done.{Done, to_of, with_variables}
 use Rattle.apd_past.specs.History.{History, after_deed, bindings_after, at_moment, with_terms, IsRightDeed, IsRight, variables_of, IsPast}
 
 -- deeds that were right leave a store's bindings
-sound_after : (cells : List Sym) (n : ℕ) (notes : List Note) (v : ℕ) (o : Option ℕ) → IsRightDeed cells n notes v o → IsStore cells n notes → IsStore cells n (after_deed v o notes)
+sound_after : (cells : List Sym) (n : ℕ) (notes : List TrailNote) (v : ℕ) (o : Option ℕ) → IsRightDeed cells n notes v o → IsStore cells n notes → IsStore cells n (after_deed v o notes)
 sound_after cells n notes v (Some c) h k = (h, k)
 sound_after cells n notes v None h k = (let s : IsStore cells n (Bound v h.0 ∷ drop 1 notes) = subst (IsStore cells n) h.1 k in s.1)
 
@@ -58,12 +58,12 @@ to_other : (d : Deed) (ds : List Deed) (v : ℕ) → d.variable ≢ v → to_of 
 to_other d ds v n = grind (arith, nat_tests)
 
 -- the deed's own variable, and another
-of_same : (cells : List Sym) (n : ℕ) (notes : List Note) (v : ℕ) (o : Option ℕ) → IsRightDeed cells n notes v o → IsStore cells n notes
+of_same : (cells : List Sym) (n : ℕ) (notes : List TrailNote) (v : ℕ) (o : Option ℕ) → IsRightDeed cells n notes v o → IsStore cells n notes
     → binding_of (after_deed v o notes) v ≡ binding_to o
 of_same cells n notes v (Some c) h k = binding-same v c notes v refl
 of_same cells n notes v None h k = (let s : IsStore cells n (Bound v h.0 ∷ drop 1 notes) = subst (IsStore cells n) h.1 k in s.0.free)
 
-of_other : (cells : List Sym) (n : ℕ) (notes : List Note) (w : ℕ) (o : Option ℕ) (v : ℕ) → IsRightDeed cells n notes w o → w ≢ v
+of_other : (cells : List Sym) (n : ℕ) (notes : List TrailNote) (w : ℕ) (o : Option ℕ) (v : ℕ) → IsRightDeed cells n notes w o → w ≢ v
     → binding_of (after_deed w o notes) v ≡ binding_of notes v
 of_other cells n notes w (Some c) v h d = binding-other w c notes v d
 of_other cells n notes w None v h d = sym (ap (λ z. binding_of z v) h.1 ∙ binding-other w h.0 (drop 1 notes) v d)
@@ -83,13 +83,13 @@ binding_after cells n (d ∷ ds) v h = elim (cases_eq d.variable v) [
 ]
 
 -- more cells
-same_under : (cells more : List Sym) (n : ℕ) (notes : List Note) (c : ℕ) → IsStore cells n notes → ((v : ℕ) → meaning (cells ++ more) notes v ≡ meaning cells notes v) → c < length cells
+same_under : (cells more : List Sym) (n : ℕ) (notes : List TrailNote) (c : ℕ) → IsStore cells n notes → ((v : ℕ) → meaning (cells ++ more) notes v ≡ meaning cells notes v) → c < length cells
     → apply (meaning (cells ++ more) notes) (written (cells ++ more) c) ≡ apply (meaning cells notes) (written cells c)
 same_under cells more n notes c h same l =
     ap (apply (meaning (cells ++ more) notes)) (written-append cells more c (HasCells-of cells n notes h).whole l)
     ∙ apply-agree (meaning (cells ++ more) notes) (meaning cells notes) (written cells c) (λ v o. same v)
 
-pub meaning-more : (cells more : List Sym) (n : ℕ) (notes : List Note) (v : ℕ) → IsStore cells n notes → meaning (cells ++ more) notes v ≡ meaning cells notes v
+pub meaning-more : (cells more : List Sym) (n : ℕ) (notes : List TrailNote) (v : ℕ) → IsStore cells n notes → meaning (cells ++ more) notes v ≡ meaning cells notes v
 meaning-more cells more n [] v h = refl
 meaning-more cells more n (Loaded c m ∷ notes) v h = ap (λ z. meaning z notes v) (take-append-le c cells more h.1.0)
 meaning-more cells more n (Bound w c ∷ notes) v h =
@@ -97,11 +97,11 @@ meaning-more cells more n (Bound w c ∷ notes) v h =
     ap (λ z. apply (term_for (single w z)) (meaning (cells ++ more) notes v)) t
     ∙ ap (apply (term_for (single w (apply (meaning cells notes) (written cells c))))) (meaning-more cells more n notes v h.1)
 
-pub term-more : (cells more : List Sym) (n : ℕ) (notes : List Note) (c : ℕ) → IsStore cells n notes → c < length cells
+pub term-more : (cells more : List Sym) (n : ℕ) (notes : List TrailNote) (c : ℕ) → IsStore cells n notes → c < length cells
     → apply (meaning (cells ++ more) notes) (written (cells ++ more) c) ≡ apply (meaning cells notes) (written cells c)
 term-more cells more n notes c h l = same_under cells more n notes c h (λ v. meaning-more cells more n notes v h) l
 
-MayBind-more : (cells more : List Sym) (n n' : ℕ) (notes : List Note) (v c : ℕ) → IsStore cells n notes → n ≤ n' → MayBind cells n notes v c → MayBind (cells ++ more) n' notes v c
+MayBind-more : (cells more : List Sym) (n n' : ℕ) (notes : List TrailNote) (v c : ℕ) → IsStore cells n notes → n ≤ n' → MayBind cells n notes v c → MayBind (cells ++ more) n' notes v c
 MayBind-more cells more n n' notes v c h l b = record {
   inside = omega (arith, b.inside, length-append cells more);
   below = omega (arith, b.below);
@@ -110,7 +110,7 @@ MayBind-more cells more n n' notes v c h l b = record {
   down = λ w e. b.down w (sym (get_or_append_left cells more (Var 0) c b.inside) ∙ e);
 }
 
-right_deed_more : (cells more : List Sym) (n n' : ℕ) (notes : List Note) (v : ℕ) (o : Option ℕ) → IsStore cells n notes → n ≤ n' → IsRightDeed cells n notes v o → IsRightDeed (cells ++ more) n' notes v o
+right_deed_more : (cells more : List Sym) (n n' : ℕ) (notes : List TrailNote) (v : ℕ) (o : Option ℕ) → IsStore cells n notes → n ≤ n' → IsRightDeed cells n notes v o → IsRightDeed (cells ++ more) n' notes v o
 right_deed_more cells more n n' notes v None h l r = r
 right_deed_more cells more n n' notes v (Some c) h l r = MayBind-more cells more n n' notes v c h l r
 

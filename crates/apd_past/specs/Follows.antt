@@ -1,7 +1,7 @@
 -- A past that follows a store: what the store has stands in it, at present.
 use Rattle.std.specs.Prelude.{◌≡◌, ◌++◌, ℕ, List, ◌∷◌, length}
 use Rattle.apd_term.specs.declared.term.Sym.{Sym}
-use Rattle.apd_cells.specs.declared.heap.Note.TheVariants.{Loaded}
+use Rattle.apd_cells.specs.declared.heap.TrailNote.TheVariants.{Loaded}
 use Rattle.apd_cells.specs.Stored.{Stored}
 use Rattle.apd_cells.specs.Store.{IsSound, MayBind}
 use Rattle.apd_past.specs.declared.mirror.Mirror.{Mirror}

@@ -5,8 +5,8 @@ use Rattle.std.specs.List.{flat_map}
 use Rattle.std.proofs.Common.{ℤ}
 use Rattle.apd_term.specs.declared.term.Sym.{Sym}
 use Rattle.apd_term.specs.Spelling.{parts, whole, map-whole-parts, variable_in}
-use Rattle.apd_cells.specs.declared.heap.Note.{Note}
-use Rattle.apd_cells.specs.declared.heap.Note.TheVariants.{Loaded, Bound}
+use Rattle.apd_cells.specs.declared.heap.TrailNote.{TrailNote}
+use Rattle.apd_cells.specs.declared.heap.TrailNote.TheVariants.{Loaded, Bound}
 use Rattle.apd_cells.specs.Stored.{Stored}
 use Rattle.apd_cells.specs.Store.{above, term_at, HasCells, MayBind}
 use Rattle.apd_past.specs.declared.deeds.Deed.{Deed}
@@ -20,12 +20,12 @@ pub record History : Type 0 where
   pub deeds : List Deed
 
 -- the bindings after a deed on variable v, the newest first: a variable that is freed is the one that was bound last
-abbrev pub after_deed : ℕ → Option ℕ → List Note → List Note
+abbrev pub after_deed : ℕ → Option ℕ → List TrailNote → List TrailNote
 after_deed v (Some c) notes = Bound v c ∷ notes
 after_deed v None notes = drop 1 notes
 
 -- the bindings that are left after these deeds, both the newest first
-abbrev pub bindings_after : List Deed → List Note
+abbrev pub bindings_after : List Deed → List TrailNote
 bindings_after [] = []
 bindings_after (d ∷ ds) = after_deed d.variable d.to (bindings_after ds)
 
@@ -71,7 +71,7 @@ abbrev pub unbound : Stored → Stored
 unbound s = record { cells = s.cells; variables = s.variables; trail = drop 1 s.trail }
 
 -- a variable may be bound where it is free and the term at the cell doesn't have it; the one that is freed was bound last
-abbrev pub IsRightDeed : List Sym → ℕ → List Note → ℕ → Option ℕ → Type 0
+abbrev pub IsRightDeed : List Sym → ℕ → List TrailNote → ℕ → Option ℕ → Type 0
 IsRightDeed cells n notes v (Some c) = MayBind cells n notes v c
 IsRightDeed cells n notes v None = (c : ℕ) × (notes ≡ Bound v c ∷ drop 1 notes)
 
@@ -81,7 +81,7 @@ IsRight cells n [] = HasCells cells n
 IsRight cells n (d ∷ ds) = IsRightDeed cells n (bindings_after ds) d.variable d.to × IsRight cells n ds
 
 -- the variables of bindings
-abbrev pub variables_of : List Note → List ℕ
+abbrev pub variables_of : List TrailNote → List ℕ
 variables_of [] = []
 variables_of (Loaded c n ∷ notes) = variables_of notes
 variables_of (Bound v c ∷ notes) = v ∷ variables_of notes

@@ -4,8 +4,8 @@ use Rattle.apd_term.specs.declared.term.Sym.{Sym}
 use Rattle.apd_term.specs.declared.term.Sym.TheVariants.{Var, Int, Fun}
 use Rattle.apd_term.specs.Term.{Term, variable, apply}
 use Rattle.apd_term.specs.declared.tuple.Tuple.{Tuple}
-use Rattle.apd_cells.specs.declared.heap.Note.{Note}
-use Rattle.apd_cells.specs.declared.heap.Note.TheVariants.{Loaded, Bound}
+use Rattle.apd_cells.specs.declared.heap.TrailNote.{TrailNote}
+use Rattle.apd_cells.specs.declared.heap.TrailNote.TheVariants.{Loaded, Bound}
 use Rattle.apd_cells.specs.Stored.{Stored}
 use Rattle.apd_cells.specs.Store.{written, term_at}
 use Rattle.apd_past.specs.declared.past.PastCell.{PastCell}
@@ -22,7 +22,7 @@ abbrev pub renamed : List ℕ → Term → Term
 renamed names t = apply (λ v. variable (name names v)) t
 
 -- the bindings of a trail, there
-abbrev pub bindings_there : List PastCell → List ℕ → List Note → List Note
+abbrev pub bindings_there : List PastCell → List ℕ → List TrailNote → List TrailNote
 bindings_there places names [] = []
 bindings_there places names (Loaded c n ∷ notes) = bindings_there places names notes
 bindings_there places names (Bound v c ∷ notes) = Bound (name names v) (place places c) ∷ bindings_there places names notes

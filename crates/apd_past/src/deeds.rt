@@ -6,7 +6,7 @@ ghost use Rattle.apd_term.specs.Spelling.{variable_in};
 ghost use Rattle.apd_past.specs.Done.{to_of, with_deed, with_variable, with_variables};
 ghost use Rattle.apd_past.specs.Linked.{deeds_of, no_kept, AreLinked, GoesBack, HaveWays, IsEarlier, IsNewest};
 
-use crate::slot::Slot;
+use crate::slot::MaybeNumber;
 use apd_term::Sym;
 use std::alloc::{AllocError, Global};
 use std::marker::Model;
@@ -16,7 +16,7 @@ use std::marker::Model;
 pub struct Deed {
     pub variable: u32,
     /// The cell; none where the variable was freed.
-    pub to: Slot,
+    pub to: MaybeNumber,
 }
 
 /// A deed as it is kept, with the places of earlier ones on its variable: the ways are those of a
@@ -25,9 +25,9 @@ pub struct Deed {
 pub struct KeptDeed {
     pub deed: Deed,
     /// The one before it.
-    pub before: Slot,
+    pub before: MaybeNumber,
     /// One further back.
-    pub jump: Slot,
+    pub jump: MaybeNumber,
     /// How many deeds on the variable there are up to this one.
     pub depth: u32,
 }
@@ -37,7 +37,7 @@ pub struct KeptDeed {
 pub struct Deeds {
     kept: Vec<KeptDeed>,
     /// The newest on each variable.
-    newest: Vec<Slot>,
+    newest: Vec<MaybeNumber>,
 }
 
 impl Model for Deeds {
@@ -59,7 +59,7 @@ impl Model for Deeds {
 const MOST: usize = 4_294_967_295;
 
 /// The way further back for a deed that comes after the one at this place, on its variable.
-fn jump_over(kept: &[KeptDeed], at: u32) -> Slot
+fn jump_over(kept: &[KeptDeed], at: u32) -> MaybeNumber
     requires there { at < length kept.now }
     requires room { at < 2 ^ 32 - 1 }
     requires ways { HaveWays kept.now }
@@ -68,21 +68,21 @@ fn jump_over(kept: &[KeptDeed], at: u32) -> Slot
 {
     let near = &kept[at as usize];
     let Some(middle_at) = near.jump.get() else {
-        return Slot::at(at);
+        return MaybeNumber::at(at);
     };
     let middle = &kept[middle_at as usize];
     let Some(far_at) = middle.jump.get() else {
-        return Slot::at(at);
+        return MaybeNumber::at(at);
     };
     let far = &kept[far_at as usize];
     if near.depth as u64 + far.depth as u64 == middle.depth as u64 * 2 {
-        return Slot::at(far_at);
+        return MaybeNumber::at(far_at);
     }
-    Slot::at(at)
+    MaybeNumber::at(at)
 }
 
 /// A deed after the one at this place, on its variable, or the first one on it.
-fn kept_after(kept: &[KeptDeed], deed: Deed, before: Slot) -> KeptDeed
+fn kept_after(kept: &[KeptDeed], deed: Deed, before: MaybeNumber) -> KeptDeed
     requires newest { IsNewest (deeds_of kept.now) deed.variable (length kept.now) before }
     requires room { length kept.now < 2 ^ 32 - 1 }
     requires ways { HaveWays kept.now }
@@ -94,7 +94,7 @@ fn kept_after(kept: &[KeptDeed], deed: Deed, before: Slot) -> KeptDeed
         return KeptDeed {
             deed,
             before,
-            jump: Slot::none(),
+            jump: MaybeNumber::none(),
             depth: 1,
         };
     };
@@ -122,7 +122,7 @@ fn way_back(kept: &KeptDeed, moment: usize) -> Option<u32>
 }
 
 /// The place of the newest deed on a variable among so many.
-fn place_at(kept: &[KeptDeed], newest: &[Slot], v: u64, moment: usize) -> Option<u32>
+fn place_at(kept: &[KeptDeed], newest: &[MaybeNumber], v: u64, moment: usize) -> Option<u32>
     requires linked { AreLinked kept.now newest.now }
     requires some { moment ≤ length kept.now }
     ensures { IsNewest (deeds_of kept.now) v moment result }
@@ -173,7 +173,7 @@ impl Deeds {
     {
         let v = v as usize;
         'variables: while self.newest.len() <= v {
-            self.newest.push(Slot::none())?;
+            self.newest.push(MaybeNumber::none())?;
         }
         Ok(())
     }
@@ -204,7 +204,7 @@ impl Deeds {
     }
 
     /// One more deed. Want of memory too where there would be 2 ^ 32; nothing has changed then.
-    pub fn push(&mut self, variable: u32, to: Slot) -> Result<(), AllocError>
+    pub fn push(&mut self, variable: u32, to: MaybeNumber) -> Result<(), AllocError>
         requires { variable < self.old.variables }
         ensures ok { OnOk result (self.new ≡ with_deed self.old variable to) }
         ensures err { OnErr result (self.new ≡ self.old) }
@@ -215,7 +215,7 @@ impl Deeds {
         }
         self.kept.reserve(1)?;
         let newest = &mut self.newest[variable as usize];
-        let before = std::mem::replace(newest, Slot::at(place as u32));
+        let before = std::mem::replace(newest, MaybeNumber::at(place as u32));
         let deed = Deed { variable, to };
         let kept = kept_after(self.kept.as_slice(), deed, before);
         self.kept.push_reserved(kept);

@@ -9,7 +9,7 @@ ghost use Rattle.apd_past.specs.History.{KeepsMoments};
 ghost use Rattle.apd_past.specs.Live.{HasExtentAt, MayCatchUp};
 
 use crate::mirror::Mirror;
-use apd_cells::heap::Note;
+use apd_cells::heap::TrailNote;
 use apd_cells::live::Live;
 use apd_term::Sym;
 use std::alloc::AllocError;
@@ -30,8 +30,8 @@ fn had_at(live: &Live<'_>, at: usize) -> Had
     let mut next = at;
     'notes: while next < live.notes.len() {
         match live.notes[next].get() {
-            Note::Loaded(cells, variables) => return Had { cells, variables },
-            Note::Bound(..) => next += 1,
+            TrailNote::Loaded(cells, variables) => return Had { cells, variables },
+            TrailNote::Bound(..) => next += 1,
         }
     }
     Had {
@@ -71,11 +71,11 @@ impl Mirror {
         ensures kept { KeepsMoments self.old.past self.new.past }
     {
         match live.notes[at].get() {
-            Note::Bound(v, to) => {
+            TrailNote::Bound(v, to) => {
                 self.bind(v, to)?;
                 Ok(())
             }
-            Note::Loaded(cells, _) => {
+            TrailNote::Loaded(cells, _) => {
                 let had = had_at(live, at + 1);
                 let symbols = symbols_between(live.cells, cells, had.cells);
                 self.load(symbols, had.variables)?;

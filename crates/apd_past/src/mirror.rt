@@ -9,7 +9,7 @@ ghost use Rattle.apd_past.specs.History.{KeepsMoments};
 ghost use Rattle.apd_past.specs.Names.{AreGoodNames, ArePlacedFrom, HasMoreNames};
 
 use crate::past::{Past, PastCell, narrow};
-use apd_cells::heap::Note;
+use apd_cells::heap::TrailNote;
 use apd_cells::kept::KeptNote;
 use apd_cells::stack::Stack;
 use apd_term::Sym;
@@ -79,12 +79,12 @@ impl Mirror {
             return Ok(());
         };
         match newest.get() {
-            Note::Bound(..) => {
+            TrailNote::Bound(..) => {
                 self.past.unbind()?;
                 let _ = self.notes.pop();
                 Ok(())
             }
-            Note::Loaded(cells, variables) => {
+            TrailNote::Loaded(cells, variables) => {
                 self.places.truncate(cells);
                 self.names.truncate(variables);
                 let _ = self.notes.pop();

@@ -13,7 +13,7 @@ ghost use Rattle.apd_past.specs.History.{at_moment, present, unbound, with_done,
 
 use crate::cells::Cells;
 use crate::deeds::Deeds;
-use crate::slot::Slot;
+use crate::slot::MaybeNumber;
 use apd_cells::stack::Stack;
 use apd_term::Sym;
 use std::alloc::{AllocError, Global};
@@ -195,7 +195,7 @@ impl Past {
         let variable = narrow(v)?;
         let cell = narrow(to.0 as u64)?;
         self.bound.push(variable)?;
-        if let Err(e) = self.deeds.push(variable, Slot::at(cell)) {
+        if let Err(e) = self.deeds.push(variable, MaybeNumber::at(cell)) {
             let _ = self.bound.pop();
             return Err(e);
         }
@@ -214,7 +214,7 @@ impl Past {
             return Ok(());
         };
         let variable = *variable;
-        self.deeds.push(variable, Slot::none())?;
+        self.deeds.push(variable, MaybeNumber::none())?;
         let _ = self.bound.pop();
         Ok(())
     }

@@ -6,12 +6,12 @@ use std::marker::Model;
 
 /// A number below 2 ^ 32 - 1, or none. Contracts see the option.
 #[derive(Drop)]
-pub struct Slot {
+pub struct MaybeNumber {
     /// One more than the number; 0 for none.
     raw: u32,
 }
 
-impl Model for Slot {
+impl Model for MaybeNumber {
     ghost use Rattle.std.specs.Prelude.{Option, ℕ};
     ghost use Rattle.apd_past.specs.Slots.{number_in};
 
@@ -20,20 +20,20 @@ impl Model for Slot {
     ghost view = { λ s. number_in s.raw };
 }
 
-impl Slot {
+impl MaybeNumber {
     /// No number.
-    pub fn none() -> Slot
+    pub fn none() -> MaybeNumber
         ensures { result ≡ None }
     {
-        Slot { raw: 0 }
+        MaybeNumber { raw: 0 }
     }
 
     /// This number.
-    pub fn at(number: u32) -> Slot
+    pub fn at(number: u32) -> MaybeNumber
         requires { number < 2 ^ 32 - 1 }
         ensures { result ≡ Some number }
     {
-        Slot { raw: number + 1 }
+        MaybeNumber { raw: number + 1 }
     }
 
     /// The number, if there is one.

@@ -21,7 +21,7 @@ use crate::reader::words::{Word, words};
 use apd_causes::ReadFault;
 use apd_ops::Ops;
 use apd_term::{Flat, Names};
-use apd_token::{Kind, Tokens};
+use apd_token::{TokenKind, Tokens};
 use std::alloc::{AllocError, Global};
 use std::mem;
 
@@ -88,21 +88,24 @@ impl Reading {
 
     /// Ends an item of the innermost bracket at a comma or a bar.
     fn next_item(&mut self, alloc: Global, word: &Word) -> Result<(), ReadFault> {
-        if word.kind == Kind::Comma && self.inner.call.is_some() && self.inner.done.len() >= 254 {
+        if word.kind == TokenKind::Comma
+            && self.inner.call.is_some()
+            && self.inner.done.len() >= 254
+        {
             return Err(ReadFault::ArityOver(word.start));
         }
         if !self.inner.end_item(alloc)? {
             return Err(ReadFault::Priority(word.start));
         }
-        self.inner.tail = word.kind == Kind::Bar;
+        self.inner.tail = word.kind == TokenKind::Bar;
         Ok(())
     }
 
     /// Whether the token ends an item of the innermost bracket and another follows.
-    fn separates(&self, kind: Kind) -> bool {
+    fn separates(&self, kind: TokenKind) -> bool {
         match kind {
-            Kind::Comma => self.inner.has_elements() && !self.inner.tail,
-            Kind::Bar => self.inner.opened == Kind::OpenList && !self.inner.tail,
+            TokenKind::Comma => self.inner.has_elements() && !self.inner.tail,
+            TokenKind::Bar => self.inner.opened == TokenKind::OpenList && !self.inner.tail,
             _ => false,
         }
     }
@@ -121,7 +124,7 @@ impl Reading {
         if self.inner.is_closed_by(word.kind) {
             return self.close(alloc, word.start);
         }
-        if word.kind == Kind::End {
+        if word.kind == TokenKind::End {
             return Err(ReadFault::Unclosed(self.inner.start));
         }
         if self.separates(word.kind) {
@@ -129,7 +132,7 @@ impl Reading {
             return Ok(None);
         }
         match clause.infix(word) {
-            Some(o) if word.kind != Kind::Comma || !self.inner.has_elements() => {
+            Some(o) if word.kind != TokenKind::Comma || !self.inner.has_elements() => {
                 if !self.inner.put_operator(alloc, o)? {
                     return Err(ReadFault::Priority(word.start));
                 }
@@ -152,7 +155,7 @@ impl Reading {
 /// The clause with its greatest level.
 fn read(alloc: Global, clause: &Clause<'_>) -> Result<Part, ReadFault> {
     let mut reading = Reading {
-        inner: Bracket::new(alloc, Kind::End, 0, None),
+        inner: Bracket::new(alloc, TokenKind::End, 0, None),
         around: Vec::new(alloc),
         at: 0,
         operand: true,

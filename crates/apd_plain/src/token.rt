@@ -1,7 +1,7 @@
 //! The division into tokens in the plainest way: at each place the longest front of the text that has a form.
 
 use apd_causes::TokenFault;
-use apd_token::{Kind, Token};
+use apd_token::{Token, TokenKind};
 use std::alloc::{AllocError, Global};
 use std::str;
 
@@ -9,7 +9,7 @@ use std::str;
 #[derive(Clone, Copy)]
 enum Found {
     Passed,
-    Item(Kind),
+    Item(TokenKind),
     Bad(TokenFault),
 }
 
@@ -87,7 +87,7 @@ fn number(at: u32, value: u128) -> Found {
     if value > 1 << 63 {
         return Found::Bad(TokenFault::NumberTooWide(at));
     }
-    Found::Item(Kind::Integer(value as u64))
+    Found::Item(TokenKind::Integer(value as u64))
 }
 
 /// The code that a backslash and the bytes behind it stand for, and how many bytes that is.
@@ -131,11 +131,11 @@ fn character(at: u32, bytes: &[u8], after: &[u8]) -> Option<Found> {
     match bytes {
         [] if after.is_empty() => Some(Found::Bad(TokenFault::OpenQuote(at))),
         [] => None,
-        [b'\'', b'\''] => Some(Found::Item(Kind::Integer(39))),
+        [b'\'', b'\''] => Some(Found::Item(TokenKind::Integer(39))),
         [b'\''] | [b'\\'] => Some(Found::Bad(TokenFault::BadEscape(at.saturating_add(2)))),
         [b'\\', ..] => match escape(bytes) {
             Some((code, length)) if length == bytes.len() => {
-                Some(Found::Item(Kind::Integer(u64::from(code))))
+                Some(Found::Item(TokenKind::Integer(u64::from(code))))
             }
             _ => None,
         },
@@ -146,7 +146,7 @@ fn character(at: u32, bytes: &[u8], after: &[u8]) -> Option<Found> {
             if chars.next().is_some() {
                 return None;
             }
-            Some(Found::Item(Kind::Integer(u64::from(u32::from(first)))))
+            Some(Found::Item(TokenKind::Integer(u64::from(u32::from(first)))))
         }
     }
 }
@@ -201,17 +201,17 @@ fn graphic(at: u32, bytes: &[u8], after: &[u8]) -> Option<Found> {
         [b, ..] => is_layout(*b) || *b == b'%',
     };
     if bytes == b".".as_slice() && separate {
-        return Some(Found::Item(Kind::End));
+        return Some(Found::Item(TokenKind::End));
     }
-    Some(Found::Item(Kind::Name))
+    Some(Found::Item(TokenKind::Name))
 }
 
 /// What an opening quote and these bytes are.
 fn quoted(at: u32, q: u8, bytes: &[u8], after: &[u8]) -> Option<Found> {
     let kind = if q == b'\'' {
-        Kind::Quoted
+        TokenKind::Quoted
     } else {
-        Kind::Codes
+        TokenKind::Codes
     };
     let mut i = 0;
     for _element in 0..bytes.len() {
@@ -251,23 +251,23 @@ fn form(at: u32, bytes: &[u8], after: &[u8]) -> Option<Found> {
     };
     let single = match first {
         b'%' if !rest.contains(&b'\n') => return Some(Found::Passed),
-        b'a'..=b'z' if are_word(rest) => return Some(Found::Item(Kind::Name)),
+        b'a'..=b'z' if are_word(rest) => return Some(Found::Item(TokenKind::Name)),
         b'A'..=b'Z' | b'_' if are_word(rest) => {
-            return Some(Found::Item(Kind::Variable));
+            return Some(Found::Item(TokenKind::Variable));
         }
         b'0'..=b'9' => return numeral(at, bytes, after),
         b'\'' | b'"' => return quoted(at, *first, rest, after),
         b if is_graphic(*b) => return graphic(at, bytes, after),
         b if is_layout(*b) => Found::Passed,
-        b'!' | b';' => Found::Item(Kind::Name),
-        b'(' => Found::Item(Kind::Open),
-        b')' => Found::Item(Kind::Close),
-        b'[' => Found::Item(Kind::OpenList),
-        b']' => Found::Item(Kind::CloseList),
-        b'{' => Found::Item(Kind::OpenCurly),
-        b'}' => Found::Item(Kind::CloseCurly),
-        b',' => Found::Item(Kind::Comma),
-        b'|' => Found::Item(Kind::Bar),
+        b'!' | b';' => Found::Item(TokenKind::Name),
+        b'(' => Found::Item(TokenKind::Open),
+        b')' => Found::Item(TokenKind::Close),
+        b'[' => Found::Item(TokenKind::OpenList),
+        b']' => Found::Item(TokenKind::CloseList),
+        b'{' => Found::Item(TokenKind::OpenCurly),
+        b'}' => Found::Item(TokenKind::CloseCurly),
+        b',' => Found::Item(TokenKind::Comma),
+        b'|' => Found::Item(TokenKind::Bar),
         _ => Found::Bad(TokenFault::BadChar(at)),
     };
     if rest.is_empty() {

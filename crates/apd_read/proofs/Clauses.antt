@@ -5,8 +5,8 @@ use Rattle.std.specs.List.{slice_range, Contains}
 use Rattle.std.proofs.lemmas.List.{take_more, take_all, drop_more}
 use Rattle.std.proofs.lemmas.List.Folds.{drop_split}
 use Rattle.std.proofs.lemmas.List.Elements.{Contains-get_or}
-use Rattle.apd_token.specs.declared.items.Kind.{Kind}
-use Rattle.apd_token.specs.declared.items.Kind.TheVariants as kinds
+use Rattle.apd_token.specs.declared.items.TokenKind.{TokenKind}
+use Rattle.apd_token.specs.declared.items.TokenKind.TheVariants as kinds
 use Rattle.apd_token.specs.declared.items.Token.{Token}
 use Rattle.apd_token.specs.Grammar.{HasTokens, IsTokenOf}
 use Rattle.apd_read.specs.declared.lexeme.Sort.{Sort}
@@ -58,7 +58,7 @@ variables_step vars v = by (is_anonymous v)
 same_length : (vars after : List (List ℕ)) → after ≡ vars → length after ≤ length vars + 1
 same_length vars after e = let h : length after ≡ length vars = ap length e in omega arith
 
-pub sort_variables : (k : Kind) (names : List (List ℕ)) (bytes : List ℕ) (vars : List (List ℕ)) (s : Sort) (after : List (List ℕ)) → IsSort k names bytes vars s after → length after ≤ length vars + 1
+pub sort_variables : (k : TokenKind) (names : List (List ℕ)) (bytes : List ℕ) (vars : List (List ℕ)) (s : Sort) (after : List (List ℕ)) → IsSort k names bytes vars s after → length after ≤ length vars + 1
 sort_variables kinds.Name names bytes vars s after h = same_length vars after h.5
 sort_variables kinds.Quoted names bytes vars s after h = same_length vars after h.5
 sort_variables kinds.Codes names bytes vars s after h = same_length vars after h.3
@@ -79,7 +79,7 @@ NoneEnd-push [] l all h = (h, tt)
 NoneEnd-push (x ∷ ls) l all h = (all.0, NoneEnd-push ls l all.1 h)
 
 -- a lexeme ends a clause where its token does
-sort_ends : (k : Kind) (names : List (List ℕ)) (bytes : List ℕ) (vars : List (List ℕ)) (s : Sort) (after : List (List ℕ)) → IsSort k names bytes vars s after → ends_sort s ≡ ends_clause k
+sort_ends : (k : TokenKind) (names : List (List ℕ)) (bytes : List ℕ) (vars : List (List ℕ)) (s : Sort) (after : List (List ℕ)) → IsSort k names bytes vars s after → ends_sort s ≡ ends_clause k
 sort_ends kinds.Name names bytes vars s after h = ap ends_sort h.4
 sort_ends kinds.Quoted names bytes vars s after h = ap ends_sort h.4
 sort_ends kinds.Codes names bytes vars s after h = ap ends_sort h.2

@@ -11,8 +11,8 @@ use Rattle.apd_causes.specs.declared.faults.ReadFault.{ReadFault}
 use Rattle.apd_causes.specs.declared.faults.ReadFault.TheVariants as faults
 use Rattle.apd_causes.specs.declared.reading.Read.{Read}
 use Rattle.apd_ops.specs.Table.{Table, IsTable}
-use Rattle.apd_token.specs.declared.items.Kind.{Kind}
-use Rattle.apd_token.specs.declared.items.Kind.TheVariants as kinds
+use Rattle.apd_token.specs.declared.items.TokenKind.{TokenKind}
+use Rattle.apd_token.specs.declared.items.TokenKind.TheVariants as kinds
 use Rattle.apd_token.specs.declared.items.Token.{Token}
 use Rattle.apd_token.specs.Grammar.{HasTokens, IsTokenOf, HasText, ContentOf}
 use Rattle.apd_token.proofs.Contents.{token_content}
@@ -34,10 +34,10 @@ use Rattle.apd_read.proofs.Clauses.{is_token, own_token, blank}
 use Rattle.apd_read.proofs.Running.{choose, read_lexemes, read_is}
 
 -- a token's bytes stand for no characters, though those of its kind do
-abbrev StandsForNone : Kind → List ℕ → Type 0
+abbrev StandsForNone : TokenKind → List ℕ → Type 0
 StandsForNone k bytes = HasText k × ((v : List ℕ) → ContentOf k bytes v → ⊥)
 
-abbrev Sorted : Kind → List (List ℕ) → List ℕ → List (List ℕ) → Type 0
+abbrev Sorted : TokenKind → List (List ℕ) → List ℕ → List (List ℕ) → Type 0
 Sorted k names bytes vars = ((s : Sort) × (after : List (List ℕ)) × IsSort k names bytes vars s after) ⊎ StandsForNone k bytes
 
 quoted_sort : (names : List (List ℕ)) (bytes : List ℕ) (vars : List (List ℕ)) → Sorted kinds.Quoted names bytes vars
@@ -52,7 +52,7 @@ codes_sort names bytes vars = elim (content_or_none kinds.Codes bytes) [
   | inr none ↦ inr (tt, none)
 ]
 
-sort_of : (k : Kind) (names : List (List ℕ)) (bytes : List ℕ) (vars : List (List ℕ)) → Sorted k names bytes vars
+sort_of : (k : TokenKind) (names : List (List ℕ)) (bytes : List ℕ) (vars : List (List ℕ)) → Sorted k names bytes vars
 sort_of kinds.Name names bytes vars = let f : NameId = record { 0 = number_of names bytes } in inl (sorts.Name f, vars, (bytes, f, refl, refl, refl, refl))
 sort_of kinds.Quoted names bytes vars = quoted_sort names bytes vars
 sort_of kinds.Codes names bytes vars = codes_sort names bytes vars

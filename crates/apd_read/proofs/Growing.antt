@@ -5,8 +5,8 @@ use Rattle.apd_term.specs.declared.term.NameId.{NameId}
 use Rattle.apd_term.specs.Names.{number_of, with_name}
 use Rattle.apd_term.specs.Growth.{GrowsBy}
 use Rattle.apd_term.proofs.Naming.{number_of-append, number_of-with_name, number_of_with_name_within}
-use Rattle.apd_token.specs.declared.items.Kind.{Kind}
-use Rattle.apd_token.specs.declared.items.Kind.TheVariants as kinds
+use Rattle.apd_token.specs.declared.items.TokenKind.{TokenKind}
+use Rattle.apd_token.specs.declared.items.TokenKind.TheVariants as kinds
 use Rattle.apd_token.specs.declared.items.Token.{Token}
 use Rattle.apd_read.specs.declared.lexeme.Sort.{Sort}
 use Rattle.apd_read.specs.declared.lexeme.Sort.TheVariants as sorts
@@ -37,7 +37,7 @@ name_kept old new n g f v within is =
     let less : number_of old v < length old = subst (λ (k : ℕ). k < length old) is within in
     is ∙ sym (number_of-append old g.0 v less) ∙ ap (λ w. number_of w v) (sym g.1)
 
-sort_kept : (old new : List (List ℕ)) (n : ℕ) → GrowsBy n old new → (k : Kind) (bytes : List ℕ) (vars : List (List ℕ)) (s : Sort) (after : List (List ℕ))
+sort_kept : (old new : List (List ℕ)) (n : ℕ) → GrowsBy n old new → (k : TokenKind) (bytes : List ℕ) (vars : List (List ℕ)) (s : Sort) (after : List (List ℕ))
     → SortIsNamed (length old) s → IsSort k old bytes vars s after → IsSort k new bytes vars s after
 sort_kept old new n g kinds.Name bytes vars s after named h = (h.0, h.1, h.2, name_kept old new n g h.1 h.0 (subst (SortIsNamed (length old)) h.4 named) h.3, h.4, h.5)
 sort_kept old new n g kinds.Quoted bytes vars s after named h = (h.0, h.1, h.2, name_kept old new n g h.1 h.0 (subst (SortIsNamed (length old)) h.4 named) h.3, h.4, h.5)

@@ -9,8 +9,8 @@ use Rattle.apd_term.specs.Growth.{GrowsBy}
 use Rattle.apd_term.proofs.Naming.{number_of_with_name_within, length-with_name_grows}
 use Rattle.apd_term.proofs.FirstNames.{length-standard_names}
 use Rattle.apd_ops.specs.Table.{Table}
-use Rattle.apd_token.specs.declared.items.Kind.{Kind}
-use Rattle.apd_token.specs.declared.items.Kind.TheVariants as kinds
+use Rattle.apd_token.specs.declared.items.TokenKind.{TokenKind}
+use Rattle.apd_token.specs.declared.items.TokenKind.TheVariants as kinds
 use Rattle.apd_token.specs.declared.items.Token.{Token}
 use Rattle.apd_read.specs.declared.lexeme.Sort.{Sort}
 use Rattle.apd_read.specs.declared.lexeme.Sort.TheVariants as sorts
@@ -58,7 +58,7 @@ numbered_variable vars after s v e a =
     let p = place_up_to vars v in
     (omega arith, subst (SortOf Any (IsUpTo (length after))) (sym e) (omega arith, omega arith))
 
-sort_numbered : (k : Kind) (names : List (List ℕ)) (bytes : List ℕ) (vars : List (List ℕ)) (s : Sort) (after : List (List ℕ)) → IsSort k names bytes vars s after → IsNumbered vars s after
+sort_numbered : (k : TokenKind) (names : List (List ℕ)) (bytes : List ℕ) (vars : List (List ℕ)) (s : Sort) (after : List (List ℕ)) → IsSort k names bytes vars s after → IsNumbered vars s after
 sort_numbered kinds.Name names bytes vars s after h = plain_sort vars after s _ h.4 h.5 tt
 sort_numbered kinds.Quoted names bytes vars s after h = plain_sort vars after s _ h.4 h.5 tt
 sort_numbered kinds.Codes names bytes vars s after h = plain_sort vars after s _ h.2 h.3 tt

@@ -4,8 +4,8 @@ use Rattle.std.proofs.lemmas.Bool.Decides.{nat_tests, leb_tells}
 use Rattle.apd_read.specs.declared.phrase.Phrase.{Phrase}
 use Rattle.apd_ops.specs.declared.op.Op.{Op}
 use Rattle.apd_read.specs.Reading.{Piece, Operand, Operator}
-use Rattle.apd_read.specs.declared.frames.Frame.{Frame}
-use Rattle.apd_read.specs.declared.frames.Frame.TheVariants.{Prefix, Infix}
+use Rattle.apd_read.specs.declared.frames.OperatorFrame.{OperatorFrame}
+use Rattle.apd_read.specs.declared.frames.OperatorFrame.TheVariants.{Prefix, Infix}
 use Rattle.apd_ops.specs.Operators.{left_of, right_of, IsPrefix, IsInfix}
 use Rattle.apd_read.specs.Reading.{Reads, one_operand, by_prefix, by_infix}
 use Rattle.apd_read.specs.Phrases.{unary, binary}
@@ -26,7 +26,7 @@ moved_in : (ps ls : List Piece) (y : Piece) (zs : List Piece) → (ps ++ (ls ++ 
 moved_in ps ls y zs = append_assoc ps (ls ++ y ∷ []) zs ∙ ap (λ w. ps ++ w) (moved ls y zs)
 
 -- the frames with an operand behind them are a term
-pub closed_reads : {m : ℕ} {fs : List Frame} {ps : List Piece} → Holds m fs ps → (xs : List Piece) (t : Phrase) → Reads (place_of m fs) xs t → Reads m (ps ++ xs) (closed fs t)
+pub closed_reads : {m : ℕ} {fs : List OperatorFrame} {ps : List Piece} → Holds m fs ps → (xs : List Piece) (t : Phrase) → Reads (place_of m fs) xs t → Reads m (ps ++ xs) (closed fs t)
 closed_reads no_frame xs t r = r
 closed_reads {m} (prefix_on o {fs} {ps} h k l) xs t r =
     subst (λ w. Reads m w (closed fs (unary o t))) (sym (moved ps (Operator o) xs))
@@ -36,17 +36,17 @@ closed_reads {m} (infix_on o {fs} {ps} {ls} {a} h k l b) xs t r =
     (closed_reads h (ls ++ Operator o ∷ xs) (binary o a t) (by_infix ls o xs k l b r))
 
 -- the last piece that frames hold is the top's operator
-pub top_last : {m : ℕ} {f : Frame} {fs : List Frame} {ps : List Piece} → Holds m (f ∷ fs) ps → (us : List Piece) × (ps ≡ us ++ Operator (operator_of f) ∷ [])
+pub top_last : {m : ℕ} {f : OperatorFrame} {fs : List OperatorFrame} {ps : List Piece} → Holds m (f ∷ fs) ps → (us : List Piece) × (ps ≡ us ++ Operator (operator_of f) ∷ [])
 top_last (prefix_on o {ps = ps} h k l) = (ps, refl)
 top_last (infix_on o {ps = ps} {ls = ls} h k l b) = (ps ++ ls, sym (append_assoc ps ls (Operator o ∷ [])))
 
 -- no frame is left that this operator may have on its left
-abbrev pub IsOpen : Op → List Frame → Type 0
+abbrev pub IsOpen : Op → List OperatorFrame → Type 0
 IsOpen o [] = Unit {0}
 IsOpen o (f ∷ fs) = left_of o < (operator_of f).priority
 
 -- frames and an operand, as they are when operator o comes
-pub record IsReduced (m : ℕ) (o : Op) (ps : List Piece) (fs : List Frame) (t : Phrase) : Type 0 where
+pub record IsReduced (m : ℕ) (o : Op) (ps : List Piece) (fs : List OperatorFrame) (t : Phrase) : Type 0 where
   pub before : List Piece
   pub last : List Piece
   pub priority : ℕ
@@ -57,19 +57,19 @@ pub record IsReduced (m : ℕ) (o : Op) (ps : List Piece) (fs : List Frame) (t :
   pub behind : priority ≤ place_of m fs
   pub open_top : IsOpen o fs
 
-reduced_more : (o : Op) (f : Frame) (fs : List Frame) (t : Phrase) → (operator_of f).priority ≤ left_of o → reduced o (f ∷ fs) t ≡ reduced o fs (done_of f t)
+reduced_more : (o : Op) (f : OperatorFrame) (fs : List OperatorFrame) (t : Phrase) → (operator_of f).priority ≤ left_of o → reduced o (f ∷ fs) t ≡ reduced o fs (done_of f t)
 reduced_more o f fs t h = grind (arith, nat_tests)
 
-reduced_stop : (o : Op) (f : Frame) (fs : List Frame) (t : Phrase) → left_of o < (operator_of f).priority → reduced o (f ∷ fs) t ≡ (f ∷ fs, t)
+reduced_stop : (o : Op) (f : OperatorFrame) (fs : List OperatorFrame) (t : Phrase) → left_of o < (operator_of f).priority → reduced o (f ∷ fs) t ≡ (f ∷ fs, t)
 reduced_stop o f fs t h = grind (arith, nat_tests)
 
 at_or_above : (a b : ℕ) → (a ≤ b) ⊎ (b < a)
 at_or_above a b = elim (leb_tells a b) [ inl x ↦ inl x.1 | inr y ↦ inr y.1 ]
 
-abbrev ReducedTo : ℕ → Op → List Piece → (List Frame × Phrase) → Type 0
+abbrev ReducedTo : ℕ → Op → List Piece → (List OperatorFrame × Phrase) → Type 0
 ReducedTo m o ps r = IsReduced m o ps r.0 r.1
 
-pub reduces : {m : ℕ} {fs : List Frame} {ps : List Piece} → Holds m fs ps → (o : Op) (ls : List Piece) (t : Phrase) (r : ℕ)
+pub reduces : {m : ℕ} {fs : List OperatorFrame} {ps : List Piece} → Holds m fs ps → (o : Op) (ls : List Piece) (t : Phrase) (r : ℕ)
     → Reads r ls t → r ≤ left_of o → r ≤ place_of m fs → IsReduced m o (ps ++ ls) (reduced o fs t).0 (reduced o fs t).1
 reduces no_frame o ls t r reads low fits = record { before = []; last = ls; priority = r; split = refl; holds = no_frame; reads = reads; on_left = low; behind = fits; open_top = tt }
 reduces {m} (prefix_on q {fs} {ps} h k l) o ls t r reads low fits = elim (at_or_above q.priority (left_of o)) [
@@ -96,7 +96,7 @@ too_high : {m : ℕ} (ps : List Piece) (o : Op) (x t : Phrase) → m < o.priorit
 too_high ps o x t h r = let b = bounded r o (Stands-here ps o (Operand x ∷ [])) in omega arith
 
 -- a prefix operator that does not fit behind the top has no reading
-pub prefix_fault : {m : ℕ} {fs : List Frame} {ps : List Piece} → Holds m fs ps → (o : Op) → IsPrefix o → place_of m fs < o.priority
+pub prefix_fault : {m : ℕ} {fs : List OperatorFrame} {ps : List Piece} → Holds m fs ps → (o : Op) → IsPrefix o → place_of m fs < o.priority
     → (x t : Phrase) → ¬ Reads m (ps ++ Operator o ∷ Operand x ∷ []) t
 prefix_fault {m} {fs = []} {ps} h o k l x t r = too_high ps o x t l r
 prefix_fault {m} {fs = f ∷ fs} {ps} h o k l x t r =
@@ -105,7 +105,7 @@ prefix_fault {m} {fs = f ∷ fs} {ps} h o k l x t r =
     (ap (λ w. w ++ Operator o ∷ Operand x ∷ []) u.1 ∙ moved u.0 (Operator (operator_of f)) (Operator o ∷ Operand x ∷ []))
     (record { weaker = λ q s. absurd s; not_right = l; not_above = inl k })
 
-pub infix_conflict : {m : ℕ} {o : Op} {ps : List Piece} {fs : List Frame} {t : Phrase} → IsReduced m o ps fs t → place_of m fs < o.priority
+pub infix_conflict : {m : ℕ} {o : Op} {ps : List Piece} {fs : List OperatorFrame} {t : Phrase} → IsReduced m o ps fs t → place_of m fs < o.priority
     → (x u : Phrase) → ¬ Reads m (ps ++ Operator o ∷ Operand x ∷ []) u
 infix_conflict {m} {o} {ps} {fs = []} {t} d l x u r = too_high ps o x u l r
 infix_conflict {m} {o} {ps} {fs = f ∷ fs} {t} d l x u r =
@@ -123,19 +123,19 @@ infix_conflict {m} {o} {ps} {fs = f ∷ fs} {t} d l x u r =
     })
 
 -- one operand is reduced under any operator
-pub operand_reduces : {m : ℕ} {fs : List Frame} {qs : List Piece} → Holds m fs qs → (o : Op) (t : Phrase)
+pub operand_reduces : {m : ℕ} {fs : List OperatorFrame} {qs : List Piece} → Holds m fs qs → (o : Op) (t : Phrase)
     → IsReduced m o (qs ++ Operand t ∷ []) (reduced o fs t).0 (reduced o fs t).1
 operand_reduces h o t = reduces h o (Operand t ∷ []) t 0 one_operand (omega arith) (omega arith)
 
 -- a reduced operand goes to the left of an operator that fits behind the top
-pub infix_held : {m : ℕ} {o : Op} {ps : List Piece} {fs : List Frame} {t : Phrase} → IsReduced m o ps fs t → IsInfix o → o.priority ≤ place_of m fs
+pub infix_held : {m : ℕ} {o : Op} {ps : List Piece} {fs : List OperatorFrame} {t : Phrase} → IsReduced m o ps fs t → IsInfix o → o.priority ≤ place_of m fs
     → Holds m (Infix t o ∷ fs) (ps ++ Operator o ∷ [])
 infix_held {m} {o} {ps} {fs} {t} d k l =
     subst (Holds m (Infix t o ∷ fs)) (sym (append_assoc d.before d.last (Operator o ∷ [])) ∙ ap (λ w. w ++ Operator o ∷ []) (sym d.split))
     (infix_on o d.holds k l (raised (left_of o) d.on_left d.reads))
 
 -- what frames hold reads with any operand behind it
-pub held_fine : {m : ℕ} {fs : List Frame} (ps : List Piece) (o : Op) → Holds m fs (ps ++ Operator o ∷ []) → (x : Phrase)
+pub held_fine : {m : ℕ} {fs : List OperatorFrame} (ps : List Piece) (o : Op) → Holds m fs (ps ++ Operator o ∷ []) → (x : Phrase)
     → (t : Phrase) × Reads m (ps ++ Operator o ∷ Operand x ∷ []) t
 held_fine {m} {fs} ps o h x =
     (closed fs x, subst (λ w. Reads m w (closed fs x)) (moved ps (Operator o) (Operand x ∷ [])) (closed_reads h (Operand x ∷ []) x one_operand))

@@ -5,13 +5,13 @@ use Rattle.apd_ops.specs.declared.op.Op.{Op}
 use Rattle.apd_ops.specs.Table.{Table, IsTable}
 use Rattle.apd_read.specs.declared.lexeme.Lexeme.{Lexeme}
 use Rattle.apd_read.specs.Reading.{Piece, Operand, Operator}
-use Rattle.apd_read.specs.declared.frames.Frame.{Frame}
+use Rattle.apd_read.specs.declared.frames.OperatorFrame.{OperatorFrame}
 use Rattle.apd_read.specs.declared.places.Inside.{Inside}
 use Rattle.apd_read.specs.declared.places.Inside.TheVariants.{Clause, Paren, Curly, Args, Listing, Tail}
 use Rattle.apd_read.specs.declared.places.Begin.TheVariants.{Word, Opens, Prefix, NoMore}
 use Rattle.apd_read.specs.declared.places.Go.TheVariants.{Infix, Separates, Turns, Closes, Unclosed, Ends}
 use Rattle.apd_read.specs.declared.brackets.Level.{Level}
-use Rattle.apd_read.specs.declared.brackets.State.{State}
+use Rattle.apd_read.specs.declared.brackets.ReadSoFar.{ReadSoFar}
 use Rattle.apd_read.specs.declared.brackets.ClauseFault.TheVariants as fault
 use Rattle.apd_read.specs.Reading.{Reads, one_operand}
 use Rattle.apd_read.specs.Holds.{Holds, no_frame, prefix_on}
@@ -34,7 +34,7 @@ start_ready ops ts table = record {
   within = omega arith;
 }
 
-pub word_ready : (ops : Table) (ts : List Lexeme) (s : State) (t : Phrase) (n : ℕ) → IsReady ops ts s None → begins ops ts s.at ≡ Word t n
+pub word_ready : (ops : Table) (ts : List Lexeme) (s : ReadSoFar) (t : Phrase) (n : ℕ) → IsReady ops ts s None → begins ops ts s.at ≡ Word t n
     → IsReady ops ts (record { outer = s.outer; level = s.level; at = s.at + n }) (Some t) × IsLater ts s.at (s.at + n)
 word_ready ops ts s t n r e =
     let a = r.reached in
@@ -52,7 +52,7 @@ word_ready ops ts s t n r e =
       (l, omega (arith, size.0)),
     )
 
-pub open_ready : (ops : Table) (ts : List Lexeme) (s : State) (j : Inside) (n : ℕ) → IsReady ops ts s None → begins ops ts s.at ≡ Opens j n
+pub open_ready : (ops : Table) (ts : List Lexeme) (s : ReadSoFar) (j : Inside) (n : ℕ) → IsReady ops ts s None → begins ops ts s.at ≡ Opens j n
     → IsReady ops ts (record { outer = s.level ∷ s.outer; level = record { inside = j; from = s.at + n; done = []; frames = [] }; at = s.at + n }) None × IsLater ts s.at (s.at + n)
 open_ready ops ts s j n r e =
     let a = r.reached in
@@ -77,7 +77,7 @@ open_ready ops ts s j n r e =
       (l, omega (arith, size.0)),
     )
 
-pub prefix_ready : (ops : Table) (ts : List Lexeme) (s : State) (o : Op) (gs : List Frame) → IsReady ops ts s None → begins ops ts s.at ≡ Prefix o
+pub prefix_ready : (ops : Table) (ts : List Lexeme) (s : ReadSoFar) (o : Op) (gs : List OperatorFrame) → IsReady ops ts s None → begins ops ts s.at ≡ Prefix o
     → PutsPrefix (most s.level.inside) o s.level.frames true gs
     → IsReady ops ts (record { outer = s.outer; level = record { inside = s.level.inside; from = s.level.from; done = s.level.done; frames = gs }; at = s.at + 1 }) None × IsLater ts s.at (s.at + 1)
 prefix_ready ops ts s o gs r e p =
@@ -104,18 +104,18 @@ prefix_ready ops ts s o gs r e p =
       (l, omega arith),
     )
 
-pub prefix_faulty : (ops : Table) (ts : List Lexeme) (s : State) (o : Op) (gs : List Frame) → IsReady ops ts s None → begins ops ts s.at ≡ Prefix o
+pub prefix_faulty : (ops : Table) (ts : List Lexeme) (s : ReadSoFar) (o : Op) (gs : List OperatorFrame) → IsReady ops ts s None → begins ops ts s.at ≡ Prefix o
     → PutsPrefix (most s.level.inside) o s.level.frames false gs → IsClauseFault Reads ops ts (fault.Priority s.at)
 prefix_faulty ops ts s o gs r e p =
     inl (r.layers, s.level.inside, s.level.from, s.level.done, r.pieces, r.reached, (o, e, prefix_fault r.scanned o (begins_sound ops ts s.at (Prefix o) r.table e).0 p))
 
 -- the pieces end with the last operand
-reduced_pieces : (ops : Table) (ts : List Lexeme) (s : State) (t : Phrase) (o : Op) → (r : IsReady ops ts s (Some t))
+reduced_pieces : (ops : Table) (ts : List Lexeme) (s : ReadSoFar) (t : Phrase) (o : Op) → (r : IsReady ops ts s (Some t))
     → IsReduced (most s.level.inside) o r.pieces (reduced o s.level.frames t).0 (reduced o s.level.frames t).1
 reduced_pieces ops ts s t o r =
     subst (λ w. IsReduced (most s.level.inside) o w (reduced o s.level.frames t).0 (reduced o s.level.frames t).1) (sym r.scanned.2) (operand_reduces r.scanned.1 o t)
 
-pub infix_ready : (ops : Table) (ts : List Lexeme) (s : State) (t : Phrase) (o : Op) (gs : List Frame) → IsReady ops ts s (Some t) → goes ops s.level.inside ts s.at ≡ Infix o
+pub infix_ready : (ops : Table) (ts : List Lexeme) (s : ReadSoFar) (t : Phrase) (o : Op) (gs : List OperatorFrame) → IsReady ops ts s (Some t) → goes ops s.level.inside ts s.at ≡ Infix o
     → PutsInfix (most s.level.inside) o s.level.frames t true gs
     → IsReady ops ts (record { outer = s.outer; level = record { inside = s.level.inside; from = s.level.from; done = s.level.done; frames = gs }; at = s.at + 1 }) None × IsLater ts s.at (s.at + 1)
 infix_ready ops ts s t o gs r e p =
@@ -143,17 +143,17 @@ infix_ready ops ts s t o gs r e p =
       (l, omega arith),
     )
 
-pub infix_faulty : (ops : Table) (ts : List Lexeme) (s : State) (t : Phrase) (o : Op) (gs : List Frame) → IsReady ops ts s (Some t) → goes ops s.level.inside ts s.at ≡ Infix o
+pub infix_faulty : (ops : Table) (ts : List Lexeme) (s : ReadSoFar) (t : Phrase) (o : Op) (gs : List OperatorFrame) → IsReady ops ts s (Some t) → goes ops s.level.inside ts s.at ≡ Infix o
     → PutsInfix (most s.level.inside) o s.level.frames t false gs → IsClauseFault Reads ops ts (fault.Priority s.at)
 infix_faulty ops ts s t o gs r e p =
     inr (r.layers, s.level.inside, s.level.from, s.level.done, r.pieces, r.reached, (o, e, infix_conflict (reduced_pieces ops ts s t o r) p))
 
 -- the innermost item is a term
-item_reads : (ops : Table) (ts : List Lexeme) (s : State) (t : Phrase) → (r : IsReady ops ts s (Some t)) → Reads (most s.level.inside) r.pieces (closed s.level.frames t)
+item_reads : (ops : Table) (ts : List Lexeme) (s : ReadSoFar) (t : Phrase) → (r : IsReady ops ts s (Some t)) → Reads (most s.level.inside) r.pieces (closed s.level.frames t)
 item_reads ops ts s t r =
     subst (λ w. Reads (most s.level.inside) w (closed s.level.frames t)) (sym r.scanned.2) (closed_reads r.scanned.1 (Operand t ∷ []) t one_operand)
 
-pub element_ready : (ops : Table) (ts : List Lexeme) (s : State) (t : Phrase) → IsReady ops ts s (Some t) → goes ops s.level.inside ts s.at ≡ Separates
+pub element_ready : (ops : Table) (ts : List Lexeme) (s : ReadSoFar) (t : Phrase) → IsReady ops ts s (Some t) → goes ops s.level.inside ts s.at ≡ Separates
     → HasRoom s.level.inside s.level.done
     → IsReady ops ts (record { outer = s.outer; level = record { inside = s.level.inside; from = s.level.from; done = closed s.level.frames t ∷ s.level.done; frames = [] }; at = s.at + 1 }) None × IsLater ts s.at (s.at + 1)
 element_ready ops ts s t r e room =
@@ -178,7 +178,7 @@ element_ready ops ts s t r e room =
       (l, omega arith),
     )
 
-pub tail_ready : (ops : Table) (ts : List Lexeme) (s : State) (t : Phrase) → IsReady ops ts s (Some t) → goes ops s.level.inside ts s.at ≡ Turns
+pub tail_ready : (ops : Table) (ts : List Lexeme) (s : ReadSoFar) (t : Phrase) → IsReady ops ts s (Some t) → goes ops s.level.inside ts s.at ≡ Turns
     → IsReady ops ts (record { outer = s.outer; level = record { inside = Tail; from = s.level.from; done = closed s.level.frames t ∷ s.level.done; frames = [] }; at = s.at + 1 }) None × IsLater ts s.at (s.at + 1)
 tail_ready ops ts s t r e =
     let a = r.reached in
@@ -224,10 +224,10 @@ few (no_element {k}) = few_at_first k
 few (then_element {j} {done} t e s g r h) = few_more j done t h
 few (then_tail t e s g r) = tt
 
-pub few_elements : (ops : Table) (ts : List Lexeme) (s : State) (last : Option Phrase) → IsReady ops ts s last → HasAtMost s.level.inside s.level.done
+pub few_elements : (ops : Table) (ts : List Lexeme) (s : ReadSoFar) (last : Option Phrase) → IsReady ops ts s last → HasAtMost s.level.inside s.level.done
 few_elements ops ts s last r = few r.reached.elements
 
-item_fills : (ops : Table) (ts : List Lexeme) (s : State) (t : Phrase) → (r : IsReady ops ts s (Some t)) → goes ops s.level.inside ts s.at ≡ Closes
+item_fills : (ops : Table) (ts : List Lexeme) (s : ReadSoFar) (t : Phrase) → (r : IsReady ops ts s (Some t)) → goes ops s.level.inside ts s.at ≡ Closes
     → Fills Reads ops ts r.reached.kind s.level.from (made s.level.inside s.level.done (closed s.level.frames t)) (s.at + 1)
 item_fills ops ts s t r e = filled (closed s.level.frames t) r.reached.elements r.reached.scans e (item_reads ops ts s t r)
 
@@ -236,7 +236,7 @@ clause_at_zero : {ops : Table} {ts : List Lexeme} {layers : List Layer} {k : Ins
 clause_at_zero outermost h v next f = f
 clause_at_zero (deeper i n u e s fine b) h v next f = absurd h
 
-pub close_done : (ops : Table) (ts : List Lexeme) (s : State) (t : Phrase) → IsReady ops ts s (Some t) → goes ops s.level.inside ts s.at ≡ Closes → s.outer ≡ []
+pub close_done : (ops : Table) (ts : List Lexeme) (s : ReadSoFar) (t : Phrase) → IsReady ops ts s (Some t) → goes ops s.level.inside ts s.at ≡ Closes → s.outer ≡ []
     → Fills Reads ops ts Clause 0 (made s.level.inside s.level.done (closed s.level.frames t)) (s.at + 1)
 close_done ops ts s t r e o =
     clause_at_zero r.reached.under (subst (λ w. AreHeld w r.layers) o r.outer) (made s.level.inside s.level.done (closed s.level.frames t)) (s.at + 1) (item_fills ops ts s t r e)
@@ -265,7 +265,7 @@ popped {ops} {ts} (deeper {layers = ys} {k} {j} {from} {at} {now} {done} {ps} i 
       outer = h.4;
     }
 
-pub close_ready : (ops : Table) (ts : List Lexeme) (s : State) (t : Phrase) (l : Level) (ls : List Level) → IsReady ops ts s (Some t)
+pub close_ready : (ops : Table) (ts : List Lexeme) (s : ReadSoFar) (t : Phrase) (l : Level) (ls : List Level) → IsReady ops ts s (Some t)
     → goes ops s.level.inside ts s.at ≡ Closes → s.outer ≡ l ∷ ls
     → IsReady ops ts (record { outer = ls; level = l; at = s.at + 1 }) (Some (made s.level.inside s.level.done (closed s.level.frames t))) × IsLater ts s.at (s.at + 1)
 close_ready ops ts s t l ls r e o =
@@ -284,6 +284,6 @@ close_ready ops ts s t l ls r e o =
       (h, omega arith),
     )
 
-pub unclosed_faulty : (ops : Table) (ts : List Lexeme) (s : State) (t : Phrase) → IsReady ops ts s (Some t) → goes ops s.level.inside ts s.at ≡ Unclosed
+pub unclosed_faulty : (ops : Table) (ts : List Lexeme) (s : ReadSoFar) (t : Phrase) → IsReady ops ts s (Some t) → goes ops s.level.inside ts s.at ≡ Unclosed
     → (k : ℕ) → k ≡ s.level.from - 1 → IsClauseFault Reads ops ts (fault.Unclosed k)
 unclosed_faulty ops ts s t r e k is = (s.at, (r.layers, s.level.inside, s.level.from, s.level.done, r.pieces, r.reached, (e, is)))

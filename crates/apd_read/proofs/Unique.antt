@@ -6,8 +6,8 @@ use Rattle.apd_causes.specs.declared.faults.ReadFault.{ReadFault}
 use Rattle.apd_causes.specs.declared.faults.ReadFault.TheVariants as faults
 use Rattle.apd_causes.specs.declared.reading.Read.{Read}
 use Rattle.apd_ops.specs.Table.{Table, IsTable}
-use Rattle.apd_token.specs.declared.items.Kind.{Kind}
-use Rattle.apd_token.specs.declared.items.Kind.TheVariants as kinds
+use Rattle.apd_token.specs.declared.items.TokenKind.{TokenKind}
+use Rattle.apd_token.specs.declared.items.TokenKind.TheVariants as kinds
 use Rattle.apd_token.specs.declared.items.Token.{Token}
 use Rattle.apd_token.proofs.Contents.{one_content}
 use Rattle.std.specs.Str.{chars}
@@ -56,7 +56,7 @@ one_name names u v f g e p q =
     let id : ℕ → NameId = λ k. record { 0 = k } in
     ap id n
 
-one_sort : (k : Kind) (names : List (List ℕ)) (bytes : List ℕ) (vars : List (List ℕ)) (s : Sort) (after : List (List ℕ)) (t : Sort) (rest : List (List ℕ))
+one_sort : (k : TokenKind) (names : List (List ℕ)) (bytes : List ℕ) (vars : List (List ℕ)) (s : Sort) (after : List (List ℕ)) (t : Sort) (rest : List (List ℕ))
     → IsSort k names bytes vars s after → IsSort k names bytes vars t rest → Same s t after rest
 one_sort kinds.Name names bytes vars s after t rest p q =
     let e : p.0 ≡ q.0 = one_content kinds.Name bytes p.0 q.0 tt p.2 q.2 in

@@ -5,8 +5,8 @@ use Rattle.std.specs.List.{slice_range}
 use Rattle.std.specs.Str.{chars, chars_after, continuation_len, lead_bits}
 use Rattle.apd_term.specs.Term.{size}
 use Rattle.apd_ops.specs.Table.{Table}
-use Rattle.apd_token.specs.declared.items.Kind.{Kind}
-use Rattle.apd_token.specs.declared.items.Kind.TheVariants as kinds
+use Rattle.apd_token.specs.declared.items.TokenKind.{TokenKind}
+use Rattle.apd_token.specs.declared.items.TokenKind.TheVariants as kinds
 use Rattle.apd_token.specs.declared.items.Token.{Token}
 use Rattle.apd_token.specs.Grammar.{HasTokens}
 use Rattle.apd_token.proofs.Slices.{length-slice}
@@ -50,7 +50,7 @@ chars_few (b ∷ bs) = let h = chars_after_few (continuation_len b) (lead_bits b
 light : (s t : Sort) (n : ℕ) → s ≡ t → weight_of t ≡ 1 → 1 ≤ n → weight_of s + 1 ≤ 2 * n
 light s t n e w le = let h : weight_of s ≡ weight_of t = ap weight_of e in omega arith
 
-sort_weight : (k : Kind) (names : List (List ℕ)) (bytes : List ℕ) (vars : List (List ℕ)) (s : Sort) (after : List (List ℕ)) → IsSort k names bytes vars s after → 1 ≤ length bytes → weight_of s + 1 ≤ 2 * length bytes
+sort_weight : (k : TokenKind) (names : List (List ℕ)) (bytes : List ℕ) (vars : List (List ℕ)) (s : Sort) (after : List (List ℕ)) → IsSort k names bytes vars s after → 1 ≤ length bytes → weight_of s + 1 ≤ 2 * length bytes
 sort_weight kinds.Name names bytes vars s after h le = light s _ (length bytes) h.4 refl le
 sort_weight kinds.Quoted names bytes vars s after h le = light s _ (length bytes) h.4 refl le
 sort_weight kinds.Codes names bytes vars s after h le =

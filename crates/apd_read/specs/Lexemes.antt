@@ -4,8 +4,8 @@ use Rattle.std.specs.List.{slice_range}
 use Rattle.std.specs.Str.{chars}
 use Rattle.apd_term.specs.declared.term.NameId.{NameId}
 use Rattle.apd_term.specs.Names.{number_of, with_name}
-use Rattle.apd_token.specs.declared.items.Kind.{Kind}
-use Rattle.apd_token.specs.declared.items.Kind.TheVariants as kinds
+use Rattle.apd_token.specs.declared.items.TokenKind.{TokenKind}
+use Rattle.apd_token.specs.declared.items.TokenKind.TheVariants as kinds
 use Rattle.apd_token.specs.declared.items.Token.{Token}
 use Rattle.apd_token.specs.Grammar.{ContentOf}
 use Rattle.apd_read.specs.declared.lexeme.Sort.{Sort}
@@ -31,7 +31,7 @@ abbrev pub with_variable : List (List ℕ) → List ℕ → List (List ℕ)
 with_variable vars v = if is_anonymous v then vars ++ v ∷ [] else with_name vars v
 
 -- By its kind, what a token of these bytes stands for, with the variables before it and behind it.
-abbrev pub IsSort : Kind → List (List ℕ) → List ℕ → List (List ℕ) → Sort → List (List ℕ) → Type 0
+abbrev pub IsSort : TokenKind → List (List ℕ) → List ℕ → List (List ℕ) → Sort → List (List ℕ) → Type 0
 IsSort kinds.Name names bytes vars s after = (v : List ℕ) × (f : NameId) × ContentOf kinds.Name bytes v × IsNameOf names f v × (s ≡ sorts.Name f) × (after ≡ vars)
 IsSort kinds.Quoted names bytes vars s after = (v : List ℕ) × (f : NameId) × ContentOf kinds.Quoted bytes v × IsNameOf names f v × (s ≡ sorts.Quoted f) × (after ≡ vars)
 IsSort kinds.Codes names bytes vars s after = (v : List ℕ) × ContentOf kinds.Codes bytes v × (s ≡ sorts.Codes (chars v)) × (after ≡ vars)
@@ -57,7 +57,7 @@ pub data AreLexemes (names : List (List ℕ)) (text : List ℕ) : List Token →
       → AreLexemes names text ts ls vars → IsLexeme names text vars t l after
       → AreLexemes names text (ts ++ t ∷ []) (ls ++ l ∷ []) after
 
-abbrev pub ends_clause : Kind → Bool
+abbrev pub ends_clause : TokenKind → Bool
 ends_clause kinds.End = true
 ends_clause _ = false
 

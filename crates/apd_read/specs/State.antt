@@ -6,9 +6,9 @@ use Rattle.apd_read.specs.declared.phrase.Phrase.{Phrase}
 use Rattle.apd_read.specs.declared.places.Inside.{Inside}
 use Rattle.apd_read.specs.declared.places.Inside.TheVariants.{Clause}
 use Rattle.apd_read.specs.declared.brackets.Level.{Level}
-use Rattle.apd_read.specs.declared.brackets.State.{State}
-use Rattle.apd_read.specs.declared.brackets.Next.{Next}
-use Rattle.apd_read.specs.declared.brackets.Next.TheVariants as next
+use Rattle.apd_read.specs.declared.brackets.ReadSoFar.{ReadSoFar}
+use Rattle.apd_read.specs.declared.brackets.TokenUse.{TokenUse}
+use Rattle.apd_read.specs.declared.brackets.TokenUse.TheVariants as next
 use Rattle.apd_read.specs.Reading.{Piece, Reads}
 use Rattle.apd_read.specs.Holds.{Holds, IsScanned}
 use Rattle.apd_read.specs.Clause.{Place, operand_place, operator_place, most, Layer, At, Fills}
@@ -26,7 +26,7 @@ AreHeld (l ∷ ls) [] = ⊥
 AreHeld (l ∷ ls) (y ∷ ys) = (l.inside ≡ y.kind) × (l.from ≡ y.from) × (l.done ≡ y.done) × Holds (most y.kind) l.frames y.pieces × AreHeld ls ys
 
 -- the reader stands before the token `at`, in the place behind the last operand, if there is one
-pub record IsReady (ops : Table) (ts : List Lexeme) (s : State) (last : Option Phrase) : Type 0 where
+pub record IsReady (ops : Table) (ts : List Lexeme) (s : ReadSoFar) (last : Option Phrase) : Type 0 where
   pub table : IsTable ops
   pub layers : List Layer
   pub pieces : List Piece
@@ -39,11 +39,11 @@ pub record IsReady (ops : Table) (ts : List Lexeme) (s : State) (last : Option P
 abbrev pub IsLater : List Lexeme → ℕ → ℕ → Type 0
 IsLater ts at now = (at < length ts) × (at < now)
 
-abbrev pub IsNext : Table → List Lexeme → ℕ → State → Next → Type 0
+abbrev pub IsNext : Table → List Lexeme → ℕ → ReadSoFar → TokenUse → Type 0
 IsNext ops ts at s next.Operand = IsReady ops ts s None × IsLater ts at s.at
 IsNext ops ts at s (next.Operator t) = IsReady ops ts s (Some t) × IsLater ts at s.at
 IsNext ops ts at s (next.Done r) = Fills Reads ops ts Clause 0 r.phrase r.next
 
 -- a bracket is opened
-abbrev pub IsOpened : State → Inside → ℕ → State → Type 0
+abbrev pub IsOpened : ReadSoFar → Inside → ℕ → ReadSoFar → Type 0
 IsOpened s k n r = r ≡ record { outer = s.level ∷ s.outer; level = record { inside = k; from = s.at + n; done = []; frames = [] }; at = s.at + n }

@@ -8,7 +8,7 @@ ghost use Rattle.apd_read.specs.Places.{goes};
 ghost use Rattle.apd_read.specs.State.{IsReady, IsNext, IsOpened};
 ghost use Rattle.apd_read.specs.declared.places.Go.TheVariants.{Closes};
 
-use crate::frames::{Frame, closed, put_infix, put_prefix};
+use crate::frames::{OperatorFrame, closed, put_infix, put_prefix};
 use crate::lexeme::Lexeme;
 use crate::phrase::{Phrase, atom, braced, call, enclosed, leaf, listing};
 use crate::places::{Begin, Go, Inside, begins, goes};
@@ -56,7 +56,7 @@ pub(crate) struct Level {
     inside: Inside,
     from: usize,
     done: Stack<Phrase>,
-    frames: Stack<Frame>,
+    frames: Stack<OperatorFrame>,
 }
 
 fn most(inside: Inside) -> u16
@@ -105,7 +105,7 @@ fn made(alloc: Global, inside: Inside, done: Stack<Phrase>, p: Phrase) -> Result
 
 /// What is read so far: the brackets that are open, the innermost apart, and the next token's place.
 #[derive(Drop)]
-pub(crate) struct State {
+pub(crate) struct ReadSoFar {
     outer: Stack<Level>,
     level: Level,
     at: usize,
@@ -113,14 +113,19 @@ pub(crate) struct State {
 
 /// What the next token is for.
 #[derive(Drop)]
-pub(crate) enum Next {
+pub(crate) enum TokenUse {
     Operand,
     Operator(Phrase),
     Done(Whole),
 }
 
 /// Opens a bracket.
-fn open(alloc: Global, state: &mut State, inside: Inside, count: usize) -> Result<(), AllocError>
+fn open(
+    alloc: Global,
+    state: &mut ReadSoFar,
+    inside: Inside,
+    count: usize,
+) -> Result<(), AllocError>
     requires { state.old.at + count < 2 ^ 63 }
     ensures { OnOk result (IsOpened state.old inside count state.new) }
 {
@@ -153,8 +158,8 @@ fn operand_step(
     alloc: Global,
     ops: &Ops,
     lexemes: &[Lexeme],
-    state: &mut State,
-) -> Result<Next, ClauseFault>
+    state: &mut ReadSoFar,
+) -> Result<TokenUse, ClauseFault>
     requires short { length lexemes.now < 4611686018427386000 }
     requires ready { IsReady ops.now lexemes.now state.old None }
     ensures { MatchResult result (IsNext ops.now lexemes.now state.old.at state.new)
@@ -164,18 +169,18 @@ fn operand_step(
     match begins(alloc, ops, lexemes, at)? {
         Begin::Word(p, count) => {
             state.at = at + count;
-            Ok(Next::Operator(p))
+            Ok(TokenUse::Operator(p))
         }
         Begin::Opens(inside, count) => {
             open(alloc, state, inside, count)?;
-            Ok(Next::Operand)
+            Ok(TokenUse::Operand)
         }
         Begin::Prefix(o) => {
             if !put_prefix(&mut state.level.frames, o, most(state.level.inside))? {
                 return Err(ClauseFault::Priority(at));
             }
             state.at = at + 1;
-            Ok(Next::Operand)
+            Ok(TokenUse::Operand)
         }
         Begin::Wide => Err(ClauseFault::Wide(at)),
         Begin::Nothing => Err(ClauseFault::NoTerm(at)),
@@ -188,9 +193,9 @@ fn close(
     alloc: Global,
     ops: &Ops,
     lexemes: &[Lexeme],
-    state: &mut State,
+    state: &mut ReadSoFar,
     last: Phrase,
-) -> Result<Next, AllocError>
+) -> Result<TokenUse, AllocError>
     requires short { state.old.at < 2 ^ 63 }
     requires ready { IsReady ops.now lexemes.now state.old (Some last) }
     requires closes { goes ops.now state.old.level.inside lexemes.now state.old.at ≡ Closes }
@@ -202,7 +207,7 @@ fn close(
         None => {
             let done = mem::replace(&mut state.level.done, Stack::new(alloc));
             let phrase = made(alloc, state.level.inside, done, t)?;
-            Ok(Next::Done(Whole {
+            Ok(TokenUse::Done(Whole {
                 phrase,
                 next: at + 1,
             }))
@@ -216,7 +221,7 @@ fn close(
                 frames: _,
             } = level;
             state.at = at + 1;
-            Ok(Next::Operator(made(alloc, inside, done, t)?))
+            Ok(TokenUse::Operator(made(alloc, inside, done, t)?))
         }
     }
 }
@@ -226,9 +231,9 @@ fn operator_step(
     alloc: Global,
     ops: &Ops,
     lexemes: &[Lexeme],
-    state: &mut State,
+    state: &mut ReadSoFar,
     last: Phrase,
-) -> Result<Next, ClauseFault>
+) -> Result<TokenUse, ClauseFault>
     requires short { length lexemes.now < 4611686018427386000 }
     requires ready { IsReady ops.now lexemes.now state.old (Some last) }
     ensures { MatchResult result (IsNext ops.now lexemes.now state.old.at state.new)
@@ -242,7 +247,7 @@ fn operator_step(
                 return Err(ClauseFault::Priority(at));
             }
             state.at = at + 1;
-            Ok(Next::Operand)
+            Ok(TokenUse::Operand)
         }
         Go::Separates => {
             if !has_room(inside, &state.level.done) {
@@ -251,14 +256,14 @@ fn operator_step(
             let t = item(alloc, &mut state.level, last)?;
             state.level.done.push(t)?;
             state.at = at + 1;
-            Ok(Next::Operand)
+            Ok(TokenUse::Operand)
         }
         Go::Turns => {
             let t = item(alloc, &mut state.level, last)?;
             state.level.done.push(t)?;
             state.level.inside = Inside::Tail;
             state.at = at + 1;
-            Ok(Next::Operand)
+            Ok(TokenUse::Operand)
         }
         Go::Closes => Ok(close(alloc, ops, lexemes, state, last)?),
         Go::Unclosed => Err(ClauseFault::Unclosed(state.level.from.saturating_sub(1))),
@@ -272,7 +277,7 @@ fn read_on(
     alloc: Global,
     ops: &Ops,
     lexemes: &[Lexeme],
-    state: &mut State,
+    state: &mut ReadSoFar,
 ) -> Result<Whole, ClauseFault>
     requires short { length lexemes.now < 4611686018427386000 }
     requires ready { IsReady ops.now lexemes.now state.old None }
@@ -285,9 +290,9 @@ fn read_on(
             Some(t) => operator_step(alloc, ops, lexemes, state, t)?,
         };
         match next {
-            Next::Operand => last = None,
-            Next::Operator(t) => last = Some(t),
-            Next::Done(whole) => return Ok(whole),
+            TokenUse::Operand => last = None,
+            TokenUse::Operator(t) => last = Some(t),
+            TokenUse::Done(whole) => return Ok(whole),
         }
     }
 }
@@ -298,7 +303,7 @@ pub(crate) fn read(alloc: Global, ops: &Ops, lexemes: &[Lexeme]) -> Result<Whole
     ensures { IsReading Reads ops.now lexemes.now result }
 {
     ops.has_no_clash();
-    let mut state = State {
+    let mut state = ReadSoFar {
         outer: Stack::new(alloc),
         level: Level {
             inside: Inside::Clause,

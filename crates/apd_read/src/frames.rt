@@ -10,32 +10,32 @@ use std::alloc::{AllocError, Global};
 
 /// An operator that waits for its operand on the right, with its operand on the left.
 #[derive(Drop)]
-pub(crate) enum Frame {
+pub(crate) enum OperatorFrame {
     Prefix(Op),
     Infix(Phrase, Op),
 }
 
-fn operator_of(frame: &Frame) -> Op
+fn operator_of(frame: &OperatorFrame) -> Op
     ensures { result ≡ operator_of frame.now }
 {
     match frame {
-        Frame::Prefix(o) => *o,
-        Frame::Infix(_, o) => *o,
+        OperatorFrame::Prefix(o) => *o,
+        OperatorFrame::Infix(_, o) => *o,
     }
 }
 
 /// The frame's term, with its operand on the right.
-fn done_of(alloc: Global, frame: Frame, p: Phrase) -> Result<Phrase, AllocError>
+fn done_of(alloc: Global, frame: OperatorFrame, p: Phrase) -> Result<Phrase, AllocError>
     ensures { IfOk result (λ r. r ≡ done_of frame p) }
 {
     match frame {
-        Frame::Prefix(o) => unary(alloc, o, p),
-        Frame::Infix(left, o) => binary(alloc, o, left, p),
+        OperatorFrame::Prefix(o) => unary(alloc, o, p),
+        OperatorFrame::Infix(left, o) => binary(alloc, o, left, p),
     }
 }
 
 /// The greatest priority of what may stand behind the top.
-fn place_of(frames: &Stack<Frame>, max: u16) -> u16
+fn place_of(frames: &Stack<OperatorFrame>, max: u16) -> u16
     ensures { result ≡ place_of max frames.now }
 {
     match frames.top() {
@@ -44,7 +44,7 @@ fn place_of(frames: &Stack<Frame>, max: u16) -> u16
     }
 }
 
-fn top_of(frames: &Stack<Frame>) -> Option<Op>
+fn top_of(frames: &Stack<OperatorFrame>) -> Option<Op>
     ensures { result ≡ top_of frames.now }
 {
     match frames.top() {
@@ -56,7 +56,7 @@ fn top_of(frames: &Stack<Frame>) -> Option<Op>
 /// Does the frames that may stand on the operator's left.
 fn reduced(
     alloc: Global,
-    frames: &mut Stack<Frame>,
+    frames: &mut Stack<OperatorFrame>,
     last: Phrase,
     o: Op,
 ) -> Result<Phrase, AllocError>
@@ -76,20 +76,24 @@ fn reduced(
 }
 
 /// Puts a prefix operator behind the frames; false where it doesn't fit there.
-pub(crate) fn put_prefix(frames: &mut Stack<Frame>, o: Op, max: u16) -> Result<bool, AllocError>
+pub(crate) fn put_prefix(
+    frames: &mut Stack<OperatorFrame>,
+    o: Op,
+    max: u16,
+) -> Result<bool, AllocError>
     ensures { IfOk result (λ fits. PutsPrefix max o frames.old fits frames.new) }
 {
     if o.priority > place_of(frames, max) {
         return Ok(false);
     }
-    frames.push(Frame::Prefix(o))?;
+    frames.push(OperatorFrame::Prefix(o))?;
     Ok(true)
 }
 
 /// Puts an infix operator behind the frames and the last operand; false where it doesn't fit there.
 pub(crate) fn put_infix(
     alloc: Global,
-    frames: &mut Stack<Frame>,
+    frames: &mut Stack<OperatorFrame>,
     last: Phrase,
     o: Op,
     max: u16,
@@ -100,14 +104,14 @@ pub(crate) fn put_infix(
     if o.priority > place_of(frames, max) {
         return Ok(false);
     }
-    frames.push(Frame::Infix(left, o))?;
+    frames.push(OperatorFrame::Infix(left, o))?;
     Ok(true)
 }
 
 /// Does all frames, the top first.
 pub(crate) fn closed(
     alloc: Global,
-    frames: Stack<Frame>,
+    frames: Stack<OperatorFrame>,
     last: Phrase,
 ) -> Result<Phrase, AllocError>
     ensures { IfOk result (λ r. r ≡ closed frames last) }

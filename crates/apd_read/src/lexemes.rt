@@ -12,13 +12,13 @@ use crate::lexeme::{Lexeme, Sort};
 use crate::variables::Variables;
 use apd_base::VarNames;
 use apd_term::{NameId, Names};
-use apd_token::{Kind, Token, bare_name, content};
+use apd_token::{Token, TokenKind, bare_name, content};
 use std::alloc::{AllocError, Global};
 use std::mem::replace;
 
 /// The tokens of a clause by what they stand for, and the texts of its variables in order.
 #[derive(Drop)]
-pub(crate) struct Clause {
+pub(crate) struct LexedClause {
     pub lexemes: Vec<Lexeme>,
     pub vars: VarNames,
 }
@@ -28,7 +28,7 @@ fn bare(names: &mut Names, text: &[u8], token: &Token) -> Result<NameId, AllocEr
     requires small { length text.now ≤ MAX_FILE }
     requires utf8 { IsUtf8 text.now }
     requires token { IsTokenOf text.now token.now }
-    requires kind { token.now.kind ≡ Kind.Name }
+    requires kind { token.now.kind ≡ TokenKind.Name }
     requires room { length names.old < MOST_NAMES }
     ensures name { IfOk result (λ f. (v : List ℕ) ×
         ContentOf token.now.kind (slice_range text.now token.now.start token.now.end) v ×
@@ -81,34 +81,34 @@ fn sort_of(
     ensures grown { GrowsBy 1 names.old names.new }
 {
     match token.kind {
-        Kind::Name => Ok(Sort::Name(bare(names, text, token)?)),
-        Kind::Quoted => Ok(Sort::Quoted(named(alloc, names, text, token)?)),
-        Kind::Codes => {
+        TokenKind::Name => Ok(Sort::Name(bare(names, text, token)?)),
+        TokenKind::Quoted => Ok(Sort::Quoted(named(alloc, names, text, token)?)),
+        TokenKind::Codes => {
             let value = content(alloc, text, token)?;
             Ok(Sort::Codes(codes(alloc, value.bytes())?))
         }
-        Kind::Variable => {
+        TokenKind::Variable => {
             let value = content(alloc, text, token)?;
             Ok(Sort::Variable(vars.number(value)?))
         }
-        Kind::Integer(i) => Ok(Sort::Integer(i)),
-        Kind::Open => Ok(Sort::Open),
-        Kind::Close => Ok(Sort::Close),
-        Kind::OpenList => Ok(Sort::OpenList),
-        Kind::CloseList => Ok(Sort::CloseList),
-        Kind::OpenCurly => Ok(Sort::OpenCurly),
-        Kind::CloseCurly => Ok(Sort::CloseCurly),
-        Kind::Comma => Ok(Sort::Comma),
-        Kind::Bar => Ok(Sort::Bar),
-        Kind::End => Ok(Sort::End),
+        TokenKind::Integer(i) => Ok(Sort::Integer(i)),
+        TokenKind::Open => Ok(Sort::Open),
+        TokenKind::Close => Ok(Sort::Close),
+        TokenKind::OpenList => Ok(Sort::OpenList),
+        TokenKind::CloseList => Ok(Sort::CloseList),
+        TokenKind::OpenCurly => Ok(Sort::OpenCurly),
+        TokenKind::CloseCurly => Ok(Sort::CloseCurly),
+        TokenKind::Comma => Ok(Sort::Comma),
+        TokenKind::Bar => Ok(Sort::Bar),
+        TokenKind::End => Ok(Sort::End),
     }
 }
 
-fn ends_clause(kind: Kind) -> bool
+fn ends_clause(kind: TokenKind) -> bool
     ensures { result ≡ ends_clause kind }
 {
     match kind {
-        Kind::End => true,
+        TokenKind::End => true,
         _ => false,
     }
 }
@@ -166,7 +166,7 @@ pub(crate) fn lexemes(
     text: &[u8],
     tokens: &[Token],
     at: usize,
-) -> Result<Clause, AllocError>
+) -> Result<LexedClause, AllocError>
     requires small { length text.now ≤ MAX_FILE }
     requires utf8 { IsUtf8 text.now }
     requires tokens { HasTokens text.now tokens.now }
@@ -187,7 +187,7 @@ pub(crate) fn lexemes(
             let texts = replace(&mut vars.texts, VarNames::new(alloc));
             // Dropped by a call, here and below: else each part of it is a step to check.
             drop(vars);
-            Ok(Clause {
+            Ok(LexedClause {
                 lexemes,
                 vars: texts,
             })

@@ -22,7 +22,7 @@ ghost use Rattle.apd_base.specs.declared.limits.TheConstants.{MAX_FILE, MOST_NAM
 
 use crate::brackets::{ClauseFault, Whole, read};
 use crate::lexeme::Lexeme;
-use crate::lexemes::{Clause, lexemes};
+use crate::lexemes::{LexedClause, lexemes};
 use crate::phrase::TOO_MANY_LEVELS;
 use apd_causes::{Read, ReadFault};
 use apd_ops::Ops;
@@ -83,13 +83,19 @@ pub fn every_clause_reads()
 {}
 
 /// What the lexemes of a clause read as, where they begin at a token of the text.
-fn answer(alloc: Global, ops: &Ops, clause: Clause, at: usize, end: u32) -> Result<Read, ReadFault>
+fn answer(
+    alloc: Global,
+    ops: &Ops,
+    clause: LexedClause,
+    at: usize,
+    end: u32,
+) -> Result<Read, ReadFault>
     requires short { length clause.lexemes.items ≤ MAX_FILE }
     requires low { at ≤ MAX_FILE }
     ensures ok { IfOk result (IsReadAs ops.now clause.lexemes.items clause.vars end at) }
     ensures err { IfErr result (IsFaultIn ops.now clause.lexemes.items end) }
 {
-    let Clause { lexemes, vars } = clause;
+    let LexedClause { lexemes, vars } = clause;
     match read_by_main(alloc, ops, &lexemes) {
         Err(fault) => {
             let told = placed(&lexemes, end, fault);

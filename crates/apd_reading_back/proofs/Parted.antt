@@ -3,7 +3,7 @@ use Rattle.std.proofs.Common.{ℕ, ◌+◌, true, List, [], ◌∷◌, length, r
 use Rattle.apd_token.specs.Grammar.{Piece, Begins, Divides, HasTokens, BeginsScript, tokens_of}
 use Rattle.apd_token.specs.declared.bytes.Class.TheVariants as classes
 use Rattle.apd_token.specs.declared.found.Found.TheVariants.{Passed, Item}
-use Rattle.apd_token.specs.declared.items.Kind.TheVariants as kinds
+use Rattle.apd_token.specs.declared.items.TokenKind.TheVariants as kinds
 use Rattle.apd_token.proofs.Longest.{alone, graphic}
 use Rattle.apd_reading_back.specs.Pieces.{IsBefore, AreApart, separate_first, separate_second, minus_number, blank, full_stop, text_of}
 use Rattle.apd_reading_back.proofs.Edges.{blank_edge, differ}

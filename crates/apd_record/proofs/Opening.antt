@@ -12,7 +12,7 @@ use Rattle.apd_ports.specs.declared.event.Port.TheVariants.{Call}
 use Rattle.apd_ports.specs.declared.point.Point.{Point}
 use Rattle.apd_tuples.specs.Tuples.{IsNumbered}
 use Rattle.apd_record.specs.declared.beside.Owned.{Owned}
-use Rattle.apd_record.specs.declared.beside.Links.{Links}
+use Rattle.apd_record.specs.declared.beside.PointLinks.{PointLinks}
 use Rattle.apd_record.specs.declared.kept.AtomPlace.{AtomPlace}
 use Rattle.apd_record.specs.declared.kept.AtomPlace.TheVariants.{Written, Kept}
 use Rattle.apd_record.specs.declared.kept.KeptBox.{KeptBox}
@@ -53,7 +53,7 @@ within_point R x h o b =
 
 -- Rows.
 
-pub beside_box : (r : Rows) (o os : List Owned) (l ls : List Links) (row : KeptBox) (bs : List KeptBox) → IsBeside r o l → row.from < length r.points → length r.boxes < 2 ^ 32 - 1
+pub beside_box : (r : Rows) (o os : List Owned) (l ls : List PointLinks) (row : KeptBox) (bs : List KeptBox) → IsBeside r o l → row.from < length r.points → length r.boxes < 2 ^ 32 - 1
     → bs ≡ r.boxes ++ row ∷ [] → os ≡ o ++ nothing ∷ [] → ls ≡ edited (with_child (length r.boxes)) l row.from → IsBeside (record { boxes = bs; points = r.points }) os ls
 beside_box r o os l ls row bs h from few be oe le =
     let n : length (blanked r).boxes ≡ length r.boxes = length-map r.boxes (box_from [] []) in
@@ -71,7 +71,7 @@ beside_box r o os l ls row bs h from few be oe le =
           (box_index (blanked r) o l h.within h.index (box_from [] [] row)));
     })
 
-pub beside_point : (r : Rows) (o os : List Owned) (l ls : List Links) (x : KeptPoint) (xs : List KeptPoint) (e : Option ℕ) → IsBeside r o l → x.owner ≤ length r.boxes → IsBelow (length r.points) x.before → length r.points < 2 ^ 32 - 1
+pub beside_point : (r : Rows) (o os : List Owned) (l ls : List PointLinks) (x : KeptPoint) (xs : List KeptPoint) (e : Option ℕ) → IsBeside r o l → x.owner ≤ length r.boxes → IsBelow (length r.points) x.before → length r.points < 2 ^ 32 - 1
     → ((d : Owned) → slice_get o x.owner ≡ Some d → e ≡ earlier_of (x.done == 0) d) → xs ≡ r.points ++ x ∷ []
     → os ≡ edited (owning (length r.points) (x.done == 0) (is_exit (blank_point x))) o x.owner → ls ≡ linked x.before (length r.points) (l ++ nowhere e ∷ []) → IsBeside (record { boxes = r.boxes; points = xs }) os ls
 beside_point r o os l ls x xs e h owner below few earlier xe oe le =
@@ -95,7 +95,7 @@ froms_passed port i [] = refl
 froms_passed port zero (b ∷ bs) = refl
 froms_passed port (suc i) (b ∷ bs) = ap (λ ns. b.from ∷ ns) (froms_passed port i bs)
 
-pub beside_noted : (r : Rows) (o : List Owned) (l : List Links) (port : Port) (i : ℕ) (bs : List KeptBox) → IsBeside r o l → bs ≡ edited (kept_passed port) r.boxes i → IsBeside (record { boxes = bs; points = r.points }) o l
+pub beside_noted : (r : Rows) (o : List Owned) (l : List PointLinks) (port : Port) (i : ℕ) (bs : List KeptBox) → IsBeside r o l → bs ≡ edited (kept_passed port) r.boxes i → IsBeside (record { boxes = bs; points = r.points }) o l
 beside_noted r o l port i bs h e =
     let froms : map from_of (map (box_from [] []) (edited (kept_passed port) r.boxes i)) ≡ map from_of (map (box_from [] []) r.boxes) = froms_passed port i r.boxes in
     let R : Recorded = record { boxes = map (box_from [] []) (edited (kept_passed port) r.boxes i); points = map blank_point r.points } in
@@ -139,7 +139,7 @@ same_froms : (kept : List Tuple) (bs : List KeptBox) → map from_of (map (box_f
 same_froms kept [] = refl
 same_froms kept (b ∷ bs) = ap (λ ns. b.from ∷ ns) (same_froms kept bs)
 
-pub closed : (kept : List Tuple) (r : Rows) (o : List Owned) (l : List Links) → IsBeside r o l → IsKept (told_by kept r) → AreIn kept r → IsHeld [] [] kept r.boxes r.points o l
+pub closed : (kept : List Tuple) (r : Rows) (o : List Owned) (l : List PointLinks) → IsBeside r o l → IsKept (told_by kept r) → AreIn kept r → IsHeld [] [] kept r.boxes r.points o l
 closed kept r o l h sound there =
     record {
       stored = record {

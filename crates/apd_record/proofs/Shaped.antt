@@ -7,7 +7,7 @@ use Rattle.std.proofs.lemmas.Option.{slice_get-map}
 use Rattle.apd_ports.specs.declared.point.Point.{Point}
 use Rattle.apd_ports.specs.declared.point.Step.{Step}
 use Rattle.apd_record.specs.declared.beside.Owned.{Owned}
-use Rattle.apd_record.specs.declared.beside.Links.{Links}
+use Rattle.apd_record.specs.declared.beside.PointLinks.{PointLinks}
 use Rattle.apd_record.specs.Recorded.{Recorded, BoxRow, exits, numbers}
 use Rattle.apd_record.specs.Index.{id_of, is_by, is_exit, is_first_in, is_from, last_place, one_on, IsBelow, IsIndex, IsWithin}
 
@@ -70,7 +70,7 @@ module _ (R S : Recorded) (boxes : map from_of R.boxes ≡ map from_of S.boxes) 
       ∙ ap (last_place (first_in b)) (sym (take-map shape p R.points) ∙ ap (take p) points ∙ take-map shape p S.points)
       ∙ last_place-map shape (first_in b) (take p S.points)
 
-  pub index_same : (o : List Owned) (l : List Links) → IsIndex S o l → IsIndex R o l
+  pub index_same : (o : List Owned) (l : List PointLinks) → IsIndex S o l → IsIndex R o l
   index_same o l h =
       record {
         boxes = h.boxes ∙ ap (λ n. n + 1) (sym (same_length from_of R.boxes S.boxes boxes));

@@ -7,7 +7,7 @@ use Rattle.apd_ports.specs.declared.event.Port.{Port}
 use Rattle.apd_ports.specs.declared.event.Port.TheVariants.{Call}
 use Rattle.apd_ports.specs.declared.point.Point.{Point}
 use Rattle.apd_record.specs.declared.beside.Owned.{Owned}
-use Rattle.apd_record.specs.declared.beside.Links.{Links}
+use Rattle.apd_record.specs.declared.beside.PointLinks.{PointLinks}
 use Rattle.apd_record.specs.declared.kept.AtomPlace.TheVariants.{Kept}
 use Rattle.apd_record.specs.declared.kept.KeptBox.{KeptBox}
 use Rattle.apd_record.specs.declared.kept.KeptPoint.{KeptPoint}
@@ -82,7 +82,7 @@ abbrev pub blanked : Rows → Recorded
 blanked r = record { boxes = map (box_from [] []) r.boxes; points = map blank_point r.points }
 
 -- what stands beside the rows is right
-pub record IsBeside (r : Rows) (owned : List Owned) (links : List Links) : Type 0 where
+pub record IsBeside (r : Rows) (owned : List Owned) (links : List PointLinks) : Type 0 where
   pub boxes : length r.boxes < 2 ^ 32
   pub points : length r.points < 2 ^ 32
   pub within : IsWithin (blanked r)

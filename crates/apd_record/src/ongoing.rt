@@ -4,11 +4,11 @@ ghost use Rattle.std.specs.Prelude.{◌≡◌, ◌<◌, ◌≤◌, ◌+◌, ◌-
 ghost use Rattle.apd_record.specs.Index.{id_of, IsBelow};
 ghost use Rattle.apd_record.specs.Open.{no_rows, noted_row, with_box_row, with_point_row};
 
-use crate::beside::{Links, Owned, link, link_child, note_owned};
+use crate::beside::{Owned, PointLinks, link, link_child, note_owned};
 use crate::kept::{AtomPlace, KeptBox, KeptPoint, TuplePlace};
 use crate::packed::PackedPoint;
 use crate::room::{box_room, pass, point_room};
-use crate::slot::Slot;
+use crate::slot::MaybePlace;
 use apd_ports::{PointId, Port, Step};
 use apd_tuples::spots::Numbered;
 use std::alloc::{AllocError, Global};
@@ -33,7 +33,7 @@ pub struct Open {
     pub(crate) points: Vec<PackedPoint>,
     pub(crate) query: Owned,
     pub(crate) owned: Vec<Owned>,
-    pub(crate) links: Vec<Links>,
+    pub(crate) links: Vec<PointLinks>,
 }
 
 impl Model for Open {
@@ -113,9 +113,9 @@ impl Open {
             point.done == 0,
             is_exit,
         )?;
-        self.links.push_reserved(Links {
-            child: Slot::none(),
-            follow: Slot::none(),
+        self.links.push_reserved(PointLinks {
+            child: MaybePlace::none(),
+            follow: MaybePlace::none(),
             earlier,
         });
         link(&mut self.links, point.before, number);

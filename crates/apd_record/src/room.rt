@@ -5,7 +5,7 @@ ghost use Rattle.apd_record.specs.Recorded.{completes};
 ghost use Rattle.apd_record.specs.Beside.{edited};
 ghost use Rattle.apd_record.specs.Kept.{kept_passed};
 
-use crate::beside::{Links, Owned};
+use crate::beside::{Owned, PointLinks};
 use crate::kept::KeptBox;
 use crate::packed::PackedPoint;
 use apd_ports::Port;
@@ -47,7 +47,10 @@ pub fn box_room(boxes: &mut Vec<KeptBox>, owned: &mut Vec<Owned>) -> Result<(), 
 
 /// Room for a point.
 #[inline(always)]
-pub fn point_room(points: &mut Vec<PackedPoint>, links: &mut Vec<Links>) -> Result<(), AllocError>
+pub fn point_room(
+    points: &mut Vec<PackedPoint>,
+    links: &mut Vec<PointLinks>,
+) -> Result<(), AllocError>
     ensures points { points.new.items ≡ points.old.items }
     ensures links { links.new.items ≡ links.old.items }
     ensures points_len { vec_len points.new ≡ vec_len points.old }

@@ -105,7 +105,6 @@ may_enter R g from user f m h =
 
 -- the frames with it in front, once its point is made
 module _ (R : Recorded) (F : List Frame) (Ts : List Tuple) (s : ℕ → Term) (m : ℕ) (f : Frame) where
-
   pub stack_entered : Stack R F Ts → InFront R f.box_no F → length R.points ≡ m → f.point ≡ m → AreLinked (f ∷ apply_frames s F) → IsJoint (f ∷ apply_frames s F) (canonical_tuple f.tuple ∷ Ts) → AreAtoms f.tuple.body → Stack (with_point R (point_at f None)) (f ∷ apply_frames s F) (canonical_tuple f.tuple ∷ Ts)
   stack_entered stack front count at linked joint atoms =
       let grown : Grown R (with_point R (point_at f None)) = grown_point R (point_at f None) in

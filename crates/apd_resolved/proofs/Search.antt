@@ -7,8 +7,8 @@ use Rattle.apd_term.specs.Term.{Term, apply, variables, IsAmong, Occurs}
 use Rattle.apd_term.proofs.Among.{IsAmong-left, IsAmong-append, IsAmong-piece, IsAmong-flat_map}
 use Rattle.apd_term.proofs.Applying.{variables-apply}
 use Rattle.apd_cells.specs.declared.heap.Binding.TheVariants.{Free, At}
-use Rattle.apd_cells.specs.declared.heap.Note.{Note}
-use Rattle.apd_cells.specs.declared.heap.Note.TheVariants.{Loaded, Bound}
+use Rattle.apd_cells.specs.declared.heap.TrailNote.{TrailNote}
+use Rattle.apd_cells.specs.declared.heap.TrailNote.TheVariants.{Loaded, Bound}
 use Rattle.apd_cells.specs.Stored.{Stored}
 use Rattle.apd_cells.specs.Store.{written, meaning, term_at, binding_of, IsStore}
 use Rattle.apd_cells.proofs.Written.{written-take}
@@ -20,18 +20,18 @@ use Rattle.apd_resolved.specs.Noticed.{unseen, Sees}
 use Rattle.apd_resolved.proofs.Noticing.{among_or_not}
 
 -- with the variable of a binding there are those of its term
-abbrev pub IsClosed : List Sym → List Note → (ℕ → Type 0) → Type 0
+abbrev pub IsClosed : List Sym → List TrailNote → (ℕ → Type 0) → Type 0
 IsClosed cells notes P = (w c : ℕ) → P w → binding_of notes w ≡ At c → (u : ℕ) → Occurs u (written cells c) → P u
 
 -- what a variable means has free variables alone, of those that bindings lead to
-pub record IsLed (notes : List Note) (P : ℕ → Type 0) (u : ℕ) : Type 0 where
+pub record IsLed (notes : List TrailNote) (P : ℕ → Type 0) (u : ℕ) : Type 0 where
   pub there : P u
   pub free : binding_of notes u ≡ Free
 
 not_both : (c : ℕ) → Free ≡ At c → ⊥
 not_both c e = cc
 
-pub led : (cells : List Sym) (n : ℕ) (notes : List Note) (P : ℕ → Type 0) → IsStore cells n notes → IsClosed cells notes P
+pub led : (cells : List Sym) (n : ℕ) (notes : List TrailNote) (P : ℕ → Type 0) → IsStore cells n notes → IsClosed cells notes P
     → (w u : ℕ) → P w → Occurs u (meaning cells notes w) → IsLed notes P u
 led cells n [] P h k w u p (inl e) = record { there = subst P e p; free = refl }
 led cells n [] P h k w u p (inr b) = absurd b

@@ -22,8 +22,8 @@ use Rattle.apd_term.specs.Names.{is_name, with_name}
 use Rattle.apd_term.specs.Canonical.{by_appearance}
 use Rattle.apd_term.specs.Term.{Term, variables}
 use Rattle.apd_token.specs.Division.{IsDivided}
-use Rattle.apd_token.specs.declared.items.Kind.{Kind}
-use Rattle.apd_token.specs.declared.items.Kind.TheVariants as kinds
+use Rattle.apd_token.specs.declared.items.TokenKind.{TokenKind}
+use Rattle.apd_token.specs.declared.items.TokenKind.TheVariants as kinds
 use Rattle.apd_token.specs.declared.items.Token.{Token}
 use Rattle.apd_written.specs.Says.{HasNoBreak}
 
@@ -115,7 +115,7 @@ variable-unbroken vars v h k = by (is_anonymous v)
 same-unbroken : (vars after : List (List ℕ)) → after ≡ vars → AreUnbroken vars → AreUnbroken after
 same-unbroken vars after is h = subst AreUnbroken (sym is) h
 
-sort-unbroken : (k : Kind) (names : List (List ℕ)) (bytes : List ℕ) (vars : List (List ℕ)) (s : Sort) (after : List (List ℕ)) → IsSort k names bytes vars s after → HasNoBreak bytes → AreUnbroken vars → AreUnbroken after
+sort-unbroken : (k : TokenKind) (names : List (List ℕ)) (bytes : List ℕ) (vars : List (List ℕ)) (s : Sort) (after : List (List ℕ)) → IsSort k names bytes vars s after → HasNoBreak bytes → AreUnbroken vars → AreUnbroken after
 sort-unbroken kinds.Name names bytes vars s after (v, f, content, name, sort, is) line h = same-unbroken vars after is h
 sort-unbroken kinds.Quoted names bytes vars s after (v, f, content, name, sort, is) line h = same-unbroken vars after is h
 sort-unbroken kinds.Codes names bytes vars s after (v, content, sort, is) line h = same-unbroken vars after is h

@@ -32,7 +32,7 @@ fn close(given: &mut Builder, open: &mut Vec<u8>) -> Result<(), AllocError> {
 }
 
 /// Ends the symbol: with arguments, its compound is open.
-fn go_on(given: &mut Builder, open: &mut Vec<u8>, symbol: Sym) -> Result<(), AllocError> {
+fn end_symbol(given: &mut Builder, open: &mut Vec<u8>, symbol: Sym) -> Result<(), AllocError> {
     match symbol {
         Sym::Fun(_, count) if count > 0 => {
             given.put("(");
@@ -48,7 +48,7 @@ pub fn put_functional(given: &mut Builder, names: &Names, term: &Flat) {
     let mut open = Vec::new(given.alloc);
     for symbol in term.symbols() {
         put_symbol(given, names, *symbol);
-        if go_on(given, &mut open, *symbol).is_err() {
+        if end_symbol(given, &mut open, *symbol).is_err() {
             given.put("out of memory");
         }
     }

@@ -8,42 +8,42 @@ ghost use Rattle.apd_base.specs.declared.limits.TheConstants.{MAX_FILE};
 use apd_base::MAX_FILE;
 use apd_plain::token::plain_tokens;
 use apd_rows::{Builder, Trial};
-use apd_token::{Kind, Token, TokenFault, Tokens, content, tokens};
+use apd_token::{Token, TokenFault, TokenKind, Tokens, content, tokens};
 use std::alloc::Global;
 
-fn has_text(kind: Kind) -> bool
+fn has_text(kind: TokenKind) -> bool
     ensures { OnTrue result (HasText kind) }
 {
     match kind {
-        Kind::Name | Kind::Quoted | Kind::Codes | Kind::Variable => true,
+        TokenKind::Name | TokenKind::Quoted | TokenKind::Codes | TokenKind::Variable => true,
         _ => false,
     }
 }
 
 /// A letter for the kind of a token that is no integer.
-fn letter_of(kind: Kind) -> &'static str {
+fn letter_of(kind: TokenKind) -> &'static str {
     match kind {
-        Kind::Integer(_) => "",
-        Kind::Name => "n",
-        Kind::Quoted => "q",
-        Kind::Codes => "c",
-        Kind::Variable => "v",
-        Kind::Open => "(",
-        Kind::Close => ")",
-        Kind::OpenList => "[",
-        Kind::CloseList => "]",
-        Kind::OpenCurly => "{",
-        Kind::CloseCurly => "}",
-        Kind::Comma => ",",
-        Kind::Bar => "|",
-        Kind::End => ".",
+        TokenKind::Integer(_) => "",
+        TokenKind::Name => "n",
+        TokenKind::Quoted => "q",
+        TokenKind::Codes => "c",
+        TokenKind::Variable => "v",
+        TokenKind::Open => "(",
+        TokenKind::Close => ")",
+        TokenKind::OpenList => "[",
+        TokenKind::CloseList => "]",
+        TokenKind::OpenCurly => "{",
+        TokenKind::CloseCurly => "}",
+        TokenKind::Comma => ",",
+        TokenKind::Bar => "|",
+        TokenKind::End => ".",
     }
 }
 
 /// Adds a token's kind or its integer, where it begins and ends, and `s` where it is spaced.
 fn put_token(given: &mut Builder, token: &Token) {
     let alloc = given.alloc;
-    if let Kind::Integer(value) = token.kind {
+    if let TokenKind::Integer(value) = token.kind {
         given.put_shown(&value);
     }
     given.put(letter_of(token.kind));

@@ -9,12 +9,12 @@ use Rattle.apd_token.specs.Bytes.{class_of, mark_of}
 use Rattle.apd_token.specs.Quotes.{numeral, spelling, meaning}
 use Rattle.apd_token.specs.Grammar.{DigitForm, CharOf, CharForm, MarkedForm, decimal, Begins, FormOf, HasForm, QuoteForm, StopOf, quoted_kind, Stands, Piece, Divides, token_of, spaced_behind, tokens_of, IsTokenOf, HasText, ContentOf}
 use Rattle.apd_token.specs.Scan.{Unquotes}
-use Rattle.apd_token.specs.declared.bytes.Mark.{Mark}
-use Rattle.apd_token.specs.declared.bytes.Mark.TheVariants as marks
+use Rattle.apd_token.specs.declared.bytes.NumberMark.{NumberMark}
+use Rattle.apd_token.specs.declared.bytes.NumberMark.TheVariants as marks
 use Rattle.apd_token.specs.declared.bytes.Class.{Class}
 use Rattle.apd_token.specs.declared.bytes.Class.TheVariants as classes
-use Rattle.apd_token.specs.declared.items.Kind.{Kind}
-use Rattle.apd_token.specs.declared.items.Kind.TheVariants.{Name, Variable, End, Quoted, Codes, Integer, Open, Close, OpenList, CloseList, OpenCurly, CloseCurly, Comma, Bar}
+use Rattle.apd_token.specs.declared.items.TokenKind.{TokenKind}
+use Rattle.apd_token.specs.declared.items.TokenKind.TheVariants.{Name, Variable, End, Quoted, Codes, Integer, Open, Close, OpenList, CloseList, OpenCurly, CloseCurly, Comma, Bar}
 use Rattle.apd_token.specs.declared.items.Token.{Token}
 use Rattle.apd_causes.specs.declared.faults.TokenFault.TheVariants as faults
 use Rattle.apd_token.specs.declared.found.Found.{Found}
@@ -95,7 +95,7 @@ in_text text t (ts, has, c) =
     }
 
 -- only quotes begin quoted items
-abbrev pub IsQuotedKind : Kind → Type 0
+abbrev pub IsQuotedKind : TokenKind → Type 0
 IsQuotedKind Quoted = Unit {0}
 IsQuotedKind Codes = Unit {0}
 IsQuotedKind k = ⊥
@@ -134,7 +134,7 @@ no_quoted_char : (at : ℕ) (w : Found) (a r : List ℕ) → CharForm at w a r �
 no_quoted_char at w [] r x h = subst IsQuotedItem x.1 h
 no_quoted_char at w (c ∷ a) r x h = no_quoted_char_of (c == 92) (c == 39) at w c a r x h
 
-no_quoted_marked : (m : Mark) (at : ℕ) (w : Found) (rest after : List ℕ) → MarkedForm m at w rest after → IsQuotedItem w → ⊥
+no_quoted_marked : (m : NumberMark) (at : ℕ) (w : Found) (rest after : List ℕ) → MarkedForm m at w rest after → IsQuotedItem w → ⊥
 no_quoted_marked marks.Hex at w rest after x h = no_quoted_number _ at (numeral 16 rest) (subst IsQuotedItem x.2 h)
 no_quoted_marked marks.Octal at w rest after x h = no_quoted_number _ at (numeral 8 rest) (subst IsQuotedItem x.2 h)
 no_quoted_marked marks.Binary at w rest after x h = no_quoted_number _ at (numeral 2 rest) (subst IsQuotedItem x.2 h)
@@ -156,21 +156,21 @@ is_quote_class classes.Quote at w b bs after f h = refl
 is_quote_class classes.Other at w b bs after f h = absurd (subst IsQuotedItem f.0 h)
 
 -- a quoted item with its quote
-pub record QuotedItem (at : ℕ) (k : Kind) (bytes after : List ℕ) : Type 0 where
+pub record QuotedItem (at : ℕ) (k : TokenKind) (bytes after : List ℕ) : Type 0 where
   pub quote : ℕ
   pub rest : List ℕ
   pub spelled : bytes ≡ quote ∷ rest
   pub is_quote : IsQuote quote
   pub form : QuoteForm at (Item k) quote rest after
 
-quoted_item : (at : ℕ) (k : Kind) (bytes after : List ℕ) → HasForm at (Item k) bytes after → IsQuotedKind k → QuotedItem at k bytes after
+quoted_item : (at : ℕ) (k : TokenKind) (bytes after : List ℕ) → HasForm at (Item k) bytes after → IsQuotedKind k → QuotedItem at k bytes after
 quoted_item at k [] after f h = absurd f
 quoted_item at k (b ∷ bs) after f h =
     let e : class_of b ≡ classes.Quote = is_quote_class (class_of b) at (Item k) b bs after f h in
     record { quote = b; rest = bs; spelled = refl; is_quote = class_quote b e; form = subst (λ (c : Class). FormOf c at (Item k) b bs after) e f }
 
 -- an item stops at its closing quote
-pub closes : (at place : ℕ) (k : Kind) (q : ℕ) (stop after : List ℕ) → StopOf at place (Item k) q stop after → (stop ≡ q ∷ []) × (k ≡ quoted_kind q)
+pub closes : (at place : ℕ) (k : TokenKind) (q : ℕ) (stop after : List ℕ) → StopOf at place (Item k) q stop after → (stop ≡ q ∷ []) × (k ≡ quoted_kind q)
 closes at place k q [] after s = let h = s.1 in absurd cc
 closes at place k q (c ∷ more) after s = elim s.1 [
   | inl close ↦ ((λ i. close.0 i ∷ s.0 i), (let h = close.2 in cc))
@@ -230,7 +230,7 @@ one_stands q bytes u v is x y =
     let none = none_at_close q [] is tt in
     x.means ∙ ap meaning (one_body q x.elements y.elements (q ∷ []) (q ∷ []) x.each y.each none none same).0 ∙ sym y.means
 
-pub one_content : (k : Kind) (bytes u v : List ℕ) → HasText k → ContentOf k bytes u → ContentOf k bytes v → u ≡ v
+pub one_content : (k : TokenKind) (bytes u v : List ℕ) → HasText k → ContentOf k bytes u → ContentOf k bytes v → u ≡ v
 one_content Name bytes u v h x y = x ∙ sym y
 one_content Variable bytes u v h x y = x ∙ sym y
 one_content Quoted bytes u v h x y = one_stands 39 bytes u v (inl refl) x y
@@ -270,7 +270,7 @@ quoted_stands text t is kind =
 pub token_content : (text : List ℕ) (t : Token) → IsTokenOf text t → HasText t.kind → (v : List ℕ) × ContentOf t.kind (slice_range text t.start t.end) v
 token_content text t is has = by t.kind refl has
   where
-    by : (k : Kind) → t.kind ≡ k → HasText k → (v : List ℕ) × ContentOf k (slice_range text t.start t.end) v
+    by : (k : TokenKind) → t.kind ≡ k → HasText k → (v : List ℕ) × ContentOf k (slice_range text t.start t.end) v
     by Name e h = (slice_range text t.start t.end, refl)
     by Variable e h = (slice_range text t.start t.end, refl)
     by Quoted e h =

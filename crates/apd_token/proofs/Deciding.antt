@@ -4,8 +4,8 @@ use Rattle.std.proofs.lemmas.Bool.{cases_eq}
 use Rattle.std.proofs.lemmas.List.Folds.{drop_split}
 use Rattle.apd_token.specs.Quotes.{spelling}
 use Rattle.apd_token.specs.Grammar.{Stands, ContentOf}
-use Rattle.apd_token.specs.declared.items.Kind.{Kind}
-use Rattle.apd_token.specs.declared.items.Kind.TheVariants.{Name, Variable, End, Quoted, Codes, Integer, Open, Close, OpenList, CloseList, OpenCurly, CloseCurly, Comma, Bar}
+use Rattle.apd_token.specs.declared.items.TokenKind.{TokenKind}
+use Rattle.apd_token.specs.declared.items.TokenKind.TheVariants.{Name, Variable, End, Quoted, Codes, Integer, Open, Close, OpenList, CloseList, OpenCurly, CloseCurly, Comma, Bar}
 use Rattle.apd_token.proofs.Elements.{one_body}
 use Rattle.apd_token.proofs.Quoting.{IsQuote, none_at_close}
 use Rattle.apd_token.proofs.Seeking.{body_from}
@@ -37,7 +37,7 @@ stands q is (b ∷ rest) = elim (cases_eq q b) [
   | inr other ↦ inr (λ v s. other (let h = s.spelled in let e : q ≡ b = cc in e))
 ]
 
-pub content_or_none : (k : Kind) (bytes : List ℕ) → ((v : List ℕ) × ContentOf k bytes v) ⊎ ((v : List ℕ) → ContentOf k bytes v → ⊥)
+pub content_or_none : (k : TokenKind) (bytes : List ℕ) → ((v : List ℕ) × ContentOf k bytes v) ⊎ ((v : List ℕ) → ContentOf k bytes v → ⊥)
 content_or_none Name bytes = inl (bytes, refl)
 content_or_none Variable bytes = inl (bytes, refl)
 content_or_none Quoted bytes = stands 39 (inl refl) bytes

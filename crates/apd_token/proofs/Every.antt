@@ -18,9 +18,9 @@ use Rattle.apd_token.specs.declared.bytes.Class.{Class}
 use Rattle.apd_token.specs.declared.bytes.Class.TheVariants as classes
 use Rattle.apd_token.specs.declared.bytes.Set.{Set}
 use Rattle.apd_token.specs.declared.bytes.Set.TheVariants as sets
-use Rattle.apd_token.specs.declared.bytes.Mark.{Mark}
-use Rattle.apd_token.specs.declared.bytes.Mark.TheVariants as marks
-use Rattle.apd_token.specs.declared.items.Kind.TheVariants.{Name, Variable, Integer, End}
+use Rattle.apd_token.specs.declared.bytes.NumberMark.{NumberMark}
+use Rattle.apd_token.specs.declared.bytes.NumberMark.TheVariants as marks
+use Rattle.apd_token.specs.declared.items.TokenKind.TheVariants.{Name, Variable, Integer, End}
 use Rattle.apd_token.specs.declared.items.Token.{Token}
 use Rattle.apd_token.specs.declared.found.Found.{Found}
 use Rattle.apd_token.specs.declared.found.Found.TheVariants.{Passed, Item, Bad}
@@ -168,7 +168,7 @@ mark_code b e = eqb-true b 39 (code_chain _ _ _ _ e)
 abbrev MarkedAt : List ℕ → ℕ → Type 0
 MarkedAt xs at = PieceAt xs at ⊎ NoMarked at (drop at xs)
 
-marked_by : (xs : List ℕ) (at : ℕ) (k : Mark) → at + 1 < length xs → IsUtf8 xs → get_or xs at 0 ≡ 48 → mark_of (get_or xs (at + 1) 0) ≡ k → MarkedAt xs at
+marked_by : (xs : List ℕ) (at : ℕ) (k : NumberMark) → at + 1 < length xs → IsUtf8 xs → get_or xs at 0 ≡ 48 → mark_of (get_or xs (at + 1) 0) ≡ k → MarkedAt xs at
 marked_by xs at marks.Nothing room utf8 zero_is e = inr (no_mark xs at marks.Nothing (sym e) (λ v bytes rest s f. f))
 marked_by xs at marks.Code room utf8 zero_is e = inl (coded_at xs at zero_is (mark_code (get_or xs (at + 1) 0) e) room utf8)
 marked_by xs at marks.Hex room utf8 zero_is e = elim (radix_at xs at 16 sets.Hex (omega arith)) [

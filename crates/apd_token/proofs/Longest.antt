@@ -5,12 +5,12 @@ use Rattle.apd_token.specs.Bytes.{class_of, in_set, mark_of}
 use Rattle.apd_token.specs.Quotes.{AllIn}
 use Rattle.apd_token.specs.Grammar.{NumberForm, MarkedForm, CharForm, HasNoClose, BeginsComment, GraphicForm, decimal, number, DigitForm, FormOf, Begins}
 use Rattle.apd_token.specs.Scan.{StopsRun, NoMarked}
-use Rattle.apd_token.specs.declared.bytes.Mark.{Mark}
+use Rattle.apd_token.specs.declared.bytes.NumberMark.{NumberMark}
 use Rattle.apd_token.specs.declared.bytes.Class.{Class}
 use Rattle.apd_token.specs.declared.bytes.Class.TheVariants as classes
 use Rattle.apd_token.specs.declared.bytes.Set.{Set}
 use Rattle.apd_token.specs.declared.bytes.Set.TheVariants as sets
-use Rattle.apd_token.specs.declared.items.Kind.{Kind}
+use Rattle.apd_token.specs.declared.items.TokenKind.{TokenKind}
 use Rattle.apd_causes.specs.declared.faults.TokenFault.TheVariants as faults
 use Rattle.apd_token.specs.declared.found.Found.{Found}
 use Rattle.apd_token.specs.declared.found.Found.TheVariants.{Passed, Item, Bad}
@@ -108,7 +108,7 @@ graphic_longest at b bs after stops none (Item k) c more rest behind longer = el
 graphic_longest at b bs after stops none (Bad f) c more rest behind longer =
     none (longer.1.body ++ rest, ap (λ l. (b ∷ bs) ++ l) behind ∙ sym (append_assoc (b ∷ bs) (c ∷ more) rest) ∙ ap (λ l. l ++ rest) longer.1.spelled)
 
-pub graphic : (at : ℕ) (k : Kind) (b : ℕ) (bs after : List ℕ) → class_of b ≡ classes.Graphic → GraphicForm at (Item k) (b ∷ bs) after
+pub graphic : (at : ℕ) (k : TokenKind) (b : ℕ) (bs after : List ℕ) → class_of b ≡ classes.Graphic → GraphicForm at (Item k) (b ∷ bs) after
     → StopsRun sets.Symbols after → (BeginsComment ((b ∷ bs) ++ after) → ⊥) → Begins at (Item k) (b ∷ bs) after ((b ∷ bs) ++ after)
 graphic at k b bs after e form stops none = from_graphic at (Item k) b bs after e form (graphic_longest at b bs after stops none)
 
@@ -167,20 +167,20 @@ pub integer : (at : ℕ) (b : ℕ) (bs after : List ℕ) → class_of b ≡ clas
 integer at b bs after e unmarked all stops none w is = plain_digits at w b bs after e unmarked (inl (all, is)) (integer_longest at b bs after all stops none)
 
 -- what a mark begins is no longer than its run
-pub marked_run : (m : Mark) (set : Set) (at : ℕ) (w : Found) (x : ℕ) (bs after : List ℕ) → mark_of x ≡ m
+pub marked_run : (m : NumberMark) (set : Set) (at : ℕ) (w : Found) (x : ℕ) (bs after : List ℕ) → mark_of x ≡ m
     → MarkedForm m at w bs after
     → ((v : Found) (cs rest : List ℕ) → MarkedForm m at v cs rest → AllIn set cs)
     → StopsRun set after
     → Begins at w (48 ∷ x ∷ bs) after ((48 ∷ x ∷ bs) ++ after)
 marked_run m set at w x bs after e form only stops =
-    let form' : MarkedForm (mark_of x) at w bs after = subst (λ (k : Mark). MarkedForm k at w bs after) (sym e) form in
+    let form' : MarkedForm (mark_of x) at w bs after = subst (λ (k : NumberMark). MarkedForm k at w bs after) (sym e) form in
     from_digit at w 48 (x ∷ bs) after refl (inr (record { mark = x; rest = bs; spelled = refl; form = form' }))
     (λ v c more rest behind longer. elim longer [
       | inl d ↦ no_decimal x at at w v bs (bs ++ c ∷ more) after form' d
       | inr n ↦
           let mark : n.mark ≡ x = let h = n.spelled in cc in
           let tail : n.rest ≡ bs ++ c ∷ more = let h = n.spelled in cc in
-          let f : MarkedForm m at v (bs ++ c ∷ more) rest = subst (λ (k : Mark). MarkedForm k at v (bs ++ c ∷ more) rest) (ap mark_of mark ∙ e) (subst (λ (l : List ℕ). MarkedForm (mark_of n.mark) at v l rest) tail n.form) in
+          let f : MarkedForm m at v (bs ++ c ∷ more) rest = subst (λ (k : NumberMark). MarkedForm k at v (bs ++ c ∷ more) rest) (ap mark_of mark ∙ e) (subst (λ (l : List ℕ). MarkedForm (mark_of n.mark) at v l rest) tail n.form) in
           no_longer_run set bs after more rest c stops behind (only v (bs ++ c ∷ more) rest f)
     ])
 

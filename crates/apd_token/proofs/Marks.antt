@@ -8,9 +8,9 @@ use Rattle.apd_token.specs.Quotes.{AllIn, numeral, CodeOf}
 use Rattle.apd_token.specs.Grammar.{DigitForm, NotNext, CharOf, CharForm, MarkedForm, IsMarked, NumberForm}
 use Rattle.apd_token.specs.declared.bytes.Set.{Set}
 use Rattle.apd_token.specs.declared.bytes.Set.TheVariants as sets
-use Rattle.apd_token.specs.declared.bytes.Mark.{Mark}
-use Rattle.apd_token.specs.declared.bytes.Mark.TheVariants as marks
-use Rattle.apd_token.specs.declared.items.Kind.TheVariants.{Integer}
+use Rattle.apd_token.specs.declared.bytes.NumberMark.{NumberMark}
+use Rattle.apd_token.specs.declared.bytes.NumberMark.TheVariants as marks
+use Rattle.apd_token.specs.declared.items.TokenKind.TheVariants.{Integer}
 use Rattle.apd_causes.specs.declared.faults.TokenFault.TheVariants as faults
 use Rattle.apd_token.specs.declared.found.Found.{Found}
 use Rattle.apd_token.specs.declared.found.Found.TheVariants.{Item, Bad}
@@ -30,7 +30,7 @@ mark_chain false false false false p q r s = refl
 no_digit_mark : (x : ℕ) (at : ℕ) (w : Found) (rest after : List ℕ) → MarkedForm (mark_of x) at w rest after → in_set sets.Digits x ≡ true → ⊥
 no_digit_mark x at w rest after f digit =
     let none : mark_of x ≡ marks.Nothing = mark_chain _ _ _ _ (apart x 120 refl digit) (apart x 111 refl digit) (apart x 98 refl digit) (apart x 39 refl digit) in
-    subst (λ (m : Mark). MarkedForm m at w rest after) none f
+    subst (λ (m : NumberMark). MarkedForm m at w rest after) none f
 
 no_point_mark : (x : ℕ) (at : ℕ) (w : Found) (rest after : List ℕ) → MarkedForm (mark_of x) at w rest after → x ≡ 46 → ⊥
 no_point_mark x at w rest after f e = subst (λ (n : ℕ). MarkedForm (mark_of n) at w rest after) e f
@@ -90,7 +90,7 @@ one_char at w v (c ∷ a) (d ∷ b) r u x y e =
     let one = one_char_of (c == 92) (c == 39) at w v c a b r u x y' tail in
     ((λ i. sym head i ∷ one.0 i), one.1)
 
-one_marked_form : (m : Mark) (at : ℕ) (w v : Found) (rest after : List ℕ) → MarkedForm m at w rest after → MarkedForm m at v rest after → w ≡ v
+one_marked_form : (m : NumberMark) (at : ℕ) (w v : Found) (rest after : List ℕ) → MarkedForm m at w rest after → MarkedForm m at v rest after → w ≡ v
 one_marked_form marks.Hex at w v rest after x y = x.2 ∙ sym y.2
 one_marked_form marks.Octal at w v rest after x y = x.2 ∙ sym y.2
 one_marked_form marks.Binary at w v rest after x y = x.2 ∙ sym y.2
@@ -128,7 +128,7 @@ no_utf8_char : (at n : ℕ) (a r : List ℕ) → CharForm at (Bad (faults.NotUtf
 no_utf8_char at n [] r x = let h = x.1 in cc
 no_utf8_char at n (c ∷ a) r x = no_utf8_char_of _ _ at n c a r x
 
-pub no_utf8_marked : (m : Mark) (at n : ℕ) (rest after : List ℕ) → MarkedForm m at (Bad (faults.NotUtf8 n)) rest after → ⊥
+pub no_utf8_marked : (m : NumberMark) (at n : ℕ) (rest after : List ℕ) → MarkedForm m at (Bad (faults.NotUtf8 n)) rest after → ⊥
 no_utf8_marked marks.Hex at n rest after x = no_utf8_number' _ at (numeral 16 rest) n x.2
 no_utf8_marked marks.Octal at n rest after x = no_utf8_number' _ at (numeral 8 rest) n x.2
 no_utf8_marked marks.Binary at n rest after x = no_utf8_number' _ at (numeral 2 rest) n x.2

@@ -11,11 +11,11 @@ use Rattle.apd_token.specs.Grammar.{MarkedForm, RadixForm, CharForm, CharOf, NoC
 use Rattle.apd_token.specs.Scan.{StopsRun, NoCloseBelow, IsFirstClose, Scans, HasFraction, NoMarked, HasRadix, HasChar, HasCode, NoCode}
 use Rattle.apd_token.specs.declared.bytes.Set.{Set}
 use Rattle.apd_token.specs.declared.bytes.Set.TheVariants as sets
-use Rattle.apd_token.specs.declared.bytes.Mark.{Mark}
+use Rattle.apd_token.specs.declared.bytes.NumberMark.{NumberMark}
 use Rattle.apd_token.specs.declared.bytes.Class.{Class}
 use Rattle.apd_token.specs.declared.bytes.Class.TheVariants as classes
-use Rattle.apd_token.specs.declared.items.Kind.{Kind}
-use Rattle.apd_token.specs.declared.items.Kind.TheVariants.{Integer}
+use Rattle.apd_token.specs.declared.items.TokenKind.{TokenKind}
+use Rattle.apd_token.specs.declared.items.TokenKind.TheVariants.{Integer}
 use Rattle.apd_causes.specs.declared.faults.TokenFault.TheVariants as faults
 use Rattle.apd_token.specs.declared.found.Found.{Found}
 use Rattle.apd_token.specs.declared.found.Found.TheVariants.{Passed, Item, Bad}
@@ -66,7 +66,7 @@ open_scans xs at begun room none =
     (inside xs at (length xs) begun (omega arith) (omega arith)) (drop_all (length xs) xs (omega arith))
     (open_comment at (slice_range xs (at + 2) (length xs)) (no_close_in xs (at + 2) (length xs) (omega arith) (omega arith) none))
 
-pub graphic_scans : (xs : List ℕ) (at upto : ℕ) (k : Kind) → at < upto → upto ≤ length xs
+pub graphic_scans : (xs : List ℕ) (at upto : ℕ) (k : TokenKind) → at < upto → upto ≤ length xs
     → class_of (get_or xs at 0) ≡ classes.Graphic
     → (AllIn sets.Symbols (slice_range xs at upto) → GraphicForm at (Item k) (slice_range xs at upto) (drop upto xs))
     → AllIn sets.Symbols (slice_range xs (at + 1) upto) → StopsRun sets.Symbols (drop upto xs)
@@ -152,7 +152,7 @@ no_mark_end xs at le = record {
       let two = two_bytes xs at 48 m.mark (m.rest ++ rest) (e ∙ ap (λ l. l ++ rest) m.spelled) in let lt = two.0 in omega arith;
 }
 
-pub no_mark : (xs : List ℕ) (at : ℕ) (k : Mark) → k ≡ mark_of (get_or xs (at + 1) 0)
+pub no_mark : (xs : List ℕ) (at : ℕ) (k : NumberMark) → k ≡ mark_of (get_or xs (at + 1) 0)
     → ((v : Found) (bytes rest : List ℕ) → drop (at + 2) xs ≡ bytes ++ rest → MarkedForm k at v bytes rest → ⊥) → NoMarked at (drop at xs)
 no_mark xs at k is none = record {
   none = λ v bytes rest e m.
@@ -160,7 +160,7 @@ no_mark xs at k is none = record {
       let lt = two.0 in
       let split = drop_two xs at lt in
       let tail : drop (at + 2) xs ≡ m.rest ++ rest = let h = e ∙ ap (λ l. l ++ rest) m.spelled in cc in
-      none v m.rest rest tail (subst (λ (q : Mark). MarkedForm q at v m.rest rest) (sym (is ∙ ap mark_of two.2)) m.form);
+      none v m.rest rest tail (subst (λ (q : NumberMark). MarkedForm q at v m.rest rest) (sym (is ∙ ap mark_of two.2)) m.form);
 }
 
 -- where no digit of the set stands, no number of a radix does
@@ -176,7 +176,7 @@ after_mark xs at upto zero_is le within =
     ∙ (λ i. zero_is i ∷ slice_first xs (at + 1) upto (omega arith) within i)
     ∙ (λ i. 48 ∷ get_or xs (at + 1) 0 ∷ slice_range xs (n i) upto)
 
-pub radix_scans : (k : Mark) (radix : ℕ) (set : Set) (xs : List ℕ) (at upto : ℕ) (w : Found) → get_or xs at 0 ≡ 48 → k ≡ mark_of (get_or xs (at + 1) 0) → HasRadix xs at radix set w upto
+pub radix_scans : (k : NumberMark) (radix : ℕ) (set : Set) (xs : List ℕ) (at upto : ℕ) (w : Found) → get_or xs at 0 ≡ 48 → k ≡ mark_of (get_or xs (at + 1) 0) → HasRadix xs at radix set w upto
     → (RadixForm radix set at w (slice_range xs (at + 2) upto) → MarkedForm k at w (slice_range xs (at + 2) upto) (drop upto xs))
     → ((v : Found) (cs rest : List ℕ) → MarkedForm k at v cs rest → AllIn set cs)
     → Scans xs at w upto

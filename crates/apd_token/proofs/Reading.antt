@@ -7,14 +7,14 @@ use Rattle.std.proofs.Common.{inl, inr}
 use Rattle.apd_token.specs.Bytes.{class_of, mark_of}
 use Rattle.apd_token.specs.declared.bytes.Class.{Class}
 use Rattle.apd_token.specs.declared.bytes.Class.TheVariants as classes
-use Rattle.apd_token.specs.declared.items.Kind.TheVariants.{Integer}
+use Rattle.apd_token.specs.declared.items.TokenKind.TheVariants.{Integer}
 use Rattle.apd_causes.specs.declared.faults.TokenFault.TheVariants as faults
 use Rattle.apd_token.specs.Grammar.{BeginsScript, EndsLine, IsLead, DigitForm, FormOf, HasForm, decimal, IsFaultOf, Begins, Piece, IsSound, Divides, place_after, token_of, spaced_behind, tokens_of, HasTokens, HasFault}
 use borrow.Author.Tests.{eqb-true}
 use Rattle.apd_token.specs.Quotes.{AllIn}
 use Rattle.apd_token.specs.declared.bytes.Set.TheVariants as sets
 use Rattle.apd_token.specs.Scan.{Scans, StopsRun, HasLead}
-use Rattle.apd_token.specs.declared.items.Kind.{Kind}
+use Rattle.apd_token.specs.declared.items.TokenKind.{TokenKind}
 use Rattle.apd_token.specs.declared.items.Token.{Token}
 use Rattle.apd_causes.specs.declared.faults.TokenFault.{TokenFault}
 use Rattle.apd_token.specs.declared.found.Found.{Found}
@@ -85,7 +85,7 @@ more text ts i j spaced w r s sound =
 pub passed : (text : List ℕ) (ts : List Token) (i j : ℕ) (spaced : Bool) → ReadTo text ts i spaced → Scans text i Passed j → ReadTo text ts j true
 passed text ts i j spaced r s = subst (λ (l : List Token). ReadTo text l j true) (append-nil ts) (more text ts i j spaced Passed r s tt)
 
-pub item : (text : List ℕ) (ts : List Token) (i j : ℕ) (spaced : Bool) (k : Kind) → ReadTo text ts i spaced → Scans text i (Item k) j
+pub item : (text : List ℕ) (ts : List Token) (i j : ℕ) (spaced : Bool) (k : TokenKind) → ReadTo text ts i spaced → Scans text i (Item k) j
     → ReadTo text (ts ++ record { kind = k; start = i; «end» = j; spaced = spaced } ∷ []) j false
 item text ts i j spaced k r s =
     let le : i ≤ j = omega (arith, s.beyond) in

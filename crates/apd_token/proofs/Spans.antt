@@ -7,7 +7,7 @@ use Rattle.apd_token.specs.Bytes.{escape_of, simple_code}
 use Rattle.apd_token.specs.Quotes.{IsDigits, numeral, EscapeOf, ElementOf, IsElement, Element, AreElements, spelling, meaning}
 use Rattle.apd_token.specs.declared.bytes.Escape.{Escape}
 use Rattle.apd_token.specs.declared.bytes.Escape.TheVariants.{Newline, Octal, Hex, Simple, Unknown}
-use Rattle.apd_token.specs.declared.items.Kind.TheVariants.{Codes}
+use Rattle.apd_token.specs.declared.items.TokenKind.TheVariants.{Codes}
 use Rattle.apd_token.specs.declared.items.Token.{Token}
 use Rattle.apd_token.specs.declared.found.Found.{Found}
 use Rattle.apd_token.specs.declared.found.Found.TheVariants.{Passed, Item, Bad}

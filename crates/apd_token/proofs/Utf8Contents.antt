@@ -14,12 +14,12 @@ use Rattle.apd_token.specs.declared.bytes.Class.{Class}
 use Rattle.apd_token.specs.declared.bytes.Class.TheVariants as classes
 use Rattle.apd_token.specs.declared.bytes.Set.{Set}
 use Rattle.apd_token.specs.declared.bytes.Set.TheVariants as sets
-use Rattle.apd_token.specs.declared.bytes.Mark.{Mark}
-use Rattle.apd_token.specs.declared.bytes.Mark.TheVariants as marks
+use Rattle.apd_token.specs.declared.bytes.NumberMark.{NumberMark}
+use Rattle.apd_token.specs.declared.bytes.NumberMark.TheVariants as marks
 use Rattle.apd_token.specs.declared.bytes.Escape.{Escape}
 use Rattle.apd_token.specs.declared.bytes.Escape.TheVariants.{Newline, Octal, Hex, Simple, Unknown}
-use Rattle.apd_token.specs.declared.items.Kind.{Kind}
-use Rattle.apd_token.specs.declared.items.Kind.TheVariants.{Name, Variable, End, Quoted, Codes, Integer, Open, Close, OpenList, CloseList, OpenCurly, CloseCurly, Comma, Bar}
+use Rattle.apd_token.specs.declared.items.TokenKind.{TokenKind}
+use Rattle.apd_token.specs.declared.items.TokenKind.TheVariants.{Name, Variable, End, Quoted, Codes, Integer, Open, Close, OpenList, CloseList, OpenCurly, CloseCurly, Comma, Bar}
 use Rattle.apd_token.specs.declared.items.Token.{Token}
 use Rattle.apd_causes.specs.declared.faults.TokenFault.TheVariants as faults
 use Rattle.apd_token.specs.declared.found.Found.{Found}
@@ -163,7 +163,7 @@ stands_utf8 q front bytes after value is s u =
 
 -- a name's or a variable's own bytes are ASCII
 
-abbrev IsWordKind : Kind → Type 0
+abbrev IsWordKind : TokenKind → Type 0
 IsWordKind Name = Unit {0}
 IsWordKind Variable = Unit {0}
 IsWordKind k = ⊥
@@ -188,7 +188,7 @@ no_char : (at : ℕ) (w : Found) (a r : List ℕ) → CharForm at w a r → IsWo
 no_char at w [] r x h = subst IsWord x.1 h
 no_char at w (c ∷ a) r x h = no_char_of (c == 92) (c == 39) at w c a r x h
 
-no_marked : (m : Mark) (at : ℕ) (w : Found) (rest after : List ℕ) → MarkedForm m at w rest after → IsWord w → ⊥
+no_marked : (m : NumberMark) (at : ℕ) (w : Found) (rest after : List ℕ) → MarkedForm m at w rest after → IsWord w → ⊥
 no_marked marks.Hex at w rest after x h = no_number _ at (numeral 16 rest) (subst IsWord x.2 h)
 no_marked marks.Octal at w rest after x h = no_number _ at (numeral 8 rest) (subst IsWord x.2 h)
 no_marked marks.Binary at w rest after x h = no_number _ at (numeral 2 rest) (subst IsWord x.2 h)
@@ -199,7 +199,7 @@ no_quoted : (b : Bool) → IsWordKind (if b then Quoted else Codes) → ⊥
 no_quoted true h = h
 no_quoted false h = h
 
-no_quote : (at : ℕ) (k : Kind) (q : ℕ) (bytes after : List ℕ) → QuoteForm at (Item k) q bytes after → IsWordKind k → ⊥
+no_quote : (at : ℕ) (k : TokenKind) (q : ℕ) (bytes after : List ℕ) → QuoteForm at (Item k) q bytes after → IsWordKind k → ⊥
 no_quote at k q bytes after f h = no_quoted (q == 39) (subst IsWordKind (closes at (at + 1 + length (spelling f.elements)) k q f.stop after f.stops).1 h)
 
 class_chain : (n : ℕ) (a b c d e f g h i : Bool) → (a ≡ true → n < 128) → (b ≡ true → n < 128) → (c ≡ true → n < 128) → (d ≡ true → n < 128) → (e ≡ true → n < 128) → (f ≡ true → n < 128) → (g ≡ true → n < 128) → (h ≡ true → n < 128) → (i ≡ true → n < 128)
@@ -241,11 +241,11 @@ low : (b : ℕ) (c : Class) → class_of b ≡ c → (c ≡ classes.Other → �
 low b c e other = class_chain b (is_layout b) (is_small b) (is_capital b) (is_digit b) (is_graphic b) (is_bracket b) (b == 33 || b == 59) (b == 37) (b == 39 || b == 34)
     (layout_low b) (small_low b) (capital_low b) (digit_low b) (graphic_low b) (bracket_low b) (solo_low b) (percent_low b) (quote_byte_low b) (λ is. other (sym e ∙ is))
 
-digits_form : (at : ℕ) (k : Kind) (bytes : List ℕ) → DigitForm at (Item k) bytes → IsAscii bytes
+digits_form : (at : ℕ) (k : TokenKind) (bytes : List ℕ) → DigitForm at (Item k) bytes → IsAscii bytes
 digits_form at k bytes (inl digits) = ascii_in sets.Digits digit_low bytes digits.0
 digits_form at k bytes (inr (float, bad)) = let e = bad in absurd cc
 
-form_ascii : (c : Class) (at : ℕ) (k : Kind) (b : ℕ) (bs after : List ℕ) → class_of b ≡ c → FormOf c at (Item k) b bs after → IsWordKind k → IsAscii (b ∷ bs)
+form_ascii : (c : Class) (at : ℕ) (k : TokenKind) (b : ℕ) (bs after : List ℕ) → class_of b ≡ c → FormOf c at (Item k) b bs after → IsWordKind k → IsAscii (b ∷ bs)
 form_ascii classes.Layout at k b bs after e f h = absurd (subst IsWord f.0 h)
 form_ascii classes.Percent at k b bs after e f h = absurd (subst IsWord f.0 h)
 form_ascii classes.Small at k b bs after e f h = IsAscii-cons b bs (low b classes.Small e (λ o. cc)) (ascii_in sets.Word word_low bs f.1)
@@ -263,13 +263,13 @@ form_ascii classes.Digit at k b bs after e f h = elim f [
 form_ascii classes.Quote at k b bs after e f h = absurd (no_quote at k b bs after f h)
 form_ascii classes.Other at k b bs after e f h = absurd (subst IsWord f.0 h)
 
-word_ascii : (at : ℕ) (k : Kind) (bytes after : List ℕ) → HasForm at (Item k) bytes after → IsWordKind k → IsAscii bytes
+word_ascii : (at : ℕ) (k : TokenKind) (bytes after : List ℕ) → HasForm at (Item k) bytes after → IsWordKind k → IsAscii bytes
 word_ascii at k [] after f h = absurd f
 word_ascii at k (b ∷ bs) after f h = form_ascii (class_of b) at k b bs after refl f h
 
 -- what an item stands for
 
-item_utf8 : (at : ℕ) (k : Kind) (front bytes after value : List ℕ) → HasText k → HasForm at (Item k) bytes after → ContentOf k bytes value → IsUtf8 (front ++ (bytes ++ after)) → IsUtf8 value
+item_utf8 : (at : ℕ) (k : TokenKind) (front bytes after value : List ℕ) → HasText k → HasForm at (Item k) bytes after → ContentOf k bytes value → IsUtf8 (front ++ (bytes ++ after)) → IsUtf8 value
 item_utf8 at Name front bytes after value h f c u = subst IsUtf8 (sym c) (IsUtf8-from_ascii bytes (word_ascii at Name bytes after f tt))
 item_utf8 at Variable front bytes after value h f c u = subst IsUtf8 (sym c) (IsUtf8-from_ascii bytes (word_ascii at Variable bytes after f tt))
 item_utf8 at Quoted front bytes after value h f c u = stands_utf8 39 front bytes after value (inl refl) c u

@@ -4,12 +4,12 @@ use Rattle.apd_token.specs.declared.bytes.Class.{Class}
 use Rattle.apd_token.specs.declared.bytes.Class.TheVariants.{Layout, Small, Capital, Digit, Graphic, Solo, Bracket, Percent, Quote, Other}
 use Rattle.apd_token.specs.declared.bytes.Set.{Set}
 use Rattle.apd_token.specs.declared.bytes.Set.TheVariants as sets
-use Rattle.apd_token.specs.declared.bytes.Mark.{Mark}
-use Rattle.apd_token.specs.declared.bytes.Mark.TheVariants as marks
+use Rattle.apd_token.specs.declared.bytes.NumberMark.{NumberMark}
+use Rattle.apd_token.specs.declared.bytes.NumberMark.TheVariants as marks
 use Rattle.apd_token.specs.declared.bytes.Escape.{Escape}
 use Rattle.apd_token.specs.declared.bytes.Escape.TheVariants.{Newline, Octal, Hex, Simple, Unknown}
-use Rattle.apd_token.specs.declared.items.Kind.{Kind}
-use Rattle.apd_token.specs.declared.items.Kind.TheVariants.{Open, Close, OpenList, CloseList, OpenCurly, CloseCurly, Comma, Bar}
+use Rattle.apd_token.specs.declared.items.TokenKind.{TokenKind}
+use Rattle.apd_token.specs.declared.items.TokenKind.TheVariants.{Open, Close, OpenList, CloseList, OpenCurly, CloseCurly, Comma, Bar}
 
 -- space, and tab, newline, vertical tab, form feed and carriage return
 abbrev pub is_layout : ℕ → Bool
@@ -51,7 +51,7 @@ class_of b =
     else (if b == 39 || b == 34 then Quote
     else Other))))))))
 
-abbrev pub bracket_of : ℕ → Kind
+abbrev pub bracket_of : ℕ → TokenKind
 bracket_of b =
     if b == 40 then Open
     else (if b == 41 then Close
@@ -98,7 +98,7 @@ escape_of b =
     else Unknown)))
 
 -- what a byte behind a 0 begins
-abbrev pub mark_of : ℕ → Mark
+abbrev pub mark_of : ℕ → NumberMark
 mark_of b =
     if b == 120 then marks.Hex
     else (if b == 111 then marks.Octal

@@ -3,14 +3,14 @@ use Rattle.std.specs.Prelude.{◌≡◌, ◌==◌, ℕ, ◌<◌, ◌≤◌, ◌+
 use Rattle.std.specs.Str.{IsValidUpTo}
 use Rattle.apd_token.specs.Bytes.{class_of, bracket_of, in_set, is_layout, escape_of, mark_of}
 use Rattle.apd_token.specs.Quotes.{AllIn, CodeOf, numeral, Element, AreElements, spelling, meaning, NoElement}
-use Rattle.apd_token.specs.declared.bytes.Mark.{Mark}
-use Rattle.apd_token.specs.declared.bytes.Mark.TheVariants as marks
+use Rattle.apd_token.specs.declared.bytes.NumberMark.{NumberMark}
+use Rattle.apd_token.specs.declared.bytes.NumberMark.TheVariants as marks
 use Rattle.apd_token.specs.declared.bytes.Class.{Class}
 use Rattle.apd_token.specs.declared.bytes.Class.TheVariants as classes
 use Rattle.apd_token.specs.declared.bytes.Set.{Set}
 use Rattle.apd_token.specs.declared.bytes.Set.TheVariants as sets
-use Rattle.apd_token.specs.declared.items.Kind.{Kind}
-use Rattle.apd_token.specs.declared.items.Kind.TheVariants.{Name, Quoted, Codes, Variable, Integer, End}
+use Rattle.apd_token.specs.declared.items.TokenKind.{TokenKind}
+use Rattle.apd_token.specs.declared.items.TokenKind.TheVariants.{Name, Quoted, Codes, Variable, Integer, End}
 use Rattle.apd_token.specs.declared.items.Token.{Token}
 use Rattle.apd_causes.specs.declared.faults.TokenFault.{TokenFault}
 use Rattle.apd_causes.specs.declared.faults.TokenFault.TheVariants as faults
@@ -104,7 +104,7 @@ abbrev pub RadixForm : ℕ → Set → ℕ → Found → List ℕ → Type 0
 RadixForm radix set at w digits = (0 < length digits) × AllIn set digits × (w ≡ number at (numeral radix digits))
 
 -- what stands behind a 0 and a mark
-abbrev pub MarkedForm : Mark → ℕ → Found → List ℕ → List ℕ → Type 0
+abbrev pub MarkedForm : NumberMark → ℕ → Found → List ℕ → List ℕ → Type 0
 MarkedForm marks.Hex at w bytes after = RadixForm 16 sets.Hex at w bytes
 MarkedForm marks.Octal at w bytes after = RadixForm 8 sets.Octal at w bytes
 MarkedForm marks.Binary at w bytes after = RadixForm 2 sets.Binary at w bytes
@@ -120,7 +120,7 @@ pub record IsMarked (at : ℕ) (w : Found) (bytes after : List ℕ) : Type 0 whe
 abbrev pub NumberForm : ℕ → Found → List ℕ → List ℕ → Type 0
 NumberForm at w bytes after = DigitForm at w bytes ⊎ IsMarked at w bytes after
 
-abbrev pub quoted_kind : ℕ → Kind
+abbrev pub quoted_kind : ℕ → TokenKind
 quoted_kind q = if q == 39 then Quoted else Codes
 
 -- Where the elements between quotes q stop: the closing quote, the end of the text, or a backslash that begins no escape, at a place.
@@ -253,7 +253,7 @@ pub record Stands (q : ℕ) (bytes value : List ℕ) : Type 0 where
   pub means : value ≡ meaning elements
 
 -- what the bytes of an item stand for
-abbrev pub ContentOf : Kind → List ℕ → List ℕ → Type 0
+abbrev pub ContentOf : TokenKind → List ℕ → List ℕ → Type 0
 ContentOf Name bytes value = value ≡ bytes
 ContentOf Variable bytes value = value ≡ bytes
 ContentOf Quoted bytes value = Stands 39 bytes value
@@ -261,7 +261,7 @@ ContentOf Codes bytes value = Stands 34 bytes value
 ContentOf k bytes value = Unit {0}
 
 -- the kinds that stand for characters
-abbrev pub HasText : Kind → Type 0
+abbrev pub HasText : TokenKind → Type 0
 HasText Name = Unit {0}
 HasText Variable = Unit {0}
 HasText Quoted = Unit {0}

@@ -3,8 +3,8 @@ use Rattle.std.specs.Prelude.{◌≡◌, ℕ, ◌<◌, ◌≤◌, ◌+◌, List,
 use Rattle.std.specs.Char.{IsScalar}
 use Rattle.apd_token.specs.Bytes.{in_set, escape_of}
 use Rattle.apd_token.specs.Quotes.{IsDigits, numeral, CodeOf, IsElement, Element, AreElements, spelling, meaning, NoElement}
-use Rattle.apd_token.specs.declared.quoted.Value.{Value}
-use Rattle.apd_token.specs.declared.quoted.Value.TheVariants as values
+use Rattle.apd_token.specs.declared.quoted.ElementValue.{ElementValue}
+use Rattle.apd_token.specs.declared.quoted.ElementValue.TheVariants as values
 use Rattle.apd_token.specs.Grammar.{Begins, IsMarked, RadixForm, IsLead}
 use Rattle.apd_token.specs.declared.bytes.Set.{Set}
 use Rattle.apd_token.specs.declared.bytes.Set.TheVariants as sets
@@ -67,7 +67,7 @@ pub record HasElement (text : List ℕ) (at q upto : ℕ) (value : List ℕ) : T
   pub within : upto ≤ length text
   pub is_element : IsElement q (slice_range text at upto) value
 
-abbrev pub value_of : Value → List ℕ
+abbrev pub value_of : ElementValue → List ℕ
 value_of values.Nothing = []
 value_of (values.Byte b) = b ∷ []
 value_of (values.Char c) = encode_utf8 c

@@ -4,7 +4,7 @@ ghost use Rattle.std.specs.Prelude.{◌≡◌, ◌≤◌};
 ghost use Rattle.std.specs.Char.{digit_value};
 ghost use Rattle.apd_token.specs.Bytes.{class_of, bracket_of, in_set, is_layout, is_small, is_capital, is_digit, is_word, is_graphic, is_bracket, is_simple, simple_code, escape_of, mark_of};
 
-use crate::items::Kind;
+use crate::items::TokenKind;
 
 /// What a byte begins outside quotes and comments.
 #[derive(Clone, Copy)]
@@ -35,7 +35,7 @@ pub enum Set {
 
 /// What a byte behind a 0 begins.
 #[derive(Clone, Copy)]
-pub enum Mark {
+pub enum NumberMark {
     Hex,
     Octal,
     Binary,
@@ -129,25 +129,25 @@ pub(crate) fn class_of(b: u8) -> Class
     }
 }
 
-pub(crate) fn bracket_of(b: u8) -> Kind
+pub(crate) fn bracket_of(b: u8) -> TokenKind
     ensures { result ≡ bracket_of b }
 {
     if b == b'(' {
-        Kind::Open
+        TokenKind::Open
     } else if b == b')' {
-        Kind::Close
+        TokenKind::Close
     } else if b == b'[' {
-        Kind::OpenList
+        TokenKind::OpenList
     } else if b == b']' {
-        Kind::CloseList
+        TokenKind::CloseList
     } else if b == b'{' {
-        Kind::OpenCurly
+        TokenKind::OpenCurly
     } else if b == b'}' {
-        Kind::CloseCurly
+        TokenKind::CloseCurly
     } else if b == b',' {
-        Kind::Comma
+        TokenKind::Comma
     } else {
-        Kind::Bar
+        TokenKind::Bar
     }
 }
 
@@ -219,19 +219,19 @@ pub(crate) fn escape_of(b: u8) -> Escape
     }
 }
 
-pub(crate) fn mark_of(b: u8) -> Mark
+pub(crate) fn mark_of(b: u8) -> NumberMark
     ensures { result ≡ mark_of b }
 {
     if b == b'x' {
-        Mark::Hex
+        NumberMark::Hex
     } else if b == b'o' {
-        Mark::Octal
+        NumberMark::Octal
     } else if b == b'b' {
-        Mark::Binary
+        NumberMark::Binary
     } else if b == b'\'' {
-        Mark::Code
+        NumberMark::Code
     } else {
-        Mark::Nothing
+        NumberMark::Nothing
     }
 }
 

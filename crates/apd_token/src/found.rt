@@ -8,7 +8,7 @@ ghost use Rattle.apd_token.specs.Scan.{Scans};
 ghost use Rattle.apd_base.specs.declared.limits.TheConstants.{MAX_FILE};
 
 use crate::bytes::{Class, Set, is_layout};
-use crate::items::Kind;
+use crate::items::TokenKind;
 use crate::runs::{close_at, run_end};
 use apd_causes::TokenFault;
 
@@ -16,7 +16,7 @@ use apd_causes::TokenFault;
 #[derive(Clone, Copy)]
 pub enum Found {
     Passed,
-    Item(Kind),
+    Item(TokenKind),
     Bad(TokenFault),
 }
 
@@ -73,8 +73,8 @@ pub(crate) fn graphic_at(text: &[u8], at: usize) -> (Found, usize)
     }
     let end = run_end(text, at + 1, Set::Symbols);
     if is_end(text, at, end) {
-        (Found::Item(Kind::End), end)
+        (Found::Item(TokenKind::End), end)
     } else {
-        (Found::Item(Kind::Name), end)
+        (Found::Item(TokenKind::Name), end)
     }
 }

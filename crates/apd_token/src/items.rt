@@ -4,7 +4,7 @@ use apd_base::ListOf;
 
 /// What a token is.
 #[derive(Clone, Copy, PartialEq, Eq)]
-pub enum Kind {
+pub enum TokenKind {
     /// A small letter followed by letters, digits and `_`; graphic characters; `!` or `;`.
     Name,
     /// A name in single quotes.
@@ -38,7 +38,7 @@ pub enum Kind {
 /// A token, with the places of its bytes in the text.
 #[derive(Clone, Copy, PartialEq, Eq)]
 pub struct Token {
-    pub kind: Kind,
+    pub kind: TokenKind,
     /// The place of its first byte, from 0.
     pub start: u32,
     /// The place behind its last byte.

@@ -16,8 +16,8 @@ mod scanner;
 mod texts;
 
 pub use apd_causes::TokenFault;
-pub use bytes::{Class, Escape, Mark, Set, is_graphic, is_small, is_word};
+pub use bytes::{Class, Escape, NumberMark, Set, is_graphic, is_small, is_word};
 pub use found::Found;
-pub use items::{Kind, Token, Tokens};
+pub use items::{Token, TokenKind, Tokens};
 pub use scanner::{every_text_divides, one_division, tokens};
 pub use texts::{bare_name, content, one_content};

@@ -7,9 +7,9 @@ ghost use Rattle.apd_token.specs.Bytes.{class_of};
 ghost use Rattle.apd_token.specs.Scan.{StopsRun, Scans, HasFraction, NoMarked, HasRadix, HasChar};
 ghost use Rattle.apd_base.specs.declared.limits.TheConstants.{MAX_FILE};
 
-use crate::bytes::{Class, Mark, Set, is_digit, mark_of};
+use crate::bytes::{Class, NumberMark, Set, is_digit, mark_of};
 use crate::found::Found;
-use crate::items::Kind;
+use crate::items::TokenKind;
 use crate::quoted::code_at;
 use crate::runs::{numeral_of, run_end};
 use apd_causes::TokenFault;
@@ -38,7 +38,7 @@ pub(crate) fn digits_at(text: &[u8], at: usize) -> (Found, usize)
             if has_fraction(text, end) {
                 (Found::Bad(TokenFault::FloatLiteral(at as u32)), end + 2)
             } else {
-                (Found::Item(Kind::Integer(value)), end)
+                (Found::Item(TokenKind::Integer(value)), end)
             }
         }
     }
@@ -59,7 +59,7 @@ fn radix_at(text: &[u8], at: usize, radix: u64, set: Set) -> Option<(Found, usiz
     }
     match numeral_of(&text[at + 2..end], radix) {
         None => Some((Found::Bad(TokenFault::NumberTooWide(at as u32)), end)),
-        Some(value) => Some((Found::Item(Kind::Integer(value)), end)),
+        Some(value) => Some((Found::Item(TokenKind::Integer(value)), end)),
     }
 }
 
@@ -95,7 +95,7 @@ fn coded_at(text: &[u8], whole: &str, at: usize) -> (Found, usize)
         }
         return match code_at(text, at + 3) {
             None => (Found::Bad(TokenFault::BadEscape(at as u32 + 2)), at + 3),
-            Some((upto, c)) => (Found::Item(Kind::Integer(u64::from(c as u32))), upto),
+            Some((upto, c)) => (Found::Item(TokenKind::Integer(u64::from(c as u32))), upto),
         };
     }
     if text[at + 2] == b'\'' {
@@ -105,10 +105,10 @@ fn coded_at(text: &[u8], whole: &str, at: usize) -> (Found, usize)
         if text[at + 3] != b'\'' {
             return (Found::Bad(TokenFault::BadEscape(at as u32 + 2)), at + 3);
         }
-        return (Found::Item(Kind::Integer(39)), at + 4);
+        return (Found::Item(TokenKind::Integer(39)), at + 4);
     }
     let (c, upto) = char_at(whole, at + 2);
-    (Found::Item(Kind::Integer(u64::from(c as u32))), upto)
+    (Found::Item(TokenKind::Integer(u64::from(c as u32))), upto)
 }
 
 /// A number with a mark behind its 0.
@@ -126,20 +126,20 @@ pub(crate) fn marked_at(text: &[u8], whole: &str, at: usize) -> Option<(Found, u
         return None;
     }
     match mark_of(text[at + 1]) {
-        Mark::Nothing => None,
-        Mark::Code => {
+        NumberMark::Nothing => None,
+        NumberMark::Code => {
             let found = coded_at(text, whole, at);
             Some(found)
         }
-        Mark::Hex => match radix_at(text, at, 16, Set::Hex) {
+        NumberMark::Hex => match radix_at(text, at, 16, Set::Hex) {
             None => None,
             Some((what, end)) => Some((what, end)),
         },
-        Mark::Octal => match radix_at(text, at, 8, Set::Octal) {
+        NumberMark::Octal => match radix_at(text, at, 8, Set::Octal) {
             None => None,
             Some((what, end)) => Some((what, end)),
         },
-        Mark::Binary => match radix_at(text, at, 2, Set::Binary) {
+        NumberMark::Binary => match radix_at(text, at, 2, Set::Binary) {
             None => None,
             Some((what, end)) => Some((what, end)),
         },

@@ -9,13 +9,13 @@ ghost use Rattle.apd_base.specs.declared.limits.TheConstants.{MAX_FILE};
 
 use crate::bytes::{Class, Escape, Set, escape_of, simple_code};
 use crate::found::Found;
-use crate::items::Kind;
+use crate::items::TokenKind;
 use crate::runs::{numeral_of, run_end};
 use apd_causes::TokenFault;
 
 /// What an element stands for: a byte, a character or nothing.
 #[derive(Clone, Copy)]
-pub(crate) enum Value {
+pub(crate) enum ElementValue {
     Nothing,
     Byte(u8),
     Char(char),
@@ -85,7 +85,7 @@ pub(crate) fn code_at(text: &[u8], at: usize) -> Option<(usize, char)>
 }
 
 /// What stands at a place between quotes `q`, and where it ends.
-pub(crate) fn element_at(text: &[u8], at: usize, q: u8) -> Option<(usize, Value)>
+pub(crate) fn element_at(text: &[u8], at: usize, q: u8) -> Option<(usize, ElementValue)>
     requires { at ≤ length text.now }
     ensures some { IfSome result (λ r. HasElement text.now at q r.0 (value_of r.1)) }
     ensures none { IfNone result (NoElement q (drop at text.now)) }
@@ -98,15 +98,15 @@ pub(crate) fn element_at(text: &[u8], at: usize, q: u8) -> Option<(usize, Value)
             return None;
         }
         if text[at + 1] == b'\n' {
-            return Some((at + 2, Value::Nothing));
+            return Some((at + 2, ElementValue::Nothing));
         }
         return match code_at(text, at + 1) {
             None => None,
-            Some((upto, c)) => Some((upto, Value::Char(c))),
+            Some((upto, c)) => Some((upto, ElementValue::Char(c))),
         };
     }
     if text[at] != q {
-        return Some((at + 1, Value::Byte(text[at])));
+        return Some((at + 1, ElementValue::Byte(text[at])));
     }
     if text.len() - at < 2 {
         return None;
@@ -114,16 +114,16 @@ pub(crate) fn element_at(text: &[u8], at: usize, q: u8) -> Option<(usize, Value)
     if text[at + 1] != q {
         return None;
     }
-    Some((at + 2, Value::Byte(q)))
+    Some((at + 2, ElementValue::Byte(q)))
 }
 
-fn quoted_kind(q: u8) -> Kind
+fn quoted_kind(q: u8) -> TokenKind
     ensures { result ≡ quoted_kind q }
 {
     if q == b'\'' {
-        Kind::Quoted
+        TokenKind::Quoted
     } else {
-        Kind::Codes
+        TokenKind::Codes
     }
 }
 

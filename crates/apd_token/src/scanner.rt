@@ -11,7 +11,7 @@ ghost use Rattle.apd_base.specs.declared.limits.TheConstants.{MAX_FILE};
 
 use crate::bytes::{Class, Set, bracket_of, class_of};
 use crate::found::{Found, graphic_at};
-use crate::items::{Kind, Token, Tokens};
+use crate::items::{Token, TokenKind, Tokens};
 use crate::numbers::{digits_at, marked_at};
 use crate::quoted::quoted_at;
 use crate::runs::run_end;
@@ -30,12 +30,15 @@ fn piece_at(text: &[u8], whole: &str, at: usize) -> (Found, usize)
     match class_of(first) {
         Class::Layout => (Found::Passed, at + 1),
         Class::Percent => (Found::Passed, run_end(text, at + 1, Set::Line)),
-        Class::Small => (Found::Item(Kind::Name), run_end(text, at + 1, Set::Word)),
-        Class::Capital => (
-            Found::Item(Kind::Variable),
+        Class::Small => (
+            Found::Item(TokenKind::Name),
             run_end(text, at + 1, Set::Word),
         ),
-        Class::Solo => (Found::Item(Kind::Name), at + 1),
+        Class::Capital => (
+            Found::Item(TokenKind::Variable),
+            run_end(text, at + 1, Set::Word),
+        ),
+        Class::Solo => (Found::Item(TokenKind::Name), at + 1),
         Class::Bracket => (Found::Item(bracket_of(first)), at + 1),
         Class::Graphic => graphic_at(text, at),
         Class::Digit => match marked_at(text, whole, at) {

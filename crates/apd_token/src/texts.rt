@@ -3,21 +3,21 @@
 ghost use Rattle.std.specs.Prelude.{◌≡◌, ℕ, ◌<◌, ◌≤◌, List, ◌++◌, length, slice_range, IfOk, OnOk, IsUtf8};
 ghost use Rattle.apd_token.specs.Grammar.{IsTokenOf, HasText, ContentOf};
 ghost use Rattle.apd_token.specs.Scan.{value_of, Unquotes};
-ghost use Rattle.apd_token.specs.declared.items.Kind.{Kind};
+ghost use Rattle.apd_token.specs.declared.items.TokenKind.{TokenKind};
 ghost use Rattle.apd_base.specs.declared.limits.TheConstants.{MAX_FILE};
 
-use crate::items::{Kind, Token};
-use crate::quoted::{Value, element_at};
+use crate::items::{Token, TokenKind};
+use crate::quoted::{ElementValue, element_at};
 use apd_base::Text;
 use std::alloc::{AllocError, Global};
 
-fn push_value(out: &mut Text, value: Value) -> Result<(), AllocError>
+fn push_value(out: &mut Text, value: ElementValue) -> Result<(), AllocError>
     ensures { OnOk result (out.new ≡ out.old ++ value_of value) }
 {
     match value {
-        Value::Nothing => Ok(()),
-        Value::Byte(b) => out.push(b),
-        Value::Char(c) => {
+        ElementValue::Nothing => Ok(()),
+        ElementValue::Byte(b) => out.push(b),
+        ElementValue::Char(c) => {
             let mut room = [0u8; 4];
             let bytes = c.encode_utf8(&mut room).as_bytes();
             out.extend(bytes)
@@ -63,11 +63,11 @@ pub fn content(alloc: Global, text: &[u8], token: &Token) -> Result<Text, AllocE
     let start = token.start as usize;
     let end = token.end as usize;
     match token.kind {
-        Kind::Quoted | Kind::Codes => {
+        TokenKind::Quoted | TokenKind::Codes => {
             let value = unquoted(alloc, text, start)?;
             Ok(value)
         }
-        Kind::Name | Kind::Variable => {
+        TokenKind::Name | TokenKind::Variable => {
             let value = part(alloc, text, start, end)?;
             Ok(value)
         }
@@ -79,7 +79,7 @@ pub fn content(alloc: Global, text: &[u8], token: &Token) -> Result<Text, AllocE
 pub fn bare_name<'t>(text: &'t [u8], token: &Token) -> &'t [u8]
     requires small { length text.now ≤ MAX_FILE }
     requires token { IsTokenOf text.now token.now }
-    requires kind { token.now.kind ≡ Kind.Name }
+    requires kind { token.now.kind ≡ TokenKind.Name }
     ensures bytes { result.now ≡ slice_range text.now token.now.start token.now.end }
     ensures utf8 { IsUtf8 text.now → IsUtf8 result.now }
 {
@@ -88,6 +88,6 @@ pub fn bare_name<'t>(text: &'t [u8], token: &Token) -> &'t [u8]
 
 /// The law of one content: an item stands for one text.
 pub fn one_content()
-    ensures { (k : Kind) (bytes u v : List ℕ) → HasText k → ContentOf k bytes u →
+    ensures { (k : TokenKind) (bytes u v : List ℕ) → HasText k → ContentOf k bytes u →
         ContentOf k bytes v → u ≡ v }
 {}

@@ -7,50 +7,50 @@ use Rattle.std.proofs.lemmas.List.{map-append, length-append, length-map, take-a
 use Rattle.std.proofs.Math.Seq.{drop-append_seam}
 use Rattle.apd_unify.specs.declared.store.Cell.{Cell}
 use Rattle.apd_past.specs.declared.past.PastCell.{PastCell}
-use Rattle.apd_tuples.specs.declared.spots.Row.{Row}
+use Rattle.apd_tuples.specs.declared.spots.SpotRow.{SpotRow}
 use Rattle.apd_tuples.specs.Spots.{Place, goals_in, place_of_cell, placed_all, spot_in, spots_in, HasMore, HavePlaces, IsSpanned, AreSpanned}
 
-abbrev pub with_goals : Row → List PastCell → Place
+abbrev pub with_goals : SpotRow → List PastCell → Place
 with_goals r goals = record { head = r.head; goals = goals; moment = r.moment.0; fact = r.fact }
 
-pub spots_more : (goals more : List PastCell) (rows : List Row) → AreSpanned (length goals) rows → spots_in (goals ++ more) rows ≡ spots_in goals rows
+pub spots_more : (goals more : List PastCell) (rows : List SpotRow) → AreSpanned (length goals) rows → spots_in (goals ++ more) rows ≡ spots_in goals rows
 spots_more goals more [] h = refl
 spots_more goals more (r ∷ rs) h =
     ap (λ gs. with_goals r (drop r.from gs) ∷ spots_in (goals ++ more) rs) (take-append-le r.to goals more h.0.within)
     ∙ ap (λ ps. spot_in goals r ∷ ps) (spots_more goals more rs h.1)
 
-spanned_more : (n m : ℕ) (rows : List Row) → n ≤ m → AreSpanned n rows → AreSpanned m rows
+spanned_more : (n m : ℕ) (rows : List SpotRow) → n ≤ m → AreSpanned n rows → AreSpanned m rows
 spanned_more n m [] le h = tt
 spanned_more n m (r ∷ rs) le h = (record { order = h.0.order; within = omega (arith, h.0.within, le) }, spanned_more n m rs le h.1)
 
-spanned_push : (n : ℕ) (rows : List Row) (r : Row) → AreSpanned n rows → IsSpanned n r → AreSpanned n (rows ++ r ∷ [])
+spanned_push : (n : ℕ) (rows : List SpotRow) (r : SpotRow) → AreSpanned n rows → IsSpanned n r → AreSpanned n (rows ++ r ∷ [])
 spanned_push n [] r h k = (k, tt)
 spanned_push n (x ∷ rows) r h k = (h.0, spanned_push n rows r h.1 k)
 
-pub spanned_get : (n : ℕ) (rows : List Row) (i : ℕ) (r : Row) → AreSpanned n rows → slice_get rows i ≡ Some r → IsSpanned n r
+pub spanned_get : (n : ℕ) (rows : List SpotRow) (i : ℕ) (r : SpotRow) → AreSpanned n rows → slice_get rows i ≡ Some r → IsSpanned n r
 spanned_get n [] i r h e = cc
 spanned_get n (x ∷ rows) zero r h e = let is : x ≡ r = cc in subst (IsSpanned n) is h.0
 spanned_get n (x ∷ rows) (suc i) r h e = spanned_get n rows i r h.1 e
 
-pub spots_get : (goals : List PastCell) (rows : List Row) (i : ℕ) (o : Option Row) (r : Row) → o ≡ slice_get rows i → o ≡ Some r → slice_get (spots_in goals rows) i ≡ Some (spot_in goals r)
+pub spots_get : (goals : List PastCell) (rows : List SpotRow) (i : ℕ) (o : Option SpotRow) (r : SpotRow) → o ≡ slice_get rows i → o ≡ Some r → slice_get (spots_in goals rows) i ≡ Some (spot_in goals r)
 spots_get goals rows i o r e is = slice_get-map (spot_in goals) rows i ∙ ap (option_map (spot_in goals)) (sym e ∙ is)
 
-pub spots_none : (goals : List PastCell) (rows : List Row) (i : ℕ) (o : Option Row) → o ≡ slice_get rows i → o ≡ None → slice_get (spots_in goals rows) i ≡ None
+pub spots_none : (goals : List PastCell) (rows : List SpotRow) (i : ℕ) (o : Option SpotRow) → o ≡ slice_get rows i → o ≡ None → slice_get (spots_in goals rows) i ≡ None
 spots_none goals rows i o e is = slice_get-map (spot_in goals) rows i ∙ ap (option_map (spot_in goals)) (sym e ∙ is)
 
 -- goals were put behind, and no row
-pub wider : (goals goals' : List PastCell) (rows : List Row) → HasMore goals goals' → AreSpanned (length goals) rows → AreSpanned (length goals') rows
+pub wider : (goals goals' : List PastCell) (rows : List SpotRow) → HasMore goals goals' → AreSpanned (length goals) rows → AreSpanned (length goals') rows
 wider goals goals' rows m h =
     spanned_more (length goals) (length goals') rows (omega (arith, ap length m.1, length-append goals m.0)) h
 
-pub wider_spots : (goals goals' : List PastCell) (rows : List Row) → HasMore goals goals' → AreSpanned (length goals) rows → spots_in goals' rows ≡ spots_in goals rows
+pub wider_spots : (goals goals' : List PastCell) (rows : List SpotRow) → HasMore goals goals' → AreSpanned (length goals) rows → spots_in goals' rows ≡ spots_in goals rows
 wider_spots goals goals' rows m h = ap (λ gs. spots_in gs rows) m.1 ∙ spots_more goals m.0 rows h
 
 pub put_length : (goals goals' places : List PastCell) (cells : List Cell) → goals' ≡ goals ++ placed_all places cells → length goals' ≡ length goals + length cells
 put_length goals goals' places cells e = omega (arith, ap length e, length-append goals (placed_all places cells), length-map cells (place_of_cell places))
 
 -- goals were put behind, and a row with them
-module _ (goals more goals' : List PastCell) (rows rows' : List Row) (r : Row) (ge : goals' ≡ goals ++ more) (re : rows' ≡ rows ++ r ∷ [])
+module _ (goals more goals' : List PastCell) (rows rows' : List SpotRow) (r : SpotRow) (ge : goals' ≡ goals ++ more) (re : rows' ≡ rows ++ r ∷ [])
     (from : r.from ≡ length goals) (to : r.to ≡ length goals') (h : AreSpanned (length goals) rows) where
   own_goals : goals_in goals' r ≡ more
   own_goals =

@@ -3,7 +3,7 @@ use Rattle.std.specs.Prelude.{◌≡◌, ℕ, ◌<◌, ◌≤◌, List, [], ◌�
 use Rattle.apd_unify.specs.declared.store.Cell.{Cell}
 use Rattle.apd_past.specs.declared.past.PastCell.{PastCell}
 use Rattle.apd_tuples.specs.declared.spots.Fact.{Fact}
-use Rattle.apd_tuples.specs.declared.spots.Row.{Row}
+use Rattle.apd_tuples.specs.declared.spots.SpotRow.{SpotRow}
 use Rattle.apd_tuples.specs.declared.spots.Spot.{Spot}
 
 -- where a tuple's head and goals are, the moment at which it was kept, and what is known of it
@@ -18,21 +18,21 @@ abbrev pub spot_at : Spot → Place
 spot_at s = record { head = s.head; goals = s.goals.now; moment = s.moment.0; fact = s.fact }
 
 -- the goals of a row among those of all
-abbrev pub goals_in : List PastCell → Row → List PastCell
+abbrev pub goals_in : List PastCell → SpotRow → List PastCell
 goals_in goals r = drop r.from (take r.to goals)
 
-abbrev pub spot_in : List PastCell → Row → Place
+abbrev pub spot_in : List PastCell → SpotRow → Place
 spot_in goals r = record { head = r.head; goals = goals_in goals r; moment = r.moment.0; fact = r.fact }
 
-abbrev pub spots_in : List PastCell → List Row → List Place
+abbrev pub spots_in : List PastCell → List SpotRow → List Place
 spots_in goals rows = map (spot_in goals) rows
 
 -- a row's goals are among the first n
-pub record IsSpanned (n : ℕ) (r : Row) : Type 0 where
+pub record IsSpanned (n : ℕ) (r : SpotRow) : Type 0 where
   pub order : r.from ≤ r.to
   pub within : r.to ≤ n
 
-abbrev pub AreSpanned : ℕ → List Row → Type 0
+abbrev pub AreSpanned : ℕ → List SpotRow → Type 0
 AreSpanned n [] = Unit {0}
 AreSpanned n (r ∷ rs) = IsSpanned n r × AreSpanned n rs
 

@@ -3,7 +3,7 @@
 ghost use Rattle.std.specs.Prelude.{◌≡◌, ◌≤◌, IfOk};
 ghost use Rattle.apd_tuples.specs.Packed.{code_of, fact_in};
 
-use crate::spots::{Fact, Row};
+use crate::spots::{Fact, SpotRow};
 use apd_base::{MOST_GOALS, MOST_INSTANCE_SYMBOLS};
 use apd_past::past::{Moment, PastCell};
 use std::alloc::AllocError;
@@ -22,10 +22,10 @@ pub struct KeptRow {
 
 impl Model for KeptRow {
     ghost use Rattle.std.specs.Prelude.{◌-◌, ◌/◌, ◌%◌};
-    ghost use Rattle.apd_tuples.specs.declared.spots.Row.{Row};
+    ghost use Rattle.apd_tuples.specs.declared.spots.SpotRow.{SpotRow};
     ghost use Rattle.apd_tuples.specs.Packed.{fact_in};
 
-    ghost Value = { Row };
+    ghost Value = { SpotRow };
 
     ghost view = { λ r. record {
       head = r.head;
@@ -74,7 +74,7 @@ fn fact_in(code: u32) -> Fact
 
 impl KeptRow {
     /// The row as it is kept; want of memory where a number is too great.
-    pub fn of(row: Row) -> Result<KeptRow, AllocError>
+    pub fn of(row: SpotRow) -> Result<KeptRow, AllocError>
         requires { row.from ≤ row.to }
         ensures { IfOk result (λ k. k ≡ row) }
     {
@@ -93,10 +93,10 @@ impl KeptRow {
 
     /// The row.
     #[inline(always)]
-    pub fn read(&self) -> Row
+    pub fn read(&self) -> SpotRow
         ensures { result ≡ self.now }
     {
-        Row {
+        SpotRow {
             head: self.head,
             moment: self.moment,
             from: self.to.saturating_sub(self.rest % 256),

@@ -38,7 +38,7 @@ pub struct Numbered {
 
 /// A spot as it is kept: its goals stand among those of all.
 #[derive(Clone, Copy)]
-pub struct Row {
+pub struct SpotRow {
     pub head: PastCell,
     pub moment: Moment,
     pub from: u32,
@@ -95,7 +95,7 @@ fn put_places(
 }
 
 /// The row with this number, counted from 0.
-fn row_at(rows: &[KeptRow], number: usize) -> Option<Row>
+fn row_at(rows: &[KeptRow], number: usize) -> Option<SpotRow>
     ensures { result ≡ slice_get rows.now number }
 {
     match rows.get(number) {
@@ -105,7 +105,7 @@ fn row_at(rows: &[KeptRow], number: usize) -> Option<Row>
 }
 
 /// The spot that is kept as a row.
-fn spot_in<'a>(goals: &'a [PastCell], row: Row) -> Spot<'a>
+fn spot_in<'a>(goals: &'a [PastCell], row: SpotRow) -> Spot<'a>
     requires { IsSpanned (length goals.now) row }
     ensures { spot_at result ≡ spot_in goals.now row }
 {
@@ -177,7 +177,7 @@ impl Spots {
             return Err(AllocError);
         }
         put_places(&mut self.goals, places, goals)?;
-        let kept = KeptRow::of(Row {
+        let kept = KeptRow::of(SpotRow {
             head: place_of(places, head),
             moment,
             from: from as u32,

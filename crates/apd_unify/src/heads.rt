@@ -159,7 +159,7 @@ fn meet_symbol(
 }
 
 /// Goes on with the head's term that begins at a place and the term at a cell.
-fn meet(
+fn meet_term(
     heap: &mut Heap,
     solver: &mut Solver,
     slots: &mut Vec<Slot>,
@@ -253,7 +253,7 @@ pub fn unify_head(
         let Some(next) = next_run(runs, here) else {
             return Ok(true);
         };
-        match meet(heap, solver, slots, next.at, symbols, from)? {
+        match meet_term(heap, solver, slots, next.at, symbols, from)? {
             Met::Clash => return Ok(false),
             Met::Past(end) => {
                 here = past_first(heap, next);

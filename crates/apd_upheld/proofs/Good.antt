@@ -43,7 +43,7 @@ use Rattle.apd_account.specs.Right.{IsRight, AreRight, IsAnswer, IsQuestion}
 use Rattle.apd_claims.specs.declared.claim.Claim.{Claim}
 use Rattle.apd_claims.specs.declared.claim.Claim.TheVariants.{Tells, Asks, Replies, Finds, Descends}
 use Rattle.apd_check.specs.Checked.{after_claim, known_after, IsPlaced, IsReplyTo}
-use Rattle.apd_check.specs.declared.state.State.{State}
+use Rattle.apd_check.specs.declared.state.LogState.{LogState}
 use Rattle.apd_written.specs.Claims.{canonical_asked, canonical_finding, line_said, claims_of, all_claims}
 use Rattle.apd_written.proofs.Questions.{form-again}
 use Rattle.apd_upheld.specs.Alike.{AreAlike}
@@ -89,11 +89,11 @@ clause-there cs (suc i) t e = there-of cs i t e
 
 module _ (program : List Clause) where
   -- an entry's claims are good, and the state behind them is what it tells
-  record Goes (a : Account) (s : State) (cs : List Claim) : Type 0 where
+  record Goes (a : Account) (s : LogState) (cs : List Claim) : Type 0 where
     good : AreGood program s cs
     stands : Stands a (after_claims program s cs)
 
-  good-append : (s : State) (cs ds : List Claim) → AreGood program s cs → AreGood program (after_claims program s cs) ds → AreGood program s (cs ++ ds)
+  good-append : (s : LogState) (cs ds : List Claim) → AreGood program s cs → AreGood program (after_claims program s cs) ds → AreGood program s (cs ++ ds)
   good-append s [] ds g h = h
   good-append s (c ∷ cs) ds g h = (g.0, good-append (after_claim program s c) cs ds g.1 h)
 
@@ -111,7 +111,7 @@ module _ (program : List Clause) where
   waits-idle stage w e = subst (λ (x : Stage). WaitsAs x w) (sym e) tt
 
   module _ (strategy : Strategy) where
-    run-goes : (a : Account) (s : State) (q : Query) (budget answers : ℕ) (filter : Filter) (end : Option Ran) → Stands a s → IsTimed program a q budget answers end → IfSome end (λ ran. ran.end ≢ EndsInError Size 0)
+    run-goes : (a : Account) (s : LogState) (q : Query) (budget answers : ℕ) (filter : Filter) (end : Option Ran) → Stands a s → IsTimed program a q budget answers end → IfSome end (λ ran. ran.end ≢ EndsInError Size 0)
         → Goes (after_entry program strategy a (entry.Run q budget answers filter end)) s (claims_of (entry.Run q budget answers filter end))
     run-goes a s q budget answers filter end h f unlike =
         let whole : (query_run (tuples_of program) q.tuple budget answers).end ≢ EndsInError Size 0 = subst (λ e. IfSome e (λ (ran : Ran). ran.end ≢ EndsInError Size 0)) f.ended unlike in
@@ -126,7 +126,7 @@ module _ (program : List Clause) where
           };
         })
 
-    tells-goes : (a : Account) (s : State) (x : Term) (r : Reply) (stage : Stage) (what : Option Told) → Stands a s → IsUserAtom x → WaitsAs stage None
+    tells-goes : (a : Account) (s : LogState) (x : Term) (r : Reply) (stage : Stage) (what : Option Told) → Stands a s → IsUserAtom x → WaitsAs stage None
         → Goes (record { history = a.history; store = with_pair a.store (question.True x) r; symptom = what; stage = stage; replies = a.replies }) s (Tells (question.True (canonical x)) r ∷ [])
     tells-goes a s x r stage what h u w = record {
       good = (user-canonical x u, tt);
@@ -144,7 +144,7 @@ module _ (program : List Clause) where
         let due = w.due in
         ap (with_question program strategy a) due.stage ∙ ap (λ (t : Turn Inquiry LoopEnd). at_stage a (after_turn t)) due.next
 
-    asked-goes : (a : Account) (s : State) (number : ℕ) (x : Asked) → Stands a s → IsQuestion program strategy a x → IsFairQuestion x.question
+    asked-goes : (a : Account) (s : LogState) (number : ℕ) (x : Asked) → Stands a s → IsQuestion program strategy a x → IsFairQuestion x.question
         → Goes (after_entry program strategy a (entry.Question number x)) s (Asks (canonical_asked x) ∷ [])
     asked-goes a s number x h w f =
         subst (λ (b : Account). Goes b s (Asks (canonical_asked x) ∷ [])) (sym (asked-stage a x w))
@@ -153,7 +153,7 @@ module _ (program : List Clause) where
           stands = record { query = h.query; history = h.history; known = h.known; waits = (refl, f.form) };
         })
 
-    replied-goes : (a : Account) (s : State) (r : Reply) (left : Option ℕ) (given : Bool) → Stands a s → IsAnswer strategy a r left given
+    replied-goes : (a : Account) (s : LogState) (r : Reply) (left : Option ℕ) (given : Bool) → Stands a s → IsAnswer strategy a r left given
         → Goes (after_entry program strategy a (entry.Replied r left given)) s (Replies r ∷ [])
     replied-goes a s r left given h w =
         let x = w.asked in
@@ -170,7 +170,7 @@ module _ (program : List Clause) where
           };
         })
 
-    found-goes : (a : Account) (s : State) (f : Finding) (line : ℕ) → Stands a s → IsByReplies (tuples_of program) a.history a.store f → HasClause program f → line ≡ line_found program f
+    found-goes : (a : Account) (s : LogState) (f : Finding) (line : ℕ) → Stands a s → IsByReplies (tuples_of program) a.history a.store f → HasClause program f → line ≡ line_found program f
         → Goes (at_stage a Idle) s (Finds (canonical_finding f) (line_said f line) ∷ [])
     found-goes a s f line h by there e = record {
       good = (
@@ -184,7 +184,7 @@ module _ (program : List Clause) where
       stands = record { query = h.query; history = h.history; known = h.known; waits = tt };
     }
 
-    descends-goes : (a : Account) (s : State) (calls : ℕ) → Stands a s → calls ≡ length (chain a.history) → AllDescendByReplies a.store (calls_in a.history (chain a.history))
+    descends-goes : (a : Account) (s : LogState) (calls : ℕ) → Stands a s → calls ≡ length (chain a.history) → AllDescendByReplies a.store (calls_in a.history (chain a.history))
         → Goes (at_stage a Idle) s (Descends calls ∷ [])
     descends-goes a s calls h count by = record {
       good = (
@@ -197,17 +197,17 @@ module _ (program : List Clause) where
       stands = record { query = h.query; history = h.history; known = h.known; waits = tt };
     }
 
-    quiet : (a : Account) (s : State) → Stands a s → Goes a s []
+    quiet : (a : Account) (s : LogState) → Stands a s → Goes a s []
     quiet a s h = record { good = tt; stands = h }
 
-    breaks : (a : Account) (s : State) → Stands a s → Goes (at_stage a Idle) s []
+    breaks : (a : Account) (s : LogState) → Stands a s → Goes (at_stage a Idle) s []
     breaks a s h = record { good = tt; stands = record { query = h.query; history = h.history; known = h.known; waits = tt } }
 
-    no_end-goes : (a : Account) (s : State) (calls : ℕ) → Stands a s → Goes (after_entry program strategy a (entry.Symptom (NoEnd calls))) s []
+    no_end-goes : (a : Account) (s : LogState) (calls : ℕ) → Stands a s → Goes (after_entry program strategy a (entry.Symptom (NoEnd calls))) s []
     no_end-goes a s calls h = record { good = tt; stands = record { query = h.query; history = h.history; known = h.known; waits = tt } }
 
     module _ (m : Interpretation) where
-      entry-goes : (a : Account) (s : State) (e : Entry) → Stands a s → IsRight m program strategy a e → IsFair program e → IsInTurn program a e → Goes (after_entry program strategy a e) s (claims_of e)
+      entry-goes : (a : Account) (s : LogState) (e : Entry) → Stands a s → IsRight m program strategy a e → IsFair program e → IsInTurn program a e → Goes (after_entry program strategy a e) s (claims_of e)
       entry-goes a s (entry.Run q budget answers filter end) h r f g = run-goes a s q budget answers filter end h g f
       entry-goes a s (entry.Symptom (Wrong x exit)) h r f g = tells-goes a s x No (Moves (begun_by a.history (Wrong x exit))) (Some (Wrong x exit)) h f tt
       entry-goes a s (entry.Symptom (Missing x box_no)) h r f g = tells-goes a s x Yes (Moves (begun_by a.history (Missing x box_no))) (Some (Missing x box_no)) h f tt
@@ -238,7 +238,7 @@ module _ (program : List Clause) where
       entry-goes a s entry.InputOver h r f g = breaks a s h
 
       -- all that right and fair entries say is good
-      pub entries-good : (a : Account) (s : State) (es : List Entry) → Stands a s → AreRight m program strategy a es → AllFair program es → AreInTurn program strategy a es → AreGood program s (all_claims es)
+      pub entries-good : (a : Account) (s : LogState) (es : List Entry) → Stands a s → AreRight m program strategy a es → AllFair program es → AreInTurn program strategy a es → AreGood program s (all_claims es)
       entries-good a s [] h r f i = tt
       entries-good a s (e ∷ es) h r f i =
           let g = entry-goes a s e h r.0 f.0 i.0 in

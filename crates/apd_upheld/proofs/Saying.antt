@@ -14,7 +14,7 @@ use Rattle.apd_claims.specs.Parting.{called_in, claim_parted}
 use Rattle.apd_claims.specs.Saying.{begins, claim_at, claim_by, goes_on, is_candidate, said_from}
 use Rattle.apd_check.specs.Checked.{IsJudged, IsJudgedBy, IsRightFinding, after_by, after_claim, found_by, found_in, IsChecked}
 use Rattle.apd_check.specs.declared.checked.Checked.TheVariants as checked
-use Rattle.apd_check.specs.declared.state.State.{State}
+use Rattle.apd_check.specs.declared.state.LogState.{LogState}
 use Rattle.apd_written.specs.Says.{Says, AreCandidateLines, IsCallSaid, lines_before, no_line, quiet_line, one_line, call_line, some_lines}
 use Rattle.apd_written.proofs.NoCalls.{no-call}
 use Rattle.apd_written.proofs.Saying.{line-first, candidates-first, begins-none}
@@ -22,28 +22,28 @@ use Rattle.apd_upheld.specs.Good.{AreGood, count_found}
 
 module _ {names : List (List ℕ)} (reader : Reader names) (ops : Table) (program : List Clause) where
   -- lines that are good from here on
-  abbrev AreFine : State → ℕ → Bool → ℕ → List (List ℕ) → ℕ → Type 0
+  abbrev AreFine : LogState → ℕ → Bool → ℕ → List (List ℕ) → ℕ → Type 0
   AreFine s found in_group n lines total = IsChecked program s found (said_from reader ops in_group n lines) (checked.Holds total)
 
   -- a line that is judged so, and those behind it
-  abbrev IsFineBy : State → ℕ → Bool → ℕ → List (List ℕ) → ℕ → Claim → Option (ℕ → Option Claim) → Type 0
+  abbrev IsFineBy : LogState → ℕ → Bool → ℕ → List (List ℕ) → ℕ → Claim → Option (ℕ → Option Claim) → Type 0
   IsFineBy s found goes n lines total c parted = IsJudgedBy program s c parted None × AreFine (after_by program s c parted) (found + found_by c parted) goes n lines total
 
   -- a line that says this, and isn't one of a call
-  line-fine : (s : State) (found : ℕ) (in_group : Bool) (n : ℕ) (line : List ℕ) (lines : List (List ℕ)) (total : ℕ) (c : Claim) → called_in line ≡ None → claim_at reader ops in_group line lines ≡ c
+  line-fine : (s : LogState) (found : ℕ) (in_group : Bool) (n : ℕ) (line : List ℕ) (lines : List (List ℕ)) (total : ℕ) (c : Claim) → called_in line ≡ None → claim_at reader ops in_group line lines ≡ c
       → IsJudged program s c None → AreFine (after_claim program s c) (found + found_in c) (goes_on in_group line) (n + 1) lines total → AreFine s found in_group n (line ∷ lines) total
   line-fine s found in_group n line lines total c not e j r =
       let fine : Claim → Option (ℕ → Option Claim) → Type 0 = IsFineBy s found (goes_on in_group line) (n + 1) lines total in
       inl (subst (λ (o : Option CallLine). fine (claim_at reader ops in_group line lines) (option_map (claim_parted reader ops) o)) (sym not) (subst (λ (x : Claim). fine x None) (sym e) (j, r)))
 
   -- the line of a call that may say this
-  call-fine : (s : State) (found : ℕ) (in_group : Bool) (n : ℕ) (line : List ℕ) (lines : List (List ℕ)) (total : ℕ) (finding : Finding) (at : ℕ) → IsCallSaid reader ops line finding at
+  call-fine : (s : LogState) (found : ℕ) (in_group : Bool) (n : ℕ) (line : List ℕ) (lines : List (List ℕ)) (total : ℕ) (finding : Finding) (at : ℕ) → IsCallSaid reader ops line finding at
       → IsRightFinding program s finding at → AreFine s (found + 1) (goes_on in_group line) (n + 1) lines total → AreFine s found in_group n (line ∷ lines) total
   call-fine s found in_group n line lines total finding at h j r =
       let fine : Claim → Option (ℕ → Option Claim) → Type 0 = IsFineBy s found (goes_on in_group line) (n + 1) lines total in
       inl (subst (λ (o : Option CallLine). fine (claim_at reader ops in_group line lines) (option_map (claim_parted reader ops) o)) (sym h.is) ((h.place, (finding, at, h.says, j)), r))
 
-  quiet-fine : (s : State) (found : ℕ) (in_group : Bool) (n : ℕ) (line : List ℕ) (lines : List (List ℕ)) (total : ℕ) → claim_at reader ops in_group line lines ≡ Nothing
+  quiet-fine : (s : LogState) (found : ℕ) (in_group : Bool) (n : ℕ) (line : List ℕ) (lines : List (List ℕ)) (total : ℕ) → claim_at reader ops in_group line lines ≡ Nothing
       → AreFine s found (goes_on in_group line) (n + 1) lines total → AreFine s found in_group n (line ∷ lines) total
   quiet-fine s found in_group n line lines total e r =
       line-fine s found in_group n line lines total Nothing (no-call reader ops in_group line lines Nothing tt e) e refl (subst (λ f. AreFine s f (goes_on in_group line) (n + 1) lines total) (omega arith) r)
@@ -56,7 +56,7 @@ module _ {names : List (List ℕ)} (reader : Reader names) (ops : Table) (progra
       by true b f = refl
       by false b f = f
 
-  candidates-fine : (s : State) (found n : ℕ) (candidates lines : List (List ℕ)) (total : ℕ) → AreCandidateLines candidates
+  candidates-fine : (s : LogState) (found n : ℕ) (candidates lines : List (List ℕ)) (total : ℕ) → AreCandidateLines candidates
       → ((m : ℕ) → AreFine s found true m lines total) → AreFine s found true n (candidates ++ lines) total
   candidates-fine s found n [] lines total h r = r n
   candidates-fine s found n (l ∷ ls) lines total h r =
@@ -67,7 +67,7 @@ module _ {names : List (List ℕ)} (reader : Reader names) (ops : Table) (progra
   opens-group in_group line e = ap (λ b. b || (in_group && is_candidate line)) e
 
   -- what is said is good, so the text holds
-  pub says-checked : (s : State) (found n : ℕ) (in_group : Bool) {text : List ℕ} {cs : List Claim} → Says reader ops text cs → AreGood program s cs
+  pub says-checked : (s : LogState) (found n : ℕ) (in_group : Bool) {text : List ℕ} {cs : List Claim} → Says reader ops text cs → AreGood program s cs
       → AreFine s found in_group n (lines_of text) (found + count_found cs)
   says-checked s found n in_group no_line g = ap checked.Holds (omega arith)
   says-checked s found n in_group (quiet_line line {rest} {cs} h k) g =

@@ -6,18 +6,18 @@ use Rattle.apd_answers.specs.declared.question.Asked.{Asked}
 use Rattle.apd_clauses.specs.declared.clause.Clause.{Clause}
 use Rattle.apd_claims.specs.declared.claim.Claim.{Claim}
 use Rattle.apd_check.specs.Checked.{IsJudged, after_claim, found_in}
-use Rattle.apd_check.specs.declared.state.State.{State}
+use Rattle.apd_check.specs.declared.state.LogState.{LogState}
 use Rattle.apd_written.specs.Claims.{canonical_asked}
 use Rattle.apd_upheld.specs.Alike.{AreAlike}
 use Rattle.apd_upheld.specs.Fair.{IsInForm}
 
 module _ (program : List Clause) where
   -- each claim is good after those before it
-  abbrev pub AreGood : State → List Claim → Type 0
+  abbrev pub AreGood : LogState → List Claim → Type 0
   AreGood s [] = ⊤
   AreGood s (c ∷ cs) = IsJudged program s c None × AreGood (after_claim program s c) cs
 
-  abbrev pub after_claims : State → List Claim → State
+  abbrev pub after_claims : LogState → List Claim → LogState
   after_claims s [] = s
   after_claims s (c ∷ cs) = after_claims (after_claim program s c) cs
 
@@ -34,7 +34,7 @@ WaitsAs (Awaits asked next) waiting = (waiting ≡ Some (canonical_asked asked))
 
 -- the state of a check is what the entries so far tell: the record of the same run, the same replies and trust, and what waits for
 -- a reply
-pub record Stands (a : Account) (s : State) : Type 0 where
+pub record Stands (a : Account) (s : LogState) : Type 0 where
   pub query : s.query ≡ None
   pub history : s.history ≡ bare_record a.history
   pub known : AreAlike a.store s.known

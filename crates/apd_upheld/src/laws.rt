@@ -9,7 +9,7 @@ ghost use Rattle.apd_answers.specs.Store.{Store};
 ghost use Rattle.apd_answers.specs.declared.finding.Finding.{Finding};
 ghost use Rattle.apd_check.specs.Checked.{IsChecked};
 ghost use Rattle.apd_check.specs.declared.checked.Checked.TheVariants.{Holds};
-ghost use Rattle.apd_check.specs.declared.state.State.{State};
+ghost use Rattle.apd_check.specs.declared.state.LogState.{LogState};
 ghost use Rattle.apd_claims.specs.Saying.{said_from};
 ghost use Rattle.apd_claims.specs.declared.claim.Claim.{Claim};
 ghost use Rattle.apd_clauses.specs.declared.clause.Clause.{Clause};
@@ -30,7 +30,7 @@ use apd_answers::Intended;
 
 /// What right and fair entries say is good for the check of their log, claim by claim.
 pub fn what_right_entries_say_is_good<M: Intended>(_intended: &M)
-    ensures { (program : List Clause) (strategy : Strategy) (a : Account) (s : State)
+    ensures { (program : List Clause) (strategy : Strategy) (a : Account) (s : LogState)
         (es : List Entry) →
         Stands a s → AreRight M.interpretation program strategy a es → AllFair program es →
         AreInTurn program strategy a es →
@@ -48,7 +48,7 @@ pub fn findings_stay_by_replies()
 /// A text whose lines say what is good holds, with as many findings as they say.
 pub fn what_is_said_is_checked()
     ensures { (names : List (List ℕ)) (reader : Reader names) (ops : Table)
-        (program : List Clause) (s : State) (found n : ℕ) (in_group : Bool) (text : List ℕ)
+        (program : List Clause) (s : LogState) (found n : ℕ) (in_group : Bool) (text : List ℕ)
         (cs : List Claim) →
         Says reader ops text cs → AreGood program s cs →
         IsChecked program s found (said_from reader ops in_group n (lines_of text))

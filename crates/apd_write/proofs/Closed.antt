@@ -4,14 +4,14 @@ use Rattle.std.specs.Prelude.{codes, Some, None}
 use Rattle.apd_ops.specs.Table.{Table}
 use Rattle.apd_write.specs.Writing.{Part}
 use Rattle.apd_write.specs.Pending.{AddsClosing, Leaves, resume, takes, takes_in_all, text_in}
-use Rattle.apd_write.specs.declared.pending.Place.{Place}
-use Rattle.apd_write.specs.declared.pending.Place.TheVariants as place
-use Rattle.apd_write.specs.declared.pending.Frame.{Frame}
-use Rattle.apd_write.specs.declared.pending.Frame.TheVariants as frame
+use Rattle.apd_write.specs.declared.pending.TermPlace.{TermPlace}
+use Rattle.apd_write.specs.declared.pending.TermPlace.TheVariants as place
+use Rattle.apd_write.specs.declared.pending.PendingFrame.{PendingFrame}
+use Rattle.apd_write.specs.declared.pending.PendingFrame.TheVariants as frame
 use Rattle.apd_write.proofs.Frames.{resume-push, takes-push}
 
 -- the comma before one more argument
-pub argument_left : (ops : Table) (names : List (List ℕ)) (n m : ℕ) (frames frames_now : List Frame) (out out_now : List ℕ) → n ≡ suc m →
+pub argument_left : (ops : Table) (names : List (List ℕ)) (n m : ℕ) (frames frames_now : List PendingFrame) (out out_now : List ℕ) → n ≡ suc m →
     frames_now ≡ frames ++ frame.Arguments m ∷ [] → out_now ≡ out ++ codes "," →
     Leaves ops names (frame.Arguments n) frames frames_now out out_now (Some (place.Whole 999))
 argument_left ops names n m frames frames_now out out_now some pushed added = rw (some, pushed) (
@@ -24,13 +24,13 @@ argument_left ops names n m frames frames_now out out_now some pushed added = rw
 )
 
 -- what was closed so far
-pub record Closing (ops : Table) (names : List (List ℕ)) (frames frames_now : List Frame) (out out_now : List ℕ) : Type 0 where
+pub record Closing (ops : Table) (names : List (List ℕ)) (frames frames_now : List PendingFrame) (out out_now : List ℕ) : Type 0 where
   pub marks : List ℕ
   pub adds : out_now ≡ out ++ marks
   pub count : takes_in_all frames ≡ takes_in_all frames_now
   pub text : (after : List Part → List ℕ) (ps : List Part) → resume ops names frames after ps ≡ marks ++ resume ops names frames_now after ps
 
-pub Closing-more : (ops : Table) (names : List (List ℕ)) (frames frames_now popped next : List Frame) (f : Frame) (out out_now out_next : List ℕ) →
+pub Closing-more : (ops : Table) (names : List (List ℕ)) (frames frames_now popped next : List PendingFrame) (f : PendingFrame) (out out_now out_next : List ℕ) →
     Closing ops names frames frames_now out out_now → frames_now ≡ popped ++ f ∷ [] → Leaves ops names f popped next out_now out_next None →
     Closing ops names frames next out out_next
 Closing-more ops names frames frames_now popped next f out out_now out_next before is leaves = rw leaves.2.same (record {
@@ -42,13 +42,13 @@ Closing-more ops names frames frames_now popped next f out out_now out_next befo
       let n = leaves.2.count in
       omega (arith, b, e, n);
   text = λ after ps. before.text after ps
-      ∙ ap (λ (o : List Frame). before.marks ++ resume ops names o after ps) is
+      ∙ ap (λ (o : List PendingFrame). before.marks ++ resume ops names o after ps) is
       ∙ ap (λ (g : List Part → List ℕ). before.marks ++ g ps) (resume-push ops names popped f after)
       ∙ ap (λ (x : List ℕ). before.marks ++ x) (leaves.2.text (resume ops names popped after) ps)
       ∙ sym (append_assoc before.marks leaves.0 (resume ops names popped after ps));
 })
 
-pub Closing-next : (ops : Table) (names : List (List ℕ)) (frames frames_now popped next : List Frame) (f : Frame) (out out_now out_next : List ℕ) (here : Place) →
+pub Closing-next : (ops : Table) (names : List (List ℕ)) (frames frames_now popped next : List PendingFrame) (f : PendingFrame) (out out_now out_next : List ℕ) (here : TermPlace) →
     Closing ops names frames frames_now out out_now → frames_now ≡ popped ++ f ∷ [] → Leaves ops names f popped next out_now out_next (Some here) →
     AddsClosing ops names frames next out out_next (Some here)
 Closing-next ops names frames frames_now popped next f out out_now out_next here before is leaves = (
@@ -61,14 +61,14 @@ Closing-next ops names frames frames_now popped next f out out_now out_next here
         let n = leaves.2.count in
         omega (arith, b, e, n);
     text = λ after p ps. before.text after (p ∷ ps)
-        ∙ ap (λ (o : List Frame). before.marks ++ resume ops names o after (p ∷ ps)) is
+        ∙ ap (λ (o : List PendingFrame). before.marks ++ resume ops names o after (p ∷ ps)) is
         ∙ ap (λ (g : List Part → List ℕ). before.marks ++ g (p ∷ ps)) (resume-push ops names popped f after)
         ∙ ap (λ (x : List ℕ). before.marks ++ x) (leaves.2.text after p ps)
         ∙ sym (append_assoc before.marks leaves.0 (text_in ops names here p ++ resume ops names next after ps));
   },
 )
 
-pub Closing-end : (ops : Table) (names : List (List ℕ)) (frames frames_now : List Frame) (out out_now : List ℕ) → Closing ops names frames frames_now out out_now → frames_now ≡ [] →
+pub Closing-end : (ops : Table) (names : List (List ℕ)) (frames frames_now : List PendingFrame) (out out_now : List ℕ) → Closing ops names frames frames_now out out_now → frames_now ≡ [] →
     AddsClosing ops names frames frames_now out out_now None
 Closing-end ops names frames frames_now out out_now before is = (
   before.marks,
@@ -76,6 +76,6 @@ Closing-end ops names frames frames_now out out_now before is = (
   record {
     count = before.count ∙ ap takes_in_all is;
     none = is;
-    text = λ after ps. before.text after ps ∙ ap (λ (o : List Frame). before.marks ++ resume ops names o after ps) is;
+    text = λ after ps. before.text after ps ∙ ap (λ (o : List PendingFrame). before.marks ++ resume ops names o after ps) is;
   },
 )

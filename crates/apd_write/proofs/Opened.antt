@@ -9,15 +9,15 @@ use Rattle.apd_term.specs.declared.standard.TheConstants.{CELL, CURLY}
 use Rattle.apd_write.specs.NameTexts.{name_text, function_text}
 use Rattle.apd_write.specs.Writing.{Part, arranged, between, further_arguments, function, infix_text, is_same_name, left_operand, list_text, one_text, prefix_text, rest_after, right_operand, two_text}
 use Rattle.apd_write.specs.Pending.{Opens, Puts, arguments_then, closing_frames, compound_in, next_in, opening_mark, resume, takes, takes_in_all}
-use Rattle.apd_write.specs.declared.pending.Place.{Place}
-use Rattle.apd_write.specs.declared.pending.Place.TheVariants as place
-use Rattle.apd_write.specs.declared.pending.Frame.{Frame}
-use Rattle.apd_write.specs.declared.pending.Frame.TheVariants as frame
+use Rattle.apd_write.specs.declared.pending.TermPlace.{TermPlace}
+use Rattle.apd_write.specs.declared.pending.TermPlace.TheVariants as place
+use Rattle.apd_write.specs.declared.pending.PendingFrame.{PendingFrame}
+use Rattle.apd_write.specs.declared.pending.PendingFrame.TheVariants as frame
 use Rattle.apd_write.proofs.Frames.{resume-push, takes-push, resume-fitted, takes-fitted}
 
 -- what was put opens the compound, if its text is so made up
-opens_from_put : (ops : Table) (names : List (List ℕ)) (f : NameId) (count : ℕ) (here : Place) (marks : List ℕ) (pushed : List Frame) (stands : Place)
-    (frames frames_now : List Frame) (out out_now : List ℕ) (next : Place) →
+opens_from_put : (ops : Table) (names : List (List ℕ)) (f : NameId) (count : ℕ) (here : TermPlace) (marks : List ℕ) (pushed : List PendingFrame) (stands : TermPlace)
+    (frames frames_now : List PendingFrame) (out out_now : List ℕ) (next : TermPlace) →
     (takes_in_all (frames ++ pushed) + 1 ≡ takes_in_all frames + count) →
     ((after : List Part → List ℕ) (ps qs : List Part) → length ps ≡ count →
     compound_in ops here f (text_of_name names f) ps ++ resume ops names frames after qs ≡ marks ++ next_in ops names stands (resume ops names (frames ++ pushed) after) (ps ++ qs)) →
@@ -39,7 +39,7 @@ regroup_function : (name first further rest : List ℕ) →
     (name ++ 40 ∷ ((first ++ further) ++ 41 ∷ [])) ++ rest ≡ (name ++ 40 ∷ []) ++ (first ++ (further ++ 41 ∷ rest))
 regroup_function name first further rest = simp append_assoc
 
-function_text_opens : (ops : Table) (names : List (List ℕ)) (name : List ℕ) (n : ℕ) (frames : List Frame) (after : List Part → List ℕ) (ps qs : List Part) → length ps ≡ suc n →
+function_text_opens : (ops : Table) (names : List (List ℕ)) (name : List ℕ) (n : ℕ) (frames : List PendingFrame) (after : List Part → List ℕ) (ps qs : List Part) → length ps ≡ suc n →
     function name ps ++ resume ops names frames after qs
     ≡ (function_text name ++ codes "(") ++ next_in ops names (place.Whole 999) (resume ops names (frames ++ frame.Arguments n ∷ []) after) (ps ++ qs)
 function_text_opens ops names name n frames after [] qs is = absurd (omega (arith, is))
@@ -51,7 +51,7 @@ function_text_opens ops names name n frames after (p ∷ ps) qs is =
     ∙ ap (λ (k : ℕ). arguments_then ops names k (resume ops names frames after) (ps ++ qs)) few
     ∙ ap (λ (g : List Part → List ℕ). g (ps ++ qs)) (sym (resume-push ops names frames (frame.Arguments n) after)))
 
-pub function_opens : (ops : Table) (names : List (List ℕ)) (f : NameId) (count max : ℕ) (frames frames_now : List Frame) (out out_now : List ℕ) (next : Place) →
+pub function_opens : (ops : Table) (names : List (List ℕ)) (f : NameId) (count max : ℕ) (frames frames_now : List PendingFrame) (out out_now : List ℕ) (next : TermPlace) →
     0 < count →
     ((ps : List Part) → length ps ≡ count → arranged ops f (text_of_name names f) max ps ≡ function (text_of_name names f) ps) →
     Puts (function_text (text_of_name names f) ++ codes "(") (frame.Arguments (count - 1) ∷ []) (place.Whole 999) frames frames_now out out_now next →
@@ -90,7 +90,7 @@ many_is_function ops f name max (p ∷ q ∷ r ∷ ps) is = refl
 regroup_prefix : (mark name operand rest : List ℕ) → mark ++ (((name ++ 32 ∷ []) ++ operand) ++ rest) ≡ (mark ++ (name ++ 32 ∷ [])) ++ (operand ++ rest)
 regroup_prefix mark name operand rest = simp append_assoc
 
-prefix_parts : (ops : Table) (names : List (List ℕ)) (name : List ℕ) (m : Meaning) (max : ℕ) (frames : List Frame) (after : List Part → List ℕ) (p : Part) (qs : List Part) →
+prefix_parts : (ops : Table) (names : List (List ℕ)) (name : List ℕ) (m : Meaning) (max : ℕ) (frames : List PendingFrame) (after : List Part → List ℕ) (p : Part) (qs : List Part) →
     prefix_text ops m name max p ++ resume ops names frames after qs
     ≡ (opening_mark m.0 max ++ (name ++ codes " ")) ++ (left_operand ops (right_by m.1 m.0) p ++ resume ops names (frames ++ closing_frames m.0 max) after qs)
 prefix_parts ops names name m max frames after p qs =
@@ -98,7 +98,7 @@ prefix_parts ops names name m max frames after p qs =
     resume-fitted ops names (nat_lt max m.0) ((name ++ 32 ∷ []) ++ operand) frames after qs
     ∙ regroup_prefix (opening_mark m.0 max) name operand (resume ops names (frames ++ closing_frames m.0 max) after qs)
 
-prefix_text_opens : (ops : Table) (names : List (List ℕ)) (f : NameId) (name : List ℕ) (m : Meaning) (max : ℕ) (frames : List Frame) (after : List Part → List ℕ) → prefix_in ops f.0 ≡ Some m →
+prefix_text_opens : (ops : Table) (names : List (List ℕ)) (f : NameId) (name : List ℕ) (m : Meaning) (max : ℕ) (frames : List PendingFrame) (after : List Part → List ℕ) → prefix_in ops f.0 ≡ Some m →
     (ps qs : List Part) → length ps ≡ 1 →
     arranged ops f name max ps ++ resume ops names frames after qs
     ≡ (opening_mark m.0 max ++ (name_text name ++ codes " ")) ++ next_in ops names (place.Left (right_by m.1 m.0)) (resume ops names (frames ++ closing_frames m.0 max) after) (ps ++ qs)
@@ -108,7 +108,7 @@ prefix_text_opens ops names f name m max frames after is (p ∷ []) qs one =
     ap (λ (x : List ℕ). x ++ resume ops names frames after qs) chosen ∙ prefix_parts ops names (name_text name) m max frames after p qs
 prefix_text_opens ops names f name m max frames after is (p ∷ q ∷ ps) qs one = absurd (omega (arith, one))
 
-pub prefix_opens : (ops : Table) (names : List (List ℕ)) (f : NameId) (m : Meaning) (max : ℕ) (frames frames_now : List Frame) (out out_now : List ℕ) (next : Place) →
+pub prefix_opens : (ops : Table) (names : List (List ℕ)) (f : NameId) (m : Meaning) (max : ℕ) (frames frames_now : List PendingFrame) (out out_now : List ℕ) (next : TermPlace) →
     prefix_in ops f.0 ≡ Some m →
     Puts (opening_mark m.0 max ++ (name_text (text_of_name names f) ++ codes " ")) (closing_frames m.0 max) (place.Left (right_by m.1 m.0)) frames frames_now out out_now next →
     Opens ops names f 1 (place.Whole max) frames frames_now out out_now next
@@ -118,21 +118,21 @@ prefix_opens ops names f m max frames frames_now out out_now next is put =
     (λ after ps qs one. prefix_text_opens ops names f (text_of_name names f) m max frames after is ps qs one)
     put
 
-infix_parts : (ops : Table) (names : List (List ℕ)) (f : NameId) (m : Meaning) (max : ℕ) (frames : List Frame) (after : List Part → List ℕ) (p q : Part) (qs : List Part) →
+infix_parts : (ops : Table) (names : List (List ℕ)) (f : NameId) (m : Meaning) (max : ℕ) (frames : List PendingFrame) (after : List Part → List ℕ) (p q : Part) (qs : List Part) →
     infix_text ops m f (name_text (text_of_name names f)) max p q ++ resume ops names frames after qs
     ≡ opening_mark m.0 max ++ (left_operand ops (left_by m.1 m.0) p ++ resume ops names (frames ++ (closing_frames m.0 max ++ frame.Right f (right_by m.1 m.0) ∷ [])) after (q ∷ qs))
 infix_parts ops names f m max frames after p q qs =
     let left : List ℕ = left_operand ops (left_by m.1 m.0) p in
     let right : List ℕ = right_operand ops (right_by m.1 m.0) q in
     let mid : List ℕ = between f (name_text (text_of_name names f)) in
-    let inner : List Frame = frames ++ closing_frames m.0 max in
-    let last : Frame = frame.Right f (right_by m.1 m.0) in
+    let inner : List PendingFrame = frames ++ closing_frames m.0 max in
+    let last : PendingFrame = frame.Right f (right_by m.1 m.0) in
     resume-fitted ops names (nat_lt max m.0) ((left ++ mid) ++ right) frames after qs
     ∙ ap (λ (x : List ℕ). opening_mark m.0 max ++ x) (append_assoc (left ++ mid) right (resume ops names inner after qs) ∙ append_assoc left mid (right ++ resume ops names inner after qs))
     ∙ ap (λ (g : List Part → List ℕ). opening_mark m.0 max ++ (left ++ g (q ∷ qs))) (sym (resume-push ops names inner last after))
-    ∙ ap (λ (fs : List Frame). opening_mark m.0 max ++ (left ++ resume ops names fs after (q ∷ qs))) (append_assoc frames (closing_frames m.0 max) (last ∷ []))
+    ∙ ap (λ (fs : List PendingFrame). opening_mark m.0 max ++ (left ++ resume ops names fs after (q ∷ qs))) (append_assoc frames (closing_frames m.0 max) (last ∷ []))
 
-infix_text_opens : (ops : Table) (names : List (List ℕ)) (f : NameId) (m : Meaning) (max : ℕ) (frames : List Frame) (after : List Part → List ℕ) → infix_in ops f.0 ≡ Some m → is_same_name f CELL ≡ false →
+infix_text_opens : (ops : Table) (names : List (List ℕ)) (f : NameId) (m : Meaning) (max : ℕ) (frames : List PendingFrame) (after : List Part → List ℕ) → infix_in ops f.0 ≡ Some m → is_same_name f CELL ≡ false →
     (ps qs : List Part) → length ps ≡ 2 →
     arranged ops f (text_of_name names f) max ps ++ resume ops names frames after qs
     ≡ opening_mark m.0 max ++ next_in ops names (place.Left (left_by m.1 m.0)) (resume ops names (frames ++ (closing_frames m.0 max ++ frame.Right f (right_by m.1 m.0) ∷ [])) after) (ps ++ qs)
@@ -146,13 +146,13 @@ infix_text_opens ops names f m max frames after is not_cell (p ∷ q ∷ []) qs 
     ap (λ (x : List ℕ). x ++ resume ops names frames after qs) (no_list ∙ chosen) ∙ infix_parts ops names f m max frames after p q qs
 infix_text_opens ops names f m max frames after is not_cell (p ∷ q ∷ r ∷ ps) qs two = absurd (omega (arith, two))
 
-pub infix_opens : (ops : Table) (names : List (List ℕ)) (f : NameId) (m : Meaning) (max : ℕ) (frames frames_now : List Frame) (out out_now : List ℕ) (next : Place) →
+pub infix_opens : (ops : Table) (names : List (List ℕ)) (f : NameId) (m : Meaning) (max : ℕ) (frames frames_now : List PendingFrame) (out out_now : List ℕ) (next : TermPlace) →
     infix_in ops f.0 ≡ Some m → is_same_name f CELL ≡ false →
     Puts (opening_mark m.0 max) (closing_frames m.0 max ++ frame.Right f (right_by m.1 m.0) ∷ []) (place.Left (left_by m.1 m.0)) frames frames_now out out_now next →
     Opens ops names f 2 (place.Whole max) frames frames_now out out_now next
 infix_opens ops names f m max frames frames_now out out_now next is not_cell put =
     opens_from_put ops names f 2 (place.Whole max) _ _ _ frames frames_now out out_now next
-    (let last : Frame = frame.Right f (right_by m.1 m.0) in
+    (let last : PendingFrame = frame.Right f (right_by m.1 m.0) in
     let e = takes-fitted (nat_lt max m.0) frames in
     let d = takes-push (frames ++ closing_frames m.0 max) last in
     let s : takes_in_all ((frames ++ closing_frames m.0 max) ++ last ∷ []) ≡ takes_in_all (frames ++ (closing_frames m.0 max ++ last ∷ [])) = ap takes_in_all (append_assoc frames (closing_frames m.0 max) (last ∷ [])) in
@@ -160,7 +160,7 @@ infix_opens ops names f m max frames frames_now out out_now next is not_cell put
     (λ after ps qs two. infix_text_opens ops names f m max frames after is not_cell ps qs two)
     put
 
-list_text_opens : (ops : Table) (names : List (List ℕ)) (f : NameId) (name : List ℕ) (max : ℕ) (frames : List Frame) (after : List Part → List ℕ) → is_same_name f CELL ≡ true →
+list_text_opens : (ops : Table) (names : List (List ℕ)) (f : NameId) (name : List ℕ) (max : ℕ) (frames : List PendingFrame) (after : List Part → List ℕ) → is_same_name f CELL ≡ true →
     (ps qs : List Part) → length ps ≡ 2 →
     arranged ops f name max ps ++ resume ops names frames after qs
     ≡ codes "[" ++ next_in ops names (place.Whole 999) (resume ops names (frames ++ frame.Rest ∷ []) after) (ps ++ qs)
@@ -172,7 +172,7 @@ list_text_opens ops names f name max frames after cell (p ∷ q ∷ []) qs two =
     ∙ ap (λ (g : List Part → List ℕ). 91 ∷ (p.text 999 ++ g (q ∷ qs))) (sym (resume-push ops names frames frame.Rest after))
 list_text_opens ops names f name max frames after cell (p ∷ q ∷ r ∷ ps) qs two = absurd (omega (arith, two))
 
-pub list_opens : (ops : Table) (names : List (List ℕ)) (f : NameId) (max : ℕ) (frames frames_now : List Frame) (out out_now : List ℕ) (next : Place) →
+pub list_opens : (ops : Table) (names : List (List ℕ)) (f : NameId) (max : ℕ) (frames frames_now : List PendingFrame) (out out_now : List ℕ) (next : TermPlace) →
     is_same_name f CELL ≡ true →
     Puts (codes "[") (frame.Rest ∷ []) (place.Whole 999) frames frames_now out out_now next →
     Opens ops names f 2 (place.Whole max) frames frames_now out out_now next
@@ -182,7 +182,7 @@ list_opens ops names f max frames frames_now out out_now next cell put =
     (λ after ps qs two. list_text_opens ops names f (text_of_name names f) max frames after cell ps qs two)
     put
 
-further_text_opens : (ops : Table) (names : List (List ℕ)) (f : NameId) (name : List ℕ) (frames : List Frame) (after : List Part → List ℕ) → is_same_name f CELL ≡ true →
+further_text_opens : (ops : Table) (names : List (List ℕ)) (f : NameId) (name : List ℕ) (frames : List PendingFrame) (after : List Part → List ℕ) → is_same_name f CELL ≡ true →
     (ps qs : List Part) → length ps ≡ 2 →
     rest_after ops f name ps ++ resume ops names frames after qs
     ≡ codes "," ++ next_in ops names (place.Whole 999) (resume ops names (frames ++ frame.Rest ∷ []) after) (ps ++ qs)
@@ -194,7 +194,7 @@ further_text_opens ops names f name frames after cell (p ∷ q ∷ []) qs two =
     ∙ ap (λ (g : List Part → List ℕ). 44 ∷ (p.text 999 ++ g (q ∷ qs))) (sym (resume-push ops names frames frame.Rest after))
 further_text_opens ops names f name frames after cell (p ∷ q ∷ r ∷ ps) qs two = absurd (omega (arith, two))
 
-pub further_opens : (ops : Table) (names : List (List ℕ)) (f : NameId) (frames frames_now : List Frame) (out out_now : List ℕ) (next : Place) →
+pub further_opens : (ops : Table) (names : List (List ℕ)) (f : NameId) (frames frames_now : List PendingFrame) (out out_now : List ℕ) (next : TermPlace) →
     is_same_name f CELL ≡ true →
     Puts (codes ",") (frame.Rest ∷ []) (place.Whole 999) frames frames_now out out_now next →
     Opens ops names f 2 place.Rest frames frames_now out out_now next
@@ -204,7 +204,7 @@ further_opens ops names f frames frames_now out out_now next cell put =
     (λ after ps qs two. further_text_opens ops names f (text_of_name names f) frames after cell ps qs two)
     put
 
-curly_text_opens : (ops : Table) (names : List (List ℕ)) (f : NameId) (name : List ℕ) (max : ℕ) (frames : List Frame) (after : List Part → List ℕ) → prefix_in ops f.0 ≡ None → is_same_name f CURLY ≡ true →
+curly_text_opens : (ops : Table) (names : List (List ℕ)) (f : NameId) (name : List ℕ) (max : ℕ) (frames : List PendingFrame) (after : List Part → List ℕ) → prefix_in ops f.0 ≡ None → is_same_name f CURLY ≡ true →
     (ps qs : List Part) → length ps ≡ 1 →
     arranged ops f name max ps ++ resume ops names frames after qs
     ≡ codes "{" ++ next_in ops names (place.Whole 1200) (resume ops names (frames ++ frame.CurlyEnd ∷ []) after) (ps ++ qs)
@@ -216,7 +216,7 @@ curly_text_opens ops names f name max frames after no_prefix curly (p ∷ []) qs
     ∙ ap (λ (g : List Part → List ℕ). 123 ∷ (p.text 1200 ++ g qs)) (sym (resume-push ops names frames frame.CurlyEnd after))
 curly_text_opens ops names f name max frames after no_prefix curly (p ∷ q ∷ ps) qs one = absurd (omega (arith, one))
 
-pub curly_opens : (ops : Table) (names : List (List ℕ)) (f : NameId) (max : ℕ) (frames frames_now : List Frame) (out out_now : List ℕ) (next : Place) →
+pub curly_opens : (ops : Table) (names : List (List ℕ)) (f : NameId) (max : ℕ) (frames frames_now : List PendingFrame) (out out_now : List ℕ) (next : TermPlace) →
     prefix_in ops f.0 ≡ None → is_same_name f CURLY ≡ true →
     Puts (codes "{") (frame.CurlyEnd ∷ []) (place.Whole 1200) frames frames_now out out_now next →
     Opens ops names f 1 (place.Whole max) frames frames_now out out_now next
@@ -235,7 +235,7 @@ rest_after_tail ops f name (p ∷ q ∷ []) some no_cell =
     ap (λ (b : Bool). if b then codes "," ++ list_text p q else codes "|" ++ arranged ops f name 999 (p ∷ q ∷ []) ++ codes "]") (no_cell refl)
 rest_after_tail ops f name (p ∷ q ∷ r ∷ ps) some no_cell = refl
 
-pub tail_opens : (ops : Table) (names : List (List ℕ)) (f : NameId) (count : ℕ) (frames inner frames_now : List Frame) (out between_out out_now : List ℕ) (next : Place) →
+pub tail_opens : (ops : Table) (names : List (List ℕ)) (f : NameId) (count : ℕ) (frames inner frames_now : List PendingFrame) (out between_out out_now : List ℕ) (next : TermPlace) →
     0 < count → (count ≡ 2 → is_same_name f CELL ≡ false) →
     inner ≡ frames ++ frame.ListEnd ∷ [] → between_out ≡ out ++ codes "|" →
     Opens ops names f count (place.Whole 999) inner frames_now between_out out_now next → Opens ops names f count place.Rest frames frames_now out out_now next
@@ -253,6 +253,6 @@ tail_opens ops names f count frames inner frames_now out between_out out_now nex
       ap (λ (x : List ℕ). x ++ resume ops names frames after qs) (rest_after_tail ops f name ps (omega (arith, some, long)) (λ two. no_cell (omega (arith, two, long))))
       ∙ ap (λ (x : List ℕ). 124 ∷ x) (append_assoc here (93 ∷ []) (resume ops names frames after qs)
       ∙ ap (λ (g : List Part → List ℕ). here ++ g qs) (sym (resume-push ops names frames frame.ListEnd after))
-      ∙ ap (λ (fs : List Frame). here ++ resume ops names fs after qs) (sym pushed)
+      ∙ ap (λ (fs : List PendingFrame). here ++ resume ops names fs after qs) (sym pushed)
       ∙ opens.text after ps qs long);
 }

@@ -12,10 +12,10 @@ use Rattle.apd_term.specs.declared.term.Sym.TheVariants.{Var, Int, Fun}
 use Rattle.apd_ops.specs.Table.{Table}
 use Rattle.apd_write.specs.NameTexts.{name_text}
 use Rattle.apd_write.specs.Writing.{Part, arranged, between, in_parentheses, is_operator, is_same_name, parts, left_operand, rest_after, right_operand, variable_text}
-use Rattle.apd_write.specs.declared.pending.Place.{Place}
-use Rattle.apd_write.specs.declared.pending.Place.TheVariants as place
-use Rattle.apd_write.specs.declared.pending.Frame.{Frame}
-use Rattle.apd_write.specs.declared.pending.Frame.TheVariants as frame
+use Rattle.apd_write.specs.declared.pending.TermPlace.{TermPlace}
+use Rattle.apd_write.specs.declared.pending.TermPlace.TheVariants as place
+use Rattle.apd_write.specs.declared.pending.PendingFrame.{PendingFrame}
+use Rattle.apd_write.specs.declared.pending.PendingFrame.TheVariants as frame
 
 -- Symbols without arguments.
 
@@ -38,14 +38,14 @@ is_negative_symbol x = false
 
 module _ (ops : Table) (names : List (List ℕ)) where
   -- the next part in its place
-  abbrev pub text_in : Place → Part → List ℕ
+  abbrev pub text_in : TermPlace → Part → List ℕ
   text_in (place.Whole max) p = p.text max
   text_in (place.Left max) p = left_operand ops max p
   text_in (place.Right max) p = right_operand ops max p
   text_in place.Rest p = p.rest
 
   -- the next of the parts in its place, and what comes after it
-  abbrev pub next_in : Place → (List Part → List ℕ) → List Part → List ℕ
+  abbrev pub next_in : TermPlace → (List Part → List ℕ) → List Part → List ℕ
   next_in place after [] = []
   next_in place after (p ∷ ps) = text_in place p ++ after ps
 
@@ -56,7 +56,7 @@ module _ (ops : Table) (names : List (List ℕ)) where
   arguments_then (suc n) after (p ∷ ps) = codes "," ++ p.text 999 ++ arguments_then n after ps
 
   -- what a frame has behind the term that is written
-  abbrev pub behind : Frame → (List Part → List ℕ) → List Part → List ℕ
+  abbrev pub behind : PendingFrame → (List Part → List ℕ) → List Part → List ℕ
   behind (frame.Arguments n) after ps = arguments_then n after ps
   behind frame.Rest after ps = next_in place.Rest after ps
   behind frame.ListEnd after ps = codes "]" ++ after ps
@@ -65,12 +65,12 @@ module _ (ops : Table) (names : List (List ℕ)) where
   behind (frame.Right f max) after ps = between f (name_text (text_of_name names f)) ++ next_in (place.Right max) after ps
 
   -- what all frames have, the outermost first
-  abbrev pub resume : List Frame → (List Part → List ℕ) → List Part → List ℕ
+  abbrev pub resume : List PendingFrame → (List Part → List ℕ) → List Part → List ℕ
   resume [] after = after
   resume (f ∷ fs) after = resume fs (behind f after)
 
 -- how many parts a frame takes
-abbrev pub takes : Frame → ℕ
+abbrev pub takes : PendingFrame → ℕ
 takes (frame.Arguments n) = n
 takes frame.Rest = 1
 takes frame.ListEnd = 0
@@ -78,51 +78,51 @@ takes frame.CurlyEnd = 0
 takes frame.ParenthesisEnd = 0
 takes (frame.Right f max) = 1
 
-abbrev pub takes_in_all : List Frame → ℕ
+abbrev pub takes_in_all : List PendingFrame → ℕ
 takes_in_all [] = 0
 takes_in_all (f ∷ fs) = takes f + takes_in_all fs
 
 -- behind a term the frames were closed up to a place where the next is to be written
-pub record GoesOn (ops : Table) (names : List (List ℕ)) (frames frames_now : List Frame) (marks : List ℕ) (next : Place) : Type 0 where
+pub record GoesOn (ops : Table) (names : List (List ℕ)) (frames frames_now : List PendingFrame) (marks : List ℕ) (next : TermPlace) : Type 0 where
   pub count : takes_in_all frames ≡ takes_in_all frames_now + 1
   pub text : (after : List Part → List ℕ) (p : Part) (ps : List Part) →
       resume ops names frames after (p ∷ ps) ≡ marks ++ (text_in ops names next p ++ resume ops names frames_now after ps)
 
 -- behind the last term all frames were closed
-pub record IsClosed (ops : Table) (names : List (List ℕ)) (frames frames_now : List Frame) (marks : List ℕ) : Type 0 where
+pub record IsClosed (ops : Table) (names : List (List ℕ)) (frames frames_now : List PendingFrame) (marks : List ℕ) : Type 0 where
   pub count : takes_in_all frames ≡ 0
   pub none : frames_now ≡ []
   pub text : (after : List Part → List ℕ) (ps : List Part) → resume ops names frames after ps ≡ marks ++ after ps
 
-abbrev pub Closes : Table → List (List ℕ) → List Frame → List Frame → List ℕ → Option Place → Type 0
+abbrev pub Closes : Table → List (List ℕ) → List PendingFrame → List PendingFrame → List ℕ → Option TermPlace → Type 0
 Closes ops names frames frames_now marks (Some next) = GoesOn ops names frames frames_now marks next
 Closes ops names frames frames_now marks None = IsClosed ops names frames frames_now marks
 
 -- what closes a written term was added to the text
-abbrev pub AddsClosing : Table → List (List ℕ) → List Frame → List Frame → List ℕ → List ℕ → Option Place → Type 0
+abbrev pub AddsClosing : Table → List (List ℕ) → List PendingFrame → List PendingFrame → List ℕ → List ℕ → Option TermPlace → Type 0
 AddsClosing ops names frames frames_now out out_now next = (marks : List ℕ) × (out_now ≡ out ++ marks) × Closes ops names frames frames_now marks next
 
 -- one frame was left for the next term, which stands in it
-pub record LeavesFor (ops : Table) (names : List (List ℕ)) (frame : Frame) (frames frames_now : List Frame) (marks : List ℕ) (next : Place) : Type 0 where
+pub record LeavesFor (ops : Table) (names : List (List ℕ)) (frame : PendingFrame) (frames frames_now : List PendingFrame) (marks : List ℕ) (next : TermPlace) : Type 0 where
   pub count : takes_in_all frames + takes frame ≡ takes_in_all frames_now + 1
   pub text : (after : List Part → List ℕ) (p : Part) (ps : List Part) →
       behind ops names frame (resume ops names frames after) (p ∷ ps) ≡ marks ++ (text_in ops names next p ++ resume ops names frames_now after ps)
 
 -- one frame was left for good
-pub record LeavesBehind (ops : Table) (names : List (List ℕ)) (frame : Frame) (frames frames_now : List Frame) (marks : List ℕ) : Type 0 where
+pub record LeavesBehind (ops : Table) (names : List (List ℕ)) (frame : PendingFrame) (frames frames_now : List PendingFrame) (marks : List ℕ) : Type 0 where
   pub count : takes frame ≡ 0
   pub same : frames_now ≡ frames
   pub text : (after : List Part → List ℕ) (ps : List Part) → behind ops names frame after ps ≡ marks ++ after ps
 
-abbrev pub LeavesTo : Table → List (List ℕ) → Frame → List Frame → List Frame → List ℕ → Option Place → Type 0
+abbrev pub LeavesTo : Table → List (List ℕ) → PendingFrame → List PendingFrame → List PendingFrame → List ℕ → Option TermPlace → Type 0
 LeavesTo ops names frame frames frames_now marks (Some next) = LeavesFor ops names frame frames frames_now marks next
 LeavesTo ops names frame frames frames_now marks None = LeavesBehind ops names frame frames frames_now marks
 
-abbrev pub Leaves : Table → List (List ℕ) → Frame → List Frame → List Frame → List ℕ → List ℕ → Option Place → Type 0
+abbrev pub Leaves : Table → List (List ℕ) → PendingFrame → List PendingFrame → List PendingFrame → List ℕ → List ℕ → Option TermPlace → Type 0
 Leaves ops names frame frames frames_now out out_now next = (marks : List ℕ) × (out_now ≡ out ++ marks) × LeavesTo ops names frame frames frames_now marks next
 
 -- a name with its arguments in a place
-abbrev pub compound_in : Table → Place → NameId → List ℕ → List Part → List ℕ
+abbrev pub compound_in : Table → TermPlace → NameId → List ℕ → List Part → List ℕ
 compound_in ops (place.Whole max) f name ps = arranged ops f name max ps
 compound_in ops (place.Left max) f name ps = arranged ops f name max ps
 compound_in ops (place.Right max) f name ps = arranged ops f name max ps
@@ -133,17 +133,17 @@ abbrev pub opening_mark : ℕ → ℕ → List ℕ
 opening_mark priority max = if nat_lt max priority then codes "(" else []
 
 -- the frame of the closing one
-abbrev pub closing_frames : ℕ → ℕ → List Frame
+abbrev pub closing_frames : ℕ → ℕ → List PendingFrame
 closing_frames priority max = if nat_lt max priority then frame.ParenthesisEnd ∷ [] else []
 
 -- marks were added to the text and frames pushed, and the next term stands in this place
-pub record Puts (marks : List ℕ) (pushed : List Frame) (place : Place) (frames frames_now : List Frame) (out out_now : List ℕ) (next : Place) : Type 0 where
+pub record Puts (marks : List ℕ) (pushed : List PendingFrame) (place : TermPlace) (frames frames_now : List PendingFrame) (out out_now : List ℕ) (next : TermPlace) : Type 0 where
   pub adds : out_now ≡ out ++ marks
   pub pushes : frames_now ≡ frames ++ pushed
   pub stands : next ≡ place
 
 -- what stands before the first argument was added to the text, with a frame for what stands behind it
-pub record Opens (ops : Table) (names : List (List ℕ)) (f : NameId) (count : ℕ) (here : Place) (frames frames_now : List Frame) (out out_now : List ℕ) (next : Place) : Type 0 where
+pub record Opens (ops : Table) (names : List (List ℕ)) (f : NameId) (count : ℕ) (here : TermPlace) (frames frames_now : List PendingFrame) (out out_now : List ℕ) (next : TermPlace) : Type 0 where
   pub marks : List ℕ
   pub adds : out_now ≡ out ++ marks
   pub takes : takes_in_all frames_now + 1 ≡ takes_in_all frames + count
@@ -155,18 +155,18 @@ abbrev pub leaf_rest : List (List ℕ) → Sym → List ℕ
 leaf_rest names x = if is_nil_symbol x then codes "]" else codes "|" ++ leaf_text names x ++ codes "]"
 
 -- a symbol without arguments in a place
-abbrev pub leaf_in : Table → List (List ℕ) → Place → Sym → List ℕ
+abbrev pub leaf_in : Table → List (List ℕ) → TermPlace → Sym → List ℕ
 leaf_in ops names (place.Whole max) x = leaf_text names x
 leaf_in ops names (place.Left max) x = if is_negative_symbol x then in_parentheses (leaf_text names x) else (if is_operator_symbol ops x then in_parentheses (leaf_text names x) else leaf_text names x)
 leaf_in ops names (place.Right max) x = if is_operator_symbol ops x then in_parentheses (leaf_text names x) else leaf_text names x
 leaf_in ops names place.Rest x = leaf_rest names x
 
 -- in the middle of a text: the next of these terms is to be written in this place, and the frames have what stands behind it
-pub record Expects (ops : Table) (names : List (List ℕ)) (whole : List ℕ) (frames : List Frame) (out : List ℕ) (place : Place) (ts : List Term) : Type 0 where
+pub record Expects (ops : Table) (names : List (List ℕ)) (whole : List ℕ) (frames : List PendingFrame) (out : List ℕ) (place : TermPlace) (ts : List Term) : Type 0 where
   pub count : length ts ≡ takes_in_all frames + 1
   pub text : whole ≡ out ++ next_in ops names place (resume ops names frames (λ ps. [])) (parts ops names (terms_of ts))
 
 -- in the middle of a text, or at its end
-abbrev pub Stands : Table → List (List ℕ) → List ℕ → List Frame → List ℕ → Option Place → List Term → Type 0
+abbrev pub Stands : Table → List (List ℕ) → List ℕ → List PendingFrame → List ℕ → Option TermPlace → List Term → Type 0
 Stands ops names whole frames out (Some place) ts = Expects ops names whole frames out place ts
 Stands ops names whole frames out None ts = whole ≡ out

@@ -8,7 +8,7 @@ ghost use Rattle.apd_write.specs.Pending.{AddsClosing, Leaves};
 ghost use Rattle.apd_write.specs.Writing.{between};
 
 use crate::names::write_name;
-use crate::pending::{Frame, Place};
+use crate::pending::{PendingFrame, TermPlace};
 use apd_base::Text;
 use apd_term::NameId;
 use apd_term::names::Names;
@@ -32,26 +32,26 @@ fn write_infix(names: &Names, name: NameId, out: &mut Text) -> Result<(), AllocE
 /// are without the frame.
 fn leave(
     names: &Names,
-    frame: Frame,
-    frames: &mut Vec<Frame>,
+    frame: PendingFrame,
+    frames: &mut Vec<PendingFrame>,
     out: &mut Text,
-) -> Result<Option<Place>, AllocError>
+) -> Result<Option<TermPlace>, AllocError>
     ensures { IfOk result (λ next. (ops : Table) →
         Leaves ops names.now frame frames.old.items frames.new.items out.old out.new next) }
 {
     match frame {
-        Frame::Arguments(left) if left > 0 => {
+        PendingFrame::Arguments(left) if left > 0 => {
             out.push(b',')?;
-            frames.push(Frame::Arguments(left - 1))?;
-            return Ok(Some(Place::Whole(999)));
+            frames.push(PendingFrame::Arguments(left - 1))?;
+            return Ok(Some(TermPlace::Whole(999)));
         }
-        Frame::Arguments(_) | Frame::ParenthesisEnd => out.push(b')')?,
-        Frame::ListEnd => out.push(b']')?,
-        Frame::CurlyEnd => out.push(b'}')?,
-        Frame::Rest => return Ok(Some(Place::Rest)),
-        Frame::Right { name, max } => {
+        PendingFrame::Arguments(_) | PendingFrame::ParenthesisEnd => out.push(b')')?,
+        PendingFrame::ListEnd => out.push(b']')?,
+        PendingFrame::CurlyEnd => out.push(b'}')?,
+        PendingFrame::Rest => return Ok(Some(TermPlace::Rest)),
+        PendingFrame::Right { name, max } => {
             write_infix(names, name, out)?;
-            return Ok(Some(Place::Right(max)));
+            return Ok(Some(TermPlace::Right(max)));
         }
     }
     Ok(None)
@@ -60,9 +60,9 @@ fn leave(
 /// Closes what a term ends, and tells the place of the next term, where there is one.
 pub(crate) fn close(
     names: &Names,
-    frames: &mut Vec<Frame>,
+    frames: &mut Vec<PendingFrame>,
     out: &mut Text,
-) -> Result<Option<Place>, AllocError>
+) -> Result<Option<TermPlace>, AllocError>
     ensures { IfOk result (λ next. (ops : Table) →
         AddsClosing ops names.now frames.old.items frames.new.items out.old out.new next) }
 {

@@ -6,7 +6,7 @@ ghost use Rattle.apd_write.specs.Writing.{in_parentheses};
 
 use crate::names::write_name;
 use crate::numbers::{write_integer, write_number};
-use crate::pending::Place;
+use crate::pending::TermPlace;
 use apd_base::Text;
 use apd_ops::Ops;
 use apd_term::Sym;
@@ -84,17 +84,19 @@ pub(crate) fn write_leaf(
     ops: &Ops,
     names: &Names,
     symbol: Sym,
-    place: Place,
+    place: TermPlace,
     out: &mut Text,
 ) -> Result<(), AllocError>
     ensures { OnOk result (out.new ≡ out.old ++ leaf_in ops.now names.now place symbol) }
 {
     match place {
-        Place::Left(_) if is_negative(symbol) => write_enclosed(names, symbol, out),
-        Place::Left(_) | Place::Right(_) if is_operator(ops, symbol) => {
+        TermPlace::Left(_) if is_negative(symbol) => write_enclosed(names, symbol, out),
+        TermPlace::Left(_) | TermPlace::Right(_) if is_operator(ops, symbol) => {
             write_enclosed(names, symbol, out)
         }
-        Place::Rest => write_rest(names, symbol, out),
-        Place::Whole(_) | Place::Left(_) | Place::Right(_) => { write_symbol(names, symbol, out) }
+        TermPlace::Rest => write_rest(names, symbol, out),
+        TermPlace::Whole(_) | TermPlace::Left(_) | TermPlace::Right(_) => {
+            write_symbol(names, symbol, out)
+        }
     }
 }

@@ -5,11 +5,11 @@ ghost use Rattle.apd_ops.specs.Operators.{left_of, right_of};
 ghost use Rattle.apd_term.specs.Names.{text_of_name};
 ghost use Rattle.apd_write.specs.NameTexts.{function_text, name_text};
 ghost use Rattle.apd_write.specs.Pending.{Opens, Puts, closing_frames, opening_mark};
-ghost use Rattle.apd_write.specs.declared.pending.Place.TheVariants as places;
-ghost use Rattle.apd_write.specs.declared.pending.Frame.TheVariants as pushed;
+ghost use Rattle.apd_write.specs.declared.pending.TermPlace.TheVariants as places;
+ghost use Rattle.apd_write.specs.declared.pending.PendingFrame.TheVariants as pushed;
 
 use crate::names::{write_function_name, write_name};
-use crate::pending::{Frame, Place};
+use crate::pending::{PendingFrame, TermPlace};
 use apd_base::Text;
 use apd_ops::{MOST_PRIORITY, Op, OpKind, Ops};
 use apd_term::NameId;
@@ -21,7 +21,7 @@ use std::alloc::AllocError;
 fn open_fitted(
     priority: u16,
     max: u16,
-    frames: &mut Vec<Frame>,
+    frames: &mut Vec<PendingFrame>,
     out: &mut Text,
 ) -> Result<(), AllocError>
     ensures text { OnOk result (out.new ≡ out.old ++ opening_mark priority max) }
@@ -30,7 +30,7 @@ fn open_fitted(
 {
     if priority > max {
         out.push(b'(')?;
-        frames.push(Frame::ParenthesisEnd)?;
+        frames.push(PendingFrame::ParenthesisEnd)?;
     }
     Ok(())
 }
@@ -40,9 +40,9 @@ fn open_function(
     names: &Names,
     name: NameId,
     count: u8,
-    frames: &mut Vec<Frame>,
+    frames: &mut Vec<PendingFrame>,
     out: &mut Text,
-) -> Result<Place, AllocError>
+) -> Result<TermPlace, AllocError>
     requires { 0 < count }
     ensures { IfOk result (λ next. Puts (function_text (text_of_name names.now name) ++ codes "(")
         (pushed.Arguments (count - 1) ∷ [])
@@ -50,8 +50,8 @@ fn open_function(
 {
     write_function_name(names.text(name), out)?;
     out.push(b'(')?;
-    frames.push(Frame::Arguments(count - 1))?;
-    Ok(Place::Whole(999))
+    frames.push(PendingFrame::Arguments(count - 1))?;
+    Ok(TermPlace::Whole(999))
 }
 
 /// A prefix operator before its operand.
@@ -59,9 +59,9 @@ fn open_prefix(
     names: &Names,
     operator: Op,
     max: u16,
-    frames: &mut Vec<Frame>,
+    frames: &mut Vec<PendingFrame>,
     out: &mut Text,
-) -> Result<Place, AllocError>
+) -> Result<TermPlace, AllocError>
     ensures { IfOk result (λ next. Puts (opening_mark operator.priority max ++
         (name_text (text_of_name names.now operator.name) ++ codes " "))
         (closing_frames operator.priority max)
@@ -70,57 +70,57 @@ fn open_prefix(
     open_fitted(operator.priority, max, frames, out)?;
     write_name(names.text(operator.name), out)?;
     out.push(b' ')?;
-    Ok(Place::Left(operator.right()))
+    Ok(TermPlace::Left(operator.right()))
 }
 
 /// An infix operator, whose left operand comes first.
 fn open_infix(
     operator: Op,
     max: u16,
-    frames: &mut Vec<Frame>,
+    frames: &mut Vec<PendingFrame>,
     out: &mut Text,
-) -> Result<Place, AllocError>
+) -> Result<TermPlace, AllocError>
     ensures { IfOk result (λ next. Puts (opening_mark operator.priority max)
         (closing_frames operator.priority max ++ pushed.Right operator.name
         (right_of operator) ∷ []) (places.Left
         (left_of operator)) frames.old.items frames.new.items out.old out.new next) }
 {
     open_fitted(operator.priority, max, frames, out)?;
-    frames.push(Frame::Right {
+    frames.push(PendingFrame::Right {
         name: operator.name,
         max: operator.right(),
     })?;
-    Ok(Place::Left(operator.left()))
+    Ok(TermPlace::Left(operator.left()))
 }
 
 /// A list, from its first element on.
-fn open_list(frames: &mut Vec<Frame>, out: &mut Text) -> Result<Place, AllocError>
+fn open_list(frames: &mut Vec<PendingFrame>, out: &mut Text) -> Result<TermPlace, AllocError>
     ensures { IfOk result (λ next. Puts (codes "[") (pushed.Rest ∷ [])
         (places.Whole 999) frames.old.items frames.new.items out.old out.new next) }
 {
     out.push(b'[')?;
-    frames.push(Frame::Rest)?;
-    Ok(Place::Whole(999))
+    frames.push(PendingFrame::Rest)?;
+    Ok(TermPlace::Whole(999))
 }
 
 /// A list's next element.
-fn open_further(frames: &mut Vec<Frame>, out: &mut Text) -> Result<Place, AllocError>
+fn open_further(frames: &mut Vec<PendingFrame>, out: &mut Text) -> Result<TermPlace, AllocError>
     ensures { IfOk result (λ next. Puts (codes ",") (pushed.Rest ∷ [])
         (places.Whole 999) frames.old.items frames.new.items out.old out.new next) }
 {
     out.push(b',')?;
-    frames.push(Frame::Rest)?;
-    Ok(Place::Whole(999))
+    frames.push(PendingFrame::Rest)?;
+    Ok(TermPlace::Whole(999))
 }
 
 /// A term in braces.
-fn open_curly(frames: &mut Vec<Frame>, out: &mut Text) -> Result<Place, AllocError>
+fn open_curly(frames: &mut Vec<PendingFrame>, out: &mut Text) -> Result<TermPlace, AllocError>
     ensures { IfOk result (λ next. Puts (codes "{") (pushed.CurlyEnd ∷ [])
         (places.Whole MOST_PRIORITY) frames.old.items frames.new.items out.old out.new next) }
 {
     out.push(b'{')?;
-    frames.push(Frame::CurlyEnd)?;
-    Ok(Place::Whole(MOST_PRIORITY))
+    frames.push(PendingFrame::CurlyEnd)?;
+    Ok(TermPlace::Whole(MOST_PRIORITY))
 }
 
 /// What stands before the first argument of a compound in a place for this priority.
@@ -130,9 +130,9 @@ fn open_compound(
     name: NameId,
     count: u8,
     max: u16,
-    frames: &mut Vec<Frame>,
+    frames: &mut Vec<PendingFrame>,
     out: &mut Text,
-) -> Result<Place, AllocError>
+) -> Result<TermPlace, AllocError>
     requires { 0 < count }
     ensures { IfOk result (λ next. Opens ops.now names.now name count
         (places.Whole max) frames.old.items frames.new.items out.old out.new next) }
@@ -172,22 +172,22 @@ pub(crate) fn open(
     names: &Names,
     name: NameId,
     count: u8,
-    place: Place,
-    frames: &mut Vec<Frame>,
+    place: TermPlace,
+    frames: &mut Vec<PendingFrame>,
     out: &mut Text,
-) -> Result<Place, AllocError>
+) -> Result<TermPlace, AllocError>
     requires { 0 < count }
     ensures { IfOk result
         (λ next. Opens ops.now names.now name count place frames.old.items frames.new.items out.old out.new next) }
 {
     match place {
-        Place::Whole(max) | Place::Left(max) | Place::Right(max) => {
+        TermPlace::Whole(max) | TermPlace::Left(max) | TermPlace::Right(max) => {
             open_compound(ops, names, name, count, max, frames, out)
         }
-        Place::Rest if name == CELL && count == 2 => open_further(frames, out),
-        Place::Rest => {
+        TermPlace::Rest if name == CELL && count == 2 => open_further(frames, out),
+        TermPlace::Rest => {
             out.push(b'|')?;
-            frames.push(Frame::ListEnd)?;
+            frames.push(PendingFrame::ListEnd)?;
             open_compound(ops, names, name, count, 999, frames, out)
         }
     }

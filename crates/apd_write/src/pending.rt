@@ -4,7 +4,7 @@ use apd_term::NameId;
 
 /// Where the next term stands, with the greatest priority that it may have there.
 #[derive(Clone, Copy)]
-pub(crate) enum Place {
+pub(crate) enum TermPlace {
     /// An argument, a list's element or tail, or all of a text or of a bracket.
     Whole(u16),
     /// The left operand of an infix operator, or the operand of a prefix operator.
@@ -17,7 +17,7 @@ pub(crate) enum Place {
 
 /// What stands behind the term that is written.
 #[derive(Clone, Copy)]
-pub(crate) enum Frame {
+pub(crate) enum PendingFrame {
     /// So many further arguments, and the closing parenthesis.
     Arguments(u8),
     /// The rest of a list.

@@ -9,7 +9,7 @@ ghost use Rattle.apd_write.specs.Writing.{written};
 use crate::closing::close;
 use crate::leaves::write_leaf;
 use crate::opening::open;
-use crate::pending::{Frame, Place};
+use crate::pending::{PendingFrame, TermPlace};
 use apd_base::Text;
 use apd_ops::Ops;
 use apd_term::names::Names;
@@ -21,10 +21,10 @@ fn write_next(
     ops: &Ops,
     names: &Names,
     symbol: Sym,
-    place: Place,
-    frames: &mut Vec<Frame>,
+    place: TermPlace,
+    frames: &mut Vec<PendingFrame>,
     out: &mut Text,
-) -> Result<Option<Place>, AllocError>
+) -> Result<Option<TermPlace>, AllocError>
     ensures { IfOk result (λ next. (whole : List ℕ) (rest : List Sym) → IsTerms (symbol ∷ rest) →
         Expects ops.now names.now whole frames.old.items out.old place (read_all (symbol ∷ rest)) →
         Stands ops.now names.now whole frames.new.items out.new next (read_all rest)) }
@@ -44,7 +44,7 @@ fn write_all(
     names: &Names,
     symbols: &[Sym],
     max: u16,
-    frames: &mut Vec<Frame>,
+    frames: &mut Vec<PendingFrame>,
     out: &mut Text,
 ) -> Result<(), AllocError>
     requires { IsWhole symbols.now }
@@ -52,7 +52,7 @@ fn write_all(
         (out.new ≡ out.old ++ written ops.now names.now (term_of symbols.now) max) }
 {
     frames.clear();
-    let mut place = Place::Whole(max);
+    let mut place = TermPlace::Whole(max);
     'symbols: for symbol in symbols {
         match write_next(ops, names, *symbol, place, frames, out)? {
             Some(next) => place = next,
@@ -65,7 +65,7 @@ fn write_all(
 /// What writes terms one after another. It keeps the room that it takes for what is still to be written, so it takes it once.
 #[derive(Drop)]
 pub struct Pen {
-    frames: Vec<Frame>,
+    frames: Vec<PendingFrame>,
 }
 
 impl Pen {

@@ -14,7 +14,7 @@ use Rattle.apd_ops.specs.Table.{Table}
 use Rattle.apd_read.specs.Reader.{Reader}
 use Rattle.apd_text.specs.Lines.{error_name, end_of, end_text}
 use Rattle.apd_claims.specs.declared.claim.Claim.TheVariants.{Ends}
-use Rattle.apd_claims.specs.declared.form.Form.TheVariants.{End, Unread}
+use Rattle.apd_claims.specs.declared.form.LineForm.TheVariants.{End, Unread}
 use Rattle.apd_claims.specs.Forms.{is_shown, shown, answers_in, counts_in, boxed_in, ran_in, if_end, form_in}
 use Rattle.apd_parts.specs.Parts.{Led, if_some}
 use Rattle.apd_claims.specs.Sayable.{IsShown}

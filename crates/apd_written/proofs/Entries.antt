@@ -8,8 +8,8 @@ use Rattle.apd_read.specs.Reader.{Reader}
 use Rattle.apd_term.specs.Term.{Term}
 use Rattle.apd_text.specs.Entries.{text_of}
 use Rattle.apd_text.specs.declared.entry.Entry.{Entry}
-use Rattle.apd_claims.specs.declared.form.Form.TheVariants.{Framed}
-use Rattle.apd_claims.specs.declared.form.Frame.{Frame}
+use Rattle.apd_claims.specs.declared.form.LineForm.TheVariants.{Framed}
+use Rattle.apd_claims.specs.declared.form.LineFrame.{LineFrame}
 use Rattle.apd_claims.specs.Claims.{claim_as, claim_of, entry_for, or_garbled, written}
 use Rattle.apd_claims.specs.Forms.{form_in, with_newline}
 use Rattle.apd_claims.specs.Parting.{called_by}
@@ -28,7 +28,7 @@ claim-back ops names text e same = ap or_garbled (written-back ops names text e 
 module _ {names : List (List ℕ)} (reader : Reader names) (ops : Table) where
   -- a line with one term in it, which reads back
   pub record IsFramed (line : List ℕ) (e : Entry) : Type 0 where
-    pub frame : Frame
+    pub frame : LineFrame
     pub text : List ℕ
     pub term : Term
     pub form : form_in line ≡ Framed frame text

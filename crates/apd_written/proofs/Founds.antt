@@ -18,8 +18,8 @@ use Rattle.apd_text.specs.declared.entry.Entry.TheVariants as entry
 use Rattle.apd_write.specs.Writing.{written}
 use Rattle.apd_reading_back.specs.Law.{AreNames}
 use Rattle.apd_claims.specs.declared.claim.Claim.TheVariants.{Descends}
-use Rattle.apd_claims.specs.declared.form.Form.TheVariants.{Framed, Descent, Unread}
-use Rattle.apd_claims.specs.declared.form.Frame.TheVariants.{Instance, Uncovered as OfGoal}
+use Rattle.apd_claims.specs.declared.form.LineForm.TheVariants.{Framed, Descent, Unread}
+use Rattle.apd_claims.specs.declared.form.LineFrame.TheVariants.{Instance, Uncovered as OfGoal}
 use Rattle.apd_claims.specs.Forms.{form_in, placed_form}
 use Rattle.apd_parts.specs.Parts.{Led, if_some, led_by}
 use Rattle.apd_claims.specs.Parting.{called_by}

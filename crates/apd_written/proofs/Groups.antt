@@ -16,7 +16,7 @@ use Rattle.apd_text.specs.declared.entry.Entry.TheVariants as entry
 use Rattle.apd_write.specs.Writing.{written}
 use Rattle.apd_reading_back.specs.Law.{AreNames}
 use Rattle.apd_claims.specs.declared.claim.Claim.TheVariants.{Finds}
-use Rattle.apd_claims.specs.declared.form.Form.TheVariants as forms
+use Rattle.apd_claims.specs.declared.form.LineForm.TheVariants as forms
 use Rattle.apd_claims.specs.Claims.{claim_as}
 use Rattle.apd_claims.specs.Forms.{form_in, with_newline}
 use Rattle.apd_claims.specs.Parting.{called_by}

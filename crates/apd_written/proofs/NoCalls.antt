@@ -16,8 +16,8 @@ use Rattle.apd_parts.specs.declared.boxes.Quote.TheVariants.{Outside}
 use Rattle.apd_claims.specs.declared.claim.Claim.{Claim}
 use Rattle.apd_claims.specs.declared.claim.Claim.TheVariants.{Runs, Ends, Tells, Asks, Replies, Finds, Descends, Nothing, Garbled}
 use Rattle.apd_claims.specs.declared.form.Calling.{Calling}
-use Rattle.apd_claims.specs.declared.form.Form.{Form}
-use Rattle.apd_claims.specs.declared.form.Form.TheVariants.{Query, End, Symptom, Framed, Call, Candidates, Candidate, Descent, Other, Unread}
+use Rattle.apd_claims.specs.declared.form.LineForm.{LineForm}
+use Rattle.apd_claims.specs.declared.form.LineForm.TheVariants.{Query, End, Symptom, Framed, Call, Candidates, Candidate, Descent, Other, Unread}
 
 -- neither a finding nor garbled
 abbrev pub IsNoCall : Claim → Type 0
@@ -64,7 +64,7 @@ module _ {names : List (List ℕ)} (reader : Reader names) (ops : Table) (whole 
       (between-call (boxed_in Outside text)) (between-call (boxed_where (may_end reader ops) Outside [] text))
 
 module _ {names : List (List ℕ)} (reader : Reader names) (ops : Table) (in_group : Bool) (line : List ℕ) (lines : List (List ℕ)) where
-  by-form : (f : Form) → IsNoCall (claim_by reader ops in_group line lines f) → called_by line f ≡ None
+  by-form : (f : LineForm) → IsNoCall (claim_by reader ops in_group line lines f) → called_by line f ≡ None
   by-form (Call c text) n = absurd (garbled-call (call_in reader ops (with_newline line) c text) (in-call reader ops (with_newline line) c text) n)
   by-form (Query goals) n = refl
   by-form (End ran) n = refl

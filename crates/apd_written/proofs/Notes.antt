@@ -19,7 +19,7 @@ use Rattle.apd_text.specs.declared.entry.Reason.TheVariants as reason
 use Rattle.apd_text.specs.declared.entry.Told.TheVariants.{NoEnd}
 use Rattle.apd_text.specs.declared.entry.Entry.TheVariants.{PassedOver, Warning, Loaded, OracleLoaded, ReferenceLoaded, TraceSet, Symptom, BadReply, Unanswered, CheckHolds, CheckFails}
 use Rattle.apd_ports.specs.declared.filter.Filter.{Filter}
-use Rattle.apd_claims.specs.declared.form.Form.TheVariants.{Other}
+use Rattle.apd_claims.specs.declared.form.LineForm.TheVariants.{Other}
 use Rattle.apd_claims.specs.Forms.{form_in}
 use Rattle.apd_claims.specs.Saying.{is_candidate}
 use Rattle.apd_written.specs.Claims.{claims_of}

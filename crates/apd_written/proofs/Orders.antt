@@ -39,7 +39,7 @@ use Rattle.apd_reading_back.proofs.Utf8Names.{has_utf8}
 use Rattle.apd_term.proofs.Utf8Texts.{utf8_text}
 use Rattle.apd_reading_back.proofs.Read.{kept_names, stop, words_read_back, standard_text}
 use Rattle.apd_reading_back.proofs.Lexed.{lexed_stand}
-use Rattle.apd_claims.specs.declared.form.Frame.TheVariants.{Order}
+use Rattle.apd_claims.specs.declared.form.LineFrame.TheVariants.{Order}
 use Rattle.apd_claims.specs.Reading.{as_clause}
 use Rattle.apd_written.specs.Texts.{IsLineShort, IsShort, order_term, order_text}
 use Rattle.apd_written.proofs.Saying.{break-append}

@@ -21,10 +21,10 @@ use Rattle.apd_text.specs.Entries.{text_of}
 use Rattle.apd_text.specs.declared.entry.Entry.TheVariants as entry
 use Rattle.apd_write.specs.Writing.{written}
 use Rattle.apd_reading_back.specs.Law.{AreNames}
-use Rattle.apd_claims.specs.declared.form.Form.TheVariants.{Framed, Unread}
-use Rattle.apd_claims.specs.declared.form.Frame.{Frame}
-use Rattle.apd_claims.specs.declared.form.Frame.TheVariants.{Truth, Cover}
-use Rattle.apd_claims.specs.declared.form.Numbered.{Numbered}
+use Rattle.apd_claims.specs.declared.form.LineForm.TheVariants.{Framed, Unread}
+use Rattle.apd_claims.specs.declared.form.LineFrame.{LineFrame}
+use Rattle.apd_claims.specs.declared.form.LineFrame.TheVariants.{Truth, Cover}
+use Rattle.apd_claims.specs.declared.form.NumberedQuestion.{NumberedQuestion}
 use Rattle.apd_claims.specs.Claims.{asked as asked_entry, entry_for}
 use Rattle.apd_claims.specs.Forms.{asked_form, counted_form, form_in, kind_form}
 use Rattle.apd_parts.specs.Parts.{counted, if_some, uncounted}
@@ -83,18 +83,18 @@ suspects-break : (s : Option ℕ) → IsFewLeft s → HasNoBreak (suspects_text 
 suspects-break None k = tt
 suspects-break (Some m) k = break-append (codes " [" ++ decimal m) (codes " suspects]") (break-append (codes " [") (decimal m) (codes-break (codes " [") refl) (decimal-break m)) (codes-break (codes " suspects]") refl)
 
-place_of : ℕ → Option ℕ → Numbered
+place_of : ℕ → Option ℕ → NumberedQuestion
 place_of n suspects = record { number = n; suspects = suspects }
 
 module _ {names : List (List ℕ)} (reader : Reader names) (ops : Table) where
   -- a question that is read from its own text
   pub record IsReadable (q : Question) : Type 0 where
-    pub frame : Numbered → Frame
+    pub frame : NumberedQuestion → LineFrame
     pub text : List ℕ
     pub term : Term
-    pub kind : (place : Numbered) → kind_form place (asked_text ops names q) ≡ Framed (frame place) text
+    pub kind : (place : NumberedQuestion) → kind_form place (asked_text ops names q) ≡ Framed (frame place) text
     pub read : term_in reader ops text ≡ Some term
-    pub as_asked : (place : Numbered) → entry_for (frame place) term ≡ Some (asked_entry place (canonical_question q))
+    pub as_asked : (place : NumberedQuestion) → entry_for (frame place) term ≡ Some (asked_entry place (canonical_question q))
     pub line : HasNoBreak (asked_text ops names q)
 
   module _ (n : ℕ) (x : Asked) (few : n < 2 ^ 64) (l : IsFewLeft x.suspects) (u : counted (codes " suspects]") (asked_text ops names x.question) ≡ uncounted (asked_text ops names x.question)) (r : IsReadable x.question) where

@@ -22,7 +22,7 @@ use Rattle.apd_text.specs.Lines.{joined, goal_text, goals_of, head_text, port_na
 use Rattle.apd_query.specs.Runs.{next_admission, shown_text, run_text}
 use Rattle.apd_reading_back.specs.Law.{AreNames}
 use Rattle.apd_claims.specs.declared.claim.Claim.TheVariants.{Runs, Ends, Nothing}
-use Rattle.apd_claims.specs.declared.form.Form.TheVariants.{Other}
+use Rattle.apd_claims.specs.declared.form.LineForm.TheVariants.{Other}
 use Rattle.apd_claims.specs.Forms.{form_in}
 use Rattle.apd_claims.specs.Saying.{claim_by, is_candidate}
 use Rattle.apd_written.specs.Claims.{query_written}

@@ -22,7 +22,7 @@ use Rattle.apd_text.specs.Entries.{at_byte, in_line, refusal_text, text_of, usag
 use Rattle.apd_text.specs.declared.entry.Refusal.{Refusal}
 use Rattle.apd_text.specs.declared.entry.Refusal.TheVariants as refusal
 use Rattle.apd_text.specs.declared.entry.Entry.TheVariants.{Refused, Demo, UsageRefused, ProgramRefused, OracleRefused, ReferenceRefused, FileTooLong, InputFault, InputOver}
-use Rattle.apd_claims.specs.declared.form.Form.TheVariants.{Other}
+use Rattle.apd_claims.specs.declared.form.LineForm.TheVariants.{Other}
 use Rattle.apd_claims.specs.Forms.{form_in}
 use Rattle.apd_claims.specs.Saying.{is_candidate}
 use Rattle.apd_written.specs.Claims.{claims_of}

@@ -25,8 +25,8 @@ use Rattle.apd_reading_back.specs.Law.{AreNames, IsWritable, ReadsAs, item_text}
 use Rattle.apd_reading_back.specs.Queries.{call_text, call_term}
 use Rattle.apd_reading_back.proofs.Goals.{calls_read_back}
 use Rattle.apd_reading_back.proofs.Read.{items_read_back, standard_text}
-use Rattle.apd_claims.specs.declared.form.Form.TheVariants.{Framed}
-use Rattle.apd_claims.specs.declared.form.Frame.TheVariants.{Reply as Answer}
+use Rattle.apd_claims.specs.declared.form.LineForm.TheVariants.{Framed}
+use Rattle.apd_claims.specs.declared.form.LineFrame.TheVariants.{Reply as Answer}
 use Rattle.apd_claims.specs.Claims.{replied, reply_in}
 use Rattle.apd_claims.specs.Forms.{form_in, framed_reply, reply_form}
 use Rattle.apd_parts.specs.Parts.{before, counted, if_some, last_part}

@@ -21,7 +21,7 @@ use Rattle.apd_reading_back.specs.Law.{AreNames}
 use Rattle.apd_reading_back.specs.Queries.{goals_text, query_text, conjoined, query_term}
 use Rattle.apd_reading_back.proofs.Goals.{queries_read_back}
 use Rattle.apd_claims.specs.declared.claim.Claim.TheVariants.{Runs, Garbled}
-use Rattle.apd_claims.specs.declared.form.Form.TheVariants.{Query as IsQuery}
+use Rattle.apd_claims.specs.declared.form.LineForm.TheVariants.{Query as IsQuery}
 use Rattle.apd_claims.specs.Claims.{query_told, query_claim, run_claim}
 use Rattle.apd_claims.specs.Forms.{form_in}
 use Rattle.apd_parts.specs.Parts.{if_some}

@@ -12,7 +12,7 @@ use Rattle.apd_text.specs.declared.entry.Told.TheVariants.{Wrong, Missing}
 use Rattle.apd_reading_back.specs.Law.{AreNames}
 use Rattle.apd_reading_back.proofs.Read.{items_read_back}
 use Rattle.apd_claims.specs.declared.claim.Claim.TheVariants.{Garbled}
-use Rattle.apd_claims.specs.declared.form.Form.TheVariants as forms
+use Rattle.apd_claims.specs.declared.form.LineForm.TheVariants as forms
 use Rattle.apd_claims.specs.Claims.{told}
 use Rattle.apd_claims.specs.Forms.{form_in}
 use Rattle.apd_claims.specs.Parting.{called_by}

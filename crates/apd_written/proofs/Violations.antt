@@ -20,7 +20,7 @@ use Rattle.apd_text.specs.declared.entry.Entry.{Entry}
 use Rattle.apd_text.specs.declared.entry.Entry.TheVariants as entry
 use Rattle.apd_claims.specs.declared.claim.Claim.TheVariants.{Finds}
 use Rattle.apd_claims.specs.declared.form.Calling.{Calling}
-use Rattle.apd_claims.specs.declared.form.Form.TheVariants.{Call, Unread}
+use Rattle.apd_claims.specs.declared.form.LineForm.TheVariants.{Call, Unread}
 use Rattle.apd_claims.specs.declared.parting.CallLine.{CallLine}
 use Rattle.apd_claims.specs.Claims.{call_entry, called, written}
 use Rattle.apd_claims.specs.Forms.{call_line_form, caller_form, form_in, goal_form, with_newline}

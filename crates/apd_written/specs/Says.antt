@@ -9,7 +9,7 @@ use Rattle.apd_answers.specs.declared.finding.Finding.{Finding}
 use Rattle.apd_claims.specs.declared.claim.Claim.TheVariants.{Finds, Nothing}
 use Rattle.apd_claims.specs.declared.parting.CallLine.{CallLine}
 use Rattle.apd_claims.specs.Parting.{called_in, claim_parted}
-use Rattle.apd_claims.specs.declared.form.Form.TheVariants.{Candidate}
+use Rattle.apd_claims.specs.declared.form.LineForm.TheVariants.{Candidate}
 use Rattle.apd_claims.specs.Forms.{form_in}
 use Rattle.apd_claims.specs.Sayable.{BeginsWithNone}
 use Rattle.apd_claims.specs.Saying.{begins, claim_at, is_candidate}

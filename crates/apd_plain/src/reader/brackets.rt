@@ -5,14 +5,14 @@ use crate::reader::words::{atom, pair};
 use apd_ops::{MOST_PRIORITY, Op};
 use apd_term::standard::{CELL, CURLY, NIL};
 use apd_term::{Atoms, Flat, NameId};
-use apd_token::Kind;
+use apd_token::TokenKind;
 use std::alloc::{AllocError, Global};
 
 /// An open bracket with what was read inside.
 #[derive(Drop)]
 pub struct Bracket {
     /// The token that opened it; `End` for the clause itself.
-    pub opened: Kind,
+    pub opened: TokenKind,
     /// The place of that token.
     pub start: u32,
     /// The name directly before a parenthesis, if these are its arguments.
@@ -26,7 +26,7 @@ pub struct Bracket {
 }
 
 impl Bracket {
-    pub fn new(alloc: Global, opened: Kind, start: u32, call: Option<NameId>) -> Bracket {
+    pub fn new(alloc: Global, opened: TokenKind, start: u32, call: Option<NameId>) -> Bracket {
         Bracket {
             opened,
             start,
@@ -40,8 +40,8 @@ impl Bracket {
     /// The greatest priority of an item.
     fn most(&self) -> u16 {
         match self.opened {
-            Kind::End | Kind::OpenCurly => MOST_PRIORITY,
-            Kind::Open if self.call.is_none() => MOST_PRIORITY,
+            TokenKind::End | TokenKind::OpenCurly => MOST_PRIORITY,
+            TokenKind::Open if self.call.is_none() => MOST_PRIORITY,
             _ => 999,
         }
     }
@@ -51,12 +51,12 @@ impl Bracket {
         self.most() == 999
     }
 
-    pub fn is_closed_by(&self, kind: Kind) -> bool {
+    pub fn is_closed_by(&self, kind: TokenKind) -> bool {
         match (self.opened, kind) {
-            (Kind::End, Kind::End)
-            | (Kind::Open, Kind::Close)
-            | (Kind::OpenList, Kind::CloseList)
-            | (Kind::OpenCurly, Kind::CloseCurly) => true,
+            (TokenKind::End, TokenKind::End)
+            | (TokenKind::Open, TokenKind::Close)
+            | (TokenKind::OpenList, TokenKind::CloseList)
+            | (TokenKind::OpenCurly, TokenKind::CloseCurly) => true,
             _ => false,
         }
     }
@@ -95,9 +95,9 @@ impl Bracket {
     pub fn whole(&mut self, alloc: Global) -> Result<Option<Part>, AllocError> {
         match (self.call, self.opened) {
             (Some(name), _) => call(alloc, name, self.done.as_slice()),
-            (None, Kind::OpenCurly) => call(alloc, CURLY, self.done.as_slice()),
-            (None, Kind::OpenList) => Ok(Some(self.list(alloc)?)),
-            (None, Kind::Open) => match self.done.pop() {
+            (None, TokenKind::OpenCurly) => call(alloc, CURLY, self.done.as_slice()),
+            (None, TokenKind::OpenList) => Ok(Some(self.list(alloc)?)),
+            (None, TokenKind::Open) => match self.done.pop() {
                 Some(part) => Ok(Some(deeper(part))),
                 None => Ok(None),
             },

@@ -5,7 +5,7 @@ use apd_causes::ReadFault;
 use apd_ops::{Op, OpKind, Ops};
 use apd_term::standard::{CURLY, MINUS, NIL};
 use apd_term::{Flat, NameId};
-use apd_token::Kind;
+use apd_token::TokenKind;
 use std::alloc::{AllocError, Global};
 
 /// What begins in operand place, with how many tokens it is.
@@ -13,7 +13,7 @@ use std::alloc::{AllocError, Global};
 pub enum Begin {
     Operand(Flat, usize),
     /// A bracket, with the name before it if that takes what is inside as its arguments.
-    Opens(Option<NameId>, Kind, usize),
+    Opens(Option<NameId>, TokenKind, usize),
     Prefix(Op),
 }
 
@@ -49,7 +49,7 @@ impl<'a> Clause<'a> {
         }
     }
 
-    fn kind(&self, at: usize) -> Option<Kind> {
+    fn kind(&self, at: usize) -> Option<TokenKind> {
         let word = self.words.get(at)?;
         Some(word.kind)
     }
@@ -66,7 +66,7 @@ impl<'a> Clause<'a> {
     /// Whether an opening parenthesis that isn't spaced stands at the place.
     fn is_direct(&self, at: usize) -> bool {
         match self.words.get(at) {
-            Some(word) => word.kind == Kind::Open && !word.spaced,
+            Some(word) => word.kind == TokenKind::Open && !word.spaced,
             None => false,
         }
     }
@@ -77,13 +77,13 @@ impl<'a> Clause<'a> {
             return false;
         };
         match word.kind {
-            Kind::End
-            | Kind::Close
-            | Kind::CloseList
-            | Kind::CloseCurly
-            | Kind::Comma
-            | Kind::Bar => true,
-            Kind::Name | Kind::Quoted => {
+            TokenKind::End
+            | TokenKind::Close
+            | TokenKind::CloseList
+            | TokenKind::CloseCurly
+            | TokenKind::Comma
+            | TokenKind::Bar => true,
+            TokenKind::Name | TokenKind::Quoted => {
                 self.infix(word).is_some()
                     && self.prefix(word).is_none()
                     && !self.is_direct(at.saturating_add(1))
@@ -97,7 +97,9 @@ impl<'a> Clause<'a> {
         let minus = self.words.get(at)?;
         let next = self.words.get(at.saturating_add(1))?;
         match (minus.kind, minus.name, next.kind) {
-            (Kind::Name, Some(MINUS), Kind::Integer(value)) if !next.spaced => negative(value),
+            (TokenKind::Name, Some(MINUS), TokenKind::Integer(value)) if !next.spaced => negative(
+                value,
+            ),
             _ => None,
         }
     }
@@ -108,7 +110,7 @@ impl<'a> Clause<'a> {
             return Ok(Begin::Operand(Flat::integer(alloc, value)?, 2));
         }
         if self.is_direct(next) {
-            return Ok(Begin::Opens(Some(name), Kind::Open, 2));
+            return Ok(Begin::Opens(Some(name), TokenKind::Open, 2));
         }
         match operator(Some(name), self.ops.prefix(name)) {
             Some(o) if !self.stands_alone(next) => Ok(Begin::Prefix(o)),
@@ -123,21 +125,22 @@ impl<'a> Clause<'a> {
         };
         let next = self.kind(at.saturating_add(1));
         match (word.kind, word.name, &word.term) {
-            (Kind::Name | Kind::Quoted, Some(name), _) => self.name_begins(alloc, at, name),
+            (TokenKind::Name | TokenKind::Quoted, Some(name), _) => self.name_begins(
+                alloc, at, name,
+            ),
             (_, None, Some(term)) => Ok(Begin::Operand(term.copy(alloc)?, 1)),
-            (Kind::Integer(value), _, _) => match i64::try_from(value) {
+            (TokenKind::Integer(value), _, _) => match i64::try_from(value) {
                 Ok(value) => Ok(Begin::Operand(Flat::integer(alloc, value)?, 1)),
                 Err(_) => Err(ReadFault::Wide(word.start)),
             },
-            (Kind::OpenList, _, _) if next == Some(Kind::CloseList) => Ok(Begin::Operand(
+            (TokenKind::OpenList, _, _) if next == Some(TokenKind::CloseList) => Ok(Begin::Operand(
                 atom(alloc, NIL)?,
                 2,
             )),
-            (Kind::OpenCurly, _, _) if next == Some(Kind::CloseCurly) => Ok(Begin::Operand(
-                atom(alloc, CURLY)?,
-                2,
-            )),
-            (Kind::Open | Kind::OpenList | Kind::OpenCurly, _, _) => Ok(Begin::Opens(
+            (TokenKind::OpenCurly, _, _) if next == Some(TokenKind::CloseCurly) => Ok(
+                Begin::Operand(atom(alloc, CURLY)?, 2),
+            ),
+            (TokenKind::Open | TokenKind::OpenList | TokenKind::OpenCurly, _, _) => Ok(Begin::Opens(
                 None, word.kind, 1,
             )),
             _ => Err(ReadFault::NoTerm(word.start)),

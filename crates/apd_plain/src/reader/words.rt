@@ -7,13 +7,13 @@ ghost use Rattle.apd_base.specs.declared.limits.TheConstants.{MAX_FILE};
 use apd_base::Text;
 use apd_term::standard::{CELL, COMMA, NIL};
 use apd_term::{Atoms, Flat, NameId, Names};
-use apd_token::{Kind, Token, Tokens, content};
+use apd_token::{Token, TokenKind, Tokens, content};
 use std::alloc::{AllocError, Global};
 
 /// A token.
 #[derive(Drop)]
 pub struct Word {
-    pub kind: Kind,
+    pub kind: TokenKind,
     /// Whether layout or a comment stands directly before it.
     pub spaced: bool,
     /// The place of its first byte in the text.
@@ -132,11 +132,11 @@ fn meaning(
     requires token { IsTokenOf text.now token.now }
 {
     match token.kind {
-        Kind::Name => name_of(alloc, names, text, token),
-        Kind::Quoted => name_of(alloc, names, text, token),
-        Kind::Codes => codes_of(alloc, text, token),
-        Kind::Variable => variable_of(alloc, text, token, vars),
-        Kind::Comma => Ok((Some(COMMA), None)),
+        TokenKind::Name => name_of(alloc, names, text, token),
+        TokenKind::Quoted => name_of(alloc, names, text, token),
+        TokenKind::Codes => codes_of(alloc, text, token),
+        TokenKind::Variable => variable_of(alloc, text, token, vars),
+        TokenKind::Comma => Ok((Some(COMMA), None)),
         _ => Ok((None, None)),
     }
 }
@@ -180,7 +180,7 @@ pub fn words(
             return Ok(words);
         };
         words.push(word_of(alloc, names, text, token, &mut vars)?)?;
-        if token.kind == Kind::End {
+        if token.kind == TokenKind::End {
             return Ok(words);
         }
     }

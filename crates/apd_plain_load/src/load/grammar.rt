@@ -33,7 +33,7 @@ impl Making {
     }
 
     /// Adds a goal that goes to the next state.
-    fn go_on(&mut self, goal: Flat) -> Result<(), AllocError> {
+    fn add_goal(&mut self, goal: Flat) -> Result<(), AllocError> {
         self.goals.push(goal)?;
         self.state = self.next();
         Ok(())
@@ -238,7 +238,7 @@ fn add_moving(
             longer(alloc, part, from, to)?
         }
     };
-    making.go_on(goal)?;
+    making.add_goal(goal)?;
     Ok(())
 }
 
@@ -278,7 +278,7 @@ fn add_body(
     if making.state == first {
         making.make_room()?;
         let goal = equation(alloc, &[], first, making.next())?;
-        making.go_on(goal)?;
+        making.add_goal(goal)?;
     }
     Ok(())
 }

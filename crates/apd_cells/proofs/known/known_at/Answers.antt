@@ -1,5 +1,5 @@
 use Rattle.std.proofs.Common.{subst, sym}
-use Rattle.apd_cells.specs.declared.known.Known.{Known}
+use Rattle.apd_cells.specs.declared.known.KnownExtent.{KnownExtent}
 use Rattle.apd_cells.specs.Known.{HasExtent}
 use Rattle.apd_cells.proofs.Sizing.{known_there}
 use Rattle.apd_cells.proofs.known.known_at.Goals as goal
@@ -7,5 +7,5 @@ use Rattle.apd_cells.proofs.known.known_at.Goals as goal
 pub returns : goal.returns
 returns c = λ s n a l h.
     subst (λ cell. HasExtent s cell c.read-found.result.extent) c.if-found-cell.false
-    (subst (λ (k : Known). HasExtent s k.cell k.extent) (sym c.read-found.ensures)
+    (subst (λ (k : KnownExtent). HasExtent s k.cell k.extent) (sym c.read-found.ensures)
     (known_there s n a c.args.known.now c.args.place c.in_ok-kept.kept.now l h c.in_ok-kept.ensures))

@@ -9,7 +9,7 @@ use Rattle.apd_claims.specs.Saying.{claim_at}
 use Rattle.apd_claims.specs.declared.parting.CallLine.{CallLine}
 use Rattle.apd_check.specs.Checked.{IsFoundIn}
 use Rattle.apd_check.specs.Steps.{IsKept, KnowsDescent, Takes}
-use Rattle.apd_check.specs.declared.state.State.{State}
+use Rattle.apd_check.specs.declared.state.LogState.{LogState}
 use Rattle.apd_check.proofs.Taking.{call-stays, call-taken}
 use Rattle.apd_check.proofs.lines.take_line.Goals as goal
 
@@ -34,14 +34,14 @@ returns-clause-few c = λ l. c.judge_call.ensures.few (c.is_found.ensures.few l)
 pub returns-clause-taken : goal.returns-clause-taken
 returns-clause-taken c = λ n grew reader.
     let is = c.in_ok-found.ensures.found n (grown-twice c.is_found.new.names c.judge_call.new.names n c.judge_call.ensures.names grew) reader in
-    subst (λ (s : State). Takes c.args.source.now.program.now c.args.course.now.state (claim_at reader c.args.source.now.ops.now c.args.place.now.in_group c.args.place.now.line.now (lines_of c.args.place.now.rest.now))
+    subst (λ (s : LogState). Takes c.args.source.now.program.now c.args.course.now.state (claim_at reader c.args.source.now.ops.now c.args.place.now.in_group c.args.place.now.line.now (lines_of c.args.place.now.rest.now))
     (option_map (claim_parted reader c.args.source.now.ops.now) (called_in c.args.place.now.line.now)) s 1 c.in_ok-why.why) (sym c.prepare.ensures)
     (subst (λ (o : Option CallLine). Takes c.args.source.now.program.now c.args.course.now.state (claim_at reader c.args.source.now.ops.now c.args.place.now.in_group c.args.place.now.line.now (lines_of c.args.place.now.rest.now))
     (option_map (claim_parted reader c.args.source.now.ops.now) o) c.args.course.now.state 1 c.in_ok-why.why) (sym c.in-Some.is ∙ c.in_ok-call.ensures)
     (call-taken c.args.source.now.program.now c.args.course.now.state (claim_at reader c.args.source.now.ops.now c.args.place.now.in_group c.args.place.now.line.now (lines_of c.args.place.now.rest.now)) (claim_parted reader c.args.source.now.ops.now c.in-Some.call) c.in_ok-found.found c.in_ok-why.why
-    (subst (λ (s : State). IsTrue c.in_ok-found.found ↔ IsFoundIn c.args.source.now.program.now s (claim_parted reader c.args.source.now.ops.now c.in-Some.call)) c.prepare.ensures is) (c.in_ok-why.ensures.why n grew reader)))
+    (subst (λ (s : LogState). IsTrue c.in_ok-found.found ↔ IsFoundIn c.args.source.now.program.now s (claim_parted reader c.args.source.now.ops.now c.in-Some.call)) c.prepare.ensures is) (c.in_ok-why.ensures.why n grew reader)))
 
 pub returns-clause-stays : goal.returns-clause-stays
 returns-clause-stays c =
     call-stays c.args.source.now.program.now _ c.in_ok-why.why (subst IsKept (sym c.prepare.ensures) c.requires.kept)
-    (subst (λ (s : State). KnowsDescent c.args.source.now.program.now s c.args.course.now.descent) (sym c.prepare.ensures) c.requires.known)
+    (subst (λ (s : LogState). KnowsDescent c.args.source.now.program.now s c.args.course.now.descent) (sym c.prepare.ensures) c.requires.known)

@@ -1,5 +1,5 @@
 use Rattle.std.proofs.Common.{List, ◌+◌, ◌++◌, ◌∙◌, ap, length, vec_len}
-use Rattle.apd_divide.specs.declared.growing.Pending.{Pending}
+use Rattle.apd_divide.specs.declared.growing.PendingCall.{PendingCall}
 use Rattle.apd_divide.specs.Growing.{stacked}
 use Rattle.apd_divide.proofs.Grown.{exit_there}
 use Rattle.apd_divide.proofs.Referring.{ground_calls, ground_done, ground_instance, ground_solved}
@@ -25,6 +25,6 @@ returns c =
     let calls = ground_calls c.args.recorded.now c.args.next.now.exit.0 c.args.next.now.label c.args.pred c.of_exit-goals.result c.requires.exit c.of_exit-goals.ensures in
     record {
       tuple = c.of_exit.ensures ∙ ground_instance c.args.recorded.now c.args.next.now.exit.0 c.args.next.now.label c.args.pred c.requires.exit;
-      pending = c.in_ok-push_calls.ensures.calls ∙ ap (λ (xs : List Pending). c.args.pending.now.items ++ stacked xs) calls;
-      len = c.in_ok-push_calls.ensures.len ∙ ap (λ (xs : List Pending). vec_len c.args.pending.now + length xs) calls;
+      pending = c.in_ok-push_calls.ensures.calls ∙ ap (λ (xs : List PendingCall). c.args.pending.now.items ++ stacked xs) calls;
+      len = c.in_ok-push_calls.ensures.len ∙ ap (λ (xs : List PendingCall). vec_len c.args.pending.now + length xs) calls;
     }

@@ -1,6 +1,6 @@
 use Rattle.std.proofs.Common.{get_or, sym, ◌∙◌, ap, arith}
 use Rattle.std.proofs.lemmas.List.{get_or_default, length-set}
-use Rattle.apd_divide.specs.declared.node.Row.{Row}
+use Rattle.apd_divide.specs.declared.node.NodeRow.{NodeRow}
 use Rattle.apd_divide.specs.declared.node.Standing.TheVariants.{Cleared}
 use Rattle.apd_divide.specs.Choice.{is_listed}
 use Rattle.apd_divide.specs.Kept.{forest_from}
@@ -35,7 +35,7 @@ pub rows-preserved-then-is_listed_suspect : goal.rows-preserved-then-is_listed_s
 rows-preserved-then-is_listed_suspect c =
     let s = clears_at (is_listed c.args.preds.now) (forest_from c.args.rows.now) c.rows.rows c.rows.at (get_or c.rows.rows c.rows.at c.index-rows-at.result) c.rows-test.true c.rows.invariant (ap (λ x. get_or c.rows.rows c.rows.at x) c.index-rows-at.is) in
     s.strikes (sym c.is_listed_suspect.ensures ∙ c.if-is_listed_suspect.true) _
-    (ap (λ (x : Row). record x { standing = Cleared }) (get_or_default c.rows.rows c.rows.at c.index-rows-at-then-is_listed_suspect.result c.index-rows-at.result c.rows-test.true))
+    (ap (λ (x : NodeRow). record x { standing = Cleared }) (get_or_default c.rows.rows c.rows.at c.index-rows-at-then-is_listed_suspect.result c.index-rows-at.result c.rows-test.true))
 
 pub rows-preserved : goal.rows-preserved
 rows-preserved c =

@@ -6,8 +6,8 @@ use Rattle.apd_index.specs.declared.gathered.Gathered.{Gathered}
 use Rattle.apd_index.proofs.Unequal.{each-or, each-put, none-in}
 use Rattle.apd_index.proofs.gathered.gather.Goals as goal
 
-pub go_on-requires-clause-gathered : goal.go_on-requires-clause-gathered
-go_on-requires-clause-gathered c =
+pub gather_newer-requires-clause-gathered : goal.gather_newer-requires-clause-gathered
+gather_newer-requires-clause-gathered c =
     let there = get nat_eq c.args.gatherings.now c.args.number in
     let column = column_at c.args.columns.now c.args.number in
     let fresh : Gathered = record { entries = c.new.result; upto = 0 } in
@@ -16,5 +16,5 @@ go_on-requires-clause-gathered c =
 
 pub returns : goal.returns
 returns c =
-    each-put (λ number (g : Gathered). AreIn (column_at c.args.columns.now number) g.entries.items) (get nat_eq c.args.gatherings.now) _ c.args.number c.go_on.new.gathered
-    (λ m. grind (arith, (c.in_ok-gatherings.ensures.update.0 c.go_on.new.gathered).0 m)) c.go_on.ensures c.requires.gathered
+    each-put (λ number (g : Gathered). AreIn (column_at c.args.columns.now number) g.entries.items) (get nat_eq c.args.gatherings.now) _ c.args.number c.gather_newer.new.gathered
+    (λ m. grind (arith, (c.in_ok-gatherings.ensures.update.0 c.gather_newer.new.gathered).0 m)) c.gather_newer.ensures c.requires.gathered

@@ -1,15 +1,15 @@
 use Rattle.std.proofs.Common.{◌-◌, ◌<◌, get_or, refl, arith}
 use Rattle.apd_index.proofs.Chains.{falls-at}
 use Rattle.apd_index.proofs.Noding.{earlier, set-all, set-goes}
-use Rattle.apd_index.specs.declared.nodes.Link.{Link}
+use Rattle.apd_index.specs.declared.nodes.PlaceLink.{PlaceLink}
 use Rattle.apd_index.proofs.nodes.set_chain.Goals as goal
 
 pub links-preserved : goal.links-preserved
 links-preserved c =
-    let none : Link = record { place = 0; before = 0 } in
+    let none : PlaceLink = record { place = 0; before = 0 } in
     let links = c.args.links.now in
     let at = c.links.at in
-    let l : Link = get_or links (at - 1) none in
+    let l : PlaceLink = get_or links (at - 1) none in
     let some : 0 < at = omega arith in
     let h : l.before < at = falls-at earlier none links at c.requires.falling some c.links.invariant.within in
     record {

@@ -1,7 +1,7 @@
 use Rattle.std.proofs.Common.{ℕ, List, subst, sym}
 use Rattle.std.specs.Prelude.{nat_eq}
 use Rattle.indexmap.specs.IndexMap.{get}
-use Rattle.apd_index.specs.declared.columns.Entry.{Entry}
+use Rattle.apd_index.specs.declared.columns.ColumnEntry.{ColumnEntry}
 use Rattle.apd_index.specs.Chains.{entries_from}
 use Rattle.apd_index.specs.Columns.{Agree, HasEntries, IsUnlike, column_at}
 use Rattle.apd_index.proofs.Linked.{last-column, last-within}
@@ -29,5 +29,5 @@ strike-requires-clause-other c = last-within c.args.columns.now c.as_slice.resul
 pub returns : goal.returns
 returns c = λ k h agree.
     c.strike.ensures k h
-    (subst (λ (ones : List Entry). Agree ones (entries_from c.as_slice.result.now c.last-2.result) k) (sym (last-column c.args.columns.now c.as_slice.result.now c.args.repeat.one c.last.result c.as_slice.ensures.value c.last.ensures))
-    (subst (λ (others : List Entry). Agree (column_at c.args.columns.now c.args.repeat.one) others k) (sym (last-column c.args.columns.now c.as_slice.result.now c.args.repeat.other c.last-2.result c.as_slice.ensures.value c.last-2.ensures)) agree))
+    (subst (λ (ones : List ColumnEntry). Agree ones (entries_from c.as_slice.result.now c.last-2.result) k) (sym (last-column c.args.columns.now c.as_slice.result.now c.args.repeat.one c.last.result c.as_slice.ensures.value c.last.ensures))
+    (subst (λ (others : List ColumnEntry). Agree (column_at c.args.columns.now c.args.repeat.one) others k) (sym (last-column c.args.columns.now c.as_slice.result.now c.args.repeat.other c.last-2.result c.as_slice.ensures.value c.last-2.ensures)) agree))

@@ -8,5 +8,5 @@ use Rattle.apd_index.proofs.unlike.bring.Goals as goal
 pub returns-in-Some : goal.returns-in-Some
 returns-in-Some c = λ columns gathered has.
     let there : IsSome (get nat_eq c.args.pairs.now c.args.key) = subst (λ o. IsSome o) c.in-Some.ensures.value refl in
-    each-put (λ key. IsUnlike columns) (get nat_eq c.args.pairs.now) (get nat_eq (c.get_mut.follows.lender c.go_on.new.unlike)) c.args.key c.go_on.new.unlike (λ q. ((c.get_mut.follows.holds c.go_on.new.unlike).3 there).0 q)
-    (c.go_on.ensures columns gathered (each-of (IsUnlike columns) (get nat_eq c.args.pairs.now c.args.key) c.in-Some.unlike.now (has c.args.key) (sym c.in-Some.ensures.value))) has
+    each-put (λ key. IsUnlike columns) (get nat_eq c.args.pairs.now) (get nat_eq (c.get_mut.follows.lender c.bring_pair.new.unlike)) c.args.key c.bring_pair.new.unlike (λ q. ((c.get_mut.follows.holds c.bring_pair.new.unlike).3 there).0 q)
+    (c.bring_pair.ensures columns gathered (each-of (IsUnlike columns) (get nat_eq c.args.pairs.now c.args.key) c.in-Some.unlike.now (has c.args.key) (sym c.in-Some.ensures.value))) has

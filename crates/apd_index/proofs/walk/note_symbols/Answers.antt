@@ -31,15 +31,15 @@ pub returns-in_err-is_right-clause-grows : goal.returns-in_err-is_right-clause-g
 returns-in_err-is_right-clause-grows c =
     grows-more c.args.table.now c.symbols.table c.symbols.table.nodes c.put_next.new.columns c.symbols.invariant.grows (grow-none c.symbols.table.nodes c.symbols.invariant.grows.sound.0) c.put_next.ensures.columns c.put_next.ensures.keeps
 
-pub go_on-requires-clause-open : goal.go_on-requires-clause-open
-go_on-requires-clause-open c = others-open c.symbols.table.nodes c.args.place c.symbols.open.items c.pop.new.self.items c.in-Some.parent c.in-Some.ensures.items c.symbols.invariant.opens
+pub note_next-requires-clause-open : goal.note_next-requires-clause-open
+note_next-requires-clause-open c = others-open c.symbols.table.nodes c.args.place c.symbols.open.items c.pop.new.self.items c.in-Some.parent c.in-Some.ensures.items c.symbols.invariant.opens
 
-pub go_on-requires-clause-parent : goal.go_on-requires-clause-parent
-go_on-requires-clause-parent c = last-open c.symbols.table.nodes c.args.place c.symbols.open.items c.pop.new.self.items c.in-Some.parent c.in-Some.ensures.items c.symbols.invariant.opens
+pub note_next-requires-clause-parent : goal.note_next-requires-clause-parent
+note_next-requires-clause-parent c = last-open c.symbols.table.nodes c.args.place c.symbols.open.items c.pop.new.self.items c.in-Some.parent c.in-Some.ensures.items c.symbols.invariant.opens
 
-pub returns-in_err-go_on-clause-grows : goal.returns-in_err-go_on-clause-grows
-returns-in_err-go_on-clause-grows c =
-    grows-more c.args.table.now c.symbols.table c.go_on.new.nodes c.put_next.new.columns c.symbols.invariant.grows c.go_on.ensures.grow c.put_next.ensures.columns c.put_next.ensures.keeps
+pub returns-in_err-note_next-clause-grows : goal.returns-in_err-note_next-clause-grows
+returns-in_err-note_next-clause-grows c =
+    grows-more c.args.table.now c.symbols.table c.note_next.new.nodes c.put_next.new.columns c.symbols.invariant.grows c.note_next.ensures.grow c.put_next.ensures.columns c.put_next.ensures.keeps
 
 pub symbols-preserved : goal.symbols-preserved
 symbols-preserved c =
@@ -47,8 +47,8 @@ symbols-preserved c =
     let ds = c.args.digests.now in
     let i = c.symbols.i in
     walked-goes c.args.atom.now xs c.args.place i c.args.table.now c.symbols.table c.symbols.open.items c.pop.new.self.items c.in-Some.parent c.symbols.is_right c.symbols.invariant c.in-Some.ensures.items (get_or xs i (Var 0))
-    c.symbols-test.true refl c.go_on.new.nodes c.put_next.new.columns c.put_next.ensures.columns c.put_next.ensures.keeps c.go_on.ensures.grow c.go_on.new.open.items c.in_ok-is_right.is_right (tagged (get_or ds i 0) c.args.place)
-    (ap (λ es. tagged (get_or es i 0) c.args.place) c.requires.digests) c.put_next.ensures.adds c.in_ok-is_right.ensures.right c.in_ok-go_on.ensures.open c.in_ok-go_on.ensures.noted c.in_ok-go_on.ensures.parents
+    c.symbols-test.true refl c.note_next.new.nodes c.put_next.new.columns c.put_next.ensures.columns c.put_next.ensures.keeps c.note_next.ensures.grow c.note_next.new.open.items c.in_ok-is_right.is_right (tagged (get_or ds i 0) c.args.place)
+    (ap (λ es. tagged (get_or es i 0) c.args.place) c.requires.digests) c.put_next.ensures.adds c.in_ok-is_right.ensures.right c.in_ok-note_next.ensures.open c.in_ok-note_next.ensures.noted c.in_ok-note_next.ensures.parents
 
 pub returns-clause-adds : goal.returns-clause-adds
 returns-clause-adds c =

@@ -2,7 +2,7 @@ use Rattle.std.proofs.Common.{ap, ◌∙◌, ◌≡◌, ◌<◌, ◌++◌, ◌�
 use Rattle.std.proofs.lemmas.Option.{slice_get-get_or}
 use Rattle.apd_term.specs.Term.{variable, spell}
 use Rattle.apd_term.proofs.Spelling.{whole_from_spelled, term_of_from_spelled}
-use Rattle.apd_intern.specs.declared.node.Node.TheVariants.{Variable}
+use Rattle.apd_intern.specs.declared.node.TermNode.TheVariants.{Variable}
 use Rattle.apd_intern.specs.Nodes.{decoded, term_at, IsLinked}
 use Rattle.apd_intern.specs.Pending.{places_left}
 use Rattle.apd_intern.proofs.Decoding.{length-decoded}

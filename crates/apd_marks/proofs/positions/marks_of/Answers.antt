@@ -9,8 +9,8 @@ symbols-init c =
 
 pub symbols-preserved : goal.symbols-preserved
 symbols-preserved c =
-    walk-goes c.args.term.now c.symbols-symbol-items.result.now c.symbols.symbol-index (Var 0) (get_or c.symbols-symbol-items.result.now c.symbols.symbol-index (Var 0)) c.in-Some.parent c.symbols.parents.items c.pop.new.self.items c.go_on.new.parents.items c.symbols.marks.items c.note.new.marks.items
-    c.symbols-test.true refl c.in-Some.ensures.items c.in_ok-note.ensures c.in_ok-go_on.ensures c.symbols.invariant
+    walk-goes c.args.term.now c.symbols-symbol-items.result.now c.symbols.symbol-index (Var 0) (get_or c.symbols-symbol-items.result.now c.symbols.symbol-index (Var 0)) c.in-Some.parent c.symbols.parents.items c.pop.new.self.items c.put_parents.new.parents.items c.symbols.marks.items c.note.new.marks.items
+    c.symbols-test.true refl c.in-Some.ensures.items c.in_ok-note.ensures c.in_ok-put_parents.ensures c.symbols.invariant
 
 pub returns-in_default : goal.returns-in_default
 returns-in_default c =

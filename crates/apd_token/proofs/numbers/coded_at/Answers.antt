@@ -3,7 +3,7 @@ use Rattle.std.specs.Str.{IsCharBoundary}
 use Rattle.std.proofs.lemmas.Str.{IsCharBoundary-after_ascii}
 use Rattle.apd_token.specs.Scan.{Scans, HasChar}
 use Rattle.apd_token.specs.declared.found.Found.TheVariants.{Item}
-use Rattle.apd_token.specs.declared.items.Kind.TheVariants.{Integer}
+use Rattle.apd_token.specs.declared.items.TokenKind.TheVariants.{Integer}
 use Rattle.apd_token.proofs.Pieces.{coded_bad_escape, coded_escape, coded_single, coded_double, coded_plain, no_code_here, not_next}
 use Rattle.apd_token.proofs.numbers.coded_at.Goals as goal
 

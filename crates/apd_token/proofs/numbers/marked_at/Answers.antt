@@ -1,6 +1,6 @@
 use Rattle.std.proofs.Common.{sym, ◌∙◌}
 use Rattle.apd_token.specs.declared.bytes.Set.TheVariants as sets
-use Rattle.apd_token.specs.declared.bytes.Mark.TheVariants as marks
+use Rattle.apd_token.specs.declared.bytes.NumberMark.TheVariants as marks
 use Rattle.apd_token.proofs.Pieces.{no_mark, no_radix, radix_scans}
 use Rattle.apd_token.proofs.numbers.marked_at.Goals as goal
 

@@ -1,7 +1,7 @@
 use Rattle.std.proofs.Common.{List, ℕ, refl, subst, sym, arith}
 use Rattle.std.specs.List.{slice_range}
 use Rattle.apd_token.specs.Grammar.{ContentOf, HasText}
-use Rattle.apd_token.specs.declared.items.Kind.{Kind}
+use Rattle.apd_token.specs.declared.items.TokenKind.{TokenKind}
 use Rattle.apd_token.proofs.Contents.{in_text}
 use Rattle.apd_token.proofs.Utf8Contents.{content_utf8}
 use Rattle.apd_token.proofs.texts.bare_name.Goals as goal
@@ -19,4 +19,4 @@ pub returns-clause-utf8 : goal.returns-clause-utf8
 returns-clause-utf8 c = λ u.
     let text : List ℕ = c.args.text.now in
     let bytes : List ℕ = slice_range text c.args.token.now.start c.args.token.now.end in
-    content_utf8 text c.args.token.now bytes u c.requires.token (subst HasText (sym c.requires.kind) tt) (subst (λ (k : Kind). ContentOf k bytes bytes) (sym c.requires.kind) refl)
+    content_utf8 text c.args.token.now bytes u c.requires.token (subst HasText (sym c.requires.kind) tt) (subst (λ (k : TokenKind). ContentOf k bytes bytes) (sym c.requires.kind) refl)

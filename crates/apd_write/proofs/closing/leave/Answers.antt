@@ -1,6 +1,6 @@
 use Rattle.std.proofs.Common.{rules, ◌≡◌, ◌-◌, ◌<◌, [], ◌∷◌, ◌++◌, arith}
 use Rattle.std.specs.Prelude.{codes}
-use Rattle.apd_write.specs.declared.pending.Frame.TheVariants.{Arguments}
+use Rattle.apd_write.specs.declared.pending.PendingFrame.TheVariants.{Arguments}
 use Rattle.apd_write.proofs.Closed.{argument_left}
 use Rattle.apd_write.proofs.closing.leave.Goals as goal
 

@@ -5,7 +5,7 @@ use Rattle.apd_ops.specs.Table.{Table}
 use Rattle.apd_term.specs.declared.term.NameId.{NameId}
 use Rattle.apd_term.specs.declared.standard.TheConstants.{CELL}
 use Rattle.apd_write.specs.Writing.{is_same_name}
-use Rattle.apd_write.specs.declared.pending.Frame.TheVariants.{ListEnd}
+use Rattle.apd_write.specs.declared.pending.PendingFrame.TheVariants.{ListEnd}
 use Rattle.apd_write.proofs.Opened.{further_opens, tail_opens}
 use Rattle.apd_write.proofs.opening.open.Goals as goal
 use Rattle.apd_write.proofs.opening.open.Goals.{then-eq+else-count-eq2, else-eq}

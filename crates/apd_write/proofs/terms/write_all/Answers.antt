@@ -8,7 +8,7 @@ use Rattle.apd_term.specs.declared.term.Sym.TheVariants.{Var}
 use Rattle.apd_term.proofs.Spelling.{IsTerms-tail}
 use Rattle.apd_write.specs.Pending.{Stands}
 use Rattle.apd_write.specs.Writing.{written}
-use Rattle.apd_write.specs.declared.pending.Place.{Place}
+use Rattle.apd_write.specs.declared.pending.TermPlace.{TermPlace}
 use Rattle.apd_write.proofs.Standing.{Standing, Standing-start}
 use Rattle.apd_write.proofs.terms.write_all.Goals as goal
 
@@ -28,7 +28,7 @@ returns-in-None c =
     let here : Standing ops names whole c.symbols.frames.items c.symbols.out c.symbols.place (x ∷ rest) =
     subst (λ (s : List Sym). Standing ops names whole c.symbols.frames.items c.symbols.out c.symbols.place s) (drop_more symbols c.symbols.symbol-index (Var 0) c.symbols-test.true) c.symbols.invariant in
     let stands : Stands ops names whole c.write_next.new.frames.items c.write_next.new.out None (read_all rest) =
-    subst (λ (o : Option Place). Stands ops names whole c.write_next.new.frames.items c.write_next.new.out o (read_all rest)) c.in-None.is (c.in_ok-next.ensures whole rest here.terms here.expects) in
+    subst (λ (o : Option TermPlace). Stands ops names whole c.write_next.new.frames.items c.write_next.new.out o (read_all rest)) c.in-None.is (c.in_ok-next.ensures whole rest here.terms here.expects) in
     sym stands
 
 pub symbols-preserved : goal.symbols-preserved
@@ -42,5 +42,5 @@ symbols-preserved c =
     let here : Standing ops names whole c.symbols.frames.items c.symbols.out c.symbols.place (x ∷ rest) =
     subst (λ (s : List Sym). Standing ops names whole c.symbols.frames.items c.symbols.out c.symbols.place s) (drop_more symbols c.symbols.symbol-index (Var 0) c.symbols-test.true) c.symbols.invariant in
     let stands : Stands ops names whole c.write_next.new.frames.items c.write_next.new.out (Some c.in-Some.next) (read_all rest) =
-    subst (λ (o : Option Place). Stands ops names whole c.write_next.new.frames.items c.write_next.new.out o (read_all rest)) c.in-Some.is (c.in_ok-next.ensures whole rest here.terms here.expects) in
+    subst (λ (o : Option TermPlace). Stands ops names whole c.write_next.new.frames.items c.write_next.new.out o (read_all rest)) c.in-Some.is (c.in_ok-next.ensures whole rest here.terms here.expects) in
     record { terms = IsTerms-tail x rest here.terms; expects = stands }

@@ -5,7 +5,7 @@ use Rattle.apd_cells.proofs.Following.{viewed}
 use Rattle.apd_cells.proofs.Recent.{sizes_bound}
 use Rattle.apd_cells.proofs.Touching.{heap_bound, marked_bound_by}
 use Rattle.apd_cells.specs.declared.heap.Binding.TheVariants.{At}
-use Rattle.apd_cells.specs.declared.heap.Note.TheVariants.{Bound}
+use Rattle.apd_cells.specs.declared.heap.TrailNote.TheVariants.{Bound}
 use Rattle.std.proofs.lemmas.List.{length-set}
 use Rattle.apd_term.specs.declared.term.Sym.TheVariants.{Var}
 use Rattle.apd_cells.specs.Flat.{compound_count, compound_in, AreShort}

@@ -9,7 +9,7 @@ use Rattle.apd_cells.proofs.Flat.{short_unloaded}
 use Rattle.apd_cells.specs.Heap.{IsHeap, IsMarked}
 use Rattle.apd_cells.specs.Flat.{AreShort, compound_count, compound_in}
 use Rattle.apd_cells.specs.declared.heap.Binding.TheVariants.{Free}
-use Rattle.apd_cells.specs.declared.heap.Note.TheVariants.{Bound, Loaded}
+use Rattle.apd_cells.specs.declared.heap.TrailNote.TheVariants.{Bound, Loaded}
 use Rattle.apd_cells.proofs.heap.Heap.undo_note.Goals as goal
 
 pub invariant_of-self-in-Loaded : goal.invariant_of-self-in-Loaded

@@ -1,7 +1,7 @@
 use Rattle.std.proofs.Common.{◌≡◌, Some, ap, sym, subst, ◌∙◌, take, drop}
 use Rattle.std.specs.Prelude.{slice_get}
 use Rattle.apd_term.specs.Term.{spell}
-use Rattle.apd_intern.specs.declared.term_list.Spot.TheVariants.{Written}
+use Rattle.apd_intern.specs.declared.term_list.TermSpot.TheVariants.{Written}
 use Rattle.apd_intern.proofs.Listed.{written_at}
 use Rattle.apd_intern.proofs.term_list.TermList.found.Goals as goal
 

@@ -1,6 +1,6 @@
 use Rattle.std.proofs.Common.{◌≡◌, Some, ap, subst, ◌∙◌, ◌++◌, ◌∷◌, [], refl, inl, inr}
 use Rattle.std.specs.Prelude.{slice_get}
-use Rattle.apd_intern.specs.declared.term_list.Spot.TheVariants.{Shared}
+use Rattle.apd_intern.specs.declared.term_list.TermSpot.TheVariants.{Shared}
 use Rattle.apd_intern.specs.Listed.{listed}
 use Rattle.apd_intern.proofs.Listed.{listed_front, listed_push, longer_at, listed_at, shared_there, front_same, on_err_at_all}
 use Rattle.apd_intern.proofs.term_list.TermList.put_shared.Goals as goal

@@ -1,5 +1,5 @@
 use Rattle.std.proofs.Common.{◌≡◌, ◌∷◌, ◌∙◌, ap, drop, sym}
-use Rattle.apd_cells.specs.declared.heap.Note.TheVariants.{Loaded}
+use Rattle.apd_cells.specs.declared.heap.TrailNote.TheVariants.{Loaded}
 use Rattle.apd_past.specs.History.{present}
 use Rattle.apd_past.proofs.Bindings.{left_of}
 use Rattle.apd_past.proofs.Following.{before_loaded, notes_before}

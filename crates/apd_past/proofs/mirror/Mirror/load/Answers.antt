@@ -1,5 +1,5 @@
 use Rattle.std.proofs.Common.{◌≡◌, ◌<◌, ◌∷◌, ◌∙◌, ap, arith, length, map, refl, subst, sym}
-use Rattle.apd_cells.specs.declared.heap.Note.TheVariants.{Loaded}
+use Rattle.apd_cells.specs.declared.heap.TrailNote.TheVariants.{Loaded}
 use Rattle.apd_past.specs.Mirror.{name, renamed_symbol}
 use Rattle.apd_past.proofs.Following.{known_names, stands_loaded, whole_symbols}
 use Rattle.apd_past.proofs.mirror.Mirror.load.Goals as goal

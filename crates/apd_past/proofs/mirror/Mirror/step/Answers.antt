@@ -1,5 +1,5 @@
 use Rattle.std.proofs.Common.{◌+◌, ◌∙◌, refl, subst, sym}
-use Rattle.apd_cells.specs.declared.heap.Note.TheVariants.{Bound, Loaded}
+use Rattle.apd_cells.specs.declared.heap.TrailNote.TheVariants.{Bound, Loaded}
 use Rattle.apd_cells.specs.Store.{at_mark}
 use Rattle.apd_past.specs.Follows.{Follows}
 use Rattle.apd_cells.specs.Live.{store_of}

@@ -1,7 +1,7 @@
 use Rattle.std.proofs.Common.{◌≡◌, ◌+◌, ◌∙◌, ◌++◌, ◌∷◌, [], ap, arith, length, sym}
 use Rattle.std.proofs.lemmas.List.{length-map}
 use Rattle.apd_past.specs.declared.past.PastCell.{PastCell}
-use Rattle.apd_tuples.specs.declared.spots.Row.{Row}
+use Rattle.apd_tuples.specs.declared.spots.SpotRow.{SpotRow}
 use Rattle.apd_tuples.specs.Spots.{placed_all, spot_in, spots_in}
 use Rattle.apd_tuples.proofs.Spanning.{on_err_always, pushed_now, pushed_spanned, put_length, wider, wider_spots, with_goals}
 use Rattle.apd_tuples.proofs.spots.Spots.push.Goals as goal
@@ -45,7 +45,7 @@ invariant_of-self-2 c =
     let to : c.len-from.result + length c.args.goals.now ≡ length c.put_places.new.there.items = omega (arith, n) in
     pushed_spanned c.self.inside.goals.items _ c.put_places.new.there.items c.self.inside.rows.items c.push_reserved.new.self.items
     (record { head = c.place_of.result; moment = c.args.moment; from = c.len-from.result; to = c.len-from.result + length c.args.goals.now; fact = c.args.fact })
-    c.in_ok-put_places.ensures.ok (c.push_reserved.ensures.items ∙ ap (λ rows. rows ++ c.in_ok-kept.kept ∷ []) c.room_for_one.ensures.items ∙ ap (λ (r : Row). c.self.inside.rows.items ++ r ∷ []) c.in_ok-kept.ensures) from to c.self.invariant
+    c.in_ok-put_places.ensures.ok (c.push_reserved.ensures.items ∙ ap (λ rows. rows ++ c.in_ok-kept.kept ∷ []) c.room_for_one.ensures.items ∙ ap (λ (r : SpotRow). c.self.inside.rows.items ++ r ∷ []) c.in_ok-kept.ensures) from to c.self.invariant
 
 pub returns-clause-ok : goal.returns-clause-ok
 returns-clause-ok c =
@@ -54,7 +54,7 @@ returns-clause-ok c =
     let to : c.len-from.result + length c.args.goals.now ≡ length c.put_places.new.there.items = omega (arith, n) in
     pushed_now c.self.inside.goals.items _ c.put_places.new.there.items c.self.inside.rows.items c.push_reserved.new.self.items
     (record { head = c.place_of.result; moment = c.args.moment; from = c.len-from.result; to = c.len-from.result + length c.args.goals.now; fact = c.args.fact })
-    c.in_ok-put_places.ensures.ok (c.push_reserved.ensures.items ∙ ap (λ rows. rows ++ c.in_ok-kept.kept ∷ []) c.room_for_one.ensures.items ∙ ap (λ (r : Row). c.self.inside.rows.items ++ r ∷ []) c.in_ok-kept.ensures) from to c.self.invariant
+    c.in_ok-put_places.ensures.ok (c.push_reserved.ensures.items ∙ ap (λ rows. rows ++ c.in_ok-kept.kept ∷ []) c.room_for_one.ensures.items ∙ ap (λ (r : SpotRow). c.self.inside.rows.items ++ r ∷ []) c.in_ok-kept.ensures) from to c.self.invariant
     c.args.self.now c.self.view_is
     ∙ ap
     (λ (p : PastCell). c.args.self.now ++ with_goals (record { head = p; moment = c.args.moment; from = c.len-from.result; to = c.len-from.result + length c.args.goals.now; fact = c.args.fact }) (placed_all c.args.places.now c.args.goals.now) ∷ [])

@@ -1,5 +1,5 @@
 use Rattle.apd_loop.proofs.Reading.{box-there, size-known, size-read}
-use Rattle.apd_loop.proofs.calls.Calls.size.Goals as goal
+use Rattle.apd_loop.proofs.calls.ChainCalls.size.Goals as goal
 
 pub call_size-requires-clause-from : goal.call_size-requires-clause-from
 call_size-requires-clause-from c = (box-there c.self.inside.recorded.now c.self.inside.chain.now c.args.self.now c.self.view_is c.self.invariant c.args.number c.requires).0

@@ -1,6 +1,6 @@
 use Rattle.apd_index.proofs.Walked.{open-next, open-still, told}
 use Rattle.apd_index.specs.declared.walk.Open.{Open}
-use Rattle.apd_index.proofs.walk.go_on.Goals as goal
+use Rattle.apd_index.proofs.walk.note_next.Goals as goal
 
 pub note_symbol-requires-clause-open : goal.note_symbol-requires-clause-open
 note_symbol-requires-clause-open c =

@@ -1,7 +1,7 @@
 use Rattle.std.proofs.Common.{◌∙◌, [], arith}
 use Rattle.apd_frames.proofs.Branching.{framed_kept, at_mark-kept}
 use Rattle.apd_frames.proofs.Moving.{laid_frames}
-use Rattle.apd_frames.proofs.instance.begin.Goals as goal
+use Rattle.apd_frames.proofs.instance.lay_query.Goals as goal
 
 pub returns-clause-framed : goal.returns-clause-framed
 returns-clause-framed c =

@@ -1,6 +1,6 @@
 use Rattle.std.proofs.Common.{refl}
 use Rattle.apd_check.proofs.Descents.{goes-judged, goes-known, goes-other}
-use Rattle.apd_check.proofs.course.Course.descend.Goals as goal
+use Rattle.apd_check.proofs.course.LogCourse.descend.Goals as goal
 
 pub returns-then-known-calls : goal.returns-then-known-calls
 returns-then-known-calls c = goes-known c.args.program.now c.args.self.now c.in-Some.known c.args.calls c.in-Some.is c.requires c.if-known-calls.true

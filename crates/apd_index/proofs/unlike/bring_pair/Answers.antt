@@ -1,6 +1,6 @@
 use Rattle.apd_index.specs.Columns.{column_at}
 use Rattle.apd_index.proofs.Unequal.{unlike-more}
-use Rattle.apd_index.proofs.unlike.go_on.Goals as goal
+use Rattle.apd_index.proofs.unlike.bring_pair.Goals as goal
 
 pub returns-in_err-walked : goal.returns-in_err-walked
 returns-in_err-walked c = λ columns gathered.

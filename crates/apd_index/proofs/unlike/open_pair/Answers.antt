@@ -2,7 +2,7 @@ use Rattle.std.specs.Prelude.{nat_eq}
 use Rattle.indexmap.specs.IndexMap.{get}
 use Rattle.apd_index.specs.Columns.{IsUnlike}
 use Rattle.apd_index.proofs.Unequal.{each-put}
-use Rattle.apd_index.proofs.unlike.begin.Goals as goal
+use Rattle.apd_index.proofs.unlike.open_pair.Goals as goal
 
 pub returns : goal.returns
 returns c = λ columns has.

@@ -1,6 +1,6 @@
 use Rattle.std.proofs.lemmas.Result.{IfOk-weaker}
 use Rattle.apd_loop.proofs.Reading.{box-there, call-read}
-use Rattle.apd_loop.proofs.calls.Calls.get.Goals as goal
+use Rattle.apd_loop.proofs.calls.ChainCalls.get.Goals as goal
 
 pub call_atom-requires-clause-from : goal.call_atom-requires-clause-from
 call_atom-requires-clause-from c = (box-there c.self.inside.recorded.now c.self.inside.chain.now c.args.self.now c.self.view_is c.self.invariant c.args.number c.requires).0

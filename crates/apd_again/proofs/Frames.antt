@@ -9,7 +9,7 @@ use Rattle.apd_term.specs.Substitution.{term_for}
 use Rattle.apd_term.specs.Tuple.{apply_tuple, canonical_tuple, variables_of_tuple, size_of_tuple}
 use Rattle.apd_term.specs.declared.tuple.Tuple.{Tuple}
 use Rattle.apd_term.proofs.Among.{IsAmong-left, IsAmong-right, IsAmong-append}
-use Rattle.apd_term.proofs.Tuples.{IsTupleInstance-canonical, canonical_is_instance}
+use Rattle.apd_term.proofs.Tuples.{IsTupleInstance-canonical, canonical_is_instance, apply_tuple-variable}
 use Rattle.apd_unify.specs.Textbook.{unifier_of}
 use Rattle.apd_unify.proofs.Textbook.{unifier_of-right}
 use Rattle.apd_ports.specs.declared.point.Step.{Step}
@@ -22,7 +22,7 @@ use Rattle.apd_trace.specs.declared.frame.Look.{Look}
 use Rattle.apd_trace.specs.declared.frame.Look.TheVariants.{Nothing, Goal, Exit as Exits, Answer as Answers}
 use Rattle.apd_trace.specs.declared.frame.Outcome.{Outcome}
 use Rattle.apd_trace.specs.declared.frame.Outcome.TheVariants.{User, Faults, Fails, Succeeds, Equates}
-use Rattle.apd_trace.proofs.Applied.{IsBelow-above, apply_tuple-variable}
+use Rattle.apd_trace.proofs.Applied.{IsBelow-above}
 use Rattle.apd_trace.proofs.Entered.{entering_by_any}
 use Rattle.apd_trace.proofs.Renamed.{same_canonical_tuple}
 use Rattle.apd_again.specs.Bare.{no_values, bare, bare_point, bare_point_if}

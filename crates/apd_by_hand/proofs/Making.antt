@@ -1,6 +1,7 @@
 -- Each step of the record may be made.
 use Rattle.std.proofs.Common.{◌≡◌, ℕ, zero, suc, Some, None, refl, ap, subst, arith}
 use Rattle.std.specs.Prelude.{◌≢◌}
+use Rattle.std.proofs.lemmas.Option.{same_Some}
 use Rattle.apd_term.specs.Term.{variable}
 use Rattle.apd_ports.specs.declared.event.Port.TheVariants.{Exit}
 use Rattle.apd_ports.specs.declared.point.Point.{Point}
@@ -9,9 +10,6 @@ use Rattle.apd_record.specs.declared.rows.BoxRow.{BoxRow}
 use Rattle.apd_record.specs.Sound.{MayOpen, MayMake, ComeAlike}
 use Rattle.apd_divide.specs.Exits.{IsLabelled}
 use Rattle.apd_by_hand.specs.Made.{call_of_r, call_of_p, query, rule_entered, fact_entered, rule_solved, r_called, r_entered, p_called, p_solved, made}
-
-some_is : {X : Type 0} (x y : X) → Some x ≡ Some y → x ≡ y
-some_is x y there = cc
 
 no_box : (n : ℕ) (b : BoxRow) → box_at (begun query) n ≡ Some b → b.from ≢ 0
 no_box zero b there = absurd (cc)
@@ -31,7 +29,7 @@ may_call_r = record {
 
 new_rule : (i : ℕ) (q : Point) → point_at r_called i ≡ Some q → ¬ ComeAlike q rule_entered q.before None
 new_rule zero q there =
-    subst (λ (x : Point). ¬ ComeAlike x rule_entered x.before None) (some_is (query_point query) q there) (λ h. let z : 0 ≡ 1 = h.0 in omega arith)
+    subst (λ (x : Point). ¬ ComeAlike x rule_entered x.before None) (same_Some (query_point query) q there) (λ h. let z : 0 ≡ 1 = h.0 in omega arith)
 new_rule (suc i) q there = absurd (cc)
 
 pub may_enter_rule : MayMake r_called rule_entered
@@ -44,7 +42,7 @@ may_enter_rule = record {
 one_box : (n : ℕ) (b : BoxRow) → box_at r_entered n ≡ Some b → b.from ≢ 1
 one_box zero b there = absurd (cc)
 one_box (suc zero) b there =
-    λ h. let f : 0 ≡ b.from = ap (λ (x : BoxRow). x.from) (some_is (called_row call_of_r 0) b there) in omega arith
+    λ h. let f : 0 ≡ b.from = ap (λ (x : BoxRow). x.from) (same_Some (called_row call_of_r 0) b there) in omega arith
 one_box (suc (suc n)) b there = absurd (cc)
 
 pub may_call_p : MayOpen r_entered call_of_p 1
@@ -61,9 +59,9 @@ may_call_p = record {
 
 new_fact : (i : ℕ) (q : Point) → point_at p_called i ≡ Some q → ¬ ComeAlike q fact_entered q.before None
 new_fact zero q there =
-    subst (λ (x : Point). ¬ ComeAlike x fact_entered x.before None) (some_is (query_point query) q there) (λ h. let z : 0 ≡ 2 = h.0 in omega arith)
+    subst (λ (x : Point). ¬ ComeAlike x fact_entered x.before None) (same_Some (query_point query) q there) (λ h. let z : 0 ≡ 2 = h.0 in omega arith)
 new_fact (suc zero) q there =
-    subst (λ (x : Point). ¬ ComeAlike x fact_entered x.before None) (some_is rule_entered q there) (λ h. let z : 1 ≡ 2 = h.0 in omega arith)
+    subst (λ (x : Point). ¬ ComeAlike x fact_entered x.before None) (same_Some rule_entered q there) (λ h. let z : 1 ≡ 2 = h.0 in omega arith)
 new_fact (suc (suc i)) q there = absurd (cc)
 
 pub may_enter_fact : MayMake p_called fact_entered
@@ -75,11 +73,11 @@ may_enter_fact = record {
 
 new_exit : (i : ℕ) (q : Point) → point_at (noted p_solved 2 Exit) i ≡ Some q → ¬ ComeAlike q rule_solved q.before rule_solved.before
 new_exit zero q there =
-    subst (λ (x : Point). ¬ ComeAlike x rule_solved x.before rule_solved.before) (some_is (query_point query) q there) (λ h. h)
+    subst (λ (x : Point). ¬ ComeAlike x rule_solved x.before rule_solved.before) (same_Some (query_point query) q there) (λ h. h)
 new_exit (suc zero) q there =
-    subst (λ (x : Point). ¬ ComeAlike x rule_solved x.before rule_solved.before) (some_is rule_entered q there) (λ h. h)
+    subst (λ (x : Point). ¬ ComeAlike x rule_solved x.before rule_solved.before) (same_Some rule_entered q there) (λ h. h)
 new_exit (suc (suc zero)) q there =
-    subst (λ (x : Point). ¬ ComeAlike x rule_solved x.before rule_solved.before) (some_is fact_entered q there) (λ h. h)
+    subst (λ (x : Point). ¬ ComeAlike x rule_solved x.before rule_solved.before) (same_Some fact_entered q there) (λ h. h)
 new_exit (suc (suc (suc i))) q there = absurd (cc)
 
 pub may_solve_rule : MayMake (noted p_solved 2 Exit) rule_solved

@@ -35,8 +35,8 @@ use Rattle.apd_claims.specs.declared.claim.Claim.{Claim}
 use Rattle.apd_claims.specs.declared.claim.Claim.TheVariants.{Finds}
 use Rattle.apd_claims.specs.declared.form.Calling.{Calling}
 use Rattle.apd_claims.specs.declared.parting.CallLine.{CallLine}
-use Rattle.apd_claims.proofs.Naming.{grown-none, grown-twice}
 use Rattle.apd_text.specs.declared.check.Why.{Why}
+use Rattle.apd_lines.proofs.Growing.{Grown-self, Grown-more}
 use Rattle.apd_check.specs.Checked.{IsFound, IsFoundIn, IsJudged, IsRightFinding}
 use Rattle.apd_check.specs.Steps.{IsCallText, may_be}
 use Rattle.apd_check.specs.declared.state.LogState.{LogState}
@@ -174,13 +174,13 @@ module _ (program : List Clause) (ops : Table) (s : LogState) (x : CallLine) whe
     pub none : Lasting names (λ n. (reader : Reader n) → (j : ℕ) → j < place → ¬ IsFoundHere reader j)
 
   pub Unfound-start : (names : List (List ℕ)) → Unfound names names 0
-  Unfound-start names = record { grown = grown-none names; few = λ l. l; none = λ n g reader j l. absurd (omega (arith, l)) }
+  Unfound-start names = record { grown = Grown-self names; few = λ l. l; none = λ n g reader j l. absurd (omega (arith, l)) }
 
   module _ (first names later : List (List ℕ)) (place : ℕ) (b : Bool) (before : Unfound first names place) (grew : Grown names later) (keeps : KeepsFew names later)
       (tells : Lasting later (λ n. (reader : Reader n) → IsTrue b ↔ IsFoundHere reader place)) where
     pub Unfound-more : b ≡ false → Unfound first later (place + 1)
     Unfound-more fails = record {
-      grown = grown-twice first names later before.grown grew;
+      grown = Grown-more first names later before.grown grew;
       few = λ l. keeps (before.few l);
       none = λ n g reader j l. by n g reader j l (either place j);
     }
@@ -190,7 +190,7 @@ module _ (program : List Clause) (ops : Table) (s : LogState) (x : CallLine) whe
 
         by : (n : List (List ℕ)) → Grown later n → (reader : Reader n) → (j : ℕ) → j < place + 1 → (place ≤ j) ⊎ (j < place) → ¬ IsFoundHere reader j
         by n g reader j l (inl at) = let same : place ≡ j = omega (arith, at, l) in subst (λ (k : ℕ). ¬ IsFoundHere reader k) same (none-here n g reader)
-        by n g reader j l (inr at) = before.none n (grown-twice names later n grew g) reader j at
+        by n g reader j l (inr at) = before.none n (Grown-more names later n grew g) reader j at
 
     pub Unfound-found : b ≡ true → Lasting later (λ n. (reader : Reader n) → IsTrue true ↔ IsFoundIn program s (claim_parted reader ops x))
     Unfound-found holds = λ n g reader. (λ _. (place, (tells n g reader).0 holds), λ _. refl)
@@ -217,4 +217,4 @@ call-wanted ops names R box_no a (Some t) is h = λ n grew. h n grew ∙ ap (ato
 pub later-wanted : (ops : Table) (first later : List (List ℕ)) (R : Recorded) (box_no : ℕ) (wanted : Option (List ℕ)) → Grown first later → IfSome wanted (IsCallText ops first R box_no)
     → IfSome wanted (IsCallText ops later R box_no)
 later-wanted ops first later R box_no None grew h = tt
-later-wanted ops first later R box_no (Some t) grew h = λ n more. h n (grown-twice first later n grew more)
+later-wanted ops first later R box_no (Some t) grew h = λ n more. h n (Grown-more first later n grew more)

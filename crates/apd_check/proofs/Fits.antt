@@ -10,13 +10,11 @@ use Rattle.apd_arith.specs.Truth.{IsTrueBy}
 use Rattle.apd_arith.specs.Truths.{is_ground}
 use Rattle.apd_arith.specs.declared.goal.Builtin.{Builtin}
 use Rattle.apd_arith.proofs.Tests.{ground_test, true_goal}
-use Rattle.apd_answers.specs.Questions.{FitsBody, IsTrueIfBuiltin, canonical_question, unknowns, with_values}
+use Rattle.apd_answers.specs.Questions.{FitsBody, IsTrueIfBuiltin, unknowns, with_values}
 use Rattle.apd_answers.specs.declared.question.Question.TheVariants as asks
-use Rattle.apd_answers.specs.declared.question.Reply.TheVariants.{Values}
-use Rattle.apd_answers.proofs.Tests.{same_question-same}
 use Rattle.apd_known.specs.Scripts.{fits_body}
 use Rattle.apd_known.specs.Truths.{is_true_if_builtin, passes}
-use Rattle.apd_known.proofs.Scripts.{scripted_fits}
+use Rattle.apd_known.proofs.Scripts.{body_fits}
 use Rattle.apd_answers.proofs.Places.{values_ground}
 
 passes-by : (o : Option Builtin) (a : Term) → IsGround a → (IsSome o → IsTrueBy o (arguments a)) → passes o a ≡ true
@@ -46,13 +44,8 @@ body-fits : (t : Tuple) (values : List Term) → IsGround t.head → FitsBody t 
 body-fits t values head h =
     rw (all-ground values h.ground, eq-eqb (length values) (length (unknowns t)) h.count, all-pass (with_values t values) (values_ground t values head h.ground h.count) h.builtins) refl
 
-if-fits : (t : Tuple) (values : List Term) → fits_body t values ≡ true → FitsBody t values
-if-fits t values e =
-    (scripted_fits (record { question = asks.Covers t; reply = Values values } ∷ []) (record { question = asks.Covers t; suspects = None }) (Values values)
-    (rw (same_question-same (canonical_question (asks.Covers t)), e) refl)).0
-
 pub body-fits-is : (t : Tuple) (values : List Term) (b : Bool) → IsGround t.head → b ≡ fits_body t values → IsTrue b ↔ FitsBody t values
 body-fits-is t values b head is = (
-  λ yes. if-fits t values (sym is ∙ yes),
+  λ yes. body_fits t values (sym is ∙ yes),
   λ h. is ∙ body-fits t values head h,
 )

@@ -14,12 +14,12 @@ use Rattle.apd_check.specs.declared.state.LogState.{LogState}
 use Rattle.apd_check.specs.declared.checked.Checked.{Checked}
 use Rattle.apd_check.specs.declared.checked.Checked.TheVariants.{Fails}
 use Rattle.apd_text.specs.declared.check.Why.{Why}
+use Rattle.apd_lines.proofs.Growing.{Grown-more}
 use Rattle.apd_check.specs.Checked.{IsChecked, IsJudged, IsJudgedBy, after_by, after_claim}
 use Rattle.apd_claims.specs.Saying.{claim_at, goes_on, said_from}
 use Rattle.apd_claims.specs.Parting.{called_in, claim_parted}
 use Rattle.apd_claims.specs.Sayable.{IsSayable}
 use Rattle.apd_check.specs.Steps.{IsKept, Leads, Takes}
-use Rattle.apd_claims.proofs.Naming.{grown-twice}
 
 -- What is kept stays kept.
 
@@ -80,7 +80,7 @@ module _ (program : List Clause) (ops : Table) where
         few = let f = before.few in omega (arith, f, one);
         count = let c = before.count in omega (arith, c, shorter);
         decide = λ n g reader r h.
-            before.decide n (grown-twice names later n grew g) reader r
+            before.decide n (Grown-more names later n grew g) reader r
             (subst (λ (ls : List (List ℕ)). IsFrom reader s found in_group number ls r) (sym split)
             (good-line n reader s found in_group number line (lines_of behind) t more r
             (subst (Takes program s (claim_at reader ops in_group line (lines_of behind)) (option_map (claim_parted reader ops) (called_in line)) t more) is (takes n g reader)) h));
@@ -88,7 +88,7 @@ module _ (program : List Clause) (ops : Table) where
 
       pub Checking-fails : (w : Why) → why ≡ Some w → Lasting later (λ n. (reader : Reader n) → IsFrom reader first 0 false 1 (lines_of text) (Fails number w))
       Checking-fails w is = λ n g reader.
-          before.decide n (grown-twice names later n grew g) reader (Fails number w)
+          before.decide n (Grown-more names later n grew g) reader (Fails number w)
           (subst (λ (ls : List (List ℕ)). IsFrom reader s found in_group number ls (Fails number w)) (sym split)
           (bad-line n reader s found in_group number line (lines_of behind) w
           (subst (Takes program s (claim_at reader ops in_group line (lines_of behind)) (option_map (claim_parted reader ops) (called_in line)) t more) is (takes n g reader))))

@@ -1,8 +1,7 @@
 -- A chain of calls descends exactly where its parts do, of which each ends with the call that the next one begins with.
-use Rattle.std.proofs.Common.{◌≡◌, ◌↔◌, ℕ, zero, suc, ◌-◌, ◌≤◌, true, false, Bool, List, [], ◌∷◌, map, length, take, drop, Some, Result, Ok, Err, refl, sym, ◌∙◌, ap, subst, arith}
+use Rattle.std.proofs.Common.{◌≡◌, ◌↔◌, ℕ, zero, suc, true, false, Bool, List, [], ◌∷◌, map, take, drop, Some, Result, Ok, Err, sym, ◌∙◌, subst}
 use Rattle.std.specs.Prelude.{IsTrue, IfOk, slice_get}
 use Rattle.std.specs.declared.alloc.AllocError.{AllocError}
-use Rattle.std.proofs.lemmas.List.{length-drop}
 use Rattle.apd_term.specs.Term.{Term}
 use Rattle.apd_record.specs.Recorded.{Recorded}
 use Rattle.apd_answers.specs.Findings.{AllDescendByReplies}
@@ -41,17 +40,6 @@ part-goes b all first e = (λ a. (all.0 a).1, λ q. all.1 (first.0 e, q))
 pub part-last : {A Q : Type 0} (r : Result Bool AllocError) → A ↔ Q → IfOk r (λ b. IsTrue b ↔ Q) → IfOk r (λ b. IsTrue b ↔ A)
 part-last (Ok b) all h = (λ k. all.1 (h.0 k), λ a. h.1 (all.0 a))
 part-last (Err x) all h = tt
-
--- what is behind a place, as many elements as there are
-
-all-taken : {X : Type 0} (xs : List X) (i : ℕ) → length xs ≤ i → take i xs ≡ xs
-all-taken [] zero l = refl
-all-taken [] (suc i) l = refl
-all-taken (x ∷ xs) zero l = absurd (omega (arith, l))
-all-taken (x ∷ xs) (suc i) l = ap (λ ys. x ∷ ys) (all-taken xs i (omega (arith, l)))
-
-pub behind : {X : Type 0} (xs : List X) (n : ℕ) → take (length xs - n) (drop n xs) ≡ drop n xs
-behind xs n = all-taken (drop n xs) (length xs - n) (let l = length-drop n xs in omega (arith, l))
 
 -- the boxes of a part are there
 

@@ -9,6 +9,7 @@ use Rattle.apd_ops.specs.Table.{Table}
 use Rattle.apd_read.specs.Reader.{Reader}
 use Rattle.apd_term.specs.Growth.{Grown}
 use Rattle.apd_talk.specs.Speech.{Lasting}
+use Rattle.apd_lines.proofs.Growing.{Grown-self, Grown-more}
 use Rattle.apd_claims.specs.Claims.{is_operator_read, may_end}
 use Rattle.apd_parts.specs.Parts.{Boxed, Led, box_outside, box_where, boxed_behind, boxed_where, parts_words, quote_after, word_after}
 use Rattle.apd_claims.specs.Reading.{term_in}
@@ -16,7 +17,6 @@ use Rattle.apd_claims.specs.Texts.{KeepsFew}
 use Rattle.apd_parts.specs.declared.boxes.Quote.{Quote}
 use Rattle.apd_parts.specs.declared.boxes.Quote.TheVariants.{Outside}
 use Rattle.apd_claims.specs.declared.claim.Claim.{Claim}
-use Rattle.apd_claims.proofs.Naming.{grown-none, grown-twice}
 use Rattle.apd_parts.proofs.Outside.{boxed_with, with-byte, with-none}
 
 -- the bytes from one place to another
@@ -110,17 +110,17 @@ module _ (ops : Table) (text : List ℕ) where
     pub rest : Lasting names (λ n. (reader : Reader n) → anywhere reader ≡ from_here reader quote begun i)
 
   pub Behind-start : (names : List (List ℕ)) → Behind names names Outside 0 0
-  Behind-start names = record { grown = grown-none names; few = λ l. l; order = omega arith; rest = λ n g reader. where-start (may_end reader ops) text }
+  Behind-start names = record { grown = Grown-self names; few = λ l. l; order = omega arith; rest = λ n g reader. where-start (may_end reader ops) text }
 
   module _ (first names later : List (List ℕ)) (quote : Quote) (begun i : ℕ) (before : Behind first names quote begun i) (grew : Grown names later) (within : i < length text) where
     pub Behind-later : KeepsFew names later → Lasting later (λ n. (reader : Reader n) → at_place reader quote begun i ≡ None)
         → Behind first later (quote_after quote (get_or text i 0)) (begins_at quote (get_or text i 0) begun i) (i + 1)
     Behind-later keeps none = record {
-      grown = grown-twice first names later before.grown grew;
+      grown = Grown-more first names later before.grown grew;
       few = λ l. keeps (before.few l);
       order = next-order text quote begun i before.order within (parts_words quote (get_or text i 0));
       rest = λ n g reader.
-          before.rest n (grown-twice names later n grew g) reader
+          before.rest n (Grown-more names later n grew g) reader
           ∙ where-later (may_end reader ops) quote (between text begun i) text i within (none n g reader)
           ∙ ap (λ word. boxed_with (take (i + 1) text) (boxed_where (may_end reader ops) (quote_after quote (get_or text i 0)) word (drop (i + 1) text)))
           (sym (next-word text quote begun i before.order within (parts_words quote (get_or text i 0))));
@@ -129,7 +129,7 @@ module _ (ops : Table) (text : List ℕ) where
     pub Behind-here : (a : Led) → Lasting later (λ n. (reader : Reader n) → at_place reader quote begun i ≡ Some a)
         → Lasting later (λ n. (reader : Reader n) → anywhere reader ≡ Some (record { front = take i text; led = a }))
     Behind-here a some = λ n g reader.
-        before.rest n (grown-twice names later n grew g) reader
+        before.rest n (Grown-more names later n grew g) reader
         ∙ where-here (may_end reader ops) quote (between text begun i) text a i within (some n g reader)
 
   pub Behind-end : (first names : List (List ℕ)) (quote : Quote) (begun i : ℕ) → Behind first names quote begun i → length text ≤ i

@@ -1,9 +1,8 @@
 -- The names of what is made of a term are among those of the term; and a claim stays where more names come.
-use Rattle.std.proofs.Common.{◌≡◌, ◌≤◌, ◌+◌, ◌==◌, ◌++◌, ℕ, Bool, true, false, List, [], ◌∷◌, length, Option, None, Some, refl, sym, ap, ◌∙◌, arith, append_assoc, length-append}
+use Rattle.std.proofs.Common.{◌≡◌, ◌==◌, ◌++◌, ℕ, Bool, true, false, List, [], ◌∷◌, length, Option, None, Some, refl, sym, ap, ◌∙◌}
 use Rattle.std.specs.Prelude.{IfSome, if◌then◌else◌}
 use Rattle.std.specs.Bool.{then_some}
 use Rattle.std.specs.Str.{bytes_eq}
-use Rattle.std.proofs.lemmas.List.{append-nil}
 use Rattle.std.specs.List.{AllByRecursion}
 use Rattle.std.specs.Option.{option_and_then, option_map, option_or}
 use Rattle.apd_term.specs.Growth.{Grown}
@@ -25,6 +24,7 @@ use Rattle.apd_text.specs.Entries.{text_of}
 use Rattle.apd_text.specs.Named.{EntryIsNamed, HasStandardNames, QuestionIsNamed, ReplyIsNamed}
 use Rattle.apd_text.specs.declared.entry.Entry.{Entry}
 use Rattle.apd_text.proofs.MoreNames.{text_of-more}
+use Rattle.apd_lines.proofs.Growing.{Grown-length}
 use Rattle.apd_claims.specs.declared.form.Calling.{Calling}
 use Rattle.apd_claims.specs.declared.form.NumberedQuestion.{NumberedQuestion}
 use Rattle.apd_claims.specs.declared.form.LineFrame.{LineFrame}
@@ -107,25 +107,16 @@ group-named names (Some cs) standard named = (standard_few names standard, named
 
 -- More names.
 
-pub grown-few : (names later : List (List ℕ)) → Grown names later → length names ≤ length later
-grown-few names later g = let l : length later ≡ length names + length g.0 = ap length g.1 ∙ length-append names g.0 in omega (arith, l)
-
 pub named-more : (names later : List (List ℕ)) (t : Term) → Grown names later → IsNamed (length names) t → IsNamed (length later) t
-named-more names later t g named = IsNamed-more (length names) (length later) t (grown-few names later g) named
+named-more names later t g named = IsNamed-more (length names) (length later) t (Grown-length names later g) named
 
 pub instances-later : (names later : List (List ℕ)) (cs : List Instance) → Grown names later → AllByRecursion (λ (c : Instance). TupleIsNamed (length names) c.tuple) cs → AllByRecursion (λ (c : Instance). TupleIsNamed (length later) c.tuple) cs
 instances-later names later [] g named = tt
-instances-later names later (c ∷ cs) g named = (TupleIsNamed-more (length names) (length later) c.tuple (grown-few names later g) named.0, instances-later names later cs g named.1)
+instances-later names later (c ∷ cs) g named = (TupleIsNamed-more (length names) (length later) c.tuple (Grown-length names later g) named.0, instances-later names later cs g named.1)
 
 pub instances-push : (n : ℕ) (cs : List Instance) (c : Instance) → AllByRecursion (λ (c : Instance). TupleIsNamed n c.tuple) cs → TupleIsNamed n c.tuple → AllByRecursion (λ (c : Instance). TupleIsNamed n c.tuple) (cs ++ c ∷ [])
 instances-push n [] c named last = (last, tt)
 instances-push n (d ∷ cs) c named last = (named.0, instances-push n cs c named.1 last)
-
-pub grown-twice : (a b c : List (List ℕ)) → Grown a b → Grown b c → Grown a c
-grown-twice a b c g h = (g.0 ++ h.0, h.1 ∙ ap (λ (x : List (List ℕ)). x ++ h.0) g.1 ∙ append_assoc a g.0 h.0)
-
-pub grown-none : (a : List (List ℕ)) → Grown a a
-grown-none a = ([], sym (append-nil a))
 
 written-at : (ops : Table) (names later : List (List ℕ)) (text : List ℕ) (e : Entry) → Grown names later → EntryIsNamed (length names) e → is_text ops names text e ≡ is_text ops later text e
 written-at ops names later text e g named =

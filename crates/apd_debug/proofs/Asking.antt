@@ -13,8 +13,9 @@ use Rattle.apd_debug.specs.Conversing.{Conversing}
 use Rattle.apd_debug.proofs.Going.{kept_through}
 use Rattle.apd_io.specs.declared.sink.Sink as Sink
 use Rattle.apd_io.specs.declared.source.Source as Source
-use Rattle.apd_lines.proofs.Growing.{Grown-self, Grown-more}
+use Rattle.apd_lines.proofs.Growing.{Grown-self}
 use Rattle.apd_oracle.specs.declared.dialogue.Dialogue.{Dialogue}
+use Rattle.apd_oracle.proofs.Waiting.{Keeps-more}
 use Rattle.apd_talk.specs.Moment.{Keeps, Moment}
 
 Keeps-self : (p : Moment) → IsKept p.console → Keeps p p
@@ -24,15 +25,6 @@ Keeps-self p sound = record {
   ops = refl;
   over = (refl, refl);
   sound = sound;
-}
-
-Keeps-more : (p q r : Moment) → Keeps p q → Keeps q r → Keeps p r
-Keeps-more p q r one two = record {
-  names = Grown-more p.spoken.log.names q.spoken.log.names r.spoken.log.names one.names two.names;
-  few = let a = one.few in let b = two.few in omega (arith, a, b);
-  ops = two.ops ∙ one.ops;
-  over = (two.over.0 ∙ one.over.0, two.over.1 ∙ one.over.1);
-  sound = two.sound;
 }
 
 -- what every call keeps is kept by a whole diagnosis

@@ -10,6 +10,7 @@ use Rattle.apd_answers.specs.Store.{Store}
 use Rattle.apd_answers.specs.declared.question.Asked.{Asked}
 use Rattle.apd_answers.specs.declared.question.Reply.{Reply}
 use Rattle.apd_known.specs.Pairs.{MayAsk}
+use Rattle.apd_known.proofs.Kept.{QuestionIsNamed-more}
 use Rattle.apd_lines.proofs.Growing.{Grown-length}
 use Rattle.apd_text.specs.Named.{QuestionIsNamed, ReplyIsNamed}
 use Rattle.apd_text.specs.declared.entry.Entry.{Entry}
@@ -18,7 +19,7 @@ use Rattle.apd_debug.specs.Known.{KeepsNamed}
 use Rattle.apd_debug.specs.NamedStates.{AreReplies}
 use Rattle.apd_debug.proofs.Going.{grown_through, known_through}
 use Rattle.apd_debug.proofs.Known.{asked-may, asked-named}
-use Rattle.apd_debug.proofs.NamedReplies.{AreReplies-more, QuestionIsNamed-more, with_pair-replies}
+use Rattle.apd_debug.proofs.NamedReplies.{AreReplies-more, with_pair-replies}
 
 module _ {D E O : Type 0} (d : Diagnosis D E) (found : E → Entry) (IsKnown : ℕ → Store → D → Type 0) (keeps : KeepsNamed d found IsKnown) (step : O → Call → O → Type 0) (c : Conversing step) where
   abbrev count_at : O → ℕ

@@ -102,7 +102,7 @@ turn_of-named n R store s (Some l) named goal = by (list_all is_ground l.instanc
 turn-named : (P : List Tuple) (R : Recorded) (n : ℕ) (store : Store) (s : Unanswered) → IsKnownGoal P n store s → TurnIsNamed n ((missing P R).turn store s)
 turn-named P R n store s known = turn_of-named n R store s (first_open store s.goal 1 P) (first_open-named n store s.goal 1 P known.program known.goal) known.goal
 
-tuples-more : (n m : ℕ) (P : List Tuple) → n ≤ m → AllTuplesNamed n P → AllTuplesNamed m P
+pub tuples-more : (n m : ℕ) (P : List Tuple) → n ≤ m → AllTuplesNamed n P → AllTuplesNamed m P
 tuples-more n m [] less named = tt
 tuples-more n m (t ∷ P) less named = (TupleIsNamed-more n m t less named.0, tuples-more n m P less named.1)
 

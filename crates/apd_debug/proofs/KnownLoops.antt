@@ -22,6 +22,7 @@ use Rattle.apd_term.specs.Canonical.{canonical}
 use Rattle.apd_term.specs.Named.{AllNamed, IsNamed}
 use Rattle.apd_term.specs.Term.{Term}
 use Rattle.apd_term.proofs.Named.{IsNamed-canonical, IsNamed-more, TupleIsNamed-more}
+use Rattle.apd_clauses.proofs.FaultNames.{AllNamed-take}
 use Rattle.apd_text.specs.Named.{EntryIsNamed, FindingIsNamed, HasStandardNames, QuestionIsNamed}
 use Rattle.apd_wrong.specs.Wrong.{wrong}
 use Rattle.apd_debug.specs.Known.{KeepsNamed}
@@ -44,12 +45,6 @@ call_atom-named n R (suc i) named = or_no_row-named n R.boxes i named.boxes
 call_of-named : (n : ℕ) (R : Recorded) (chain : List ℕ) (i : ℕ) → RecordIsNamed n R → IsNamed n (call_of R chain i)
 call_of-named n R chain i named = IsNamed-canonical n (call_atom R (numbered 0 chain i)) (call_atom-named n R (numbered 0 chain i) named)
 
--- the goals before a call
-take-named : (n k : ℕ) (atoms : List Term) → AllNamed n atoms → AllNamed n (take k atoms)
-take-named n zero atoms named = tt
-take-named n (suc k) [] named = tt
-take-named n (suc k) (a ∷ atoms) named = (named.0, take-named n k atoms named.1)
-
 earlier_from-named : (n : ℕ) (atoms : List Term) (exits : List ℕ) → AllNamed n atoms → AllEarlierNamed n (earlier_from atoms exits)
 earlier_from-named n [] exits named = tt
 earlier_from-named n (a ∷ atoms) [] named = tt
@@ -63,7 +58,7 @@ earlier_goals-named : (n : ℕ) (R : Recorded) (chain : List ℕ) (i : ℕ) → 
 earlier_goals-named n R chain i named =
     let callee = numbered 0 chain (i + 1) in
     let p = calling_point R callee in
-    earlier_from-named n (earlier_atoms R callee) (exits_to R (row_of R callee).from) (take-named n p.done p.tuple.body (point_of-named n R (row_of R callee).from named).1)
+    earlier_from-named n (earlier_atoms R callee) (exits_to R (row_of R callee).from) (AllNamed-take n p.done p.tuple.body (point_of-named n R (row_of R callee).from named).1)
 
 -- what a turn asks about, leads to and finds is named
 abbrev EndIsNamed : ℕ → LoopEnd → Type 0

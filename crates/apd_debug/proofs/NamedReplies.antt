@@ -1,5 +1,5 @@
 -- What a store decides is named where its replies are.
-use Rattle.std.proofs.Common.{◌≡◌, ℕ, ◌≤◌, arith, List, [], ◌∷◌, ◌++◌, Bool, true, false, Option, Some, None, subst}
+use Rattle.std.proofs.Common.{◌≡◌, ℕ, ◌≤◌, List, [], ◌∷◌, ◌++◌, Bool, true, false, Option, Some, None, subst}
 use Rattle.std.specs.Bool.{then_some}
 use Rattle.std.specs.List.{list_any}
 use Rattle.std.specs.Option.{option_or}
@@ -14,47 +14,20 @@ use Rattle.apd_answers.specs.declared.question.Reply.TheVariants.{Yes, No, Value
 use Rattle.apd_answers.specs.declared.store.Pair.{Pair}
 use Rattle.apd_term.specs.Matching.{is_instance}
 use Rattle.apd_term.specs.Term.{Term}
-use Rattle.apd_term.specs.declared.term.Pred.{Pred}
-use Rattle.apd_term.proofs.Named.{AllNamed-more, IsNamed-more, TupleIsNamed-more}
-use Rattle.apd_known.specs.Pairs.{AllMayTrust, AllStatable, IsStatable}
-use Rattle.apd_text.specs.Named.{QuestionIsNamed, ReplyIsNamed}
+use Rattle.apd_known.specs.Pairs.{AllStatable, IsStatable}
+use Rattle.apd_known.proofs.Kept.{all_more, one_more, all_trust_more}
+use Rattle.apd_text.specs.Named.{ReplyIsNamed}
 use Rattle.apd_debug.specs.NamedStates.{AreReplies}
 
-pub ReplyIsNamed-more : (n m : ℕ) (r : Reply) → n ≤ m → ReplyIsNamed n r → ReplyIsNamed m r
-ReplyIsNamed-more n m Yes less named = tt
-ReplyIsNamed-more n m No less named = tt
-ReplyIsNamed-more n m (Values values) less named = AllNamed-more n m values less named
-ReplyIsNamed-more n m Unknown less named = tt
-
-pub QuestionIsNamed-more : (n m : ℕ) (q : Question) → n ≤ m → QuestionIsNamed n q → QuestionIsNamed m q
-QuestionIsNamed-more n m (True a) less named = IsNamed-more n m a less named
-QuestionIsNamed-more n m (Covers t) less named = TupleIsNamed-more n m t less named
-QuestionIsNamed-more n m (Below q p) less named = (IsNamed-more n m q less named.0, IsNamed-more n m p less named.1)
-
-statable-more : (n m : ℕ) (p : Pair) → n ≤ m → IsStatable n p → IsStatable m p
-statable-more n m p less is = record { asked = is.asked; fits = is.fits; question_named = QuestionIsNamed-more n m p.question less is.question_named; reply_named = ReplyIsNamed-more n m p.reply less is.reply_named }
-
-pairs-more : (n m : ℕ) (pairs : List Pair) → n ≤ m → AllStatable n pairs → AllStatable m pairs
-pairs-more n m [] less are = tt
-pairs-more n m (p ∷ pairs) less are = (statable-more n m p less are.0, pairs-more n m pairs less are.1)
-
-trust-more : (n m : ℕ) (preds : List Pred) → n ≤ m → AllMayTrust n preds → AllMayTrust m preds
-trust-more n m [] less may = tt
-trust-more n m (p ∷ preds) less may = (record { own = may.0.own; named = let first = may.0.named in omega (arith, first, less) }, trust-more n m preds less may.1)
-
 pub AreReplies-more : (n m : ℕ) (store : Store) → n ≤ m → AreReplies n store → AreReplies m store
-AreReplies-more n m store less are = record { pairs = pairs-more n m store.pairs less are.pairs; trust = trust-more n m store.trusted less are.trust }
-
-replies-append : (n : ℕ) (pairs : List Pair) (p : Pair) → AllStatable n pairs → IsStatable n p → AllStatable n (pairs ++ p ∷ [])
-replies-append n [] p are last = (last, tt)
-replies-append n (q ∷ pairs) p are last = (are.0, replies-append n pairs p are.1 last)
+AreReplies-more n m store less are = record { pairs = all_more n m store.pairs less are.pairs; trust = all_trust_more n m store.trusted less are.trust }
 
 pub with_pair-replies : (n : ℕ) (store : Store) (q : Question) (r : Reply) → AreReplies n store → IsStatable n (record { question = q; reply = r }) → AreReplies n (with_pair store q r)
 with_pair-replies n store q r are last = record { pairs = by (is_kept store q r); trust = are.trust }
   where
     by : (b : Bool) → AllStatable n (if b then store.pairs else store.pairs ++ record { question = q; reply = r } ∷ [])
     by true = are.pairs
-    by false = replies-append n store.pairs (record { question = q; reply = r }) are.pairs last
+    by false = one_more n store.pairs (record { question = q; reply = r }) are.pairs last
 
 -- the replies of a store fit its questions
 all_fit_in : (n : ℕ) (pairs : List Pair) → AllStatable n pairs → AllFitIn pairs

@@ -17,6 +17,7 @@ use Rattle.apd_ports.specs.declared.point.Point.{Point}
 use Rattle.apd_record.specs.Recorded.{Recorded, is_user_atom, empty, noted, passed_at}
 use Rattle.apd_record.specs.declared.rows.BoxRow.{BoxRow}
 use Rattle.apd_record.specs.Reading.{no_point, point_of, exits_to}
+use Rattle.apd_record.proofs.Shaped.{mapped}
 use Rattle.apd_trace.specs.declared.item.Item.{Item}
 use Rattle.apd_trace.specs.declared.item.Item.TheVariants.{Passed, Answer, Made, Error}
 use Rattle.apd_trace.specs.Named.{AllItemsNamed, ItemIsNamed}
@@ -31,7 +32,7 @@ use Rattle.apd_divide.specs.declared.node.Verdict.TheVariants as verdicts
 use Rattle.apd_divide.specs.Tree.{Tree, Forest, node, bare, beside, marked, doubts, doubts_of}
 use Rattle.apd_divide.specs.Choice.{Cut, Among, Way, at_node, cut, cut_among, judged}
 use Rattle.apd_divide.specs.Recorded.{renamed_apart, instance_with, nodes_for, tree_in, tree}
-use Rattle.apd_divide.proofs.Weights.{stopped, down, along, found, map_some}
+use Rattle.apd_divide.proofs.Weights.{stopped, down, along, found}
 use Rattle.apd_debug.specs.NamedTrees.{HoldsInTree, HoldsInForest, TreeIsNamed, InstancesAreNamed, AllPointsNamed, AllBoxesNamed, RecordIsNamed}
 
 -- the instances of nodes beside each other are named
@@ -63,7 +64,7 @@ module _ (Q : Tuple → Type 0) where
   mutual
     pub cut-holds : (way : Way) (x : Tree) (c : Cut) → cut way x ≡ Some c → HoldsInTree Q x → HoldsInCut c
     cut-holds way (node s k t ts) c e holds =
-        let m = map_some (at_node (node s k t)) (cut_among way ts) c e in
+        let m = mapped (at_node (node s k t)) (cut_among way ts) c e in
         let a = cut_among-holds way ts m.0 m.1 holds.1 in
         subst HoldsInCut m.2 (a.0, λ v. (holds.0, a.1 v))
 

@@ -1,12 +1,12 @@
 -- The diagnosis of a missing answer asks what may be asked, and its goals have no variables.
-use Rattle.std.proofs.Common.{◌≡◌, ℕ, ◌+◌, ◌<◌, ◌++◌, ◌&&◌, not, List, [], ◌∷◌, length, Bool, true, false, Option, Some, None, arith, refl, sym, ◌∙◌, ap, subst}
-use Rattle.std.specs.List.{AllByRecursion, flat_map, list_all}
+use Rattle.std.proofs.Common.{◌≡◌, ℕ, ◌+◌, ◌<◌, ◌&&◌, not, List, [], ◌∷◌, length, Bool, true, false, Option, Some, None, arith, refl, sym, ◌∙◌, ap, subst}
+use Rattle.std.specs.List.{AllByRecursion, list_all}
 use Rattle.std.specs.Prelude.{All, if◌then◌else◌}
 use Rattle.std.proofs.lemmas.List.{length-map}
 use Rattle.std.proofs.lemmas.List.Elements.{All-head, All-tail}
+use Rattle.std.proofs.lemmas.Bool.{and_parts}
 use Rattle.apd_answers.proofs.Fitted.{decided-covers}
 use Rattle.apd_answers.proofs.Places.{values_ground}
-use Rattle.apd_answers.proofs.Tests.{both}
 use Rattle.apd_answers.specs.Dialogue.{Turn, asks, goes, ends}
 use Rattle.apd_answers.specs.Findings.{instance_for}
 use Rattle.apd_answers.specs.Fitting.{AllFit}
@@ -24,12 +24,14 @@ use Rattle.apd_clauses.specs.Kinds.{IsUserAtom}
 use Rattle.apd_known.specs.Pairs.{MayAsk}
 use Rattle.apd_missing.specs.Missing.{Looked, after_values, covers, first_open, first_undecided, is_closed, is_open, is_undecided, missing, turn_of, turn_of_ground}
 use Rattle.apd_missing.specs.declared.state.Unanswered.{Unanswered}
+use Rattle.apd_missing.proofs.Given.{list_ground}
+use Rattle.apd_missing.proofs.Rising.{canonical_again}
 use Rattle.apd_record.specs.Recorded.{Recorded, is_user_atom}
 use Rattle.apd_term.proofs.Ground.{apply-ground}
 use Rattle.apd_term.proofs.Opposite.{is_instance-is}
-use Rattle.apd_term.proofs.Tuples.{AreTupleVariants_from_instances, IsTupleInstance-canonical, IsTupleInstance_from_variants, canonical_is_instance}
+use Rattle.apd_term.proofs.Tuples.{IsTupleInstance_from_variants}
 use Rattle.apd_term.specs.Matching.{is_instance, matching}
-use Rattle.apd_term.specs.Term.{IsGround, Term, apply, variables}
+use Rattle.apd_term.specs.Term.{IsGround, Term, apply}
 use Rattle.apd_term.specs.Tuple.{canonical_tuple}
 use Rattle.apd_term.specs.declared.tuple.Tuple.{Tuple}
 use Rattle.apd_debug.proofs.Followed.{followed-holds}
@@ -47,7 +49,7 @@ first_open-own store goal k (c ∷ cs) all ground = by (is_open store goal c) re
     by : (b : Bool) → is_open store goal c ≡ b → LookedIsOwn (first_open store goal (k + 1) cs)
         → LookedIsOwn (if b then Some (record { clause = k; instance = instance_for c goal }) else first_open store goal (k + 1) cs)
     by true is rest =
-        let matches = both (is_instance goal c.head) (not (is_closed store (instance_for c goal))) is in
+        let matches = and_parts (is_instance goal c.head) (not (is_closed store (instance_for c goal))) is in
         let clause = All-head IsClause c cs all in
         let same = length-map c.body (apply (matching c.head goal)) in
         let few = clause.body.few in
@@ -69,7 +71,7 @@ first_undecided-own store [] pure = tt
 first_undecided-own store (a ∷ atoms) pure = by (is_user_atom a && is_undecided (decided store (asking.True a))) refl (first_undecided-own store atoms pure.1)
   where
     by : (b : Bool) → (is_user_atom a && is_undecided (decided store (asking.True a))) ≡ b → MayBeOwn (first_undecided store atoms) → MayBeOwn (if b then Some a else first_undecided store atoms)
-    by true is rest = own_of_pure a pure.0 (both (is_user_atom a) (is_undecided (decided store (asking.True a))) is).0
+    by true is rest = own_of_pure a pure.0 (and_parts (is_user_atom a) (is_undecided (decided store (asking.True a))) is).0
     by false is rest = rest
 
 -- values make a body without variables
@@ -80,14 +82,6 @@ GivesGround (asking.Covers t) Yes = Unit {0}
 GivesGround (asking.Covers t) No = Unit {0}
 GivesGround (asking.Covers t) Unknown = Unit {0}
 GivesGround (asking.Covers t) (Values values) = AllByRecursion IsGround (with_values t values)
-
-list_ground : (ts : List Term) → flat_map variables ts ≡ [] → AllByRecursion IsGround ts
-list_ground [] none = tt
-list_ground (t ∷ ts) none = let p = parts (variables t) (flat_map variables ts) none in (p.0, list_ground ts p.1)
-  where
-    parts : (xs ys : List ℕ) → xs ++ ys ≡ [] → (xs ≡ []) × (ys ≡ [])
-    parts [] ys none = (refl, none)
-    parts (x ∷ xs) ys none = cc
 
 pub gives_fitting : (q : Question) (r : Reply) → MayAsk q → Fits q r → GivesGround q r
 gives_fitting (asking.True a) r may fits = tt
@@ -112,9 +106,6 @@ gives_decided store (asking.Covers t) (Values values) fit may is =
     let c = decided-covers store t (Values values) fit is in
     let ground = same_ground c.0 t c.1 may.ground in
     subst (AllByRecursion IsGround) (ap (λ (x : Tuple). body_with x values) c.1) (list_ground (with_values c.0 values) (values_ground c.0 values ground c.2.ground c.2.count))
-
-canonical_again : (t : Tuple) → canonical_tuple (canonical_tuple t) ≡ canonical_tuple t
-canonical_again t = AreTupleVariants_from_instances (canonical_tuple t) t (IsTupleInstance-canonical t) (canonical_is_instance t)
 
 after_values-ground : (R : Recorded) (s : Unanswered) (l : Looked) (r : Reply) → GivesGround (covers l.instance).question r → IsGround s.goal → IsGround (after_values R s l r).goal
 after_values-ground R s l Yes gives goal = goal

@@ -3,7 +3,7 @@ use Rattle.std.proofs.Common.{◌≡◌, ℕ, zero, suc, ◌+◌, ◌≤◌, Boo
 use Rattle.std.specs.Prelude.{All, slice_get, ◌&&◌, if◌then◌else◌}
 use Rattle.std.specs.List.{AllByRecursion}
 use Rattle.std.specs.Option.{unwrap_or}
-use Rattle.apd_answers.proofs.Tests.{both}
+use Rattle.std.proofs.lemmas.Bool.{and_parts}
 use Rattle.apd_answers.specs.Store.{empty_store}
 use Rattle.apd_clauses.specs.Clauses.{IsClause}
 use Rattle.apd_clauses.specs.Kinds.{IsPureGoal, IsUserAtom}
@@ -138,7 +138,7 @@ module _ (P : List Tuple) (all : All IsClause P) (R : Recorded) (sound : IsSound
 
         by : (t : Bool) → (b.is_user && is_active b.last) ≡ t → (k : ℕ) → slice_get (if t then first ∷ numbers is_in_chain (first + 1) bs else numbers is_in_chain (first + 1) bs) k ≡ Some m
             → ((i : ℕ) → slice_get (numbers is_in_chain (first + 1) bs) i ≡ Some m → IsUserIn (first + 1) bs m) → IsUserIn first (b ∷ bs) m
-        by true is zero at rest = let same : first ≡ m = cc in record { place = 0; row = b; number = omega (arith, same); there = refl; user = (both b.is_user (is_active b.last) is).0 }
+        by true is zero at rest = let same : first ≡ m = cc in record { place = 0; row = b; number = omega (arith, same); there = refl; user = (and_parts b.is_user (is_active b.last) is).0 }
         by true is (suc k) at rest = later (rest k at)
         by false is k at rest = later (rest k at)
 

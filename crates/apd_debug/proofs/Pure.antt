@@ -2,16 +2,14 @@
 use Rattle.std.proofs.Common.{◌≡◌, inl, inr, ℕ, zero, suc, ◌<◌, ◌≤◌, true, List, [], ◌∷◌, length, map, Option, Some, None, sym, ◌∙◌, ap, subst, arith}
 use Rattle.std.specs.Prelude.{All, IsSome, slice_get}
 use Rattle.std.specs.List.{AllByRecursion}
-use Rattle.std.specs.Option.{option_map}
 use Rattle.std.proofs.lemmas.List.{length-map}
 use Rattle.std.proofs.lemmas.List.Elements.{All-from_recursion, recursion_from_All}
 use Rattle.apd_arith.specs.declared.goal.Builtin.{Builtin}
 use Rattle.apd_arith.specs.Builtins.{builtin_of_atom}
-use Rattle.apd_clauses.proofs.Pure.{goal_is_atom, user_is_atom}
 use Rattle.apd_clauses.specs.Clauses.{IsClause}
-use Rattle.apd_clauses.specs.Kinds.{IsPureGoal, IsUserAtom, kind_of}
+use Rattle.apd_clauses.specs.Kinds.{IsPureGoal, IsUserAtom}
 use Rattle.apd_known.specs.Pairs.{MayCover}
-use Rattle.apd_record.proofs.Atoms.{predicate-same}
+use Rattle.apd_record.proofs.Atoms.{IsPureGoal-apply, IsUserAtom-apply}
 use Rattle.apd_record.specs.Recorded.{is_none, is_user_atom}
 use Rattle.apd_record.specs.Sound.{clause_of}
 use Rattle.apd_recorded.proofs.Tried.{All-at}
@@ -22,18 +20,11 @@ use Rattle.apd_term.specs.Term.{IsGround, Term, apply}
 use Rattle.apd_term.specs.Tuple.{IsTupleInstance, canonical_tuple}
 use Rattle.apd_term.specs.declared.tuple.Tuple.{Tuple}
 
-user-apply : (s : ℕ → Term) (a : Term) → IsUserAtom a → IsUserAtom (apply s a)
-user-apply s a user = ap (option_map kind_of) (predicate-same s a (user_is_atom a user)) ∙ user
-
 pub user-instance : (a b : Term) → IsInstance a b → IsUserAtom b → IsUserAtom a
-user-instance a b i user = subst IsUserAtom i.1 (user-apply i.0 b user)
-
-pure-apply : (s : ℕ → Term) (a : Term) → IsPureGoal a → IsPureGoal (apply s a)
-pure-apply s a (inl user) = inl (user-apply s a user)
-pure-apply s a (inr builtin) = let same = predicate-same s a (goal_is_atom a (inr builtin)) in inr (rw same builtin)
+user-instance a b i user = subst IsUserAtom i.1 (IsUserAtom-apply i.0 b user)
 
 pub pure-instance : (a b : Term) → IsInstance a b → IsPureGoal b → IsPureGoal a
-pure-instance a b i pure = subst IsPureGoal i.1 (pure-apply i.0 b pure)
+pure-instance a b i pure = subst IsPureGoal i.1 (IsPureGoal-apply i.0 b pure)
 
 -- a goal of pure Prolog that isn't built in
 not_own : (o : Option Builtin) → is_none o ≡ true → IsSome o → ⊥
@@ -50,7 +41,7 @@ ArePure goals = AllByRecursion IsPureGoal goals
 
 pub pure-map : (s : ℕ → Term) (goals : List Term) → ArePure goals → ArePure (map (apply s) goals)
 pure-map s [] pure = tt
-pure-map s (a ∷ goals) pure = (pure-apply s a pure.0, pure-map s goals pure.1)
+pure-map s (a ∷ goals) pure = (IsPureGoal-apply s a pure.0, pure-map s goals pure.1)
 
 pub pure_body : (t u : Tuple) → IsTupleInstance t u → ArePure u.body → ArePure t.body
 pure_body t u i pure = subst (λ (x : Tuple). ArePure x.body) i.1 (pure-map i.0 u.body pure)

@@ -7,11 +7,11 @@ use Rattle.apd_answers.specs.declared.question.Question.{Question}
 use Rattle.apd_answers.specs.declared.question.Question.TheVariants as asks
 use Rattle.apd_answers.specs.declared.question.Reply.{Reply}
 use Rattle.apd_answers.specs.declared.question.Reply.TheVariants.{Yes, No}
-use Rattle.apd_answers.proofs.Trusted.{predicate-apply}
 use Rattle.apd_gen.specs.Nodes.{is_true_node}
 use Rattle.apd_term.specs.Term.{Term, integer, apply, predicate_of}
 use Rattle.apd_term.specs.declared.term.Pred.{Pred}
 use Rattle.apd_term.proofs.Ground.{IsGround-apply}
+use Rattle.apd_record.proofs.Atoms.{predicate-apply}
 use Rattle.apd_demo.specs.Replies.{HoldsTree, TreeNodes, node_of, place_by, reply_about, tree_reply}
 
 -- an instance is the atom of the same node

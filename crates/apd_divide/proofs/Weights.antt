@@ -3,8 +3,10 @@ use Rattle.std.proofs.Common.{◌≡◌, ℕ, ◌+◌, ◌-◌, ◌*◌, ◌<◌
 use Rattle.std.specs.Prelude.{nat_le, ◌==◌}
 use Rattle.std.specs.Option.{option_map}
 use Rattle.std.proofs.lemmas.Bool.Decides.{nat_tests}
+use Rattle.std.proofs.lemmas.Bool.{and_parts}
 use Rattle.apd_term.specs.Term.{Term}
 use Rattle.apd_term.specs.declared.instance.Instance.{Instance}
+use Rattle.apd_record.proofs.Shaped.{mapped}
 use Rattle.apd_divide.specs.declared.node.Standing.{Standing}
 use Rattle.apd_divide.specs.declared.node.Standing.TheVariants.{Open, Cleared, Doubted}
 use Rattle.apd_divide.specs.declared.node.Verdict.{Verdict}
@@ -18,10 +20,6 @@ use Rattle.apd_divide.specs.Choice.{Cut, Among, Way, at_node, in_front_of, behin
 pub by_test : {C : Type 0} (b : Bool) → (b ≡ true → C) → (b ≡ false → C) → C
 by_test true f g = f refl
 by_test false f g = g refl
-
-pub map_some : {A B : Type 0} (f : A → B) (o : Option A) (y : B) → option_map f o ≡ Some y → (x : A) × (o ≡ Some x) × (f x ≡ y)
-map_some f None y e = absurd (cc)
-map_some f (Some x) y e = (x, refl, cc)
 
 pub le_true : (a b : ℕ) → nat_le a b ≡ true → a ≤ b
 le_true a b e = grind (arith, nat_tests)
@@ -70,17 +68,17 @@ found way x xs a e =
     (λ s. let f : Some (here x xs) ≡ Some a = rw (t, s) at e in stopped t s (cc))
     (λ s.
     let f : option_map (in_front_of xs) (cut way x) ≡ Some a = rw (t, s) at e in
-    let m = map_some (in_front_of xs) (cut way x) a f in
+    let m = mapped (in_front_of xs) (cut way x) a f in
     down t s m.0 m.1 m.2))
     (λ t.
     let f : option_map (behind x) (cut_among way xs) ≡ Some a = rw t at e in
-    let m = map_some (behind x) (cut_among way xs) a f in
+    let m = mapped (behind x) (cut_among way xs) a f in
     along t m.0 m.1 m.2)
 
 -- a cut leaves the root as it was judged
 cut_open : (way : Way) (v : Standing) (x : Tree) (c : Cut) → cut way x ≡ Some c → standing (c.rest v) ≡ standing x
 cut_open way v (node s n t ts) c e =
-    let m = map_some (at_node (node s n t)) (cut_among way ts) c e in
+    let m = mapped (at_node (node s n t)) (cut_among way ts) c e in
     subst (λ (d : Cut). standing (d.rest v) ≡ s) m.2 refl
 
 weight_of : (x : Tree) → weight x ≡ weight_by (standing x) (suspects x)
@@ -104,7 +102,7 @@ pub record Splits (chosen : Tree) (whole : ℕ) (rest : Standing → ℕ) : Type
 mutual
   pub cut-splits : (way : Way) → TakesSuspects way → (x : Tree) (c : Cut) → cut way x ≡ Some c → Splits c.chosen (suspects x) (λ v. suspects (c.rest v))
   cut-splits way h (node s n t ts) c e =
-      let m = map_some (at_node (node s n t)) (cut_among way ts) c e in
+      let m = mapped (at_node (node s n t)) (cut_among way ts) c e in
       let k = cut_among-splits way h ts m.0 m.1 in
       subst (λ (d : Cut). Splits d.chosen (weights ts) (λ v. suspects (d.rest v))) m.2 (record { suspect = k.suspect; sum = k.sum })
 
@@ -159,10 +157,6 @@ pub heaviest_weights : (ts : Forest) → heaviest ts ≤ weights ts
 heaviest_weights bare = omega arith
 heaviest_weights (beside x xs) = let h = heaviest_weights xs in omega (arith, h)
 
-and_true : (a b : Bool) → (a && b) ≡ true → (a ≡ true) × (b ≡ true)
-and_true true b e = (refl, e)
-and_true false b e = absurd (cc)
-
 and_false : (a b : Bool) → a ≡ true → (a && b) ≡ false → b ≡ false
 and_false true b e f = f
 and_false false b e f = absurd (cc)
@@ -175,7 +169,7 @@ half_positive u h = omega arith
 
 pub halving-takes : (most : ℕ) (x : Tree) (xs : Forest) → (halving most).takes x xs ≡ true → (1 ≤ weight x) × (heaviest xs ≤ weight x)
 halving-takes most x xs t =
-    let p = and_true (has_suspects x) (nat_le (heaviest xs) (weight x)) t in
+    let p = and_parts (has_suspects x) (nat_le (heaviest xs) (weight x)) t in
     (le_true 1 (weight x) p.0, le_true (heaviest xs) (weight x) p.1)
 
 pub halving-leaves : (most : ℕ) (x : Tree) (xs : Forest) → 1 ≤ weight x → (halving most).takes x xs ≡ false → weight x < heaviest xs
@@ -184,7 +178,7 @@ halving-leaves most x xs h t = le_false (heaviest xs) (weight x) (and_false (has
 pub halving-suspects : (most : ℕ) → TakesSuspects (halving most)
 halving-suspects most = record {
   some = λ x xs t. (halving-takes most x xs t).0;
-  suspect = λ x h s. (and_true (is_suspect x) (nat_le (weight x) most) s).0;
+  suspect = λ x h s. (and_parts (is_suspect x) (nat_le (weight x) most) s).0;
 }
 
 -- a suspect at which divide and query doesn't stop is heavier
@@ -299,7 +293,7 @@ mutual
 pub such-suspects : (such : Term → Bool) → TakesSuspects (to_such such)
 such-suspects such = record {
   some = λ x xs t. has_such-weighs such x t;
-  suspect = λ x h s. (and_true (is_suspect x) (such (label x)) s).0;
+  suspect = λ x h s. (and_parts (is_suspect x) (such (label x)) s).0;
 }
 
 pub such-lowers : (such : Term → Bool) (x : Tree) (c : Cut) → first_such such x ≡ Some c → suspects (c.rest Cleared) < suspects x
@@ -313,7 +307,7 @@ such-lowers such x c e =
 mutual
   pub cut-stops : (way : Way) (x : Tree) (c : Cut) → cut way x ≡ Some c → way.stops c.chosen ≡ true
   cut-stops way (node s n t ts) c e =
-      let m = map_some (at_node (node s n t)) (cut_among way ts) c e in
+      let m = mapped (at_node (node s n t)) (cut_among way ts) c e in
       subst (λ (d : Cut). way.stops d.chosen ≡ true) m.2 (cut_among-stops way ts m.0 m.1)
 
   cut_among-stops : (way : Way) (ts : Forest) (a : Among) → cut_among way ts ≡ Some a → way.stops a.chosen ≡ true
@@ -325,7 +319,7 @@ mutual
   ]
 
 pub such-label : (such : Term → Bool) (x : Tree) (c : Cut) → first_such such x ≡ Some c → such (label c.chosen) ≡ true
-such-label such x c e = (and_true (is_suspect c.chosen) (such (label c.chosen)) (cut-stops (to_such such) x c e)).1
+such-label such x c e = (and_parts (is_suspect c.chosen) (such (label c.chosen)) (cut-stops (to_such such) x c e)).1
 
 sum_times : (a d c : ℕ) → a * c ≤ (a + d) * c
 sum_times a d c = omega arith
@@ -379,7 +373,7 @@ undoubted-suspect (node Doubted c t ts) h e = absurd (cc)
 mutual
   pub share : (b most : ℕ) → (x : Tree) → IsUndoubted x → branching x ≤ b → most ≤ suspects x → (c : Cut) → cut (halving most) x ≡ Some c → IsShare b most (weight c.chosen)
   share b most (node s n t ts) u h l c e =
-      let m = map_some (at_node (node s n t)) (cut_among (halving most) ts) c e in
+      let m = mapped (at_node (node s n t)) (cut_among (halving most) ts) c e in
       subst (λ (d : Cut). IsShare b most (weight d.chosen)) m.2 (share_among b most ts u (omega (arith, h)) (widest b most ts (omega (arith, h)) l) m.0 m.1)
 
   pub share_among : (b most : ℕ) → (ts : Forest) → doubts_of ts ≡ [] → branchings ts ≤ b → most ≤ heaviest ts * b → (a : Among) → cut_among (halving most) ts ≡ Some a → IsShare b most (weight a.chosen)
@@ -389,7 +383,7 @@ mutual
       elim (found (halving most) x xs a e) [
         | stopped t s f ↦
             let k = halving-takes most x xs t in
-            let o = (and_true (is_suspect x) (nat_le (weight x) most) s).1 in
+            let o = (and_parts (is_suspect x) (nat_le (weight x) most) s).1 in
             subst (λ (d : Among). IsShare b most (weight d.chosen)) f (record { below = le_true (weight x) most o; above = heavy_here b most (weight x) (heaviest xs) k.1 l })
         | down t s c g f ↦
             let k = halving-takes most x xs t in

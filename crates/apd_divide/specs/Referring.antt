@@ -5,8 +5,8 @@ use Rattle.apd_term.specs.declared.tuple.Tuple.{Tuple}
 use Rattle.apd_record.specs.Reading.{point_of}
 use Rattle.apd_divide.specs.declared.label.LabelPlace.{LabelPlace}
 use Rattle.apd_divide.specs.declared.label.LabelPlace.TheVariants as labels
-use Rattle.apd_divide.specs.declared.node_tuple.TupleSource.{TupleSource}
-use Rattle.apd_divide.specs.declared.node_tuple.TupleSource.TheVariants as tuples
+use Rattle.apd_divide.specs.declared.node_tuple.NodeTuplePlace.{NodeTuplePlace}
+use Rattle.apd_divide.specs.declared.node_tuple.NodeTuplePlace.TheVariants as tuples
 use Rattle.apd_divide.specs.declared.goals.GoalsPlace.{GoalsPlace}
 use Rattle.apd_divide.specs.declared.goals.GoalsPlace.TheVariants as goals
 
@@ -18,12 +18,12 @@ abbrev pub IsLabelThere : LabelPlace → Type 0
 IsLabelThere (labels.Recorded recorded exit) = exit.0 < length recorded.now.points
 IsLabelThere (labels.Own label) = Unit {0}
 
-abbrev pub tuple_in : TupleSource → Tuple
+abbrev pub tuple_in : NodeTuplePlace → Tuple
 tuple_in (tuples.Recorded exit pred recorded) = (point_of recorded.now exit.0).tuple
 tuple_in (tuples.Own tuple) = tuple.value
 
 -- the exit is there, and its head has the predicate
-abbrev pub IsTupleThere : TupleSource → Type 0
+abbrev pub IsTupleThere : NodeTuplePlace → Type 0
 IsTupleThere (tuples.Recorded exit pred recorded) =
     (exit.0 < length recorded.now.points) × (predicate_of (point_of recorded.now exit.0).tuple.head ≡ Some pred)
 IsTupleThere (tuples.Own tuple) = Unit {0}

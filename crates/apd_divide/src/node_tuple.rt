@@ -15,8 +15,8 @@ use std::marker::Model;
 
 /// Where a tuple is.
 #[derive(Drop)]
-pub enum TupleSource<'a> {
-    /// It is that of this recorded exit, and its head has this predicate. In this order it takes 24 bytes.
+pub enum NodeTuplePlace<'a> {
+    /// It is that of this recorded exit, and its head has this predicate.
     Recorded(PointId, Pred, &'a Record),
     /// It is one of its own.
     Own(Box<Spelled>),
@@ -26,7 +26,7 @@ pub enum TupleSource<'a> {
 /// the tuple.
 #[derive(Drop)]
 pub struct NodeTuple<'a> {
-    place: TupleSource<'a>,
+    place: NodeTuplePlace<'a>,
 }
 
 impl<'a> Model for NodeTuple<'a> {
@@ -51,7 +51,7 @@ impl<'a> NodeTuple<'a> {
         ensures { result ≡ (point_of recorded.now exit.0).tuple }
     {
         NodeTuple {
-            place: TupleSource::Recorded(exit, pred, recorded),
+            place: NodeTuplePlace::Recorded(exit, pred, recorded),
         }
     }
 
@@ -61,7 +61,7 @@ impl<'a> NodeTuple<'a> {
     {
         let spelled = Box::new(alloc, Spelled::of_tuple(alloc, tuple)?)?;
         Ok(NodeTuple {
-            place: TupleSource::Own(spelled),
+            place: NodeTuplePlace::Own(spelled),
         })
     }
 
@@ -70,8 +70,8 @@ impl<'a> NodeTuple<'a> {
         ensures { result ≡ predicate_of self.now.head }
     {
         match &self.place {
-            TupleSource::Recorded(_, pred, _) => Some(*pred),
-            TupleSource::Own(spelled) => spelled.head().pred(),
+            NodeTuplePlace::Recorded(_, pred, _) => Some(*pred),
+            NodeTuplePlace::Own(spelled) => spelled.head().pred(),
         }
     }
 
@@ -80,8 +80,8 @@ impl<'a> NodeTuple<'a> {
         ensures { IfOk result (λ h. h ≡ self.now.head) }
     {
         match &self.place {
-            TupleSource::Recorded(exit, _, recorded) => head_at(recorded, *exit),
-            TupleSource::Own(spelled) => spelled.head().copy(alloc),
+            NodeTuplePlace::Recorded(exit, _, recorded) => head_at(recorded, *exit),
+            NodeTuplePlace::Own(spelled) => spelled.head().copy(alloc),
         }
     }
 
@@ -90,8 +90,8 @@ impl<'a> NodeTuple<'a> {
         ensures { IfOk result (λ t. t ≡ self.now) }
     {
         match &self.place {
-            TupleSource::Recorded(exit, _, recorded) => tuple_at(recorded, *exit),
-            TupleSource::Own(spelled) => spelled.tuple(alloc),
+            NodeTuplePlace::Recorded(exit, _, recorded) => tuple_at(recorded, *exit),
+            NodeTuplePlace::Own(spelled) => spelled.tuple(alloc),
         }
     }
 }

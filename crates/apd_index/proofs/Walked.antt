@@ -1,8 +1,9 @@
 -- What holds after so many symbols of an atom were noted.
-use Rattle.std.proofs.Common.{◌≡◌, ◌⊎◌, inl, inr, ℕ, zero, suc, ◌+◌, ◌<◌, ◌≤◌, ◌++◌, ◌==◌, if◌then◌else◌, Bool, true, false, List, [], ◌∷◌, length, drop, get_or, Some, Result, Ok, Err, refl, sym, ap, ◌∙◌, subst, arith}
+use Rattle.std.proofs.Common.{◌≡◌, ◌⊎◌, inl, inr, ℕ, ◌+◌, ◌<◌, ◌≤◌, ◌++◌, ◌==◌, if◌then◌else◌, Bool, true, false, List, [], ◌∷◌, length, drop, get_or, Result, Ok, Err, refl, sym, ap, ◌∙◌, subst, arith}
 use Rattle.std.specs.Prelude.{IsTrue, OnOk, reverse, slice_get}
 use Rattle.std.proofs.lemmas.Bool.{cases_lt}
 use Rattle.std.proofs.lemmas.List.{drop_all, drop_more, map-append, reverse-append}
+use Rattle.apd_base.proofs.Lists.{slice_get-last, slice_get-front, slice_get-push}
 use Rattle.apd_term.specs.Term.{IsAmong, Term, spell}
 use Rattle.apd_term.specs.declared.term.Sym.{Sym}
 use Rattle.apd_term.specs.declared.term.Sym.TheVariants.{Var}
@@ -67,22 +68,13 @@ drop-nil ps i d e = elim (cases_lt i (length ps)) [
   | inr past ↦ past
 ]
 
-last-there : {X : Type 0} (xs : List X) (x : X) → slice_get (xs ++ x ∷ []) (length xs) ≡ Some x
-last-there [] x = refl
-last-there (y ∷ xs) x = last-there xs x
-
-still-there : {X : Type 0} (xs : List X) (x y : X) (i : ℕ) → slice_get xs i ≡ Some y → slice_get (xs ++ x ∷ []) i ≡ Some y
-still-there [] x y i e = absurd (cc)
-still-there (z ∷ xs) x y zero e = e
-still-there (z ∷ xs) x y (suc i) e = still-there xs x y i e
-
 -- The symbol that is taken, and those that are left.
 module _ (nodes : Nodes) (place : ℕ) (opened left : List Open) (o : Open) (is : opened ≡ left ++ o ∷ []) (opens : AreOpen nodes place opened) where
   pub last-open : IsOpen nodes place o
-  last-open = opens (length left) o (ap (λ (os : List Open). slice_get os (length left)) is ∙ last-there left o)
+  last-open = opens (length left) o (ap (λ (os : List Open). slice_get os (length left)) is ∙ slice_get-last left o)
 
   pub others-open : AreOpen nodes place left
-  others-open i p e = opens i p (ap (λ (os : List Open). slice_get os i) is ∙ still-there left o p i e)
+  others-open i p e = opens i p (ap (λ (os : List Open). slice_get os i) is ∙ slice_get-front left (o ∷ []) i p e)
 
 pub digests-within : (t : Term) (ds : List ℕ) (i : ℕ) → ds ≡ digests t → i < length (positions t) → i < length ds
 digests-within t ds i is l = let h = as-many-digests t (positions t) ds refl is in omega (arith, h, l)
@@ -182,18 +174,12 @@ module _ (t : Term) (xs : List Sym) (place i : ℕ) (first now : Table) (opened 
 pub open-still : (old new : Nodes) (place : ℕ) (opened : List Open) → KeepsNumbers old new → KeepsFounders old new → AreOpen old place opened → AreOpen new place opened
 open-still old new place opened numbers founders are i o e = let h = are i o e in (λ left c n. numbers (record { mark = o.mark; left = left }) c (h.0 left c n), λ f. founders.still o.mark place (h.1 f))
 
-pushed-last : (xs : List Open) (o p : Open) (i : ℕ) → slice_get (xs ++ o ∷ []) i ≡ Some p → (slice_get xs i ≡ Some p) ⊎ (o ≡ p)
-pushed-last [] o p zero e = inr (cc)
-pushed-last [] o p (suc i) e = absurd (cc)
-pushed-last (x ∷ xs) o p zero e = inl e
-pushed-last (x ∷ xs) o p (suc i) e = pushed-last xs o p i e
-
 pub open-next : (nodes : Nodes) (place : ℕ) (opened new : List Open) (o : Open) → new ≡ kept_open o opened → IsOpen nodes place o → AreOpen nodes place opened → AreOpen nodes place new
 open-next nodes place opened new o is here are = subst (AreOpen nodes place) (sym is) (by (o.left == 0))
   where
     by : (b : Bool) → AreOpen nodes place (if b then opened else opened ++ o ∷ [])
     by true = are
-    by false = λ i p e. elim (pushed-last opened o p i e) [ inl before ↦ are i p before | inr same ↦ subst (IsOpen nodes place) same here ]
+    by false = λ i p e. elim (slice_get-push opened o i p e) [ inl before ↦ are i p before | inr same ↦ subst (IsOpen nodes place) same.1 here ]
 
 pub told : {T E P : Type 0} (r : Result T E) → P → OnOk r P
 told (Ok u) h = h

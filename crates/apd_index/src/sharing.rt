@@ -88,7 +88,7 @@ fn kept_founder(nodes: &Nodes, spot: SymbolSpot, row: &Row) -> Option<usize>
 }
 
 /// Leaves those bits that a spot leaves, where its mark has a row.
-fn strike_out(nodes: &Nodes, spot: SymbolSpot, row: &mut Row) -> Result<(), AllocError>
+fn meet_spot(nodes: &Nodes, spot: SymbolSpot, row: &mut Row) -> Result<(), AllocError>
     requires { IsSound nodes.now }
     ensures { OnOk result ((k : ℕ) → HasBit row.old k → Leaves nodes.now k spot
         → HasBit row.new k) }
@@ -113,7 +113,7 @@ pub(crate) fn alike(alloc: Global, nodes: &Nodes, atom: &Flat) -> Result<Row, Al
     let spots = spots_of(alloc, atom)?;
     let mut row = first_row(alloc, nodes, rarest(nodes, spots.as_slice()))?;
     'spots: for spot in spots.as_slice() {
-        strike_out(nodes, *spot, &mut row)?;
+        meet_spot(nodes, *spot, &mut row)?;
     }
     Ok(row)
 }

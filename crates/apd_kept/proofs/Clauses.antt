@@ -18,7 +18,7 @@ use Rattle.apd_clauses.proofs.Pure.{no_goal, no_user, pure_by, user_by_kind}
 use Rattle.apd_text.specs.ClauseTerms.{conjunction, with_body}
 
 -- a goal of pure Prolog has no fault, and is no conjunction
-kind_clean : (p : Pred) (k : Kind) → is_pure k ≡ true → goal_fault_of_kind p k ≡ None
+pub kind_clean : (p : Pred) (k : Kind) → is_pure k ≡ true → goal_fault_of_kind p k ≡ None
 kind_clean p kinds.User e = refl
 kind_clean p (kinds.Builtin goal) e = refl
 kind_clean p kinds.Conjunction e = refl
@@ -28,7 +28,7 @@ kind_clean p kinds.Disjunction e = absurd (cc)
 kind_clean p kinds.IfThen e = absurd (cc)
 kind_clean p kinds.Impure e = absurd (cc)
 
-goal_clean : (g : Term) → IsPureGoal g → goal_fault g ≡ None
+pub goal_clean : (g : Term) → IsPureGoal g → goal_fault g ≡ None
 goal_clean (variable v) pure = absurd (no_goal (variable v) refl pure)
 goal_clean (integer i) pure = absurd (no_goal (integer i) refl pure)
 goal_clean (compound f ts) pure =

@@ -2,7 +2,6 @@
 use Rattle.std.proofs.Common.{◌≡◌, ℕ, ◌==◌, List, [], ◌∷◌, ◌++◌, length, map, Bool, true, false, if◌then◌else◌, inl, inr, refl, sym, ◌∙◌, ap, arith}
 use Rattle.std.specs.List.{AllByRecursion, flat_map, fold, list_any}
 use Rattle.std.proofs.lemmas.List.{length-map}
-use Rattle.std.proofs.lemmas.Bool.Decides.{Decides-eqb, same_from_decides}
 use Rattle.apd_term.specs.Canonical.{by_appearance, canonical, place_of, with_new}
 use Rattle.apd_term.specs.Substitution.{followed_by}
 use Rattle.apd_term.specs.Term.{IsAmong, IsGround, Term, apply, compound, integer, more, none, variable, variables}
@@ -12,7 +11,7 @@ use Rattle.apd_term.specs.declared.term.NameId.{NameId}
 use Rattle.apd_term.specs.declared.tuple.Tuple.{Tuple}
 use Rattle.apd_term.proofs.Tuples.{AreTupleVariants_from_instances}
 use Rattle.apd_term.proofs.Applying.{apply-followed_by, variables-apply}
-use Rattle.apd_term.proofs.Variants.{AreVariants_from_instances, IsInstance-canonical, apply-unchanged}
+use Rattle.apd_term.proofs.Variants.{AreVariants_from_instances, IsInstance-canonical, apply-unchanged, same_test}
 use Rattle.apd_answers.specs.Questions.{unknowns}
 use Rattle.apd_text.specs.ClauseTerms.{clause_term, conjunction, list_term, pair, with_body}
 
@@ -79,11 +78,6 @@ list_ground [] ground = refl
 list_ground (v ∷ vs) ground = rw (ground.0, list_ground vs ground.1) refl
 
 -- Renamed numbers, where g takes each back: as many of them differ.
-same_test : (f g : ℕ → ℕ) (w v : ℕ) → g (f w) ≡ w → g (f v) ≡ v → (f w == f v) ≡ (w == v)
-same_test f g w v h k =
-    let d = Decides-eqb (f w) (f v) in
-    same_from_decides (f w == f v) (w == v) (λ t. sym h ∙ ap g (d.0 t) ∙ k, λ e. d.1 (ap f e)) (Decides-eqb w v)
-
 abbrev AllBack : (ℕ → ℕ) → (ℕ → ℕ) → List ℕ → Type 0
 AllBack f g vs = AllByRecursion (λ v. g (f v) ≡ v) vs
 

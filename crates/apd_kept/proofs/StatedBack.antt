@@ -1,8 +1,8 @@
 -- What the statement of a pair states: the same reply to the same question, up to its canonical form. And of a trusted predicate, that it is trusted.
-use Rattle.std.proofs.Common.{◌≡◌, ◌==◌, ◌&&◌, ℕ, ◌+◌, ◌-◌, ◌≤◌, Bool, true, List, [], ◌∷◌, length, map, Option, Some, None, Result, Ok, Err, inl, inr, refl, sym, ◌∙◌, ap, subst, arith, le-leb, eq-eqb}
+use Rattle.std.proofs.Common.{◌≡◌, ◌==◌, ◌&&◌, ℕ, ◌+◌, ◌-◌, ◌≤◌, Bool, true, List, [], ◌∷◌, length, map, Option, Some, None, Result, Ok, Err, refl, sym, ◌∙◌, ap, subst, arith, le-leb, eq-eqb}
 use Rattle.std.specs.Prelude.{All, if◌then◌else◌, IsSome}
 use Rattle.std.specs.List.{AllByRecursion, flat_map, list_all}
-use Rattle.std.specs.Option.{option_and_then, option_map}
+use Rattle.std.specs.Option.{option_map}
 use Rattle.std.proofs.lemmas.List.{length-map}
 use Rattle.std.proofs.lemmas.List.Elements.{All-map, All-weaker}
 use Rattle.apd_term.specs.Canonical.{canonical}
@@ -13,7 +13,7 @@ use Rattle.apd_term.specs.declared.term.Pred.{Pred}
 use Rattle.apd_term.specs.declared.tuple.Tuple.{Tuple}
 use Rattle.apd_term.proofs.Ground.{apply-ground}
 use Rattle.apd_term.proofs.Variants.{canonical-canonical, canonical-renamed}
-use Rattle.apd_arith.specs.Builtins.{builtin_of, builtin_of_atom}
+use Rattle.apd_arith.specs.Builtins.{builtin_of_atom}
 use Rattle.apd_arith.specs.Truth.{IsTrueBy}
 use Rattle.apd_arith.specs.Truths.{is_ground}
 use Rattle.apd_arith.specs.declared.goal.Builtin.{Builtin}
@@ -22,8 +22,7 @@ use Rattle.apd_causes.specs.declared.faults.OracleCause.TheVariants.{NotUserAtom
 use Rattle.apd_clauses.specs.Bodies.{clause_from}
 use Rattle.apd_clauses.specs.Kinds.{IsPureGoal, IsUserAtom, kind_of}
 use Rattle.apd_clauses.specs.declared.kinds.Kind.TheVariants as kinds
-use Rattle.apd_clauses.proofs.Pure.{goal_is_atom, user_is_atom}
-use Rattle.apd_record.proofs.Atoms.{predicate-same}
+use Rattle.apd_record.proofs.Atoms.{IsPureGoal-apply, IsUserAtom-apply}
 use Rattle.apd_answers.specs.Questions.{Fits, IsTrueIfBuiltin, body_with, canonical_question, unknowns, with_values}
 use Rattle.apd_answers.specs.Store.{Store}
 use Rattle.apd_answers.specs.Trust.{with_trust}
@@ -53,20 +52,12 @@ pub record IsStatedBack (p : Pair) : Type 0 where
   pub question : canonical_question p.question ≡ canonical_question pair.question
   pub reply : p.reply ≡ pair.reply
 
--- an atom of a program's own predicate stays one
-user_apply : (s : ℕ → Term) (a : Term) → IsUserAtom a → IsUserAtom (apply s a)
-user_apply s a user = ap (option_map kind_of) (predicate-same s a (user_is_atom a user)) ∙ user
-
 own_by : (o : Option Pred) → option_map kind_of o ≡ Some kinds.User → is_of_own o ≡ true
 own_by None e = absurd (cc)
 own_by (Some p) e = let same : kind_of p ≡ kinds.User = cc in ap is_own same
 
 own_test : (a : Term) → IsUserAtom a → is_own_atom a ≡ true
 own_test a user = own_by (predicate_of a) user
-
-pure_apply : (s : ℕ → Term) (g : Term) → IsPureGoal g → IsPureGoal (apply s g)
-pure_apply s g (inl user) = inl (user_apply s g user)
-pure_apply s g (inr builtin) = inr (subst (λ (o : Option Pred). IsSome (option_and_then builtin_of o)) (sym (predicate-same s g (goal_is_atom g (inr builtin)))) builtin)
 
 -- the term of a reply has no variable, and tells it
 reply_ground : (q : Question) (r : Reply) → Fits q r → IsGround (reply_term r)
@@ -89,7 +80,7 @@ order_back_told x y No fits = refl
 order_back_told x y (Values vs) fits = absurd fits
 order_back_told x y Unknown fits = absurd fits
 
-list_back : (vs : List Term) → listed (list_term vs) ≡ Some vs
+pub list_back : (vs : List Term) → listed (list_term vs) ≡ Some vs
 list_back [] = refl
 list_back (v ∷ vs) = ap (option_map (λ (ts : List Term). v ∷ ts)) (list_back vs)
 
@@ -111,7 +102,7 @@ truth_back a r user fits =
       pair = pair_of (True b) r;
       stated = ap (λ (x : Term). of_reply (truth_stated b (truth_told x))) (apply-ground s w (reply_ground (True a) r fits))
           ∙ ap (λ (o : Option Reply). of_reply (truth_stated b o)) (truth_back_told a r fits)
-          ∙ ap (λ (c : Bool). of_reply (if c then Ok (pair_of (True b) r) else Err NotUserAtom)) (own_test b (user_apply s a user));
+          ∙ ap (λ (c : Bool). of_reply (if c then Ok (pair_of (True b) r) else Err NotUserAtom)) (own_test b (IsUserAtom-apply s a user));
       question = ap True (same_form s (back whole) a (two_back TRUE a w).0);
       reply = refl;
     }
@@ -128,8 +119,8 @@ order_back x y r user_x user_y fits =
     let q' : Term = apply s q in
     let p' : Term = apply s p in
     let backs = three_back BELOW q p w in
-    let own_q : is_own_atom q' ≡ true = own_test q' (user_apply s q (user_apply _ x user_x)) in
-    let own_p : is_own_atom p' ≡ true = own_test p' (user_apply s p (user_apply _ (canonical y) (user_apply _ y user_y))) in
+    let own_q : is_own_atom q' ≡ true = own_test q' (IsUserAtom-apply s q (IsUserAtom-apply _ x user_x)) in
+    let own_p : is_own_atom p' ≡ true = own_test p' (IsUserAtom-apply s p (IsUserAtom-apply _ (canonical y) (IsUserAtom-apply _ y user_y))) in
     let again_q : canonical x ≡ canonical (canonical q') = sym (canonical-canonical x) ∙ same_form s (back whole) q backs.0 ∙ sym (canonical-canonical q') in
     let moved : canonical p ≡ canonical (canonical y) = canonical-renamed (λ v. variable_count x + v) (λ v. v - variable_count x) (canonical y) (λ v o. omega arith) in
     let again_p : canonical y ≡ canonical (canonical p') = sym (canonical-canonical y) ∙ sym moved ∙ same_form s (back whole) p backs.1 ∙ sym (canonical-canonical p') in
@@ -183,9 +174,9 @@ cover_back head g gs r may fits =
     let same_t : apply_tuple (back whole) u ≡ t = clause_back s (back whole) head g gs (two_back COVERS c w).0 in
     let same : canonical_tuple t ≡ canonical_tuple u = same_tuple_form s (back whole) t same_t in
     let count : length (unknowns u) ≡ length (unknowns t) = same_unknowns _ (back whole) t same_t in
-    let pure : All IsPureGoal u.body = All-map IsPureGoal (apply s) t.body (All-weaker IsPureGoal (λ x. IsPureGoal (apply s x)) (pure_apply s) t.body may.goals) in
+    let pure : All IsPureGoal u.body = All-map IsPureGoal (apply s) t.body (All-weaker IsPureGoal (λ x. IsPureGoal (apply s x)) (IsPureGoal-apply s) t.body may.goals) in
     let few : length u.body ≤ 64 = subst (λ n. n ≤ 64) (sym (length-map t.body (apply s))) may.few in
-    let taken : clause_from (with_body u.head u.body) ≡ Ok u = clause_back_from u.head (apply s g) (map (apply s) gs) (user_apply s head may.head) pure few in
+    let taken : clause_from (with_body u.head u.body) ≡ Ok u = clause_back_from u.head (apply s g) (map (apply s) gs) (IsUserAtom-apply s head may.head) pure few in
     let ground : is_ground u.head ≡ true = ap is_ground (apply-ground s head may.ground) ∙ ground_test head may.ground in
     record {
       pair = pair_of (Covers u) r;

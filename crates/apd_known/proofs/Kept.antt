@@ -27,10 +27,10 @@ use Rattle.apd_known.specs.declared.statements.Statement.{Statement}
 use Rattle.apd_known.specs.declared.statements.Statement.TheVariants.{Replies, Trusts}
 use Rattle.apd_known.proofs.Saying.{MaySay, said_may}
 
-question_more : (n m : ℕ) (q : Question) → n ≤ m → QuestionIsNamed n q → QuestionIsNamed m q
-question_more n m (True a) le h = IsNamed-more n m a le h
-question_more n m (Covers t) le h = TupleIsNamed-more n m t le h
-question_more n m (Below q p) le h = (IsNamed-more n m q le h.0, IsNamed-more n m p le h.1)
+pub QuestionIsNamed-more : (n m : ℕ) (q : Question) → n ≤ m → QuestionIsNamed n q → QuestionIsNamed m q
+QuestionIsNamed-more n m (True a) le h = IsNamed-more n m a le h
+QuestionIsNamed-more n m (Covers t) le h = TupleIsNamed-more n m t le h
+QuestionIsNamed-more n m (Below q p) le h = (IsNamed-more n m q le h.0, IsNamed-more n m p le h.1)
 
 reply_more : (n m : ℕ) (r : Reply) → n ≤ m → ReplyIsNamed n r → ReplyIsNamed m r
 reply_more n m Yes le h = tt
@@ -41,11 +41,11 @@ reply_more n m Unknown le h = tt
 pub all_more : (n m : ℕ) (pairs : List Pair) → n ≤ m → AllStatable n pairs → AllStatable m pairs
 all_more n m [] le h = tt
 all_more n m (p ∷ ps) le h = (
-  record { asked = h.0.asked; fits = h.0.fits; question_named = question_more n m p.question le h.0.question_named; reply_named = reply_more n m p.reply le h.0.reply_named },
+  record { asked = h.0.asked; fits = h.0.fits; question_named = QuestionIsNamed-more n m p.question le h.0.question_named; reply_named = reply_more n m p.reply le h.0.reply_named },
   all_more n m ps le h.1,
 )
 
-one_more : (n : ℕ) (pairs : List Pair) (p : Pair) → AllStatable n pairs → IsStatable n p → AllStatable n (pairs ++ p ∷ [])
+pub one_more : (n : ℕ) (pairs : List Pair) (p : Pair) → AllStatable n pairs → IsStatable n p → AllStatable n (pairs ++ p ∷ [])
 one_more n [] p h k = (k, tt)
 one_more n (q ∷ pairs) p h k = (h.0, one_more n pairs p h.1 k)
 

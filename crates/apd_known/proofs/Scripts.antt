@@ -2,7 +2,7 @@
 use Rattle.std.proofs.Common.{◌≡◌, ◌==◌, ◌&&◌, ℕ, ◌+◌, ◌<◌, zero, suc, Bool, true, false, List, [], ◌∷◌, length, drop, Option, Some, None, refl, sym, ap, subst, ◌∙◌, arith}
 use Rattle.std.specs.Prelude.{if◌then◌else◌, IfSome, IsSome}
 use Rattle.std.specs.List.{list_all, slice_get}
-use Rattle.std.proofs.lemmas.Bool.{eqb-true}
+use Rattle.std.proofs.lemmas.Bool.{eqb-true, and_parts}
 use Rattle.apd_term.specs.Term.{Term}
 use Rattle.apd_term.specs.declared.tuple.Tuple.{Tuple}
 use Rattle.apd_answers.specs.Questions.{Fits, FitsAsked, FitsBody, canonical_question, unknowns, with_values}
@@ -19,14 +19,10 @@ use Rattle.apd_known.specs.Truths.{is_true_if_builtin}
 use Rattle.apd_arith.proofs.Tests.{all_ground}
 use Rattle.apd_known.proofs.Truths.{all_pass}
 
-both : (a b : Bool) → a && b ≡ true → (a ≡ true) × (b ≡ true)
-both true b e = (refl, e)
-both false b e = absurd (cc)
-
-body_fits : (t : Tuple) (vs : List Term) → fits_body t vs ≡ true → FitsBody t vs
+pub body_fits : (t : Tuple) (vs : List Term) → fits_body t vs ≡ true → FitsBody t vs
 body_fits t vs e =
-    let first = both (list_all is_ground vs) ((length vs == length (unknowns t)) && list_all is_true_if_builtin (with_values t vs)) e in
-    let second = both (length vs == length (unknowns t)) (list_all is_true_if_builtin (with_values t vs)) first.1 in
+    let first = and_parts (list_all is_ground vs) ((length vs == length (unknowns t)) && list_all is_true_if_builtin (with_values t vs)) e in
+    let second = and_parts (length vs == length (unknowns t)) (list_all is_true_if_builtin (with_values t vs)) first.1 in
     record { ground = all_ground vs first.0; count = eqb-true (length vs) (length (unknowns t)) second.0; builtins = all_pass (with_values t vs) second.1 }
 
 -- a reply that passes the test fits
@@ -56,7 +52,7 @@ scripted_fits (p ∷ pairs) asked r e = by_pair (same_question (canonical_questi
     by_pair : (b : Bool) → (same_question (canonical_question p.question) (canonical_question asked.question) && fits_asked asked p.reply) ≡ b → (if b then Some p.reply else scripted_reply pairs asked) ≡ Some r
         → (scripted_reply pairs asked ≡ Some r → FitsAsked asked r) → FitsAsked asked r
     by_pair true so is rest =
-        let two = both (same_question (canonical_question p.question) (canonical_question asked.question)) (fits_asked asked p.reply) so in
+        let two = and_parts (same_question (canonical_question p.question) (canonical_question asked.question)) (fits_asked asked p.reply) so in
         let same : p.reply ≡ r = cc in
         subst (FitsAsked asked) same (reply_fits asked p.reply two.1)
     by_pair false so is rest = rest is

@@ -2,7 +2,7 @@
 use Rattle.std.proofs.Common.{◌≡◌, ◌==◌, ◌&&◌, ◌+◌, ◌<◌, ℕ, suc, arith, Bool, true, false, List, length, Option, Some, None, Result, Ok, Err, refl, sym, ap, subst, ◌∙◌}
 use Rattle.std.specs.Prelude.{if◌then◌else◌, not}
 use Rattle.std.specs.Option.{option_map}
-use Rattle.std.proofs.lemmas.Bool.{eqb-true}
+use Rattle.std.proofs.lemmas.Bool.{eqb-true, and_parts}
 use Rattle.std.specs.List.{list_all, slice_get}
 use Rattle.apd_term.specs.Term.{Term, Terms, variable, integer, compound, none, more, arguments, list_of, predicate_of, variables}
 use Rattle.apd_term.specs.declared.term.NameId.{NameId}
@@ -15,6 +15,7 @@ use Rattle.apd_term.proofs.Named.{AreNamed-more, IsNamed-canonical, IsNamed-more
 use Rattle.apd_causes.specs.declared.faults.BodyFault.{BodyFault}
 use Rattle.apd_causes.specs.declared.faults.OracleCause.TheVariants.{NotAStatement, NotUserAtom, NotGround, WrongCount, BuiltinFalse}
 use Rattle.apd_clauses.specs.Bodies.{clause_from, conjuncts, fact, parts_of}
+use Rattle.apd_clauses.specs.Bodies.{head_fault, body_fault}
 use Rattle.apd_clauses.specs.Kinds.{◌∕◌, kind_of, IsUserAtom}
 use Rattle.apd_clauses.specs.Predicates.{is_pred}
 use Rattle.apd_clauses.proofs.Indexing.{same_pred-true}
@@ -23,7 +24,6 @@ use Rattle.apd_clauses.specs.declared.kinds.Kind.TheVariants as kinds
 use Rattle.apd_clauses.proofs.Faults.{none_or}
 use Rattle.apd_clauses.proofs.Parts.{body_is_clean, clause_is_named, clause_is_pure, is_taken, some_conjunct}
 use Rattle.apd_clauses.proofs.Pure.{user_is_atom}
-use Rattle.apd_clauses.specs.Bodies.{head_fault, body_fault}
 use Rattle.apd_record.proofs.Atoms.{predicate-same}
 use Rattle.apd_answers.specs.Named.{ReplyIsNamed}
 use Rattle.apd_answers.specs.Questions.{Fits, unknowns, with_values}
@@ -60,12 +60,8 @@ own_by (Some p) e = ap Some (kind_own (kind_of p) e)
 own_atom : (a : Term) → is_own_atom a ≡ true → IsUserAtom a
 own_atom a e = own_by (predicate_of a) e
 
-canonical_own : (a : Term) → IsUserAtom a → IsUserAtom (canonical a)
+pub canonical_own : (a : Term) → IsUserAtom a → IsUserAtom (canonical a)
 canonical_own a h = ap (option_map kind_of) (predicate-same (λ v. variable (place_of (by_appearance (variables a)) v)) a (user_is_atom a h)) ∙ h
-
-both : (a b : Bool) → a && b ≡ true → (a ≡ true) × (b ≡ true)
-both true b e = (refl, e)
-both false b e = absurd (cc)
 
 module _ (n : ℕ) (pair : Pair) where
   truth_may : (a : Term) (o : Option Reply) → IsNamed n a → ((r : Reply) → o ≡ Some r → Fits (True a) r × ReplyIsNamed n r) → truth_stated a o ≡ Ok pair → IsStatable n pair
@@ -88,7 +84,7 @@ module _ (n : ℕ) (pair : Pair) where
       by_test true own q =
           let same : pair_of (Below (canonical x) (canonical y)) r ≡ pair = cc in
           let s = of r refl in
-          let two = both (is_own_atom x) (is_own_atom y) own in
+          let two = and_parts (is_own_atom x) (is_own_atom y) own in
           subst (IsStatable n) same (record {
             asked = (canonical_own x (own_atom x two.0), canonical_own y (own_atom y two.1));
             fits = s.0;

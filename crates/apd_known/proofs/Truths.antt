@@ -12,11 +12,11 @@ use Rattle.apd_arith.proofs.Tests as tests
 use Rattle.apd_answers.specs.Questions.{IsTrueIfBuiltin}
 use Rattle.apd_known.specs.Truths.{is_true_if_builtin, passes}
 
-both_left : (a b : Bool) → (a && b) ≡ true → a ≡ true
+pub both_left : (a b : Bool) → (a && b) ≡ true → a ≡ true
 both_left true b is = refl
 both_left false b is = absurd (cc)
 
-both_right : (a b : Bool) → (a && b) ≡ true → b ≡ true
+pub both_right : (a b : Bool) → (a && b) ≡ true → b ≡ true
 both_right true b is = is
 both_right false b is = absurd (cc)
 

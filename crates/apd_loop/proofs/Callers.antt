@@ -51,7 +51,7 @@ callee-owned R chain (suc k) h l m =
 row-is : (R : Recorded) (n : ℕ) (b : BoxRow) → box_at R n ≡ Some b → row_of R n ≡ b
 row-is R n b e = ap (λ o. unwrap_or o no_row) e
 
-is_box : (R : Recorded) (n : ℕ) (b : BoxRow) → box_at R n ≡ Some b → 1 ≤ n
+pub is_box : (R : Recorded) (n : ℕ) (b : BoxRow) → box_at R n ≡ Some b → 1 ≤ n
 is_box R zero b e = absurd (cc)
 is_box R (suc n) b e = omega arith
 

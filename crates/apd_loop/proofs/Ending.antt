@@ -1,5 +1,5 @@
 -- Parts of the diagnosis put together.
-use Rattle.std.proofs.Common.{◌≡◌, ℕ, List, [], ◌∷◌, ◌++◌, Ok, Err, Result, refl, sym, ◌∙◌, ap, subst}
+use Rattle.std.proofs.Common.{ℕ, List, [], ◌∷◌, ◌++◌, Ok, Err, Result, sym, ◌∙◌, ap, subst}
 use Rattle.std.specs.Prelude.{MatchResult}
 use Rattle.std.specs.List.{AllByRecursion}
 use Rattle.apd_record.specs.Recorded.{Recorded}
@@ -8,9 +8,9 @@ use Rattle.apd_answers.specs.declared.finding.Finding.{Finding}
 use Rattle.apd_answers.specs.declared.oracle.AskEnd.{AskEnd}
 use Rattle.apd_answers.specs.Questions.{FitsAsked}
 use Rattle.apd_answers.specs.Dialogue.{Exchange, onto}
-use Rattle.apd_answers.specs.Oracle.{Call, asking, telling, GoesThrough, calls_of}
+use Rattle.apd_answers.specs.Oracle.{Call, GoesThrough, calls_of}
 use Rattle.apd_answers.specs.Going.{Moment, at, Goes, Reaches, Breaks}
-use Rattle.apd_answers.proofs.Going.{through-append, Goes-more, Breaks-more}
+use Rattle.apd_answers.proofs.Going.{through-append, Goes-more, Breaks-more, calls-append}
 use Rattle.apd_divide.specs.declared.node.Strategy.{Strategy}
 use Rattle.apd_divide.specs.Tree.{Tree}
 use Rattle.apd_wrong.specs.Wrong.{wrong}
@@ -23,10 +23,6 @@ use Rattle.apd_loop.proofs.Turns.{inside-reaches, inside-breaks}
 all_append : {X : Type 0} (P : X → Type 0) (xs ys : List X) → AllByRecursion P xs → AllByRecursion P ys → AllByRecursion P (xs ++ ys)
 all_append P [] ys a b = b
 all_append P (x ∷ xs) ys a b = (a.0, all_append P xs ys a.1 b)
-
-calls-append : (es fs : List Exchange) → calls_of (es ++ fs) ≡ calls_of es ++ calls_of fs
-calls-append [] fs = refl
-calls-append (e ∷ es) fs = ap (λ r. asking e.asked (Ok e.reply) ∷ telling e.reply e.left (Ok tt) ∷ r) (calls-append es fs)
 
 -- an end after a part
 pub reaches-more : {O : Type 0} (R : Recorded) (chain : List ℕ) (strategy : Strategy) (step : O → Call → O → Type 0) (p q : Moment Looping O) (kept : Store) (to : O) (e : LoopEnd)

@@ -6,7 +6,6 @@ use Rattle.apd_term.specs.Term.{Term, variable, integer, compound, variables}
 use Rattle.apd_term.specs.Canonical.{canonical, place_of, by_appearance}
 use Rattle.apd_term.specs.Substitution.{IsInstance}
 use Rattle.apd_term.proofs.Spelling.{length-apply_all}
-use Rattle.apd_term.proofs.Variants.{IsInstance-canonical, IsInstance-trans}
 use Rattle.apd_arith.specs.declared.goal.Builtin.{Builtin}
 use Rattle.apd_arith.specs.Builtins.{builtin_of, builtin_of_atom}
 use Rattle.apd_record.specs.Recorded.{is_none, is_user_atom}
@@ -15,12 +14,13 @@ use Rattle.apd_answers.specs.declared.question.Question.TheVariants as asking
 use Rattle.apd_answers.specs.declared.question.Reply.{Reply}
 use Rattle.apd_answers.specs.declared.question.Reply.TheVariants.{Yes, No, Values, Unknown}
 use Rattle.apd_answers.specs.Fitting.{AllFit, AllFitIn}
-use Rattle.apd_answers.specs.Questions.{canonical_question, with_values, Fits, FitsAsked}
+use Rattle.apd_answers.specs.Questions.{canonical_question, Fits, FitsAsked}
 use Rattle.apd_answers.specs.declared.store.Pair.{Pair}
-use Rattle.apd_answers.specs.Store.{Store, decided_in, SomePairIn, same_question, told, decided, with_pair, SomePair, SomeTerm, TellsYes, TellsBelow, SaysYes, SaysNo}
+use Rattle.apd_answers.specs.Store.{Store, decided_in, SomePairIn, same_question, told, decided, with_pair, SomePair, TellsYes, TellsBelow, SaysYes, SaysNo}
 use Rattle.apd_answers.specs.Findings.{Apart, same, said, through, Affirms, IsTrueBy}
 use Rattle.apd_answers.proofs.Tests.{same_question-equal, then_some-is}
 use Rattle.apd_answers.proofs.Decided.{first_there, decided-yes, decided-no, decided-truth, some_pair-kept, some_pair-added, added-yes, added-no}
+use Rattle.apd_wrong.proofs.Support.{says_yes-canonical}
 
 -- a reply to the question whether the one call is below the other tells just that
 tells : (r : Reply) (q p : Term) (x : Question) → canonical_question x ≡ canonical_question (asking.Below q p) → TellsBelow r q p x r
@@ -118,32 +118,8 @@ none_is (Some g) e = absurd (cc)
 pub not_builtin : (a b : Term) → is_user_atom a ≡ is_user_atom b → builtin_of_atom b ≡ None → builtin_of_atom a ≡ None
 not_builtin a b e f = none_is (builtin_of_atom a) (e ∙ ap is_none f)
 
-terms-canonical : (a : Term) (ts : List Term) → SomeTerm (IsInstance (canonical a)) ts → SomeTerm (IsInstance a) ts
-terms-canonical a [] h = h
-terms-canonical a (t ∷ ts) (inl i) = inl (IsInstance-trans a (canonical a) t (IsInstance-canonical a) i)
-terms-canonical a (t ∷ ts) (inr h) = inr (terms-canonical a ts h)
-
-tells-canonical : (a : Term) (q : Question) (r : Reply) → TellsYes (canonical a) q r → TellsYes a q r
-tells-canonical a (asking.True b) Yes i = IsInstance-trans a (canonical a) b (IsInstance-canonical a) i
-tells-canonical a (asking.True b) No h = h
-tells-canonical a (asking.True b) (Values vs) h = h
-tells-canonical a (asking.True b) Unknown h = h
-tells-canonical a (asking.Covers t) Unknown h = h
-tells-canonical a (asking.Covers t) (Values vs) h = terms-canonical a (with_values t vs) h
-tells-canonical a (asking.Covers t) Yes h = h
-tells-canonical a (asking.Covers t) No h = h
-tells-canonical a (asking.Below q p) r h = h
-
-says-canonical_in : (pairs : List Pair) (a : Term) → SomePairIn (TellsYes (canonical a)) pairs → SomePairIn (TellsYes a) pairs
-says-canonical_in [] a h = h
-says-canonical_in (pair ∷ pairs) a (inl h) = inl (tells-canonical a pair.question pair.reply h)
-says-canonical_in (pair ∷ pairs) a (inr h) = inr (says-canonical_in pairs a h)
-
-says-canonical : (store : Store) (a : Term) → SaysYes store (canonical a) → SaysYes store a
-says-canonical store a h = says-canonical_in store.pairs a h
-
 pub grants-canonical : (store : Store) (a : Term) → builtin_of_atom (canonical a) ≡ None → SaysYes store (canonical a) → Affirms store a
-grants-canonical store a e y = grants-said store a (not_builtin a (canonical a) (sym (user-canonical a)) e) (says-canonical store a y)
+grants-canonical store a e y = grants-said store a (not_builtin a (canonical a) (sym (user-canonical a)) e) (says_yes-canonical store a y)
 
 pub all-map : {X : Type 0} (P Q : X → Type 0) → ((x : X) → P x → Q x) → (xs : List X) → AllByRecursion P xs → AllByRecursion Q xs
 all-map P Q h [] a = tt

@@ -12,7 +12,7 @@ use std::alloc::{AllocError, Global};
 use std::marker::Model;
 
 /// The calls of the boxes of a chain in canonical form. Each is read from the record when it is asked for.
-/// Clauses see their list.
+/// Contracts see their list.
 #[derive(Drop)]
 pub struct ChainCalls<'a> {
     alloc: Global,

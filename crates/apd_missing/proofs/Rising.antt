@@ -95,7 +95,7 @@ says_decided store u values a o h =
     (λ q y w. subst (λ z. TellsYes a z y) (sym w.0) (subst (TellsYes a (asking.Covers u)) (sym w.1) h)) store o
 
 -- a canonical form is its own, and the store decides as much of it
-canonical_again : (t : Tuple) → canonical_tuple (canonical_tuple t) ≡ canonical_tuple t
+pub canonical_again : (t : Tuple) → canonical_tuple (canonical_tuple t) ≡ canonical_tuple t
 canonical_again t = AreTupleVariants_from_instances (canonical_tuple t) t (IsTupleInstance-canonical t) (canonical_is_instance t)
 
 decided_canonical_in : (pairs : List Pair) (t : Tuple) → decided_in pairs (covers t).question ≡ decided_in pairs (asking.Covers t)

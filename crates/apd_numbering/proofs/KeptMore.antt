@@ -2,7 +2,6 @@
 use Rattle.std.proofs.Common.{◌≡◌, ℕ, zero, suc, ◌<◌, List, [], ◌∷◌, ◌++◌, length, take, refl, sym, ◌∙◌, ap, subst, arith, Option, None, Some, length-append}
 use Rattle.std.specs.Prelude.{IfSome, codes, slice_index_or}
 use Rattle.std.specs.List.{AllByRecursion}
-use Rattle.std.proofs.lemmas.List.{append-nil}
 use Rattle.apd_causes.specs.declared.reading.Read.{Read}
 use Rattle.apd_claims.specs.Forms.{form_in}
 use Rattle.apd_claims.specs.Reading.{as_clause}
@@ -16,6 +15,7 @@ use Rattle.apd_term.specs.Names.{HasDistinctTexts, number_of, with_name}
 use Rattle.apd_term.specs.Named.{AreNamed, IsNamed}
 use Rattle.apd_term.specs.Term.{Term, Terms}
 use Rattle.apd_term.proofs.Naming.{Grown-with_name, HasDistinctTexts-with_name, number_of-append, number_of-with_name, number_of_with_name_within, text_of_number}
+use Rattle.apd_lines.proofs.Growing.{Grown-self}
 use Rattle.apd_numbering.specs.Kept.{CallIsKept, FormIsKept, LineIsKept, TextIsKept, candidate_in}
 use Rattle.apd_numbering.specs.Lists.{BeginAlike, HasAll, HasFewOperators}
 use Rattle.apd_numbering.proofs.TextsRead.{TermsTwins, TextsTwins, both_reads, both_terms, neither_reads, no_term, reading-twins, term-twins}
@@ -78,9 +78,6 @@ abbrev pub with_all : List (List ℕ) → List (List ℕ) → List (List ℕ)
 with_all others [] = others
 with_all others (v ∷ vs) = with_all (with_name others v) vs
 
-grown-same : (names : List (List ℕ)) → Grown names names
-grown-same names = ([], sym (append-nil names))
-
 pub grown-all : (first others vs : List (List ℕ)) → Grown first others → Grown first (with_all others vs)
 grown-all first others [] g = g
 grown-all first others (v ∷ vs) g = grown-all first (with_name others v) vs (Grown-with_name first others v g)
@@ -98,7 +95,7 @@ within-grown old new v g l =
 each-within : (others vs : List (List ℕ)) → AllByRecursion (λ v. number_of (with_all others vs) v < length (with_all others vs)) vs
 each-within others [] = tt
 each-within others (v ∷ vs) = (
-  within-grown (with_name others v) (with_all (with_name others v) vs) v (grown-all (with_name others v) (with_name others v) vs (grown-same (with_name others v)))
+  within-grown (with_name others v) (with_all (with_name others v) vs) v (grown-all (with_name others v) (with_name others v) vs (Grown-self (with_name others v)))
       (subst (λ k. k < length (with_name others v)) (sym (number_of-with_name others v)) (number_of_with_name_within others v)),
   each-within (with_name others v) vs,
 )
@@ -125,4 +122,4 @@ begin-all n names others a = record {
 }
 
 pub later-grown : (names others : List (List ℕ)) → Grown others (with_all others names)
-later-grown names others = grown-all others others names (grown-same others)
+later-grown names others = grown-all others others names (Grown-self others)

@@ -1,8 +1,8 @@
 -- A text whose line says what has kept names was read as a term whose names are kept.
-use Rattle.std.proofs.Common.{◌≡◌, ℕ, ◌<◌, ◌≤◌, ◌&&◌, Bool, true, false, List, [], ◌∷◌, ◌++◌, length, map, refl, sym, ◌∙◌, subst, arith, Option, None, Some}
+use Rattle.std.proofs.Common.{◌≡◌, ℕ, ◌<◌, ◌≤◌, Bool, true, false, List, [], ◌∷◌, ◌++◌, length, map, refl, sym, ◌∙◌, subst, arith, Option, None, Some}
 use Rattle.std.specs.Prelude.{◌==◌, if◌then◌else◌}
 use Rattle.std.specs.Option.{option_map, option_or}
-use Rattle.std.proofs.lemmas.Bool.{true≢false}
+use Rattle.std.proofs.lemmas.Bool.{true≢false, and_parts}
 use Rattle.std.proofs.lemmas.Bool.Decides.{Decides-eqb}
 use Rattle.apd_answers.specs.declared.question.Reply.{Reply}
 use Rattle.apd_answers.specs.declared.question.Reply.TheVariants.{Yes, No, Values, Unknown}
@@ -50,13 +50,9 @@ canonical_tuple-back n t i = (apply-back n _ t.head i.0, list-back n _ t.body i.
 
 -- A predicate that is the standard one.
 
-same_and : (a b : Bool) → a && b ≡ true → (a ≡ true) × (b ≡ true)
-same_and true b e = (refl, e)
-same_and false b e = absurd (true≢false (sym e))
-
 named_pred : (n : ℕ) → 132 ≤ n → (f c : NameId) (k m : ℕ) → c.0 < 132 → is_pred (Some (record { name = f; arity = k })) (c ∕ m) ≡ true → (f.0 < n) × (k ≡ m)
 named_pred n many f c k m l e =
-    let s = same_and (f.0 == c.0) (k == m) e in
+    let s = and_parts (f.0 == c.0) (k == m) e in
     let same : f.0 ≡ c.0 = (Decides-eqb f.0 c.0).0 s.0 in
     (omega (arith, same, l, many), (Decides-eqb k m).0 s.1)
 
@@ -92,7 +88,7 @@ module _ (n : ℕ) (many : 132 ≤ n) where
     where
       by : (c : Bool) → (f.0 == QUERY.0) ≡ c → AllNamed n (if c then conjuncts b else []) → IsNamed n (compound f (more b none))
       by true d j = (name-below f QUERY (omega arith) d, (conjuncts-back b j, tt))
-      by false d j = absurd (true≢false (sym (same_and (f.0 == QUERY.0) (1 == 1) e).0 ∙ d))
+      by false d j = absurd (true≢false (sym (and_parts (f.0 == QUERY.0) (1 == 1) e).0 ∙ d))
   asked-back (compound f (more b (more c ts))) e i = absurd (omega (arith, (named_pred n many f QUERY (length (list_of (more b (more c ts)))) 1 (omega arith) e).1))
 
   pub query-back : (p : Read) → (query_claim p ≡ Garbled → ⊥) → ClaimIsNamed n (query_claim p) → IsNamed n p.term

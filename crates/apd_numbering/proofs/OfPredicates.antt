@@ -1,9 +1,9 @@
 -- Predicates with renumbered names are of the same kinds.
-use Rattle.std.proofs.Common.{◌≡◌, ℕ, ◌+◌, ◌<◌, ◌&&◌, Bool, true, false, List, [], ◌∷◌, map, refl, sym, ◌∙◌, ap, arith, Option, None, Some}
+use Rattle.std.proofs.Common.{◌≡◌, ℕ, ◌+◌, ◌<◌, ◌&&◌, Bool, true, false, List, [], ◌∷◌, map, refl, ◌∙◌, ap, arith, Option, None, Some}
 use Rattle.std.specs.Prelude.{◌==◌, if◌then◌else◌, nat_lt}
 use Rattle.std.specs.List.{list_any}
 use Rattle.std.specs.Option.{option_map}
-use Rattle.std.proofs.lemmas.Bool.{true≢false}
+use Rattle.std.proofs.lemmas.Bool.{and_parts}
 use Rattle.std.proofs.lemmas.Bool.Decides.{Decides-ltb}
 use Rattle.apd_term.specs.Term.{Term, predicate_of}
 use Rattle.apd_term.specs.declared.standard.TheConstants as standard
@@ -27,10 +27,6 @@ impure-standard : are_standard impure ≡ true
 unfolding impure
 impure-standard = refl
 
-both : (a b : Bool) → a && b ≡ true → (a ≡ true) × (b ≡ true)
-both true b e = (refl, e)
-both false b e = absurd (true≢false (sym e))
-
 module _ (n : ℕ) (x : Renumbering n) where
   pub same_pred-renumbered : (p q : Pred) → same_pred (renumbered_pred x.to p) (renumbered_pred x.to q) ≡ same_pred p q
   same_pred-renumbered p q = ap (λ b. b && (p.arity == q.arity)) (test-same n x p.name.0 q.name.0)
@@ -41,7 +37,7 @@ module _ (n : ℕ) (x : Renumbering n) where
   any_standard : (p : Pred) (qs : List Pred) → are_standard qs ≡ true → list_any (same_pred (renumbered_pred x.to p)) qs ≡ list_any (same_pred p) qs
   any_standard p [] e = refl
   any_standard p (q ∷ qs) e =
-      let k = both (nat_lt q.name.0 132) (are_standard qs) e in
+      let k = and_parts (nat_lt q.name.0 132) (are_standard qs) e in
       rw (same_standard p q ((Decides-ltb q.name.0 132).0 k.0), any_standard p qs k.1) refl
 
   control-renumbered : (p : Pred) → control_of (renumbered_pred x.to p) ≡ control_of p

@@ -15,9 +15,10 @@ use Rattle.apd_ports.specs.declared.event.Port.{Port}
 use Rattle.apd_ports.specs.declared.event.Port.TheVariants.{Call, Exit, Redo, Fail}
 use Rattle.apd_ports.specs.declared.point.Point.{Point}
 use Rattle.apd_ports.specs.declared.point.Step.{Step}
-use Rattle.apd_record.specs.Recorded.{Recorded, goal_left, empty, with_point, numbers, is_exit_of, exits}
+use Rattle.apd_record.specs.Recorded.{Recorded, goal_left, empty, with_point, is_exit_of, exits}
 use Rattle.apd_record.proofs.Keeping.{points_noted}
 use Rattle.apd_record.proofs.Readers.{none_done}
+use Rattle.apd_record.proofs.Places.{numbers-push}
 use Rattle.apd_trace.specs.Frames.{apply_frame, apply_frames, goal_of, is_large, point_at, handed, entering, called, left, look_at, step_from, query_frame}
 use Rattle.apd_trace.specs.BuiltIn.{built, Solution, of_program, faulted, failed, solved, solution}
 use Rattle.apd_trace.specs.Trace.{Next, Out, nothing, emit, and_then, at_port, point_of, begun, tried, tries, hand, again, closing, over, succeeded, settled, turn, search_from, up_to_error, trace}
@@ -285,15 +286,6 @@ run_exits P query budget answers = either (passed_exits (budget + 1) None (trace
 
 -- The exits of the record are the newest points at the Exits.
 
-numbers-end : {X : Type 0} (test : X → Bool) (n : ℕ) (xs : List X) (x : X) → numbers test n (xs ++ x ∷ []) ≡ numbers test n xs ++ (if test x then (n + length xs) ∷ [] else [])
-numbers-end test n [] x = let e : n ≡ n + 0 = omega arith in ap (λ m. if test x then m ∷ [] else []) e
-numbers-end {X} test n (y ∷ xs) x = either (test y) (numbers-end test (n + 1) xs x)
-  where
-    either : (b : Bool) → numbers test (n + 1) (xs ++ x ∷ []) ≡ numbers test (n + 1) xs ++ (if test x then ((n + 1) + length xs) ∷ [] else [])
-        → (if b then n ∷ numbers test (n + 1) (xs ++ x ∷ []) else numbers test (n + 1) (xs ++ x ∷ [])) ≡ (if b then n ∷ numbers test (n + 1) xs else numbers test (n + 1) xs) ++ (if test x then (n + suc (length xs)) ∷ [] else [])
-    either true h = let e : (n + 1) + length xs ≡ n + suc (length xs) = omega arith in ap (λ ys. n ∷ ys) (h ∙ ap (λ m. numbers test (n + 1) xs ++ (if test x then m ∷ [] else [])) e)
-    either false h = let e : (n + 1) + length xs ≡ n + suc (length xs) = omega arith in h ∙ ap (λ m. numbers test (n + 1) xs ++ (if test x then m ∷ [] else [])) e
-
 some_done : (ts : List Term) (d : ℕ) (a : Term) → slice_get ts d ≡ Some a → nat_lt d (length ts) ≡ true
 some_done ts d a h = let k = slice_get_within ts d a h in grind (arith, nat_tests)
 
@@ -358,7 +350,7 @@ module _ (n : ℕ) (some : 0 < n) where
       ∙ ap (λ ys. L ++ ys) (sym (other_port R e e.port (exited n (told_port R e e.port) xs) h.0))
   counted (Made p ∷ xs) None R L h is =
       counted xs (exiting p) (with_point R p) L h
-      (numbers-end (is_exit_of n) 0 R.points p ∙ ap (λ ys. ys ++ (if is_exit_of n p then (0 + length R.points) ∷ [] else [])) (is ∙ append-nil L) ∙ ap (λ ys. L ++ ys) (waiting_made R p (goal_left p) refl))
+      (numbers-push (is_exit_of n) 0 R.points p ∙ ap (λ ys. ys ++ (if is_exit_of n p then (0 + length R.points) ∷ [] else [])) (is ∙ append-nil L) ∙ ap (λ ys. L ++ ys) (waiting_made R p (goal_left p) refl))
   counted (Answer a ∷ xs) None R L h is = counted xs None R L h is
   counted (Error e c ∷ xs) None R L h is = counted xs None R L h is
 

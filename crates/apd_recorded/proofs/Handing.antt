@@ -9,7 +9,6 @@ use Rattle.apd_causes.specs.declared.run.RunError.TheVariants.{Size}
 use Rattle.apd_term.specs.declared.tuple.Tuple.{Tuple}
 use Rattle.apd_term.proofs.Tuples.{IsTupleInstance-trans, IsInstance-head, IsTupleInstance-canonical, canonical_is_instance}
 use Rattle.apd_term.proofs.Variants.{IsInstance-trans}
-use Rattle.apd_ports.specs.declared.event.Port.{Port}
 use Rattle.apd_ports.specs.declared.event.Port.TheVariants.{Fail}
 use Rattle.apd_ports.specs.declared.point.Point.{Point}
 use Rattle.apd_ports.specs.declared.point.Step.{Step}
@@ -18,10 +17,10 @@ use Rattle.apd_record.specs.declared.rows.BoxRow.{BoxRow}
 use Rattle.apd_record.specs.Sound.{IsKept, IsOwned, IsOpen, CameBy, ComeAlike, MayMake}
 use Rattle.apd_record.specs.Chain.{IsInnermost, AreChained}
 use Rattle.apd_record.specs.Full.{HasCompleteChild, IsFollowed, EntersAll, ExitsAll, AsksAll, FollowsAll}
-use Rattle.apd_record.proofs.Lists.{get-last, get-one, longer, passed-there}
+use Rattle.apd_record.proofs.Lists.{get-last, get-one, longer}
 use Rattle.apd_record.proofs.Growing.{Grown, grown_then, grown_point, grown_noted, box_still}
 use Rattle.apd_record.proofs.Keeping.{kept_point, kept_noted, points_noted}
-use Rattle.apd_record.proofs.Chains.{chained_point, innermost_point}
+use Rattle.apd_record.proofs.Chains.{chained_point, innermost_point, noted-there}
 use Rattle.apd_trace.specs.Frames.{goal_of, handed, is_large, point_at, step_from}
 use Rattle.apd_trace.specs.Trace.{Next, nothing, emit, point_of, hand, closing}
 use Rattle.apd_trace.specs.Renaming.{AreLinked}
@@ -64,10 +63,6 @@ is_handed R i p (suc n) h = h
 pub later : (R : Recorded) (i n : ℕ) (b : BoxRow) → IsOwned R i n → box_at R n ≡ Some b → b.from < i
 later R i zero b h k = cc
 later R i (suc n) b h k = let same : h.0 ≡ b = get-one (slice_get R.boxes n) h.0 b h.1 k in subst (λ (x : BoxRow). x.from < i) same h.2
-
-pub noted_there : (R : Recorded) (n : ℕ) (port : Port) (b : BoxRow) → box_at R n ≡ Some b → box_at (noted R n port) n ≡ Some (passed port b)
-noted_there R zero port b h = cc
-noted_there R (suc n) port b h = passed-there port n R.boxes b h
 
 -- where a point was called from is below the number of points
 pub from_below : (R : Recorded) (n : ℕ) (b : BoxRow) → IsKept R → box_at R n ≡ Some b → b.from < length R.points
@@ -255,7 +250,7 @@ module _ (P : List Tuple) where
         either i p at (inl here) =
             let same : c.caller ≡ p = get-one (point_in R i) c.caller p (rw (← here) c.caller_there) at in
             let goal : goal_left p ≡ Some c.goal = ap goal_left (sym same) ∙ c.has_goal in
-            let child : HasCompleteChild (noted R g.box_no Fail) i = record { number = g.box_no; row = passed Fail c.waits.row; there = noted_there R g.box_no Fail c.waits.row c.waits.there; from = c.waits.from ∙ here; complete = refl } in
+            let child : HasCompleteChild (noted R g.box_no Fail) i = record { number = g.box_no; row = passed Fail c.waits.row; there = noted-there R g.box_no Fail c.waits.row c.waits.there; from = c.waits.from ∙ here; complete = refl } in
             subst (λ o. IsSettled (noted R g.box_no Fail) i p o) (sym goal) child
         either i p at (inr past) = settled-grown R (noted R g.box_no Fail) (grown_noted R g.box_no Fail) i p (goal_left p) (c.settled i p (omega (arith, past)) at)
 

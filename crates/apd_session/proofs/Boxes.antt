@@ -1,5 +1,5 @@
 -- The record of a run has no more boxes than the run may pass ports.
-use Rattle.std.proofs.Common.{ℕ, zero, suc, ◌+◌, ◌-◌, ◌≤◌, List, [], ◌∷◌, ◌++◌, length, length-append, refl, arith}
+use Rattle.std.proofs.Common.{ℕ, ◌+◌, ◌-◌, ◌≤◌, List, [], ◌∷◌, ◌++◌, length, length-append, refl, arith}
 use Rattle.apd_ports.specs.declared.event.Event.{Event}
 use Rattle.apd_ports.specs.declared.event.Port.{Port}
 use Rattle.apd_ports.specs.declared.event.Port.TheVariants.{Call, Exit, Redo, Fail}
@@ -9,8 +9,9 @@ use Rattle.apd_recorded.proofs.State.{noted_boxes}
 use Rattle.apd_term.specs.declared.tuple.Tuple.{Tuple}
 use Rattle.apd_trace.specs.declared.item.Item.{Item}
 use Rattle.apd_trace.specs.declared.item.Item.TheVariants.{Passed, Answer, Made, Error}
-use Rattle.apd_trace.specs.Run.{before_event, ports_of, query_run, run_of}
+use Rattle.apd_trace.specs.Run.{ports_of, query_run}
 use Rattle.apd_trace.specs.Trace.{trace}
+use Rattle.apd_again.proofs.Counted.{ports-within}
 
 port-boxes : (R : Recorded) (e : Event) (port : Port) → length (told_port R e port).boxes ≤ length R.boxes + 1
 port-boxes R e Call = let l = length-append R.boxes (called_row e.atom (length R.points - 1) ∷ []) in omega (arith, l)
@@ -24,20 +25,6 @@ told-boxes R (Passed e ∷ xs) = let l = told-boxes (told_port R e e.port) xs in
 told-boxes R (Answer a ∷ xs) = told-boxes R xs
 told-boxes R (Made p ∷ xs) = told-boxes (record { boxes = R.boxes; points = R.points ++ p ∷ [] }) xs
 told-boxes R (Error e b ∷ xs) = told-boxes R xs
-
-ports-within : (xs : List Item) (ports answers : ℕ) → ports_of (run_of xs ports answers).passed ≤ ports
-ports-within [] ports answers = omega arith
-ports-within (Made p ∷ xs) ports answers = held (run_of xs ports answers).passed (ports-within xs ports answers)
-  where
-    held : (ys : List Item) → ports_of ys ≤ ports → ports_of (before_event (Made p) ys) ≤ ports
-    held [] h = h
-    held (y ∷ ys) h = h
-ports-within (Error e b ∷ xs) ports answers = omega arith
-ports-within (Passed e ∷ xs) zero answers = omega arith
-ports-within (Passed e ∷ xs) (suc ports) answers = let l = ports-within xs ports answers in omega (arith, l)
-ports-within (Answer a ∷ xs) ports zero = omega arith
-ports-within (Answer a ∷ xs) ports (suc zero) = omega arith
-ports-within (Answer a ∷ xs) ports (suc (suc answers)) = ports-within xs ports (suc answers)
 
 pub run-boxes : (P : List Tuple) (query : Tuple) (budget answers : ℕ) → length (record_of (query_run P query budget answers).passed).boxes ≤ budget
 run-boxes P query budget answers =

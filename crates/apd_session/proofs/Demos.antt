@@ -19,6 +19,7 @@ use Rattle.apd_talk.specs.declared.talk.Trouble.{Trouble}
 use Rattle.apd_talk.specs.declared.talk.Trouble.TheVariants as trouble
 use Rattle.apd_talk.proofs.Uttering.{Utters-more, UttersFront-less, UttersFront-more, UttersFront-none}
 use Rattle.apd_term.specs.Growth.{Grown}
+use Rattle.apd_demo.proofs.Walking.{drop_there}
 use Rattle.apd_text.specs.Named.{EntryIsNamed}
 use Rattle.apd_text.specs.declared.entry.Entry.{Entry}
 use Rattle.apd_text.specs.declared.entry.Entry.TheVariants.{Found, Question}
@@ -124,12 +125,6 @@ pub entry_is : {X : Type 0} (xs : List X) (i : ℕ) (x : X) → i < length xs �
 entry_is [] i x there is = absurd (omega (arith, there))
 entry_is (y ∷ ys) zero x there is = ap Some (sym is)
 entry_is (y ∷ ys) (suc i) x there is = entry_is ys i x (omega (arith, there)) is
-
--- one entry further on
-pub drop_there : {X : Type 0} (xs : List X) (i : ℕ) (x : X) → slice_get xs i ≡ Some x → drop i xs ≡ x ∷ drop (suc i) xs
-drop_there [] i x e = cc
-drop_there (y ∷ xs) zero x e = let same : y ≡ x = cc in ap (λ z. z ∷ xs) same
-drop_there (y ∷ xs) (suc i) x e = drop_there xs i x e
 
 -- the last entry
 pub last_entry : (es : List Entry) (i : ℕ) (e : Entry) → i ≡ length es → (i ≡ 0 → ⊥) → e ≡ slice_index_or es (i - 1) e → slice_get es (length es - 1) ≡ Some e

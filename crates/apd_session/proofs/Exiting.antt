@@ -1,6 +1,6 @@
 -- The exit that a command names is one of a box of the program's.
-use Rattle.std.proofs.Common.{◌≡◌, ℕ, ℤ, pos, negsuc, zero, suc, Bool, true, false, List, [], ◌∷◌, Option, Some, None, Ok, Err, refl, sym, ap, subst, inl, inr}
-use Rattle.std.specs.Prelude.{slice_get, if◌then◌else◌}
+use Rattle.std.proofs.Common.{◌≡◌, ℕ, ℤ, pos, negsuc, Bool, true, false, Option, Some, None, Ok, Err, refl, sym, ap, subst}
+use Rattle.std.specs.Prelude.{if◌then◌else◌}
 use Rattle.apd_ports.specs.declared.point.Point.{Point}
 use Rattle.apd_record.specs.Recorded.{Recorded, box_at, exits}
 use Rattle.apd_record.specs.declared.rows.BoxRow.{BoxRow}
@@ -11,16 +11,7 @@ use Rattle.apd_divide.proofs.Solved.{point-is}
 use Rattle.apd_term.specs.Term.{IsAmong}
 use Rattle.apd_text.specs.declared.entry.Refusal.TheVariants.{NotUserBox}
 use Rattle.apd_symptoms.specs.Symptoms.{numbered, exit_by, exit_in, exit_of}
-
-among_at : (xs : List ℕ) (i e : ℕ) → slice_get xs i ≡ Some e → IsAmong xs e
-among_at [] i e h = absurd (cc)
-among_at (x ∷ xs) zero e h = inl cc
-among_at (x ∷ xs) (suc i) e h = inr (among_at xs i e h)
-
-numbered_among : (xs : List ℕ) (k : ℤ) (e : ℕ) → numbered xs k ≡ Some e → IsAmong xs e
-numbered_among xs (pos zero) e h = absurd (cc)
-numbered_among xs (pos (suc i)) e h = among_at xs i e h
-numbered_among xs (negsuc i) e h = absurd (cc)
+use Rattle.apd_symptoms.proofs.Exits.{numbered-among}
 
 -- the exit's point, of a box of the program's
 pub record Exits (R : Recorded) (e : ℕ) : Type 0 where
@@ -51,7 +42,7 @@ exit_is R b row k (Some x) e there among is = by row.is_user refl is
 
 exit_in_row : (R : Recorded) (b : ℕ) (k : ℤ) (o : Option BoxRow) (e : ℕ) → box_at R b ≡ o → exit_in R b k o ≡ Ok e → Exits R e
 exit_in_row R b k None e there is = absurd (cc)
-exit_in_row R b k (Some row) e there is = exit_is R b row k (numbered (exits R b) k) e there (λ x h. numbered_among (exits R b) k x h) is
+exit_in_row R b k (Some row) e there is = exit_is R b row k (numbered (exits R b) k) e there (λ x h. numbered-among (exits R b) k x h) is
 
 pub exit_of-exits : (R : Recorded) (b k : ℤ) (e : ℕ) → exit_of R b k ≡ Ok e → Exits R e
 exit_of-exits R (pos b) k e is = exit_in_row R b k (box_at R b) e refl is

@@ -1,5 +1,5 @@
 -- Entries that are right, each in its turn, are fair but for the size of what is run, and proper.
-use Rattle.std.proofs.Common.{◌≡◌, ℕ, zero, suc, ◌+◌, ◌<◌, ◌≤◌, ◌⊎◌, inl, inr, Bool, true, false, List, [], ◌∷◌, length, Option, Some, refl, sym, ◌∙◌, ap, subst, arith}
+use Rattle.std.proofs.Common.{◌≡◌, ℕ, zero, suc, ◌+◌, ◌≤◌, ◌⊎◌, inl, inr, Bool, true, false, List, [], ◌∷◌, length, Option, Some, refl, sym, ◌∙◌, ap, subst, arith}
 use Rattle.std.specs.Prelude.{All, ⊤, slice_get}
 use Rattle.std.specs.List.{AllByRecursion}
 use Rattle.std.specs.Option.{unwrap_or}
@@ -66,6 +66,7 @@ use Rattle.apd_trace.specs.declared.item.Item.TheVariants.{Made}
 use Rattle.apd_trace.specs.Frames.{query_frame}
 use Rattle.apd_trace.specs.Run.{before_event, query_run, run_of}
 use Rattle.apd_trace.specs.Trace.{search_from, up_to_error}
+use Rattle.apd_symptoms.proofs.Exits.{row_at}
 use Rattle.apd_session.proofs.Boxes.{run-boxes}
 use Rattle.apd_session.proofs.Inquiring.{IsOwnInquiry, TurnIsFair, comes-fair}
 use Rattle.apd_session.proofs.Lacking.{is_chain}
@@ -99,11 +100,6 @@ no_box zero b there = absurd (cc)
 no_box (suc i) b there = absurd (cc)
 
 -- The clause of a call that was found.
-box_there : (bs : List BoxRow) (i : ℕ) → i < length bs → (b : BoxRow) × (slice_get bs i ≡ Some b)
-box_there [] i few = absurd (omega (arith, few))
-box_there (b ∷ bs) zero few = (b, refl)
-box_there (b ∷ bs) (suc i) few = box_there bs i (omega (arith, few))
-
 nothing_left : (ts : List Term) (k : ℕ) (t : Term) → ts ≡ [] → slice_get ts k ≡ Some t → ⊥
 nothing_left [] k t none there = absurd (cc)
 nothing_left (x ∷ ts) k t none there = absurd (cc)
@@ -130,7 +126,7 @@ module _ (program : List Clause) (R : Recorded) (sound : IsSound (tuples_of prog
   call-clause clause goal caller_no zero caller_atom callee_atom call = let some = call.is_box in absurd (omega (arith, some))
   call-clause clause goal caller_no (suc i) caller_atom callee_atom call =
       let few = call.there in
-      let b = box_there R.boxes i (omega (arith, few)) in
+      let b = row_at R.boxes i (omega (arith, few)) in
       let c = sound.kept.called (suc i) b.0 b.1 in
       let row : row_of R (suc i) ≡ b.0 = ap (λ o. unwrap_or o no_row) b.1 in
       let p : calling_point R (suc i) ≡ c.caller = ap (λ (r : BoxRow). Rattle.apd_record.specs.Reading.point_of R r.from) row ∙ point-is R b.0.from c.caller c.there in

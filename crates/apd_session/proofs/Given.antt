@@ -7,7 +7,6 @@ use Rattle.apd_causes.specs.declared.reading.Read.{Read}
 use Rattle.apd_causes.specs.declared.run.Query.{Query}
 use Rattle.apd_term.specs.Named.{AreNamed, IsNamed, TupleIsNamed}
 use Rattle.apd_term.specs.Term.{Term, Terms, variable, integer, compound, none, more, arguments, list_of, predicate_of}
-use Rattle.apd_term.specs.declared.term.Pred.{Pred}
 use Rattle.apd_term.specs.declared.standard.TheConstants.{KNOWN, LOOP, MISSING, QUERY, QUIT, TRACE, WRONG}
 use Rattle.apd_term.proofs.FirstNames.{length-standard_names}
 use Rattle.apd_clauses.specs.Bodies.{body_fault}
@@ -15,9 +14,9 @@ use Rattle.apd_clauses.specs.Clauses.{IsAtom, is_pred}
 use Rattle.apd_clauses.specs.Kinds.{IsPureGoal, ◌∕◌}
 use Rattle.apd_clauses.specs.Queries.{IsQueryTerm, query_from}
 use Rattle.apd_clauses.proofs.Asked.{is_asked, query_has_goals, query_is_named, query_is_pure}
-use Rattle.apd_clauses.proofs.Indexing.{same_pred-true}
 use Rattle.apd_clauses.proofs.Parts.{body_is_clean}
 use Rattle.apd_clauses.proofs.Pure.{goals_are_atoms}
+use Rattle.apd_clauses.proofs.Placing.{own_predicate}
 use Rattle.apd_commands.specs.Filters.{filter_at, trace_asked}
 use Rattle.apd_commands.specs.Commands.{command_in, command_of, integer_at, missing_asked, query_asked, term_asked, wrong_asked}
 use Rattle.apd_commands.specs.declared.commands.Command.{Command}
@@ -53,10 +52,6 @@ not_trace : (f : Option Filter) (q : Query) → trace_asked f ≡ command.Query 
 not_trace None q is = cc
 not_trace (Some f) q is = cc
 
-is_predicate : (o : Option Pred) (p : Pred) → is_pred o p ≡ true → o ≡ Some p
-is_predicate None p is = absurd (cc)
-is_predicate (Some x) p is = ap Some (same_pred-true x p is)
-
 -- the query is that of this term
 record IsOfTerm (r : Read) (q : Query) : Type 0 where
   asks : IsQueryTerm r.term
@@ -71,7 +66,7 @@ term_query r q is =
         else (if d then missing_asked (integer_at r.term 0) (slice_get (arguments r.term) 1) else (if e then command.Loop else (if f then trace_asked (filter_at r.term) else (if g then command.Known else command.Refused NotACommand))))))) ≡ command.Query q
         → IsOfTerm r q
     by true b c d e f g asks h = absurd (cc)
-    by false true c d e f g asks h = record { asks = is_predicate (predicate_of r.term) (QUERY ∕ 1) asks; is = query_in (query_from r) q h }
+    by false true c d e f g asks h = record { asks = own_predicate (predicate_of r.term) (QUERY ∕ 1) asks; is = query_in (query_from r) q h }
     by false false true d e f g asks h = absurd (not_wrong (integer_at r.term 0) (integer_at r.term 1) q h)
     by false false false true e f g asks h = absurd (not_missing (integer_at r.term 0) (slice_get (arguments r.term) 1) q h)
     by false false false false true f g asks h = absurd (cc)

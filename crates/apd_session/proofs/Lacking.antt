@@ -4,17 +4,17 @@ use borrow.Author.Tests.{ltb-false}
 use Rattle.std.specs.Prelude.{if◌then◌else◌, nat_lt, not}
 use Rattle.apd_arith.specs.Builtins.{builtin_of_atom}
 use Rattle.apd_arith.specs.Truths.{is_ground}
-use Rattle.apd_arith.specs.declared.goal.Builtin.{Builtin}
 use Rattle.apd_causes.specs.declared.run.RunEnd.{RunEnd}
 use Rattle.apd_causes.specs.declared.run.RunEnd.TheVariants as run_ends
 use Rattle.apd_divide.proofs.Solved.{point-is}
 use Rattle.apd_loop.specs.Known.{IsChain}
 use Rattle.apd_missing.specs.Known.{IsMissing}
+use Rattle.apd_missing.proofs.Closed.{user_is}
 use Rattle.apd_ports.specs.declared.point.Point.{Point}
 use Rattle.apd_record.specs.Chain.{AreChained}
 use Rattle.apd_record.specs.Full.{HasExit}
 use Rattle.apd_record.specs.Reading.{point_of}
-use Rattle.apd_record.specs.Recorded.{Recorded, box_at, chain, exits, is_in_chain, is_none, is_user_atom, numbers}
+use Rattle.apd_record.specs.Recorded.{Recorded, box_at, chain, exits, is_in_chain, is_user_atom, numbers}
 use Rattle.apd_record.specs.Sound.{IsKept}
 use Rattle.apd_record.specs.declared.rows.BoxRow.{BoxRow}
 use Rattle.apd_record.proofs.Atoms.{user-same}
@@ -48,16 +48,12 @@ no_exit R b a is h =
     let yes = (is_instance-is a (point_of R h.number).tuple.head).1 (subst (IsInstance a) (sym head) h.instance) in
     absurd (cc)
 
-none_by : (o : Option Builtin) → is_none o ≡ true → o ≡ None
-none_by None is = refl
-none_by (Some g) is = absurd (cc)
-
 -- an atom that is an instance of one of the program's is one of the program's
 of_program : (R : Recorded) (b : ℕ) (row : BoxRow) (a : Term) → IsKept R → box_at R b ≡ Some row → row.is_user ≡ true → IsInstance a row.atom → builtin_of_atom a ≡ None
 of_program R b row a kept there user instance =
     let called = kept.called b row there in
     let is : is_user_atom row.atom ≡ true = sym called.user ∙ user in
-    none_by (builtin_of_atom a) (subst (λ (t : Term). is_user_atom t ≡ true) instance.1 (user-same instance.0 row.atom called.atom ∙ is))
+    user_is (builtin_of_atom a) (subst (λ (t : Term). is_user_atom t ≡ true) instance.1 (user-same instance.0 row.atom called.atom ∙ is))
 
 row_lacks : (R : Recorded) (b n : ℕ) (row : BoxRow) (a : Term) → IsKept R → box_at R b ≡ Some row → unanswered_row R b a row ≡ Ok n → (n ≡ b) × IsMissing R b a
 row_lacks R b n row a kept there is = by row.is_user row.complete (is_ground a) (is_instance a row.atom) (answer_from R a 1 (exits R b)) refl refl refl refl refl is

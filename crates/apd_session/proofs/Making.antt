@@ -15,9 +15,9 @@ use Rattle.apd_load.proofs.Calling.{notes_more}
 use Rattle.apd_clauses.specs.Clauses.{tuples_of}
 use Rattle.apd_clauses.specs.declared.clause.Clause.{Clause}
 use Rattle.apd_debug.specs.NamedStates.{AreReplies}
+use Rattle.apd_debug.proofs.KnownGoals.{tuples-more}
 use Rattle.apd_term.specs.Named.{AllTuplesNamed}
 use Rattle.apd_term.specs.StandardNames.{standard_names}
-use Rattle.apd_session.proofs.Turning.{all_named_more}
 use Rattle.apd_session.proofs.Refereeing.{refers_later}
 use Rattle.apd_ops.specs.Table.{Table}
 use Rattle.apd_read.specs.Reader.{Reader}
@@ -331,13 +331,13 @@ pub start_ready : (n m : ℕ) (options : Options) (program : List Clause) (store
     → IsStart m (record { beginning = b; state = first_state program options store referee })
 start_ready n m options program store referee b more limits standard named passed called reference replies known = record {
   beginning = record { passed = notes_more n m b.passed more passed; called = notes_more n m b.called more called; reference = reference };
-  state = record { ready = record { limits = limits; standard = omega (arith, standard, more); named = all_named_more n m (tuples_of program) more named; last = tt }; replies = replies; referee = known };
+  state = record { ready = record { limits = limits; standard = omega (arith, standard, more); named = tuples-more n m (tuples_of program) more named; last = tt }; replies = replies; referee = known };
 }
 
 -- what was loaded stays named where names are added
 pub IsLoaded-more : (n m : ℕ) (l : Loaded) → n ≤ m → IsLoaded n l → IsLoaded m l
 IsLoaded-more n m l more is = record {
-  program = all_named_more n m (tuples_of l.program) more is.program;
+  program = tuples-more n m (tuples_of l.program) more is.program;
   passed = notes_more n m l.passed more is.passed;
   called = notes_more n m l.warnings more is.called;
   warnings = is.warnings;

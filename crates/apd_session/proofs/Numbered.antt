@@ -4,6 +4,7 @@ use Rattle.std.specs.Prelude.{◌^◌, All, if◌then◌else◌, slice_get}
 use Rattle.std.specs.List.{AllByRecursion}
 use Rattle.std.specs.Option.{unwrap_or}
 use Rattle.std.proofs.lemmas.List.{length-map}
+use Rattle.std.proofs.lemmas.Option.{slice_get_within}
 use Rattle.apd_account.specs.Account.{Account, after_entry}
 use Rattle.apd_account.specs.Right.{AreRight, IsRight}
 use Rattle.apd_account.specs.Telling.{told_by}
@@ -28,6 +29,7 @@ use Rattle.apd_record.specs.Sound.{IsOwned, IsSound, clause_of}
 use Rattle.apd_record.specs.declared.rows.BoxRow.{BoxRow}
 use Rattle.apd_recorded.proofs.Recording.{program_clauses}
 use Rattle.apd_symptoms.specs.Symptoms.{line_found, line_of_clause}
+use Rattle.apd_symptoms.proofs.Exits.{row_at}
 use Rattle.apd_term.specs.Term.{Term, apply}
 use Rattle.apd_term.specs.Tuple.{IsTupleInstance}
 use Rattle.apd_term.specs.declared.instance.Instance.{Instance}
@@ -41,11 +43,6 @@ use Rattle.apd_upheld.specs.Fair.{AreInTurn, AreRunsInSize, HasClause, IsFair, I
 use Rattle.apd_written.specs.Conditions.{AllSayable, IsSayable}
 use Rattle.apd_written.specs.Numbers.{AllNumbered, IsFindingNumbered, IsNumbered}
 
-slice-within : {X : Type 0} (xs : List X) (i : ℕ) (x : X) → slice_get xs i ≡ Some x → i < length xs
-slice-within [] i x e = absurd (cc)
-slice-within (y ∷ ys) zero x e = omega arith
-slice-within (y ∷ ys) (suc i) x e = let l = slice-within ys i x e in omega (arith, l)
-
 numbers-within : {X : Type 0} (test : X → Bool) (n : ℕ) (xs : List X) → length (numbers test n xs) ≤ length xs
 numbers-within test n [] = omega arith
 numbers-within test n (x ∷ xs) = by (test x) (numbers-within test (n + 1) xs)
@@ -58,11 +55,11 @@ numbers-within test n (x ∷ xs) = by (test x) (numbers-within test (n + 1) xs)
 
 clause-within : (cs : List Clause) (n : ℕ) (c : Clause) → clause_at cs n ≡ Some c → n ≤ length cs
 clause-within cs zero c e = absurd (cc)
-clause-within cs (suc i) c e = let l = slice-within cs i c e in omega (arith, l)
+clause-within cs (suc i) c e = let l = slice_get_within cs i c e in omega (arith, l)
 
 tuple-within : (P : List Tuple) (n : ℕ) (c : Tuple) → clause_of P n ≡ Some c → n ≤ length P
 tuple-within P zero c e = absurd (cc)
-tuple-within P (suc i) c e = let l = slice-within P i c e in omega (arith, l)
+tuple-within P (suc i) c e = let l = slice_get_within P i c e in omega (arith, l)
 
 line-at : (k : ℕ) (cs : List Clause) (i : ℕ) → AreLinedBy k cs → line_of_clause (slice_get cs i) ≤ k
 line-at k [] i h = omega arith
@@ -76,11 +73,6 @@ line-within k cs (suc i) h = line-at k cs i h
 body-length : (t c : Tuple) → IsTupleInstance t c → length t.body ≡ length c.body
 body-length t c of = sym (ap (λ (u : Tuple). length u.body) of.1) ∙ length-map c.body (apply of.0)
 
-box-there : (bs : List BoxRow) (i : ℕ) → i < length bs → (b : BoxRow) × (slice_get bs i ≡ Some b)
-box-there [] i few = absurd (omega (arith, few))
-box-there (b ∷ bs) zero few = (b, refl)
-box-there (b ∷ bs) (suc i) few = box-there bs i (omega (arith, few))
-
 no-goal : (ts : List Term) (k : ℕ) (t : Term) → ts ≡ [] → slice_get ts k ≡ Some t → ⊥
 no-goal [] k t none there = absurd (cc)
 no-goal (x ∷ ts) k t none there = absurd (cc)
@@ -89,7 +81,7 @@ no-goal (x ∷ ts) k t none there = absurd (cc)
 module _ (P : List Tuple) (all : All IsClause P) (R : Recorded) (sound : IsSound P R) where
   owner-within : (i n : ℕ) → IsOwned R i n → n ≤ length R.boxes
   owner-within i zero owned = omega arith
-  owner-within i (suc n) owned = let l = slice-within R.boxes n owned.0 owned.1 in omega (arith, l)
+  owner-within i (suc n) owned = let l = slice_get_within R.boxes n owned.0 owned.1 in omega (arith, l)
 
   -- a point of a box that has a goal left has at most 64 goals
   goal-within : (i : ℕ) (p : Point) (t : Term) → point_at R i ≡ Some p → slice_get p.tuple.body p.done ≡ Some t → 1 ≤ p.owner → p.done < 64
@@ -100,7 +92,7 @@ module _ (P : List Tuple) (all : All IsClause P) (R : Recorded) (sound : IsSound
           let of = of_clause P R sound p.done i p b at refl there user in
           let few = (is_clause P p.clause of.rule all of.there).body.few in
           let same = body-length p.tuple of.rule of.instance in
-          let within = slice-within p.tuple.body p.done t left in
+          let within = slice_get_within p.tuple.body p.done t left in
           omega (arith, few, same, within)
       by_kind b there false user = absurd (no-goal p.tuple.body p.done t (of_builtin P R sound p.done i p b at refl there user).body left)
 
@@ -117,7 +109,7 @@ module _ (P : List Tuple) (all : All IsClause P) (R : Recorded) (sound : IsSound
   call-within clause goal caller_no zero caller_atom callee_atom call = let some = call.is_box in absurd (omega (arith, some))
   call-within clause goal caller_no (suc i) caller_atom callee_atom call =
       let few = call.there in
-      let b = box-there R.boxes i (omega (arith, few)) in
+      let b = row_at R.boxes i (omega (arith, few)) in
       let c = sound.kept.called (suc i) b.0 b.1 in
       let row : row_of R (suc i) ≡ b.0 = ap (λ o. unwrap_or o no_row) b.1 in
       let p : calling_point R (suc i) ≡ c.caller = ap (λ (r : BoxRow). Rattle.apd_record.specs.Reading.point_of R r.from) row ∙ point-is R b.0.from c.caller c.there in

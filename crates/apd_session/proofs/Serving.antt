@@ -28,8 +28,8 @@ use Rattle.apd_session.specs.declared.status.Status.{Status}
 use Rattle.apd_session.specs.declared.status.Status.TheVariants as statuses
 use Rattle.apd_session.proofs.Demos.{shown_ends}
 use Rattle.apd_session.proofs.Limit.{nothing_read}
-use Rattle.apd_session.proofs.Loading.{grew_both, grew_by, grew_less, stop_limit, stop_read}
-use Rattle.apd_session.proofs.Turning.{grows_none}
+use Rattle.apd_session.proofs.Loading.{grew_both, grew_by, stop_limit, stop_read}
+use Rattle.apd_session.proofs.Turning.{grows_none, grows_few}
 use Rattle.apd_session.proofs.Worlds.{met_so, met_wanting, unread}
 
 -- the status after a check
@@ -143,7 +143,7 @@ module _ (words : List (List ℕ)) (p q : Outside) (kept : List (List ℕ)) (log
   pub serves_not : q.load_faults ≡ p.load_faults → q.streams.read_faults ≡ p.streams.read_faults → q.streams.write_faults ≡ p.streams.write_faults → q.streams.left ≡ p.streams.left → q.streams.held ≡ p.streams.held → log.entries.list ≡ [] → log.ops ≡ standard_table → log.names ≡ kept → IsSession words p q log statuses.Memory
   serves_not loads reads writes stays same empty ops is = record {
     meaning = λ names grew reader. met_wanting words names reader p q log stays same empty ops;
-    names = subst (λ (l : List (List ℕ)). GrowsBy 19922944 standard_names l) (sym is) (grew_less 3145728 19922944 _ _ (omega arith) grows);
+    names = subst (λ (l : List (List ℕ)). GrowsBy 19922944 standard_names l) (sym is) (grows_few 3145728 19922944 _ _ (omega arith) grows);
     limit = λ e. absurd (cc);
     read = λ e. absurd (cc);
     write = λ e. absurd (cc);

@@ -1,5 +1,5 @@
 -- What a session says where a user tells what is wrong with the last run.
-use Rattle.std.proofs.Common.{◌≡◌, ℕ, zero, suc, ◌<◌, List, [], ◌∷◌, length, refl, sym, ap, ◌∙◌, subst, arith, Bool, true, false, Option, Some, None}
+use Rattle.std.proofs.Common.{◌≡◌, ℕ, zero, suc, List, [], ◌∷◌, length, refl, sym, ap, ◌∙◌, subst, arith, Bool, true, false, Option, Some, None}
 use Rattle.std.specs.Prelude.{ℤ, Result, Ok, Err, IfOk, IfSome, OnOk, slice_get}
 use Rattle.apd_account.specs.Account.{with_told}
 use Rattle.apd_answers.specs.Dialogue.{Diagnosis}
@@ -260,12 +260,6 @@ module _ (ops : Table) (names : List (List ℕ)) (s : State) where
   pub loop_begins : (run : LastRun) (calls : List ℕ) → s.last ≡ Some run → stopped_chain run.history run.end ≡ Ok calls →
       command_step ops names s commands.Loop ≡ begins by_loop ops names s (NoEnd (length calls)) (loop_start run.history calls)
   loop_begins run calls last is = ap (λ (o : Option LastRun). loop_step ops names s o) last ∙ ap (loop_at ops names s run.history) is
-
--- the point of an exit
-pub point_below : (ps : List Point) (i : ℕ) (p : Point) → slice_get ps i ≡ Some p → i < length ps
-point_below [] i p there = absurd (cc)
-point_below (x ∷ ps) zero p there = omega arith
-point_below (x ∷ ps) (suc i) p there = let below = point_below ps i p there in omega (arith, below)
 
 -- the label of an exit
 pub head_is : (R : Recorded) (e : ℕ) (p : Point) (t : Tuple) → point_at R e ≡ Some p → t ≡ p.tuple → (point_of R e).tuple.head ≡ t.head

@@ -11,12 +11,12 @@ use Rattle.apd_term.specs.Term.{IsAmong}
 use Rattle.apd_text.specs.declared.entry.Refusal.TheVariants.{NotUserBox}
 use Rattle.apd_symptoms.specs.Symptoms.{exit_of, numbered}
 
-slice_get-among : (xs : List ℕ) (i x : ℕ) → slice_get xs i ≡ Some x → IsAmong xs x
+pub slice_get-among : (xs : List ℕ) (i x : ℕ) → slice_get xs i ≡ Some x → IsAmong xs x
 slice_get-among [] i x is = absurd (cc)
 slice_get-among (y ∷ xs) zero x is = inl (cc)
 slice_get-among (y ∷ xs) (suc i) x is = inr (slice_get-among xs i x is)
 
-numbered-among : (xs : List ℕ) (k : ℤ) (x : ℕ) → numbered xs k ≡ Some x → IsAmong xs x
+pub numbered-among : (xs : List ℕ) (k : ℤ) (x : ℕ) → numbered xs k ≡ Some x → IsAmong xs x
 numbered-among xs (pos zero) x is = absurd (cc)
 numbered-among xs (pos (suc i)) x is = slice_get-among xs i x is
 numbered-among xs (negsuc i) x is = absurd (cc)
@@ -38,7 +38,7 @@ numbered-ids xs (pos (suc i)) p is = slice_get-ids xs i p is
 numbered-ids xs (negsuc i) p is = absurd (cc)
 
 -- the box is there
-row_at : (rows : List BoxRow) (i : ℕ) → i < length rows → (row : BoxRow) × (slice_get rows i ≡ Some row)
+pub row_at : (rows : List BoxRow) (i : ℕ) → i < length rows → (row : BoxRow) × (slice_get rows i ≡ Some row)
 row_at [] i there = absurd (omega (arith, there))
 row_at (r ∷ rows) zero there = (r, refl)
 row_at (r ∷ rows) (suc i) there = row_at rows i (omega (arith, there))

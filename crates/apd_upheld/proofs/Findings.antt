@@ -6,24 +6,24 @@ use Rattle.std.specs.Prelude.{slice_get, take, ◌==◌}
 use Rattle.std.specs.List.{AllByRecursion, list_any}
 use Rattle.std.specs.Option.{unwrap_or, option_map}
 use Rattle.std.proofs.lemmas.Bool.Decides.{nat_tests}
-use Rattle.apd_term.specs.Term.{Term, variable, integer, compound, apply, variables, predicate_of, IsGround, IsAmong}
+use Rattle.std.proofs.lemmas.Option.{slice_get-map}
+use Rattle.apd_term.specs.Term.{Term, variable, integer, compound, apply, predicate_of}
 use Rattle.apd_term.specs.Canonical.{canonical, by_appearance, place_of}
 use Rattle.apd_term.specs.Tuple.{canonical_tuple, variables_of_tuple}
-use Rattle.apd_term.specs.Substitution.{IsInstance, followed_by}
+use Rattle.apd_term.specs.Substitution.{IsInstance}
 use Rattle.apd_term.specs.declared.instance.Instance.{Instance}
 use Rattle.apd_term.specs.declared.tuple.Tuple.{Tuple}
-use Rattle.apd_term.proofs.Applying.{apply-followed_by, apply-variable}
 use Rattle.apd_term.proofs.Spelling.{length-apply_all}
-use Rattle.apd_term.proofs.Variants.{apply-agree, canonical-canonical, AreVariants_from_instances, IsInstance-trans}
+use Rattle.apd_term.proofs.Variants.{canonical-canonical, AreVariants_from_instances, IsInstance-trans}
 use Rattle.apd_term.proofs.Tuples.{IsTupleInstance-trans, IsTupleInstance-canonical, canonical_is_instance, IsInstance-head}
+use Rattle.apd_term.proofs.Ground.{canonical-ground}
 use Rattle.apd_arith.specs.declared.goal.Builtin.{Builtin}
 use Rattle.apd_arith.specs.Builtins.{builtin_of_atom}
 use Rattle.apd_ports.specs.Filter.{is_predicate}
 use Rattle.apd_ports.specs.declared.point.Point.{Point}
-use Rattle.apd_record.specs.Recorded.{Recorded, box_at}
+use Rattle.apd_record.specs.Recorded.{Recorded}
 use Rattle.apd_record.specs.Reading.{no_point, row_of, call_atom, calling_point}
-use Rattle.apd_record.specs.Sound.{IsAlwaysTrue}
-use Rattle.apd_record.specs.declared.rows.BoxRow.{BoxRow}
+use Rattle.apd_record.proofs.Trees.{always_true-apply}
 use Rattle.apd_answers.specs.Bugs.{earlier_atoms}
 use Rattle.apd_answers.specs.Findings.{IsTrueBy, IsTrueWhere, Affirms, IsHeadAmong, AreCandidates, SaysNoToFirst, instance_for, IsDenied, IsClosed, IsUncoveredByReplies, Apart, same, said, through, IsViolationByReplies, IsByReplies, AllDescendByReplies}
 use Rattle.apd_answers.specs.Store.{Store, SaysYes, SaysNo, SomeTerm}
@@ -31,6 +31,7 @@ use Rattle.apd_answers.specs.Trust.{IsAnswered, IsGranted, is_trusted}
 use Rattle.apd_answers.specs.declared.finding.Finding.{Finding}
 use Rattle.apd_answers.specs.declared.finding.Finding.TheVariants.{WrongInstance, Uncovered, Violation, Candidates}
 use Rattle.apd_again.specs.Bare.{bare_point, bare_point_if, bare_record}
+use Rattle.apd_loop.proofs.Callers.{is_box}
 use Rattle.apd_written.specs.Claims.{canonical_finding, canonical_instance}
 use Rattle.apd_upheld.specs.Alike.{AreAlike}
 use Rattle.apd_upheld.proofs.Alike.{yes-alike, no-alike, uncovered-alike, below-alike, not_below-alike, yes-instance, no-general}
@@ -139,12 +140,6 @@ predicate-renamed g (variable v) = refl
 predicate-renamed g (integer i) = refl
 predicate-renamed g (compound f ts) = rw (length-apply_all (λ v. variable (g v)) ts) refl
 
-always-apply : (s : ℕ → Term) (a : Term) → IsAlwaysTrue a → IsAlwaysTrue (apply s a)
-always-apply s a h r ground = rw (apply-followed_by s r a) (h (followed_by s r) (rw (← apply-followed_by s r a) ground))
-
-pub canonical-ground : (t : Term) → IsGround t → canonical t ≡ t
-canonical-ground t ground = apply-agree (λ v. variable (place_of (by_appearance (variables t)) v)) variable t (λ v o. absurd (subst (λ vs. IsAmong vs v) ground o)) ∙ apply-variable t
-
 granted-renamed : (R : Recorded) (store : Store) (g : ℕ → ℕ) (a : Term) → IsGranted R store a → IsGranted R store (renamed_by g a)
 granted-renamed R store g a (inl s) = inl (yes-instance store a (renamed_by g a) (λ v. variable (g v), refl) s)
 granted-renamed R store g a (inr t) = inr (ap (λ p. list_any (is_predicate p) store.trusted) (predicate-renamed g a) ∙ t.0, answered t.1)
@@ -171,7 +166,7 @@ true-renamed P Q g a h k = subst (λ o. IsTrueBy Q o (renamed_by g a)) (sym (bui
   where
     by : (o : Option Builtin) → IsTrueBy P o a → IsTrueBy Q o (renamed_by g a)
     by None x = h x
-    by (Some goal) x = always-apply (λ v. variable (g v)) a x
+    by (Some goal) x = always_true-apply (λ v. variable (g v)) a x
 
 granted-all : (R : Recorded) (store : Store) (g : ℕ → ℕ) (bs : List Term) → AllByRecursion (IsTrueWhere (IsGranted R store)) bs → AllByRecursion (IsTrueWhere (IsGranted R store)) (map (renamed_by g) bs)
 granted-all R store g [] h = h
@@ -232,7 +227,7 @@ by_replies-form P R store (WrongInstance clause t) h =
       body = granted-all R store (place_of (by_appearance (variables_of_tuple t))) t.body h.body;
       head = no-general store t.head (canonical_tuple t).head (IsInstance-head t (canonical_tuple t) (IsTupleInstance-canonical t)) h.head;
     }
-by_replies-form P R store (Uncovered goal) h = subst (λ g. IsUncoveredByReplies P store g) (sym (canonical-ground goal h.has_no_variable)) h
+by_replies-form P R store (Uncovered goal) h = subst (λ g. IsUncoveredByReplies P store g) (canonical-ground goal h.has_no_variable) h
 by_replies-form P R store (Violation clause goal caller_no callee caller_atom callee_atom) h =
     let caller : caller_atom ≡ canonical caller_atom = sym h.call.callers ∙ sym (canonical-canonical (call_atom R caller_no)) ∙ ap canonical h.call.callers in
     let called : callee_atom ≡ canonical callee_atom = sym h.call.callees ∙ sym (canonical-canonical (call_atom R callee)) ∙ ap canonical h.call.callees in
@@ -254,11 +249,6 @@ get-map f [] i d = refl
 get-map f (x ∷ xs) zero d = refl
 get-map f (x ∷ xs) (suc i) d = get-map f xs i d
 
-at-map : {X Y : Type 0} (f : X → Y) (xs : List X) (i : ℕ) → slice_get (map f xs) i ≡ option_map f (slice_get xs i)
-at-map f [] i = refl
-at-map f (x ∷ xs) zero = refl
-at-map f (x ∷ xs) (suc i) = at-map f xs i
-
 -- a point of a box that is there
 own-bare : (p : Point) → 1 ≤ p.owner → bare_point p ≡ p
 own-bare p l = by (p.owner == 0) refl
@@ -274,18 +264,13 @@ own_point (Some p) l = own-bare p l
 calling-bare : (R : Recorded) (n : ℕ) → 1 ≤ (calling_point R n).owner → calling_point (bare_record R) n ≡ calling_point R n
 calling-bare R n l = get-map bare_point R.points (row_of R n).from no_point ∙ own_point (slice_get R.points (row_of R n).from) l
 
--- a box that is there isn't the query's
-box-there : (R : Recorded) (n : ℕ) (row : BoxRow) → box_at R n ≡ Some row → 1 ≤ n
-box-there R zero row e = absurd (cc)
-box-there R (suc n) row e = omega arith
-
 granted-bare : (R : Recorded) (store : Store) (a : Term) → IsGranted R store a → IsGranted (bare_record R) store a
 granted-bare R store a (inl s) = inl s
 granted-bare R store a (inr t) = inr (t.0, answered t.1)
   where
     answered : IsAnswered R a → IsAnswered (bare_record R) a
     answered x =
-        let own : bare_point x.exit.point ≡ x.exit.point = own-bare x.exit.point (let there = box-there R x.number x.row x.there in let owner = x.exit.owner in omega (arith, there, owner)) in
+        let own : bare_point x.exit.point ≡ x.exit.point = own-bare x.exit.point (let there = is_box R x.number x.row x.there in let owner = x.exit.owner in omega (arith, there, owner)) in
         record {
           number = x.number;
           row = x.row;
@@ -294,7 +279,7 @@ granted-bare R store a (inr t) = inr (t.0, answered t.1)
           exit = record {
             number = x.exit.number;
             point = x.exit.point;
-            there = at-map bare_point R.points x.exit.number ∙ ap (option_map bare_point) x.exit.there ∙ ap Some own;
+            there = slice_get-map bare_point R.points x.exit.number ∙ ap (option_map bare_point) x.exit.there ∙ ap Some own;
             owner = x.exit.owner;
             is_exit = x.exit.is_exit;
             instance = x.exit.instance;

@@ -1,10 +1,9 @@
 -- What right and fair entries say is good.
 use Rattle.std.proofs.Common.{◌≡◌, ◌≢◌, ℕ, zero, suc, List, [], ◌∷◌, ◌++◌, length, refl, sym, ◌∙◌, ap, subst, Bool, Option, Some, None}
 use Rattle.std.specs.Prelude.{IfSome, slice_get}
-use Rattle.apd_term.specs.Term.{Term, variable, integer, compound, variables}
-use Rattle.apd_term.specs.Canonical.{canonical, by_appearance, place_of}
+use Rattle.apd_term.specs.Term.{Term}
+use Rattle.apd_term.specs.Canonical.{canonical}
 use Rattle.apd_term.specs.declared.tuple.Tuple.{Tuple}
-use Rattle.apd_term.proofs.Spelling.{length-apply_all}
 use Rattle.apd_causes.specs.declared.run.Query.{Query}
 use Rattle.apd_causes.specs.declared.run.Ran.{Ran}
 use Rattle.apd_causes.specs.declared.run.RunEnd.TheVariants.{Error as EndsInError}
@@ -30,6 +29,7 @@ use Rattle.apd_answers.specs.declared.question.Reply.TheVariants.{Yes, No, Value
 use Rattle.apd_answers.specs.Store.{Store, with_pair}
 use Rattle.apd_divide.specs.declared.node.Strategy.{Strategy}
 use Rattle.apd_known.specs.Pairs.{MayAsk}
+use Rattle.apd_known.proofs.Stating.{canonical_own}
 use Rattle.apd_loop.specs.Loop.{calls_in}
 use Rattle.apd_loop.specs.declared.LoopEnd.{LoopEnd}
 use Rattle.apd_symptoms.specs.Symptoms.{line_of_clause, line_found}
@@ -53,15 +53,10 @@ use Rattle.apd_upheld.proofs.Alike.{added-alike}
 use Rattle.apd_upheld.proofs.Findings.{by_replies-alike, by_replies-bare, by_replies-form, descent-alike}
 use Rattle.apd_upheld.proofs.Queries.{written_ends, written_record}
 
-user-canonical : (a : Term) → IsUserAtom a → IsUserAtom (canonical a)
-user-canonical (variable v) h = absurd (cc)
-user-canonical (integer i) h = absurd (cc)
-user-canonical (compound f ts) h = rw (length-apply_all (λ v. variable (place_of (by_appearance (variables (compound f ts))) v)) ts) h
-
 may-canonical : (q : Question) → IsFairQuestion q → MayAsk (canonical_question q)
-may-canonical (question.True a) h = user-canonical a h.may
+may-canonical (question.True a) h = canonical_own a h.may
 may-canonical (question.Covers t) h = subst (λ (u : Tuple). MayAsk (question.Covers u)) (sym h.form) h.may
-may-canonical (question.Below q p) h = (user-canonical q h.may.0, user-canonical p h.may.1)
+may-canonical (question.Below q p) h = (canonical_own q h.may.0, canonical_own p h.may.1)
 
 fits-canonical : (q : Question) (r : Reply) → IsInForm q → Fits q r → Fits (canonical_question q) r
 fits-canonical (question.True a) Yes i h = h
@@ -129,7 +124,7 @@ module _ (program : List Clause) where
     tells-goes : (a : Account) (s : LogState) (x : Term) (r : Reply) (stage : Stage) (what : Option Told) → Stands a s → IsUserAtom x → WaitsAs stage None
         → Goes (record { history = a.history; store = with_pair a.store (question.True x) r; symptom = what; stage = stage; replies = a.replies }) s (Tells (question.True (canonical x)) r ∷ [])
     tells-goes a s x r stage what h u w = record {
-      good = (user-canonical x u, tt);
+      good = (canonical_own x u, tt);
       stands = record {
         query = h.query;
         history = h.history;

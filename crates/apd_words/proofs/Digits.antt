@@ -1,7 +1,7 @@
 -- What a word of digits is read as.
 use Rattle.std.proofs.Common.{rules, ◌≡◌, ℕ, ◌<◌, ◌≤◌, ◌^◌, ◌&&◌, List, length, refl, ap, arith, Bool, true, false, Option, None, Some, Result, Ok, Err, subst}
 use Rattle.std.proofs.lemmas.Str.Parse.{IsNumeralModel, numerals_by_value, digits_value_short, parse_digits}
-use Rattle.std.proofs.lemmas.Bool.{leb-true}
+use Rattle.std.proofs.lemmas.Bool.{leb-true, and_parts}
 use Rattle.std.specs.Prelude.{if◌then◌else◌, nat_le}
 use Rattle.std.specs.Char.{is_ascii_digit}
 use Rattle.std.specs.List.{list_all}
@@ -12,11 +12,6 @@ use Rattle.apd_words.specs.Words.{is_number, number_of, within}
 own : IsNumeralModel (λ ds. list_all is_ascii_digit ds ≡ true) (digits_value 10)
 own = numerals_by_value _ (search rules)
 
-both_true : (a b : Bool) → a && b ≡ true → (a ≡ true) × (b ≡ true)
-both_true true true e = (refl, refl)
-both_true true false e = cc
-both_true false b e = cc
-
 -- a number, or none, where it is one from 1 to the most
 abbrev pub number_read : {E : Type 0} → ℕ → Result ℕ E → Option ℕ
 number_read most (Ok n) = within most n
@@ -25,8 +20,8 @@ number_read most (Err e) = None
 -- a word that is a number is parsed, and its value is what is read
 pub parsed : {E : Type 0} (most : ℕ) (word : List ℕ) (r : Result ℕ E) → ParsesUnsigned 32 10 word r → is_number word ≡ true → number_read most r ≡ number_of most word
 parsed {E} most word r h number =
-    let parts = both_true _ _ number in
-    let rest = both_true _ _ parts.1 in
+    let parts = and_parts _ _ number in
+    let rest = and_parts _ _ parts.1 in
     let some : 1 ≤ length word = leb-true _ _ parts.0 in
     let few : length word ≤ 7 = leb-true _ _ rest.0 in
     let small : digits_value 10 word < 10 ^ 7 = digits_value_short own word 7 rest.1 few in
@@ -42,7 +37,7 @@ within-bounds most n m is = by (nat_le 1 n && nat_le n most) refl is
     by : (b : Bool) → nat_le 1 n && nat_le n most ≡ b → (if b then Some n else None) ≡ Some m → (1 ≤ m) × (m ≤ most)
     by false e h = absurd (cc)
     by true e h =
-        let parts = both_true _ _ e in
+        let parts = and_parts _ _ e in
         let same : n ≡ m = cc in
         subst (λ k. (1 ≤ k) × (k ≤ most)) same (leb-true _ _ parts.0, leb-true _ _ parts.1)
 

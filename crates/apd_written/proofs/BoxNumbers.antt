@@ -22,6 +22,7 @@ use Rattle.apd_trace.specs.Frames.{apply_frames, apart, goal_of, next_goal, ente
 use Rattle.apd_trace.specs.BuiltIn.{Solution, of_program, faulted, failed, solved, outcome, built, solved_or, solution_by, solution_at, solution}
 use Rattle.apd_trace.specs.Trace.{Out, Next, nothing, emit, and_then, at_port, point_of, begun, tried, tries, hand, over, succeeded, again, settled, turn, search_from, up_to_error, trace}
 use Rattle.apd_trace.specs.Run.{run_of, ports_of, query_run}
+use Rattle.apd_trace.proofs.Deeper.{ports_of-append}
 
 -- each error's box is no later than there were ports before, after c ports
 abbrev Fits : ℕ → List Item → Type 0
@@ -40,13 +41,6 @@ fits-append c (Passed e ∷ xs) ys h k = fits-append (c + 1) xs ys h (same_fits 
 fits-append c (Answer a ∷ xs) ys h k = fits-append c xs ys h k
 fits-append c (Made p ∷ xs) ys h k = fits-append c xs ys h k
 fits-append c (Error e b ∷ xs) ys h k = (h.0, fits-append c xs ys h.1 k)
-
-ports-append : (xs ys : List Item) → ports_of (xs ++ ys) ≡ ports_of xs + ports_of ys
-ports-append [] ys = omega arith
-ports-append (Passed e ∷ xs) ys = let l = ports-append xs ys in omega (arith, l)
-ports-append (Answer a ∷ xs) ys = ports-append xs ys
-ports-append (Made p ∷ xs) ys = ports-append xs ys
-ports-append (Error e b ∷ xs) ys = ports-append xs ys
 
 -- after c ports a search has such items, and no more boxes than there are ports then
 record IsCounted (c : ℕ) (o : Out) : Type 0 where
@@ -73,7 +67,7 @@ then-counted c o f h k =
     let l = r.boxes in
     record {
       fits = fits-append c o.items more h.fits r.fits;
-      boxes = omega (arith, l, ports-append o.items more);
+      boxes = omega (arith, l, ports_of-append o.items more);
     }
 
 -- Frames, whose boxes were opened.

@@ -15,6 +15,7 @@ use Rattle.apd_ops.specs.Operators.{left_by, right_by}
 use Rattle.apd_ops.specs.Table.{Meaning, Table, prefix_in, infix_in}
 use Rattle.apd_write.specs.NameTexts.{is_word_name, is_graphic_name, is_solo_name, is_bracket_name, is_bare, begins_comment, hex_digit, hex_escape, quoted_byte, quoted, function_text, name_text}
 use Rattle.apd_write.specs.Writing.{Part, is_same_name, is_operator_atom, is_negative_integer, in_parentheses, fitted, between, right_operand, left_operand, prefix_text, infix_text, further_arguments, arguments_text, function, one_text, two_text, list_text, arranged, rest_after, variable_text, written, rest_text, parts}
+use Rattle.apd_known.proofs.Truths.{both_left, both_right}
 use Rattle.apd_written.specs.Says.{HasNoBreak}
 use Rattle.apd_written.proofs.Digits.{AllDigitBytes, decimal-digits}
 use Rattle.apd_written.proofs.Saying.{break-append}
@@ -71,22 +72,14 @@ word_not = refl
 graphic_not : is_graphic 10 ≡ false
 graphic_not = refl
 
-pub and_left : (a b : Bool) → (a && b) ≡ true → a ≡ true
-and_left true b e = refl
-and_left false b e = absurd (cc)
-
-pub and_right : (a b : Bool) → (a && b) ≡ true → b ≡ true
-and_right true b e = e
-and_right false b e = absurd (cc)
-
 word_name-break : (bs : List ℕ) → is_word_name bs ≡ true → HasNoBreak bs
 word_name-break [] e = tt
-word_name-break (b ∷ bs) e = tested-break is_word word_not (b ∷ bs) (and_right (is_small b) (list_all is_word (b ∷ bs)) e)
+word_name-break (b ∷ bs) e = tested-break is_word word_not (b ∷ bs) (both_right (is_small b) (list_all is_word (b ∷ bs)) e)
 
 graphic_name-break : (bs : List ℕ) → is_graphic_name bs ≡ true → HasNoBreak bs
 graphic_name-break bs e =
-    tested-break is_graphic graphic_not bs (and_right (not (length bs == 0)) (list_all is_graphic bs)
-    (and_left (not (length bs == 0) && list_all is_graphic bs) (not (same_text bs (codes "."))) (and_left (not (length bs == 0) && list_all is_graphic bs && not (same_text bs (codes "."))) (not (begins_comment bs)) e)))
+    tested-break is_graphic graphic_not bs (both_right (not (length bs == 0)) (list_all is_graphic bs)
+    (both_left (not (length bs == 0) && list_all is_graphic bs) (not (same_text bs (codes "."))) (both_left (not (length bs == 0) && list_all is_graphic bs && not (same_text bs (codes "."))) (not (begins_comment bs)) e)))
 
 solo_name-break : (bs : List ℕ) → is_solo_name bs ≡ true → HasNoBreak bs
 solo_name-break bs e = by (same_text bs (codes "!")) (same_text bs (codes ";")) refl refl e

@@ -1,5 +1,5 @@
 -- What is proper, has names that are kept and can be said is written and reads back.
-use Rattle.std.proofs.Common.{◌≡◌, ℕ, ◌<◌, ◌≤◌, inl, inr, List, [], ◌∷◌, length, map, Option, refl, arith}
+use Rattle.std.proofs.Common.{◌≡◌, ℕ, ◌<◌, ◌≤◌, inl, List, [], ◌∷◌, length, map, Option, refl, sym, arith}
 use Rattle.std.specs.Prelude.{◌^◌, pos}
 use Rattle.std.specs.List.{AllByRecursion}
 use Rattle.std.proofs.lemmas.List.{length-map}
@@ -16,15 +16,15 @@ use Rattle.apd_reading_back.specs.Law.{IsInRange, IsWritable}
 use Rattle.apd_reading_back.specs.Queries.{AreReadable, IsCompound, IsGoal}
 use Rattle.apd_term.specs.Canonical.{by_appearance, canonical, place_of}
 use Rattle.apd_term.specs.Named.{AllNamed, IsNamed, TupleIsNamed}
-use Rattle.apd_term.specs.Term.{IsGround, Term, apply, variable, variables, integer, compound}
+use Rattle.apd_term.specs.Term.{IsGround, Term, apply, variable, variables, integer}
 use Rattle.apd_term.specs.Tuple.{canonical_tuple, variables_of_tuple}
 use Rattle.apd_term.specs.declared.instance.Instance.{Instance}
 use Rattle.apd_term.specs.declared.standard.TheConstants.{NECK}
 use Rattle.apd_term.specs.declared.tuple.Tuple.{Tuple}
-use Rattle.apd_term.proofs.Ground.{apply-ground}
+use Rattle.apd_term.proofs.Ground.{canonical-ground}
 use Rattle.apd_term.proofs.Named.{AllNamed-map, IsNamed-canonical, TupleIsNamed-canonical}
-use Rattle.apd_term.proofs.Spelling.{length-apply_all}
 use Rattle.apd_term.proofs.Variants.{canonical-canonical}
+use Rattle.apd_record.proofs.Atoms.{IsPureGoal-apply, IsUserAtom-apply}
 use Rattle.apd_text.specs.ClauseTerms.{clause_term, list_term}
 use Rattle.apd_text.specs.Lines.{goals_of}
 use Rattle.apd_text.specs.Named.{FindingIsNamed, HasStandardNames, QuestionIsNamed, ReplyIsNamed, ToldIsNamed}
@@ -33,6 +33,7 @@ use Rattle.apd_text.specs.declared.entry.Told.{Told}
 use Rattle.apd_text.specs.declared.entry.Told.TheVariants.{Wrong, Missing, NoEnd}
 use Rattle.apd_text.specs.declared.entry.Entry.{Entry}
 use Rattle.apd_text.specs.declared.entry.Entry.TheVariants as entry
+use Rattle.apd_kept.proofs.Forms.{list_ground}
 use Rattle.apd_written.specs.Conditions.{AllSayable, AreValuesSayable, IsAtomSayable, IsClauseSayable, IsFindingSayable, IsOrderSayable, IsQuerySayable, IsQuestionSayable, IsReplySayable, IsSayable, IsSymptomSayable, LeavesMeanings, MayBeAsked}
 use Rattle.apd_written.specs.Numbers.{AllNumbered, IsFindingNumbered, IsNumbered, IsReplyNumbered}
 use Rattle.apd_written.specs.Proper.{AllHaveNames, AllProper, AreProperGoals, HasNames, IsProper, IsProperClause, IsProperFinding, IsProperQuestion, IsProperReply}
@@ -44,28 +45,9 @@ use Rattle.apd_written.proofs.Together.{clause-form, order-form, query-form}
 
 -- What terms are in canonical form.
 
-user-apply : (s : ℕ → Term) (a : Term) → IsUserAtom a → IsUserAtom (apply s a)
-user-apply s (variable v) user = absurd (cc)
-user-apply s (integer i) user = absurd (cc)
-user-apply s (compound f ts) user = rw (length-apply_all s ts) user
-
-pure-apply : (s : ℕ → Term) (a : Term) → IsPureGoal a → IsPureGoal (apply s a)
-pure-apply s a (inl user) = inl (user-apply s a user)
-pure-apply s (variable v) (inr builtin) = absurd (cc)
-pure-apply s (integer i) (inr builtin) = absurd (cc)
-pure-apply s (compound f ts) (inr builtin) = inr (rw (length-apply_all s ts) builtin)
-
 pure-map : (s : ℕ → Term) (ts : List Term) → AllByRecursion IsPureGoal ts → AllByRecursion IsPureGoal (map (apply s) ts)
 pure-map s [] pure = tt
-pure-map s (t ∷ ts) pure = (pure-apply s t pure.0, pure-map s ts pure.1)
-
--- a term without variables is in canonical form
-ground-canonical : (t : Term) → IsGround t → canonical t ≡ t
-ground-canonical t ground = apply-ground (λ v. variable (place_of (by_appearance (variables t)) v)) t ground
-
-list-ground : (ts : List Term) → AllByRecursion IsGround ts → IsGround (list_term ts)
-list-ground [] ground = refl
-list-ground (t ∷ ts) ground = rw (ground.0, list-ground ts ground.1) refl
+pure-map s (t ∷ ts) pure = (IsPureGoal-apply s t pure.0, pure-map s ts pure.1)
 
 module _ (ops : Table) (names : List (List ℕ)) (standard : HasStandardNames (length names)) (meanings : LeavesMeanings ops) where
   abbrev IsKept : Term → Type 0
@@ -91,7 +73,7 @@ module _ (ops : Table) (names : List (List ℕ)) (standard : HasStandardNames (l
         writable = writable (clause_term (canonical_tuple t)) (clause-form t) (clause_named (length names) (canonical_tuple t).head (canonical_tuple t).body neck form.0 form.1) h.in_range;
         shallow = h.shallow;
         goals = pure-ones (canonical_tuple t).body (pure-map order t.body proper.pure);
-        head = own-head (canonical_tuple t).head (user-apply order t.head proper.head);
+        head = own-head (canonical_tuple t).head (IsUserAtom-apply order t.head proper.head);
       }
 
   instances-tellable : (cs : List Instance) → AllByRecursion (λ (c : Instance). IsProperClause c.tuple) cs → AllByRecursion (λ (c : Instance). TupleIsNamed (length names) c.tuple) cs → AllByRecursion (λ (c : Instance). c.clause < 2 ^ 32) cs → AllByRecursion (λ (c : Instance). IsClauseSayable ops names c.tuple) cs → AllByRecursion (IsInstanceTellable ops names) cs
@@ -127,7 +109,7 @@ module _ (ops : Table) (names : List (List ℕ)) (standard : HasStandardNames (l
   -- The other entries.
   order-readable : (q p : Term) → IsUserAtom q → IsUserAtom p → IsKept q → IsKept p → IsOrderSayable ops names q p → AreReadable ops names (canonical q) (canonical p ∷ [])
   order-readable q p own_q own_p kept_q kept_p h =
-      let in_form : (t : Term) → IsUserAtom t → IsCompound (canonical t) = λ t own. pure-compound (canonical t) (inl (user-apply (λ v. variable (place_of (by_appearance (variables t)) v)) t own)) in
+      let in_form : (t : Term) → IsUserAtom t → IsCompound (canonical t) = λ t own. pure-compound (canonical t) (inl (IsUserAtom-apply (λ v. variable (place_of (by_appearance (variables t)) v)) t own)) in
       record {
         goals_are = (goal_is (canonical q) (in_form q own_q) (IsNamed-canonical (length names) q kept_q) h.below, (goal_is (canonical p) (in_form p own_p) (IsNamed-canonical (length names) p kept_p) h.above, tt));
         form = order-form (canonical q) (canonical p) (canonical-canonical q) (canonical-canonical p);
@@ -140,7 +122,7 @@ module _ (ops : Table) (names : List (List ℕ)) (standard : HasStandardNames (l
   question-written (asks.Below q p) proper kept h = order-readable q p proper.0 proper.1 kept.0 kept.1 h
 
   values-tellable : (values : List Term) → AllByRecursion IsGround values → AllNamed (length names) values → AreValuesSayable ops names values → AreTellable ops names values
-  values-tellable values ground kept h = record { writable = writable (list_term values) (ground-canonical (list_term values) (list-ground values ground)) (list_named (length names) values neck kept) h.in_range; shallow = h.shallow }
+  values-tellable values ground kept h = record { writable = writable (list_term values) (sym (canonical-ground (list_term values) (list_ground values ground))) (list_named (length names) values neck kept) h.in_range; shallow = h.shallow }
 
   reply-written : (r : Reply) (left : Option ℕ) → IsProperReply r → ReplyIsNamed (length names) r → IsReplyNumbered r left → IsReplySayable ops names r → IsReplyWritten ops names r left
   reply-written Yes left proper kept few h = few

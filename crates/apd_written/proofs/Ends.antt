@@ -1,9 +1,10 @@
 -- The last line of a run says how it ended.
-use Rattle.std.proofs.Common.{◌≡◌, ℕ, ◌<◌, ◌≤◌, List, [], ◌∷◌, ◌++◌, refl, sym, ◌∙◌, ap, append_assoc, arith, Bool, true, false, Some, None}
+use Rattle.std.proofs.Common.{◌≡◌, ℕ, ◌<◌, ◌≤◌, List, [], ◌∷◌, ◌++◌, refl, sym, ◌∙◌, ap, append_assoc, arith, Bool, true, Some, None}
 use Rattle.std.specs.Prelude.{if◌then◌else◌, ◌&&◌, codes, nat_le}
 use Rattle.std.specs.Fmt.{decimal}
 use Rattle.std.specs.Str.{bytes_eq}
 use Rattle.std.proofs.lemmas.Bool.Decides.{nat_tests}
+use Rattle.std.proofs.lemmas.Bool.{and_parts}
 use Rattle.apd_base.specs.declared.limits.TheConstants.{MOST_SHOWN}
 use Rattle.apd_causes.specs.declared.run.Ran.{Ran}
 use Rattle.apd_causes.specs.declared.run.RunEnd.{RunEnd}
@@ -26,11 +27,6 @@ use Rattle.apd_written.proofs.Breaks.{decimal-break, codes-break}
 use Rattle.apd_written.proofs.Parts.{same_bytes, led-low}
 
 -- what is shown is few
-and_true : (a b : Bool) → (a && b) ≡ true → (a ≡ true) × (b ≡ true)
-and_true true true e = (refl, refl)
-and_true true false e = absurd (cc)
-and_true false b e = absurd (cc)
-
 few_shown : (n : ℕ) → nat_le n MOST_SHOWN ≡ true → n ≤ 1000000
 few_shown n e = grind (arith, nat_tests, e)
 
@@ -40,8 +36,8 @@ record IsFewShown (ports answers : ℕ) : Type 0 where
 
 plain_few : (ports answers : ℕ) → (nat_le 1 ports && (nat_le ports MOST_SHOWN && nat_le answers MOST_SHOWN)) ≡ true → IsFewShown ports answers
 plain_few n m h =
-    let x = and_true (nat_le 1 n) (nat_le n MOST_SHOWN && nat_le m MOST_SHOWN) h in
-    let y = and_true (nat_le n MOST_SHOWN) (nat_le m MOST_SHOWN) x.1 in
+    let x = and_parts (nat_le 1 n) (nat_le n MOST_SHOWN && nat_le m MOST_SHOWN) h in
+    let y = and_parts (nat_le n MOST_SHOWN) (nat_le m MOST_SHOWN) x.1 in
     record { few_ports = few_shown n y.0; few_answers = few_shown m y.1 }
 
 few : (e : RunEnd) (n m : ℕ) → is_shown e n m ≡ true → IsFewShown n m
@@ -49,9 +45,9 @@ few Exhausted n m h = plain_few n m h
 few Budget n m h = plain_few n m h
 few (Error e b) n m h = plain_few n m h
 few AnswerLimit n m h =
-    let x = and_true (nat_le 1 n) (nat_le n MOST_SHOWN && (nat_le 1 m && nat_le m MOST_SHOWN)) h in
-    let y = and_true (nat_le n MOST_SHOWN) (nat_le 1 m && nat_le m MOST_SHOWN) x.1 in
-    let z = and_true (nat_le 1 m) (nat_le m MOST_SHOWN) y.1 in
+    let x = and_parts (nat_le 1 n) (nat_le n MOST_SHOWN && (nat_le 1 m && nat_le m MOST_SHOWN)) h in
+    let y = and_parts (nat_le n MOST_SHOWN) (nat_le 1 m && nat_le m MOST_SHOWN) x.1 in
+    let z = and_parts (nat_le 1 m) (nat_le m MOST_SHOWN) y.1 in
     record { few_ports = few_shown n y.0; few_answers = few_shown m z.1 }
 
 -- `N ports, M answers`

@@ -1,7 +1,7 @@
 -- A run within its limits has counts that are printed, and the box of its error has a number of 32 bits.
-use Rattle.std.proofs.Common.{◌≡◌, ℕ, ◌<◌, ◌≤◌, List, [], ◌∷◌, refl, sym, ◌∙◌, ap, arith, Bool, true, false}
+use Rattle.std.proofs.Common.{◌≡◌, ℕ, ◌<◌, ◌≤◌, List, [], ◌∷◌, refl, sym, ◌∙◌, ap, arith, true}
 use Rattle.std.specs.Prelude.{◌&&◌, nat_le, pos}
-use Rattle.std.proofs.lemmas.Bool.{le-leb}
+use Rattle.std.proofs.lemmas.Bool.{le-leb, and_from}
 use Rattle.apd_base.specs.declared.limits.TheConstants.{MOST_SHOWN}
 use Rattle.apd_term.specs.Term.{Term, integer}
 use Rattle.apd_term.specs.Tuple.{canonical_tuple}
@@ -21,22 +21,18 @@ use Rattle.apd_claims.specs.Forms.{is_shown}
 use Rattle.apd_written.specs.Texts.{AreAllowed, IsAsked, IsFewBoxes, IsTold}
 use Rattle.apd_written.proofs.BoxNumbers.{error-within}
 
-both_hold : (a b : Bool) → a ≡ true → b ≡ true → (a && b) ≡ true
-both_hold true b e f = f
-both_hold false b e f = absurd (cc)
-
 counts-shown : (end : RunEnd) (ports answers : ℕ) → 1 ≤ ports → ports ≤ MOST_SHOWN → answers ≤ MOST_SHOWN → (end ≡ AnswerLimit → 0 < answers) → is_shown end ports answers ≡ true
 counts-shown end ports answers l m n given = by end given
   where
     few : (nat_le 1 ports && (nat_le ports MOST_SHOWN && nat_le answers MOST_SHOWN)) ≡ true
-    few = both_hold (nat_le 1 ports) (nat_le ports MOST_SHOWN && nat_le answers MOST_SHOWN) (le-leb 1 ports l) (both_hold (nat_le ports MOST_SHOWN) (nat_le answers MOST_SHOWN) (le-leb ports MOST_SHOWN m) (le-leb answers MOST_SHOWN n))
+    few = and_from (nat_le 1 ports) (nat_le ports MOST_SHOWN && nat_le answers MOST_SHOWN) (le-leb 1 ports l) (and_from (nat_le ports MOST_SHOWN) (nat_le answers MOST_SHOWN) (le-leb ports MOST_SHOWN m) (le-leb answers MOST_SHOWN n))
 
     by : (e : RunEnd) → (e ≡ AnswerLimit → 0 < answers) → is_shown e ports answers ≡ true
     by Exhausted k = few
     by Budget k = few
     by (Error e b) k = few
-    by AnswerLimit k = both_hold (nat_le 1 ports) (nat_le ports MOST_SHOWN && (nat_le 1 answers && nat_le answers MOST_SHOWN)) (le-leb 1 ports l)
-        (both_hold (nat_le ports MOST_SHOWN) (nat_le 1 answers && nat_le answers MOST_SHOWN) (le-leb ports MOST_SHOWN m) (both_hold (nat_le 1 answers) (nat_le answers MOST_SHOWN) (le-leb 1 answers (k refl)) (le-leb answers MOST_SHOWN n)))
+    by AnswerLimit k = and_from (nat_le 1 ports) (nat_le ports MOST_SHOWN && (nat_le 1 answers && nat_le answers MOST_SHOWN)) (le-leb 1 ports l)
+        (and_from (nat_le ports MOST_SHOWN) (nat_le 1 answers && nat_le answers MOST_SHOWN) (le-leb ports MOST_SHOWN m) (and_from (nat_le 1 answers) (nat_le answers MOST_SHOWN) (le-leb 1 answers (k refl)) (le-leb answers MOST_SHOWN n)))
 
 few_boxes : (end : RunEnd) (budget : ℕ) → budget ≤ MOST_SHOWN → ((e : RunError) (b : ℕ) → end ≡ Error e b → b ≤ budget) → IsFewBoxes end
 few_boxes Exhausted budget l h = tt

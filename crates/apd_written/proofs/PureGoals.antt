@@ -1,24 +1,20 @@
 -- Goals of pure Prolog are names with arguments, none is a conjunction, and few of them are a body without a fault.
-use Rattle.std.proofs.Common.{◌≡◌, ◌≤◌, inl, Bool, true, false, List, [], ◌∷◌, length, Option, Some, None, refl, sym, ◌∙◌, ap}
+use Rattle.std.proofs.Common.{◌≡◌, ◌≤◌, inl, Bool, true, false, List, [], ◌∷◌, length, None, refl, sym, ◌∙◌}
 use Rattle.std.specs.List.{AllByRecursion}
 use Rattle.std.proofs.lemmas.Bool.{true≢false}
-use Rattle.apd_clauses.specs.Bodies.{body_fault, first_fault, goal_fault, goal_fault_of_kind}
+use Rattle.apd_clauses.specs.Bodies.{body_fault, first_fault, goal_fault}
 use Rattle.apd_clauses.specs.Kinds.{IsPureGoal, IsUserAtom, ◌∕◌, impure, is_pure, kind_of}
 use Rattle.apd_clauses.specs.Predicates.{is_pred}
-use Rattle.apd_clauses.specs.declared.kinds.Kind.{Kind}
 use Rattle.apd_clauses.specs.declared.kinds.Kind.TheVariants as kinds
 use Rattle.apd_clauses.proofs.Faults.{fault_of_few, or_none}
-use Rattle.apd_clauses.proofs.Indexing.{same_pred-true}
 use Rattle.apd_clauses.proofs.Pure.{no_goal, pure_by}
+use Rattle.apd_clauses.proofs.Placing.{own_predicate}
 use Rattle.apd_reading_back.specs.Queries.{IsCompound}
-use Rattle.apd_term.specs.Term.{Term, variable, integer, compound, list_of, predicate_of}
+use Rattle.apd_term.specs.Term.{Term, variable, integer, compound, predicate_of}
 use Rattle.apd_term.specs.declared.standard.TheConstants.{COMMA, NECK}
 use Rattle.apd_term.specs.declared.term.Pred.{Pred}
+use Rattle.apd_kept.proofs.Clauses.{goal_clean}
 use Rattle.apd_written.specs.Texts.{IsOneGoal}
-
-predicate_is : (o : Option Pred) (p : Pred) → is_pred o p ≡ true → o ≡ Some p
-predicate_is None p is = absurd (cc)
-predicate_is (Some x) p is = ap Some (same_pred-true x p is)
 
 pub pure-compound : (t : Term) → IsPureGoal t → IsCompound t
 pure-compound (variable v) pure = absurd (no_goal (variable v) refl pure)
@@ -37,7 +33,7 @@ not_of t p impure pure = by (is_pred (predicate_of t) p) refl
   where
     by : (b : Bool) → is_pred (predicate_of t) p ≡ b → b ≡ false
     by false is = refl
-    by true is = absurd (true≢false (sym ((pure_by t p (predicate_is (predicate_of t) p is)).1 pure) ∙ impure))
+    by true is = absurd (true≢false (sym ((pure_by t p (own_predicate (predicate_of t) p is)).1 pure) ∙ impure))
 
 pub pure-one : (t : Term) → IsPureGoal t → IsOneGoal t
 pure-one t pure = not_of t (COMMA ∕ 2) comma_is pure
@@ -50,24 +46,9 @@ pub pure-ones : (ts : List Term) → AllByRecursion IsPureGoal ts → AllByRecur
 pure-ones [] pure = tt
 pure-ones (t ∷ ts) pure = (pure-one t pure.0, pure-ones ts pure.1)
 
-by_kind : (p : Pred) (k : Kind) → is_pure k ≡ true → goal_fault_of_kind p k ≡ None
-by_kind p kinds.User pure = refl
-by_kind p (kinds.Builtin goal) pure = refl
-by_kind p kinds.Conjunction pure = cc
-by_kind p kinds.Cut pure = cc
-by_kind p kinds.Negation pure = cc
-by_kind p kinds.Disjunction pure = cc
-by_kind p kinds.IfThen pure = cc
-by_kind p kinds.Impure pure = cc
-
-pure-clean : (t : Term) → IsPureGoal t → goal_fault t ≡ None
-pure-clean (variable v) pure = absurd (no_goal (variable v) refl pure)
-pure-clean (integer i) pure = absurd (no_goal (integer i) refl pure)
-pure-clean (compound f ts) pure = let p = f ∕ length (list_of ts) in by_kind p (kind_of p) ((pure_by (compound f ts) p refl).1 pure)
-
 all_clean : (ts : List Term) → AllByRecursion IsPureGoal ts → first_fault ts ≡ None
 all_clean [] pure = refl
-all_clean (t ∷ ts) pure = or_none (goal_fault t) (first_fault ts) (pure-clean t pure.0) (all_clean ts pure.1)
+all_clean (t ∷ ts) pure = or_none (goal_fault t) (first_fault ts) (goal_clean t pure.0) (all_clean ts pure.1)
 
 pub pure-body : (ts : List Term) → length ts ≤ 64 → AllByRecursion IsPureGoal ts → body_fault ts ≡ None
 pure-body ts few pure = sym (fault_of_few ts few) ∙ all_clean ts pure

@@ -4,7 +4,6 @@ use Rattle.std.specs.Prelude.{codes}
 use Rattle.std.specs.Fmt.{decimal}
 use Rattle.std.specs.Option.{option_map, option_and_then}
 use Rattle.apd_term.specs.Canonical.{canonical}
-use Rattle.apd_term.specs.Listed.{listed}
 use Rattle.apd_term.specs.declared.term.NameId.{NameId}
 use Rattle.apd_term.specs.declared.standard.TheConstants.{NIL, YES, NO, UNKNOWN}
 use Rattle.apd_term.specs.Names.{text_of_name}
@@ -25,6 +24,7 @@ use Rattle.apd_reading_back.specs.Law.{AreNames, IsWritable, ReadsAs, item_text}
 use Rattle.apd_reading_back.specs.Queries.{call_text, call_term}
 use Rattle.apd_reading_back.proofs.Goals.{calls_read_back}
 use Rattle.apd_reading_back.proofs.Read.{items_read_back, standard_text}
+use Rattle.apd_kept.proofs.StatedBack.{list_back}
 use Rattle.apd_claims.specs.declared.form.LineForm.TheVariants.{Framed}
 use Rattle.apd_claims.specs.declared.form.LineFrame.TheVariants.{Reply as Answer}
 use Rattle.apd_claims.specs.Claims.{replied, reply_in}
@@ -60,11 +60,6 @@ standard_unknown = refl
 -- a word that stands alone
 abbrev word_term : NameId → Term
 word_term f = compound f none
-
--- a list is read as its elements
-listed-back : (vs : List Term) → listed (list_term vs) ≡ Some vs
-listed-back [] = refl
-listed-back (v ∷ vs) = ap (option_map (λ ts. v ∷ ts)) (listed-back vs)
 
 -- what stands behind `reply: `
 abbrev reply_rest : Table → List (List ℕ) → Reply → Option ℕ → List ℕ
@@ -182,7 +177,7 @@ module _ {names : List (List ℕ)} (reader : Reader names) (ops : Table) (table 
       record {
         term = call_term YES l;
         read = term-read reader ops (codes "yes(" ++ written ops names (canonical l) 999 ++ codes ")") (call_term YES l) table (subst (λ t. ReadsAs ops names t (call_term YES l)) text back) short;
-        is = ap (option_map Values) (listed-back vs);
+        is = ap (option_map Values) (list_back vs);
       }
 
   values-break : (vs : List Term) → AreTellable ops names vs → HasNoBreak (reply_text ops names (Values vs))

@@ -15,10 +15,10 @@ use Rattle.apd_term.specs.Tuple.{canonical_tuple, variables_of_tuple}
 use Rattle.apd_term.specs.declared.standard.TheConstants.{COMMA, NECK, QUERY}
 use Rattle.apd_term.specs.declared.tuple.Tuple.{Tuple}
 use Rattle.apd_term.proofs.Applying.{apply-variable}
-use Rattle.apd_term.proofs.Tuples.{AreTupleVariants_from_instances, IsTupleInstance-canonical, canonical_is_instance}
-use Rattle.apd_term.proofs.Variants.{apply-agree}
+use Rattle.apd_term.proofs.Variants.{apply-agree, place_of-positive}
 use Rattle.apd_text.specs.ClauseTerms.{clause_term, conjunction, with_body}
 use Rattle.apd_text.specs.Lines.{goals_of}
+use Rattle.apd_written.proofs.Questions.{canonical_tuple-again}
 
 -- the numbers of these places
 abbrev placed : List ℕ → ℕ → Term
@@ -60,20 +60,16 @@ with_body_variables : (head : Term) (body : List Term) → variables (with_body 
 with_body_variables head [] = sym (append-nil (variables head))
 with_body_variables head (g ∷ gs) = ap (λ vs. variables head ++ vs) (append-nil (variables (conjunction g gs)) ∙ conjunction_variables g gs)
 
--- a clause in canonical form is so as one term
-form_again : (t : Tuple) → canonical_tuple (canonical_tuple t) ≡ canonical_tuple t
-form_again t = AreTupleVariants_from_instances (canonical_tuple t) t (IsTupleInstance-canonical t) (canonical_is_instance t)
-
 pub clause-form : (t : Tuple) → canonical (clause_term (canonical_tuple t)) ≡ clause_term (canonical_tuple t)
 clause-form t =
     let u = canonical_tuple t in
     let order = by_appearance (variables_of_tuple u) in
     ap (λ vs. canonical_in (by_appearance vs) (clause_term u)) (with_body_variables u.head u.body)
-    ∙ with_body_left (placed order) u.head u.body (ap (λ (x : Tuple). x.head) (form_again t)) (ap (λ (x : Tuple). x.body) (form_again t))
+    ∙ with_body_left (placed order) u.head u.body (ap (λ (x : Tuple). x.head) (canonical_tuple-again t)) (ap (λ (x : Tuple). x.body) (canonical_tuple-again t))
 
 -- goals that their own order leaves alone
 goals_left : (q : Query) → map (canonical_in (by_appearance (flat_map variables (goals_of q)))) (goals_of q) ≡ goals_of q
-goals_left q = ap (λ (x : Tuple). x.body) (form_again (record { head = integer (pos 0); body = q.tuple.body }))
+goals_left q = ap (λ (x : Tuple). x.body) (canonical_tuple-again (record { head = integer (pos 0); body = q.tuple.body }))
 
 conjoined-form : (goal : Term) (goals : List Term) → map (canonical_in (by_appearance (flat_map variables (goal ∷ goals)))) (goal ∷ goals) ≡ goal ∷ goals → canonical (conjoined goal goals) ≡ conjoined goal goals
 conjoined-form goal goals e =
@@ -163,17 +159,9 @@ next-last k v is = let last : v ≡ suc (0 + k) = omega (arith, is) in record {
 next-in : (k v : ℕ) → 1 ≤ v → v ≤ suc k → IsNext k v
 next-in k v some few = elim (lower k v) [ inl low ↦ next-among k v some low | inr high ↦ next-last k v (omega (arith, high, few)) ]
 
-place_some : (ws : List ℕ) (v : ℕ) → 1 ≤ place_of ws v
-place_some [] v = omega arith
-place_some (w ∷ ws) v = either (w == v)
-  where
-    either : (b : Bool) → 1 ≤ (if b then 1 else place_of ws v + 1)
-    either true = omega arith
-    either false = omega arith
-
 next-of : (k v : ℕ) → place_of (count_from 0 k) v ≡ v → IsNext k v
 next-of k v is =
-    let p = place_some (count_from 0 k) v in
+    let p = place_of-positive (count_from 0 k) v in
     let some : 1 ≤ v = omega (arith, p, is) in
     elim (lower k v) [ inl low ↦ next-among k v some low | inr high ↦ next-last k v (let q = (counted_not 0 k v (omega (arith, high))).1 in omega (arith, q, is)) ]
 

@@ -12,7 +12,7 @@ use Rattle.apd_token.specs.Bytes.{is_small, is_word, is_graphic}
 use Rattle.apd_write.specs.NameTexts.{is_word_name, is_graphic_name, is_solo_name, is_bracket_name, is_bare, begins_comment, hex_digit, hex_escape, quoted_byte, quoted, function_text, name_text}
 use Rattle.apd_write.specs.Writing.{variable_text}
 use Rattle.apd_reading_back.specs.Law.{IsWord}
-use Rattle.apd_written.proofs.Breaks.{and_left, and_right}
+use Rattle.apd_known.proofs.Truths.{both_left, both_right}
 use Rattle.apd_written.proofs.Parts.{all_digits}
 use Rattle.apd_written.proofs.Watching.{Watch, Free, Quoted, Slashed, Coded, step, watched, watched-append, IsStart, free_start, square_start, IsEnd, free_end, IsGap, free_gap, digits_gap, IsPast, free_past, word_past, IsCalm, AllCalm, IsCalming, all_calm-by, all-start, all-past, all-before, calm-gap}
 
@@ -66,23 +66,23 @@ word_bare (b ∷ bs) e = record {
   first = b;
   others = bs;
   is = refl;
-  calm = all_calm-by is_word calming_words (b ∷ bs) (and_right (is_small b) (list_all is_word (b ∷ bs)) e);
-  no_digit = small_no_digit b (and_left (is_small b) (list_all is_word (b ∷ bs)) e);
+  calm = all_calm-by is_word calming_words (b ∷ bs) (both_right (is_small b) (list_all is_word (b ∷ bs)) e);
+  no_digit = small_no_digit b (both_left (is_small b) (list_all is_word (b ∷ bs)) e);
 }
 
 graphic_bare : (bs : List ℕ) → is_graphic_name bs ≡ true → IsBare bs
 graphic_bare [] e = absurd (cc)
 graphic_bare (b ∷ bs) e =
     let all : list_all is_graphic (b ∷ bs) ≡ true =
-    and_right (not (length (b ∷ bs) == 0)) (list_all is_graphic (b ∷ bs))
-    (and_left (not (length (b ∷ bs) == 0) && list_all is_graphic (b ∷ bs)) (not (same_text (b ∷ bs) (codes ".")))
-    (and_left (not (length (b ∷ bs) == 0) && list_all is_graphic (b ∷ bs) && not (same_text (b ∷ bs) (codes "."))) (not (begins_comment (b ∷ bs))) e)) in
+    both_right (not (length (b ∷ bs) == 0)) (list_all is_graphic (b ∷ bs))
+    (both_left (not (length (b ∷ bs) == 0) && list_all is_graphic (b ∷ bs)) (not (same_text (b ∷ bs) (codes ".")))
+    (both_left (not (length (b ∷ bs) == 0) && list_all is_graphic (b ∷ bs) && not (same_text (b ∷ bs) (codes "."))) (not (begins_comment (b ∷ bs))) e)) in
     record {
       first = b;
       others = bs;
       is = refl;
       calm = all_calm-by is_graphic calming_graphics (b ∷ bs) all;
-      no_digit = graphic_no_digit b (and_left (is_graphic b) (list_all is_graphic bs) all);
+      no_digit = graphic_no_digit b (both_left (is_graphic b) (list_all is_graphic bs) all);
     }
 
 one_bare : (b : ℕ) (bs : List ℕ) → bs ≡ b ∷ [] → IsCalm b → is_ascii_digit b ≡ false → IsBare bs

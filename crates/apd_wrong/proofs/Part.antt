@@ -3,6 +3,7 @@
 use Rattle.std.proofs.Common.{◌≡◌, Bool, true, false, List, [], ◌++◌, Some, refl, sym, ◌∙◌, ap, subst, arith}
 use Rattle.apd_term.specs.Term.{Term}
 use Rattle.apd_record.specs.Recorded.{Recorded}
+use Rattle.apd_record.proofs.Shaped.{mapped}
 use Rattle.apd_answers.specs.declared.question.Question.{Question}
 use Rattle.apd_answers.specs.declared.question.Reply.{Reply}
 use Rattle.apd_answers.specs.Store.{Store, is_doubted, with_pair}
@@ -15,7 +16,7 @@ use Rattle.apd_divide.specs.declared.node.Verdict.{Verdict}
 use Rattle.apd_divide.specs.declared.node.Verdict.TheVariants.{True, False, Unknown}
 use Rattle.apd_divide.specs.Tree.{Tree, Forest, node, bare, beside, label, marked, suspects, doubts, doubts_of, IsUndoubted}
 use Rattle.apd_divide.specs.Choice.{Cut, Among, Way, at_node, cut, cut_among, way_of, to_such, choice, judged}
-use Rattle.apd_divide.proofs.Weights.{stopped, down, along, found, map_some}
+use Rattle.apd_divide.proofs.Weights.{stopped, down, along, found}
 use Rattle.apd_divide.proofs.Branching.{judged-branches, cut-branches}
 use Rattle.apd_wrong.specs.Wrong.{first_trusted}
 use Rattle.apd_wrong.specs.Support.{IsJudgedBy, AreJudgedBy}
@@ -36,7 +37,7 @@ none-marked such v (node s c t ts) n = n
 mutual
   pub cut-none : (such : Term → Bool) (way : Way) (x : Tree) (c : Cut) → cut way x ≡ Some c → HasNone such x → KeepsNone such c
   cut-none such way (node s n t ts) c e h =
-      let m = map_some (at_node (node s n t)) (cut_among way ts) c e in
+      let m = mapped (at_node (node s n t)) (cut_among way ts) c e in
       let k = cut_among-none such way ts m.0 m.1 h.1 in
       subst (KeepsNone such) m.2 (record { chosen = k.chosen; rest = λ v. (h.0, k.rest v) })
 

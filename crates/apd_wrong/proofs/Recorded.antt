@@ -1,9 +1,7 @@
 -- The tree of an exit of a sound record is a proof tree of its program.
-use Rattle.std.proofs.Common.{◌≡◌, ℕ, zero, suc, ◌<◌, ◌≤◌, Bool, true, false, List, [], ◌∷◌, length, Some, refl, sym, ◌∙◌, ap, subst, arith}
-use Rattle.std.specs.Prelude.{nat_le, if◌then◌else◌}
+use Rattle.std.proofs.Common.{◌≡◌, ℕ, zero, suc, ◌<◌, ◌≤◌, Bool, true, false, List, [], ◌∷◌, Some, refl, sym, ◌∙◌, ap, subst, arith}
+use Rattle.std.specs.Prelude.{if◌then◌else◌}
 use Rattle.std.proofs.lemmas.List.{take_all}
-use Rattle.std.proofs.lemmas.Option.{slice_get-get_or}
-use Rattle.apd_divide.proofs.Weights.{by_test, le_true, le_false}
 use Rattle.apd_answers.specs.declared.question.Question.{Question}
 use Rattle.apd_answers.specs.declared.question.Question.TheVariants as asking
 use Rattle.apd_answers.specs.declared.question.Reply.{Reply}
@@ -29,21 +27,13 @@ use Rattle.apd_divide.specs.Exits.{IsUserExit}
 use Rattle.apd_wrong.specs.Support.{IsForAtom, AreForAtoms, IsProofTree, AreProofTrees, IsJudgedBy, AreJudgedBy, IsWrongTree}
 use Rattle.apd_divide.proofs.Heads.{instance_with-label, instance_with-instance}
 use Rattle.apd_divide.proofs.Solved.{IsSolvedBy, AreSolved, solved-point, solved-apply, of_clause, of_builtin, always-instance, point-is}
+use Rattle.apd_divide.proofs.Grown.{all_done}
 
 -- what is known of an exit's node
 pub record Fits (P : List Tuple) (R : Recorded) (e : ℕ) (l : Term) : Type 0 where
   pub of_clause : IsInstanceOfClause P (point_of R e).clause (instance_with (point_of R e).tuple l)
   pub head : (instance_with (point_of R e).tuple l).head ≡ l
   pub solved : AreSolved R e (instance_with (point_of R e).tuple l).body (exits_to R e)
-
-all_done : (p : Point) → IsExit p → length p.tuple.body ≤ p.done
-all_done p e = by_test (nat_le (length p.tuple.body) p.done) (le_true (length p.tuple.body) p.done) (λ f. absurd (more f))
-  where
-    more : nat_le (length p.tuple.body) p.done ≡ false → ⊥
-    more f =
-        let l = le_false (length p.tuple.body) p.done f in
-        let g = sym e ∙ slice_get-get_or p.tuple.body p.done p.tuple.head l in
-        cc
 
 fits-point : (P : List Tuple) (R : Recorded) → IsSound P R → (e : ℕ) (l : Term) (p : Point) (b : BoxRow) → point_at R e ≡ Some p → IsExit p → box_at R p.owner ≡ Some b → b.is_user ≡ true → canonical l ≡ l → IsInstance l p.tuple.head
     → IsInstanceOfClause P p.clause (instance_with p.tuple l) × ((instance_with p.tuple l).head ≡ l) × AreSolved R e (instance_with p.tuple l).body (exits_in p.done R e)

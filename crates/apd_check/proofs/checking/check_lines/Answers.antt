@@ -1,4 +1,4 @@
-use Rattle.apd_claims.proofs.Naming.{grown-twice}
+use Rattle.apd_lines.proofs.Growing.{Grown-more}
 use Rattle.apd_check.proofs.Onward.{Checking-fails, Checking-more}
 use Rattle.apd_check.proofs.checking.check_lines.Goals as goal
 
@@ -9,7 +9,7 @@ returns-in-Some-why-clause-checked c = Checking-fails c.args.source.now.program.
 
 pub lines-preserved : goal.lines-preserved
 lines-preserved c = (
-  grown-twice c.args.names.now c.lines.names c.take_line.new.names c.lines.invariant.0 c.take_line.ensures.names,
+  Grown-more c.args.names.now c.lines.names c.take_line.new.names c.lines.invariant.0 c.take_line.ensures.names,
   λ l. c.take_line.ensures.few (c.lines.invariant.1 l),
   rw c.goes_on-in_group.ensures
       (Checking-more c.args.source.now.program.now c.args.source.now.ops.now c.args.text.now c.args.course.now.state c.lines.names c.take_line.new.names c.take_line.ensures.names c.lines.course.state c.take_line.new.course.state c.lines.found c.lines.in_group

@@ -1,14 +1,11 @@
-use Rattle.std.proofs.Common.{◌≡◌, refl, sym, ◌∙◌, ap}
+use Rattle.std.proofs.Common.{◌≡◌, refl, ◌∙◌, ap}
 use Rattle.std.proofs.lemmas.Result.{IfOk-weaker}
-use Rattle.apd_term.specs.Term.{Term, IsGround, variable, variables}
-use Rattle.apd_term.specs.Canonical.{canonical, by_appearance, place_of}
-use Rattle.apd_term.proofs.Ground.{apply-ground}
+use Rattle.apd_term.specs.Term.{Term}
+use Rattle.apd_term.specs.Canonical.{canonical}
+use Rattle.apd_term.proofs.Ground.{canonical-ground}
 use Rattle.apd_record.specs.Reading.{call_atom}
 use Rattle.apd_loop.proofs.Diagnosing.{atom-is}
 use Rattle.apd_check.proofs.judging.canonical_call.Goals as goal
-
-canonical-ground : (t : Term) → IsGround t → t ≡ canonical t
-canonical-ground t g = sym (apply-ground (λ v. variable (place_of (by_appearance (variables t)) v)) t g)
 
 pub returns-then-is_ground : goal.returns-then-is_ground
 returns-then-is_ground c =

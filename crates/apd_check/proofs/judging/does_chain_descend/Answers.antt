@@ -1,8 +1,9 @@
 use Rattle.std.proofs.Common.{◌≡◌, ◌↔◌, ◌-◌, List, ℕ, suc, sym, subst, arith}
+use Rattle.std.proofs.lemmas.List.{take_rest}
 use Rattle.apd_answers.specs.Findings.{AllDescendByReplies}
 use Rattle.apd_loop.specs.Loop.{calls_in}
 use Rattle.apd_loop.specs.Turning.{HasBoxes}
-use Rattle.apd_check.proofs.Parts.{behind, dropped-boxes, part-fails, part-first, part-goes, part-last, taken-boxes}
+use Rattle.apd_check.proofs.Parts.{dropped-boxes, part-fails, part-first, part-goes, part-last, taken-boxes}
 use Rattle.apd_check.proofs.judging.does_chain_descend.Goals as goal
 
 pub do_calls_descend-requires : goal.do_calls_descend-requires
@@ -20,7 +21,7 @@ offset_bounds-rest-most c = omega (arith, c.requires.few)
 pub parts-preserved : goal.parts-preserved
 parts-preserved c =
     let next : c.args.most ≡ suc (c.args.most - 1) = omega (arith, c.requires.most) in
-    let is = behind c.parts.rest.now (c.args.most - 1) in
+    let is = take_rest c.parts.rest.now (c.args.most - 1) in
     record {
       boxes = subst (HasBoxes c.args.state.now.history) (sym is) (dropped-boxes c.args.state.now.history c.parts.rest.now (c.args.most - 1) c.parts.invariant.boxes);
       descend =

@@ -1,11 +1,11 @@
 use Rattle.std.proofs.Common.{sym, ◌∙◌, []}
 use Rattle.std.specs.Option.{option_and_then}
 use Rattle.std.proofs.lemmas.Result.{IfOk-weaker}
+use Rattle.apd_lines.proofs.Growing.{Grown-more}
 use Rattle.apd_claims.specs.Claims.{call_between, may_end}
 use Rattle.apd_parts.specs.Parts.{boxed_in, boxed_where}
 use Rattle.apd_parts.specs.declared.boxes.Quote.TheVariants.{Outside}
 use Rattle.apd_claims.proofs.Behind.{nothing-first, something-first}
-use Rattle.apd_claims.proofs.Naming.{grown-twice}
 use Rattle.apd_claims.proofs.calls.call_in.Goals as goal
 
 pub returns-then-is_some-clause-claim : goal.returns-then-is_some-clause-claim
@@ -15,7 +15,7 @@ returns-then-is_some-clause-claim c = λ n grew reader.
     c.in_ok-first.first (c.in_ok-first.ensures.claim n grew reader) (sym c.is_some.ensures ∙ c.if-is_some.true)
 
 pub returns-clause-names : goal.returns-clause-names
-returns-clause-names c = grown-twice c.args.names.now c.claim_outside.new.names c.claim_behind.new.names c.claim_outside.ensures.names c.claim_behind.ensures.names
+returns-clause-names c = Grown-more c.args.names.now c.claim_outside.new.names c.claim_behind.new.names c.claim_outside.ensures.names c.claim_behind.ensures.names
 
 pub returns-clause-few : goal.returns-clause-few
 returns-clause-few c = λ l. c.claim_behind.ensures.few (c.claim_outside.ensures.few l)
@@ -25,5 +25,5 @@ returns-clause-claim c = IfOk-weaker c.claim_behind.result _ _ (λ o is n grew r
     is n grew reader
     ∙ nothing-first (option_and_then (call_between reader c.args.ops.now c.args.whole.now c.args.calling) (boxed_in Outside c.args.text.now))
     (option_and_then (call_between reader c.args.ops.now c.args.whole.now c.args.calling) (boxed_where (may_end reader c.args.ops.now) Outside [] c.args.text.now))
-    c.in_ok-first.first (c.in_ok-first.ensures.claim n (grown-twice c.claim_outside.new.names c.claim_behind.new.names n c.claim_behind.ensures.names grew) reader) (sym c.is_some.ensures ∙ c.if-is_some.false))
+    c.in_ok-first.first (c.in_ok-first.ensures.claim n (Grown-more c.claim_outside.new.names c.claim_behind.new.names n c.claim_behind.ensures.names grew) reader) (sym c.is_some.ensures ∙ c.if-is_some.false))
     c.claim_behind.ensures.claim

@@ -2,9 +2,9 @@ use Rattle.std.proofs.Common.{arith, ap, sym, ◌∙◌}
 use Rattle.std.specs.Option.{option_and_then}
 use Rattle.std.proofs.lemmas.List.{take_rest}
 use Rattle.std.proofs.lemmas.Result.{IfOk-weaker}
+use Rattle.apd_lines.proofs.Growing.{Grown-more}
 use Rattle.apd_claims.specs.Claims.{call_between}
 use Rattle.apd_claims.proofs.Behind.{Behind-end, Behind-here, Behind-later, Behind-start}
-use Rattle.apd_claims.proofs.Naming.{grown-twice}
 use Rattle.apd_claims.proofs.calls.claim_behind.Goals as goal
 
 pub places-init : goal.places-init
@@ -17,7 +17,7 @@ returns-in-Some-clause-claim c = IfOk-weaker c.claim_between.result _ _ (λ o is
     (sym (Behind-here c.args.ops.now c.args.text.now c.args.names.now c.places.names c.box_here.new.names c.places.quote c.places.begun c.places.place c.places.invariant
     c.in_ok-led.ensures.names (omega (arith, c.places-test.true)) (record { number = c.in-Some.led.number; rest = c.in-Some.led.rest.now })
     (λ m g r. rw (take_rest c.args.text.now c.places.place) at (rw c.in-Some.is at (c.in_ok-led.ensures.here m g r)))
-    n (grown-twice c.box_here.new.names c.claim_between.new.names n c.claim_between.ensures.names grew) reader)))
+    n (Grown-more c.box_here.new.names c.claim_between.new.names n c.claim_between.ensures.names grew) reader)))
     c.claim_between.ensures.claim
 
 pub places-preserved : goal.places-preserved

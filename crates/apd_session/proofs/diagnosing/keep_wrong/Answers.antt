@@ -1,14 +1,15 @@
 use Rattle.std.proofs.Common.{refl, sym}
 use Rattle.std.proofs.lemmas.Result.{err_from_is_err_and}
+use Rattle.std.proofs.lemmas.Option.{slice_get_within}
 use Rattle.apd_talk.specs.Speech.{one}
 use Rattle.apd_talk.proofs.Speaking.{Says-err, Says-none, Says-ok}
 use Rattle.apd_text.specs.declared.entry.Entry.TheVariants.{Symptom}
 use Rattle.apd_session.specs.Steps.{wrong_of}
-use Rattle.apd_session.proofs.Symptoms.{head_is, point_below}
+use Rattle.apd_session.proofs.Symptoms.{head_is}
 use Rattle.apd_session.proofs.diagnosing.keep_wrong.Goals as goal
 
 pub tuple-requires : goal.tuple-requires
-tuple-requires g c = point_below _ _ c.requires.user.point c.requires.user.there
+tuple-requires g c = slice_get_within _ _ c.requires.user.point c.requires.user.there
 
 pub returns-in_err-head-clause-says : goal.returns-in_err-head-clause-says
 returns-in_err-head-clause-says g c =

@@ -4,9 +4,9 @@ use Rattle.apd_load.proofs.Making.{only}
 use Rattle.apd_load.specs.Program.{Loads, loads, refused}
 use Rattle.apd_load.specs.Warnings.{NotesAreNamed}
 use Rattle.apd_session.proofs.Loading.{grew_by, grew_first}
-use Rattle.apd_session.proofs.Turning.{all_named_more}
 use Rattle.apd_session.proofs.Refereeing.{referring_calm, referring_ready, reviews_made}
 use Rattle.apd_term.specs.StandardNames.{standard_names}
+use Rattle.apd_debug.proofs.KnownGoals.{tuples-more}
 use Rattle.apd_session.proofs.referring.refer_by.Goals as goal
 
 pub load-requires-clause-room : goal.load-requires-clause-room
@@ -16,7 +16,7 @@ pub refer_to-requires-clause-named : goal.refer_to-requires-clause-named
 refer_to-requires-clause-named c =
     let most : length c.load.new.names ≤ length c.args.names.now + 1048576 = grows_to _ _ _ (grew_first _ _ _ _ c.requires.size c.bytes.ensures c.load.ensures.grows) in
     let room = c.requires.room in
-    all_named_more _ _ _ (omega (arith, most, room)) c.in-Ok.ensures.named
+    tuples-more _ _ _ (omega (arith, most, room)) c.in-Ok.ensures.named
 
 pub returns-in-Ok-clause-grows : goal.returns-in-Ok-clause-grows
 returns-in-Ok-clause-grows c = grew_first _ _ _ _ c.requires.size c.bytes.ensures c.load.ensures.grows

@@ -439,7 +439,8 @@ def references(bench):
 
 
 def main():
-    os.environ.setdefault("MALLOC_MMAP_THRESHOLD_", "131072")  # as ./apd does
+    # as ./apd does
+    os.environ.setdefault("MALLOC_MMAP_THRESHOLD_", "131072")
     os.environ.setdefault("MALLOC_TRIM_THRESHOLD_", "1048576")
     words = sys.argv[1:]
     only = ""

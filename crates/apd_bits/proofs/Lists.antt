@@ -1,5 +1,5 @@
 -- Lists that are walked.
-use Rattle.std.proofs.Common.{◌≡◌, ◌⊎◌, inl, inr, ◌+◌, ◌<◌, ◌≤◌, ◌++◌, ℕ, zero, suc, List, [], ◌∷◌, length, take, get_or, refl, sym, ap, ◌∙◌, subst, arith}
+use Rattle.std.proofs.Common.{◌≡◌, ◌⊎◌, inl, inr, ◌+◌, ◌<◌, ◌++◌, ℕ, zero, suc, List, [], ◌∷◌, length, take, get_or, sym, ap, ◌∙◌, subst, arith}
 use Rattle.std.proofs.lemmas.List.{take_more}
 use Rattle.apd_term.specs.Term.{IsAmong}
 use Rattle.apd_term.proofs.Among.{IsAmong-append}
@@ -15,9 +15,3 @@ among-more xs i x l is k h =
       | inl g ↦ inl g
       | inr g ↦ elim g [ inl e ↦ inr e | inr z ↦ absurd z ]
     ]
-
-pub all-taken : {X : Type 0} (xs : List X) (i : ℕ) → length xs ≤ i → take i xs ≡ xs
-all-taken [] zero l = refl
-all-taken [] (suc i) l = refl
-all-taken (x ∷ xs) zero l = absurd (omega (arith, l))
-all-taken (x ∷ xs) (suc i) l = ap (λ ys. x ∷ ys) (all-taken xs i (omega (arith, l)))

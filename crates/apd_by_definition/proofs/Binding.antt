@@ -1,13 +1,10 @@
 -- The bindings of a list of values, by the list of all values.
-use Rattle.std.proofs.Common.{◌≡◌, ℕ, ◌+◌, ◌<◌, ◌≤◌, List, [], ◌∷◌, ◌++◌, length, drop, get_or, refl, ap, sym, ◌∙◌, append_assoc}
+use Rattle.std.proofs.Common.{◌≡◌, ℕ, ◌+◌, ◌<◌, ◌≤◌, List, [], ◌∷◌, ◌++◌, length, drop, get_or, ap, sym, ◌∙◌, append_assoc}
 use Rattle.std.proofs.lemmas.List.{append-nil, drop_more, drop_all}
 use Rattle.apd_term.specs.Term.{Term}
 use Rattle.apd_ops.specs.Table.{Table}
 use Rattle.apd_text.specs.Lines.{binding, bindings}
-
-no_bindings : (ops : Table) (names vars : List (List ℕ)) → bindings ops names vars [] ≡ []
-no_bindings ops names [] = refl
-no_bindings ops names (v ∷ vars) = refl
+use Rattle.apd_text.proofs.Binding.{no_bindings}
 
 -- so many variables have their texts, by the list of all values
 pub bindings_next : (ops : Table) (names vars : List (List ℕ)) (values : List Term) (i : ℕ) (texts : List (List ℕ)) (d : List ℕ) (e : Term) → i < length vars → i < length values →

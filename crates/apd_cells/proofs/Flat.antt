@@ -13,7 +13,8 @@ use Rattle.apd_term.specs.Term.{Term, Terms, variable, integer, compound, none, 
 use Rattle.apd_term.specs.Substitution.{term_for, single}
 use Rattle.apd_term.proofs.Pairs.{term_for-same, term_for-other}
 use Rattle.apd_term.proofs.Spelling.{length-spell, split_terms}
-use Rattle.apd_cells.proofs.Written.{IsTerms-drop, written-take}
+use Rattle.apd_cells.proofs.Loading.{IsTerms-append}
+use Rattle.apd_cells.proofs.Written.{IsTerms-drop, IsTerms-spell, written-append, written-take}
 use Rattle.apd_cells.proofs.Meaning.{HasCells-of}
 use Rattle.apd_cells.proofs.Undoing.{le_or_lt}
 use Rattle.apd_cells.specs.declared.heap.TrailNote.{TrailNote}
@@ -81,20 +82,6 @@ module _ (cells : List Sym) (notes later : List TrailNote) where
 pub compound_loaded : (cells longer : List Sym) (notes later : List TrailNote) (n : ℕ) → take (length cells) longer ≡ cells → later ≡ Loaded (length cells) n ∷ notes → compound_count longer later ≡ compound_count cells notes
 compound_loaded cells longer notes later n front new = ap (compound_count longer) new ∙ ap (λ xs. compound_count xs notes) front
 
--- where the newest term is put, none is longer than before or than it
-short_more : (cells : List Sym) (notes : List TrailNote) (j k : ℕ) → j ≤ k → AreShort cells notes j → AreShort cells notes k
-short_more cells [] j k l h = omega arith
-short_more cells (Loaded c n ∷ notes) j k l h = (omega (arith, h.0), short_more (take c cells) notes j k l h.1)
-short_more cells (Bound v c ∷ notes) j k l h = short_more cells notes j k l h
-
-pub short_loaded : (cells longer : List Sym) (notes later : List TrailNote) (n j k : ℕ) → take (length cells) longer ≡ cells → later ≡ Loaded (length cells) n ∷ notes
-    → AreShort cells notes j → k ≡ max j (length longer - length cells) → AreShort longer later k
-short_loaded cells longer notes later n j k front new h e =
-    subst (λ z. AreShort longer z k) (sym new) (omega arith, subst (λ z. AreShort z notes k) (sym front) (short_more cells notes j k (omega arith) h))
-
-pub short_unloaded : (cells : List Sym) (notes before : List TrailNote) (c n k : ℕ) → notes ≡ Loaded c n ∷ before → AreShort cells notes k → AreShort (take c cells) before k
-short_unloaded cells notes before c n k e h = (subst (λ z. AreShort cells z k) e h).1
-
 -- a written term stands among the cells
 pub written_inside : (cells : List Sym) (c : ℕ) → IsTerms cells → c < length cells → c + size (written cells c) ≤ length cells
 written_inside cells c h l =
@@ -104,15 +91,22 @@ written_inside cells c h l =
     let e : d ≡ spell t ++ rest = split_terms d (IsTerms-drop c cells h) (omega (arith, length-drop c cells)) in
     omega (arith, length-drop c cells, ap length e, length-append (spell t) rest, length-spell t)
 
-pub short_written : (cells : List Sym) (n : ℕ) (notes : List TrailNote) (k c : ℕ) → IsStore cells n notes → AreShort cells notes k → c < length cells → size (written cells c) ≤ k
-short_written cells n [] k c h s l = omega (arith, written_inside cells c h.whole l, s)
-short_written cells n (Loaded b m ∷ notes) k c h s l = elim (le_or_lt b c) [
-  | inl o ↦ omega (arith, written_inside cells c h.0.whole l, s.0, o)
-  | inr o ↦
-      (let there : c < length (take b cells) = omega (arith, length-take b cells, o, l) in
-      subst (λ t. size t ≤ k) (written-take cells b c (HasCells-of (take b cells) m notes h.1.1.1).whole there) (short_written (take b cells) m notes k c h.1.1.1 s.1 there))
-]
-short_written cells n (Bound v b ∷ notes) k c h s l = short_written cells n notes k c h.1 s l
+-- where a term is put, none is longer than before or than it
+pub short_put : (cells longer : List Sym) (n : ℕ) (notes : List TrailNote) (t : Term) (j k : ℕ) → IsStore cells n notes → longer ≡ cells ++ spell t → AreShort cells j
+    → k ≡ max j (length longer - length cells) → AreShort longer k
+short_put cells longer n notes t j k i e h is c l =
+    let whole = (HasCells-of cells n notes i).whole in
+    let longer_whole : IsTerms longer = subst IsTerms (sym e) (IsTerms-append cells (spell t) whole (IsTerms-spell t)) in
+    elim (le_or_lt (length cells) c) [
+      | inl o ↦ omega (arith, written_inside longer c longer_whole l, o)
+      | inr o ↦
+          (let same : written longer c ≡ written cells c = ap (λ z. written z c) e ∙ written-append cells (spell t) c whole o in
+          omega (arith, h c o, ap size same))
+    ]
+
+-- a front of whole terms has no longer ones
+pub short_taken : (cells : List Sym) (n k : ℕ) → IsTerms (take n cells) → AreShort cells k → AreShort (take n cells) k
+short_taken cells n k w h c l = subst (λ t. size t ≤ k) (sym (written-take cells n c w l)) (h c (omega (arith, l, length-take n cells)))
 
 -- where terms have the sizes that are written, the longest of those tells of them all
 pub are_within_if : (b : Bool) (s : Stored) (longest most : ℕ) → ((c : ℕ) → c < length s.cells → size (written s.cells c) ≤ longest) → longest ≤ most

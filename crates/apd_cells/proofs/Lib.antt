@@ -3,6 +3,8 @@ pub mod Meaning
 pub mod Following
 pub mod Undoing
 pub mod Bindings
+pub mod Longer
+pub mod Undone
 pub mod Flat
 pub mod Touching
 pub mod Room

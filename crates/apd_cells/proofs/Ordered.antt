@@ -7,7 +7,7 @@ use Rattle.std.proofs.lemmas.Bool.Decides.{Decides-eqb}
 use Rattle.std.proofs.lemmas.List.{length-append, length-set, get_or-set_same, get_or-set_other}
 use Rattle.apd_term.specs.Term.{Term, variable, IsAmong, Occurs}
 use Rattle.apd_term.specs.Canonical.{with_new, place_of, canonical_in}
-use Rattle.apd_term.proofs.Variants.{apply-agree, with_new-adds, with_new-keeps}
+use Rattle.apd_term.proofs.Variants.{apply-agree, with_new-adds, with_new-keeps, any_of}
 use Rattle.apd_cells.specs.Ordered.{IsFirst, IsNotBefore, IsPlace, HasPlaces, HasMorePlaces}
 
 same_number : {X : Type 0} (k m : ℕ) (x y : X) → k ≡ m → (if k == m then x else y) ≡ x
@@ -24,15 +24,6 @@ other_number k m x y n = by (k == m) (Decides-eqb k m)
     by true d = absurd (n (d.0 refl))
     by false d = refl
 
-or_true : (b : Bool) → (b || true) ≡ true
-or_true true = refl
-or_true false = refl
-
-pub any_old : (xs : List ℕ) (v : ℕ) → IsAmong xs v → list_any (λ w. w == v) xs ≡ true
-any_old [] v m = absurd m
-any_old (x ∷ xs) v (inl e) = ap (λ b. b || list_any (λ w. w == v) xs) ((Decides-eqb x v).1 e)
-any_old (x ∷ xs) v (inr k) = ap (λ b. (x == v) || b) (any_old xs v k) ∙ or_true (x == v)
-
 not_first : (x v : ℕ) (b r : Bool) → Decides b (x ≡ v) → ¬ (x ≡ v) → r ≡ false → (b || r) ≡ false
 not_first x v true r d n e = absurd (n (d.0 refl))
 not_first x v false r d n e = e
@@ -43,7 +34,7 @@ any_other (x ∷ xs) v n = not_first x v (x == v) (list_any (λ w. w == v) xs) (
 
 -- a variable that was seen, and one that wasn't
 pub with_old : (seen : List ℕ) (v : ℕ) → IsAmong seen v → with_new seen v ≡ seen
-with_old seen v m = ap (λ b. if b then seen else seen ++ v ∷ []) (any_old seen v m)
+with_old seen v m = ap (λ b. if b then seen else seen ++ v ∷ []) (any_of seen v m)
 
 pub with_other : (seen : List ℕ) (v : ℕ) → ¬ IsAmong seen v → with_new seen v ≡ seen ++ v ∷ []
 with_other seen v n = ap (λ b. if b then seen else seen ++ v ∷ []) (any_other seen v n)

@@ -12,7 +12,7 @@ use Rattle.apd_cells.specs.declared.known.Extent.{Extent}
 use Rattle.apd_cells.specs.declared.known.KnownExtent.{KnownExtent}
 use Rattle.apd_cells.specs.Stored.{Stored}
 use Rattle.apd_cells.specs.Store.{written, meaning, term_at, at_mark, before_note, bound, loaded, IsStore}
-use Rattle.apd_cells.specs.declared.sizes.Sizes.{Sizes}
+use Rattle.apd_cells.specs.declared.extents.Extents.{Extents}
 use Rattle.apd_cells.specs.Known.{HasExtent, IsConstant, AreKnown, AreRecent, AreSized, IsSized}
 use Rattle.apd_cells.proofs.Bindings.{Keeps-bound, Keeps-self, Occurs-single, meaning-bound-applied}
 use Rattle.apd_cells.proofs.Flat.{single_size, size-applied}
@@ -146,7 +146,7 @@ recent_room s n ks left (inl e) h = rw e h
 recent_room s n ks left (inr e) h = rw e tt
 
 -- all of it, after a load
-pub sizes_loaded : (s new : Stored) (t : Term) (base : ℕ) (k : Sizes) → IsStore s.cells s.variables s.trail → new ≡ loaded s t base → IsSized s k → IsSized new k
+pub sizes_loaded : (s new : Stored) (t : Term) (base : ℕ) (k : Extents) → IsStore s.cells s.variables s.trail → new ≡ loaded s t base → IsSized s k → IsSized new k
 sizes_loaded s new t base k i e h = record {
   kept = sized_loaded s new t base k.ground_terms k.open_terms i e h.kept;
   lately = recent_after_load s new t base k.recent i e h.lately;
@@ -173,8 +173,8 @@ sized_undone s (note ∷ rest) notes ground_terms open_terms ground_left open_le
     (forgets s notes ground_terms ground_left z f) (forgets s notes open_terms open_left z g)
 
 -- what is known after a binding, and before the newest note
-pub sizes_bound : (s new : Stored) (v to : ℕ) (old left : Sizes) → new ≡ bound s v to → (IsSized s old → IsSized (bound s v to) left) → IsSized s old → IsSized new left
+pub sizes_bound : (s new : Stored) (v to : ℕ) (old left : Extents) → new ≡ bound s v to → (IsSized s old → IsSized (bound s v to) left) → IsSized s old → IsSized new left
 sizes_bound s new v to old left e f h = subst (λ (t : Stored). IsSized t left) (sym e) (f h)
 
-pub sizes_undone : (s new : Stored) (left : Sizes) → new ≡ before_note s.cells s.variables s.trail → IsSized (before_note s.cells s.variables s.trail) left → IsSized new left
+pub sizes_undone : (s new : Stored) (left : Extents) → new ≡ before_note s.cells s.variables s.trail → IsSized (before_note s.cells s.variables s.trail) left → IsSized new left
 sizes_undone s new left e h = subst (λ (t : Stored). IsSized t left) (sym e) h

@@ -1,17 +1,13 @@
 -- What undoing gives back.
-use Rattle.std.proofs.Common.{◌≡◌, ◌⊎◌, inl, inr, ℕ, zero, suc, ◌-◌, ◌<◌, ◌≤◌, List, [], ◌∷◌, length, take, refl, sym, ◌∙◌, ap, subst, arith}
-use Rattle.std.proofs.Math.ListN.{get_or-eq_default}
-use Rattle.std.proofs.lemmas.List.{length-take-le, get_or-take}
+use Rattle.std.proofs.Common.{◌≡◌, ◌⊎◌, inl, inr, ℕ, zero, suc, ◌-◌, ◌<◌, ◌≤◌, List, [], ◌∷◌, length, refl, ◌∙◌, ap, arith}
 use Rattle.apd_term.specs.declared.term.Sym.{Sym}
 use Rattle.apd_cells.specs.declared.heap.TrailNote.{TrailNote}
 use Rattle.apd_cells.specs.declared.heap.TrailNote.TheVariants.{Loaded, Bound}
 use Rattle.apd_cells.specs.declared.heap.Binding.{Binding}
 use Rattle.apd_cells.specs.declared.heap.Binding.TheVariants.{Free, At}
-use Rattle.apd_cells.specs.Heap.{IsHeap}
 use Rattle.apd_cells.specs.Stored.{Stored}
-use Rattle.apd_cells.specs.Store.{binding_of, IsStore, before_note, before_notes, at_mark}
+use Rattle.apd_cells.specs.Store.{binding_of, IsStore, before_notes, at_mark}
 use Rattle.apd_cells.proofs.Meaning.{leads_to}
-use Rattle.apd_cells.proofs.Following.{viewed}
 
 pub le_or_lt : (a b : ℕ) → (a ≤ b) ⊎ (b < a)
 le_or_lt zero b = inl (omega arith)
@@ -25,30 +21,6 @@ free-above cells n notes v h l = by (binding_of notes v) refl
     by : (b : Binding) → binding_of notes v ≡ b → binding_of notes v ≡ Free
     by Free e = e
     by (At p) e = let k = leads_to cells n notes v p h e in absurd (omega (arith, k.below))
-
--- the heap before a term was loaded
-pub heap_before_load : (cells : List Sym) (bindings : List Binding) (trail notes : List TrailNote) (c m : ℕ)
-    → IsHeap cells bindings trail → trail ≡ Loaded c m ∷ notes → IsHeap (take c cells) (take m bindings) notes
-heap_before_load cells bindings trail notes c m h e =
-    let k : IsStore cells (length bindings) (Loaded c m ∷ notes) = subst (IsStore cells (length bindings)) e h.kept in
-    let n : length (take m bindings) ≡ m = length-take-le m bindings k.1.1.0 in
-    record {
-      kept = subst (λ j. IsStore (take c cells) j notes) (sym n) k.1.1.1;
-      agrees = λ v. elim (le_or_lt m v) [
-        | inl l ↦ get_or-eq_default (take m bindings) Free (omega (arith, n)) ∙ sym (free-above (take c cells) m notes v k.1.1.1 l)
-        | inr g ↦ get_or-take m bindings v Free (omega arith) ∙ h.agrees v ∙ ap (λ t. binding_of t v) e
-      ];
-    }
-
-pub before_load : (s : Stored) (cells : List Sym) (bindings : List Binding) (trail notes : List TrailNote) (c m : ℕ)
-    → viewed cells bindings trail ≡ s → IsHeap cells bindings trail → trail ≡ Loaded c m ∷ notes
-    → viewed (take c cells) (take m bindings) notes ≡ before_note s.cells s.variables s.trail
-before_load s cells bindings trail notes c m i h e =
-    let k : IsStore cells (length bindings) (Loaded c m ∷ notes) = subst (IsStore cells (length bindings)) e h.kept in
-    let n : length (take m bindings) ≡ m = length-take-le m bindings k.1.1.0 in
-    ap (λ j. record { cells = take c cells; variables = j; trail = notes }) n
-    ∙ ap (before_note cells (length bindings)) (sym e)
-    ∙ ap (λ (y : Stored). before_note y.cells y.variables y.trail) i
 
 pub before_none : (cells : List Sym) (n : ℕ) (notes : List TrailNote) → before_notes cells n notes 0 ≡ record { cells = cells; variables = n; trail = notes }
 before_none cells n [] = refl

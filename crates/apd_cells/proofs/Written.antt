@@ -1,11 +1,10 @@
 -- Terms that are written in cells.
-use Rattle.std.proofs.Common.{◌≡◌, ℕ, zero, suc, ◌+◌, ◌-◌, ◌<◌, ◌≤◌, List, [], ◌∷◌, ◌++◌, length, get_or, take, drop, refl, sym, ◌∙◌, ap, subst, arith}
-use Rattle.std.specs.List.{flat_map}
-use Rattle.std.proofs.lemmas.List.{append-nil, take-append-drop, take_at, drop_more, drop-append-le, length-drop}
+use Rattle.std.proofs.Common.{◌≡◌, ℕ, zero, suc, ◌+◌, ◌<◌, ◌≤◌, List, [], ◌∷◌, ◌++◌, length, get_or, take, drop, refl, sym, ◌∙◌, ap, subst, arith}
+use Rattle.std.proofs.lemmas.List.{append-nil, take-append-drop, drop_more, drop-append-le}
 use Rattle.apd_term.specs.declared.term.Sym.{Sym}
 use Rattle.apd_term.specs.declared.term.Sym.TheVariants.{Var, Int, Fun}
-use Rattle.apd_term.specs.Term.{Term, spell, size, first_of, read_all, IsTerms}
-use Rattle.apd_term.proofs.Spelling.{read_all-flat_map, IsTerms-tail, IsTerms-flat_map, split_terms, length-spell}
+use Rattle.apd_term.specs.Term.{Term, spell, first_of, read_all, IsTerms}
+use Rattle.apd_term.proofs.Spelling.{read_all-flat_map, IsTerms-tail, IsTerms-flat_map}
 use Rattle.apd_cells.specs.Store.{written}
 
 pub IsTerms-spell : (t : Term) → IsTerms (spell t)
@@ -43,13 +42,3 @@ written-append xs ys c h l =
 -- a term is written the same in the front of the cells
 pub written-take : (cells : List Sym) (n c : ℕ) → IsTerms (take n cells) → c < length (take n cells) → written (take n cells) c ≡ written cells c
 written-take cells n c h l = sym (written-append (take n cells) (drop n cells) c h l) ∙ ap (λ s. written s c) (take-append-drop n cells)
-
--- the symbols of the term that begins at a place
-pub piece_at : (s : List Sym) (at end : ℕ) → IsTerms (drop at s) → at < length s → end ≡ at + size (first_of (read_all (drop at s)))
-    → take (end - at) (drop at s) ≡ spell (first_of (read_all (drop at s)))
-piece_at s at end h l e =
-    let p = first_of (read_all (drop at s)) in
-    let rest = flat_map spell (drop 1 (read_all (drop at s))) in
-    let n : end - at ≡ size p = omega arith in
-    let split = split_terms (drop at s) h (omega (arith, length-drop at s)) in
-    ap (λ k. take k (drop at s)) n ∙ ap (take (size p)) split ∙ take_at (spell p) rest (size p) (length-spell p)

@@ -1,11 +1,11 @@
--- Sizes of terms that are known without a count, and how long they stay right.
+-- Extents of terms that are known without a count, and how long they stay right.
 use Rattle.std.specs.Prelude.{◌≡◌, ℕ, ◌<◌, ◌≤◌, List, [], ◌∷◌, length}
 use Rattle.apd_term.specs.declared.term.Sym.{Sym}
 use Rattle.apd_term.specs.declared.term.Sym.TheVariants.{Var, Int, Fun}
 use Rattle.apd_term.specs.Term.{Occurs, size}
 use Rattle.apd_cells.specs.declared.known.Extent.{Extent}
 use Rattle.apd_cells.specs.declared.known.KnownExtent.{KnownExtent}
-use Rattle.apd_cells.specs.declared.sizes.Sizes.{Sizes}
+use Rattle.apd_cells.specs.declared.extents.Extents.{Extents}
 use Rattle.apd_cells.specs.Stored.{Stored}
 use Rattle.apd_cells.specs.Store.{term_at, at_mark}
 
@@ -43,6 +43,6 @@ AreRecent s n [] = Unit {0}
 AreRecent s n (k ∷ ks) = IsKnown s k × (k.since ≤ n) × AreRecent s k.since ks
 
 -- all that is known of a store's terms
-pub record IsSized (s : Stored) (k : Sizes) : Type 0 where
+pub record IsSized (s : Stored) (k : Extents) : Type 0 where
   pub kept : AreSized s k.ground_terms k.open_terms
   pub lately : AreRecent s (length s.trail) k.recent

@@ -1,4 +1,5 @@
 pub mod Store
+pub mod Undone
 pub mod Stored
 pub mod Flat
 pub mod Kept

@@ -10,7 +10,7 @@ pub struct Front {
 }
 
 /// A front of no cells.
-pub(crate) const NOTHING: Front = Front {
+pub const NOTHING: Front = Front {
     cells: 0,
     variables: 0,
 };

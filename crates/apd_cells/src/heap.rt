@@ -8,15 +8,16 @@ ghost use Rattle.apd_cells.specs.Known.{HasExtent};
 ghost use Rattle.apd_cells.specs.Heap.{IsVariable};
 ghost use Rattle.apd_cells.specs.Live.{store_of};
 ghost use Rattle.apd_cells.specs.Slots.{AreSlots, HasLoaded};
+ghost use Rattle.apd_cells.specs.Undone.{undone, without_note, IsFront};
 ghost use Rattle.apd_cells.specs.declared.heap.Binding.TheVariants.{Free, At};
-ghost use Rattle.apd_cells.specs.Store.{meaning, term_at, written, symbol_at, binding_of, MayBind, bound, loaded, before_note, at_mark, IsSound, IsEnd, IsTwin};
+ghost use Rattle.apd_cells.specs.Store.{meaning, term_at, written, symbol_at, binding_of, MayBind, bound, loaded, IsSound, IsEnd, IsTwin};
 ghost use Rattle.apd_cells.specs.Stretches.{AreMeant, AreStretches};
 
+use crate::extents::Extents;
 use crate::front::{Front, NOTHING, above_term};
 use crate::kept::{KeptBinding, KeptNote};
 use crate::known::Extent;
 use crate::live::Live;
-use crate::sizes::Sizes;
 use crate::slots::{Slot, Stretch, append_for};
 use crate::stack::Stack;
 use crate::symbols::{append, compound_at};
@@ -57,7 +58,7 @@ pub struct Heap {
     /// No term that was loaded has more symbols.
     longest: usize,
     /// What is known of the sizes of terms.
-    sizes: Sizes,
+    sizes: Extents,
 }
 
 impl Model for Heap {
@@ -73,7 +74,7 @@ impl Model for Heap {
 
     ghost view = { λ h. record { cells = h.cells.items; variables = length h.bindings.items; trail = h.trail } };
 
-    ghost invariant = { λ h. IsHeap h.cells.items h.bindings.items h.trail × IsMarked h.cells.items h.trail h.touched h.front × (h.compounds ≡ compound_count h.cells.items h.trail) × AreShort h.cells.items h.trail h.longest × IsSized (record { cells = h.cells.items; variables = length h.bindings.items; trail = h.trail }) h.sizes };
+    ghost invariant = { λ h. IsHeap h.cells.items h.bindings.items h.trail × IsMarked h.cells.items h.trail h.touched h.front × (h.compounds ≡ compound_count h.cells.items h.trail) × AreShort h.cells.items h.longest × IsSized (record { cells = h.cells.items; variables = length h.bindings.items; trail = h.trail }) h.sizes };
 }
 
 impl Heap {
@@ -89,7 +90,7 @@ impl Heap {
             front: NOTHING,
             compounds: 0,
             longest: 0,
-            sizes: Sizes::new(alloc),
+            sizes: Extents::new(alloc),
         }
     }
 
@@ -119,6 +120,13 @@ impl Heap {
             notes: self.trail.as_slice(),
             variables: self.bindings.len(),
         }
+    }
+
+    /// Its cells. The rest is given up.
+    pub fn into_cells(self) -> Vec<Sym>
+        ensures { result.items ≡ self.cells }
+    {
+        self.cells
     }
 
     /// The symbol at a cell.
@@ -253,12 +261,12 @@ impl Heap {
     }
 
     /// Notes the extent of a term that was measured.
-    pub fn note(&mut self, at: usize, extent: Extent) -> Result<(), AllocError>
+    pub fn remember(&mut self, at: usize, extent: Extent) -> Result<(), AllocError>
         requires { HasExtent self.old at extent }
         ensures { self.new ≡ self.old }
     {
         let since = self.trail.len();
-        self.sizes.note(at, extent, since)
+        self.sizes.remember(at, extent, since)
     }
 
     /// Keeps the extent of the term at a cell, or nothing.
@@ -351,19 +359,22 @@ impl Heap {
         self.trail.len()
     }
 
-    /// Takes back what the newest note says.
-    fn undo_note(&mut self)
-        ensures { self.new ≡ before_note self.old.cells self.old.variables self.old.trail }
+    /// Takes back what the newest note says, but for a front of the cells.
+    fn undo_note(&mut self, kept: Front)
+        requires { IsFront kept self.old.cells }
+        ensures { self.new ≡ without_note kept self.old.cells self.old.variables self.old.trail }
     {
         let notes = self.trail.len();
-        self.sizes.forget_newest(notes);
+        self.sizes.forget_since_note(notes);
         let Some(newest) = self.trail.pop() else {
             return;
         };
         match newest.get() {
             TrailNote::Loaded(cells, variables) => {
-                self.cells.truncate(cells);
-                self.bindings.truncate(variables);
+                let least_cells = cells.max(kept.cells);
+                let least_variables = variables.max(kept.variables);
+                self.cells.truncate(least_cells);
+                self.bindings.truncate(least_variables);
                 self.front = NOTHING;
                 self.touched = self.touched.min(variables);
             }
@@ -374,14 +385,15 @@ impl Heap {
         }
     }
 
-    /// Takes back all that was done since the trail had so many notes.
+    /// Takes back all that was done since the trail had so many notes, but for a front of the cells and their variables.
     #[inline(always)]
-    pub fn undo(&mut self, mark: usize)
-        requires { mark ≤ length self.old.trail }
-        ensures { self.new ≡ at_mark mark self.old }
+    pub fn undo(&mut self, mark: usize, kept: Front)
+        requires there { mark ≤ length self.old.trail }
+        requires front { IsFront kept self.old.cells }
+        ensures { self.new ≡ undone kept mark self.old }
     {
         'notes: while self.trail.len() > mark {
-            self.undo_note();
+            self.undo_note(kept);
         }
     }
 }

@@ -1,7 +1,8 @@
-//! Sizes of terms that are known without a count.
+//! Extents of terms that are known without a count.
 //!
 //! A size stays right as long as no variable of its term is bound, and as the trail is no shorter than where it was
-//! found. So what is known stands in stacks: a binding and an undoing drop what is newest there.
+//! found. So what is known stands in stacks: a binding and an undoing drop what is newest there. Of what was measured
+//! lately a binding drops all, but that of a variable to an integer or an atom, which changes no size.
 
 ghost use Rattle.std.specs.Prelude.{◌≡◌, ℕ, ◌+◌, ◌-◌, ◌<◌, ◌≤◌, ◌⊎◌, ◌^◌, [], get_or, max, length, OnOk, IfSome};
 ghost use Rattle.apd_term.specs.declared.term.Sym.TheVariants.{Var};
@@ -49,16 +50,16 @@ pub struct KnownExtent {
 
 /// The same in 16 bytes. Contracts see cell, extent and notes.
 #[derive(Drop)]
-pub struct KeptKnown {
+pub struct KeptExtent {
     cell: u32,
     size: u32,
     above: u32,
     since: u32,
 }
 
-const _: () = prove!(size_of::<KeptKnown>() == 16);
+const _: () = prove!(size_of::<KeptExtent>() == 16);
 
-impl Model for KeptKnown {
+impl Model for KeptExtent {
     ghost use Rattle.apd_cells.specs.declared.known.KnownExtent.{KnownExtent};
 
     ghost Value = { KnownExtent };
@@ -70,9 +71,9 @@ impl Model for KeptKnown {
     } };
 }
 
-impl KeptKnown {
+impl KeptExtent {
     /// The extent as it is kept, where its numbers have room; none says nothing.
-    pub fn of(cell: usize, extent: Extent, since: usize) -> Option<KeptKnown>
+    pub fn of(cell: usize, extent: Extent, since: usize) -> Option<KeptExtent>
         ensures { IfSome result
             (λ k. k ≡ record { cell = cell; extent = extent; since = since }) }
     {
@@ -82,7 +83,7 @@ impl KeptKnown {
         if extent.size > MOST as u64 || extent.above > MOST as u64 {
             return None;
         }
-        Some(KeptKnown {
+        Some(KeptExtent {
             cell: cell as u32,
             size: extent.size as u32,
             above: extent.above as u32,
@@ -107,7 +108,7 @@ impl KeptKnown {
 }
 
 /// What is known of a cell's term, if it stands at this place, counted from the oldest.
-pub fn known_at(known: &Stack<KeptKnown>, place: usize, cell: usize) -> Option<Extent>
+pub fn known_at(known: &Stack<KeptExtent>, place: usize, cell: usize) -> Option<Extent>
     ensures { (s : Stored) (n a : ℕ) → n ≤ length s.trail → AreKnown s n a known.now →
         IfSome result (HasExtent s cell) }
 {
@@ -120,7 +121,7 @@ pub fn known_at(known: &Stack<KeptKnown>, place: usize, cell: usize) -> Option<E
 }
 
 /// What was measured lately of a cell's term, if it stands at this place, counted from the oldest.
-pub fn recent_at(recent: &Stack<KeptKnown>, place: usize, cell: usize) -> Option<Extent>
+pub fn recent_at(recent: &Stack<KeptExtent>, place: usize, cell: usize) -> Option<Extent>
     ensures { (s : Stored) (n : ℕ) → n ≤ length s.trail → AreRecent s n recent.now →
         IfSome result (HasExtent s cell) }
 {
@@ -133,7 +134,7 @@ pub fn recent_at(recent: &Stack<KeptKnown>, place: usize, cell: usize) -> Option
 }
 
 /// Forgets what was measured since the trail had so many notes.
-pub fn forget_recent(recent: &mut Stack<KeptKnown>, notes: usize)
+pub fn forget_recent(recent: &mut Stack<KeptExtent>, notes: usize)
     ensures { (s : Stored) (n : ℕ) → AreRecent s n recent.old → AreRecent s (notes - 1) recent.new }
 {
     'known: while let Some(newest) = recent.top() {
@@ -145,7 +146,7 @@ pub fn forget_recent(recent: &mut Stack<KeptKnown>, notes: usize)
 }
 
 /// Forgets all that was measured, unless a binding to the term at this place leaves it right.
-pub fn forget_measured(recent: &mut Stack<KeptKnown>, cells: &[Sym], to: usize)
+pub fn forget_measured(recent: &mut Stack<KeptExtent>, cells: &[Sym], to: usize)
     requires { to < length cells.now }
     ensures { (recent.new ≡ []) ⊎
         (IsConstant (get_or cells.now to (Var 0)) × (recent.new ≡ recent.old)) }
@@ -161,7 +162,7 @@ pub fn forget_measured(recent: &mut Stack<KeptKnown>, cells: &[Sym], to: usize)
 pub const MOST_RECENT: usize = 64;
 
 /// Forgets all that was measured, where it is much.
-pub fn forget_many(recent: &mut Stack<KeptKnown>)
+pub fn forget_many(recent: &mut Stack<KeptExtent>)
     ensures { (recent.new ≡ recent.old) ⊎ (recent.new ≡ []) }
 {
     if recent.len() >= MOST_RECENT {
@@ -170,7 +171,7 @@ pub fn forget_many(recent: &mut Stack<KeptKnown>)
 }
 
 /// Forgets what was found since the trail had so many notes.
-pub fn forget_since(known: &mut Stack<KeptKnown>, notes: usize)
+pub fn forget_since(known: &mut Stack<KeptExtent>, notes: usize)
     ensures { (s : Stored) (n a : ℕ) → AreKnown s n a known.old →
         AreKnown s (notes - 1) a known.new }
 {
@@ -183,7 +184,7 @@ pub fn forget_since(known: &mut Stack<KeptKnown>, notes: usize)
 }
 
 /// Forgets what the binding of a variable may change.
-pub fn forget_above(known: &mut Stack<KeptKnown>, v: u64)
+pub fn forget_above(known: &mut Stack<KeptExtent>, v: u64)
     ensures { (s : Stored) (n a : ℕ) → AreKnown s n a known.old → AreKnown s n v known.new }
 {
     'known: while let Some(newest) = known.top() {
@@ -195,7 +196,7 @@ pub fn forget_above(known: &mut Stack<KeptKnown>, v: u64)
 }
 
 /// A number that is no less than this one, and above the variables of all that is known.
-pub fn above_all(known: &Stack<KeptKnown>, above: u64) -> u64
+pub fn above_all(known: &Stack<KeptExtent>, above: u64) -> u64
     ensures more { above ≤ result }
     ensures all { (s : Stored) (n a : ℕ) → AreKnown s n a known.now →
         AreKnown s n result known.now }

@@ -11,7 +11,7 @@ use apd_term::Sym;
 use std::alloc::{AllocError, Global};
 use std::marker::Model;
 
-/// Variables in the order of their first appearance, each once. Clauses see their list.
+/// Variables in the order of their first appearance, each once. Contracts see their list.
 #[derive(Drop)]
 pub struct Order {
     seen: Vec<u64>,

@@ -5,7 +5,7 @@ ghost use Rattle.std.specs.Prelude.{◌≡◌, ◌∷◌, ◌<◌, [], length, d
 use std::alloc::{AllocError, Global};
 use std::marker::Model;
 
-/// A stack. Clauses see its list, the newest first.
+/// A stack. Contracts see its list, the newest first.
 #[derive(Drop)]
 pub struct Stack<T> {
     oldest_first: Vec<T>,

@@ -1,6 +1,6 @@
 //! The suspects of a proof tree as rows, one for each node.
 
-ghost use Rattle.std.specs.Prelude.{◌≡◌, ◌≤◌, ◌<◌, ◌↔◌, ◌++◌, ◌+◌, ◌^◌, length, slice_get, None, IsSome, IfSome, IfOk, OnOk};
+ghost use Rattle.std.specs.Prelude.{◌≡◌, ◌≤◌, ◌<◌, ◌↔◌, ◌++◌, ◌+◌, ◌^◌, ◌&&◌, nat_lt, true, if◌then◌else◌, length, slice_get, None, IsSome, IfSome, IfOk, OnOk};
 ghost use Rattle.apd_divide.specs.declared.node.NodeRow.{NodeRow};
 ghost use Rattle.apd_divide.specs.declared.node.Strategy.TheVariants.{Divide};
 ghost use Rattle.apd_divide.specs.Tree.{label, children, suspects, clause_at, instance, branching, lost_by, candidates, doubts_of};
@@ -9,6 +9,7 @@ ghost use Rattle.apd_divide.specs.Kept.{Kept, kept_at, IsKept, tree_of, cut_of, 
 ghost use Rattle.apd_divide.specs.Cleared.{cleared_below};
 ghost use Rattle.apd_divide.specs.Rows.{broadest, rows_of};
 ghost use Rattle.apd_divide.specs.Recorded.{tree};
+ghost use Rattle.apd_divide.specs.Seeking.{LeadsBelow};
 ghost use Rattle.apd_divide.specs.Exits.{IsLabelled};
 
 use crate::growing::grown;
@@ -54,28 +55,54 @@ fn lost_by(standing: Standing, weight: u32) -> u32
     }
 }
 
-/// The suspect at a place stands as it is judged: it has fewer suspects, and so have those above it.
-fn mark(rows: &mut [NodeRow<'_>], root: usize, node: usize, standing: Standing)
+/// Whether no suspect was passed by yet, once a tree of this weight is passed by.
+fn stays_first(is_first: bool, weight: u32) -> bool
+    ensures { result ≡ true → (is_first ≡ true) × (weight ≡ 0) }
+{
+    is_first && weight == 0
+}
+
+/// From where on the first suspect is found: from this place, where the tree there has such a weight and no suspect was passed
+/// by, else from the first row.
+fn found_from(is_first: bool, weight: u32, place: usize) -> usize
+    ensures { result ≡ (if is_first && nat_lt 0 weight then place else 0) }
+{
+    if is_first && weight > 0 { place } else { 0 }
+}
+
+/// The suspect at a place stands as it is judged: it has fewer suspects, and so have those above it. The answer is from where
+/// on behind the root the first suspect is found, in the order in which a node comes after those below it: the node right above
+/// the place, where that has suspects and none comes before it.
+fn mark(rows: &mut [NodeRow<'_>], root: usize, node: usize, standing: Standing) -> usize
     requires kept { IsKept (kept_at rows.old root) }
     requires suspect { IsSome (cut_of (kept_at rows.old root) node) }
     requires there { node < length rows.old }
-    ensures { let k = kept_at rows.old root in
+    ensures marked { let k = kept_at rows.old root in
         IfSome (cut_of k node) (λ c. rows.new ≡ replaced k (c.rest standing)) }
+    ensures leads { IfSome (cut_of (kept_at rows.old root) node)
+        (λ c. LeadsBelow (c.rest standing) result) }
 {
     let lost = lost_by(standing, rows[node].weight);
+    let mut is_first = true;
+    let mut last = root;
+    let mut above: u32 = 0;
     let mut at = root;
     'rows: while at < node {
         let span = rows[at].span as usize;
         if at + span <= node {
+            is_first = stays_first(is_first, rows[at].weight);
             at += span;
         } else {
-            rows[at].weight -= lost;
+            above = rows[at].weight - lost;
+            rows[at].weight = above;
+            last = at;
             at += 1;
         }
     }
     let row = &mut rows[node];
     row.weight -= lost;
     row.standing = standing;
+    found_from(is_first, above, last.saturating_sub(root + 1))
 }
 
 /// Judges suspects of these predicates true, the first in the order in which a node comes before those below it, until there is
@@ -133,11 +160,14 @@ pub struct Suspects<'a> {
     alloc: Global,
     rows: Vec<NodeRow<'a>>,
     root: usize,
+    /// From where on behind the root the first suspect is found, in the order in which a node comes after those below it.
+    from: usize,
 }
 
 impl<'a> Model for Suspects<'a> {
     ghost use Rattle.std.specs.Prelude.{◌≡◌, length, vec_len};
     ghost use Rattle.apd_divide.specs.Kept.{Kept, IsKept, kept_code};
+    ghost use Rattle.apd_divide.specs.Seeking.{Leads};
 
     ghost Value = { Kept };
 
@@ -145,7 +175,8 @@ impl<'a> Model for Suspects<'a> {
 
     ghost view = { λ s. record { rows = s.rows.items; root = s.root } };
 
-    ghost invariant = { λ s. IsKept (record { rows = s.rows.items; root = s.root }) × (vec_len s.rows ≡ length s.rows.items) };
+    ghost invariant = { λ s. IsKept (record { rows = s.rows.items; root = s.root }) × (vec_len s.rows ≡ length s.rows.items)
+        × Leads (record { rows = s.rows.items; root = s.root }) s.from };
 }
 
 impl<'a> Suspects<'a> {
@@ -169,6 +200,7 @@ impl<'a> Suspects<'a> {
             alloc,
             rows,
             root: 0,
+            from: 0,
         })
     }
 
@@ -227,7 +259,7 @@ impl<'a> Suspects<'a> {
         }
         let row = &self.rows[self.root];
         let below = &self.rows[self.root + 1..self.root + row.span as usize];
-        let place = chosen_place(below, strategy, suspects);
+        let place = chosen_place(below, strategy, suspects, self.from);
         Some(NodeId((self.root + 1 + place) as u32))
     }
 
@@ -241,8 +273,14 @@ impl<'a> Suspects<'a> {
     {
         let place = node.0 as usize;
         match standing_for(value) {
-            Some(standing) => mark(&mut self.rows, self.root, place, standing),
-            None => self.root = place,
+            Some(standing) => {
+                let from = mark(&mut self.rows, self.root, place, standing);
+                self.from = from;
+            }
+            None => {
+                self.root = place;
+                self.from = 0;
+            }
         }
     }
 
@@ -279,5 +317,6 @@ impl<'a> Suspects<'a> {
             return;
         };
         clear_below(&mut self.rows, self.root, preds);
+        self.from = 0;
     }
 }

@@ -3,6 +3,7 @@ use Rattle.std.proofs.Common.{◌≡◌, ◌≢◌, ℕ, ◌<◌, List, [], leng
 use Rattle.std.specs.Prelude.{slice_get}
 use Rattle.std.proofs.lemmas.List.{length-map}
 use Rattle.std.proofs.lemmas.Option.{slice_get_within}
+use Rattle.apd_base.proofs.Lists.{slice_get-front}
 use Rattle.apd_term.specs.Term.{Term}
 use Rattle.apd_term.specs.declared.tuple.Tuple.{Tuple}
 use Rattle.apd_ports.specs.declared.event.Event.{Event}
@@ -14,7 +15,6 @@ use Rattle.apd_record.specs.Kept.{box_from, point_from, seen}
 use Rattle.apd_record.specs.Open.{AreIn, Rows, noted_row, told_by, with_box_row}
 use Rattle.apd_record.specs.Recorded.{Recorded, is_user_atom, noted, opened, with_point}
 use Rattle.apd_record.specs.declared.ongoing.OpenPoint.{OpenPoint}
-use Rattle.apd_record.proofs.Lists.{get-more}
 use Rattle.apd_record.proofs.Opening.{in_box, in_noted, in_on, in_point, told_box, told_noted, told_on, told_point}
 use Rattle.apd_record.proofs.Told.{make-below, open-within}
 use Rattle.apd_recorded.specs.Told.{told_port}
@@ -47,7 +47,7 @@ module _ {old new : List Tuple} (grows : Grows old new) where
   held_more (Some p) (Some x) h =
       record {
         tuple = h.tuple;
-        there = subst (λ ts. slice_get ts p.tuple.number ≡ Some h.tuple) (sym grows.is) (get-more old grows.more p.tuple.number h.tuple h.there);
+        there = subst (λ ts. slice_get ts p.tuple.number ≡ Some h.tuple) (sym grows.is) (slice_get-front old grows.more p.tuple.number h.tuple h.there);
         goals = h.goals;
         is = h.is;
       }

@@ -14,8 +14,7 @@ use Rattle.apd_engine.specs.declared.running.RunFault.{RunFault}
 use Rattle.apd_engine.specs.declared.running.RunFault.TheVariants.{WriteFault, Memory}
 use Rattle.apd_trace.specs.declared.item.Item.{Item}
 use Rattle.apd_trace.specs.declared.item.Item.TheVariants.{Passed, Answer, Made, Error}
-use Rattle.apd_record.specs.Recorded.{Recorded, empty, query_point, called_row, noted, passed_at}
-use Rattle.apd_record.specs.declared.rows.BoxRow.{BoxRow}
+use Rattle.apd_record.specs.Recorded.{Recorded, empty, query_point, called_row, noted}
 use Rattle.apd_engine.specs.Search.{Standing, opened, rest, Gives, Ends, may_make}
 use Rattle.apd_recorded.specs.Told.{told_port, record_from, record_of}
 use Rattle.apd_engine.specs.Recording.{newest, MayPass, MayBeToldAll, with_held, told_held, MayBeToldHeld, held_count}
@@ -28,6 +27,7 @@ use Rattle.apd_ports.specs.declared.hook.HookFault.TheVariants.{WriteFault as Ho
 use Rattle.apd_ports.specs.declared.hook.Shown.{Shown}
 use Rattle.apd_ports.specs.declared.hook.Shown.TheVariants.{Port as ShownPort, Answer as ShownAnswer}
 use Rattle.apd_causes.specs.declared.run.RunEnd.TheVariants.{Budget}
+use Rattle.apd_record.proofs.Lists.{passed-length}
 
 -- Points that are held back.
 
@@ -56,14 +56,9 @@ noted_points : (R : Recorded) (n : ℕ) (port : Port) → (noted R n port).point
 noted_points R zero port = refl
 noted_points R (suc i) port = refl
 
-passed_count : (port : Port) (i : ℕ) (bs : List BoxRow) → length (passed_at port i bs) ≡ length bs
-passed_count port i [] = refl
-passed_count port zero (b ∷ bs) = refl
-passed_count port (suc i) (b ∷ bs) = omega (arith, passed_count port i bs)
-
 noted_boxes : (R : Recorded) (n : ℕ) (port : Port) → length (noted R n port).boxes ≡ length R.boxes
 noted_boxes R zero port = refl
-noted_boxes R (suc i) port = passed_count port i R.boxes
+noted_boxes R (suc i) port = passed-length port i R.boxes
 
 port_points : (R : Recorded) (e : Event) (port : Port) → (told_port R e port).points ≡ R.points
 port_points R e Call = refl

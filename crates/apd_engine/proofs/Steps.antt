@@ -1,6 +1,6 @@
 -- Each step of the machine gives the next item of what it still gives.
-use Rattle.std.proofs.Common.{◌≡◌, ℕ, zero, suc, ◌+◌, ◌-◌, ◌<◌, ◌≤◌, List, [], ◌∷◌, ◌++◌, length, drop, refl, ap, sym, ◌∙◌, subst, arith, append_assoc, Option, Some, None, inl, inr, true, false}
-use Rattle.std.proofs.lemmas.List.{length-map}
+use Rattle.std.proofs.Common.{◌≡◌, ℕ, suc, ◌+◌, ◌-◌, ◌<◌, ◌≤◌, List, [], ◌∷◌, ◌++◌, length, drop, refl, ap, sym, ◌∙◌, subst, arith, append_assoc, Option, Some, None, inl, inr, true, false}
+use Rattle.std.proofs.lemmas.List.{length-map, drop_all}
 use Rattle.std.proofs.lemmas.Option.{slice_get_within}
 use Rattle.std.specs.Prelude.{◌==◌, if◌then◌else◌}
 use Rattle.apd_term.specs.Term.{Term, variable, apply}
@@ -199,12 +199,6 @@ opened_at n (Some a) F g m G h deep waits = opened_by n (outcome a) a F g m G h 
 pub few_apart : (F : List Frame) (r : Tuple) → IsRunnable r → length (apart F r).body ≤ 64
 few_apart F r h = omega (arith, h.few, length-map r.body (apply (λ v. variable (above (variables_of_frames F) + v))))
 
-pub drop_past : {X : Type 0} (xs : List X) (j : ℕ) → length xs ≤ j → drop j xs ≡ []
-drop_past [] zero le = refl
-drop_past [] (suc j) le = refl
-drop_past (x ∷ xs) zero le = absurd (omega arith)
-drop_past (x ∷ xs) (suc j) le = drop_past xs j (omega arith)
-
 module _ (P : List Tuple) where
   -- a built-in goal's exit
   pub gives_leave : (F F' : Kept) (cs : List Choice) (n m e : ℕ) (l : Called) (i : Item) → Some (l, e) ≡ exit_in F.current → IsOpen n F.current → AllWaits n cs F.saved → F' ≡ record { current = outer F.current; saved = F.saved } → i ≡ at_port Exit l → Gives P Leave F cs n m i (record { frames = F'; mode = Hand e; stack = cs; boxes = n; points = m })
@@ -343,7 +337,7 @@ module _ (P : List Tuple) where
 
     pub gives_last : (new : Kept) (mode : Mode) (i : Item) (at : ℕ) → AreAlike (solution R.current g m) of_program → Skips P R.current g m from at → length (clauses_for g.atom P) ≤ at → new.saved ≡ S → mode ≡ Back → i ≡ at_port Fail g → Gives P Back X (Alternatives b from ∷ cs) n m i (record { frames = new; mode = mode; stack = cs; boxes = n; points = m })
     gives_last new mode i at alike skips past now is told =
-        gives_fail new mode i (λ k. settled_as k R.current g from n m of_program alike ∙ skips (search_from P k) n ∙ ap (λ rs. tries (search_from P k) R.current g rs n m) (drop_past (clauses_for g.atom P) at past)) now is told
+        gives_fail new mode i (λ k. settled_as k R.current g from n m of_program alike ∙ skips (search_from P k) n ∙ ap (λ rs. tries (search_from P k) R.current g rs n m) (drop_all at (clauses_for g.atom P) past)) now is told
 
     -- an error
     gives_fault : (new : Kept) (mode : Mode) (e : RunError) (i : Item) → ((k : ℕ) → resume P k g R.current from n m ≡ emit (Error e g.box_no) (nothing n m)) → i ≡ Error e g.box_no → new.saved ≡ S → mode ≡ Back → Gives P Back X (Alternatives b from ∷ cs) n m i (record { frames = new; mode = mode; stack = cs; boxes = n; points = m })
@@ -448,7 +442,7 @@ module _ (P : List Tuple) where
               items = λ K below.
                   let k : ℕ = K - suc (length cs) in
                   let o : Out = search_from P k new.current n (m + 1) in
-                  let none : drop (at + 1) (clauses_for g.atom P) ≡ [] = drop_past (clauses_for g.atom P) (at + 1) past in
+                  let none : drop (at + 1) (clauses_for g.atom P) ≡ [] = drop_all (at + 1) (clauses_for g.atom P) past in
                   rw (was, saved_so, calling.calls, made k, none) (seam (Made p) o (closing g) (back P K cs S));
               height = omega arith;
               boxes_made = omega arith;

@@ -5,6 +5,7 @@ use Rattle.std.specs.List.{list_all}
 use Rattle.std.proofs.Math.Seq.{drop-cons}
 use Rattle.std.proofs.lemmas.List.Elements.{All-head, All-tail}
 use Rattle.std.proofs.lemmas.Option.{get_or_from_slice_get, slice_get-get_or, slice_get_within}
+use Rattle.std.proofs.lemmas.List.{drop_all}
 use Rattle.apd_record.proofs.Atoms.{predicate-apply}
 use Rattle.apd_term.specs.Substitution.{IsInstance}
 use Rattle.apd_term.specs.Term.{Term, predicate_of}
@@ -51,12 +52,6 @@ cut xs j x there =
     let at : get_or xs j x ≡ x = get_or_from_slice_get xs j x x there in
     rw (add-one, drop-cons xs j x, at) refl
 
-past : {X : Type 0} (xs : List X) (j : ℕ) → length xs ≤ j → drop j xs ≡ []
-past [] zero l = refl
-past [] (suc j) l = refl
-past (x ∷ xs) zero l = absurd (omega (arith, l))
-past (x ∷ xs) (suc j) l = past xs j (omega (arith, l))
-
 -- Clauses that can't cover the goal.
 
 module _ (store : Store) (goal : Term) (p : Pred) (is : predicate_of goal ≡ Some p) where
@@ -97,7 +92,7 @@ module _ (store : Store) (goal : Term) (p : Pred) (is : predicate_of goal ≡ So
       gone (x ∷ xs) (suc j) e = let h = gone xs j e in omega (arith, h)
 
       one : (o : Option (ℕ × Tuple)) → slice_get xs i ≡ o → list_all (λ (x : ℕ × Tuple). covers_not store goal x.1) (drop i xs) ≡ list_all (λ (x : ℕ × Tuple). covers_not store goal x.1) (drop (i + 1) xs)
-      one None e = let l = gone xs i e in ap (list_all (λ (x : ℕ × Tuple). covers_not store goal x.1)) (past xs i l ∙ sym (past xs (i + 1) (omega (arith, l))))
+      one None e = let l = gone xs i e in ap (list_all (λ (x : ℕ × Tuple). covers_not store goal x.1)) (drop_all i xs l ∙ sym (drop_all (i + 1) xs (omega (arith, l))))
       one (Some c) e =
           ap (list_all (λ (x : ℕ × Tuple). covers_not store goal x.1)) (cut xs i c e)
           ∙ ap (λ b. b && list_all (λ (x : ℕ × Tuple). covers_not store goal x.1) (drop (i + 1) xs)) (sym (none i c (omega arith) (omega arith) e))
@@ -132,7 +127,7 @@ module _ (store : Store) (goal : Term) (p : Pred) (is : predicate_of goal ≡ So
     pub ends : length numbers ≤ at → true ≡ list_all (covers_not store goal) (tuples_of cs)
     ends l =
         let count : length (clauses_from 1 p (tuples_of cs)) ≡ length numbers = same_count 1 p cs ∙ ap length (sym numbers_are) in
-        sym (so_far ∙ ap (list_all (λ (x : ℕ × Tuple). covers_not store goal x.1)) (past (clauses_from 1 p (tuples_of cs)) at (omega (arith, l, count))))
+        sym (so_far ∙ ap (list_all (λ (x : ℕ × Tuple). covers_not store goal x.1)) (drop_all at (clauses_from 1 p (tuples_of cs)) (omega (arith, l, count))))
 
 -- a goal that is no atom, and a program without clauses
 pub no_atom : (store : Store) (goal : Term) (cs : List Clause) → predicate_of goal ≡ None → IsProgram cs → true ≡ list_all (covers_not store goal) (tuples_of cs)

@@ -1,5 +1,5 @@
 -- What the pairs of a store say of atoms is what the lists have that are kept of it.
-use Rattle.std.proofs.Common.{◌≡◌, ◌⊎◌, inl, inr, map, ◌<◌, ◌≤◌, ◌+◌, ◌++◌, ◌&&◌, ℕ, zero, suc, Bool, true, false, List, [], ◌∷◌, length, take, Result, Ok, Err, refl, sym, ap, ◌∙◌, subst, arith, append_assoc}
+use Rattle.std.proofs.Common.{◌≡◌, ◌⊎◌, inl, inr, map, ◌<◌, ◌+◌, ◌++◌, ◌&&◌, ℕ, zero, suc, Bool, true, false, List, [], ◌∷◌, length, take, Result, Ok, Err, refl, sym, ap, ◌∙◌, subst, arith, append_assoc}
 use Rattle.std.proofs.lemmas.Bool.{and_parts, or_right}
 use Rattle.std.proofs.lemmas.List.Folds.{list_any-append}
 use Rattle.std.specs.Prelude.{◌||◌, if◌then◌else◌, IfOk, IfSome, OnOk, slice_get}
@@ -51,12 +51,6 @@ pub put-next : (ps : List Pair) (i : ℕ) (q : Question) (r : Reply) → AreOnce
 put-next ps i q r once l e f =
     let next : suc i ≡ i + 1 = omega arith in
     subst (λ (n : ℕ). with_pair_in (take i ps) q r ≡ take n ps) next (new-behind [] ps i q r once l e f)
-
-pub taken-all : (ps : List Pair) (i : ℕ) → length ps ≤ i → take i ps ≡ ps
-taken-all [] zero l = refl
-taken-all [] (suc i) l = refl
-taken-all (p ∷ ps) zero l = absurd (omega (arith, l))
-taken-all (p ∷ ps) (suc i) l = ap (λ (qs : List Pair). p ∷ qs) (taken-all ps i (omega (arith, l)))
 
 -- What some pair tells.
 

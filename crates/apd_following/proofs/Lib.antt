@@ -1,3 +1,4 @@
 mod Tying
+mod Backward
 mod Keeping
 mod Known

@@ -1,81 +1,148 @@
--- What stays of a tie where the store goes on or back.
-use Rattle.std.proofs.Common.{◌≡◌, ℕ, ◌-◌, ◌≤◌, [], length, refl, sym, ◌∙◌, ap, subst, arith}
+-- What stays of a tie where the store goes on, and where a log catches up with it.
+use Rattle.std.proofs.Common.{◌≡◌, ℕ, ◌-◌, ◌≤◌, List, [], ◌++◌, length, take, drop, reverse, refl, sym, ◌∙◌, ap, subst, arith, true, false}
+use Rattle.std.specs.Prelude.{max}
+use Rattle.std.proofs.Math.Seq.{take-length}
 use Rattle.std.proofs.lemmas.Bool.{OnTrue_at, OnTrue_from}
+use Rattle.std.proofs.lemmas.List.{length-append, take-append-drop, take-append-le, take_all, drop_all}
 use Rattle.apd_cells.specs.Stored.{Stored}
-use Rattle.apd_cells.specs.Store.{at_mark, IsSound, Keeps}
-use Rattle.apd_cells.proofs.Keeping.{at_mark-at_mark, length-before}
+use Rattle.apd_cells.specs.Store.{at_mark, HasCells, IsSound, Keeps}
+use Rattle.apd_cells.proofs.Keeping.{at_mark-at_mark}
+use Rattle.apd_cells.proofs.Meaning.{HasCells-of}
 use Rattle.apd_cells.proofs.Undoing.{at_mark-here}
-use Rattle.apd_past.specs.declared.mirror.Mirror.{Mirror}
-use Rattle.apd_past.specs.Follows.{Follows}
-use Rattle.apd_past.specs.Live.{MayCatchUp}
+use Rattle.apd_past.specs.Done.{Done, with_room}
+use Rattle.apd_past.specs.Follows.{Follows, MayFollow, bindings_in}
+use Rattle.apd_past.specs.History.{bindings_after, HasDoneMore, KeepsMoments, history_of, IsRight}
+use Rattle.apd_past.proofs.Keeping.{keeps_grown, keeps_wider}
+use Rattle.apd_past.proofs.Marks.{before_trail, front_at_mark}
+use Rattle.apd_past.proofs.Moments.{right_more, right_wider}
+use Rattle.apd_tuples.specs.Spots.{Place}
+use Rattle.apd_tuples.specs.Tuples.{kept_tuples, AreThere}
 use Rattle.apd_following.specs.declared.tie.Tie.{Tie}
-use Rattle.apd_following.specs.Tied.{IsBack, IsTied}
+use Rattle.apd_following.specs.Tied.{past_of, FollowsTo, IsLevel, IsTied}
 
-catch_more : (m : Mirror) (s s' : Stored) (k : ℕ) → MayCatchUp m s k → Keeps s s' → MayCatchUp m s' k
-catch_more m s s' k h keeps = record {
-  earlier = h.earlier;
-  sound = h.sound;
-  follows = h.follows;
-  there = h.there;
-  here = omega (arith, h.here, keeps.0);
-  same = h.same ∙ ap (at_mark k) (sym keeps.1) ∙ at_mark-at_mark k (length s.trail) s' h.here keeps.0;
-}
+-- nothing is kept, and nothing was followed
+pub tied_none : (d : Done) (s : Stored) → d ≡ record { variables = 0; deeds = [] } → IsTied (record { log = d; cells = 0; followed = 0; holds = true }) s
+tied_none d s e =
+    rw e (record {
+      within = omega arith;
+      right = record { whole = refl; below = λ v o. absurd o };
+      follows = record {
+        there = omega arith;
+        follows = sym (ap bindings_in (before_trail s.cells s.variables s.trail (length s.trail - 0) ∙ drop_all (length s.trail - 0) s.trail (omega arith)));
+      };
+    })
 
-catch_back : (m : Mirror) (s s' : Stored) (k j : ℕ) → MayCatchUp m s k → IsBack s s' → j ≤ k → j ≤ length s'.trail → MayCatchUp m s' j
-catch_back m s s' k j h back le there =
-    let n : length s'.trail ≡ back.0 =
-    ap (λ (z : Stored). length z.trail) back.2 ∙ omega (arith, length-before s.cells s.variables s.trail (length s.trail - back.0), back.1) in
-    record {
-      earlier = h.earlier;
-      sound = h.sound;
-      follows = h.follows;
-      there = omega (arith, h.there, le);
-      here = there;
-      same = sym (at_mark-at_mark j k h.earlier le h.there)
-          ∙ ap (at_mark j) h.same
-          ∙ at_mark-at_mark j k s le h.here
-          ∙ sym (at_mark-at_mark j back.0 s (omega (arith, there, n)) back.1)
-          ∙ ap (at_mark j) (sym back.2);
-    }
-
+-- the store is what it was
 pub tied_same : (t : Tie) (s s' : Stored) → IsTied t s → s' ≡ s → IsTied t s'
 tied_same t s s' h e = subst (IsTied t) (sym e) h
 
-pub tied_more : (t : Tie) (s s' : Stored) → IsTied t s → Keeps s s' → IsTied t s'
-tied_more t s s' h k = OnTrue_from t.holds (MayCatchUp t.mirror s' t.followed) (λ e. catch_more t.mirror s s' t.followed (OnTrue_at e h) k)
+pub there_same : (t : Tie) (s s' : Stored) (ps : List Place) → AreThere (past_of t s) ps → s' ≡ s → AreThere (past_of t s') ps
+there_same t s s' ps h e = subst (λ x. AreThere (past_of t x) ps) (sym e) h
 
-pub tied_back : (t t' : Tie) (s s' : Stored) → IsTied t s → IsBack s s' → t'.mirror ≡ t.mirror → t'.holds ≡ t.holds → t'.followed ≤ t.followed → t'.followed ≤ length s'.trail
-    → IsTied t' s'
-tied_back t t' s s' h b me he le there =
-    OnTrue_from t'.holds (MayCatchUp t'.mirror s' t'.followed)
-    (λ e. subst (λ m. MayCatchUp m s' t'.followed) (sym me) (catch_back t.mirror s s' t.followed t'.followed (OnTrue_at (sym he ∙ e) h) b le there))
+pub kept_same : (t : Tie) (s s' : Stored) (ps : List Place) → s' ≡ s → kept_tuples (past_of t s') ps ≡ kept_tuples (past_of t s) ps
+kept_same t s s' ps e = ap (λ x. kept_tuples (past_of t x) ps) e
 
--- it has followed all
-pub caught : (m : Mirror) (s : Stored) (k : ℕ) → Follows m s → IsSound s → k ≡ length s.trail → MayCatchUp m s k
-caught m s k f sound e = record {
-  earlier = s;
-  sound = sound;
-  follows = f;
-  there = omega (arith, e);
-  here = omega (arith, e);
-  same = refl;
+-- the store went on
+module _ (s s' : Stored) (k : Keeps s s') where
+  longer : s'.cells ≡ s.cells ++ (front_at_mark (length s.trail) s').0
+  longer =
+      let f = front_at_mark (length s.trail) s' in
+      f.1 ∙ ap (λ (x : Stored). x.cells ++ f.0) k.1
+
+  front_more : (n : ℕ) → n ≤ length s.cells → take n s'.cells ≡ take n s.cells
+  front_more n l = ap (take n) longer ∙ take-append-le n s.cells (front_at_mark (length s.trail) s').0 l
+
+  follows_more : (n : ℕ) (d : Done) → FollowsTo n d s → FollowsTo n d s'
+  follows_more n d h = record {
+    there = omega (arith, h.there, k.0);
+    follows = h.follows ∙ ap (λ (x : Stored). bindings_in x.trail) (ap (at_mark n) (sym k.1) ∙ at_mark-at_mark n (length s.trail) s' h.there k.0);
+  }
+
+  pub past_more : (t : Tie) → IsTied t s → past_of t s' ≡ past_of t s
+  past_more t h = ap (λ z. history_of z t.log) (front_more t.cells h.within)
+
+  pub tied_more : (t : Tie) → IsTied t s → IsTied t s'
+  tied_more t h = record {
+    within = omega (arith, h.within, ap length longer, length-append s.cells (front_at_mark (length s.trail) s').0);
+    right = subst (λ z. IsRight z t.log.variables (reverse t.log.deeds)) (sym (front_more t.cells h.within)) h.right;
+    follows = OnTrue_from t.holds (FollowsTo t.followed t.log s') (λ e. follows_more t.followed t.log (OnTrue_at e h.follows));
+  }
+
+  pub there_more : (t : Tie) (ps : List Place) → IsTied t s → AreThere (past_of t s) ps → AreThere (past_of t s') ps
+  there_more t ps h a = subst (λ x. AreThere x ps) (sym (past_more t h)) a
+
+  pub kept_more : (t : Tie) (ps : List Place) → IsTied t s → kept_tuples (past_of t s') ps ≡ kept_tuples (past_of t s) ps
+  kept_more t ps h = ap (λ x. kept_tuples x ps) (past_more t h)
+
+-- all of the store is kept
+module _ (t : Tie) (s : Stored) (h : IsTied t s) where
+  -- there is room for its variables
+  pub tied_roomy : (d : Done) → d.deeds ≡ t.log.deeds → t.log.variables ≤ d.variables → IsTied (record { log = d; cells = t.cells; followed = t.followed; holds = t.holds }) s
+  tied_roomy d e l = record {
+    within = h.within;
+    right = subst (λ ds. IsRight (take t.cells s.cells) d.variables (reverse ds)) (sym e) (right_wider (take t.cells s.cells) t.log.variables d.variables (reverse t.log.deeds) h.right l);
+    follows = OnTrue_from t.holds (FollowsTo t.followed d s)
+        (λ q. (let f = OnTrue_at q h.follows in record {
+          there = f.there;
+          follows = ap (λ ds. bindings_after (reverse ds)) e ∙ f.follows;
+        }));
+  }
+
+  pub keeps_roomy : (d : Done) → d.deeds ≡ t.log.deeds → KeepsMoments (past_of t s) (history_of (take t.cells s.cells) d)
+  keeps_roomy d e = keeps_wider (past_of t s) (history_of (take t.cells s.cells) d) refl e
+
+  -- the log may follow
+  module _ (sound : IsSound s) (d : Done) (room : d ≡ with_room t.log s.variables) where
+    whole_right : IsRight s.cells d.variables (reverse d.deeds)
+    whole_right =
+        let n = max t.log.variables s.variables in
+        let is : take t.cells s.cells ++ drop t.cells s.cells ≡ s.cells = take-append-drop t.cells s.cells in
+        let w = HasCells-of s.cells s.variables s.trail sound in
+        let whole : HasCells s.cells n = record { whole = w.whole; below = λ v o. (let b = w.below v o in omega arith) } in
+        rw room (subst (λ z. IsRight z n (reverse t.log.deeds)) is
+        (right_more (take t.cells s.cells) (drop t.cells s.cells) t.log.variables n (reverse t.log.deeds) (subst (λ z. HasCells z n) (sym is) whole) (omega arith) h.right))
+
+    pub may_follow : t.holds ≡ true → MayFollow d s t.followed
+    may_follow q =
+        let f = OnTrue_at q h.follows in
+        record {
+          sound = sound;
+          there = f.there;
+          follows = ap (λ (x : Done). bindings_after (reverse x.deeds)) room ∙ f.follows;
+          room = omega (arith, ap (λ (x : Done). x.variables) room);
+          right = whole_right;
+        }
+
+    pub keeps_caught : (d' : Done) (n : ℕ) → HasDoneMore d d' → n ≡ length s.cells → KeepsMoments (past_of t s) (history_of (take n s.cells) d')
+    keeps_caught d' n m e =
+        subst (λ z. KeepsMoments (past_of t s) (history_of z d')) (take-append-drop t.cells s.cells ∙ sym (ap (λ k. take k s.cells) e ∙ take-length s.cells))
+        (keeps_grown (take t.cells s.cells) (drop t.cells s.cells) t.log d' m.more h.right (m.deeds ∙ ap (λ (x : Done). x.deeds ++ m.more) room))
+
+-- it has followed a part, or all
+pub caught_part : (d : Done) (s : Stored) (n k : ℕ) → IsRight s.cells d.variables (reverse d.deeds) → n ≡ length s.cells → IsTied (record { log = d; cells = n; followed = k; holds = false }) s
+caught_part d s n k r e = record {
+  within = omega (arith, e);
+  right = subst (λ z. IsRight z d.variables (reverse d.deeds)) (sym (ap (λ j. take j s.cells) e ∙ take-length s.cells)) r;
+  follows = tt;
 }
 
--- it has followed nothing, and there was nothing
-pub begun : (m : Mirror) (s none : Stored) → none ≡ record { cells = []; variables = 0; trail = [] } → Follows m none → IsSound none → at_mark 0 s ≡ none → MayCatchUp m s 0
-begun m s none e f sound is = record {
-  earlier = none;
-  sound = sound;
-  follows = f;
-  there = omega arith;
-  here = omega arith;
-  same = subst (λ z. at_mark 0 z ≡ at_mark 0 s) (sym e) (sym (is ∙ e));
+pub caught_all : (d : Done) (s : Stored) (n k : ℕ) → IsRight s.cells d.variables (reverse d.deeds) → n ≡ length s.cells → Follows d s → k ≡ length s.trail
+    → IsTied (record { log = d; cells = n; followed = k; holds = true }) s
+caught_all d s n k r e f i = record {
+  within = omega (arith, e);
+  right = subst (λ z. IsRight z d.variables (reverse d.deeds)) (sym (ap (λ j. take j s.cells) e ∙ take-length s.cells)) r;
+  follows = record { there = omega (arith, i); follows = f ∙ ap (λ (x : Stored). bindings_in x.trail) (sym (at_mark-here k s (omega (arith, i)))) };
 }
 
--- nothing was done that it hasn't followed
-pub level : (t : Tie) (s : Stored) → MayCatchUp t.mirror s t.followed → length s.trail ≤ t.followed → length t.mirror.notes ≤ t.followed → Follows t.mirror s
-level t s h all back =
-    let n = ap length h.follows.notes_are in
-    let is : h.earlier ≡ s =
-    sym (at_mark-here t.followed h.earlier (omega (arith, n, back))) ∙ h.same ∙ at_mark-here t.followed s all in
-    subst (Follows t.mirror) is h.follows
+pub all_kept : (d : Done) (s : Stored) (n : ℕ) → n ≡ length s.cells → history_of (take n s.cells) d ≡ history_of s.cells d
+all_kept d s n e = ap (λ z. history_of z d) (ap (λ j. take j s.cells) e ∙ take-length s.cells)
+
+-- nothing was done that it hasn't followed, and all is kept
+module _ (t : Tie) (s : Stored) (h : IsTied t s) (l : IsLevel t s) where
+  pub level_follows : Follows t.log s
+  level_follows =
+      let f = OnTrue_at l.holds h.follows in
+      f.follows ∙ ap (λ (x : Stored). bindings_in x.trail) (at_mark-here t.followed s l.notes)
+
+  pub level_all : past_of t s ≡ history_of s.cells t.log
+  level_all = ap (λ z. history_of z t.log) (take_all t.cells s.cells l.cells)

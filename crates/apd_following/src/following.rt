@@ -14,7 +14,7 @@ ghost use Rattle.apd_trace.specs.declared.frame.Called.{Called};
 ghost use Rattle.apd_term.specs.Term.{predicate_of};
 ghost use Rattle.apd_frames.specs.Measures.{MeasuresInnermost};
 ghost use Rattle.apd_frames.specs.Solves.{solution_as, Keeps};
-ghost use Rattle.apd_following.specs.Tied.{IsTied};
+ghost use Rattle.apd_following.specs.Tied.{past_of, IsTied};
 ghost use Rattle.apd_tuples.specs.Spots.{HavePlaces};
 ghost use Rattle.apd_tuples.specs.Tuples.{kept_tuples, tuple_of, AreThere, Holds};
 ghost use Rattle.apd_following.specs.Followed.{HoldsInnermost, IsKept, KeepsGoal, KeepsInstance, kept_of};
@@ -46,16 +46,16 @@ pub struct Following {
 impl Model for Following {
     ghost use Rattle.apd_frames.specs.Framed.{frames_of, AreFramed};
     ghost use Rattle.apd_following.specs.Followed.{Followed, followed_code};
-    ghost use Rattle.apd_following.specs.Tied.{IsTied};
+    ghost use Rattle.apd_following.specs.Tied.{past_of, IsTied};
     ghost use Rattle.apd_tuples.specs.Tuples.{kept_tuples, AreThere};
 
     ghost Value = { Followed };
 
     ghost coded = { followed_code };
 
-    ghost view = { λ f. record { current = (frames_of f.linked).current; saved = (frames_of f.linked).saved; tuples = kept_tuples f.tie.mirror.past f.spots } };
+    ghost view = { λ f. record { current = (frames_of f.linked).current; saved = (frames_of f.linked).saved; tuples = kept_tuples (past_of f.tie f.linked.store) f.spots } };
 
-    ghost invariant = { λ f. AreFramed f.linked × IsTied f.tie f.linked.store × AreThere f.tie.mirror.past f.spots };
+    ghost invariant = { λ f. AreFramed f.linked × IsTied f.tie f.linked.store × AreThere (past_of f.tie f.linked.store) f.spots };
 }
 
 /// A frame whose instance was kept: the box that owns it, its clause, how many of its goals are
@@ -80,23 +80,23 @@ fn keep_at(
     fact: Fact,
 ) -> Result<Numbered, AllocError>
     requires tied { IsTied tie.old store.now }
-    requires there { AreThere tie.old.mirror.past spots.old }
+    requires there { AreThere (past_of tie.old store.now) spots.old }
     requires head { head.0 < length store.now.cells }
     requires goals { HavePlaces (length store.now.cells) goals.now }
     requires fact { Holds fact (canonical_tuple (tuple_of store.now head goals.now)) }
     ensures tied { IsTied tie.new store.now }
-    ensures there { AreThere tie.new.mirror.past spots.new }
+    ensures there { AreThere (past_of tie.new store.now) spots.new }
     ensures number { IfOk result (λ n. n.number ≡ length spots.old) }
     ensures count { IfOk result (λ n. n.goals ≡ length goals.now) }
-    ensures ok { OnOk result (kept_tuples tie.new.mirror.past spots.new
-        ≡ kept_tuples tie.old.mirror.past spots.old
+    ensures ok { OnOk result (kept_tuples (past_of tie.new store.now) spots.new
+        ≡ kept_tuples (past_of tie.old store.now) spots.old
         ++ canonical_tuple (tuple_of store.now head goals.now) ∷ []) }
-    ensures err { OnErr result (kept_tuples tie.new.mirror.past spots.new
-        ≡ kept_tuples tie.old.mirror.past spots.old) }
+    ensures err { OnErr result (kept_tuples (past_of tie.new store.now) spots.new
+        ≡ kept_tuples (past_of tie.old store.now) spots.old) }
 {
     tie.catch_up(store)?;
-    let moment = tie.mirror.past.moment();
-    let numbered = spots.push(tie.mirror.places.as_slice(), head, goals, moment, fact)?;
+    let moment = tie.log.moment();
+    let numbered = spots.push(head, goals, moment, fact)?;
     Ok(numbered)
 }
 
@@ -271,7 +271,8 @@ impl Following {
         ensures saved { self.new.saved ≡ self.old.saved }
         ensures tuples { self.new.tuples ≡ self.old.tuples }
     {
-        self.linked.restore();
+        let kept = self.tie.front();
+        self.linked.restore(kept);
         self.tie.go_back(&self.linked.store);
     }
 
@@ -377,7 +378,7 @@ impl Following {
         ensures { result ≡ self.tuples }
     {
         let Following { linked, tie, spots } = self;
-        drop(linked);
-        KeptTuples::new(tie.into_past(), spots)
+        let cells = linked.store.into_cells();
+        KeptTuples::new(tie.into_past(cells), spots)
     }
 }

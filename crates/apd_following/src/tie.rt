@@ -1,62 +1,86 @@
-//! A mirror that follows a store from time to time.
+//! A log that follows a store from time to time, and which of the store's cells are kept.
 
-ghost use Rattle.std.specs.Prelude.{◌≡◌, OnOk, [], length, min};
+ghost use Rattle.std.specs.Prelude.{◌≡◌, ℕ, [], List, OnOk, reverse, take};
 ghost use Rattle.std.specs.Bool.{OnTrue};
+ghost use Rattle.apd_term.specs.declared.term.Sym.{Sym};
 ghost use Rattle.apd_cells.specs.Stored.{Stored};
-ghost use Rattle.apd_cells.specs.Store.{at_mark, IsSound};
+ghost use Rattle.apd_cells.specs.Store.{IsSound};
 ghost use Rattle.apd_past.specs.Follows.{Follows};
-ghost use Rattle.apd_past.specs.History.{KeepsMoments};
-ghost use Rattle.apd_following.specs.Tied.{IsBack, IsTied};
+ghost use Rattle.apd_past.specs.History.{history_of, HasDoneMore, IsRight, KeepsMoments};
+ghost use Rattle.apd_cells.specs.Live.{store_of};
+ghost use Rattle.apd_following.specs.Tied.{front_of, past_of, IsAhead, IsBack, IsLevel, IsTied};
 
-use apd_past::mirror::Mirror;
+use apd_cells::front::Front;
+use apd_cells::live::Live;
+use apd_past::log::Log;
 use apd_past::past::Past;
+use apd_term::Sym;
 use apd_unify::store::Store;
 use std::alloc::{AllocError, Global};
 
-/// A mirror, and how far it has followed a store.
+/// A log, and how far it has followed a store.
 #[derive(Drop)]
 pub struct Tie {
-    pub mirror: Mirror,
+    pub log: Log,
+    /// So many of the store's first cells are kept, with the variables of the log.
+    pub cells: usize,
     /// So many notes of the store's trail it has followed, and these are there still.
     pub followed: usize,
     /// After want of memory it follows no store any more.
     pub holds: bool,
 }
 
-fn smaller(a: usize, b: usize) -> usize
-    ensures { result ≡ min a b }
+/// Frees variables that were bound last, as far as they are free in the store.
+fn free_newest(log: &mut Log, store: &Store) -> Result<(), AllocError>
+    requires { IsAhead log.old store.now }
+    ensures follows { OnOk result (Follows log.new store.now) }
+    ensures right { (cells : List Sym) (n : ℕ) → IsRight cells n (reverse log.old.deeds) →
+        IsRight cells n (reverse log.new.deeds) }
+    ensures more { HasDoneMore log.old log.new }
 {
-    if b < a {
-        return b;
+    'bound: while let Some(v) = log.newest() {
+        if !store.is_free(v) {
+            return Ok(());
+        }
+        log.unbind()?;
     }
-    a
+    Ok(())
 }
 
 impl Tie {
-    /// The past of any store that begins without a term.
+    /// The log of any store that begins without a term. Nothing is kept.
     pub fn new(alloc: Global) -> Tie
-        ensures { (s : Stored) →
-            at_mark 0 s ≡ record { cells = []; variables = 0; trail = [] } → IsTied result s }
+        ensures { (s : Stored) → IsTied result s }
     {
         Tie {
-            mirror: Mirror::new(alloc),
+            log: Log::new(alloc),
+            cells: 0,
             followed: 0,
             holds: true,
         }
     }
 
-    /// Whether it has followed all that was done to a store whose trail has so many notes. False says nothing.
-    fn is_level(&self, notes: usize) -> bool
-        ensures { (s : Stored) → notes ≡ length s.trail → IsTied self.now s →
-            OnTrue result (Follows self.now.mirror s) }
+    /// What is kept of the store.
+    pub fn front(&self) -> Front
+        ensures { result ≡ front_of self.now }
+    {
+        Front {
+            cells: self.cells,
+            variables: self.log.variables(),
+        }
+    }
+
+    /// Whether it has followed all that was done to a store with these parts, and all cells are kept. False says nothing.
+    fn is_level(&self, live: &Live<'_>) -> bool
+        ensures { OnTrue result (IsLevel self.now (store_of live.now)) }
     {
         if !self.holds {
             return false;
         }
-        if self.followed < notes {
+        if self.followed < live.notes.len() {
             return false;
         }
-        if self.followed < self.mirror.notes.len() {
+        if self.cells < live.cells.len() {
             return false;
         }
         true
@@ -68,49 +92,71 @@ impl Tie {
     fn follow(&mut self, store: &Store) -> Result<(), AllocError>
         requires { IsTied self.old store.now }
         ensures tied { IsTied self.new store.now }
-        ensures follows { OnOk result (Follows self.new.mirror store.now) }
-        ensures kept { KeepsMoments self.old.mirror.past self.new.mirror.past }
+        ensures follows { OnOk result (Follows self.new.log store.now) }
+        ensures all { OnOk result
+            (past_of self.new store.now ≡ history_of store.now.cells self.new.log) }
+        ensures kept { KeepsMoments (past_of self.old store.now) (past_of self.new store.now) }
     {
         if !self.holds {
             return Err(AllocError);
         }
         let live = store.live();
+        self.log.make_room(live.variables)?;
+        self.cells = live.cells.len();
         self.holds = false;
-        self.mirror.catch_up(&live, self.followed)?;
+        self.log.follow(&live, self.followed)?;
         self.followed = live.notes.len();
         self.holds = true;
         Ok(())
     }
 
-    /// Catches up with the store. What was at earlier moments stays.
+    /// Catches up with the store, all of whose cells are kept then. What was at earlier moments stays.
     #[inline(always)]
     pub fn catch_up(&mut self, store: &Store) -> Result<(), AllocError>
         requires { IsTied self.old store.now }
         ensures tied { IsTied self.new store.now }
-        ensures follows { OnOk result (Follows self.new.mirror store.now) }
+        ensures follows { OnOk result (Follows self.new.log store.now) }
         ensures sound { OnOk result (IsSound store.now) }
-        ensures kept { KeepsMoments self.old.mirror.past self.new.mirror.past }
+        ensures all { OnOk result
+            (past_of self.new store.now ≡ history_of store.now.cells self.new.log) }
+        ensures kept { KeepsMoments (past_of self.old store.now) (past_of self.new store.now) }
     {
         let live = store.live();
-        if self.is_level(live.notes.len()) {
+        if self.is_level(&live) {
             return Ok(());
         }
         self.follow(store)
     }
 
-    /// The store went back to an earlier mark.
+    /// The store went back to an earlier mark. What was at earlier moments stays.
     pub fn go_back(&mut self, store: &Store)
-        ensures tied { (s : Stored) → IsTied self.old s → IsBack s store.now →
-            IsTied self.new store.now }
-        ensures past { self.new.mirror ≡ self.old.mirror }
+        requires { IsBack self.old store.now }
+        ensures tied { IsTied self.new store.now }
+        ensures kept { KeepsMoments (past_of self.old store.now) (past_of self.new store.now) }
     {
-        self.followed = smaller(self.followed, store.mark().0);
+        if !self.holds {
+            return;
+        }
+        let notes = store.mark().0;
+        if self.followed <= notes {
+            return;
+        }
+        self.followed = notes;
+        self.holds = free_newest(&mut self.log, store).is_ok();
     }
 
-    /// The past.
-    pub fn into_past(self) -> Past
-        ensures { result ≡ self.mirror.past }
+    /// The past, where these are the store's cells.
+    pub fn into_past(self, cells: Vec<Sym>) -> Past
+        requires { IsRight (take self.cells cells.items) self.log.variables (reverse self.log.deeds) }
+        ensures { result ≡ history_of (take self.cells cells.items) self.log }
     {
-        self.mirror.past
+        let Tie {
+            log,
+            cells: kept,
+            ..
+        } = self;
+        let mut cells = cells;
+        cells.truncate(kept);
+        Past::of(cells, log)
     }
 }

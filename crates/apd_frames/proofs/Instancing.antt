@@ -2,13 +2,14 @@
 use Rattle.std.proofs.Common.{◌≡◌, ℕ, zero, suc, ◌+◌, ◌<◌, List, [], ◌∷◌, ◌++◌, length, get_or, take, map, refl, sym, ◌∙◌, ap, subst, arith, Bool, true, false}
 use Rattle.std.specs.List.{flat_map}
 use Rattle.std.proofs.lemmas.List.{map_more, map-append, length-append}
-use Rattle.apd_term.specs.Term.{Term, variable, integer, compound, apply, spell, variables, IsAmong, Occurs}
+use Rattle.apd_term.specs.Term.{Term, variable, apply, spell, variables, IsAmong, Occurs}
 use Rattle.apd_term.specs.Substitution.{followed_by}
 use Rattle.apd_term.specs.Canonical.{shifted}
 use Rattle.apd_term.specs.declared.tuple.Tuple.{Tuple}
 use Rattle.apd_term.proofs.Among.{IsAmong-left, IsAmong-right}
 use Rattle.apd_term.proofs.Applying.{apply-followed_by, apply-same, apply-variable}
 use Rattle.apd_term.proofs.Variants.{apply-agree}
+use Rattle.apd_term.proofs.Spelling.{some_symbol}
 use Rattle.apd_unify.specs.Unifier.{HasNoUnifier}
 use Rattle.apd_unify.specs.declared.store.Cell.{Cell}
 use Rattle.apd_unify.specs.Copies.{HasShared}
@@ -67,11 +68,6 @@ pub record AreLoaded (old s : Stored) (base : ℕ) (terms : List Term) (i : ℕ)
 pub loaded_none : (s : Stored) (base : ℕ) (terms : List Term) (cs : List Cell) → cs ≡ [] → AreLoaded s s base terms 0 cs
 loaded_none s base terms cs e = rw e (record { grown = grown_self s; made = refl; inside = tt })
 
-spelled : (t : Term) → 0 < length (spell t)
-spelled (variable v) = omega arith
-spelled (integer i) = omega arith
-spelled (compound f ts) = omega arith
-
 pub loaded_more : (old s new : Stored) (base : ℕ) (terms : List Term) (i : ℕ) (cs out : List Cell) (t : Term) (c : Cell) → AreLoaded old s base terms i cs
     → i < length terms → t ≡ get_or terms i t → new ≡ loaded s t base → Keeps s new → ((d : ℕ) → d < length s.cells → term_at new d ≡ term_at s d)
     → c.0 ≡ length s.cells → term_at new c.0 ≡ apply (meaning s.cells s.trail) (shifted base t) → out ≡ cs ++ c ∷ [] → AreLoaded old new base terms (i + 1) out
@@ -85,7 +81,7 @@ loaded_more old s new base terms i cs out t c h l at is k o here made e =
           ∙ ap (λ ts. ts ++ term_at new c.0 ∷ []) (terms_same s new cs h.inside o ∙ h.made)
           ∙ ap (λ x. map (raised_in old base) (take i terms) ++ x ∷ []) (one ∙ ap (raised_in old base) at)
           ∙ sym (map_more (raised_in old base) terms i t l);
-      inside = inside_one (length new.cells) cs c (inside_more (length s.cells) (length new.cells) cs (omega (arith, n)) h.inside) (omega (arith, n, here, spelled (shifted base t)));
+      inside = inside_one (length new.cells) cs c (inside_more (length s.cells) (length new.cells) cs (omega (arith, n)) h.inside) (omega (arith, n, here, some_symbol (shifted base t)));
     })
 
 pub among_atom : (ts : List Term) (i v : ℕ) (d : Term) → i < length ts → IsAmong (variables (get_or ts i d)) v → IsAmong (flat_map variables ts) v
@@ -113,7 +109,7 @@ inside_or n (c ∷ cs) (suc i) d h l = inside_or n cs i d h.1 (omega arith)
 pub inside_new : (old new : Stored) (t : Term) (base c : ℕ) → new ≡ loaded old t base → c ≡ length old.cells → c < length new.cells
 inside_new old new t base c e is =
     let n : length new.cells ≡ length old.cells + length (spell (shifted base t)) = ap (λ (z : Stored). length z.cells) e ∙ length-append old.cells (spell (shifted base t)) in
-    omega (arith, n, is, spelled (shifted base t))
+    omega (arith, n, is, some_symbol (shifted base t))
 
 -- an instance that isn't there
 pub no_instance : (b : Bool) (head : Cell) (goals : List Cell) (old new : Stored) (goal : ℕ) (rule : Tuple) → b ≡ false → Instantiates (instance_where b head goals) old new goal rule → HasNoUnifier (term_at old goal) (shifted_tuple old.variables rule).head

@@ -3,6 +3,7 @@ pub mod Numbers
 pub mod Linking
 pub mod Spans
 pub mod Branching
+pub mod Longer
 pub mod Instancing
 pub mod Current
 pub mod Entering

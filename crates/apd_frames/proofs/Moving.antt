@@ -8,7 +8,11 @@ use Rattle.apd_term.specs.declared.tuple.Tuple.{Tuple}
 use Rattle.apd_unify.specs.Unifier.{HasNoUnifier}
 use Rattle.apd_unify.specs.declared.store.Cell.{Cell}
 use Rattle.apd_cells.specs.Stored.{Stored}
-use Rattle.apd_cells.specs.Store.{term_at, meaning, at_mark, loaded, Keeps}
+use Rattle.apd_cells.specs.declared.front.Front.{Front}
+use Rattle.apd_cells.specs.Store.{term_at, meaning, at_mark, loaded, Keeps, IsSound}
+use Rattle.apd_cells.specs.Undone.{undone, HasMoreCells}
+use Rattle.apd_cells.proofs.Longer.{sound_at_mark}
+use Rattle.apd_cells.proofs.Undone.{undone_more}
 use Rattle.apd_cells.specs.Numbered.{IsNumbered}
 use Rattle.apd_cells.specs.First.{AreApart}
 use Rattle.apd_cells.proofs.Keeping.{meaning-loaded}
@@ -29,6 +33,7 @@ use Rattle.apd_frames.specs.Linked.{frame_in, frames_at, oldest, saved_of, enter
 use Rattle.apd_frames.proofs.Linking.{frames_newest, frames_below, tuple_of, with_tuple}
 use Rattle.apd_ports.specs.declared.point.TheConstants.{BUILTIN}
 use Rattle.apd_frames.proofs.Branching.{framed_kept, framed_link, framed_there, saved-branch, framed_branch, saved-link, saved-kept, saved-forgotten, marked-forgotten}
+use Rattle.apd_frames.proofs.Longer.{framed_more, frames_more, saved_more}
 use Rattle.apd_frames.proofs.Instancing.{loaded_free, terms_same}
 use Rattle.apd_frames.proofs.Current.{view_of, IsInnermost, front_applied}
 use Rattle.apd_frames.proofs.Entering.{enters_apart, enters_none, enters_some}
@@ -150,21 +155,32 @@ pub saves_framed : (s : Stored) (links : List Link) (k : ℕ) (bs bs' : List Bra
 saves_framed s links k bs bs' b f at e = rw e (framed_branch s s links k bs b at (Keeps-self s) f k (omega arith) f.within)
 
 -- back at the newest branch, which stays
-module _ (s s' : Stored) (links links' : List Link) (k : ℕ) (bs rest : List Branch) (b : Branch) (f : IsFramed s links k bs) (e : bs ≡ b ∷ rest) (se : s' ≡ at_mark b.mark.0 s) (le : links' ≡ oldest b.links links) where
+module _ (kept : Front) (s s' : Stored) (links links' : List Link) (k : ℕ) (bs rest : List Branch) (b : Branch) (f : IsFramed s links k bs) (e : bs ≡ b ∷ rest) (sound : IsSound s)
+    (se : s' ≡ undone kept b.mark.0 s) (le : links' ≡ oldest b.links links) where
   framed_first : IsFramed s links k (b ∷ rest)
   framed_first = subst (IsFramed s links k) e f
 
   framed_here : IsFramed (at_mark b.mark.0 s) (oldest b.links links) b.innermost (b ∷ rest)
   framed_here = framed_there s links b framed_first.marked.0 framed_first.marked.1 k rest framed_first
 
+  more_here : HasMoreCells (at_mark b.mark.0 s) (undone kept b.mark.0 s)
+  more_here = undone_more kept b.mark.0 s sound
+
+  sound_here : IsSound (at_mark b.mark.0 s)
+  sound_here = sound_at_mark b.mark.0 s sound
+
   pub restores_framed : IsFramed s' links' b.innermost bs
-  restores_framed = rw (se, le, e) framed_here
+  restores_framed = rw (se, le, e) (framed_more (at_mark b.mark.0 s) (undone kept b.mark.0 s) (oldest b.links links) b.innermost (b ∷ rest) more_here sound_here framed_here)
 
   pub restores_saved : saved_of s' links' bs ≡ saved_of s links bs
-  restores_saved = rw (se, le, e) (saved-forgotten s links b framed_first.marked.0 framed_first.marked.1 (b ∷ rest) framed_here.marked)
+  restores_saved = rw (se, le, e)
+      (saved_more (at_mark b.mark.0 s) (undone kept b.mark.0 s) (oldest b.links links) (b ∷ rest) more_here sound_here framed_here.marked
+      ∙ saved-forgotten s links b framed_first.marked.0 framed_first.marked.1 (b ∷ rest) framed_here.marked)
 
   pub restores_current : saved_of s links bs ≡ frames_at s' links' b.innermost ∷ drop 1 (saved_of s links bs)
-  restores_current = rw (se, le, e) refl
+  restores_current = rw (se, le, e)
+      (ap (λ F. F ∷ saved_of (at_mark b.mark.0 s) (oldest b.links links) rest)
+      (sym (frames_more (at_mark b.mark.0 s) (undone kept b.mark.0 s) (oldest b.links links) b.innermost more_here sound_here framed_here.placed)))
 
 pub forgets_framed : (s : Stored) (links : List Link) (k : ℕ) (bs bs' : List Branch) (o : Option Branch) → IsFramed s links k bs → MatchOption o ((bs ≡ []) × (bs' ≡ [])) (λ b. bs ≡ b ∷ bs') → IsFramed s links k bs'
 forgets_framed s links k bs bs' None f h = rw h.1 (record { placed = f.placed; within = f.within; marked = tt })

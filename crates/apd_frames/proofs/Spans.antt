@@ -2,7 +2,7 @@
 use Rattle.std.proofs.Common.{◌≡◌, ℕ, zero, suc, ◌+◌, ◌-◌, ◌≤◌, List, [], ◌∷◌, ◌++◌, length, take, drop, map, refl, sym, ◌∙◌, ap, subst, arith, Option, Some, None, Result, Ok, Err}
 use Rattle.std.specs.Prelude.{reverse, slice_get, OnErr}
 use Rattle.std.specs.Option.{option_map}
-use Rattle.std.proofs.lemmas.List.{reverse-append, map-append, length-append, length-map, length-take-le, take-append-le, take_all}
+use Rattle.std.proofs.lemmas.List.{reverse-append, map-append, length-append, length-map, length-take-le, take-append-le, take_all, take-take, drop-map}
 use Rattle.std.proofs.lemmas.Option.{slice_get-map}
 use Rattle.std.proofs.Math.Seq.{take-append-add, drop-append_seam}
 use Rattle.apd_unify.specs.declared.store.Cell.{Cell}
@@ -12,12 +12,6 @@ use Rattle.apd_frames.specs.Links.{Link, instance_of, link_of, goals_in, link_in
 use Rattle.apd_frames.specs.Linked.{numbered, oldest}
 use Rattle.apd_frames.proofs.Linking.{numbered-zero, numbered-reverse, oldest-reverse}
 
-front_of : {X : Type 0} (k n : ℕ) (xs : List X) → k ≤ n → take k (take n xs) ≡ take k xs
-front_of zero n xs h = refl
-front_of (suc k) zero xs h = absurd (omega arith)
-front_of (suc k) (suc n) [] h = refl
-front_of (suc k) (suc n) (x ∷ xs) h = ap (λ ys. x ∷ ys) (front_of k n xs (omega arith))
-
 map-reverse : {X Y : Type 0} (f : X → Y) (xs : List X) → map f (reverse xs) ≡ reverse (map f xs)
 map-reverse f [] = refl
 map-reverse f (x ∷ xs) =
@@ -25,11 +19,6 @@ map-reverse f (x ∷ xs) =
     ∙ map-append f (reverse xs) (x ∷ [])
     ∙ ap (λ ys. ys ++ f x ∷ []) (map-reverse f xs)
     ∙ sym (reverse-append (f x ∷ []) (map f xs))
-
-map-drop : {X Y : Type 0} (f : X → Y) (k : ℕ) (xs : List X) → map f (drop k xs) ≡ drop k (map f xs)
-map-drop f zero xs = refl
-map-drop f (suc k) [] = refl
-map-drop f (suc k) (x ∷ xs) = map-drop f k xs
 
 spanned_more : (n m : ℕ) (rows : List LinkRow) → n ≤ m → AreSpanned n rows → AreSpanned m rows
 spanned_more n m [] le h = tt
@@ -64,7 +53,7 @@ with_cells r goals =
 -- two lists of cells have the same first n
 module _ (n : ℕ) (xs ys : List Cell) (same : take n xs ≡ take n ys) where
   goals_same : (r : LinkRow) → r.to ≤ n → goals_in xs r ≡ goals_in ys r
-  goals_same r le = ap (drop r.from) (sym (front_of r.to n xs le) ∙ ap (take r.to) same ∙ front_of r.to n ys le)
+  goals_same r le = ap (drop r.from) (sym (take-take r.to n xs le) ∙ ap (take r.to) same ∙ take-take r.to n ys le)
 
   links_same : (rows : List LinkRow) (m : ℕ) → m ≤ n → AreSpanned m rows → links_in xs rows ≡ links_in ys rows
   links_same [] m le h = refl
@@ -158,10 +147,10 @@ module _ (cells : List Cell) (rows : List LinkRow) (count : ℕ) (h : AreSpanned
   kept_links =
       let f = link_in cells in
       let n : length (map f (reverse rows)) ≡ length (reverse rows) = length-map (reverse rows) f in
-      links_same (cells_of left) (take (cells_of left) cells) cells (front_of (cells_of left) (cells_of left) cells (omega arith)) left (cells_of left) (omega arith)
+      links_same (cells_of left) (take (cells_of left) cells) cells (take-take (cells_of left) (cells_of left) cells (omega arith)) left (cells_of left) (omega arith)
       (spanned_own (length cells) left left_spanned)
       ∙ ap (map f) (oldest-reverse rows count)
-      ∙ map-drop f (length (reverse rows) - count) (reverse rows)
+      ∙ sym (drop-map f (length (reverse rows) - count) (reverse rows))
       ∙ ap (λ k. drop (k - count) (map f (reverse rows))) (sym n)
 
   -- the same, as what the calls make of them

@@ -1,6 +1,8 @@
 -- The frames that links over a store are, and what is kept of the store.
 use Rattle.std.specs.Prelude.{◌≡◌, ℕ, ◌≤◌, [], length}
+use Rattle.apd_cells.specs.declared.front.Front.{Front}
 use Rattle.apd_cells.specs.Store.{Keeps, at_mark}
+use Rattle.apd_cells.specs.Undone.{undone}
 use Rattle.apd_frames.specs.declared.linked.Linked.{Linked}
 use Rattle.apd_frames.specs.Kept.{Kept}
 use Rattle.apd_frames.specs.Linked.{frames_at, saved_of, IsFramed}
@@ -28,6 +30,6 @@ BeginsEmpty l = at_mark 0 l.store ≡ record { cells = []; variables = 0; trail 
 abbrev pub KeepsStore : Linked → Linked → Type 0
 KeepsStore old new = Keeps old.store new.store
 
--- the store is what it was at an earlier mark
-abbrev pub GoesBack : Linked → Linked → Type 0
-GoesBack old new = (k : ℕ) × (k ≤ length old.store.trail) × (new.store ≡ at_mark k old.store)
+-- the store is what undoing leaves of it at an earlier mark, where this front of the cells is kept
+abbrev pub GoesBack : Front → Linked → Linked → Type 0
+GoesBack kept old new = (k : ℕ) × (k ≤ length old.store.trail) × (new.store ≡ undone kept k old.store)

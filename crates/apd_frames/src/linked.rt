@@ -9,6 +9,8 @@ ghost use Rattle.apd_trace.specs.Renaming.{AreAlike};
 ghost use Rattle.apd_frames.specs.Kept.{Calls, Enters, IsKey, MayCall, Takes, Points, ahead_of, exit_in, fits, newest_of};
 ghost use Rattle.apd_trace.specs.declared.frame.Called.{Called};
 ghost use Rattle.apd_term.specs.Term.{predicate_of};
+ghost use Rattle.apd_cells.specs.Store.{IsSound};
+ghost use Rattle.apd_cells.specs.Undone.{IsFront};
 ghost use Rattle.apd_frames.specs.Linked.{IsBranchAt};
 ghost use Rattle.apd_frames.specs.Measures.{MeasuresInnermost};
 ghost use Rattle.apd_frames.specs.Framed.{frames_of, AreFramed, BeginsEmpty, GoesBack, IsSame, KeepsStore};
@@ -21,6 +23,7 @@ use crate::links::{Branch, KeptBranch, Links, entered};
 use crate::measuring::{Measure, measured};
 use crate::reading::{ahead, goal_depth, left, look, next_goal};
 use crate::settling::{predicate_at, settle};
+use apd_cells::front::Front;
 use apd_cells::stack::Stack;
 use apd_clauses::Program;
 use apd_ports::BUILTIN;
@@ -31,7 +34,7 @@ use apd_unify::scratch::Scratch;
 use apd_unify::store::Store;
 use std::alloc::{AllocError, Global};
 
-/// Links over a store, and the branches. Clauses see all parts; what frames they are is `frames_of` them.
+/// Links over a store, and the branches. Contracts see all parts; what frames they are is `frames_of` them.
 #[derive(Drop)]
 pub struct Linked {
     pub store: Store,
@@ -345,21 +348,23 @@ impl Linked {
         Ok(())
     }
 
-    /// Goes back to the frames as they were at the newest choice. They stay saved.
-    pub fn restore(&mut self)
+    /// Goes back to the frames as they were at the newest choice. They stay saved, and so does a front of the cells.
+    pub fn restore(&mut self, kept: Front)
         requires framed { AreFramed self.old }
         requires some { 0 < length (frames_of self.old).saved }
+        requires front { IsFront kept self.old.store.cells }
         ensures framed { AreFramed self.new }
         ensures current { (frames_of self.old).saved
             ≡ (frames_of self.new).current ∷ drop 1 (frames_of self.old).saved }
         ensures saved { (frames_of self.new).saved ≡ (frames_of self.old).saved }
-        ensures store { GoesBack self.old self.new }
+        ensures store { GoesBack kept self.old self.new }
+        ensures sound { IsSound self.old.store }
     {
         match self.branches.top() {
             None => unreachable!(),
             Some(newest) => {
                 let branch = newest.get();
-                self.store.undo(branch.mark);
+                self.store.go_back(branch.mark, kept);
                 self.links.keep(branch.links);
                 self.innermost = branch.innermost;
             }

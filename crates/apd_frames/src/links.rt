@@ -51,7 +51,7 @@ pub struct Branch {
     pub innermost: usize,
 }
 
-/// A branch as it is kept. Clauses see the branch.
+/// A branch as it is kept. Contracts see the branch.
 #[derive(Drop)]
 pub struct KeptBranch {
     mark: u32,
@@ -68,7 +68,7 @@ impl Model for KeptBranch {
     ghost view = { λ b. branch_in b.mark b.links b.innermost };
 }
 
-/// Links, numbered from 1. Clauses see their list, the newest first.
+/// Links, numbered from 1. Contracts see their list, the newest first.
 #[derive(Drop)]
 pub struct Links {
     oldest_first: Vec<LinkRow>,

@@ -2,6 +2,7 @@
 use Rattle.std.proofs.Common.{◌≡◌, ◌⊎◌, inl, inr, ℕ, ◌+◌, ◌<◌, ◌≤◌, List, length, get_or, sym, ap, ◌∙◌, subst, arith}
 use Rattle.std.proofs.lemmas.Bool.Decides.{eqb_tells}
 use Rattle.apd_term.specs.Term.{Term}
+use Rattle.apd_marks.specs.declared.positions.Parent.{Parent}
 use Rattle.apd_index.specs.Columns.{AddsOf, EndsAt, IsIn, column_at, tagged}
 use Rattle.apd_index.specs.Nodes.{AreSlots, IsNumber, IsNumberIn, KeepsNumbers}
 use Rattle.apd_index.specs.Subterms.{digest, digests, position, positions, subterms}
@@ -9,7 +10,6 @@ use Rattle.apd_index.specs.Table.{AddsNext, PutsNext, parent_of}
 use Rattle.apd_index.specs.declared.columns.Columns.{Columns}
 use Rattle.apd_index.specs.declared.columns.ColumnEntry.{ColumnEntry}
 use Rattle.apd_index.specs.declared.nodes.Nodes.{Nodes}
-use Rattle.apd_index.specs.declared.positions.Parent.{Parent}
 use Rattle.apd_index.specs.declared.walk.Open.{Open}
 use Rattle.apd_index.proofs.Numbering.{same-number}
 use Rattle.apd_index.proofs.Parts.{stands-where}

@@ -5,19 +5,19 @@ use Rattle.apd_term.specs.Term.{IsAmong, IsGround, Term, apply, variable}
 use Rattle.apd_term.specs.declared.term.Sym.{Sym}
 use Rattle.apd_term.specs.Substitution.{IsInstance}
 use Rattle.apd_term.proofs.Ground.{apply-ground}
-use Rattle.apd_marks.specs.Positions.{any_term, whole}
+use Rattle.apd_marks.specs.Positions.{any_term, noted, whole}
 use Rattle.apd_index.specs.Columns.{AddsOf, HasColumns, IsAlike, IsIn, column_at, tagged}
 use Rattle.apd_index.specs.Nodes.{IsNumber, IsSound, KeepsNumbers, noted_at}
 use Rattle.apd_index.specs.Table as tables
 use Rattle.apd_index.specs.Spots.{AllLeave, IsSpot}
-use Rattle.apd_index.specs.Subterms.{IsAt, digest, noted}
+use Rattle.apd_index.specs.Subterms.{IsAt, digest}
 use Rattle.apd_index.specs.declared.columns.Columns.{Columns}
 use Rattle.apd_index.specs.declared.columns.ColumnEntry.{ColumnEntry}
 use Rattle.apd_index.specs.declared.nodes.Nodes.{Nodes}
-use Rattle.apd_index.specs.declared.positions.Parent.{Parent}
 use Rattle.apd_index.specs.declared.sharing.SymbolSpot.{SymbolSpot}
 use Rattle.apd_index.specs.declared.walk.Table.{Table}
 use Rattle.apd_marks.specs.Places.{Index, places_at}
+use Rattle.apd_marks.specs.declared.positions.Parent.{Parent}
 use Rattle.apd_index.specs.Retrieval.{AreSpecials, AreWholes, root_mark}
 use Rattle.apd_bits.specs.Rows.{HasBit, HasBits, IsWithin}
 use Rattle.apd_index.proofs.Parts.{instance-at, root-stays}

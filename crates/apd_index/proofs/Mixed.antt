@@ -1,6 +1,6 @@
 -- The digests of terms that stand one after another, and the stack that keeps them, the first on top.
 use Rattle.std.proofs.Common.{◌≡◌, ◌≤◌, ◌<◌, ℕ, zero, suc, ◌-◌, List, [], ◌∷◌, ◌++◌, length, map, take, drop, reverse, get_or, refl, sym, ◌∙◌, ap, arith, append_assoc}
-use Rattle.std.proofs.lemmas.List.{append-nil, drop_all, drop_at, drop-map, length-drop, length-reverse, map-append, reverse-append, reverse-reverse, take_at, take_rest, take-append-drop, take-map}
+use Rattle.std.proofs.lemmas.List.{append-nil, drop_all, drop_at, drop-map, length-drop, length-reverse, map-append, reverse-append, reverse-reverse, take_at, take_rest, take-append-drop, take-map, take_all}
 use Rattle.apd_arith.proofs.Values.{one_back}
 use Rattle.apd_term.specs.Term.{Term, Terms, variable, integer, compound, none, more, list_of, terms_of, first_of, read_all, spell, spell_all, term_of, arity_of}
 use Rattle.apd_term.specs.declared.term.Sym.{Sym}
@@ -10,7 +10,6 @@ use Rattle.apd_term.proofs.Spelling.{list_of-terms_of}
 use Rattle.apd_marks.specs.Mixing.{mixed}
 use Rattle.apd_marks.specs.Positions.{top}
 use Rattle.apd_index.specs.Subterms.{Subterm, bare, digest, digests, digests_of, joined, position_below, subterms_below}
-use Rattle.apd_bits.proofs.Lists.{all-taken}
 
 -- The last n of a list are the first n of its reverse.
 
@@ -27,7 +26,7 @@ module _ (xs : List ℕ) (n : ℕ) where
       by : (k : ℕ) → length xs - n ≡ k → drop (length xs - n) xs ≡ reverse (take n (reverse xs))
       by zero e =
           ap (λ (k : ℕ). drop k xs) e
-          ∙ sym (ap reverse (all-taken (reverse xs) n (omega (arith, e, length-reverse xs))) ∙ reverse-reverse xs)
+          ∙ sym (ap reverse (take_all n (reverse xs) (omega (arith, e, length-reverse xs))) ∙ reverse-reverse xs)
       by (suc k) e =
           let l : n ≤ length xs = omega (arith, e) in
           sym (ap reverse (ap (take n) turned ∙ take_at (reverse (drop (length xs - n) xs)) (reverse (take (length xs - n) xs)) n (turned-length l)) ∙ reverse-reverse (drop (length xs - n) xs))

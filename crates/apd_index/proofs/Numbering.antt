@@ -3,12 +3,12 @@ use Rattle.std.proofs.Common.{◌≡◌, ◌⊎◌, inl, inr, ℕ, ◌+◌, ◌<
 use Rattle.std.specs.Prelude.{if◌then◌else◌, nat_eq}
 use Rattle.std.proofs.lemmas.Bool.{eqb-true}
 use Rattle.indexmap.specs.IndexMap.{get}
+use Rattle.apd_marks.specs.declared.positions.Parent.{Parent}
 use Rattle.apd_index.specs.Nodes.{HasLinks, HasRow, IsFounder, KeepsFounders, founder_at, founder_of, IsNumber, IsNumberIn, IsNumberOf, IsRight, IsSound, KeepBits, KeepChains, places}
 use Rattle.apd_index.specs.declared.nodes.PlaceLink.{PlaceLink}
 use Rattle.apd_index.specs.declared.nodes.SymbolNode.{SymbolNode}
 use Rattle.apd_index.specs.declared.nodes.Nodes.{Nodes}
 use Rattle.apd_index.specs.declared.nodes.Slots.{Slots}
-use Rattle.apd_index.specs.declared.positions.Parent.{Parent}
 use Rattle.apd_index.proofs.Noding.{place_of, row-still}
 
 -- a position has one number

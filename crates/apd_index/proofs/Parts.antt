@@ -6,9 +6,9 @@ use Rattle.apd_term.specs.declared.term.Sym.{Sym}
 use Rattle.apd_term.specs.declared.term.Sym.TheVariants.{Var, Int, Fun}
 use Rattle.apd_term.proofs.Spelling.{length-apply_all}
 use Rattle.apd_marks.specs.Mixing.{mixed}
-use Rattle.apd_marks.specs.Positions.{top}
-use Rattle.apd_index.specs.declared.positions.Parent.{Parent}
-use Rattle.apd_index.specs.Subterms.{IsAt, Stands, Subterm, digest, digests, noted, position, position_below, positions, root, subterms, subterms_at, subterms_below}
+use Rattle.apd_marks.specs.Positions.{noted, top}
+use Rattle.apd_marks.specs.declared.positions.Parent.{Parent}
+use Rattle.apd_index.specs.Subterms.{IsAt, Stands, Subterm, digest, digests, position, position_below, positions, root, subterms, subterms_at, subterms_below}
 
 -- The symbols that they begin with are those of the term.
 

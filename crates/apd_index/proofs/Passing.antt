@@ -1,48 +1,21 @@
 -- The walk over a term's symbols notes the positions of its subterms.
-use Rattle.std.proofs.Common.{◌≡◌, ℕ, suc, ◌+◌, ◌-◌, ◌<◌, ◌≤◌, ◌==◌, ◌++◌, if◌then◌else◌, Bool, true, false, List, [], ◌∷◌, length, map, drop, get_or, refl, sym, ap, ◌∙◌, arith, append_assoc}
+use Rattle.std.proofs.Common.{◌≡◌, ℕ, suc, ◌+◌, ◌-◌, ◌<◌, ◌≤◌, ◌++◌, List, [], ◌∷◌, length, map, drop, get_or, refl, sym, ap, ◌∙◌, arith, append_assoc}
 use Rattle.std.specs.Prelude.{reverse}
-use Rattle.std.proofs.lemmas.Bool.Decides.{nat_tests}
 use Rattle.std.proofs.lemmas.List.{append-nil, drop_all, drop_more, map-append, reverse-append}
 use Rattle.apd_term.specs.Term.{Term, Terms, variable, integer, compound, none, more, list_of, spell, spell_all}
 use Rattle.apd_term.specs.declared.term.Sym.{Sym}
 use Rattle.apd_term.specs.declared.term.Sym.TheVariants.{Var, Int, Fun}
 use Rattle.apd_marks.specs.Mixing.{mixed}
-use Rattle.apd_marks.specs.Positions.{top}
-use Rattle.apd_index.specs.Subterms.{Subterm, onward, position, position_below, positions, subterms_below, waiting}
-use Rattle.apd_index.specs.declared.positions.Parent.{Parent}
-
--- The walk, with the innermost parent first.
-
-abbrev pub held : ℕ → ℕ → List Parent → List Parent
-held mark n parents = if n == 0 then parents else record { mark = mark; left = n } ∷ parents
-
-abbrev pub after : Parent → Sym → List Parent → List Parent
-after f (Var v) parents = held f.mark (f.left - 1) parents
-after f (Int i) parents = held f.mark (f.left - 1) parents
-after f (Fun g n) parents = held (mixed (position_below f.mark f.left) (Fun g n)) n (held f.mark (f.left - 1) parents)
+use Rattle.apd_marks.specs.Positions.{onward, top, waiting}
+use Rattle.apd_marks.specs.declared.positions.Parent.{Parent}
+use Rattle.apd_marks.proofs.Walking.{after, held, held-some, reverse-onward}
+use Rattle.apd_index.specs.Subterms.{Subterm, position, position_below, positions, subterms_below}
 
 -- the positions of what is still to be read
 abbrev pub rest : List Sym → List Parent → List Parent
 rest [] parents = []
 rest (x ∷ xs) [] = []
 rest (x ∷ xs) (f ∷ parents) = f ∷ rest xs (after f x parents)
-
-reverse-waiting : (m n : ℕ) (parents : List Parent) → reverse (waiting m n parents) ≡ held m n (reverse parents)
-reverse-waiting m n parents = by (n == 0)
-  where
-    by : (b : Bool) → reverse (if b then parents else parents ++ record { mark = m; left = n } ∷ []) ≡ (if b then reverse parents else record { mark = m; left = n } ∷ reverse parents)
-    by true = refl
-    by false = reverse-append parents (record { mark = m; left = n } ∷ [])
-
-pub reverse-onward : (f : Parent) (x : Sym) (parents : List Parent) → reverse (onward f x parents) ≡ after f x (reverse parents)
-reverse-onward f (Var v) parents = reverse-waiting f.mark (f.left - 1) parents
-reverse-onward f (Int i) parents = reverse-waiting f.mark (f.left - 1) parents
-reverse-onward f (Fun g n) parents =
-    reverse-waiting (mixed (position_below f.mark f.left) (Fun g n)) n (waiting f.mark (f.left - 1) parents)
-    ∙ ap (held (mixed (position_below f.mark f.left) (Fun g n)) n) (reverse-waiting f.mark (f.left - 1) parents)
-
-pub held-some : (m k : ℕ) (parents : List Parent) → held m (suc k) parents ≡ record { mark = m; left = suc k } ∷ parents
-held-some m k parents = ap (λ (b : Bool). if b then parents else record { mark = m; left = suc k } ∷ parents) (let e : (suc k == 0) ≡ false = grind (arith, nat_tests) in e)
 
 abbrev spots : ℕ → Terms → List Parent
 spots c ts = map (λ (s : Subterm). s.position) (subterms_below c ts)

@@ -3,12 +3,12 @@ use Rattle.std.proofs.Common.{◌≡◌, ℕ, List, refl, sym, subst}
 use Rattle.std.specs.Prelude.{nat_eq}
 use Rattle.indexmap.specs.IndexMap.{get}
 use Rattle.apd_term.specs.Term.{Term}
+use Rattle.apd_marks.specs.declared.positions.Parent.{Parent}
 use Rattle.apd_index.specs.Columns.{HasColumns, IsIn, column_at}
 use Rattle.apd_index.specs.Nodes.{IsNumber}
 use Rattle.apd_index.specs.Nodes as nodes
 use Rattle.apd_index.specs.Table.{AreSame}
 use Rattle.apd_index.specs.declared.columns.ColumnEntry.{ColumnEntry}
-use Rattle.apd_index.specs.declared.positions.Parent.{Parent}
 use Rattle.apd_index.specs.declared.walk.Table.{Table}
 
 module _ (old new : Table) (same : AreSame old new) where

@@ -7,9 +7,9 @@ use Rattle.apd_term.specs.Substitution.{IsInstance}
 use Rattle.apd_term.specs.declared.term.Sym.{Sym}
 use Rattle.apd_term.proofs.Opposite.{is_instance-is}
 use Rattle.apd_term.proofs.Spelling.{length-apply_all}
-use Rattle.apd_marks.specs.Positions.{top}
+use Rattle.apd_marks.specs.Positions.{noted, top}
 use Rattle.apd_index.specs.Retrieval.{has_special, is_below, root_mark}
-use Rattle.apd_index.specs.Subterms.{noted, position}
+use Rattle.apd_index.specs.Subterms.{position}
 
 pub first-root : (t : Term) (d : Sym) → slice_get (noted (position top 1) (get_or (spell t) 0 d)) 0 ≡ root_mark t
 first-root (variable v) d = refl

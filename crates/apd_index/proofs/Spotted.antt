@@ -4,10 +4,11 @@ use Rattle.std.specs.Prelude.{IfSome, slice_get}
 use Rattle.apd_term.specs.Term.{IsAmong, Term}
 use Rattle.apd_term.specs.declared.term.Sym.{Sym}
 use Rattle.apd_term.specs.declared.term.Sym.TheVariants.{Var, Int, Fun}
+use Rattle.apd_marks.specs.Positions.{noted}
+use Rattle.apd_marks.specs.declared.positions.Parent.{Parent}
 use Rattle.apd_index.specs.Spots.{AreSpots, Leaves, IsSpot, StandsIn}
-use Rattle.apd_index.specs.Subterms.{noted, root}
+use Rattle.apd_index.specs.Subterms.{root}
 use Rattle.apd_index.specs.declared.nodes.Nodes.{Nodes}
-use Rattle.apd_index.specs.declared.positions.Parent.{Parent}
 use Rattle.apd_index.specs.declared.sharing.SymbolSpot.{SymbolSpot}
 
 stands-last : (spots : List SymbolSpot) (s t : SymbolSpot) → StandsIn (spots ++ s ∷ []) t → StandsIn spots t ⊎ (s ≡ t)

@@ -7,20 +7,21 @@ use Rattle.apd_base.proofs.Lists.{slice_get-last, slice_get-front, slice_get-pus
 use Rattle.apd_term.specs.Term.{IsAmong, Term, spell}
 use Rattle.apd_term.specs.declared.term.Sym.{Sym}
 use Rattle.apd_term.specs.declared.term.Sym.TheVariants.{Var}
-use Rattle.apd_marks.specs.Positions.{top}
+use Rattle.apd_marks.specs.Positions.{noted, onward, top, waiting}
+use Rattle.apd_marks.specs.declared.positions.Parent.{Parent}
+use Rattle.apd_marks.proofs.Walking.{after, reverse-onward}
 use Rattle.apd_index.specs.Columns.{AddsOf, AreColumns, KeepsEntries, tagged}
 use Rattle.apd_index.specs.Nodes.{IsFounder, IsSound as AreSound, KeepsFounders, KeepsNumbers, noted_at}
 use Rattle.apd_index.specs.Spots.{AllLeave}
-use Rattle.apd_index.specs.Subterms.{digests, noted, onward, positions, waiting}
+use Rattle.apd_index.specs.Subterms.{digests, positions}
 use Rattle.apd_index.specs.Table.{AddsNext, AreOpen, Grow, Grows, IsOpen, PutsNext, kept_open, parent_of, parents_of}
 use Rattle.apd_index.specs.declared.columns.Columns.{Columns}
 use Rattle.apd_index.specs.declared.nodes.Nodes.{Nodes}
-use Rattle.apd_index.specs.declared.positions.Parent.{Parent}
 use Rattle.apd_index.specs.declared.walk.Open.{Open}
 use Rattle.apd_index.specs.declared.walk.Table.{Table}
 use Rattle.apd_index.proofs.Agreeing.{AddsPaired, AreSo, EndAt, adds-of, all-so, ends-go, nowhere, paired-goes, paired-none, so-goes}
 use Rattle.apd_index.proofs.Parts.{as-many-digests, symbol-where}
-use Rattle.apd_index.proofs.Passing.{after, none-left, rest, rest-whole, reverse-onward}
+use Rattle.apd_index.proofs.Passing.{none-left, rest, rest-whole}
 
 -- what is noted of a symbol that stands at a position: the place, unless it was the first to have the symbol above
 abbrev LeavesAt : Nodes → ℕ → Parent → Sym → Type 0

@@ -7,13 +7,13 @@ use Rattle.indexmap.specs.IndexMap.{get, IndexMap}
 use Rattle.apd_term.specs.Term.{Term, variable}
 use Rattle.apd_term.specs.declared.term.Sym.TheVariants.{Var}
 use Rattle.apd_marks.specs.Mixing.{mixed}
+use Rattle.apd_marks.specs.declared.positions.Parent.{Parent}
 use Rattle.apd_index.specs.Chains.{AreFalling, entries_from}
 use Rattle.apd_index.specs.declared.columns.Columns.{Columns}
 use Rattle.apd_index.specs.declared.columns.ColumnEntry.{ColumnEntry}
 use Rattle.apd_index.specs.declared.columns.Head.{Head}
 use Rattle.apd_index.specs.declared.gathered.Gathered.{Gathered}
 use Rattle.apd_index.specs.declared.nodes.Nodes.{Nodes}
-use Rattle.apd_index.specs.declared.positions.Parent.{Parent}
 use Rattle.apd_index.specs.declared.unlike.Repeat.{Repeat}
 use Rattle.apd_index.specs.declared.unlike.Unlike.{Unlike}
 use Rattle.apd_index.specs.declared.unlike.Unlikes.{Unlikes}

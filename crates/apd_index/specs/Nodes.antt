@@ -2,13 +2,13 @@
 use Rattle.std.specs.Prelude.{ℕ, ◌≡◌, ◌+◌, ◌-◌, ◌<◌, ◌≤◌, ◌^◌, List, [], Option, None, Some, get_or, length, map, nat_eq}
 use Rattle.indexmap.specs.IndexMap.{get}
 use Rattle.apd_term.specs.Term.{IsAmong}
+use Rattle.apd_marks.specs.declared.positions.Parent.{Parent}
 use Rattle.apd_index.specs.Chains.{AreFalling, links_from}
 use Rattle.apd_bits.specs.Rows.{HasBits, IsWithin}
 use Rattle.apd_index.specs.declared.nodes.PlaceLink.{PlaceLink}
 use Rattle.apd_index.specs.declared.nodes.SymbolNode.{SymbolNode}
 use Rattle.apd_index.specs.declared.nodes.Nodes.{Nodes}
 use Rattle.apd_index.specs.declared.nodes.Slots.{Slots}
-use Rattle.apd_index.specs.declared.positions.Parent.{Parent}
 
 -- the places of a chain, the last one first
 abbrev pub places : List PlaceLink → ℕ → List ℕ

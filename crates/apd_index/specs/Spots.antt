@@ -1,11 +1,11 @@
 -- Symbols of atoms, each with the symbol above it, and what is noted of an atom for them.
 use Rattle.std.specs.Prelude.{ℕ, ◌≡◌, ◌⊎◌, List, Some, slice_get}
 use Rattle.apd_term.specs.Term.{Term, IsAmong}
-use Rattle.apd_marks.specs.Positions.{any_term}
+use Rattle.apd_marks.specs.Positions.{any_term, noted}
+use Rattle.apd_marks.specs.declared.positions.Parent.{Parent}
 use Rattle.apd_index.specs.Nodes.{IsFounder, noted_at}
-use Rattle.apd_index.specs.Subterms.{IsAt, noted, root}
+use Rattle.apd_index.specs.Subterms.{IsAt, root}
 use Rattle.apd_index.specs.declared.nodes.Nodes.{Nodes}
-use Rattle.apd_index.specs.declared.positions.Parent.{Parent}
 use Rattle.apd_index.specs.declared.sharing.SymbolSpot.{SymbolSpot}
 
 -- the spot is that of a symbol of the atom; a variable has none

@@ -1,12 +1,12 @@
 -- Subterms with their positions (path indexing, Stickel 1989), and digests, of which equal terms have the same.
-use Rattle.std.specs.Prelude.{ℕ, ◌≡◌, ◌⊎◌, ◌-◌, ◌==◌, ◌++◌, if◌then◌else◌, List, [], ◌∷◌, length, map, reverse}
+use Rattle.std.specs.Prelude.{ℕ, ◌≡◌, ◌⊎◌, ◌++◌, List, [], ◌∷◌, length, map, reverse}
 use Rattle.std.specs.List.{fold}
 use Rattle.apd_term.specs.Term.{Term, Terms, variable, integer, compound, none, more, list_of}
 use Rattle.apd_term.specs.declared.term.Sym.{Sym}
 use Rattle.apd_term.specs.declared.term.Sym.TheVariants.{Var, Int, Fun}
 use Rattle.apd_marks.specs.Mixing.{mixed}
 use Rattle.apd_marks.specs.Positions.{top}
-use Rattle.apd_index.specs.declared.positions.Parent.{Parent}
+use Rattle.apd_marks.specs.declared.positions.Parent.{Parent}
 
 -- the symbol that a term begins with
 abbrev pub root : Term → Sym
@@ -75,20 +75,3 @@ abbrev pub bare : Sym → Sym
 bare (Var v) = Var v
 bare (Int i) = Int i
 bare (Fun f n) = Fun f 0
-
--- The walk: a parent is a symbol's mark, with how many of the terms below it are still to be read. The last parent is the innermost.
-
-abbrev pub waiting : ℕ → ℕ → List Parent → List Parent
-waiting mark n parents = if n == 0 then parents else parents ++ record { mark = mark; left = n } ∷ []
-
--- the mark of a symbol that is read as the next one of a parent; a variable has none
-abbrev pub noted : Parent → Sym → List ℕ
-noted f (Var v) = []
-noted f (Int i) = mixed (position_below f.mark f.left) (Int i) ∷ []
-noted f (Fun g n) = mixed (position_below f.mark f.left) (Fun g n) ∷ []
-
--- the parents after a symbol was read as the next one of a parent
-abbrev pub onward : Parent → Sym → List Parent → List Parent
-onward f (Var v) parents = waiting f.mark (f.left - 1) parents
-onward f (Int i) parents = waiting f.mark (f.left - 1) parents
-onward f (Fun g n) parents = waiting (mixed (position_below f.mark f.left) (Fun g n)) n (waiting f.mark (f.left - 1) parents)

@@ -1,11 +1,11 @@
 -- What is noted of atoms: nodes with the columns of positions, and that it grows.
 use Rattle.std.specs.Prelude.{ℕ, ◌≡◌, ◌⊎◌, ◌≢◌, ◌==◌, ◌++◌, if◌then◌else◌, List, [], ◌∷◌, IsTrue, map, slice_get, Some}
+use Rattle.apd_marks.specs.declared.positions.Parent.{Parent}
 use Rattle.apd_index.specs.Columns.{AreColumns, EndsAt, IsIn, KeepsEntries, column_at}
 use Rattle.apd_index.specs.Nodes.{AreKept, AreSlots, IsNumberIn, KeepsFounders, KeepsNumbers, IsFounder}
 use Rattle.apd_index.specs.Nodes as nodes
 use Rattle.apd_index.specs.declared.columns.Columns.{Columns}
 use Rattle.apd_index.specs.declared.nodes.Nodes.{Nodes}
-use Rattle.apd_index.specs.declared.positions.Parent.{Parent}
 use Rattle.apd_index.specs.declared.walk.Open.{Open}
 use Rattle.apd_index.specs.declared.walk.Table.{Table}
 

@@ -6,8 +6,8 @@ ghost use Rattle.apd_term.specs.Term.{IsAmong};
 ghost use Rattle.apd_index.specs.Nodes.{AreKept, AreSlots, HasLinks, HasRow, HaveNumbers, IsFounder, IsNumber, IsNumberIn, IsRight, IsSound, KeepBits, KeepChains, KeepsFounders, KeepsNumbers, founder_at, noted_at, places};
 ghost use Rattle.apd_bits.specs.Rows.{HasBits, IsWithin};
 
-use crate::positions::Parent;
 use apd_bits::Row;
+use apd_marks::Parent;
 use indexmap::IndexMap;
 use std::alloc::{AllocError, Global};
 

@@ -3,16 +3,17 @@
 ghost use Rattle.std.specs.Prelude.{◌≡◌, ◌⊎◌, ℕ, IfOk, IsTrue, OnOk, List};
 ghost use Rattle.apd_term.specs.Term.{IsAmong, Term};
 ghost use Rattle.apd_marks.specs.Mixing.{mixed};
+ghost use Rattle.apd_marks.specs.Positions.{noted, onward, waiting};
 ghost use Rattle.apd_index.specs.Columns.{AddsOf, AreColumns, HasColumns, KeepsEntries, tagged};
 ghost use Rattle.apd_index.specs.Nodes.{IsSound as AreSound, noted_at};
 ghost use Rattle.apd_index.specs.Spots.{AllLeave, IsNotedAbove};
-ghost use Rattle.apd_index.specs.Subterms.{digests as digests_in, noted, onward, position_below, waiting};
+ghost use Rattle.apd_index.specs.Subterms.{digests as digests_in, position_below};
 ghost use Rattle.apd_index.specs.Table.{AddsNext, AreOpen, Grow, Grows, IsOpen, IsSound, PutsNext, kept_open, parent_of, parents_of};
 
 use crate::columns::{Columns, put};
 use crate::nodes::{Nodes, Slots, note, number_in};
-use crate::positions::{Parent, TOP, next_position};
-use apd_marks::{ANY_TERM, mixed};
+use crate::positions::next_position;
+use apd_marks::{ANY_TERM, Parent, TOP, mixed};
 use apd_term::{Flat, Sym};
 use std::alloc::{AllocError, Global};
 

@@ -15,10 +15,10 @@ use Rattle.apd_marks.specs.declared.positions.Parent.{Parent}
 
 -- The walk, with the innermost parent first.
 
-abbrev held : ℕ → ℕ → List Parent → List Parent
+abbrev pub held : ℕ → ℕ → List Parent → List Parent
 held mark n parents = if n == 0 then parents else record { mark = mark; left = n } ∷ parents
 
-abbrev after : Parent → Sym → List Parent → List Parent
+abbrev pub after : Parent → Sym → List Parent → List Parent
 after f (Var v) parents = held f.mark (f.left - 1) parents
 after f (Int i) parents = held f.mark (f.left - 1) parents
 after f (Fun g n) parents = held (below f.mark f.left (Fun g n)) n (held f.mark (f.left - 1) parents)
@@ -36,14 +36,14 @@ reverse-waiting m n parents = by (n == 0)
     by true = refl
     by false = reverse-append parents (record { mark = m; left = n } ∷ [])
 
-reverse-onward : (f : Parent) (x : Sym) (parents : List Parent) → reverse (onward f x parents) ≡ after f x (reverse parents)
+pub reverse-onward : (f : Parent) (x : Sym) (parents : List Parent) → reverse (onward f x parents) ≡ after f x (reverse parents)
 reverse-onward f (Var v) parents = reverse-waiting f.mark (f.left - 1) parents
 reverse-onward f (Int i) parents = reverse-waiting f.mark (f.left - 1) parents
 reverse-onward f (Fun g n) parents =
     reverse-waiting (below f.mark f.left (Fun g n)) n (waiting f.mark (f.left - 1) parents)
     ∙ ap (held (below f.mark f.left (Fun g n)) n) (reverse-waiting f.mark (f.left - 1) parents)
 
-held-some : (m k : ℕ) (parents : List Parent) → held m (suc k) parents ≡ record { mark = m; left = suc k } ∷ parents
+pub held-some : (m k : ℕ) (parents : List Parent) → held m (suc k) parents ≡ record { mark = m; left = suc k } ∷ parents
 held-some m k parents = ap (λ (b : Bool). if b then parents else record { mark = m; left = suc k } ∷ parents) (let e : (suc k == 0) ≡ false = grind (arith, nat_tests) in e)
 
 -- terms below a parent

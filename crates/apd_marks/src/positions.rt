@@ -11,7 +11,7 @@ use apd_term::{Flat, Sym};
 use std::alloc::{AllocError, Global};
 
 /// What marks of positions begin with.
-const TOP: u64 = 7;
+pub const TOP: u64 = 7;
 
 /// What the mark of a whole term begins with.
 const WHOLE: u64 = 1;
@@ -19,9 +19,9 @@ const WHOLE: u64 = 1;
 /// The mark that all terms have.
 pub const ANY_TERM: u64 = 0;
 
-/// A symbol's mark, and how many of the terms below it are still to be read.
+/// A symbol's mark, and how many of the terms below it are still to be read: the position of the next one.
 #[derive(Clone, Copy)]
-pub(crate) struct Parent {
+pub struct Parent {
     pub mark: u64,
     pub left: u64,
 }
@@ -34,7 +34,7 @@ fn below(mark: u64, place: u64, symbol: Sym) -> u64
 }
 
 /// Puts a parent, where terms are left to be read.
-fn wait(parents: &mut Vec<Parent>, mark: u64, left: u64) -> Result<(), AllocError>
+pub fn wait(parents: &mut Vec<Parent>, mark: u64, left: u64) -> Result<(), AllocError>
     ensures { OnOk result (parents.new.items ≡ waiting mark left parents.old.items) }
 {
     if left == 0 {
@@ -58,7 +58,7 @@ fn note(marks: &mut Vec<u64>, parent: Parent, symbol: Sym) -> Result<(), AllocEr
 }
 
 /// Puts the parents that are left after a symbol was read as the next one of a parent.
-fn put_parents(parents: &mut Vec<Parent>, parent: Parent, symbol: Sym) -> Result<(), AllocError>
+pub fn put_parents(parents: &mut Vec<Parent>, parent: Parent, symbol: Sym) -> Result<(), AllocError>
     ensures { OnOk result (parents.new.items ≡ onward parent symbol parents.old.items) }
 {
     wait(parents, parent.mark, parent.left.saturating_sub(1))?;

@@ -1,15 +1,16 @@
 -- The bindings that are left after deeds, and their variables.
-use Rattle.std.proofs.Common.{◌≡◌, ℕ, ◌<◌, Option, Some, None, List, [], ◌∷◌, length, take, drop, reverse, refl, sym, ◌∙◌, ap, subst, arith}
+use Rattle.std.proofs.lemmas.List.{append-nil}
+use Rattle.std.proofs.Common.{◌≡◌, ℕ, ◌<◌, ◌≤◌, Option, Some, None, List, [], ◌∷◌, take, drop, reverse, refl, sym, ◌∙◌, ap, subst, arith}
 use Rattle.std.specs.Prelude.{MatchOption}
 use Rattle.apd_term.specs.declared.term.Sym.{Sym}
 use Rattle.apd_cells.specs.declared.heap.TrailNote.{TrailNote}
 use Rattle.apd_cells.specs.declared.heap.TrailNote.TheVariants.{Loaded, Bound}
 use Rattle.apd_cells.specs.declared.heap.Binding.TheVariants.{Free, At}
-use Rattle.apd_cells.specs.Store.{binding_of, IsStore}
+use Rattle.apd_cells.specs.Store.{binding_of}
 use Rattle.apd_past.specs.declared.deeds.Deed.{Deed}
-use Rattle.apd_past.specs.Done.{to_of}
-use Rattle.apd_past.specs.History.{History, after_deed, bindings_after, at_moment, present, unbound, IsRight, IsPast, variables_of}
-use Rattle.apd_past.proofs.Moments.{binding_after, binding_to, right_at, right_sound}
+use Rattle.apd_past.specs.Done.{Done, to_of, with_deed}
+use Rattle.apd_past.specs.History.{History, after_deed, bindings_after, bindings_of, at_moment, freed, freed_first, AreBelow, HasDoneMore, IsLog, IsRight, variables_of}
+use Rattle.apd_past.proofs.Moments.{binding_after, binding_to, last_first, right_at, right_done}
 
 -- no note of a load
 abbrev pub AreBindings : List TrailNote → Type 0
@@ -30,11 +31,6 @@ pub are_bindings : (ds : List Deed) → AreBindings (bindings_after ds)
 are_bindings [] = tt
 are_bindings (d ∷ ds) = are_after d.variable d.to (bindings_after ds) (are_bindings ds)
 
-pub length-variables : (notes : List TrailNote) → AreBindings notes → length (variables_of notes) ≡ length notes
-length-variables [] h = refl
-length-variables (Loaded c n ∷ notes) h = absurd h
-length-variables (Bound v c ∷ notes) h = omega (arith, length-variables notes h)
-
 -- the newest binding
 pub record IsFirst (notes : List TrailNote) (v : ℕ) (vs : List ℕ) : Type 0 where
   pub cell : ℕ
@@ -53,21 +49,70 @@ none_is [] h e = refl
 none_is (Loaded c n ∷ notes) h e = absurd h
 none_is (Bound w c ∷ notes) h e = cc
 
-pub none_left : (h : History) → [] ≡ variables_of (present h).trail → present h ≡ unbound (present h)
-none_left h e =
-    let n = none_is (present h).trail (are_bindings (reverse h.deeds)) e in
-    ap (λ (t : List TrailNote). record { cells = h.cells; variables = h.variables; trail = t }) (n ∙ sym (ap (drop 1) n))
+below_more : (n m : ℕ) (vs : List ℕ) → n ≤ m → AreBelow n vs → AreBelow m vs
+below_more n m [] l h = tt
+below_more n m (v ∷ vs) l h = (omega (arith, h.0), below_more n m vs l h.1)
 
--- the newest variable of a past
-pub past_first : (cells : List Sym) (n : ℕ) (deeds : List Deed) (bound : List ℕ) (v : ℕ) (vs : List ℕ) → IsPast cells n deeds bound → bound ≡ v ∷ vs
-    → IsFirst (bindings_after (reverse deeds)) v vs
-past_first cells n deeds bound v vs h e = first_is (bindings_after (reverse deeds)) v vs (are_bindings (reverse deeds)) (sym e ∙ h.bound_are)
+-- the newest variable of a log
+module _ (d : Done) (bound : List ℕ) (h : IsLog d bound) where
+  pub log_first : (v : ℕ) (vs : List ℕ) → bound ≡ v ∷ vs → IsFirst (bindings_of d) v vs
+  log_first v vs e = first_is (bindings_of d) v vs (are_bindings (reverse d.deeds)) (sym e ∙ h.bound_are)
 
-pub first_below : (cells : List Sym) (n : ℕ) (deeds : List Deed) (bound : List ℕ) (v : ℕ) (vs : List ℕ) → IsPast cells n deeds bound → bound ≡ v ∷ vs → v < n
-first_below cells n deeds bound v vs h e =
-    let f = past_first cells n deeds bound v vs h e in
-    let s : IsStore cells n (Bound v f.cell ∷ drop 1 (bindings_after (reverse deeds))) = subst (IsStore cells n) f.is (right_sound cells n (reverse deeds) h.right) in
-    s.0.below
+  pub log_below : (v : ℕ) (vs : List ℕ) → bound ≡ v ∷ vs → v < d.variables
+  log_below v vs e = (let b : AreBelow d.variables (v ∷ vs) = subst (AreBelow d.variables) e h.below in b.0)
+
+  pub log_none : bound ≡ [] → bindings_of d ≡ []
+  log_none e = none_is (bindings_of d) (are_bindings (reverse d.deeds)) (sym e ∙ h.bound_are)
+
+  pub log_freed : (v : ℕ) (vs : List ℕ) → bound ≡ v ∷ vs → IsLog (with_deed d v None) vs
+  log_freed v vs e = record {
+    bound_are = (log_first v vs e).rest ∙ ap (λ z. variables_of (bindings_after z)) (sym (last_first d.deeds (record { variable = v; to = None })));
+    below = (let b : AreBelow d.variables (v ∷ vs) = subst (AreBelow d.variables) e h.below in b.1);
+  }
+
+  pub log_more : (d' : Done) → d'.deeds ≡ d.deeds → d.variables ≤ d'.variables → IsLog d' bound
+  log_more d' e l = record {
+    bound_are = h.bound_are ∙ ap (λ z. variables_of (bindings_after (reverse z))) (sym e);
+    below = below_more d.variables d'.variables bound l h.below;
+  }
+
+-- the newest binding's variable is freed
+pub freed_at : (d : Done) (v : ℕ) (vs : List ℕ) → IsFirst (bindings_of d) v vs → freed d ≡ with_deed d v None
+freed_at d v vs f = ap (λ z. freed_first z d) f.is
+
+pub freed_none : (d : Done) → bindings_of d ≡ [] → freed d ≡ d
+freed_none d e = ap (λ z. freed_first z d) e
+
+-- what freeing leaves
+pub record IsFreed (d : Done) : Type 0 where
+  pub more : HasDoneMore d (freed d)
+  pub bindings : bindings_of (freed d) ≡ drop 1 (bindings_of d)
+  pub right : (cells : List Sym) (n : ℕ) → IsRight cells n (reverse d.deeds) → IsRight cells n (reverse (freed d).deeds)
+
+pub done_same : (d : Done) → HasDoneMore d d
+done_same d = record { variables = refl; more = []; deeds = sym (append-nil d.deeds) }
+
+pub is_freed : (d : Done) → IsFreed d
+is_freed d = by (bindings_of d) refl (are_bindings (reverse d.deeds))
+  where
+    by : (notes : List TrailNote) → bindings_of d ≡ notes → AreBindings (bindings_of d) → IsFreed d
+    by [] e a =
+        let f = freed_none d e in
+        record {
+          more = subst (HasDoneMore d) (sym f) (done_same d);
+          bindings = ap bindings_of f ∙ e ∙ sym (ap (drop 1) e);
+          right = λ cells n r. subst (λ (x : Done). IsRight cells n (reverse x.deeds)) (sym f) r;
+        }
+    by (Loaded c n ∷ notes) e a = absurd (subst AreBindings e a)
+    by (Bound v c ∷ notes) e a =
+        let f : freed d ≡ with_deed d v None = ap (λ z. freed_first z d) e in
+        let last = last_first d.deeds (record { variable = v; to = None }) in
+        record {
+          more = subst (HasDoneMore d) (sym f) (record { variables = refl; more = record { variable = v; to = None } ∷ []; deeds = refl });
+          bindings = ap bindings_of f ∙ ap bindings_after last;
+          right = λ cells n r. subst (λ (x : Done). IsRight cells n (reverse x.deeds)) (sym f)
+              (right_done cells n d.deeds (with_deed d v None).deeds v None r (c, e ∙ ap (λ z. Bound v c ∷ z) (sym (ap (drop 1) e))) refl);
+        }
 
 -- what is left of a list that was popped
 pub left_of : {X : Type 0} (r : Option X) (old new : List X) (v : X) (vs : List X) → MatchOption r ((old ≡ []) × (new ≡ [])) (λ x. old ≡ x ∷ new) → old ≡ v ∷ vs → new ≡ vs

@@ -1,72 +1,132 @@
--- A past that follows a store step by step.
-use Rattle.std.proofs.Common.{◌≡◌, ℕ, ◌+◌, ◌<◌, ◌≤◌, List, ◌∷◌, ◌++◌, length, map, reverse, take, sym, ◌∙◌, ap, subst, arith}
-use Rattle.std.specs.List.{flat_map}
+-- What a log has of a store that it follows.
+use Rattle.std.proofs.Common.{◌≡◌, ℕ, zero, suc, ◌+◌, ◌-◌, ◌<◌, ◌≤◌, Some, List, [], ◌∷◌, ◌++◌, length, take, drop, reverse, refl, sym, ◌∙◌, ap, subst, arith, ◌==◌, if◌then◌else◌}
+use Rattle.std.proofs.lemmas.List.{take-append-drop}
 use Rattle.apd_term.specs.declared.term.Sym.{Sym}
-use Rattle.apd_term.specs.Spelling.{variable_in}
-use Rattle.apd_term.specs.Term.{IsAmong, IsTerms}
-use Rattle.apd_term.proofs.Among.{IsAmong-right}
-use Rattle.std.proofs.lemmas.List.{length-append}
-use Rattle.std.proofs.lemmas.List.Concat.{flat_map-append}
+use Rattle.apd_term.specs.Term.{apply, Occurs}
+use Rattle.apd_term.specs.Substitution.{term_for, single}
+use Rattle.apd_term.proofs.Variants.{apply-agree}
 use Rattle.apd_cells.specs.declared.heap.TrailNote.{TrailNote}
 use Rattle.apd_cells.specs.declared.heap.TrailNote.TheVariants.{Loaded, Bound}
+use Rattle.apd_cells.specs.declared.heap.Binding.TheVariants.{At}
 use Rattle.apd_cells.specs.Stored.{Stored}
-use Rattle.apd_cells.specs.Store.{before_note, IsStore, IsSound}
-use Rattle.apd_past.specs.declared.past.PastCell.{PastCell}
-use Rattle.apd_cells.proofs.Loading.{above-ge}
+use Rattle.apd_cells.specs.Store.{written, meaning, term_at, binding_of, before_note, before_notes, at_mark, HasCells, MayBind, IsStore, IsSound}
+use Rattle.apd_cells.proofs.Bindings.{not_zero}
+use Rattle.apd_cells.proofs.Longer.{meaning-more, store-more, MayBind-more, sound_at_mark}
 use Rattle.apd_past.specs.declared.deeds.Deed.{Deed}
-use Rattle.apd_past.specs.History.{History, bindings_after, present, with_terms}
-use Rattle.apd_past.specs.Follows.{with_load}
-use Rattle.apd_past.specs.Mirror.{place, renamed_symbol, StandsIn}
-use Rattle.apd_past.specs.Names.{HasMoreNames, ArePlacedFrom}
-use Rattle.apd_past.proofs.Catching.{unloaded_there}
-use Rattle.apd_past.proofs.Carrying.{ArePlaced, AreNamed, loaded_there, terms_behind, terms_renamed}
+use Rattle.apd_past.specs.declared.past.PastCell.{PastCell}
+use Rattle.apd_past.specs.Done.{Done, with_deed}
+use Rattle.apd_past.specs.Follows.{bindings_in, Follows, MayFollow}
+use Rattle.apd_past.specs.History.{bindings_after, bindings_of, history_of, present}
+use Rattle.apd_past.specs.Tuples.{terms_at, tuple_at}
+use Rattle.apd_past.proofs.Marks.{front_at_mark, IsStep, binding_step}
+use Rattle.apd_past.proofs.Moments.{last_first, right_cells, right_done}
 
-pub before_loaded : (s : Stored) (c n : ℕ) (notes : List TrailNote) (t : Stored) (places places' : List PastCell) (names names' : List ℕ) → IsSound s → s.trail ≡ Loaded c n ∷ notes
-    → StandsIn s t places names → places' ≡ take c places → names' ≡ take n names → StandsIn (before_note s.cells s.variables s.trail) t places' names'
-before_loaded s c n notes t places places' names names' h e i p q =
-    let j : StandsIn (record { cells = s.cells; variables = s.variables; trail = Loaded c n ∷ notes }) t places names =
-    subst (λ z. StandsIn (record { cells = s.cells; variables = s.variables; trail = z }) t places names) e i in
-    let k : IsStore s.cells s.variables (Loaded c n ∷ notes) = subst (IsStore s.cells s.variables) e h in
-    subst (λ z. StandsIn (before_note s.cells s.variables z) t places' names') (sym e)
-    (rw (p, q) (unloaded_there s.cells s.variables notes c n t places names k j))
+-- all cells are there before the notes of loads
+wide : (cells : List Sym) (n c m : ℕ) (notes : List TrailNote) → IsStore cells n (Loaded c m ∷ notes) → IsStore cells n notes
+wide cells n c m notes h =
+    let is : take c cells ++ drop c cells ≡ cells = take-append-drop c cells in
+    subst (λ z. IsStore z n notes) is
+    (store-more (take c cells) (drop c cells) m n notes (subst (λ z. HasCells z n) (sym is) h.0) h.1.1.0 h.1.1.1)
 
--- notes that are the store's, and those before the newest
-pub notes_before : (s : Stored) (note : TrailNote) (notes : List TrailNote) → s.trail ≡ note ∷ notes → notes ≡ (before_note s.cells s.variables s.trail).trail
-notes_before s (Bound v c) notes e = ap (λ z. (before_note s.cells s.variables z).trail) (sym e)
-notes_before s (Loaded c n) notes e = ap (λ z. (before_note s.cells s.variables z).trail) (sym e)
+-- without the notes of loads a trail says the same
+pub meaning-bare : (cells : List Sym) (n : ℕ) (notes : List TrailNote) (v : ℕ) → IsStore cells n notes → meaning cells (bindings_in notes) v ≡ meaning cells notes v
+meaning-bare cells n [] v h = refl
+meaning-bare cells n (Loaded c m ∷ notes) v h =
+    meaning-bare cells n notes v (wide cells n c m notes h)
+    ∙ ap (λ z. meaning z notes v) (sym (take-append-drop c cells))
+    ∙ meaning-more (take c cells) (drop c cells) m notes v h.1.1.1
+meaning-bare cells n (Bound w c ∷ notes) v h =
+    let t = apply-agree (meaning cells (bindings_in notes)) (meaning cells notes) (written cells c) (λ u o. meaning-bare cells n notes u h.1) in
+    ap (λ z. apply (term_for (single w z)) (meaning cells (bindings_in notes) v)) t
+    ∙ ap (apply (term_for (single w (apply (meaning cells notes) (written cells c))))) (meaning-bare cells n notes v h.1)
 
--- the symbols that are loaded have names for their variables
-pub known_names : (s : Stored) (symbols : List Sym) (n v : ℕ) → IsSound (with_load s symbols n) → IsAmong (flat_map variable_in symbols) v → v < n
-known_names s symbols n v h o =
-    h.0.below v (subst (λ r. IsAmong r v) (sym (flat_map-append variable_in s.cells symbols))
-    (IsAmong-right (flat_map variable_in s.cells) (flat_map variable_in symbols) v o))
+pub binding-bare : (notes : List TrailNote) (v : ℕ) → binding_of (bindings_in notes) v ≡ binding_of notes v
+binding-bare [] v = refl
+binding-bare (Loaded c m ∷ notes) v = binding-bare notes v
+binding-bare (Bound w c ∷ notes) v = ap (λ z. if w == v then At c else z) (binding-bare notes v)
 
-pub whole_symbols : (s : Stored) (symbols renamed : List Sym) (n : ℕ) (names : List ℕ) → IsSound (with_load s symbols n) → renamed ≡ map (renamed_symbol names) symbols → IsTerms renamed
-whole_symbols s symbols renamed n names h e = subst IsTerms (sym e) (terms_renamed names symbols (terms_behind s.cells symbols h.0.whole))
+MayBind-bare : (cells : List Sym) (n : ℕ) (notes : List TrailNote) (v c : ℕ) → IsStore cells n notes → MayBind cells n notes v c → MayBind cells n (bindings_in notes) v c
+MayBind-bare cells n notes v c h b = record {
+  inside = b.inside;
+  below = b.below;
+  free = binding-bare notes v ∙ b.free;
+  acyclic = λ o. b.acyclic (subst (Occurs v) (apply-agree (meaning cells (bindings_in notes)) (meaning cells notes) (written cells c) (λ u q. meaning-bare cells n notes u h)) o);
+  down = b.down;
+}
 
-pub stands_loaded : (s : Stored) (symbols : List Sym) (n : ℕ) (old mid new : History) (places places' : List PastCell) (names names' : List ℕ) (renamed : List Sym) (first : ℕ)
-    → IsSound s → IsSound (with_load s symbols n) → IsSound (present old) → StandsIn s (present old) places names
-    → HasMoreNames old mid names names' n → renamed ≡ map (renamed_symbol names') symbols → first ≡ length mid.cells → new ≡ with_terms mid renamed
-    → ArePlacedFrom places places' first (length symbols) → StandsIn (with_load s symbols n) (present new) places' names'
-stands_loaded s symbols n old mid new places places' names names' renamed first h k u i m r f w p =
-    let there = map (renamed_symbol names') symbols in
-    let cells : new.cells ≡ old.cells ++ there = ap (λ (x : History). x.cells) w ∙ ap (λ z. z ++ renamed) m.cells ∙ ap (λ z. old.cells ++ z) r in
-    let deeds : new.deeds ≡ old.deeds = ap (λ (x : History). x.deeds) w ∙ m.deeds in
-    let wide : mid.variables ≤ new.variables = omega (arith, ap (λ (x : History). x.variables) w, above-ge mid.variables (flat_map variable_in renamed)) in
-    let at : first ≡ length old.cells = f ∙ ap length m.cells in
-    let made : present new ≡ record { cells = old.cells ++ there; variables = new.variables; trail = (present old).trail } =
-    ap (λ (z : List Sym). record { cells = z; variables = new.variables; trail = bindings_after (reverse new.deeds) }) cells
-    ∙ ap (λ (z : List Deed). record { cells = old.cells ++ there; variables = new.variables; trail = bindings_after (reverse z) }) deeds in
-    let placed : ArePlaced s.cells symbols (length old.cells) places places' = record {
-      count = omega (arith, p.counted, i.cells, length-append s.cells symbols);
-      old = λ c l. p.same c (omega (arith, l, i.cells));
-      new = λ j l. ap (λ z. place places' (z + j)) (sym i.cells) ∙ p.new j l ∙ ap (λ z. z + j) at;
-    } in
-    let named : AreNamed s.variables n new.variables names names' = record {
-      count = m.counted;
-      old = λ v l. m.same v (omega (arith, l, i.variables));
-      rising = m.good.rising;
-      below = λ v l. (let g = m.good.below v (omega (arith, l, m.counted)) in omega (arith, g, wide));
-    } in
-    subst (λ z. StandsIn (with_load s symbols n) z places' names') (sym made)
-    (loaded_there s.cells symbols s.variables n new.variables s.trail (present old) places places' names names' k h u i placed named)
+-- a term and a tuple are at present what they are in the store
+term_now : (d : Done) (s : Stored) (c : ℕ) → IsSound s → Follows d s → term_at (present (history_of s.cells d)) c ≡ term_at s c
+term_now d s c h f =
+    ap (λ z. apply (meaning s.cells z) (written s.cells c)) f
+    ∙ apply-agree (meaning s.cells (bindings_in s.trail)) (meaning s.cells s.trail) (written s.cells c) (λ u q. meaning-bare s.cells s.variables s.trail u h)
+
+terms_now : (d : Done) (s : Stored) (cs : List PastCell) → IsSound s → Follows d s → terms_at (present (history_of s.cells d)) cs ≡ terms_at s cs
+terms_now d s [] h f = refl
+terms_now d s (c ∷ cs) h f =
+    ap (λ t. t ∷ terms_at (present (history_of s.cells d)) cs) (term_now d s c.0 h f)
+    ∙ ap (λ ts. term_at s c.0 ∷ ts) (terms_now d s cs h f)
+
+pub tuple_now : (d : Done) (s : Stored) (head : ℕ) (goals : List PastCell) → IsSound s → Follows d s → tuple_at (present (history_of s.cells d)) head goals ≡ tuple_at s head goals
+tuple_now d s head goals h f =
+    ap (λ t. record { head = t; body = terms_at (present (history_of s.cells d)) goals }) (term_now d s head h f)
+    ∙ ap (λ ts. record { head = term_at s head; body = ts }) (terms_now d s goals h f)
+
+-- at a mark there are no more variables
+fewer_before : (cells : List Sym) (n : ℕ) (notes : List TrailNote) (j : ℕ) → IsStore cells n notes → (before_notes cells n notes j).variables ≤ n
+fewer_before cells n [] j h = omega arith
+fewer_before cells n (Loaded c m ∷ notes) zero h = omega arith
+fewer_before cells n (Loaded c m ∷ notes) (suc j) h =
+    let here : Stored = record { cells = cells; variables = n; trail = Loaded c m ∷ notes } in
+    let e : suc j - 1 ≡ j = omega arith in
+    let q = ap (λ (s : Stored). s.variables) (not_zero (suc j) here (before_notes (take c cells) m notes (suc j - 1)) (omega arith) ∙ ap (before_notes (take c cells) m notes) e) in
+    omega (arith, q, fewer_before (take c cells) m notes j h.1.1.1, h.1.1.0)
+fewer_before cells n (Bound v c ∷ notes) zero h = omega arith
+fewer_before cells n (Bound v c ∷ notes) (suc j) h =
+    let here : Stored = record { cells = cells; variables = n; trail = Bound v c ∷ notes } in
+    let e : suc j - 1 ≡ j = omega arith in
+    let q = ap (λ (s : Stored). s.variables) (not_zero (suc j) here (before_notes cells n notes (suc j - 1)) (omega arith) ∙ ap (before_notes cells n notes) e) in
+    omega (arith, q, fewer_before cells n notes j h.1)
+
+-- one note of the trail is followed
+module _ (d : Done) (s : Stored) (k : ℕ) (h : MayFollow d s k) (l : k < length s.trail) where
+  fewer : (at_mark k s).variables ≤ d.variables
+  fewer = omega (arith, fewer_before s.cells s.variables s.trail (length s.trail - k) h.sound, h.room)
+
+  pub may_bind : (v c : ℕ) → IsStep s k (Bound v c) → MayBind s.cells d.variables (bindings_of d) v c
+  may_bind v c p =
+      let e = at_mark k s in
+      let front = front_at_mark k s in
+      let sound = sound_at_mark k s h.sound in
+      let whole : HasCells (e.cells ++ front.0) d.variables = subst (λ z. HasCells z d.variables) front.1 (right_cells s.cells d.variables (reverse d.deeds) h.right) in
+      let may : MayBind (e.cells ++ front.0) d.variables e.trail v c =
+      MayBind-more e.cells front.0 e.variables d.variables e.trail v c sound fewer (binding_step s k v c h.sound p).may in
+      let there : IsStore (e.cells ++ front.0) d.variables e.trail = store-more e.cells front.0 e.variables d.variables e.trail whole fewer sound in
+      subst (λ z. MayBind s.cells d.variables z v c) (sym h.follows)
+      (subst (λ z. MayBind z d.variables (bindings_in e.trail) v c) (sym front.1) (MayBind-bare (e.cells ++ front.0) d.variables e.trail v c there may))
+
+  pub step_bound : (v c : ℕ) (d' : Done) → IsStep s k (Bound v c) → d' ≡ with_deed d v (Some c) → MayFollow d' s (k + 1)
+  step_bound v c d' p e =
+      let deed : Deed = record { variable = v; to = Some c } in
+      rw e (record {
+        sound = h.sound;
+        there = omega arith;
+        follows = ap bindings_after (last_first d.deeds deed)
+            ∙ ap (λ z. Bound v c ∷ z) h.follows
+            ∙ sym (ap (λ (x : Stored). bindings_in x.trail) (binding_step s k v c h.sound p).made);
+        room = h.room;
+        right = right_done s.cells d.variables d.deeds (with_deed d v (Some c)).deeds v (Some c) h.right (may_bind v c p) refl;
+      })
+
+  pub step_loaded : (c m : ℕ) → IsStep s k (Loaded c m) → MayFollow d s (k + 1)
+  step_loaded c m p =
+      let b = at_mark (k + 1) s in
+      record {
+        sound = h.sound;
+        there = omega arith;
+        follows = h.follows
+            ∙ ap (λ (x : Stored). bindings_in x.trail) p.before
+            ∙ ap (λ z. bindings_in (before_note b.cells b.variables z).trail) p.trail
+            ∙ sym (ap bindings_in p.trail);
+        room = h.room;
+        right = h.right;
+      }

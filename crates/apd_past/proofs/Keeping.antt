@@ -1,9 +1,16 @@
 -- What there was at each moment stays.
-use Rattle.std.proofs.Common.{◌≡◌, ℕ, ◌<◌, ◌≤◌, List, [], ◌∷◌, length, take, reverse, refl, ◌∙◌, ap, arith}
-use Rattle.apd_cells.specs.Store.{term_at}
+use Rattle.std.proofs.Common.{◌≡◌, ℕ, ◌<◌, ◌≤◌, List, [], ◌∷◌, ◌++◌, length, take, reverse, refl, ◌∙◌, ap, arith}
+use Rattle.std.proofs.lemmas.List.{length-append, take-append-le}
+use Rattle.apd_term.specs.Term.{apply}
+use Rattle.apd_term.specs.declared.term.Sym.{Sym}
+use Rattle.apd_cells.specs.Store.{meaning, term_at, written}
+use Rattle.apd_cells.proofs.Longer.{term-more}
+use Rattle.apd_past.specs.declared.deeds.Deed.{Deed}
 use Rattle.apd_past.specs.declared.past.PastCell.{PastCell}
-use Rattle.apd_past.specs.History.{History, KeepsMoments, at_moment, bindings_after}
+use Rattle.apd_past.specs.Done.{Done}
+use Rattle.apd_past.specs.History.{History, KeepsMoments, IsRight, at_moment, bindings_after, history_of}
 use Rattle.apd_past.specs.Tuples.{AreInside, terms_at, tuple_at}
+use Rattle.apd_past.proofs.Moments.{sound_at}
 
 pub keeps_wider : (old new : History) → new.cells ≡ old.cells → new.deeds ≡ old.deeds → KeepsMoments old new
 keeps_wider old new e f = record {
@@ -16,6 +23,18 @@ keeps_wider old new e f = record {
 
 pub keeps_same : (old new : History) → new ≡ old → KeepsMoments old new
 keeps_same old new e = keeps_wider old new (ap (λ (h : History). h.cells) e) (ap (λ (h : History). h.deeds) e)
+
+-- more cells, and more was done
+pub keeps_grown : (cells more : List Sym) (d d' : Done) (deeds : List Deed) → IsRight cells d.variables (reverse d.deeds) → d'.deeds ≡ d.deeds ++ deeds
+    → KeepsMoments (history_of cells d) (history_of (cells ++ more) d')
+keeps_grown cells more d d' deeds r e = record {
+  moments = omega (arith, ap length e, length-append d.deeds deeds);
+  cells = omega (arith, length-append cells more);
+  terms = λ m c l i.
+      (let notes = bindings_after (reverse (take m d.deeds)) in
+      ap (λ z. apply (meaning (cells ++ more) (bindings_after (reverse z))) (written (cells ++ more) c)) (ap (take m) e ∙ take-append-le m d.deeds deeds l)
+      ∙ term-more cells more d.variables notes c (sound_at (history_of cells d) m r) i);
+}
 
 -- terms and tuples at cells that were there
 terms_kept : (old new : History) (m : ℕ) (cells : List PastCell) → KeepsMoments old new → m ≤ length old.deeds → AreInside (length old.cells) cells

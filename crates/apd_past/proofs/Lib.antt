@@ -1,15 +1,9 @@
 pub mod Ways
-pub mod Packed
 pub mod Moments
 pub mod Bindings
 pub mod Variables
 pub mod Leading
 pub mod Tuples
-pub mod Mirrored
-pub mod Catching
-pub mod Carrying
-pub mod Naming
-pub mod Following
 pub mod Marks
-pub mod CatchingUp
+pub mod Following
 pub mod Keeping

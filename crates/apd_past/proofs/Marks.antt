@@ -1,5 +1,5 @@
 -- A store at each place of its trail.
-use Rattle.std.proofs.Common.{◌≡◌, ℕ, zero, suc, ◌+◌, ◌-◌, ◌<◌, ◌≤◌, List, [], ◌∷◌, ◌++◌, length, get_or, take, drop, reverse, refl, sym, ◌∙◌, ap, subst, arith, append_assoc}
+use Rattle.std.proofs.Common.{◌≡◌, ℕ, zero, suc, ◌+◌, ◌-◌, ◌<◌, List, [], ◌∷◌, ◌++◌, length, get_or, take, drop, reverse, refl, sym, ◌∙◌, ap, subst, arith, append_assoc}
 use Rattle.std.proofs.Math.Seq.{drop-append_seam}
 use Rattle.std.proofs.lemmas.List.{append-nil, take-append-drop, length-drop, length-reverse, reverse-append, take_more, length-take-le}
 use Rattle.apd_term.specs.declared.term.Sym.{Sym}
@@ -9,11 +9,11 @@ use Rattle.apd_cells.specs.Stored.{Stored}
 use Rattle.apd_cells.specs.Store.{before_note, before_notes, at_mark, bound, MayBind, IsStore, IsSound}
 use Rattle.apd_cells.proofs.Keeping.{at_mark-at_mark}
 use Rattle.apd_cells.proofs.Bindings.{not_zero}
-use Rattle.apd_cells.proofs.Undoing.{before_none}
-use Rattle.apd_past.specs.Follows.{with_load}
+use Rattle.apd_cells.proofs.Longer.{sound_at_mark}
+use Rattle.apd_cells.proofs.Sizing.{before_is}
 
 -- the notes at a mark
-before_trail : (cells : List Sym) (n : ℕ) (notes : List TrailNote) (j : ℕ) → (before_notes cells n notes j).trail ≡ drop j notes
+pub before_trail : (cells : List Sym) (n : ℕ) (notes : List TrailNote) (j : ℕ) → (before_notes cells n notes j).trail ≡ drop j notes
 before_trail cells n [] zero = refl
 before_trail cells n [] (suc j) = refl
 before_trail cells n (Loaded c m ∷ notes) zero = refl
@@ -28,26 +28,6 @@ before_trail cells n (Bound v c ∷ notes) (suc j) =
     let e : suc j - 1 ≡ j = omega arith in
     ap (λ (s : Stored). s.trail) (not_zero (suc j) here (before_notes cells n notes (suc j - 1)) (omega arith) ∙ ap (before_notes cells n notes) e)
     ∙ before_trail cells n notes j
-
--- a store at a mark is sound
-sound_before : (cells : List Sym) (n : ℕ) (notes : List TrailNote) (j : ℕ) → IsStore cells n notes → IsSound (before_notes cells n notes j)
-sound_before cells n [] zero h = h
-sound_before cells n [] (suc j) h = h
-sound_before cells n (Loaded c m ∷ notes) zero h = h
-sound_before cells n (Loaded c m ∷ notes) (suc j) h =
-    let here : Stored = record { cells = cells; variables = n; trail = Loaded c m ∷ notes } in
-    let e : suc j - 1 ≡ j = omega arith in
-    subst IsSound (sym (not_zero (suc j) here (before_notes (take c cells) m notes (suc j - 1)) (omega arith) ∙ ap (before_notes (take c cells) m notes) e))
-    (sound_before (take c cells) m notes j h.1.1.1)
-sound_before cells n (Bound v c ∷ notes) zero h = h
-sound_before cells n (Bound v c ∷ notes) (suc j) h =
-    let here : Stored = record { cells = cells; variables = n; trail = Bound v c ∷ notes } in
-    let e : suc j - 1 ≡ j = omega arith in
-    subst IsSound (sym (not_zero (suc j) here (before_notes cells n notes (suc j - 1)) (omega arith) ∙ ap (before_notes cells n notes) e))
-    (sound_before cells n notes j h.1)
-
-pub sound_at_mark : (k : ℕ) (s : Stored) → IsSound s → IsSound (at_mark k s)
-sound_at_mark k s h = sound_before s.cells s.variables s.trail (length s.trail - k) h
 
 -- its cells are the first ones
 front_before : (cells : List Sym) (n : ℕ) (notes : List TrailNote) (j : ℕ) → (rest : List Sym) × (cells ≡ (before_notes cells n notes j).cells ++ rest)
@@ -74,16 +54,6 @@ front_before cells n (Bound v c ∷ notes) (suc j) =
 
 pub front_at_mark : (k : ℕ) (s : Stored) → (rest : List Sym) × (s.cells ≡ (at_mark k s).cells ++ rest)
 front_at_mark k s = front_before s.cells s.variables s.trail (length s.trail - k)
-
-before_is : (s : Stored) (note : TrailNote) (notes : List TrailNote) → s.trail ≡ note ∷ notes → at_mark (length notes) s ≡ before_note s.cells s.variables s.trail
-before_is s note notes e =
-    let j : length s.trail - length notes ≡ 1 = omega (arith, ap length e) in
-    ap (before_notes s.cells s.variables s.trail) j ∙ ap (λ z. before_notes s.cells s.variables z 1) e ∙ one note
-    ∙ ap (before_note s.cells s.variables) (sym e)
-  where
-    one : (note : TrailNote) → before_notes s.cells s.variables (note ∷ notes) 1 ≡ before_note s.cells s.variables (note ∷ notes)
-    one (Loaded c m) = before_none (take c s.cells) m notes
-    one (Bound v c) = before_none s.cells s.variables notes
 
 -- the note at a place of the trail, whose notes are given the oldest first
 pub record IsStep (s : Stored) (k : ℕ) (note : TrailNote) : Type 0 where
@@ -123,28 +93,4 @@ binding_step s k v c h p =
     record {
       made = ap (λ (z : List TrailNote). record { cells = b.cells; variables = b.variables; trail = z }) p.trail ∙ ap (λ (x : Stored). bound x v c) (sym a);
       may = subst (λ (x : Stored). MayBind x.cells x.variables x.trail v c) (sym a) u.0;
-    }
-
--- a step that loads
-pub record IsLoadingStep (s : Stored) (k c m : ℕ) : Type 0 where
-  pub within : c ≤ length (at_mark (k + 1) s).cells
-  pub cells : length (at_mark k s).cells ≡ c
-  pub variables : (at_mark k s).variables ≡ m
-  pub made : at_mark (k + 1) s ≡ with_load (at_mark k s) (drop c (at_mark (k + 1) s).cells) (at_mark (k + 1) s).variables
-
-pub loading_step : (s : Stored) (k c m : ℕ) → IsSound s → IsStep s k (Loaded c m) → IsLoadingStep s k c m
-loading_step s k c m h p =
-    let b = at_mark (k + 1) s in
-    let a : at_mark k s ≡ record { cells = take c b.cells; variables = m; trail = p.rest } = p.before ∙ ap (before_note b.cells b.variables) p.trail in
-    let u : IsStore b.cells b.variables (Loaded c m ∷ p.rest) = subst (IsStore b.cells b.variables) p.trail (sound_at_mark (k + 1) s h) in
-    let within : c ≤ length b.cells = u.1.0 in
-    let count : length (take c b.cells) ≡ c = length-take-le c b.cells within in
-    record {
-      within = within;
-      cells = ap (λ (x : Stored). length x.cells) a ∙ count;
-      variables = ap (λ (x : Stored). x.variables) a;
-      made = ap (λ (z : List TrailNote). record { cells = b.cells; variables = b.variables; trail = z }) p.trail
-          ∙ ap (λ (z : List Sym). record { cells = z; variables = b.variables; trail = Loaded c m ∷ p.rest }) (sym (take-append-drop c b.cells))
-          ∙ ap (λ (z : ℕ). record { cells = take c b.cells ++ drop c b.cells; variables = b.variables; trail = Loaded z m ∷ p.rest }) (sym count)
-          ∙ ap (λ (x : Stored). with_load x (drop c b.cells) b.variables) (sym a);
     }

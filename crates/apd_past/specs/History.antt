@@ -1,5 +1,5 @@
 -- What a past is: cells that are never dropped, and what was done to variables. At each moment it is a store.
-use Rattle.std.specs.Prelude.{◌≡◌, ℕ, ◌+◌, ◌<◌, ◌≤◌, ◌⊎◌, Option, Some, None, List, [], ◌∷◌, ◌++◌, length, map, take, drop, reverse, refl}
+use Rattle.std.specs.Prelude.{◌≡◌, ℕ, ◌<◌, ◌≤◌, ◌⊎◌, Option, Some, None, List, [], ◌∷◌, ◌++◌, length, map, take, drop, reverse, refl}
 use Rattle.std.specs.Coded.{Coded, code_by, coded_list, coded_option, coded×, coded⊎, coded_ℕ, coded_ℤ}
 use Rattle.std.specs.List.{flat_map}
 use Rattle.std.proofs.Common.{ℤ}
@@ -10,7 +10,7 @@ use Rattle.apd_cells.specs.declared.heap.TrailNote.TheVariants.{Loaded, Bound}
 use Rattle.apd_cells.specs.Stored.{Stored}
 use Rattle.apd_cells.specs.Store.{above, term_at, HasCells, MayBind}
 use Rattle.apd_past.specs.declared.deeds.Deed.{Deed}
-use Rattle.apd_past.specs.Done.{deed_parts, deed_whole, map-deed_whole}
+use Rattle.apd_past.specs.Done.{Done, deed_parts, deed_whole, map-deed_whole, with_deed}
 
 -- the symbols of all terms that were loaded, one after another, each term in prefix order; a number above all their
 -- variables; and what was done to variables, the oldest first
@@ -48,10 +48,6 @@ with_terms h symbols = record {
   deeds = h.deeds;
 }
 
--- one more variable
-abbrev pub with_one_variable : History → History
-with_one_variable h = record { cells = h.cells; variables = h.variables + 1; deeds = h.deeds }
-
 -- one more deed
 abbrev pub with_done : History → ℕ → Option ℕ → History
 with_done h v to = record {
@@ -86,10 +82,43 @@ variables_of [] = []
 variables_of (Loaded c n ∷ notes) = variables_of notes
 variables_of (Bound v c ∷ notes) = v ∷ variables_of notes
 
--- how a past is kept
-pub record IsPast (cells : List Sym) (n : ℕ) (deeds : List Deed) (bound : List ℕ) : Type 0 where
-  pub right : IsRight cells n (reverse deeds)
-  pub bound_are : bound ≡ variables_of (bindings_after (reverse deeds))
+-- the cells of a history, and what was done
+abbrev pub history_of : List Sym → Done → History
+history_of cells d = record { cells = cells; variables = d.variables; deeds = d.deeds }
+
+-- the bindings that are left after all that was done
+abbrev pub bindings_of : Done → List TrailNote
+bindings_of d = bindings_after (reverse d.deeds)
+
+-- the variable of the newest of these bindings is freed, if there is one
+abbrev pub freed_first : List TrailNote → Done → Done
+freed_first [] d = d
+freed_first (Loaded c n ∷ notes) d = d
+freed_first (Bound v c ∷ notes) d = with_deed d v None
+
+-- the variable that was bound last is freed, if one is bound
+abbrev pub freed : Done → Done
+freed d = freed_first (bindings_of d) d
+
+-- the variable is that of the newest binding
+abbrev pub IsNewestBound : ℕ → List TrailNote → Type 0
+IsNewestBound v notes = (c : ℕ) × (notes ≡ Bound v c ∷ drop 1 notes)
+
+-- all are below the number
+abbrev pub AreBelow : ℕ → List ℕ → Type 0
+AreBelow n [] = Unit {0}
+AreBelow n (v ∷ vs) = (v < n) × AreBelow n vs
+
+-- the variables that are bound at present
+pub record IsLog (d : Done) (bound : List ℕ) : Type 0 where
+  pub bound_are : bound ≡ variables_of (bindings_of d)
+  pub below : AreBelow d.variables bound
+
+-- more was done
+pub record HasDoneMore (old new : Done) : Type 0 where
+  pub variables : new.variables ≡ old.variables
+  pub more : List Deed
+  pub deeds : new.deeds ≡ old.deeds ++ more
 
 -- the triple of its parts
 abbrev pub history_code : Coded History

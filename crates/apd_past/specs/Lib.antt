@@ -1,10 +1,6 @@
 pub mod Slots
-pub mod Cells
 pub mod Done
 pub mod Linked
 pub mod History
 pub mod Tuples
-pub mod Mirror
-pub mod Names
 pub mod Follows
-pub mod Live

@@ -3,10 +3,11 @@
 ghost use Rattle.std.specs.Prelude.{◌≡◌, ℕ, ◌<◌, ◌≤◌, ◌-◌, ◌^◌, [], length, take, reverse, get_or, None, IfOk, OnOk, OnErr};
 ghost use Rattle.std.specs.List.{flat_map};
 ghost use Rattle.apd_term.specs.Spelling.{variable_in};
-ghost use Rattle.apd_past.specs.Done.{to_of, with_deed, with_variable, with_variables};
+ghost use Rattle.apd_past.specs.Done.{to_of, with_deed, with_room, with_variable, with_variables};
 ghost use Rattle.apd_past.specs.Linked.{deeds_of, no_kept, AreLinked, GoesBack, HaveWays, IsEarlier, IsNewest};
 
 use crate::slot::MaybeNumber;
+use apd_cells::stack::room_for_one;
 use apd_term::Sym;
 use std::alloc::{AllocError, Global};
 use std::marker::Model;
@@ -32,7 +33,7 @@ pub struct KeptDeed {
     pub depth: u32,
 }
 
-/// The deeds on variables. Clauses see them, the oldest first, and a number above the variables.
+/// The deeds on variables. Contracts see them, the oldest first, and a number above the variables.
 #[derive(Drop)]
 pub struct Deeds {
     kept: Vec<KeptDeed>,
@@ -178,6 +179,19 @@ impl Deeds {
         Ok(())
     }
 
+    /// Makes room for so many variables.
+    pub fn make_room(&mut self, count: usize) -> Result<(), AllocError>
+        ensures ok { OnOk result (self.new ≡ with_room self.old count) }
+        ensures deeds { self.new.deeds ≡ self.old.deeds }
+        ensures more { self.old.variables ≤ self.new.variables }
+    {
+        'variables: while self.newest.len() < count {
+            room_for_one(&mut self.newest)?;
+            self.newest.push_reserved(MaybeNumber::none());
+        }
+        Ok(())
+    }
+
     /// The same for the variable that a symbol is, if it is one.
     fn add_variable_of(&mut self, symbol: Sym) -> Result<(), AllocError>
         ensures ok { OnOk result (self.new ≡ with_variables self.old (variable_in symbol)) }
@@ -213,7 +227,7 @@ impl Deeds {
         if place >= MOST {
             return Err(AllocError);
         }
-        self.kept.reserve(1)?;
+        room_for_one(&mut self.kept)?;
         let newest = &mut self.newest[variable as usize];
         let before = std::mem::replace(newest, MaybeNumber::at(place as u32));
         let deed = Deed { variable, to };

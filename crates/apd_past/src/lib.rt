@@ -2,14 +2,11 @@
 //! each moment.
 #![tactic(auto)]
 
-mod cells;
 pub mod deeds;
-pub mod follow;
 pub mod laws;
-pub mod mirror;
+pub mod log;
 mod passing;
 pub mod past;
-mod renaming;
 pub mod slot;
 pub mod then;
 pub mod writing;

@@ -5,16 +5,8 @@ ghost use Rattle.apd_cells.specs.Work.{AreRuns, PassesOn};
 
 use crate::then::Then;
 use apd_cells::stack::Stack;
-use apd_cells::walk::{Run, arity_of};
-use apd_term::Sym;
+use apd_cells::walk::{Passed, Run, arity_of};
 use std::alloc::AllocError;
-
-/// What was passed: a symbol, and the run that the walk is in then.
-#[derive(Clone, Copy)]
-pub struct Passed {
-    pub symbol: Sym,
-    pub next: Run,
-}
 
 /// Passes the first symbol of a run, behind the bindings.
 pub fn pass(then: &Then<'_>, rest: &mut Stack<Run>, here: Run) -> Result<Passed, AllocError>

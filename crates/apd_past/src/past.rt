@@ -1,20 +1,13 @@
 //! Cells that are never dropped, and what variables were bound to at each moment.
 
-ghost use Rattle.std.specs.List.{flat_map};
-ghost use Rattle.std.specs.Prelude.{◌≡◌, ℕ, ◌∷◌, [], ◌<◌, ◌≤◌, ◌^◌, length, get_or, drop, map, None, Some, IfOk, OnOk, OnErr, MatchOption};
+ghost use Rattle.std.specs.Prelude.{◌≡◌, ℕ, [], ◌<◌, ◌≤◌, ◌^◌, ◌++◌, length, get_or, reverse, take, Some, IfOk, OnOk, OnErr, MatchOption};
 ghost use Rattle.apd_term.specs.declared.term.Sym.TheVariants.{Var};
-ghost use Rattle.apd_term.specs.Spelling.{variable_in};
-ghost use Rattle.apd_term.specs.Term.{IsAmong, IsTerms};
+ghost use Rattle.apd_term.specs.Term.{IsTerms};
 ghost use Rattle.apd_cells.specs.declared.heap.Binding.TheVariants.{Free, At};
 ghost use Rattle.apd_cells.specs.Store.{term_at, binding_of, bound, MayBind, IsSound};
-ghost use Rattle.apd_past.specs.declared.past.TheConstants.{MOST};
-ghost use Rattle.apd_past.specs.Mirror.{name, renamed_symbol};
-ghost use Rattle.apd_past.specs.History.{at_moment, present, unbound, with_done, with_one_variable, with_terms};
+ghost use Rattle.apd_past.specs.History.{at_moment, history_of, present, unbound, with_done, with_terms, IsRight};
 
-use crate::cells::Cells;
-use crate::deeds::Deeds;
-use crate::slot::MaybeNumber;
-use apd_cells::stack::Stack;
+use crate::log::Log;
 use apd_term::Sym;
 use std::alloc::{AllocError, Global};
 use std::marker::Model;
@@ -32,22 +25,21 @@ pub struct Moment(pub u32);
 /// there would be 2 ^ 32 cells, variables or moments.
 #[derive(Drop)]
 pub struct Past {
-    cells: Cells,
-    deeds: Deeds,
-    /// The variables that are bound at present.
-    bound: Stack<u32>,
+    cells: Vec<Sym>,
+    log: Log,
 }
 
 impl Model for Past {
-    ghost use Rattle.apd_past.specs.History.{History, history_code, IsPast};
+    ghost use Rattle.std.specs.Prelude.{reverse};
+    ghost use Rattle.apd_past.specs.History.{History, history_code, history_of, IsRight};
 
     ghost Value = { History };
 
     ghost coded = { history_code };
 
-    ghost view = { λ p. record { cells = p.cells; variables = p.deeds.variables; deeds = p.deeds.deeds } };
+    ghost view = { λ p. history_of p.cells.items p.log };
 
-    ghost invariant = { λ p. IsPast p.cells p.deeds.variables p.deeds.deeds p.bound };
+    ghost invariant = { λ p. IsRight p.cells.items p.log.variables (reverse p.log.deeds) };
 }
 
 /// The greatest number that is kept.
@@ -64,16 +56,35 @@ pub(crate) fn narrow(n: u64) -> Result<u32, AllocError>
     Ok(n as u32)
 }
 
+/// Puts symbols behind the others.
+fn extend(cells: &mut Vec<Sym>, symbols: &[Sym]) -> Result<(), AllocError>
+    ensures ok { OnOk result (cells.new.items ≡ cells.old.items ++ symbols.now) }
+    ensures err { OnErr result (cells.new.items ≡ cells.old.items) }
+{
+    cells.reserve(symbols.len())?;
+    for symbol in symbols {
+        cells.push_reserved(*symbol);
+    }
+    Ok(())
+}
+
 impl Past {
     /// No term.
     pub fn new(alloc: Global) -> Past
         ensures { result ≡ record { cells = []; variables = 0; deeds = [] } }
     {
         Past {
-            cells: Cells::new(alloc),
-            deeds: Deeds::new(alloc),
-            bound: Stack::new(alloc),
+            cells: Vec::new(alloc),
+            log: Log::new(alloc),
         }
+    }
+
+    /// The past of these cells, with what was done to their variables.
+    pub fn of(cells: Vec<Sym>, log: Log) -> Past
+        requires { IsRight cells.items log.variables (reverse log.deeds) }
+        ensures { result ≡ history_of cells.items log }
+    {
+        Past { cells, log }
     }
 
     /// How many cells there are.
@@ -87,7 +98,7 @@ impl Past {
     pub fn variables(&self) -> usize
         ensures { result ≡ self.now.variables }
     {
-        self.deeds.variables()
+        self.log.variables()
     }
 
     /// The present moment.
@@ -95,14 +106,7 @@ impl Past {
         ensures moment { result.0 ≡ length self.now.deeds }
         ensures present { at_moment result.0 self.now ≡ present self.now }
     {
-        Moment(self.deeds.count())
-    }
-
-    /// How many variables are bound at present.
-    pub fn bound(&self) -> usize
-        ensures { result ≡ length (present self.now).trail }
-    {
-        self.bound.len()
+        self.log.moment()
     }
 
     /// The past is a sound store, at each moment.
@@ -120,7 +124,7 @@ impl Past {
         ensures store { (m : ℕ) → IsSound (at_moment m self.now) }
         ensures fits { length self.now.cells < 2 ^ 64 }
     {
-        self.cells.get(at)
+        self.cells[at]
     }
 
     /// The cell that a variable was bound to at a moment; none exactly where it was free.
@@ -130,19 +134,7 @@ impl Past {
             (binding_of (at_moment moment.0 self.now).trail v ≡ Free)
             (λ c. binding_of (at_moment moment.0 self.now).trail v ≡ At c) }
     {
-        self.deeds.to_at(v, moment.0 as usize)
-    }
-
-    /// One more variable, and its number.
-    pub fn add_variable(&mut self) -> Result<u32, AllocError>
-        ensures number { IfOk result (λ v. v ≡ self.old.variables) }
-        ensures ok { OnOk result (self.new ≡ with_one_variable self.old) }
-        ensures cells { self.new.cells ≡ self.old.cells }
-        ensures deeds { self.new.deeds ≡ self.old.deeds }
-    {
-        let number = narrow(self.deeds.variables() as u64)?;
-        self.deeds.add_variable(number as u64)?;
-        Ok(number)
+        self.log.to_at(moment, v)
     }
 
     /// Puts whole terms behind the others, and tells the cell of the first. All other cells keep
@@ -157,29 +149,8 @@ impl Past {
         ensures err { OnErr result (self.new.cells ≡ self.old.cells) }
     {
         let cell = narrow(self.cells.len() as u64)?;
-        self.deeds.add_variables(symbols)?;
-        self.cells.extend(symbols)?;
-        Ok(PastCell(cell))
-    }
-
-    /// Puts whole terms behind the others, as [`Past::load`] does, of these symbols with their variables renamed. The
-    /// names are of variables that are there.
-    pub fn load_renamed(&mut self, names: &[u32], symbols: &[Sym]) -> Result<PastCell, AllocError>
-        requires whole { IsTerms (map (renamed_symbol names.now) symbols.now) }
-        requires named { (v : ℕ) → IsAmong (flat_map variable_in symbols.now) v →
-            v < length names.now }
-        requires there { (v : ℕ) → v < length names.now →
-            name names.now v < self.old.variables }
-        ensures cell { IfOk result (λ c. c.0 ≡ length self.old.cells) }
-        ensures ok { OnOk result
-            (self.new ≡ with_terms self.old (map (renamed_symbol names.now) symbols.now)) }
-        ensures others { (m c : ℕ) → c < length self.old.cells →
-            term_at (at_moment m self.new) c ≡ term_at (at_moment m self.old) c }
-        ensures deeds { self.new.deeds ≡ self.old.deeds }
-        ensures err { OnErr result (self.new ≡ self.old) }
-    {
-        let cell = narrow(self.cells.len() as u64)?;
-        self.cells.extend_renamed(names, symbols)?;
+        self.log.add_variables(symbols)?;
+        extend(&mut self.cells, symbols)?;
         Ok(PastCell(cell))
     }
 
@@ -192,13 +163,7 @@ impl Past {
             at_moment m self.new ≡ at_moment m self.old }
         ensures err { OnErr result (self.new ≡ self.old) }
     {
-        let variable = narrow(v)?;
-        let cell = narrow(to.0 as u64)?;
-        self.bound.push(variable)?;
-        if let Err(e) = self.deeds.push(variable, MaybeNumber::at(cell)) {
-            let _ = self.bound.pop();
-            return Err(e);
-        }
+        self.log.bind(v, to.0 as usize)?;
         Ok(())
     }
 
@@ -210,12 +175,7 @@ impl Past {
             at_moment m self.new ≡ at_moment m self.old }
         ensures err { OnErr result (self.new ≡ self.old) }
     {
-        let Some(variable) = self.bound.top() else {
-            return Ok(());
-        };
-        let variable = *variable;
-        self.deeds.push(variable, MaybeNumber::none())?;
-        let _ = self.bound.pop();
+        self.log.unbind()?;
         Ok(())
     }
 }

@@ -10,7 +10,7 @@ use crate::past::{Moment, Past};
 use apd_term::Sym;
 use std::marker::Model;
 
-/// A past as it was at a moment. Clauses see the store that it was then.
+/// A past as it was at a moment. Contracts see the store that it was then.
 #[derive(Drop)]
 pub struct Then<'a> {
     past: &'a Past,

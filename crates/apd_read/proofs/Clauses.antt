@@ -159,16 +159,13 @@ taken_more {old} {names} {new} {text} {tokens} {at} {i} {ls} {vars} k g t l afte
       few = omega arith;
     }
 
-rest_is : (tokens : List Token) (at i : ℕ) → at ≤ i → drop at tokens ≡ slice_range tokens at i ++ drop i tokens
-rest_is tokens at i le = drop_split tokens at i le
-
 -- the token that ends the clause
 pub taken_end : {old names new : List (List ℕ)} {text : List ℕ} {tokens : List Token} {at i : ℕ} {ls : List Lexeme} {vars : List (List ℕ)} → IsTaken old names text tokens at i ls vars
     → GrowsBy 1 names new → (t : Token) (l : Lexeme) (after : List (List ℕ)) → i < length tokens → t ≡ get_or tokens i t → IsLexeme new text vars t l after → ends_clause t.kind ≡ true
     → AreLexemes new text (to_end (drop at tokens)) (ls ++ l ∷ []) after
 taken_end {old} {names} {new} {text} {tokens} {at} {i} {ls} k g t l after lt e is ends =
     let tail : drop i tokens ≡ t ∷ drop (i + 1) tokens = drop_more tokens i t lt ∙ ap (λ (w : Token). w ∷ drop (i + 1) tokens) (sym e) in
-    let whole : drop at tokens ≡ slice_range tokens at i ++ t ∷ drop (i + 1) tokens = rest_is tokens at i k.from ∙ ap (λ w. slice_range tokens at i ++ w) tail in
+    let whole : drop at tokens ≡ slice_range tokens at i ++ t ∷ drop (i + 1) tokens = drop_split tokens at i k.from ∙ ap (λ w. slice_range tokens at i ++ w) tail in
     subst (λ (w : List Token). AreLexemes new text w (ls ++ l ∷ []) after) (sym (ap to_end whole ∙ to_end_at (slice_range tokens at i) t (drop (i + 1) tokens) k.none ends)) (more_lexemes k g t l after lt e is)
 
 pub taken_grown : {old names new : List (List ℕ)} {text : List ℕ} {tokens : List Token} {at i : ℕ} {ls : List Lexeme} {vars : List (List ℕ)} → IsTaken old names text tokens at i ls vars

@@ -1,5 +1,6 @@
 -- A text has one answer: its configurations follow one another in one way.
 use Rattle.std.proofs.Common.{◌≡◌, ℕ, ◌-◌, ◌+◌, inl, inr, Option, Some, None, Result, Ok, Err, List, [], ◌∷◌, ◌++◌, refl, sym, ◌∙◌, ap, subst}
+use Rattle.std.proofs.lemmas.List.{same_from_push}
 use Rattle.apd_term.specs.Term.{variable}
 use Rattle.apd_read.specs.declared.phrase.Phrase.{Phrase}
 use Rattle.apd_read.specs.Phrases.{leaf}
@@ -71,19 +72,6 @@ go_verdict Closes t from k = Ok (record { phrase = t; next = k + 1 })
 go_verdict Unclosed t from k = Err (fault.Unclosed (from - 1))
 go_verdict Stray t from k = Err (fault.Stray k)
 go_verdict Ends t from k = Err (fault.NoEnd k)
-
-snoc_same : (xs ys : List Piece) (x y : Piece) → xs ++ x ∷ [] ≡ ys ++ y ∷ [] → (xs ≡ ys) × (x ≡ y)
-snoc_same [] [] x y e = (refl, cc)
-snoc_same [] (b ∷ []) x y e = absurd (cc)
-snoc_same [] (b ∷ c ∷ ys) x y e = absurd (cc)
-snoc_same (a ∷ []) [] x y e = absurd (cc)
-snoc_same (a ∷ b ∷ xs) [] x y e = absurd (cc)
-snoc_same (a ∷ xs) (b ∷ ys) x y e =
-    let d : xs ++ x ∷ [] ≡ ys ++ y ∷ [] = cc in
-    let k = snoc_same xs ys x y d in
-    let h : a ≡ b = cc in
-    let f : xs ≡ ys = k.0 in
-    (cc, k.1)
 
 no_snoc : (xs : List Piece) (x : Piece) → [] ≡ xs ++ x ∷ [] → ⊥
 no_snoc [] x e = cc
@@ -174,8 +162,8 @@ module _ (reads : ℕ → List Piece → Phrase → Type 0) (ops : Table) (ts : 
 
   init_fine : {m : ℕ} {qs : List Piece} → FrontsRead reads m qs → (ps : List Piece) (p : Piece) → qs ≡ ps ++ p ∷ [] → FrontsRead reads m ps
   init_fine no_front ps p e = absurd (no_snoc ps p e)
-  init_fine {m} (past_operand {ps = xs} t f) ps p e = subst (FrontsRead reads m) (snoc_same xs ps (Operand t) p e).0 f
-  init_fine {m} (past_operator {ps = xs} o f r) ps p e = subst (FrontsRead reads m) (snoc_same xs ps (Operator o) p e).0 f
+  init_fine {m} (past_operand {ps = xs} t f) ps p e = subst (FrontsRead reads m) (same_from_push xs ps (Operand t) p e).0 f
+  init_fine {m} (past_operator {ps = xs} o f r) ps p e = subst (FrontsRead reads m) (same_from_push xs ps (Operator o) p e).0 f
 
   -- where a bracket ends
   record Ending (layers : List Layer) (k : Inside) (from : ℕ) (t : Phrase) (next : ℕ) : Type 0 where
@@ -279,9 +267,9 @@ module _ (reads : ℕ → List Piece → Phrase → Type 0) (ops : Table) (ts : 
 
   last_front : {m : ℕ} {qs : List Piece} → FrontsRead reads m qs → (ps : List Piece) (o : Op) → qs ≡ ps ++ Operator o ∷ [] → (x : Phrase) → (t : Phrase) × reads m (ps ++ Operator o ∷ Operand x ∷ []) t
   last_front no_front ps o e x = absurd (no_snoc ps (Operator o) e)
-  last_front (past_operand {ps = xs} t f) ps o e x = let k : Operand t ≡ Operator o = (snoc_same xs ps (Operand t) (Operator o) e).1 in absurd (cc)
+  last_front (past_operand {ps = xs} t f) ps o e x = let k : Operand t ≡ Operator o = (same_from_push xs ps (Operand t) (Operator o) e).1 in absurd (cc)
   last_front {m} (past_operator {ps = xs} q f r) ps o e x =
-      let k = snoc_same xs ps (Operator q) (Operator o) e in
+      let k = same_from_push xs ps (Operator q) (Operator o) e in
       subst (λ w. (t : Phrase) × reads m (w ++ Operator o ∷ Operand x ∷ []) t) k.0
       (subst (λ (w : Piece). (t : Phrase) × reads m (xs ++ w ∷ Operand x ∷ []) t) k.1 (r x))
 

@@ -11,6 +11,7 @@ use Rattle.apd_token.specs.declared.items.TokenKind.TheVariants as kinds
 use Rattle.apd_token.specs.declared.items.Token.{Token}
 use Rattle.apd_token.proofs.Contents.{one_content}
 use Rattle.std.specs.Str.{chars}
+use Rattle.std.proofs.lemmas.List.{same_from_push}
 use Rattle.apd_read.specs.declared.lexeme.Sort.{Sort}
 use Rattle.apd_read.specs.declared.lexeme.Sort.TheVariants as sorts
 use Rattle.apd_read.specs.declared.lexeme.Lexeme.{Lexeme}
@@ -25,19 +26,6 @@ use Rattle.apd_read.specs.Lexemes.{IsNameOf, variable_place, with_variable, IsSo
 use Rattle.apd_read.specs.Answer.{place_of, placed, IsFaultIn, HasLexemes, HasReading, HasFault}
 use Rattle.apd_read.specs.Reader.{IsRead}
 use Rattle.apd_read.proofs.Fronts.{only_answer}
-
-ends_same : {A : Type 0} (xs ys : List A) (x y : A) → xs ++ x ∷ [] ≡ ys ++ y ∷ [] → (xs ≡ ys) × (x ≡ y)
-ends_same [] [] x y e = (refl, cc)
-ends_same [] (b ∷ []) x y e = absurd (cc)
-ends_same [] (b ∷ c ∷ ys) x y e = absurd (cc)
-ends_same (a ∷ []) [] x y e = absurd (cc)
-ends_same (a ∷ b ∷ xs) [] x y e = absurd (cc)
-ends_same (a ∷ xs) (b ∷ ys) x y e =
-    let d : xs ++ x ∷ [] ≡ ys ++ y ∷ [] = cc in
-    let k = ends_same xs ys x y d in
-    let h : a ≡ b = cc in
-    let f : xs ≡ ys = k.0 in
-    (cc, k.1)
 
 no_end : {A : Type 0} (xs : List A) (x : A) → [] ≡ xs ++ x ∷ [] → ⊥
 no_end [] x e = cc
@@ -96,7 +84,7 @@ one_list no_lexeme no_lexeme e = (refl, refl)
 one_list no_lexeme (then_lexeme {ts = us} u m b q y) e = absurd (no_end us u e)
 one_list (then_lexeme {ts = ts} t l a p x) no_lexeme e = absurd (no_end ts t (sym e))
 one_list {names} {text} (then_lexeme {ts = ts} {ls} {vars} t l a p x) (then_lexeme {ts = us} {ls = ms} {vars = ws} u m b q y) e =
-    let k = ends_same ts us t u e in
+    let k = same_from_push ts us t u e in
     let h = one_list p q k.0 in
     let y' : IsLexeme names text vars t m b = subst (λ (w : Token). IsLexeme names text vars w m b) (sym k.1) (subst (λ (w : List (List ℕ)). IsLexeme names text w u m b) (sym h.1) y) in
     let one = one_lexeme names text vars t l m a b x y' in

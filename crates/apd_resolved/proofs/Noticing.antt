@@ -11,7 +11,8 @@ use Rattle.apd_term.specs.Spelling.{variable_in}
 use Rattle.apd_term.specs.Canonical.{with_new}
 use Rattle.apd_term.proofs.Among.{IsAmong-left, IsAmong-right, IsAmong-append}
 use Rattle.apd_term.proofs.Spelling.{flat_map-variables}
-use Rattle.apd_cells.proofs.Ordered.{any_old, any_other, with_old, with_other}
+use Rattle.apd_term.proofs.Variants.{any_of}
+use Rattle.apd_cells.proofs.Ordered.{any_other, with_old, with_other}
 use Rattle.apd_resolved.specs.Noticed.{is_unseen, unseen, Sees}
 
 -- a number stands among others, or not
@@ -33,7 +34,7 @@ at_most_one true = omega arith
 at_most_one false = omega arith
 
 counted_old : (seen : List ℕ) (k : ℕ) → IsAmong seen k → is_unseen seen k ≡ 0
-counted_old seen k m = ap flag (any_old seen k m)
+counted_old seen k m = ap flag (any_of seen k m)
 
 counted_new : (seen : List ℕ) (k : ℕ) → ¬ IsAmong seen k → is_unseen seen k ≡ 1
 counted_new seen k n = ap flag (any_other seen k n)

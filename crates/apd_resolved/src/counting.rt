@@ -5,7 +5,7 @@ ghost use Rattle.apd_cells.specs.Known.{HasExtent};
 ghost use Rattle.apd_cells.specs.Work.{AreRuns};
 ghost use Rattle.apd_resolved.specs.Counting.{CountedWithin, MeasuredWithin, MeasuresPart, PassesPart};
 
-use crate::quick::{CountedPart, extent_of, fixed_part, pass_front};
+use crate::quick::{Part, extent_of, fixed_part, pass_front};
 use apd_cells::heap::Heap;
 use apd_cells::known::Extent;
 use apd_cells::stack::Stack;
@@ -22,12 +22,7 @@ pub struct Count {
 
 /// Passes the first symbol of a run, behind the bindings, or the first term, where its extent is known and a binding
 /// leads to it, or it is the run's last and that is looked for.
-fn pass_part(
-    heap: &Heap,
-    rest: &mut Stack<Run>,
-    here: Run,
-    looks: bool,
-) -> Result<CountedPart, AllocError>
+fn pass_part(heap: &Heap, rest: &mut Stack<Run>, here: Run, looks: bool) -> Result<Part, AllocError>
     requires right { AreRuns heap.now.cells (here ∷ rest.old) }
     requires some { 0 < here.left }
     ensures { IfOk result
@@ -40,7 +35,7 @@ fn pass_part(
                 at: here.at + 1,
                 left: here.left - 1,
             };
-            return Ok(CountedPart { extent, next });
+            return Ok(Part { extent, next });
         }
     }
     if looks && here.left == 1 {
@@ -49,11 +44,11 @@ fn pass_part(
                 at: here.at + 1,
                 left: 0,
             };
-            return Ok(CountedPart { extent, next });
+            return Ok(Part { extent, next });
         }
     }
     let passed = pass_from(heap, rest, here, at)?;
-    Ok(CountedPart {
+    Ok(Part {
         extent: extent_of(passed.symbol)?,
         next: passed.next,
     })
@@ -139,7 +134,7 @@ fn is_long(count: Count) -> bool {
     count.steps > FEW_OPEN_STEPS
 }
 
-/// The extents of its tails are kept too where it takes more steps than these.
+/// The extents of a term's tails are kept too where it takes more steps than these to count it.
 const MANY_STEPS: u64 = 64;
 
 /// The extent of the term at a cell; none exactly where its size is over the limit. It is kept if it takes long to count
@@ -160,7 +155,7 @@ fn kept_within(
         }
         return Ok(Some(extent));
     }
-    let Some(count) = count_within(heap, alloc, at, limit)? else {
+    let Some(count) = count_with_front(heap, alloc, at, limit)? else {
         return Ok(None);
     };
     if count.steps > MANY_STEPS && count.extent.above == 0 {
@@ -173,7 +168,7 @@ fn kept_within(
 }
 
 /// The same as [`counted_within`] tells, which is asked where the terms that bindings lead to aren't known.
-fn count_within(
+fn count_with_front(
     heap: &Heap,
     alloc: Global,
     at: usize,
@@ -198,7 +193,7 @@ fn measure_led(
     alloc: Global,
     here: Run,
     limit: u64,
-) -> Result<Option<CountedPart>, AllocError>
+) -> Result<Option<Part>, AllocError>
     requires right { AreRuns heap.old.cells (here ∷ []) }
     requires some { 0 < here.left }
     ensures part { IfOk result (MeasuresPart heap.old here limit) }
@@ -213,7 +208,7 @@ fn measure_led(
             at: here.at + 1,
             left: here.left - 1 + arity,
         };
-        return Ok(Some(CountedPart { extent, next }));
+        return Ok(Some(Part { extent, next }));
     }
     let Some(extent) = kept_within(heap, alloc, at, limit)? else {
         return Ok(None);
@@ -222,7 +217,7 @@ fn measure_led(
         at: here.at + 1,
         left: here.left - 1,
     };
-    Ok(Some(CountedPart { extent, next }))
+    Ok(Some(Part { extent, next }))
 }
 
 /// The same as [`measure_led`], which isn't asked where no variable is written.
@@ -231,7 +226,7 @@ fn measure_part(
     alloc: Global,
     here: Run,
     limit: u64,
-) -> Result<Option<CountedPart>, AllocError>
+) -> Result<Option<Part>, AllocError>
     requires right { AreRuns heap.old.cells (here ∷ []) }
     requires some { 0 < here.left }
     ensures part { IfOk result (MeasuresPart heap.old here limit) }
@@ -252,7 +247,7 @@ fn note_long(heap: &mut Heap, at: usize, extent: Extent) -> Result<(), AllocErro
     ensures { heap.new ≡ heap.old }
 {
     if extent.size > FEW_SYMBOLS && !heap.is_flat() {
-        heap.note(at, extent)?;
+        heap.remember(at, extent)?;
     }
     Ok(())
 }

@@ -3,6 +3,6 @@
 #![tactic(auto)]
 
 pub mod counting;
-pub mod quick;
+mod quick;
 mod reaching;
 pub mod reading;

@@ -14,7 +14,7 @@ use std::alloc::AllocError;
 
 /// What a count passes at once: a symbol, or a term whose extent is known; and the run that it is in then.
 #[derive(Clone, Copy)]
-pub struct CountedPart {
+pub struct Part {
     pub extent: Extent,
     pub next: Run,
 }
@@ -46,7 +46,7 @@ fn is_fixed(symbol: Sym) -> bool
 
 /// Passes the first symbol of a run, where no variable is written there; none says nothing.
 #[inline(always)]
-pub fn fixed_part(heap: &Heap, here: Run) -> Option<CountedPart>
+pub fn fixed_part(heap: &Heap, here: Run) -> Option<Part>
     requires right { AreRuns heap.now.cells (here ∷ []) }
     requires some { 0 < here.left }
     ensures { IfSome result
@@ -60,7 +60,7 @@ pub fn fixed_part(heap: &Heap, here: Run) -> Option<CountedPart>
             left: here.left - 1 + arity_of(symbol),
         };
         let extent = Extent { size: 1, above: 0 };
-        return Some(CountedPart { extent, next });
+        return Some(Part { extent, next });
     }
     None
 }
@@ -68,7 +68,7 @@ pub fn fixed_part(heap: &Heap, here: Run) -> Option<CountedPart>
 /// Passes the first symbol of a run, or the first term, where a binding leads to it and its extent is known; none says
 /// nothing.
 #[inline(always)]
-fn known_part(heap: &Heap, here: Run) -> Option<CountedPart>
+fn known_part(heap: &Heap, here: Run) -> Option<Part>
     requires right { AreRuns heap.now.cells (here ∷ []) }
     requires some { 0 < here.left }
     ensures part { IfSome result
@@ -86,18 +86,18 @@ fn known_part(heap: &Heap, here: Run) -> Option<CountedPart>
             at: here.at + 1,
             left: here.left - 1 + arity,
         };
-        return Some(CountedPart { extent, next });
+        return Some(Part { extent, next });
     }
     let extent = heap.known(at)?;
     let next = Run {
         at: here.at + 1,
         left: here.left - 1,
     };
-    Some(CountedPart { extent, next })
+    Some(Part { extent, next })
 }
 
 /// Passes what stands first in a run, as far as nothing is to be counted for it and it is within the limit.
-pub fn pass_front(heap: &Heap, here: Run, limit: u64) -> CountedPart
+pub fn pass_front(heap: &Heap, here: Run, limit: u64) -> Part
     requires { AreRuns heap.now.cells (here ∷ []) }
     ensures front { PassesFront heap.now (here ∷ []) result.extent (result.next ∷ []) }
     ensures within { result.extent.size ≤ limit }
@@ -107,13 +107,13 @@ pub fn pass_front(heap: &Heap, here: Run, limit: u64) -> CountedPart
     let mut extent = Extent { size: 0, above: 0 };
     'parts: while next.left > 0 {
         let Some(part) = known_part(heap, next) else {
-            return CountedPart { extent, next };
+            return Part { extent, next };
         };
         if part.extent.size > limit - extent.size {
-            return CountedPart { extent, next };
+            return Part { extent, next };
         }
         extent = extent.and(part.extent);
         next = part.next;
     }
-    CountedPart { extent, next }
+    Part { extent, next }
 }

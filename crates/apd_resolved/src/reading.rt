@@ -62,7 +62,7 @@ pub fn size_within(
 }
 
 /// Whether no variable stands in the term at a cell, as far as it is seen: false says nothing. It passes
-/// what [`size_within`] passes.
+/// what [`size_within`] passes, and asks for nothing that was measured lately.
 pub fn is_ground_within(
     heap: &Heap,
     alloc: Global,

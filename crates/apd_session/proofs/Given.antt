@@ -1,12 +1,12 @@
 -- What a line asks for: the goals of a query are few and of pure Prolog, and what is brought in has the names of the line.
-use Rattle.std.proofs.Common.{◌≡◌, ℕ, zero, suc, Bool, true, false, List, Option, Some, None, refl, sym, ◌∙◌, ap, subst, arith}
+use Rattle.std.proofs.Common.{◌≡◌, ℕ, Bool, true, false, List, Option, Some, None, refl, sym, ◌∙◌, ap, subst, arith}
 use Rattle.std.specs.Prelude.{All, if◌then◌else◌, slice_get, ℤ, Result, Ok, Err}
 use Rattle.std.proofs.lemmas.List.Elements.{All-from_recursion, recursion_from_All}
 use Rattle.apd_causes.specs.declared.faults.BodyFault.{BodyFault}
 use Rattle.apd_causes.specs.declared.reading.Read.{Read}
 use Rattle.apd_causes.specs.declared.run.Query.{Query}
-use Rattle.apd_term.specs.Named.{AreNamed, IsNamed, TupleIsNamed}
-use Rattle.apd_term.specs.Term.{Term, Terms, variable, integer, compound, none, more, arguments, list_of, predicate_of}
+use Rattle.apd_term.specs.Named.{IsNamed, TupleIsNamed}
+use Rattle.apd_term.specs.Term.{Term, arguments, predicate_of}
 use Rattle.apd_term.specs.declared.standard.TheConstants.{KNOWN, LOOP, MISSING, QUERY, QUIT, TRACE, WRONG}
 use Rattle.apd_term.proofs.FirstNames.{length-standard_names}
 use Rattle.apd_clauses.specs.Bodies.{body_fault}
@@ -29,6 +29,7 @@ use Rattle.apd_ops.specs.Table.{Table}
 use Rattle.apd_ports.specs.declared.filter.Filter.{Filter}
 use Rattle.apd_read.specs.Reader.{Reader}
 use Rattle.apd_text.specs.declared.entry.Refusal.TheVariants.{NotACommand}
+use Rattle.apd_commands.proofs.Commanding.{argument_named}
 use Rattle.apd_session.proofs.Unbroken.{AreUnbroken, ReadIsUnbroken, variables-unbroken}
 use Rattle.apd_written.specs.Proper.{AreProperGoals}
 
@@ -107,16 +108,6 @@ query_named n (lines.Clause r) q named is =
     let standard = named.standard in
     query_is_named r q h.asks h.is n (omega (arith, standard, length-standard_names)) named.named
 
-argument-named : (n : ℕ) (ts : Terms) (i : ℕ) (a : Term) → AreNamed n ts → slice_get (list_of ts) i ≡ Some a → IsNamed n a
-argument-named n none i a named is = absurd (cc)
-argument-named n (more t ts) zero a named is = let same : t ≡ a = cc in subst (IsNamed n) same named.0
-argument-named n (more t ts) (suc i) a named is = argument-named n ts i a named.1 is
-
-part-named : (n : ℕ) (t : Term) (i : ℕ) (a : Term) → IsNamed n t → slice_get (arguments t) i ≡ Some a → IsNamed n a
-part-named n (variable v) i a named is = absurd (cc)
-part-named n (integer k) i a named is = absurd (cc)
-part-named n (compound f ts) i a named is = argument-named n ts i a named.1 is
-
 -- the atom of `missing(B, A)` is its second argument
 no_query : (r : Result Query BodyFault) (b : ℤ) (a : Term) → query_asked r ≡ command.Missing b a → ⊥
 no_query (Err fault) b a is = cc
@@ -157,7 +148,7 @@ atom_named : (n : ℕ) (line : LineRead) (b : ℤ) (a : Term) → LineIsNamed n 
 atom_named n lines.Empty b a named is = absurd (cc)
 atom_named n lines.TooLong b a named is = absurd (cc)
 atom_named n (lines.Bad cause) b a named is = absurd (cc)
-atom_named n (lines.Clause r) b a named is = part-named n r.term 1 a named.named (term_atom r b a is)
+atom_named n (lines.Clause r) b a named is = argument_named n r.term 1 a (term_atom r b a is) named.named
 
 -- the variables of a query stand on one line
 query_unbroken : (line : LineRead) (q : Query) → ReadIsUnbroken line → command_of line ≡ command.Query q → AreUnbroken q.vars

@@ -8,6 +8,7 @@ use Rattle.apd_read.specs.Reader.{Reader}
 use Rattle.apd_talk.specs.Speech.{Lasting}
 use Rattle.apd_term.specs.Growth.{Grown, GrowsBy}
 use Rattle.apd_term.specs.StandardNames.{standard_names}
+use Rattle.apd_read.proofs.Growing.{grown_both}
 use Rattle.apd_text.specs.declared.log.Log.{Log}
 use Rattle.apd_words.specs.Words.{options_of}
 use Rattle.apd_check.specs.declared.checked.Checked.{Checked}
@@ -28,7 +29,7 @@ use Rattle.apd_session.specs.declared.status.Status.{Status}
 use Rattle.apd_session.specs.declared.status.Status.TheVariants as statuses
 use Rattle.apd_session.proofs.Demos.{shown_ends}
 use Rattle.apd_session.proofs.Limit.{nothing_read}
-use Rattle.apd_session.proofs.Loading.{grew_both, grew_by, stop_limit, stop_read}
+use Rattle.apd_session.proofs.Loading.{grew_by, stop_limit, stop_read}
 use Rattle.apd_session.proofs.Turning.{grows_none, grows_few}
 use Rattle.apd_session.proofs.Worlds.{met_so, met_wanting, unread}
 
@@ -130,7 +131,7 @@ module _ (words : List (List ℕ)) (p q : Outside) (kept : List (List ℕ)) (log
   pub serves : (x : Opening) (st : Status) → Opens p.content (LoadFailed p q) (options_of words) kept x → Counted (is_read_fault (stops_with x)) p.load_faults q.load_faults → GoesOn x kept p.streams q.streams log st → IsSession words p q log st
   serves x st opens counts goes = record {
     meaning = λ names grew reader. met_so words names reader p q st log kept x goes.verdict opens (Grown-more kept log.names names (grew_by _ _ _ goes.names) grew) (goes.judged names grew reader) (goes.answers names grew reader);
-    names = grew_both 3145728 16777216 standard_names kept log.names grows goes.names;
+    names = grown_both standard_names kept log.names 3145728 16777216 grows goes.names;
     limit = goes.limit;
     read = λ e. either_failed p q x (rose_stop (stops_with x) p.load_faults q.load_faults counts) (goes.read e);
     write = goes.write;

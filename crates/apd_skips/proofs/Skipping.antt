@@ -3,7 +3,7 @@ use Rattle.std.proofs.Common.{◌≡◌, ◌≢◌, ◌⊎◌, inl, inr, ℕ, ze
 use Rattle.std.specs.Prelude.{Some, slice_get, slice_set}
 use Rattle.std.specs.List.{flat_map}
 use Rattle.std.proofs.lemmas.Option.{slice_get-get_or}
-use Rattle.std.proofs.lemmas.List.{drop_all, drop_at, drop-drop, length-drop}
+use Rattle.std.proofs.lemmas.List.{drop_all, drop_at, drop-drop, length-drop, take_all}
 use Rattle.apd_term.specs.Term.{IsTerms, IsWhole, Term, first_of, read_all, size, size_all, spell, term_of, terms_of}
 use Rattle.apd_term.specs.declared.term.Sym.{Sym}
 use Rattle.apd_term.specs.declared.term.Sym.TheVariants.{Var, Int, Fun}
@@ -11,7 +11,6 @@ use Rattle.apd_term.proofs.Matched.{IsTerms-drop}
 use Rattle.apd_term.proofs.Spelling.{first_within, length-spell, read_all-flat_map_all, split_terms}
 use Rattle.apd_skips.specs.Skips.{AreSkipsFrom, IsSkip, end_behind, end_of, subterm_at, terms_from}
 use Rattle.apd_skips.specs.declared.skips.Skip.{Skip}
-use Rattle.apd_bits.proofs.Lists.{all-taken}
 
 -- Lists of terms.
 
@@ -79,7 +78,7 @@ passed-all s from k n at m l p =
     let ts : List Term = read_all (drop from s) in
     let gone : drop k ts ≡ [] = sym p.rest ∙ ap read_all (drop_all at s l) in
     let few : length ts ≤ k = (let c = ap (λ (us : List Term). length us) gone in omega (arith, c, length-drop k ts)) in
-    p.end ∙ ap (λ (us : List Term). from + size_all (terms_of us)) (all-taken ts k few ∙ sym (all-taken ts n (omega (arith, few, m))))
+    p.end ∙ ap (λ (us : List Term). from + size_all (terms_of us)) (take_all k ts few ∙ sym (take_all n ts (omega (arith, few, m))))
 
 -- the skip that is read at a place
 pub skip-is : (s : List Sym) (skips : List Skip) (from i : ℕ) (x : Skip) → AreSkipsFrom s skips from → from ≤ i → i < length skips → x ≡ get_or skips i x → IsSkip s i x

@@ -10,7 +10,7 @@ use Rattle.apd_token.specs.declared.bytes.Escape.{Escape}
 use Rattle.apd_token.specs.declared.bytes.Escape.TheVariants.{Newline, Octal, Hex, Simple, Unknown}
 use Rattle.apd_token.proofs.Cut.{Extends, cut_cases}
 
-AllIn-right : (set : Set) (xs ys : List ℕ) → AllIn set (xs ++ ys) → AllIn set ys
+pub AllIn-right : (set : Set) (xs ys : List ℕ) → AllIn set (xs ++ ys) → AllIn set ys
 AllIn-right set [] ys all = all
 AllIn-right set (x ∷ xs) ys all = AllIn-right set xs ys all.1
 

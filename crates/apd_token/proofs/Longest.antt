@@ -17,7 +17,7 @@ use Rattle.apd_token.specs.declared.found.Found.TheVariants.{Passed, Item, Bad}
 use Rattle.apd_token.proofs.Quoting.{no_longer}
 use Rattle.apd_token.proofs.Marks.{no_decimal, one_char}
 use Rattle.apd_token.proofs.Cut.{cut_cases}
-use Rattle.apd_token.proofs.Unique.{AllIn-right}
+use Rattle.apd_token.proofs.Elements.{AllIn-right}
 
 -- Of a class whose forms are each the first byte alone, one byte is the longest.
 pub alone : (cls : Class) (at : ℕ) (w : Found) (b : ℕ) (after : List ℕ) → class_of b ≡ cls

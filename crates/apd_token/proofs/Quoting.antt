@@ -45,7 +45,7 @@ element_at_quote : (q : ℕ) → IsQuote q → (bs value : List ℕ) → Element
 element_at_quote q (inl a) bs value el = let el' : ElementOf (39 == 92) (39 == 39) 39 39 bs value = subst (λ (n : ℕ). ElementOf (n == 92) (n == n) n n bs value) a el in el'.0 ∙ ap (λ n. n ∷ []) (sym a)
 element_at_quote q (inr a) bs value el = let el' : ElementOf (34 == 92) (34 == 34) 34 34 bs value = subst (λ (n : ℕ). ElementOf (n == 92) (n == n) n n bs value) a el in el'.0 ∙ ap (λ n. n ∷ []) (sym a)
 
-none_at_end : (q : ℕ) → NoElement q []
+pub none_at_end : (q : ℕ) → NoElement q []
 none_at_end q [] value rest el e = el
 none_at_end q (b ∷ bs) value rest el e = cc
 

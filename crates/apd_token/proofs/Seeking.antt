@@ -17,7 +17,7 @@ use Rattle.apd_token.specs.declared.bytes.Escape.{Escape}
 use Rattle.apd_token.specs.declared.bytes.Escape.TheVariants.{Newline, Octal, Hex, Simple, Unknown}
 use Rattle.apd_token.proofs.Slices.{slice_none, slice_one, slice_first, drop_two, one_byte}
 use Rattle.apd_token.proofs.Escapes.{no_digits, has_digits, octal_none, octal_some, no_element_code, element_code, body_start, body_more}
-use Rattle.apd_token.proofs.Quoting.{IsQuote, none_at_close}
+use Rattle.apd_token.proofs.Quoting.{IsQuote, none_at_close, none_at_end}
 
 -- the run of bytes of a set from a place on
 pub record Run (set : Set) (xs : List ℕ) (at : ℕ) : Type 0 where
@@ -184,10 +184,6 @@ code_from xs at lt = by (escape_of (get_or xs at 0)) refl
 abbrev pub ElementAt : List ℕ → ℕ → ℕ → Type 0
 ElementAt xs at q = ((upto : ℕ) × (value : List ℕ) × HasElement xs at q upto value) ⊎ NoElement q (drop at xs)
 
-pub none_past : (q : ℕ) → NoElement q []
-none_past q [] value rest el e = el
-none_past q (b ∷ bs) value rest el e = cc
-
 lone_backslash : (q : ℕ) → NoElement q (92 ∷ [])
 lone_backslash q [] value rest el e = el
 lone_backslash q (b ∷ []) value rest el e =
@@ -253,7 +249,7 @@ element_quote xs at q is lt quote = elim (cases_lt (at + 1) (length xs)) [
 
 element_from : (xs : List ℕ) (at q : ℕ) → IsQuote q → at ≤ length xs → ElementAt xs at q
 element_from xs at q is le = elim (cases_lt at (length xs)) [
-  | inr past ↦ inr (subst (NoElement q) (sym (drop_all at xs past)) (none_past q))
+  | inr past ↦ inr (subst (NoElement q) (sym (drop_all at xs past)) (none_at_end q))
   | inl lt ↦ elim (cases_eq (get_or xs at 0) 92) [
     | inl back ↦ element_backslash xs at q lt back
     | inr no_back ↦ elim (cases_eq (get_or xs at 0) q) [ inl quote ↦ element_quote xs at q is lt quote | inr no_quote ↦ element_plain xs at q lt no_back no_quote ]
@@ -265,7 +261,7 @@ abbrev pub BodyAt : List ℕ → ℕ → ℕ → Type 0
 BodyAt xs from q = (upto : ℕ) × (out : List ℕ) × InBody xs from upto q out × NoElement q (drop upto xs)
 
 body_by : (xs : List ℕ) (from q : ℕ) → IsQuote q → (n at : ℕ) (out : List ℕ) → length xs ≤ n + at → InBody xs from at q out → BodyAt xs from q
-body_by xs from q is zero at out short b = (at, out, b, subst (NoElement q) (sym (drop_all at xs (omega arith))) (none_past q))
+body_by xs from q is zero at out short b = (at, out, b, subst (NoElement q) (sym (drop_all at xs (omega arith))) (none_at_end q))
 body_by xs from q is (suc n) at out short b = elim (element_from xs at q is b.within) [
   | inl found ↦ let beyond = found.2.beyond in body_by xs from q is n found.0 (out ++ found.1) (omega arith) (body_more xs from at q found.0 out found.1 b found.2)
   | inr none ↦ (at, out, b, none)

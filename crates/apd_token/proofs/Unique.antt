@@ -5,7 +5,6 @@ use Rattle.apd_token.specs.Quotes.{AllIn}
 use Rattle.apd_token.specs.Grammar.{EndsLine, IsLead, IsComment, IsOpenComment, IsEnd, BeginsComment, GraphicForm, IsFloat, DigitForm, FormOf, HasForm, Begins, Piece, IsSound, Divides, place_after, tokens_of, HasTokens, HasFault}
 use Rattle.apd_token.specs.declared.bytes.Class.{Class}
 use Rattle.apd_token.specs.declared.bytes.Class.TheVariants as classes
-use Rattle.apd_token.specs.declared.bytes.Set.{Set}
 use Rattle.apd_token.specs.declared.bytes.Set.TheVariants as sets
 use Rattle.apd_token.specs.declared.items.Token.{Token}
 use Rattle.apd_causes.specs.declared.faults.TokenFault.{TokenFault}
@@ -14,13 +13,8 @@ use Rattle.apd_token.specs.declared.found.Found.TheVariants.{Passed, Item, Bad}
 use Rattle.apd_token.proofs.Quoting.{one_quoted, class_quote}
 use Rattle.apd_token.proofs.Marks.{one_number}
 use Rattle.apd_token.specs.Scan.{StopsRun}
-use Rattle.apd_token.proofs.Elements.{run_cut}
+use Rattle.apd_token.proofs.Elements.{run_cut, AllIn-right}
 use Rattle.apd_token.proofs.Cut.{cut_cases}
-
--- the bytes of a run from the middle on
-pub AllIn-right : (set : Set) (xs ys : List ℕ) → AllIn set (xs ++ ys) → AllIn set ys
-AllIn-right set [] ys all = all
-AllIn-right set (x ∷ xs) ys all = AllIn-right set xs ys all.1
 
 -- a closed comment isn't an open one
 comment_is_closed : (bytes after : List ℕ) → IsComment bytes → IsOpenComment bytes after → ⊥

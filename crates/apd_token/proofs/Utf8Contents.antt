@@ -45,7 +45,7 @@ past_ascii (b ∷ bs) ys h u = past_ascii bs ys (λ i. h (suc i)) (cut_ascii [] 
 
 -- the sets of ASCII bytes
 
-ascii_in : (set : Set) → ((b : ℕ) → in_set set b ≡ true → b < 128) → (bs : List ℕ) → AllIn set bs → IsAscii bs
+pub ascii_in : (set : Set) → ((b : ℕ) → in_set set b ≡ true → b < 128) → (bs : List ℕ) → AllIn set bs → IsAscii bs
 ascii_in set low [] all = IsAscii-nil
 ascii_in set low (b ∷ bs) all = IsAscii-cons b bs (low b all.0) (ascii_in set low bs all.1)
 

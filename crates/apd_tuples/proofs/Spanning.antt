@@ -46,8 +46,8 @@ wider goals goals' rows m h =
 pub wider_spots : (goals goals' : List PastCell) (rows : List SpotRow) → HasMore goals goals' → AreSpanned (length goals) rows → spots_in goals' rows ≡ spots_in goals rows
 wider_spots goals goals' rows m h = ap (λ gs. spots_in gs rows) m.1 ∙ spots_more goals m.0 rows h
 
-pub put_length : (goals goals' places : List PastCell) (cells : List Cell) → goals' ≡ goals ++ placed_all places cells → length goals' ≡ length goals + length cells
-put_length goals goals' places cells e = omega (arith, ap length e, length-append goals (placed_all places cells), length-map cells (place_of_cell places))
+pub put_length : (goals goals' : List PastCell) (cells : List Cell) → goals' ≡ goals ++ placed_all cells → length goals' ≡ length goals + length cells
+put_length goals goals' cells e = omega (arith, ap length e, length-append goals (placed_all cells), length-map cells place_of_cell)
 
 -- goals were put behind, and a row with them
 module _ (goals more goals' : List PastCell) (rows rows' : List SpotRow) (r : SpotRow) (ge : goals' ≡ goals ++ more) (re : rows' ≡ rows ++ r ∷ [])

@@ -1,25 +1,24 @@
 -- Tuples that stand in a past: what stays of them, and one more.
-use Rattle.std.proofs.Common.{◌≡◌, ℕ, ◌<◌, ◌≤◌, List, [], ◌∷◌, ◌++◌, length, map, inl, inr, zero, suc, Some, None, refl, sym, ◌∙◌, ap, subst, arith}
+use Rattle.std.proofs.Common.{◌≡◌, ℕ, ◌<◌, ◌≤◌, List, [], ◌∷◌, ◌++◌, length, map, zero, suc, Some, None, refl, sym, ◌∙◌, ap, subst, arith}
 use Rattle.std.specs.Option.{option_map}
 use Rattle.std.specs.Prelude.{slice_get}
 use Rattle.std.proofs.lemmas.List.{map-append}
 use Rattle.std.proofs.lemmas.Option.{slice_get-map}
-use Rattle.apd_term.specs.Term.{IsAmong}
 use Rattle.apd_term.specs.Tuple.{canonical_tuple}
 use Rattle.apd_term.specs.declared.tuple.Tuple.{Tuple}
 use Rattle.apd_unify.specs.declared.store.Cell.{Cell}
 use Rattle.apd_cells.specs.Stored.{Stored}
 use Rattle.apd_cells.specs.Store.{term_at, IsSound}
-use Rattle.apd_past.specs.declared.mirror.Mirror.{Mirror}
 use Rattle.apd_past.specs.declared.past.PastCell.{PastCell}
 use Rattle.apd_past.specs.Follows.{Follows}
-use Rattle.apd_past.specs.History.{History, KeepsMoments, at_moment, present}
-use Rattle.apd_past.specs.Mirror.{place, places_of}
-use Rattle.apd_past.specs.Tuples.{AreInside, tuple_at}
+use Rattle.apd_past.specs.Done.{Done}
+use Rattle.apd_past.specs.History.{History, KeepsMoments, history_of}
+use Rattle.apd_past.specs.Tuples.{AreInside, terms_at, tuple_at}
+use Rattle.apd_past.proofs.Following.{tuple_now}
 use Rattle.apd_past.proofs.Keeping.{tuple_kept}
-use Rattle.apd_past.proofs.Mirrored.{tuple_there}
+use Rattle.apd_past.proofs.Moments.{present_at}
 use Rattle.apd_tuples.specs.declared.spots.Fact.{Fact}
-use Rattle.apd_tuples.specs.Spots.{HavePlaces, Place, place_of_cell, placed, placed_all}
+use Rattle.apd_tuples.specs.Spots.{HavePlaces, Place, placed, placed_all}
 use Rattle.apd_tuples.specs.Tuples.{kept_tuple, kept_tuples, tuple_of, AreThere, Holds, IsThere}
 
 inside_more : (n m : ℕ) (cs : List PastCell) → n ≤ m → AreInside n cs → AreInside m cs
@@ -53,52 +52,41 @@ there_get h [] i p a e = cc
 there_get h (q ∷ ps) zero p a e = let is : q ≡ p = cc in subst (IsThere h) is a.0
 there_get h (q ∷ ps) (suc i) p a e = there_get h ps i p a.1 e
 
-placed_as : (places : List PastCell) (cs : List Cell) → placed_all places cs ≡ places_of places (map (λ (c : Cell). c.0) cs)
-placed_as places [] = refl
-placed_as places (c ∷ cs) = ap (λ ps. place_of_cell places c ∷ ps) (placed_as places cs)
-
-terms_as : (s : Stored) (cs : List Cell) → map (term_at s) (map (λ (c : Cell). c.0) cs) ≡ map (λ (c : Cell). term_at s c.0) cs
+terms_as : (s : Stored) (cs : List Cell) → terms_at s (placed_all cs) ≡ map (λ (c : Cell). term_at s c.0) cs
 terms_as s [] = refl
 terms_as s (c ∷ cs) = ap (λ ts. term_at s c.0 ∷ ts) (terms_as s cs)
 
-among_inside : (n : ℕ) (cs : List Cell) (c : ℕ) → HavePlaces n cs → IsAmong (map (λ (c : Cell). c.0) cs) c → c < n
-among_inside n [] c h o = absurd o
-among_inside n (d ∷ cs) c h (inl e) = subst (λ x. x < n) e h.0
-among_inside n (d ∷ cs) c h (inr o) = among_inside n cs c h.1 o
-
--- a store stands in a past at present
-module _ (m : Mirror) (s : Stored) (f : Follows m s) (sound : IsSound s) (head : Cell) (goals : List Cell) (inside : head.0 < length s.cells)
-    (all : HavePlaces (length s.cells) goals) (k : ℕ) (now : k ≡ length m.past.deeds) (here : at_moment k m.past ≡ present m.past) (fact : Fact)
-    (holds : Holds fact (canonical_tuple (tuple_of s head goals))) where
-  placed_inside : (cs : List Cell) → HavePlaces (length s.cells) cs → AreInside (length m.past.cells) (placed_all m.places.items cs)
+-- a log has followed a store
+module _ (d : Done) (s : Stored) (f : Follows d s) (sound : IsSound s) (head : Cell) (goals : List Cell) (inside : head.0 < length s.cells)
+    (all : HavePlaces (length s.cells) goals) (k : ℕ) (now : k ≡ length d.deeds) (fact : Fact) (holds : Holds fact (canonical_tuple (tuple_of s head goals))) where
+  placed_inside : (cs : List Cell) → HavePlaces (length s.cells) cs → AreInside (length s.cells) (placed_all cs)
   placed_inside [] h = tt
-  placed_inside (c ∷ cs) h = (f.stands.inside c.0 h.0, placed_inside cs h.1)
+  placed_inside (c ∷ cs) h = (h.0, placed_inside cs h.1)
 
-  placed_tuple : kept_tuple m.past (placed m.places.items head goals k fact) ≡ canonical_tuple (tuple_of s head goals)
+  placed_tuple : kept_tuple (history_of s.cells d) (placed head goals k fact) ≡ canonical_tuple (tuple_of s head goals)
   placed_tuple =
-      ap (λ (z : Stored). canonical_tuple (tuple_at z (place m.places.items head.0) (placed_all m.places.items goals))) here
-      ∙ ap (λ ps. canonical_tuple (tuple_at (present m.past) (place m.places.items head.0) ps)) (placed_as m.places.items goals)
-      ∙ tuple_there s (present m.past) m.places.items m.names.items head.0 (map (λ (c : Cell). c.0) goals) sound f.stands inside (λ c o. among_inside (length s.cells) goals c all o)
+      ap (λ (z : Stored). canonical_tuple (tuple_at z head.0 (placed_all goals))) (present_at (history_of s.cells d) k (omega (arith, now)))
+      ∙ ap canonical_tuple (tuple_now d s head.0 (placed_all goals) sound f)
       ∙ ap (λ ts. canonical_tuple (record { head = term_at s head.0; body = ts })) (terms_as s goals)
 
-  placed_there : IsThere m.past (placed m.places.items head goals k fact)
+  placed_there : IsThere (history_of s.cells d) (placed head goals k fact)
   placed_there = record {
     moment = omega (arith, now);
-    head = f.stands.inside head.0 inside;
+    head = inside;
     goals = placed_inside goals all;
     fact = subst (Holds fact) (sym placed_tuple) holds;
   }
 
   -- one more tuple is kept
-  pub one_there : (old : History) (ps qs : List Place) → KeepsMoments old m.past → AreThere old ps → qs ≡ ps ++ placed m.places.items head goals k fact ∷ [] → AreThere m.past qs
-  one_there old ps qs moments h e = subst (AreThere m.past) (sym e) (there_push m.past ps (placed m.places.items head goals k fact) (there_more old m.past ps moments h) placed_there)
+  pub one_there : (old : History) (ps qs : List Place) → KeepsMoments old (history_of s.cells d) → AreThere old ps → qs ≡ ps ++ placed head goals k fact ∷ [] → AreThere (history_of s.cells d) qs
+  one_there old ps qs moments h e = subst (AreThere (history_of s.cells d)) (sym e) (there_push (history_of s.cells d) ps (placed head goals k fact) (there_more old (history_of s.cells d) ps moments h) placed_there)
 
-  pub one_kept : (old : History) (ps qs : List Place) → KeepsMoments old m.past → AreThere old ps → qs ≡ ps ++ placed m.places.items head goals k fact ∷ []
-      → kept_tuples m.past qs ≡ kept_tuples old ps ++ canonical_tuple (tuple_of s head goals) ∷ []
+  pub one_kept : (old : History) (ps qs : List Place) → KeepsMoments old (history_of s.cells d) → AreThere old ps → qs ≡ ps ++ placed head goals k fact ∷ []
+      → kept_tuples (history_of s.cells d) qs ≡ kept_tuples old ps ++ canonical_tuple (tuple_of s head goals) ∷ []
   one_kept old ps qs moments h e =
-      ap (kept_tuples m.past) e
-      ∙ map-append (kept_tuple m.past) ps (placed m.places.items head goals k fact ∷ [])
-      ∙ ap (λ ts. ts ++ kept_tuple m.past (placed m.places.items head goals k fact) ∷ []) (tuples_same old m.past ps moments h)
+      ap (kept_tuples (history_of s.cells d)) e
+      ∙ map-append (kept_tuple (history_of s.cells d)) ps (placed head goals k fact ∷ [])
+      ∙ ap (λ ts. ts ++ kept_tuple (history_of s.cells d) (placed head goals k fact) ∷ []) (tuples_same old (history_of s.cells d) ps moments h)
       ∙ ap (λ t. kept_tuples old ps ++ t ∷ []) placed_tuple
 
 -- what is known of a kept tuple

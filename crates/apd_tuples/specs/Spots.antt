@@ -1,5 +1,5 @@
 -- Where tuples are in a past.
-use Rattle.std.specs.Prelude.{◌≡◌, ℕ, ◌<◌, ◌≤◌, List, [], ◌∷◌, ◌++◌, map, take, drop, get_or}
+use Rattle.std.specs.Prelude.{◌≡◌, ℕ, ◌<◌, ◌≤◌, List, [], ◌∷◌, ◌++◌, map, take, drop}
 use Rattle.apd_unify.specs.declared.store.Cell.{Cell}
 use Rattle.apd_past.specs.declared.past.PastCell.{PastCell}
 use Rattle.apd_tuples.specs.declared.spots.Fact.{Fact}
@@ -42,16 +42,15 @@ HavePlaces n [] = Unit {0}
 HavePlaces n (c ∷ cs) = (c.0 < n) × HavePlaces n cs
 
 -- the place of a cell
-abbrev pub place_of_cell : List PastCell → Cell → PastCell
-place_of_cell places c = get_or places c.0 (record { 0 = 0 })
+abbrev pub place_of_cell : Cell → PastCell
+place_of_cell c = record { 0 = c.0 }
 
-abbrev pub placed_all : List PastCell → List Cell → List PastCell
-placed_all places cells = map (place_of_cell places) cells
+abbrev pub placed_all : List Cell → List PastCell
+placed_all cells = map place_of_cell cells
 
 -- where the tuple at a head's cell and at goals' cells is, at a moment, of which this is known
-abbrev pub placed : List PastCell → Cell → List Cell → ℕ → Fact → Place
-placed places head goals m fact =
-    record { head = place_of_cell places head; goals = placed_all places goals; moment = m; fact = fact }
+abbrev pub placed : Cell → List Cell → ℕ → Fact → Place
+placed head goals m fact = record { head = place_of_cell head; goals = placed_all goals; moment = m; fact = fact }
 
 -- more was put behind
 abbrev pub HasMore : List PastCell → List PastCell → Type 0

@@ -1,7 +1,7 @@
 //! Where kept tuples are in a past.
 
 ghost use Rattle.std.specs.Prelude.{◌≡◌, ◌∷◌, [], ◌++◌, ◌<◌, length, slice_get, None, Some, IfOk, OnOk, OnErr, MatchOption};
-ghost use Rattle.apd_tuples.specs.Spots.{HasMore, HavePlaces, IsSpanned, place_of_cell, placed, placed_all, spot_at, spot_in};
+ghost use Rattle.apd_tuples.specs.Spots.{HasMore, IsSpanned, place_of_cell, placed, placed_all, spot_at, spot_in};
 
 use crate::packed::KeptRow;
 use apd_cells::stack::room_for_one;
@@ -46,7 +46,7 @@ pub struct SpotRow {
     pub fact: Fact,
 }
 
-/// The spots of tuples. Clauses see their list, the oldest first.
+/// The spots of tuples. Contracts see their list, the oldest first.
 #[derive(Drop)]
 pub struct Spots {
     rows: Vec<KeptRow>,
@@ -67,29 +67,26 @@ impl Model for Spots {
 /// The greatest number that is kept.
 const MOST: usize = 4_294_967_295;
 
-/// The place of a cell.
-fn place_of(places: &[PastCell], cell: Cell) -> PastCell
-    requires { cell.0 < length places.now }
-    ensures { result ≡ place_of_cell places.now cell }
+/// The place of a cell; want of memory where its number is too great.
+fn place_of(cell: Cell) -> Result<PastCell, AllocError>
+    ensures { IfOk result (λ c. c ≡ place_of_cell cell) }
 {
-    places[cell.0]
+    if cell.0 > MOST {
+        return Err(AllocError);
+    }
+    Ok(PastCell(cell.0 as u32))
 }
 
 /// Puts the places of cells behind the others.
 #[inline(always)]
-fn put_places(
-    there: &mut Vec<PastCell>,
-    places: &[PastCell],
-    cells: &[Cell],
-) -> Result<(), AllocError>
-    requires { HavePlaces (length places.now) cells.now }
-    ensures ok { OnOk result
-        (there.new.items ≡ there.old.items ++ placed_all places.now cells.now) }
+fn put_places(there: &mut Vec<PastCell>, cells: &[Cell]) -> Result<(), AllocError>
+    ensures ok { OnOk result (there.new.items ≡ there.old.items ++ placed_all cells.now) }
     ensures more { HasMore there.old.items there.new.items }
 {
     there.reserve(cells.len())?;
     'cells: for cell in cells {
-        there.push_reserved(place_of(places, *cell));
+        let place = place_of(*cell)?;
+        there.push_reserved(place);
     }
     Ok(())
 }
@@ -148,7 +145,7 @@ impl Spots {
     }
 
     /// Puts the spot of the terms at a head's cell and at goals' cells behind the others, and tells its
-    /// number and how many goals it has. The cells stand at these places.
+    /// number and how many goals it has.
     ///
     /// # Errors
     ///
@@ -156,16 +153,13 @@ impl Spots {
     #[inline(always)]
     pub fn push(
         &mut self,
-        places: &[PastCell],
         head: Cell,
         goals: &[Cell],
         moment: Moment,
         fact: Fact,
     ) -> Result<Numbered, AllocError>
-        requires head { head.0 < length places.now }
-        requires goals { HavePlaces (length places.now) goals.now }
         ensures ok { OnOk result
-            (self.new ≡ self.old ++ placed places.now head goals.now moment.0 fact ∷ []) }
+            (self.new ≡ self.old ++ placed head goals.now moment.0 fact ∷ []) }
         ensures number { IfOk result (λ n. n.number ≡ length self.old) }
         ensures count { IfOk result (λ n. n.goals ≡ length goals.now) }
         ensures err { OnErr result (self.new ≡ self.old) }
@@ -176,9 +170,10 @@ impl Spots {
         if number > MOST || count > MOST || from > MOST - count {
             return Err(AllocError);
         }
-        put_places(&mut self.goals, places, goals)?;
+        let place = place_of(head)?;
+        put_places(&mut self.goals, goals)?;
         let kept = KeptRow::of(SpotRow {
-            head: place_of(places, head),
+            head: place,
             moment,
             from: from as u32,
             to: (from + count) as u32,

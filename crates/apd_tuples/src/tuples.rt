@@ -16,7 +16,7 @@ use std::alloc::{AllocError, Global};
 use std::marker::Model;
 
 /// Tuples that were kept, in canonical form, each as it was then: they are read in the past, and none
-/// is written out before. Clauses see their list, the oldest first.
+/// is written out before. Contracts see their list, the oldest first.
 #[derive(Drop)]
 pub struct KeptTuples {
     past: Past,

@@ -1,7 +1,7 @@
 -- One term of a head after another is made equal with one of a goal.
 use Rattle.std.proofs.Common.{◌≡◌, inl, inr, ℕ, zero, suc, ◌+◌, ◌-◌, ◌<◌, ◌≤◌, List, [], ◌∷◌, ◌++◌, length, take, drop, map, refl, sym, ◌∙◌, ap, subst, arith}
 use Rattle.std.specs.List.{flat_map}
-use Rattle.std.proofs.lemmas.List.{drop-append-le, length-append, map-append}
+use Rattle.std.proofs.lemmas.List.{drop-append-le, length-append, map-append, take-append-le}
 use Rattle.std.proofs.lemmas.List.Concat.{flat_map-append}
 use Rattle.apd_term.specs.declared.term.Sym.{Sym}
 use Rattle.apd_term.specs.Term.{Term, apply, spell, size, variables, first_of, read_all, IsAmong, IsTerms}
@@ -74,11 +74,6 @@ runs_whole s rs = subst IsTerms (sym (runs_spelled s rs)) (IsTerms-flat_map (map
 read_more : (cells more : List Sym) (c : ℕ) → IsTerms cells → c ≤ length cells → read_all (drop c (cells ++ more)) ≡ read_all (drop c cells) ++ read_all more
 read_more cells more c h l = ap read_all (drop-append-le c cells more l) ∙ read_all-append (drop c cells) more (IsTerms-drop c cells h)
 
-take_front : (n : ℕ) (xs ys : List Term) → n ≤ length xs → take n (xs ++ ys) ≡ take n xs
-take_front zero xs ys l = refl
-take_front (suc n) [] ys l = absurd (omega arith)
-take_front (suc n) (x ∷ xs) ys l = ap (λ r. x ∷ r) (take_front n xs ys (omega arith))
-
 run_more : (cells more : List Sym) (c n : ℕ) → IsTerms cells → IsRun cells c n → IsRun (cells ++ more) c n
 run_more cells more c n h r = record {
   inside = omega (arith, r.inside, length-append cells more);
@@ -93,7 +88,7 @@ terms_more : (cells more : List Sym) (rs : List Run) → IsTerms cells → AreRu
 terms_more cells more [] h r = refl
 terms_more cells more (x ∷ rs) h r =
     ap (λ z. take x.left z ++ runs_terms (cells ++ more) rs) (read_more cells more x.at h r.0.inside)
-    ∙ ap (λ z. z ++ runs_terms (cells ++ more) rs) (take_front x.left (read_all (drop x.at cells)) (read_all more) r.0.enough)
+    ∙ ap (λ z. z ++ runs_terms (cells ++ more) rs) (take-append-le x.left (read_all (drop x.at cells)) (read_all more) r.0.enough)
     ∙ ap (λ z. run_of cells x.at x.left ++ z) (terms_more cells more rs h r.1)
 
 -- the variables of terms that are written in cells

@@ -13,8 +13,8 @@ use Rattle.apd_unify.proofs.Textbook.{deleted_round, decomposed_round, eliminate
 use Rattle.apd_unify.proofs.Measure.{most_steps, most_steps-lt, steps_eliminated}
 use Rattle.apd_cells.specs.declared.heap.TrailNote.TheVariants.{Bound}
 use Rattle.apd_unify.specs.declared.unify.Pairs.{Pairs}
-use Rattle.apd_unify.specs.declared.unify.Equated.{Equated}
-use Rattle.apd_unify.specs.declared.unify.Equated.TheVariants.{Equal, Clash, Arguments, Bound as BoundOne}
+use Rattle.apd_unify.specs.declared.unify.PairOutcome.{PairOutcome}
+use Rattle.apd_unify.specs.declared.unify.PairOutcome.TheVariants.{Equal, Clash, Arguments, Bound as BoundOne}
 use Rattle.apd_cells.specs.Stored.{Stored}
 use Rattle.apd_cells.specs.Store.{written, meaning, term_at, bound, Keeps, IsStore}
 use Rattle.apd_unify.specs.Unified.{IsUnified}
@@ -245,27 +245,27 @@ proceeds_on old s s' a b here next ps qs ps' g h = record {
   smaller = rw (g.1.0 s) h.smaller;
 }
 
-pub turn_clash : (old s s' : Stored) (a b : ℕ) (here : Pairs) (ps : List Pairs) (next : Pairs) (qs : List Pairs) (x y : ℕ) (r : Equated)
+pub turn_clash : (old s s' : Stored) (a b : ℕ) (here : Pairs) (ps : List Pairs) (next : Pairs) (qs : List Pairs) (x y : ℕ) (r : PairOutcome)
     → Turn old s a b here ps next qs x y → Solves r s s' x y → r ≡ Clash → HasNoUnifier (term_at old a) (term_at old b)
 turn_clash old s s' a b here ps next qs x y r t h e =
     let k : (s' ≡ s) × HasNoUnifier (term_at s x) (term_at s y) = subst (λ z. Solves z s s' x y) e h in
     unifying_clash old s a b next qs x y (unifying_on old s a b here next ps qs t.unifying t.goes) t.goes.0 t.leads k.1
 
-pub turn_equal : (old s s' : Stored) (a b : ℕ) (here : Pairs) (ps : List Pairs) (next : Pairs) (qs : List Pairs) (x y : ℕ) (r : Equated) (out : Pairs)
+pub turn_equal : (old s s' : Stored) (a b : ℕ) (here : Pairs) (ps : List Pairs) (next : Pairs) (qs : List Pairs) (x y : ℕ) (r : PairOutcome) (out : Pairs)
     → Turn old s a b here ps next qs x y → Solves r s s' x y → r ≡ Equal → IsPast s' next out → Proceeds old s s' a b (here ∷ ps) (out ∷ qs)
 turn_equal old s s' a b here ps next qs x y r out t h e p =
     let k : (s' ≡ s) × (term_at s x ≡ term_at s y) = subst (λ z. Solves z s s' x y) e h in
     let g = unifying_equal old s a b next out qs x y (unifying_on old s a b here next ps qs t.unifying t.goes) t.leads k.1 (subst (λ z. IsPast z next out) k.0 p) in
     proceeds_on old s s' a b here next ps qs (out ∷ qs) t.goes (subst (λ z. Proceeds old s z a b (next ∷ qs) (out ∷ qs)) (sym k.0) g)
 
-pub turn_bound : (old s s' : Stored) (a b : ℕ) (here : Pairs) (ps : List Pairs) (next : Pairs) (qs : List Pairs) (x y : ℕ) (r : Equated) (out : Pairs)
+pub turn_bound : (old s s' : Stored) (a b : ℕ) (here : Pairs) (ps : List Pairs) (next : Pairs) (qs : List Pairs) (x y : ℕ) (r : PairOutcome) (out : Pairs)
     → Turn old s a b here ps next qs x y → Solves r s s' x y → r ≡ BoundOne → IsPast s' next out → Proceeds old s s' a b (here ∷ ps) (out ∷ qs)
 turn_bound old s s' a b here ps next qs x y r out t h e p =
     let k : HasEliminated s s' x y = subst (λ z. Solves z s s' x y) e h in
     proceeds_on old s s' a b here next ps qs (out ∷ qs) t.goes
     (unifying_bound old s s' a b next out qs x y (unifying_on old s a b here next ps qs t.unifying t.goes) t.leads t.goes.0 k p)
 
-pub turn_arguments : (old s s' : Stored) (a b : ℕ) (here : Pairs) (ps : List Pairs) (next : Pairs) (qs : List Pairs) (x y : ℕ) (r : Equated) (n : ℕ) (out : Pairs) (outs : List Pairs)
+pub turn_arguments : (old s s' : Stored) (a b : ℕ) (here : Pairs) (ps : List Pairs) (next : Pairs) (qs : List Pairs) (x y : ℕ) (r : PairOutcome) (n : ℕ) (out : Pairs) (outs : List Pairs)
     → Turn old s a b here ps next qs x y → Solves r s s' x y → r ≡ Arguments n → IsDecomposed s' qs next out outs x y → Proceeds old s s' a b (here ∷ ps) (out ∷ outs)
 turn_arguments old s s' a b here ps next qs x y r n out outs t h e p =
     let k : (s' ≡ s) × HasArguments s.cells x y n = subst (λ z. Solves z s s' x y) e h in

@@ -3,13 +3,14 @@ use Rattle.std.proofs.Common.{ℤ, ◌≡◌, ◌≢◌, inl, inr, ℕ, ◌+◌,
 use Rattle.std.specs.Bool.{Decides}
 use Rattle.std.specs.List.{list_any, zip}
 use Rattle.std.specs.Ordering.{int_eq}
-use Rattle.std.proofs.lemmas.Bool.Decides.{Decides-eqb, Decides-int_eq, nat_tests}
+use Rattle.std.proofs.lemmas.Bool.Decides.{Decides-eqb, Decides-int_eq}
 use Rattle.apd_term.specs.declared.term.NameId.{NameId}
 use Rattle.apd_term.specs.Term.{Term, Terms, variable, integer, compound, none, more, list_of, arguments, size, size_all, apply, apply_all, variables, variables_all, IsAmong, Occurs}
 use Rattle.apd_term.proofs.Spelling.{length-apply_all}
 use Rattle.apd_term.specs.Substitution.{Unifies}
 use Rattle.apd_term.proofs.Among.{IsAmong-left, IsAmong-right, IsAmong-append}
 use Rattle.apd_term.proofs.Variants.{any_of, any_among}
+use Rattle.apd_cells.proofs.Ordered.{any_other}
 use Rattle.apd_unify.specs.declared.rule.Rule.{Rule}
 use Rattle.apd_unify.specs.declared.rule.Rule.TheVariants.{Delete, Decompose, Clash, Cycle, Eliminate}
 use Rattle.apd_unify.specs.Unifier.{OccursIn, HasNoUnifier}
@@ -18,12 +19,6 @@ use Rattle.apd_unify.proofs.Rounds.{UnifiesAll, OccursInAll}
 use Rattle.apd_unify.proofs.Steps.{cycle}
 
 -- whether a variable stands in a list
-pub none_among : (vs : List ℕ) (v : ℕ) → ¬ IsAmong vs v → list_any (λ w. w == v) vs ≡ false
-none_among [] v n = refl
-none_among (x ∷ xs) v n =
-    let here : x ≢ v = λ e. n (inl e) in
-    let later = none_among xs v (λ m. n (inr m)) in
-    grind (arith, nat_tests)
 
 pub not_among : (vs : List ℕ) (v : ℕ) → list_any (λ w. w == v) vs ≡ false → ¬ IsAmong vs v
 not_among vs v h m = differ (sym h ∙ any_of vs v m)
@@ -223,4 +218,4 @@ rule_for_variable-free v (variable w) n = by_test (v == w) (Decides-eqb v w)
     by_test true d = absurd (n (inl (sym (d.0 refl))))
     by_test false d = refl
 rule_for_variable-free v (integer i) n = refl
-rule_for_variable-free v (compound f ts) n = rw (none_among (variables_all ts) v n) refl
+rule_for_variable-free v (compound f ts) n = rw (any_other (variables_all ts) v n) refl

@@ -8,8 +8,8 @@ use Rattle.apd_term.specs.Term.{Term, variable, apply, arguments, Occurs}
 use Rattle.apd_unify.specs.Textbook.{Equation}
 use Rattle.apd_unify.specs.Unifier.{HasNoUnifier}
 use Rattle.apd_unify.specs.declared.unify.Pairs.{Pairs}
-use Rattle.apd_unify.specs.declared.unify.Equated.{Equated}
-use Rattle.apd_unify.specs.declared.unify.Equated.TheVariants.{Equal, Bound, Clash, Arguments}
+use Rattle.apd_unify.specs.declared.unify.PairOutcome.{PairOutcome}
+use Rattle.apd_unify.specs.declared.unify.PairOutcome.TheVariants.{Equal, Bound, Clash, Arguments}
 use Rattle.apd_cells.specs.Stored.{Stored}
 use Rattle.apd_cells.specs.Store.{meaning, term_at, bound}
 use Rattle.apd_cells.specs.Work.{run_of, IsRun}
@@ -50,7 +50,7 @@ pub record HasArguments (cells : List Sym) (a b n : ℕ) : Type 0 where
   pub right_symbol : get_or cells b (Var 0) ≡ Fun f n
 
 -- what was done with the terms at two cells
-abbrev pub Solves : Equated → Stored → Stored → ℕ → ℕ → Type 0
+abbrev pub Solves : PairOutcome → Stored → Stored → ℕ → ℕ → Type 0
 Solves Equal old new a b = (new ≡ old) × (term_at old a ≡ term_at old b)
 Solves Bound old new a b = HasEliminated old new a b
 Solves Clash old new a b = (new ≡ old) × HasNoUnifier (term_at old a) (term_at old b)

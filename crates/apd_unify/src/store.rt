@@ -1,6 +1,6 @@
 //! The store: terms in cells, which unification binds and which can be taken back.
 
-ghost use Rattle.std.specs.Prelude.{◌≡◌, ℕ, ◌+◌, ◌<◌, ◌≤◌, ◌^◌, [], length, IfOk, OnOk, OnErr};
+ghost use Rattle.std.specs.Prelude.{◌≡◌, ℕ, ◌+◌, ◌<◌, ◌≤◌, ◌^◌, [], length, IfOk, MatchBool, OnOk, OnErr};
 ghost use Rattle.std.specs.Bool.{OnTrue};
 ghost use Rattle.apd_term.specs.Term.{arguments, integer, IsGround, Occurs, size};
 ghost use Rattle.apd_term.specs.Canonical.{shifted};
@@ -9,7 +9,9 @@ ghost use Rattle.apd_cells.specs.Live.{store_of};
 ghost use Rattle.apd_cells.specs.Numbered.{IsNumbered};
 ghost use Rattle.apd_cells.specs.Ordered.{Numbers};
 ghost use Rattle.apd_cells.specs.Slots.{AreSlots};
-ghost use Rattle.apd_cells.specs.Store.{term_at, under_bindings, loaded, at_mark, Keeps, IsSound, SizeWithin};
+ghost use Rattle.apd_cells.specs.Store.{term_at, under_bindings, binding_of, loaded, at_mark, Keeps, IsSound, SizeWithin};
+ghost use Rattle.apd_cells.specs.Undone.{IsFront, undone};
+ghost use Rattle.apd_cells.specs.declared.heap.Binding.TheVariants.{Free};
 ghost use Rattle.apd_resolved.specs.Counting.{MeasuredWithin};
 ghost use Rattle.apd_unify.specs.Arguments.{HasOne, HasTwo};
 ghost use Rattle.apd_unify.specs.Copies.{HasShared};
@@ -22,6 +24,7 @@ use crate::heads::{Solver, load_part, unify_head};
 use crate::scratch::{Scratch, numbered_within};
 use crate::unify::unify;
 use apd_cells::first::{first_symbol, key_at};
+use apd_cells::front::{Front, NOTHING};
 use apd_cells::heap::Heap;
 use apd_cells::known::Extent;
 use apd_cells::live::Live;
@@ -135,6 +138,7 @@ impl Store {
     /// Loads an integer. All other cells keep their terms. After want of memory nothing has changed.
     pub fn load_integer(&mut self, value: i64) -> Result<Cell, AllocError>
         ensures made { IfOk result (λ c. term_at self.new c.0 ≡ integer value) }
+        ensures cell { IfOk result (λ c. c.0 ≡ length self.old.cells) }
         ensures there { IfOk result (λ c. c.0 < length self.new.cells) }
         ensures others { OnOk result ((c : ℕ) → c < length self.old.cells →
             term_at self.new c ≡ term_at self.old c) }
@@ -284,7 +288,38 @@ impl Store {
         requires { mark.0 ≤ length self.old.trail }
         ensures { self.new ≡ at_mark mark.0 self.old }
     {
-        self.heap.undo(mark.0);
+        let _variables = self.heap.variables();
+        self.heap.undo(mark.0, NOTHING);
+    }
+
+    /// The same, but for a front of the cells: these stay, and so do their variables.
+    pub fn go_back(&mut self, mark: Mark, kept: Front)
+        requires there { mark.0 ≤ length self.old.trail }
+        requires front { IsFront kept self.old.cells }
+        ensures undone { self.new ≡ undone kept mark.0 self.old }
+        ensures sound { IsSound self.old }
+    {
+        let _variables = self.heap.variables();
+        self.heap.undo(mark.0, kept);
+    }
+
+    /// Whether a variable is free.
+    pub fn is_free(&self, v: u64) -> bool
+        ensures { MatchBool result
+            (binding_of self.now.trail v ≡ Free)
+            (¬ (binding_of self.now.trail v ≡ Free)) }
+    {
+        match self.heap.bound_to(v) {
+            None => true,
+            Some(_) => false,
+        }
+    }
+
+    /// Its cells. The rest is given up.
+    pub fn into_cells(self) -> Vec<Sym>
+        ensures { result.items ≡ self.cells }
+    {
+        self.heap.into_cells()
     }
 
     /// The size of the term at a cell; none exactly where it is over the limit.

@@ -25,7 +25,7 @@ pub struct Pairs {
 
 /// What was done with two terms that are to be made equal.
 #[derive(Clone, Copy, PartialEq, Eq)]
-pub enum Equated {
+pub enum PairOutcome {
     /// They are equal.
     Equal,
     /// One is a variable, and was bound to the other.
@@ -60,7 +60,7 @@ fn solve_variable(
     v: u64,
     at: usize,
     to: usize,
-) -> Result<Equated, AllocError>
+) -> Result<PairOutcome, AllocError>
     requires variable { IsFreeVariable heap.old v at }
     requires to { to < length heap.old.cells }
     requires term { IsFixed (symbol_at heap.old to) }
@@ -69,10 +69,10 @@ fn solve_variable(
     ensures err { OnErr result (heap.new ≡ heap.old) }
 {
     if stands_in(heap, looking, v, to)? {
-        return Ok(Equated::Clash);
+        return Ok(PairOutcome::Clash);
     }
     heap.bind(v, to)?;
-    Ok(Equated::Bound)
+    Ok(PairOutcome::Bound)
 }
 
 /// Binds the greater of two variables to the other.
@@ -82,7 +82,7 @@ fn solve_variables(
     w: u64,
     a: usize,
     b: usize,
-) -> Result<Equated, AllocError>
+) -> Result<PairOutcome, AllocError>
     requires left { IsFreeVariable heap.old v a }
     requires right { IsFreeVariable heap.old w b }
     requires store { IsSound heap.old }
@@ -91,17 +91,22 @@ fn solve_variables(
 {
     if v < w {
         heap.bind(w, a)?;
-        return Ok(Equated::Bound);
+        return Ok(PairOutcome::Bound);
     }
     if w < v {
         heap.bind(v, b)?;
-        return Ok(Equated::Bound);
+        return Ok(PairOutcome::Bound);
     }
-    Ok(Equated::Equal)
+    Ok(PairOutcome::Equal)
 }
 
 /// Solves the equation between the terms at two cells, up to the arguments of names.
-fn solve(heap: &mut Heap, looking: &mut Looking, a: usize, b: usize) -> Result<Equated, AllocError>
+fn solve(
+    heap: &mut Heap,
+    looking: &mut Looking,
+    a: usize,
+    b: usize,
+) -> Result<PairOutcome, AllocError>
     requires a { a < length heap.old.cells }
     requires b { b < length heap.old.cells }
     requires free_a { IsEnd heap.old a }
@@ -110,7 +115,7 @@ fn solve(heap: &mut Heap, looking: &mut Looking, a: usize, b: usize) -> Result<E
     ensures err { OnErr result (heap.new ≡ heap.old) }
 {
     if a == b {
-        return Ok(Equated::Equal);
+        return Ok(PairOutcome::Equal);
     }
     match (heap.symbol(a), heap.symbol(b)) {
         (Sym::Var(v), Sym::Var(w)) => solve_variables(heap, v, w, a, b),
@@ -118,13 +123,13 @@ fn solve(heap: &mut Heap, looking: &mut Looking, a: usize, b: usize) -> Result<E
         (_, Sym::Var(w)) => solve_variable(heap, looking, w, b, a),
         (x, y) => {
             if x != y {
-                return Ok(Equated::Clash);
+                return Ok(PairOutcome::Clash);
             }
             let arity = arity_of(x);
             if arity == 0 {
-                return Ok(Equated::Equal);
+                return Ok(PairOutcome::Equal);
             }
-            Ok(Equated::Arguments(arity))
+            Ok(PairOutcome::Arguments(arity))
         }
     }
 }
@@ -241,10 +246,10 @@ pub fn unify(
         let x = heap.follow(next.a);
         let y = heap.follow(next.b);
         match solve(heap, looking, x, y)? {
-            Equated::Clash => return Ok(false),
-            Equated::Arguments(arity) => here = decompose(heap, pairs, next, x, y, arity)?,
-            Equated::Equal => here = past(heap, next),
-            Equated::Bound => here = past(heap, next),
+            PairOutcome::Clash => return Ok(false),
+            PairOutcome::Arguments(arity) => here = decompose(heap, pairs, next, x, y, arity)?,
+            PairOutcome::Equal => here = past(heap, next),
+            PairOutcome::Bound => here = past(heap, next),
         }
     }
     Ok(true)

@@ -1,8 +1,9 @@
 use Rattle.std.proofs.Common.{List, subst, arith, take}
+use Rattle.std.proofs.lemmas.List.{take_all}
 use Rattle.apd_answers.specs.declared.store.Pair.{Pair}
 use Rattle.apd_findings.specs.Ordering.{AreOrders}
 use Rattle.apd_findings.specs.Parted.{AreAffirmed, AreDenied}
-use Rattle.apd_findings.proofs.Parting.{put-next, taken-all}
+use Rattle.apd_findings.proofs.Parting.{put-next}
 use Rattle.apd_findings.proofs.parted.put_pairs.Goals as goal
 
 pub pairs-preserved : goal.pairs-preserved
@@ -16,10 +17,10 @@ pairs-preserved c =
     )
 
 pub returns-clause-affirmed : goal.returns-clause-affirmed
-returns-clause-affirmed c = subst (λ (ps : List Pair). AreAffirmed ps c.pairs.parts.affirmed) (taken-all c.args.all.now.pairs c.pairs.i (omega (arith, c.pairs-test.false, c.len-i-end.ensures))) c.pairs.invariant.0
+returns-clause-affirmed c = subst (λ (ps : List Pair). AreAffirmed ps c.pairs.parts.affirmed) (take_all c.pairs.i c.args.all.now.pairs (omega (arith, c.pairs-test.false, c.len-i-end.ensures))) c.pairs.invariant.0
 
 pub returns-clause-denied : goal.returns-clause-denied
-returns-clause-denied c = subst (λ (ps : List Pair). AreDenied ps c.pairs.parts.denied) (taken-all c.args.all.now.pairs c.pairs.i (omega (arith, c.pairs-test.false, c.len-i-end.ensures))) c.pairs.invariant.1.0
+returns-clause-denied c = subst (λ (ps : List Pair). AreDenied ps c.pairs.parts.denied) (take_all c.pairs.i c.args.all.now.pairs (omega (arith, c.pairs-test.false, c.len-i-end.ensures))) c.pairs.invariant.1.0
 
 pub returns-clause-orders : goal.returns-clause-orders
-returns-clause-orders c = subst (λ (ps : List Pair). AreOrders ps c.pairs.parts.orders) (taken-all c.args.all.now.pairs c.pairs.i (omega (arith, c.pairs-test.false, c.len-i-end.ensures))) c.pairs.invariant.1.1
+returns-clause-orders c = subst (λ (ps : List Pair). AreOrders ps c.pairs.parts.orders) (take_all c.pairs.i c.args.all.now.pairs (omega (arith, c.pairs-test.false, c.len-i-end.ensures))) c.pairs.invariant.1.1

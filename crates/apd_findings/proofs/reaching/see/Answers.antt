@@ -1,5 +1,5 @@
 use Rattle.std.proofs.Common.{List, ℕ, get_or, refl, subst}
-use Rattle.apd_bits.proofs.Lists.{all-taken}
+use Rattle.std.proofs.lemmas.List.{take_all}
 use Rattle.apd_findings.specs.Reaching.{HasSeen, HasWaiting}
 use Rattle.apd_findings.proofs.Walks.{seen-more, seen-none, waits-more, waits-none}
 use Rattle.apd_findings.proofs.reaching.see.Goals as goal
@@ -24,7 +24,7 @@ nexts-preserved c =
 
 pub returns-clause-seen : goal.returns-clause-seen
 returns-clause-seen c = λ lists fresh rows.
-    subst (λ (ns : List ℕ). HasSeen lists fresh ns c.args.seen.now c.args.waiting.now.items c.nexts.seen c.nexts.waiting.items) (all-taken c.args.nexts.now c.nexts.next-index c.nexts-test.false) (c.nexts.invariant.seen lists fresh rows)
+    subst (λ (ns : List ℕ). HasSeen lists fresh ns c.args.seen.now c.args.waiting.now.items c.nexts.seen c.nexts.waiting.items) (take_all c.nexts.next-index c.args.nexts.now c.nexts-test.false) (c.nexts.invariant.seen lists fresh rows)
 
 pub returns-clause-waits : goal.returns-clause-waits
-returns-clause-waits c = subst (λ (ns : List ℕ). HasWaiting ns c.args.seen.now c.args.waiting.now.items c.nexts.seen c.nexts.waiting.items) (all-taken c.args.nexts.now c.nexts.next-index c.nexts-test.false) c.nexts.invariant.waits
+returns-clause-waits c = subst (λ (ns : List ℕ). HasWaiting ns c.args.seen.now c.args.waiting.now.items c.nexts.seen c.nexts.waiting.items) (take_all c.nexts.next-index c.args.nexts.now c.nexts-test.false) c.nexts.invariant.waits

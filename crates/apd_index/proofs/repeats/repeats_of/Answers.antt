@@ -1,9 +1,9 @@
 use Rattle.std.proofs.Common.{◌≡◌, ◌<◌, arith, get_or, length, refl, sym}
 use Rattle.std.proofs.lemmas.Option.{get_or_from_slice_get, slice_get_read}
 use Rattle.apd_term.specs.declared.term.Sym.TheVariants.{Var}
+use Rattle.apd_marks.specs.declared.positions.Parent.{Parent}
 use Rattle.apd_index.specs.Columns.{IsFor}
 use Rattle.apd_index.specs.Subterms.{position}
-use Rattle.apd_index.specs.declared.positions.Parent.{Parent}
 use Rattle.apd_index.proofs.Parts.{as-many, variable-at}
 use Rattle.apd_index.proofs.Unequal.{firsts-go, repeats-go}
 use Rattle.apd_index.proofs.repeats.repeats_of.Goals as goal

@@ -1,8 +1,8 @@
 use Rattle.std.proofs.Common.{◌≡◌, ◌<◌, arith, get_or, length, refl, sym}
 use Rattle.std.proofs.lemmas.Option.{get_or_from_slice_get, slice_get_read}
 use Rattle.apd_term.specs.declared.term.Sym.TheVariants.{Var}
+use Rattle.apd_marks.specs.declared.positions.Parent.{Parent}
 use Rattle.apd_index.specs.Subterms.{position}
-use Rattle.apd_index.specs.declared.positions.Parent.{Parent}
 use Rattle.apd_index.proofs.Parts.{as-many, symbol-at}
 use Rattle.apd_index.proofs.Spotted.{marked, spots-more}
 use Rattle.apd_index.proofs.sharing.spots_of.Goals as goal

@@ -3,8 +3,8 @@ use Rattle.std.specs.Prelude.{slice_get}
 use Rattle.apd_term.specs.declared.term.Sym.{Sym}
 use Rattle.apd_term.specs.declared.term.Sym.TheVariants.{Var}
 use Rattle.apd_term.proofs.Spelling.{some_symbol}
-use Rattle.apd_marks.specs.Positions.{top}
-use Rattle.apd_index.specs.Subterms.{noted, position}
+use Rattle.apd_marks.specs.Positions.{noted, top}
+use Rattle.apd_index.specs.Subterms.{position}
 use Rattle.apd_index.proofs.Rooted.{first-root}
 use Rattle.apd_index.proofs.waiting.root_of.Goals as goal
 

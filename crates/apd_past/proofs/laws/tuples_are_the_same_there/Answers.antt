@@ -1,5 +1,5 @@
-use Rattle.apd_past.proofs.Mirrored.{tuple_there}
+use Rattle.apd_past.proofs.Following.{tuple_now}
 use Rattle.apd_past.proofs.laws.tuples_are_the_same_there.Goals as goal
 
 pub returns : goal.returns
-returns c = tuple_there
+returns c = tuple_now

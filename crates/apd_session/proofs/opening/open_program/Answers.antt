@@ -1,7 +1,8 @@
 use Rattle.std.proofs.Common.{◌≤◌, ◌+◌, ◌++◌, arith, length, None}
+use Rattle.apd_read.proofs.Growing.{grown_both}
 use Rattle.apd_lines.proofs.Growing.{Grown-length, Grown-more, grows_to}
 use Rattle.apd_words.specs.Words.{asked_options}
-use Rattle.apd_session.proofs.Loading.{grew_both, grew_by}
+use Rattle.apd_session.proofs.Loading.{grew_by}
 use Rattle.apd_session.proofs.LoadCounts.{counts_more, rose_later, rose_more}
 use Rattle.apd_session.proofs.Making.{IsLoaded-more, closing_ready, opens_knowing, opens_refusing}
 use Rattle.apd_session.specs.Opening.{stops_with}
@@ -27,7 +28,7 @@ open_knowing-requires-clause-room g c =
     omega (arith, most, c.requires.room)
 
 pub returns-in-Ok-Knows-clause-grows : goal.returns-in-Ok-Knows-clause-grows
-returns-in-Ok-Knows-clause-grows g c = grew_both 1048576 1048576 c.args.names.now c.prepare.new.names c.open_knowing.new.names c.prepare.ensures.grows c.open_knowing.ensures.grows
+returns-in-Ok-Knows-clause-grows g c = grown_both c.args.names.now c.prepare.new.names c.open_knowing.new.names 1048576 1048576 c.prepare.ensures.grows c.open_knowing.ensures.grows
 
 pub returns-in-Ok-Knows-clause-opens : goal.returns-in-Ok-Knows-clause-opens
 returns-in-Ok-Knows-clause-opens g c =

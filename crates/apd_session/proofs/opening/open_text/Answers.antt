@@ -2,8 +2,9 @@ use Rattle.std.proofs.Common.{◌≡◌, ◌∙◌, ◌≤◌, ◌+◌, ap, arit
 use Rattle.apd_lines.proofs.Growing.{Grown-more, grows_to}
 use Rattle.apd_load.proofs.Making.{only}
 use Rattle.apd_term.proofs.FirstNames.{length-standard_names}
+use Rattle.apd_read.proofs.Growing.{grown_both}
 use Rattle.apd_words.specs.Words.{asked_options}
-use Rattle.apd_session.proofs.Loading.{grew_both, grew_by, grew_first}
+use Rattle.apd_session.proofs.Loading.{grew_by, grew_first}
 use Rattle.apd_session.proofs.Making.{opens_loaded, opens_refused}
 use Rattle.apd_session.proofs.opening.open_text.Goals as goal
 
@@ -22,7 +23,7 @@ open_program-requires-clause-room g c =
 
 pub returns-in-Ok-clause-grows : goal.returns-in-Ok-clause-grows
 returns-in-Ok-clause-grows g c =
-    grew_both 1048576 2097152 c.args.names.now c.load.new.names c.open_program.new.names (grew_first _ _ _ _ c.requires.size c.bytes.ensures c.load.ensures.grows) c.open_program.ensures.grows
+    grown_both c.args.names.now c.load.new.names c.open_program.new.names 1048576 2097152 (grew_first _ _ _ _ c.requires.size c.bytes.ensures c.load.ensures.grows) c.open_program.ensures.grows
 
 pub returns-in-Ok-clause-opens : goal.returns-in-Ok-clause-opens
 returns-in-Ok-clause-opens g c =

@@ -5,6 +5,6 @@ use Rattle.apd_tuples.proofs.spots.put_places.Given as goal
 
 abbrev pub invariant-cells : goal.invariant-cells
 invariant-cells l = record {
-  put : l.there.items ≡ l.fn.there.items ++ placed_all l.places (take l.cell-index l.cells);
+  put : l.there.items ≡ l.fn.there.items ++ placed_all (take l.cell-index l.cells);
   room : vec_len l.there + (length l.cells - l.cell-index) ≤ vec_capacity l.there;
 }

@@ -2,8 +2,9 @@ use Rattle.std.proofs.Common.{◌≡◌, ◌≢◌, ◌-◌, arith, drop, false,
 use Rattle.apd_term.specs.Term.{first_of, read_all, term_of}
 use Rattle.apd_term.specs.declared.term.Sym.TheVariants.{Var}
 use Rattle.apd_term.proofs.Spelling.{term_of_from_spelled, whole_from_spelled}
+use Rattle.apd_term.proofs.Matched.{piece_symbols}
 use Rattle.apd_cells.proofs.Bindings.{Keeps-self}
-use Rattle.apd_cells.proofs.Written.{IsTerms-drop, piece_at}
+use Rattle.apd_cells.proofs.Written.{IsTerms-drop}
 use Rattle.apd_unify.specs.Heads.{Matches}
 use Rattle.apd_unify.proofs.Matched.{gone_self, matches_clash, matches_there}
 use Rattle.apd_unify.proofs.heads.meet_symbol.Goals as goal
@@ -33,14 +34,14 @@ term_end-past-requires-clause-whole c = IsTerms-drop c.args.from c.args.head.now
 pub match_loaded-requires-clause-whole : goal.match_loaded-requires-clause-whole
 match_loaded-requires-clause-whole c =
     whole_from_spelled (take (c.term_end-past.result - c.args.from) (drop c.args.from c.args.head.now)) (first_of (read_all (drop c.args.from c.args.head.now)))
-    (piece_at c.args.head.now c.args.from c.term_end-past.result (IsTerms-drop c.args.from c.args.head.now c.requires.head) c.requires.there c.term_end-past.ensures.end)
+    (piece_symbols c.args.head.now c.args.from c.term_end-past.result (IsTerms-drop c.args.from c.args.head.now c.requires.head) c.requires.there c.term_end-past.ensures.end)
 
 pub returns-then-not-branch-clause-met : goal.returns-then-not-branch-clause-met
 returns-then-not-branch-clause-met c =
     let symbols = take (c.term_end-past.result - c.args.from) (drop c.args.from c.args.head.now) in
     let t = first_of (read_all (drop c.args.from c.args.head.now)) in
     let is : term_of symbols ≡ t =
-    term_of_from_spelled symbols t (piece_at c.args.head.now c.args.from c.term_end-past.result (IsTerms-drop c.args.from c.args.head.now c.requires.head) c.requires.there c.term_end-past.ensures.end) in
+    term_of_from_spelled symbols t (piece_symbols c.args.head.now c.args.from c.term_end-past.result (IsTerms-drop c.args.from c.args.head.now c.requires.head) c.requires.there c.term_end-past.ensures.end) in
     let m : Matches false c.args.heap.now c.match_loaded.new.heap c.args.slots.now.items c.match_loaded.new.slots.items c.follow-end.result (term_of symbols) =
     subst (λ b. Matches b c.args.heap.now c.match_loaded.new.heap c.args.slots.now.items c.match_loaded.new.slots.items c.follow-end.result (term_of symbols)) c.if-not-branch.true c.in_ok-match_loaded.ensures.answer in
     matches_there false c.args.heap.now c.match_loaded.new.heap c.args.slots.now.items c.match_loaded.new.slots.items c.args.at c.follow-end.result t c.follow-end.ensures.same
@@ -51,7 +52,7 @@ returns-clause-met c =
     let symbols = take (c.term_end-past.result - c.args.from) (drop c.args.from c.args.head.now) in
     let t = first_of (read_all (drop c.args.from c.args.head.now)) in
     let is : term_of symbols ≡ t =
-    term_of_from_spelled symbols t (piece_at c.args.head.now c.args.from c.term_end-past.result (IsTerms-drop c.args.from c.args.head.now c.requires.head) c.requires.there c.term_end-past.ensures.end) in
+    term_of_from_spelled symbols t (piece_symbols c.args.head.now c.args.from c.term_end-past.result (IsTerms-drop c.args.from c.args.head.now c.requires.head) c.requires.there c.term_end-past.ensures.end) in
     let m : Matches true c.args.heap.now c.match_loaded.new.heap c.args.slots.now.items c.match_loaded.new.slots.items c.follow-end.result (term_of symbols) =
     subst (λ b. Matches b c.args.heap.now c.match_loaded.new.heap c.args.slots.now.items c.match_loaded.new.slots.items c.follow-end.result (term_of symbols)) c.if-not-branch.false c.in_ok-match_loaded.ensures.answer in (
       matches_there true c.args.heap.now c.match_loaded.new.heap c.args.slots.now.items c.match_loaded.new.slots.items c.args.at c.follow-end.result t c.follow-end.ensures.same

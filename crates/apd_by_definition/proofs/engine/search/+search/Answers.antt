@@ -1,6 +1,7 @@
 use Rattle.std.proofs.Common.{◌≡◌, ℕ, ◌+◌, ◌<◌, ◌≤◌, List, length, drop, refl, sym, ap, ◌∙◌, subst, arith, get_or, Some}
 use Rattle.std.proofs.lemmas.Result.{IfOk-weaker}
 use Rattle.std.specs.Prelude.{IfSome}
+use Rattle.std.proofs.lemmas.List.{drop_all}
 use Rattle.apd_term.specs.declared.tuple.Tuple.{Tuple}
 use Rattle.apd_clauses.specs.Clauses.{clauses_for, tuples_of}
 use Rattle.apd_ports.specs.declared.event.Port.TheVariants.{Call, Exit}
@@ -16,7 +17,7 @@ use Rattle.apd_engine.specs.Search.{AllWait, numbers_for}
 use Rattle.apd_by_definition.proofs.Growing.{search_grows, hand_grows, succeeded_grows, tries_grows, begun_grows, full_boxes, full_points}
 use Rattle.apd_engine.proofs.Numbered.{number_positive, number_within, number_among, number_runnable, numbers_count}
 use Rattle.apd_by_definition.proofs.PlainSearch.{makes_as, settled_as, makes_turn, turn_as, outer_below, succeeded_around, and_then_at, advances_as, advances_full, advances_ends, advances_goes, passed_over, entered_as, entered_open, begun_behind, boxes_behind}
-use Rattle.apd_engine.proofs.Steps.{opened_at, goal_waits, outer_waits, drop_past, AllWait-more}
+use Rattle.apd_engine.proofs.Steps.{opened_at, goal_waits, outer_waits, AllWait-more}
 use Rattle.apd_by_definition.proofs.engine.search.+search.Goals as goal
 
 pub search_from-returns-then-counts-eq4294967295 : goal.search_from-returns-then-counts-eq4294967295
@@ -191,7 +192,7 @@ tries-returns t c =
     let past : length cs ≤ c.clauses.at = omega (arith, count, c.clauses-test.false) in
     IfOk-weaker c.port_after.result _ _
     (λ o h. makes_as o (tries next F g cs c.args.counts.boxes c.args.counts.points) (and_then (out_of out) (closing g))
-    (c.clauses.invariant.made ∙ ap (λ (xs : List (ℕ × Tuple)). and_then (out_of out) (tries next F g xs)) (drop_past cs c.clauses.at past))
+    (c.clauses.invariant.made ∙ ap (λ (xs : List (ℕ × Tuple)). and_then (out_of out) (tries next F g xs)) (drop_all c.clauses.at cs past))
     (h (out_of out) refl))
     c.port_after.ensures
 

@@ -1,6 +1,7 @@
 use Rattle.std.proofs.Common.{◌+◌, subst}
 use Rattle.apd_term.specs.Term.{apply, variable, variables, IsAmong}
-use Rattle.apd_by_definition.proofs.Walks.{among_atom, mapped_more}
+use Rattle.apd_frames.proofs.Instancing.{among_atom}
+use Rattle.apd_by_definition.proofs.Walks.{mapped_more}
 use Rattle.apd_by_definition.proofs.engine.tuples.shifted_terms.Goals as goal
 
 pub shifted-requires : goal.shifted-requires

@@ -8,7 +8,7 @@ use Rattle.apd_cells.specs.declared.heap.Binding.TheVariants.{At}
 use Rattle.apd_cells.specs.declared.heap.TrailNote.TheVariants.{Bound}
 use Rattle.std.proofs.lemmas.List.{length-set}
 use Rattle.apd_term.specs.declared.term.Sym.TheVariants.{Var}
-use Rattle.apd_cells.specs.Flat.{compound_count, compound_in, AreShort}
+use Rattle.apd_cells.specs.Flat.{compound_count, compound_in}
 use Rattle.apd_cells.proofs.Flat.{compound_bound, compounds_within}
 use Rattle.apd_cells.proofs.heap.Heap.bind.Goals as goal
 
@@ -25,7 +25,7 @@ invariant_of-self-2 c =
           (elim c.above_term-above.ensures [ inl p ↦ inl p | inr q ↦ inr (q ∙ count) ]),
       compound_bound c.self.inside.cells.items c.self.inside.trail c.push.new.self c.args.v c.args.to c.self.inside.compounds c.compound_at-compound.result
           may.inside c.self.invariant.2 pushed (c.compound_at-compound.ensures ∙ ap (λ xs. compound_in (get_or xs c.args.to (Var 0))) c.as_slice.ensures.value),
-      subst (λ z. AreShort c.self.inside.cells.items z c.self.inside.longest) (sym pushed) c.self.invariant.3,
+      c.self.invariant.3,
       sizes_bound (viewed c.self.inside.cells.items c.self.inside.bindings.items c.self.inside.trail) _ c.args.v c.args.to c.self.inside.sizes c.forget_bound.new.self
           (rw (pushed, length-set c.self.inside.bindings.items c.args.v (At c.args.to)) refl)
           (c.forget_bound.ensures (viewed c.self.inside.cells.items c.self.inside.bindings.items c.self.inside.trail) (sym c.as_slice-2.ensures.value)) c.self.invariant.4,

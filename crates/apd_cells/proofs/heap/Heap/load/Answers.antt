@@ -6,7 +6,7 @@ use Rattle.apd_cells.proofs.Following.{viewed}
 use Rattle.apd_cells.proofs.Loading.{heap_loaded}
 use Rattle.apd_cells.proofs.Recent.{sizes_loaded}
 use Rattle.apd_cells.proofs.Touching.{marked_loaded}
-use Rattle.apd_cells.proofs.Flat.{compound_loaded, short_loaded}
+use Rattle.apd_cells.proofs.Flat.{compound_loaded, short_put}
 use Rattle.apd_cells.proofs.heap.Heap.load.Goals as goal
 
 pub invariant_of-self-2 : goal.invariant_of-self-2
@@ -23,8 +23,8 @@ invariant_of-self-2 c =
           c.self.inside.trail c.push.new.self c.self.inside.touched c.self.inside.front _
           c.self.invariant.0.kept c.self.invariant.1 c.in_default.ensures.cells g (rw (e, f) refl),
       c.self.invariant.2 ∙ sym (compound_loaded c.self.inside.cells.items c.append.new.cells.items c.self.inside.trail c.push.new.self _ c.in_default.ensures.front g),
-      short_loaded c.self.inside.cells.items c.append.new.cells.items c.self.inside.trail c.push.new.self (length c.self.inside.bindings.items) c.self.inside.longest _ c.in_default.ensures.front g
-          c.self.invariant.3 longest,
+      short_put c.self.inside.cells.items c.append.new.cells.items (length c.self.inside.bindings.items) c.self.inside.trail (shifted c.args.base c.args.t.now) c.self.inside.longest _
+          c.self.invariant.0.kept c.in_default.ensures.cells c.self.invariant.3 longest,
       sizes_loaded (viewed c.self.inside.cells.items c.self.inside.bindings.items c.self.inside.trail) _ c.args.t.now c.args.base
           c.self.inside.sizes c.self.invariant.0.kept
           (rw (c.in_default.ensures.cells, c.in_default.ensures.variables, g) refl) c.self.invariant.4,

@@ -6,6 +6,7 @@ use Rattle.apd_divide.specs.Choice.{is_listed, EachIsTrue, none_left}
 use Rattle.apd_divide.specs.Cleared.{cleared_below}
 use Rattle.apd_divide.specs.Rows.{broadest}
 use Rattle.apd_divide.specs.Kept.{Kept, tree_of, replaced}
+use Rattle.apd_divide.proofs.Leading.{kept_leads}
 use Rattle.apd_divide.proofs.Seeking.{whole-of}
 use Rattle.apd_divide.proofs.Listed.{next_none}
 use Rattle.apd_divide.proofs.Passing.{Passed, passed}
@@ -24,7 +25,7 @@ invariant_of-self c =
     (sym (with_items_is c.self.inside.rows c.clear_below.new.rows (c.clear_below.auto.rows ∙ ap length c.deref_mut.ensures.value ∙ sym c.self.invariant.1)))
     (passed (is_listed c.args.preds.now) (record { rows = c.self.inside.rows.items; root = c.self.inside.root }) c.clear_below.new.rows c.self.invariant.0
     (subst (λ rs. c.clear_below.new.rows ≡ replaced (record { rows = rs; root = c.self.inside.root }) (cleared_below (is_listed c.args.preds.now) (tree_of (record { rows = rs; root = c.self.inside.root })))) c.deref_mut.ensures.value c.clear_below.ensures)) in
-    (p.kept, c.self.invariant.1 ∙ sym p.nodes)
+    (p.kept, c.self.invariant.1 ∙ sym p.nodes, kept_leads _ p.kept)
 
 pub returns-clause-judged : goal.returns-clause-judged
 returns-clause-judged c =

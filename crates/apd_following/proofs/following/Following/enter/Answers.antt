@@ -1,11 +1,11 @@
-use Rattle.std.proofs.Common.{ap, subst, sym}
+use Rattle.std.proofs.Common.{◌∙◌, ap, subst, sym}
 use Rattle.std.specs.Prelude.{IfOk}
 use Rattle.apd_trace.specs.Frames.{entering}
 use Rattle.apd_trace.specs.declared.frame.Called.{Called}
 use Rattle.apd_frames.specs.Framed.{frames_of}
 use Rattle.apd_frames.specs.Kept.{Calls, Enters, MayCall}
 use Rattle.apd_following.specs.Followed.{Followed, kept_of}
-use Rattle.apd_following.proofs.Tying.{tied_more}
+use Rattle.apd_following.proofs.Tying.{kept_more, there_more, tied_more}
 use Rattle.apd_following.proofs.following.Following.enter.Goals as goal
 
 pub enter-requires-clause-framed : goal.enter-requires-clause-framed
@@ -22,11 +22,11 @@ returns-clause-enters c =
     c.self.view_is c.enter.ensures.enters
 
 pub returns-clause-tuples : goal.returns-clause-tuples
-returns-clause-tuples c = ap (λ (f : Followed). f.tuples) c.self.view_is
+returns-clause-tuples c = kept_more c.self.inside.linked.store c.enter.new.self.store c.enter.ensures.store c.self.inside.tie c.self.inside.spots c.self.invariant.1 ∙ ap (λ (f : Followed). f.tuples) c.self.view_is
 
 pub invariant_of-self : goal.invariant_of-self
 invariant_of-self c = (
   c.enter.ensures.framed,
-  tied_more c.self.inside.tie c.self.inside.linked.store c.enter.new.self.store c.self.invariant.1 c.enter.ensures.store,
-  c.self.invariant.2,
+  tied_more c.self.inside.linked.store c.enter.new.self.store c.enter.ensures.store c.self.inside.tie c.self.invariant.1,
+  there_more c.self.inside.linked.store c.enter.new.self.store c.enter.ensures.store c.self.inside.tie c.self.inside.spots c.self.invariant.1 c.self.invariant.2,
 )

@@ -9,6 +9,7 @@ use Rattle.apd_frames.proofs.Current.{IsInnermost, innermost_none, innermost_som
 use Rattle.apd_following.specs.Followed.{Followed, HoldsInnermost, kept_of}
 use Rattle.apd_tuples.specs.Tuples.{kept_tuple, kept_tuples}
 use Rattle.apd_tuples.proofs.Spanning.{on_err_always}
+use Rattle.apd_following.specs.Tied.{past_of}
 use Rattle.apd_following.proofs.Keeping.{have_places, keeps_so}
 use Rattle.apd_following.proofs.following.Following.keep_with.Goals as goal
 
@@ -58,8 +59,8 @@ pub returns-clause-kept : goal.returns-clause-kept
 returns-clause-kept c =
     let i : IsInnermost c.self.inside.linked.store c.self.inside.linked.links (link_of c.in-Some.link) (frames_of c.self.inside.linked) =
     innermost_some c.self.inside.linked.store c.self.inside.linked.links c.self.inside.linked.innermost c.self.inside.linked.branches (frames_of c.self.inside.linked) (link_of c.in-Some.link) refl c.self.invariant.0 c.in-Some.ensures in
-    keeps_so c.args.self.now (frames_of c.self.inside.linked) (kept_tuples c.self.inside.tie.mirror.past c.self.inside.spots) (kept_tuples c.keep_at.new.tie.mirror.past c.keep_at.new.spots)
+    keeps_so c.args.self.now (frames_of c.self.inside.linked) (kept_tuples (past_of c.self.inside.tie c.self.inside.linked.store) c.self.inside.spots) (kept_tuples (past_of c.keep_at.new.tie c.self.inside.linked.store) c.keep_at.new.spots)
     (frame_in c.self.inside.linked.store (link_of c.in-Some.link)) (frames_at c.self.inside.linked.store c.self.inside.linked.links c.in-Some.link.around) (record { owner = c.in-Some.link.box_no; clause = c.in-Some.link.clause; done = c.in-Some.link.done; tuple = c.in_ok-tuple-in-Some.tuple })
     c.self.view_is i.is
     (c.in_ok-tuple-in-Some.ensures.count ∙ sym (length-map c.in-Some.link.goals.now (λ (a : Cell). term_at c.self.inside.linked.store a.0)))
-    (c.in_ok-tuple-in-Some.ensures.number ∙ sym (length-map c.self.inside.spots (kept_tuple c.self.inside.tie.mirror.past))) refl refl refl c.in_ok-tuple-in-Some.ensures.ok
+    (c.in_ok-tuple-in-Some.ensures.number ∙ sym (length-map c.self.inside.spots (kept_tuple (past_of c.self.inside.tie c.self.inside.linked.store)))) refl refl refl c.in_ok-tuple-in-Some.ensures.ok

@@ -4,8 +4,10 @@ use Rattle.apd_trace.specs.Frames.{handed_all}
 use Rattle.apd_frames.specs.Kept.{Kept, Takes}
 use Rattle.apd_tuples.specs.Tuples.{kept_tuples}
 use Rattle.apd_following.specs.Followed.{Followed}
+use Rattle.apd_frames.specs.Framed.{frames_of}
+use Rattle.apd_following.specs.Tied.{past_of}
 use Rattle.apd_following.proofs.Keeping.{followed}
-use Rattle.apd_following.proofs.Tying.{tied_same}
+use Rattle.apd_following.proofs.Tying.{kept_same, tied_same, there_same}
 use Rattle.apd_following.proofs.following.Following.take_over.Goals as goal
 
 pub take_over-requires-clause-framed : goal.take_over-requires-clause-framed
@@ -17,16 +19,17 @@ take_over-requires-clause-takes c = subst (λ (f : Followed). Takes f.current) (
 pub returns-clause-taken : goal.returns-clause-taken
 returns-clause-taken c =
     on_ok_weaker c.take_over.result
-    (λ e. ap (λ (k : Kept). followed k (kept_tuples c.self.inside.tie.mirror.past c.self.inside.spots)) e
+    (λ e. ap (followed (frames_of c.take_over.new.self)) (kept_same c.self.inside.tie c.self.inside.linked.store c.take_over.new.self.store c.self.inside.spots c.take_over.ensures.store)
+    ∙ ap (λ (k : Kept). followed k (kept_tuples (past_of c.self.inside.tie c.self.inside.linked.store) c.self.inside.spots)) e
     ∙ ap (λ (f : Followed). record { current = handed_all f.current c.args.point; saved = f.saved; tuples = f.tuples }) c.self.view_is)
     c.take_over.ensures.taken
 
 pub returns-clause-tuples : goal.returns-clause-tuples
-returns-clause-tuples c = ap (λ (f : Followed). f.tuples) c.self.view_is
+returns-clause-tuples c = kept_same c.self.inside.tie c.self.inside.linked.store c.take_over.new.self.store c.self.inside.spots c.take_over.ensures.store ∙ ap (λ (f : Followed). f.tuples) c.self.view_is
 
 pub invariant_of-self : goal.invariant_of-self
 invariant_of-self c = (
   c.take_over.ensures.framed,
   tied_same c.self.inside.tie c.self.inside.linked.store c.take_over.new.self.store c.self.invariant.1 c.take_over.ensures.store,
-  c.self.invariant.2,
+  there_same c.self.inside.tie c.self.inside.linked.store c.take_over.new.self.store c.self.inside.spots c.self.invariant.2 c.take_over.ensures.store,
 )

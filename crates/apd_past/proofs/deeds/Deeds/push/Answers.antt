@@ -12,7 +12,7 @@ invariant_of-self-2 c =
     let newest = c.self.inside.newest.items in
     let there : c.args.variable < length newest = omega (arith, c.requires, ap (λ (d : Done). d.variables) c.self.view_is) in
     let variable = ap (λ (d : Deed). d.variable) c.kept_after-kept.ensures.deed in
-    let slice = c.as_slice.ensures.value ∙ c.reserve.ensures.items in
+    let slice = c.as_slice.ensures.value ∙ c.room_for_one.ensures.items in
     let jump : IsEarlier (deeds_of kept) c.kept_after-kept.result.deed.variable (length kept) c.kept_after-kept.result.jump =
     subst (λ ks. IsEarlier (deeds_of ks) c.kept_after-kept.result.deed.variable (length ks) c.kept_after-kept.result.jump) slice
     (subst (λ w. IsEarlier (deeds_of c.as_slice.result.now) w (length c.as_slice.result.now) c.kept_after-kept.result.jump) (sym variable) c.kept_after-kept.ensures.jump) in
@@ -20,4 +20,4 @@ invariant_of-self-2 c =
     (linked_more kept c.push_reserved.new.self.items newest c.kept_after-kept.result c.args.variable c.len-place.result
     c.self.invariant (omega (arith, c.if-place-ge-MOST.false)) there (omega arith) variable
     (c.kept_after-kept.ensures.before ∙ c.replace-before.ensures.value ∙ sym (read_at newest c.args.variable c.index_mut-newest.result.now None there c.index_mut-newest.ensures.value))
-    jump (c.push_reserved.ensures.items ∙ ap (λ xs. xs ++ c.kept_after-kept.result ∷ []) c.reserve.ensures.items))
+    jump (c.push_reserved.ensures.items ∙ ap (λ xs. xs ++ c.kept_after-kept.result ∷ []) c.room_for_one.ensures.items))

@@ -4,4 +4,4 @@ use Rattle.apd_past.proofs.Moments.{sound_at}
 use Rattle.apd_past.proofs.past.Past.symbol.Goals as goal
 
 pub returns-clause-store : goal.returns-clause-store
-returns-clause-store c = λ m. sound_at c.args.self.now m (subst (λ (h : History). IsRight h.cells h.variables (reverse h.deeds)) c.self.view_is c.self.invariant.right)
+returns-clause-store c = λ m. sound_at c.args.self.now m (subst (λ (h : History). IsRight h.cells h.variables (reverse h.deeds)) c.self.view_is c.self.invariant)

@@ -11,7 +11,7 @@ invariant_of-self c = wider c.self.inside.goals.items c.put_places.new.there.ite
 
 pub returns-in_err-put_places-clause-err : goal.returns-in_err-put_places-clause-err
 returns-in_err-put_places-clause-err c =
-    on_err_always c.from_residual.result _
+    on_err_always c.from_residual-in_err-put_places.result _
     (wider_spots c.self.inside.goals.items c.put_places.new.there.items c.self.inside.rows.items c.put_places.ensures.more c.self.invariant
     ∙ c.self.view_is)
 
@@ -41,24 +41,24 @@ returns-in_err-room_for_one-clause-err c =
 pub invariant_of-self-2 : goal.invariant_of-self-2
 invariant_of-self-2 c =
     let from : c.len-from.result ≡ length c.self.inside.goals.items = omega arith in
-    let n = put_length c.self.inside.goals.items c.put_places.new.there.items c.args.places.now c.args.goals.now c.in_ok-put_places.ensures.ok in
+    let n = put_length c.self.inside.goals.items c.put_places.new.there.items c.args.goals.now c.in_ok-put_places.ensures.ok in
     let to : c.len-from.result + length c.args.goals.now ≡ length c.put_places.new.there.items = omega (arith, n) in
     pushed_spanned c.self.inside.goals.items _ c.put_places.new.there.items c.self.inside.rows.items c.push_reserved.new.self.items
-    (record { head = c.place_of.result; moment = c.args.moment; from = c.len-from.result; to = c.len-from.result + length c.args.goals.now; fact = c.args.fact })
+    (record { head = c.in_ok-place.place; moment = c.args.moment; from = c.len-from.result; to = c.len-from.result + length c.args.goals.now; fact = c.args.fact })
     c.in_ok-put_places.ensures.ok (c.push_reserved.ensures.items ∙ ap (λ rows. rows ++ c.in_ok-kept.kept ∷ []) c.room_for_one.ensures.items ∙ ap (λ (r : SpotRow). c.self.inside.rows.items ++ r ∷ []) c.in_ok-kept.ensures) from to c.self.invariant
 
 pub returns-clause-ok : goal.returns-clause-ok
 returns-clause-ok c =
     let from : c.len-from.result ≡ length c.self.inside.goals.items = omega arith in
-    let n = put_length c.self.inside.goals.items c.put_places.new.there.items c.args.places.now c.args.goals.now c.in_ok-put_places.ensures.ok in
+    let n = put_length c.self.inside.goals.items c.put_places.new.there.items c.args.goals.now c.in_ok-put_places.ensures.ok in
     let to : c.len-from.result + length c.args.goals.now ≡ length c.put_places.new.there.items = omega (arith, n) in
     pushed_now c.self.inside.goals.items _ c.put_places.new.there.items c.self.inside.rows.items c.push_reserved.new.self.items
-    (record { head = c.place_of.result; moment = c.args.moment; from = c.len-from.result; to = c.len-from.result + length c.args.goals.now; fact = c.args.fact })
+    (record { head = c.in_ok-place.place; moment = c.args.moment; from = c.len-from.result; to = c.len-from.result + length c.args.goals.now; fact = c.args.fact })
     c.in_ok-put_places.ensures.ok (c.push_reserved.ensures.items ∙ ap (λ rows. rows ++ c.in_ok-kept.kept ∷ []) c.room_for_one.ensures.items ∙ ap (λ (r : SpotRow). c.self.inside.rows.items ++ r ∷ []) c.in_ok-kept.ensures) from to c.self.invariant
     c.args.self.now c.self.view_is
     ∙ ap
-    (λ (p : PastCell). c.args.self.now ++ with_goals (record { head = p; moment = c.args.moment; from = c.len-from.result; to = c.len-from.result + length c.args.goals.now; fact = c.args.fact }) (placed_all c.args.places.now c.args.goals.now) ∷ [])
-    c.place_of.ensures
+    (λ (p : PastCell). c.args.self.now ++ with_goals (record { head = p; moment = c.args.moment; from = c.len-from.result; to = c.len-from.result + length c.args.goals.now; fact = c.args.fact }) (placed_all c.args.goals.now) ∷ [])
+    c.in_ok-place.ensures
 
 pub returns-clause-number : goal.returns-clause-number
 returns-clause-number c =

@@ -46,6 +46,9 @@ returns-clause-made c =
     integer_loaded c.self.inside.heap c.load_for.new.self _ c.load_for.new.slots.items c.from_ref.result.now c.args.value c.in_ok-cell.cell
     (c.from_ref.ensures.value ∙ ap (λ i. Int i ∷ []) (to_z-of_z w64 c.args.value fits)) c.in_ok-cell.ensures.ok c.in_ok-cell.ensures.cell
 
+pub returns-clause-cell : goal.returns-clause-cell
+returns-clause-cell c = c.in_ok-cell.ensures.cell ∙ ap (λ (s : Stored). length s.cells) c.self.view_is
+
 pub returns-clause-there : goal.returns-clause-there
 returns-clause-there c =
     omega (arith, longer c.self.inside.heap c.load_for.new.self c.in_ok-cell.ensures.ok.term c.in_ok-cell.ensures.ok.is, c.in_ok-cell.ensures.cell)

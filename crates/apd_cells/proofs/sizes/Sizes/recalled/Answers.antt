@@ -1,5 +1,0 @@
-use Rattle.std.proofs.Common.{arith, length}
-use Rattle.apd_cells.proofs.sizes.Sizes.recalled.Goals as goal
-
-pub returns : goal.returns
-returns c = λ s h. c.recent_at.ensures s (length s.trail) (omega arith) h.lately

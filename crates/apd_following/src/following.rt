@@ -158,17 +158,17 @@ impl Following {
         ensures fits { IfOk result (λ b. b ≡ fits self.old.current) }
         ensures kept { self.new ≡ self.old }
     {
-        let seen = self.measured(false)?;
+        let seen = self.measured()?;
         Ok(seen.fits())
     }
 
-    /// What is seen of the innermost frame's instance, of its variables too where that is asked for.
+    /// What is seen of the innermost frame's instance.
     #[inline(always)]
-    fn measured(&mut self, looks: bool) -> Result<Measure, AllocError>
+    fn measured(&mut self) -> Result<Measure, AllocError>
         ensures measured { IfOk result (λ m. MeasuresInnermost m self.old.current) }
         ensures kept { self.new ≡ self.old }
     {
-        self.linked.measure(looks)
+        self.linked.measure()
     }
 
     /// The predicate of the innermost frame's next goal; none where it calls none.
@@ -298,7 +298,7 @@ impl Following {
             (λ o. KeepsInstance o self.old.current self.old.tuples self.new.tuples) }
         ensures err { OnErr result (self.new.tuples ≡ self.old.tuples) }
     {
-        let seen = self.measured(true)?;
+        let seen = self.measured()?;
         if !seen.fits() {
             return Ok(None);
         }

@@ -197,10 +197,10 @@ impl Linked {
         }
     }
 
-    /// The same, and where that is asked for and all goals are solved, whether it has variables. Sizes of long terms are
-    /// kept on the way, so that later looks needn't count them.
+    /// The same, and where its symbols are passed for that, whether it has variables. Sizes of long terms are kept on the
+    /// way, so that later looks needn't count them.
     #[inline(always)]
-    pub fn measure(&mut self, looks: bool) -> Result<Measure, AllocError>
+    pub fn measure(&mut self) -> Result<Measure, AllocError>
         requires { AreFramed self.old }
         ensures measured { IfOk result
             (λ m. MeasuresInnermost m (frames_of self.old).current) }
@@ -208,7 +208,7 @@ impl Linked {
     {
         match self.links.get(self.innermost) {
             None => Ok(Measure::Fits),
-            Some(link) => measured(&mut self.store, &link, looks),
+            Some(link) => measured(&mut self.store, &link),
         }
     }
 

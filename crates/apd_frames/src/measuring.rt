@@ -11,7 +11,6 @@ ghost use Rattle.apd_frames.specs.Measures.{IsMeasured, MeasuresInnermost};
 use crate::instance::MOST_OF_EACH;
 use crate::links::LinkRef;
 use apd_base::{MOST_GOALS, MOST_INSTANCE_SYMBOLS};
-use apd_ports::BUILTIN;
 use apd_unify::store::{Cell, Store};
 use std::alloc::AllocError;
 
@@ -51,18 +50,16 @@ fn cell_at(head: Cell, goals: &[Cell], place: usize) -> Cell
     goals[place - 1]
 }
 
-/// What is seen of a link's instance. Where its variables aren't looked for, or some goal isn't solved, no symbol is passed
-/// if the store tells that no term is long; before all goals are solved most instances have variables. Nor are they
-/// looked for in a built-in goal, whose variables nobody asks about.
+/// What is seen of a link's instance. No symbol is passed where the store tells that no term is long: whether variables stand
+/// in so small an instance is found as soon when it is asked for.
 #[inline(always)]
-pub fn measured(store: &mut Store, link: &LinkRef<'_>, looks: bool) -> Result<Measure, AllocError>
+pub fn measured(store: &mut Store, link: &LinkRef<'_>) -> Result<Measure, AllocError>
     requires { IsThere store.old link.now }
     ensures measured { IfOk result
         (λ m. IsMeasured m (tuple_in store.old (link_of link.now).instance)) }
     ensures same { store.new ≡ store.old }
 {
-    let looks = looks && link.clause != BUILTIN && link.done as usize >= link.goals.len();
-    if !looks && link.goals.len() <= MOST_GOALS && store.are_within(MOST_OF_EACH) {
+    if link.goals.len() <= MOST_GOALS && store.are_within(MOST_OF_EACH) {
         return Ok(Measure::Fits);
     }
     let mut left = MOST_INSTANCE_SYMBOLS;

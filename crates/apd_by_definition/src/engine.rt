@@ -3,6 +3,7 @@
 mod frames;
 mod goals;
 mod outcome;
+mod place;
 mod ports;
 pub mod run;
 pub mod search;

@@ -1,4 +1,4 @@
-pub mod Slots
+pub mod MaybeNumbers
 pub mod Done
 pub mod Linked
 pub mod History

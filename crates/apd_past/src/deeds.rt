@@ -6,7 +6,7 @@ ghost use Rattle.apd_term.specs.Spelling.{variable_in};
 ghost use Rattle.apd_past.specs.Done.{to_of, with_deed, with_room, with_variable, with_variables};
 ghost use Rattle.apd_past.specs.Linked.{deeds_of, no_kept, AreLinked, GoesBack, HaveWays, IsEarlier, IsNewest};
 
-use crate::slot::MaybeNumber;
+use crate::maybe_number::MaybeNumber;
 use apd_cells::stack::room_for_one;
 use apd_term::Sym;
 use std::alloc::{AllocError, Global};

@@ -5,8 +5,8 @@
 pub mod deeds;
 pub mod laws;
 pub mod log;
+pub mod maybe_number;
 mod passing;
 pub mod past;
-pub mod slot;
 pub mod then;
 pub mod writing;

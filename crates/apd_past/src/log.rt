@@ -9,8 +9,8 @@ ghost use Rattle.apd_past.specs.Follows.{Follows, MayFollow};
 ghost use Rattle.apd_past.specs.History.{bindings_of, freed, HasDoneMore, IsNewestBound, IsRight};
 
 use crate::deeds::Deeds;
+use crate::maybe_number::MaybeNumber;
 use crate::past::{Moment, narrow};
-use crate::slot::MaybeNumber;
 use apd_cells::heap::TrailNote;
 use apd_cells::live::Live;
 use apd_cells::stack::Stack;

@@ -12,7 +12,6 @@ mod packed;
 pub mod record;
 mod room;
 pub mod rows;
-mod slot;
 
 pub use apd_ports::{Point, PointId, Step};
 pub use record::Record;

@@ -8,7 +8,7 @@ use crate::beside::{Owned, PointLinks, link, link_child, note_owned};
 use crate::kept::{AtomPlace, KeptBox, KeptPoint, TuplePlace};
 use crate::packed::PackedPoint;
 use crate::room::{box_room, pass, point_room};
-use crate::slot::MaybePlace;
+use apd_past::maybe_number::MaybeNumber;
 use apd_ports::{PointId, Port, Step};
 use apd_tuples::spots::Numbered;
 use std::alloc::{AllocError, Global};
@@ -114,8 +114,8 @@ impl Open {
             is_exit,
         )?;
         self.links.push_reserved(PointLinks {
-            child: MaybePlace::none(),
-            follow: MaybePlace::none(),
+            child: MaybeNumber::none(),
+            follow: MaybeNumber::none(),
             earlier,
         });
         link(&mut self.links, point.before, number);

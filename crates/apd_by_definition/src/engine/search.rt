@@ -5,16 +5,16 @@
 ghost use Rattle.std.specs.Prelude.{◌≡◌, ◌∷◌, [], ℕ, ◌+◌, ◌*◌, ◌-◌, ◌≤◌, ◌<◌, ◌^◌, length, drop, IfOk, MatchOption};
 ghost use Rattle.apd_clauses.specs.Clauses.{IsProgram, IsRunnable, clauses_for, tuples_of};
 ghost use Rattle.apd_trace.specs.BuiltIn.{solution};
-ghost use Rattle.apd_trace.specs.Frames.{handed_all, look_of, outer, query_frame};
+ghost use Rattle.apd_trace.specs.Frames.{look_of, query_frame};
 ghost use Rattle.apd_trace.specs.Renaming.{IsBelow};
 ghost use Rattle.apd_trace.specs.Trace.{Out, begun, tries, hand, succeeded, settled, search_from, trace, turn};
 ghost use Rattle.apd_by_definition.specs.Searched.{Advances, Grows, IsFull, Makes, out_of, traced};
 ghost use Rattle.apd_by_definition.specs.declared.engine.goals.TheConstants.{BLOCK};
-ghost use Rattle.apd_frames.specs.Kept.{Takes};
 ghost use Rattle.apd_engine.specs.Search.{AllWait, IsOpen, numbers_for};
 
 use crate::engine::frames::FrameList;
 use crate::engine::goals::{Attempt, BLOCK, attempted, numbers, resolved};
+use crate::engine::place::Place;
 use crate::engine::ports::{
     answer_alone, exit_around, point_before, port_after, port_alone, port_before, put_behind,
     success_around,
@@ -37,42 +37,6 @@ pub(crate) enum Advance {
     Ends,
     /// The other clauses follow.
     Goes,
-}
-
-/// Frames, and a number above all their variables.
-#[derive(Drop)]
-pub(crate) struct Place {
-    pub frames: FrameList,
-    pub fresh: u64,
-}
-
-impl Place {
-    /// The frames around the innermost one.
-    fn outer(&self, alloc: Global) -> Result<Place, AllocError>
-        ensures frames { IfOk result (λ p. p.frames ≡ outer self.now.frames) }
-        ensures fresh { IfOk result (λ p. p.fresh ≡ self.now.fresh) }
-    {
-        let mut frames = self.frames.copy(alloc)?;
-        frames.leave();
-        Ok(Place {
-            frames,
-            fresh: self.fresh,
-        })
-    }
-
-    /// The frames where one more goal of the innermost one is solved, at a new point.
-    fn handed(&self, alloc: Global, point: u32) -> Result<Place, AllocError>
-        requires { Takes self.now.frames }
-        ensures frames { IfOk result (λ p. p.frames ≡ handed_all self.now.frames point) }
-        ensures fresh { IfOk result (λ p. p.fresh ≡ self.now.fresh) }
-    {
-        let mut frames = self.frames.copy(alloc)?;
-        frames.take_over(point);
-        Ok(Place {
-            frames,
-            fresh: self.fresh,
-        })
-    }
 }
 
 /// The search from these frames, at most so many ports deep.

@@ -13,7 +13,7 @@ pub struct MaybeNumber {
 
 impl Model for MaybeNumber {
     ghost use Rattle.std.specs.Prelude.{Option, ℕ};
-    ghost use Rattle.apd_past.specs.Slots.{number_in};
+    ghost use Rattle.apd_past.specs.MaybeNumbers.{number_in};
 
     ghost Value = { Option ℕ };
 

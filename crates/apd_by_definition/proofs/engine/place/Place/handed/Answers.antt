@@ -1,6 +1,6 @@
 use Rattle.std.proofs.Common.{◌∙◌, ap}
 use Rattle.apd_trace.specs.Frames.{handed_all}
-use Rattle.apd_by_definition.proofs.engine.search.Place.handed.Goals as goal
+use Rattle.apd_by_definition.proofs.engine.place.Place.handed.Goals as goal
 
 pub take_over-requires : goal.take_over-requires
 take_over-requires c = rw c.in_ok-frames.ensures c.requires

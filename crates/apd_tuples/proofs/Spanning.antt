@@ -1,14 +1,14 @@
 -- Spots as they are kept: what stays of them where goals are put behind.
-use Rattle.std.proofs.Common.{◌≡◌, ℕ, suc, zero, ◌+◌, ◌<◌, ◌≤◌, List, [], ◌∷◌, ◌++◌, length, drop, get_or, refl, sym, ◌∙◌, ap, subst, arith, Option, Some, None, Result, Ok, Err}
+use Rattle.std.proofs.Common.{◌≡◌, ℕ, suc, zero, ◌+◌, ◌-◌, ◌<◌, ◌≤◌, List, [], ◌∷◌, ◌++◌, length, drop, take, get_or, refl, sym, ◌∙◌, ap, subst, arith, Option, Some, None, Result, Ok, Err}
 use Rattle.std.specs.Option.{option_map}
 use Rattle.std.specs.Prelude.{slice_get, OnErr}
 use Rattle.std.proofs.lemmas.Option.{slice_get-map}
-use Rattle.std.proofs.lemmas.List.{map-append, length-append, length-map, take-append-le, take_all}
+use Rattle.std.proofs.lemmas.List.{map-append, length-append, length-map, length-drop, take-append-le, take_all, take-append-drop}
 use Rattle.std.proofs.Math.Seq.{drop-append_seam}
 use Rattle.apd_unify.specs.declared.store.Cell.{Cell}
 use Rattle.apd_past.specs.declared.past.PastCell.{PastCell}
 use Rattle.apd_tuples.specs.declared.spots.SpotRow.{SpotRow}
-use Rattle.apd_tuples.specs.Spots.{Place, goals_in, place_of_cell, placed_all, spot_in, spots_in, HasMore, HavePlaces, IsSpanned, AreSpanned}
+use Rattle.apd_tuples.specs.Spots.{Place, goals_in, place_of_cell, placed_all, spot_in, spots_in, EndsWith, HasMore, HavePlaces, IsSpanned, AreSpanned}
 
 abbrev pub with_goals : SpotRow → List PastCell → Place
 with_goals r goals = record { head = r.head; goals = goals; moment = r.moment.0; fact = r.fact }
@@ -49,30 +49,39 @@ wider_spots goals goals' rows m h = ap (λ gs. spots_in gs rows) m.1 ∙ spots_m
 pub put_length : (goals goals' : List PastCell) (cells : List Cell) → goals' ≡ goals ++ placed_all cells → length goals' ≡ length goals + length cells
 put_length goals goals' cells e = omega (arith, ap length e, length-append goals (placed_all cells), length-map cells place_of_cell)
 
--- goals were put behind, and a row with them
-module _ (goals more goals' : List PastCell) (rows rows' : List SpotRow) (r : SpotRow) (ge : goals' ≡ goals ++ more) (re : rows' ≡ rows ++ r ∷ [])
-    (from : r.from ≡ length goals) (to : r.to ≡ length goals') (h : AreSpanned (length goals) rows) where
-  own_goals : goals_in goals' r ≡ more
+-- goals may have been put behind, and a row with those at the end
+module _ (goals goals' : List PastCell) (cells : List Cell) (rows rows' : List SpotRow) (r : SpotRow) (grown : HasMore goals goals') (end : EndsWith goals' cells) (re : rows' ≡ rows ++ r ∷ [])
+    (from : r.from ≡ length goals' - length cells) (to : r.to ≡ length goals') (h : AreSpanned (length goals) rows) where
+  own_goals : goals_in goals' r ≡ placed_all cells
   own_goals =
-      ap (drop r.from) (take_all r.to goals' (omega (arith, to)) ∙ ge)
-      ∙ ap (λ n. drop n (goals ++ more)) from
-      ∙ drop-append_seam goals more
+      let n : r.from ≡ length end.before = omega (arith, from, put_length end.before goals' cells end.is) in
+      ap (drop r.from) (take_all r.to goals' (omega (arith, to)) ∙ end.is)
+      ∙ ap (λ k. drop k (end.before ++ placed_all cells)) n
+      ∙ drop-append_seam end.before (placed_all cells)
 
-  pushed : spots_in goals' rows' ≡ spots_in goals rows ++ with_goals r more ∷ []
+  pushed : spots_in goals' rows' ≡ spots_in goals rows ++ with_goals r (placed_all cells) ∷ []
   pushed =
       ap (spots_in goals') re
       ∙ map-append (spot_in goals') rows (r ∷ [])
       ∙ ap (λ gs. spots_in goals' rows ++ with_goals r gs ∷ []) own_goals
-      ∙ ap (λ ps. ps ++ with_goals r more ∷ []) (wider_spots goals goals' rows (more, ge) h)
+      ∙ ap (λ ps. ps ++ with_goals r (placed_all cells) ∷ []) (wider_spots goals goals' rows grown h)
 
-  pub pushed_now : (now : List Place) → spots_in goals rows ≡ now → spots_in goals' rows' ≡ now ++ with_goals r more ∷ []
-  pushed_now now view = pushed ∙ ap (λ ps. ps ++ with_goals r more ∷ []) view
+  pub pushed_now : (now : List Place) → spots_in goals rows ≡ now → spots_in goals' rows' ≡ now ++ with_goals r (placed_all cells) ∷ []
+  pushed_now now view = pushed ∙ ap (λ ps. ps ++ with_goals r (placed_all cells) ∷ []) view
 
   pub pushed_spanned : AreSpanned (length goals') rows'
   pushed_spanned =
-      let n : length goals' ≡ length goals + length more = ap length ge ∙ length-append goals more in
       subst (AreSpanned (length goals')) (sym re)
-      (spanned_push (length goals') rows r (wider goals goals' rows (more, ge) h) (record { order = omega (arith, from, to, n); within = omega (arith, to) }))
+      (spanned_push (length goals') rows r (wider goals goals' rows grown h) (record { order = omega (arith, from, to); within = omega (arith, to) }))
+
+-- all cells were compared with the last places
+pub ends_all : (there : List PastCell) (cells : List Cell) (from i : ℕ) → take i (drop from there) ≡ placed_all (take i cells) → from ≡ length there - length cells → length cells ≤ length there → length cells ≤ i → EndsWith there cells
+ends_all there cells from i h n l m = record {
+  before = take from there;
+  is =
+      sym (take-append-drop from there)
+      ∙ ap (λ e. take from there ++ e) (sym (take_all i (drop from there) (omega (arith, length-drop from there, n, l, m))) ∙ h ∙ ap placed_all (take_all i cells m));
+}
 
 -- a cell of some that have places
 pub has_place : (n : ℕ) (cs : List Cell) (i : ℕ) (d : Cell) → HavePlaces n cs → i < length cs → (get_or cs i d).0 < n

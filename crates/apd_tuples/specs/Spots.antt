@@ -55,3 +55,8 @@ placed head goals m fact = record { head = place_of_cell head; goals = placed_al
 -- more was put behind
 abbrev pub HasMore : List PastCell → List PastCell → Type 0
 HasMore old new = (more : List PastCell) × (new ≡ old ++ more)
+
+-- the last places are those of these cells
+pub record EndsWith (there : List PastCell) (cells : List Cell) : Type 0 where
+  pub before : List PastCell
+  pub is : there ≡ before ++ placed_all cells

@@ -1,7 +1,8 @@
 //! Where kept tuples are in a past.
 
 ghost use Rattle.std.specs.Prelude.{◌≡◌, ◌∷◌, [], ◌++◌, ◌<◌, length, slice_get, None, Some, IfOk, OnOk, OnErr, MatchOption};
-ghost use Rattle.apd_tuples.specs.Spots.{HasMore, IsSpanned, place_of_cell, placed, placed_all, spot_at, spot_in};
+ghost use Rattle.std.specs.Bool.{OnTrue};
+ghost use Rattle.apd_tuples.specs.Spots.{EndsWith, HasMore, IsSpanned, place_of_cell, placed, placed_all, spot_at, spot_in};
 
 use crate::packed::KeptRow;
 use apd_cells::stack::room_for_one;
@@ -91,6 +92,37 @@ fn put_places(there: &mut Vec<PastCell>, cells: &[Cell]) -> Result<(), AllocErro
     Ok(())
 }
 
+/// Whether the last of the places are those of the cells.
+fn ends_with(there: &[PastCell], cells: &[Cell]) -> bool
+    ensures { OnTrue result (EndsWith there.now cells.now) }
+{
+    if there.len() < cells.len() {
+        return false;
+    }
+    let from = there.len() - cells.len();
+    let mut i: usize = 0;
+    'cells: while i < cells.len() {
+        if there[from + i].0 as usize != cells[i].0 {
+            return false;
+        }
+        i += 1;
+    }
+    true
+}
+
+/// Lets the last of the places be those of the cells, behind the others: a frame that takes over a built-in goal's exit was
+/// mostly kept just before with the same goals.
+#[inline(always)]
+fn end_with(there: &mut Vec<PastCell>, cells: &[Cell]) -> Result<(), AllocError>
+    ensures ok { OnOk result (EndsWith there.new.items cells.now) }
+    ensures more { HasMore there.old.items there.new.items }
+{
+    if ends_with(there.as_slice(), cells) {
+        return Ok(());
+    }
+    put_places(there, cells)
+}
+
 /// The row with this number, counted from 0.
 fn row_at(rows: &[KeptRow], number: usize) -> Option<SpotRow>
     ensures { result ≡ slice_get rows.now number }
@@ -165,18 +197,18 @@ impl Spots {
         ensures err { OnErr result (self.new ≡ self.old) }
     {
         let number = self.rows.len();
-        let from = self.goals.len();
         let count = goals.len();
-        if number > MOST || count > MOST || from > MOST - count {
+        let place = place_of(head)?;
+        end_with(&mut self.goals, goals)?;
+        let to = self.goals.len();
+        if number > MOST || to > MOST {
             return Err(AllocError);
         }
-        let place = place_of(head)?;
-        put_places(&mut self.goals, goals)?;
         let kept = KeptRow::of(SpotRow {
             head: place,
             moment,
-            from: from as u32,
-            to: (from + count) as u32,
+            from: (to - count) as u32,
+            to: to as u32,
             fact,
         })?;
         room_for_one(&mut self.rows)?;

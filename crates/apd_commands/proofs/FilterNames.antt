@@ -8,31 +8,10 @@ use Rattle.apd_term.specs.declared.term.NameId.{NameId}
 use Rattle.apd_term.specs.declared.term.Pred.{Pred}
 use Rattle.apd_ports.specs.declared.filter.Filter.{Filter}
 use Rattle.apd_ports.specs.declared.filter.Filter.TheVariants.{Off, All, Leap, Skip}
+use Rattle.apd_clauses.specs.Indicators.{predicate_from}
+use Rattle.apd_clauses.proofs.Indicating.{predicate_known}
 use Rattle.apd_text.specs.FilterTerms.{FilterIsNamed, PredsAreNamed}
-use Rattle.apd_commands.specs.Filters.{arity_from, box_from, filter_at, filter_from, indicated, listed_predicates, name_alone, onto_predicates, predicate_from, predicates_of_list}
-
-abbrev IfKnown : ℕ → Option Pred → Type 0
-IfKnown n None = Unit {0}
-IfKnown n (Some p) = p.name.0 < n
-
-indicated_known : (n : ℕ) (a : Term) (arity : Option ℕ) (p : Pred) → IsNamed n a → indicated (name_alone a) arity ≡ Some p → p.name.0 < n
-indicated_known n (variable v) arity p named e = absurd (cc)
-indicated_known n (integer i) arity p named e = absurd (cc)
-indicated_known n (compound f (more t ts)) arity p named e = absurd (cc)
-indicated_known n (compound f none) None p named e = absurd (cc)
-indicated_known n (compound f none) (Some k) p named e = subst (IfKnown n) e named.0
-
-predicate_known : (n : ℕ) (t : Term) (p : Pred) → IsNamed n t → predicate_from t ≡ Some p → p.name.0 < n
-predicate_known n (variable v) p named e = absurd (cc)
-predicate_known n (integer i) p named e = absurd (cc)
-predicate_known n (compound f none) p named e = absurd (cc)
-predicate_known n (compound f (more a none)) p named e = absurd (cc)
-predicate_known n (compound f (more a (more b none))) p named e = either (f.0 == DIVIDE.0) e
-  where
-    either : (c : Bool) → (if c then indicated (name_alone a) (arity_from b) else None) ≡ Some p → p.name.0 < n
-    either true e = indicated_known n a (arity_from b) p named.1.0 e
-    either false e = absurd (cc)
-predicate_known n (compound f (more a (more b (more c ts)))) p named e = absurd (cc)
+use Rattle.apd_commands.specs.Filters.{box_from, filter_at, filter_from, listed_predicates, onto_predicates, predicates_of_list}
 
 onto_known : (n : ℕ) (o : Option Pred) (os : Option (List Pred)) (ps : List Pred) → ((p : Pred) → o ≡ Some p → p.name.0 < n) → ((qs : List Pred) → os ≡ Some qs → PredsAreNamed n qs) →
     onto_predicates o os ≡ Some ps → PredsAreNamed n ps

@@ -8,8 +8,10 @@ use Rattle.apd_term.specs.Term.{Term, Terms, variable, integer, compound, none, 
 use Rattle.apd_term.specs.declared.standard.TheConstants.{CELL, DIVIDE, NIL}
 use Rattle.apd_term.specs.declared.term.Pred.{Pred}
 use Rattle.apd_term.specs.declared.term.Sym.{Sym}
-use Rattle.apd_commands.specs.Filters.{arity_from, indicated, listed_predicates, name_alone, onto_predicates, predicate_from}
-use Rattle.apd_commands.specs.Listed.{arity_in, first_predicate, is_ended, named_in, predicate_in}
+use Rattle.apd_clauses.specs.Indicators.{arity_from, indicated, name_alone, predicate_from, predicate_in}
+use Rattle.apd_clauses.proofs.Indicating.{always, many_arguments, never, predicate_in-spell, some_arguments}
+use Rattle.apd_commands.specs.Filters.{listed_predicates, onto_predicates}
+use Rattle.apd_commands.specs.Listed.{first_predicate, is_ended}
 
 -- predicates before those that come behind, if all of those are predicates
 abbrev pub with_front : List Pred → Option (List Pred) → Option (List Pred)
@@ -20,47 +22,6 @@ pub record IsAt (list : Term) (before : List Pred) (rest : List Sym) : Type 0 wh
   pub left : Term
   pub spelled : rest ≡ spell left
   pub preds : with_front before (listed_predicates left) ≡ listed_predicates list
-
-some_arguments : (t : Term) (ts : Terms) → (length (list_of (more t ts)) == 0) ≡ false
-some_arguments t ts = grind (arith, nat_tests)
-
-many_arguments : (t u v : Term) (ts : Terms) → (length (list_of (more t (more u (more v ts)))) == 2) ≡ false
-many_arguments t u v ts = grind (arith, nat_tests)
-
-never : {A : Type 0} (b : Bool) (o : Option A) → (if b && false then o else None) ≡ None
-never true o = refl
-never false o = refl
-
-always : {A : Type 0} (b : Bool) (o : Option A) → (if b && true then o else None) ≡ (if b then o else None)
-always true o = refl
-always false o = refl
-
--- what the symbols of terms tell
-arity_in-spell : (t : Term) (rest : List Sym) → arity_in (spell t ++ rest) ≡ arity_from t
-arity_in-spell (variable v) rest = refl
-arity_in-spell (integer (pos n)) rest = refl
-arity_in-spell (integer (negsuc n)) rest = refl
-arity_in-spell (compound f ts) rest = refl
-
-named_in-spell : (a : Term) (rest : List Sym) → named_in (spell a ++ rest) ≡ indicated (name_alone a) (arity_in rest)
-named_in-spell (variable v) rest = refl
-named_in-spell (integer i) rest = refl
-named_in-spell (compound f none) rest = refl
-named_in-spell (compound f (more t ts)) rest = rw (some_arguments t ts) refl
-
-predicate_in-spell : (t : Term) (rest : List Sym) → predicate_in (spell t ++ rest) ≡ predicate_from t
-predicate_in-spell (variable v) rest = refl
-predicate_in-spell (integer i) rest = refl
-predicate_in-spell (compound f none) rest = never (f.0 == DIVIDE.0) (named_in rest)
-predicate_in-spell (compound f (more a none)) rest = never (f.0 == DIVIDE.0) (named_in ((spell a ++ []) ++ rest))
-predicate_in-spell (compound f (more a (more b none))) rest =
-    let behind : (spell a ++ (spell b ++ [])) ++ rest ≡ spell a ++ (spell b ++ rest) = rw (append-nil (spell b)) (append_assoc (spell a) (spell b) rest) in
-    let named : named_in ((spell a ++ (spell b ++ [])) ++ rest) ≡ indicated (name_alone a) (arity_from b) =
-    ap named_in behind ∙ named_in-spell a (spell b ++ rest) ∙ ap (indicated (name_alone a)) (arity_in-spell b rest) in
-    always (f.0 == DIVIDE.0) (named_in ((spell a ++ (spell b ++ [])) ++ rest)) ∙ ap (λ (o : Option Pred). if f.0 == DIVIDE.0 then o else None) named
-predicate_in-spell (compound f (more a (more b (more c ts)))) rest =
-    ap (λ (two : Bool). if (f.0 == DIVIDE.0) && two then named_in (spell_all (more a (more b (more c ts))) ++ rest) else None) (many_arguments a b c ts)
-    ∙ never (f.0 == DIVIDE.0) (named_in (spell_all (more a (more b (more c ts))) ++ rest))
 
 -- the first element of a list, where that is a predicate
 abbrev head_predicate : Term → Option Pred

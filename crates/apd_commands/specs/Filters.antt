@@ -5,30 +5,12 @@ use Rattle.apd_term.specs.Term.{Term, Terms, variable, integer, compound, none, 
 use Rattle.apd_term.specs.declared.term.NameId.{NameId}
 use Rattle.apd_term.specs.declared.term.Pred.{Pred}
 use Rattle.apd_term.specs.declared.standard.TheConstants.{ALL, CELL, DIVIDE, LEAP, NIL, OFF, SKIP}
+use Rattle.apd_clauses.specs.Indicators.{predicate_from}
 use Rattle.apd_ports.specs.declared.filter.Filter.{Filter}
 use Rattle.apd_ports.specs.declared.filter.Filter.TheVariants.{Off, All, Leap, Skip}
 use Rattle.apd_text.specs.declared.entry.Refusal.TheVariants as refusal
 use Rattle.apd_commands.specs.declared.commands.Command.{Command}
 use Rattle.apd_commands.specs.declared.commands.Command.TheVariants as command
-
--- the name that an atom without arguments is
-abbrev pub name_alone : Term → Option NameId
-name_alone (compound f none) = Some f
-name_alone t = None
-
--- a number of arguments: an integer from 0 to 255
-abbrev pub arity_from : Term → Option ℕ
-arity_from (integer (pos n)) = if nat_le n 255 then Some n else None
-arity_from t = None
-
-abbrev pub indicated : Option NameId → Option ℕ → Option Pred
-indicated None arity = None
-indicated (Some f) arity = option_map (λ n. record { name = f; arity = n }) arity
-
--- the predicate of a term `Name/Arity`
-abbrev pub predicate_from : Term → Option Pred
-predicate_from (compound f (more a (more b none))) = if f.0 == DIVIDE.0 then indicated (name_alone a) (arity_from b) else None
-predicate_from t = None
 
 -- a predicate before further ones
 abbrev pub onto_predicates : Option Pred → Option (List Pred) → Option (List Pred)

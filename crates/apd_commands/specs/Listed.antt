@@ -4,29 +4,8 @@ use Rattle.std.specs.Option.{option_map}
 use Rattle.apd_term.specs.declared.term.Pred.{Pred}
 use Rattle.apd_term.specs.declared.term.Sym.{Sym}
 use Rattle.apd_term.specs.declared.term.Sym.TheVariants.{Var, Int, Fun}
-use Rattle.apd_term.specs.declared.standard.TheConstants.{CELL, DIVIDE, NIL}
-
--- the number of arguments that a symbol is
-abbrev pub arity_in : List Sym → Option ℕ
-arity_in [] = None
-arity_in (Var v ∷ rest) = None
-arity_in (Int (pos n) ∷ rest) = if nat_le n 255 then Some n else None
-arity_in (Int (negsuc n) ∷ rest) = None
-arity_in (Fun f n ∷ rest) = None
-
--- a name alone, and behind it a number of arguments
-abbrev pub named_in : List Sym → Option Pred
-named_in [] = None
-named_in (Var v ∷ rest) = None
-named_in (Int i ∷ rest) = None
-named_in (Fun f n ∷ rest) = if n == 0 then option_map (λ k. record { name = f; arity = k }) (arity_in rest) else None
-
--- behind a slash
-abbrev pub predicate_in : List Sym → Option Pred
-predicate_in [] = None
-predicate_in (Var v ∷ rest) = None
-predicate_in (Int i ∷ rest) = None
-predicate_in (Fun f n ∷ rest) = if (f.0 == DIVIDE.0) && (n == 2) then named_in rest else None
+use Rattle.apd_term.specs.declared.standard.TheConstants.{CELL, NIL}
+use Rattle.apd_clauses.specs.Indicators.{predicate_in}
 
 -- the first element of a list, where that is a predicate
 abbrev pub first_predicate : List Sym → Option Pred

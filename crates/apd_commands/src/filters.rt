@@ -4,51 +4,19 @@ ghost use Rattle.std.specs.Prelude.{ℕ, ◌≡◌, ◌<◌, length, IfOk};
 ghost use Rattle.apd_term.specs.Named.{IsNamed};
 ghost use Rattle.apd_term.specs.Term.{arguments};
 ghost use Rattle.apd_commands.specs.Filters.{box_from, filter_at, filter_from, filter_named, filter_of, listed_predicates, trace_asked};
-ghost use Rattle.apd_commands.specs.Listed.{arity_in, first_predicate, is_ended, named_in, predicate_in};
+ghost use Rattle.apd_commands.specs.Listed.{first_predicate, is_ended};
 ghost use Rattle.apd_commands.specs.Obeying.{CanObey};
 
 use crate::commands::Command;
+use apd_clauses::indicators::predicate_in;
 use apd_ports::Filter;
-use apd_term::standard::{ALL, CELL, DIVIDE, LEAP, NIL, OFF, SKIP};
+use apd_term::standard::{ALL, CELL, LEAP, NIL, OFF, SKIP};
 use apd_term::{Flat, NameId, Pred, Preds, Sym};
 use apd_text::Refusal;
 use std::alloc::{AllocError, Global};
 
 /// The greatest number that a box may have.
 const MOST_BOX: i64 = 4_294_967_295;
-
-/// The number of arguments that the first symbol is: an integer from 0 to 255.
-fn arity_in(symbols: &[Sym]) -> Option<u8>
-    ensures { result ≡ arity_in symbols.now }
-{
-    match symbols {
-        [Sym::Int(arity), ..] if *arity >= 0 && *arity <= 255 => Some(*arity as u8),
-        _ => None,
-    }
-}
-
-/// The name alone that the symbols begin with, and the number of arguments behind it.
-fn named_in(symbols: &[Sym]) -> Option<Pred>
-    ensures { result ≡ named_in symbols.now }
-{
-    match symbols {
-        [Sym::Fun(name, 0), rest @ ..] => match arity_in(rest) {
-            Some(arity) => Some(Pred { name: *name, arity }),
-            None => None,
-        },
-        _ => None,
-    }
-}
-
-/// The predicate that the symbols begin with: `Name/Arity`.
-fn predicate_in(symbols: &[Sym]) -> Option<Pred>
-    ensures { result ≡ predicate_in symbols.now }
-{
-    match symbols {
-        [Sym::Fun(DIVIDE, 2), rest @ ..] => named_in(rest),
-        _ => None,
-    }
-}
 
 /// The first element of a list, where that is a predicate; with the list's cell it has four symbols.
 fn first_predicate(list: &[Sym]) -> Option<Pred>

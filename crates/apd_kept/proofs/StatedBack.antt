@@ -32,7 +32,7 @@ use Rattle.apd_answers.specs.declared.question.Reply.{Reply}
 use Rattle.apd_answers.specs.declared.question.Reply.TheVariants.{Yes, No, Values, Unknown}
 use Rattle.apd_answers.specs.declared.store.Pair.{Pair}
 use Rattle.apd_text.specs.ClauseTerms.{list_term, with_body}
-use Rattle.apd_known.specs.Indicators.{indicated}
+use Rattle.apd_clauses.specs.Indicators.{indicated}
 use Rattle.apd_known.specs.Pairs.{IsStatable, MayAsk, MayCover, MayTrust}
 use Rattle.apd_known.specs.Statements.{body_stated, cover_stated, is_own, is_of_own, is_own_atom, of_reply, order_stated, pair_of, reply_stated, solution_stated, statement_added, term_stated, trust_stated, truth_stated}
 use Rattle.apd_known.specs.Told.{truth_told, values_told, word_told}

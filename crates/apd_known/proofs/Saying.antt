@@ -12,7 +12,8 @@ use Rattle.apd_clauses.specs.Kinds.{◌∕◌, kind_of}
 use Rattle.apd_clauses.specs.Predicates.{is_pred}
 use Rattle.apd_clauses.proofs.Indexing.{same_pred-true}
 use Rattle.apd_answers.specs.declared.store.Pair.{Pair}
-use Rattle.apd_known.specs.Indicators.{arity_from, indicated, name_alone, predicate_from}
+use Rattle.apd_clauses.specs.Indicators.{predicate_from}
+use Rattle.apd_clauses.proofs.Indicating.{predicate_known}
 use Rattle.apd_known.specs.Pairs.{IsStatable, MayTrust, SaidFits}
 use Rattle.apd_known.specs.Statements.{is_own, of_reply, reply_stated, term_stated, trust_stated}
 use Rattle.apd_known.specs.declared.statements.FileForm.{FileForm}
@@ -25,30 +26,6 @@ use Rattle.apd_known.proofs.Stating.{kind_own, reply_fits, reply_may}
 abbrev pub MaySay : ℕ → Statement → Type 0
 MaySay n (Replies pair) = IsStatable n pair
 MaySay n (Trusts p) = MayTrust n p
-
-abbrev IfKnown : ℕ → Option Pred → Type 0
-IfKnown n None = Unit {0}
-IfKnown n (Some p) = p.name.0 < n
-
-indicated_known : (n : ℕ) (a : Term) (arity : Option ℕ) (p : Pred) → IsNamed n a → indicated (name_alone a) arity ≡ Some p → p.name.0 < n
-indicated_known n (variable v) arity p named e = absurd (cc)
-indicated_known n (integer i) arity p named e = absurd (cc)
-indicated_known n (compound f (more t ts)) arity p named e = absurd (cc)
-indicated_known n (compound f none) None p named e = absurd (cc)
-indicated_known n (compound f none) (Some k) p named e = subst (IfKnown n) e named.0
-
--- the name of a predicate is one of its indicator
-predicate_known : (n : ℕ) (t : Term) (p : Pred) → IsNamed n t → predicate_from t ≡ Some p → p.name.0 < n
-predicate_known n (variable v) p named e = absurd (cc)
-predicate_known n (integer i) p named e = absurd (cc)
-predicate_known n (compound f none) p named e = absurd (cc)
-predicate_known n (compound f (more a none)) p named e = absurd (cc)
-predicate_known n (compound f (more a (more b none))) p named e = either (f.0 == DIVIDE.0) e
-  where
-    either : (c : Bool) → (if c then indicated (name_alone a) (arity_from b) else None) ≡ Some p → p.name.0 < n
-    either true e = indicated_known n a (arity_from b) p named.1.0 e
-    either false e = absurd (cc)
-predicate_known n (compound f (more a (more b (more c ts)))) p named e = absurd (cc)
 
 -- a reply
 reply_says : (P : Statement → Type 0) (w : Result Pair OracleCause) (said : Statement) → ((pair : Pair) → w ≡ Ok pair → P (Replies pair)) → of_reply w ≡ Ok said → P said

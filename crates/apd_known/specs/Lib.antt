@@ -1,7 +1,6 @@
 pub mod Told
 pub mod Truths
 pub mod Pairs
-pub mod Indicators
 pub mod Statements
 pub mod Files
 pub mod Steps

@@ -21,7 +21,7 @@ use Rattle.apd_answers.specs.declared.question.Question.TheVariants.{True, Cover
 use Rattle.apd_answers.specs.declared.question.Reply.{Reply}
 use Rattle.apd_answers.specs.declared.question.Reply.TheVariants.{Yes, No, Values, Unknown}
 use Rattle.apd_answers.specs.declared.store.Pair.{Pair}
-use Rattle.apd_known.specs.Indicators.{predicate_from}
+use Rattle.apd_clauses.specs.Indicators.{predicate_from}
 use Rattle.apd_known.specs.Told.{truth_told, word_told, values_told}
 use Rattle.apd_arith.specs.Truths.{is_ground}
 use Rattle.apd_known.specs.Truths.{is_true_if_builtin}

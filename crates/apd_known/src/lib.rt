@@ -3,7 +3,6 @@
 #![tactic(auto)]
 
 mod file;
-mod indicators;
 mod laws;
 mod scripted;
 mod statements;

@@ -9,11 +9,11 @@ ghost use Rattle.apd_clauses.specs.Predicates.{is_pred};
 ghost use Rattle.apd_known.specs.declared.statements.FileForm.{FileForm};
 ghost use Rattle.apd_known.specs.Statements.{is_rule, is_own_atom, body_stated, cover_stated, of_reply, order_stated, reply_stated, solution_stated, term_stated, trust_stated, truth_in, truth_stated, values_stated};
 
-use crate::indicators::predicate_from;
 use crate::told::{truth_told, values_told, word_told};
 use crate::values::{are_true_if_builtin, unknown_count};
 use apd_answers::{Pair, Question, Reply, are_ground, with_values};
 use apd_causes::{BodyFault, OracleCause};
+use apd_clauses::indicators::predicate_from;
 use apd_clauses::{Kind, clause_of, kind_of};
 use apd_term::canonical::canonical;
 use apd_term::standard::{BELOW, COVERS, NECK, TRUE, TRUSTED};
@@ -276,5 +276,5 @@ pub(crate) fn term_stated(
         return Ok(of_reply(reply_stated(alloc, form, term)?));
     }
     let indicator = term.arg(alloc, 0)?;
-    Ok(trust_stated(form, predicate_from(alloc, &indicator)?))
+    Ok(trust_stated(form, predicate_from(&indicator)))
 }

@@ -12,5 +12,5 @@ arg-requires c = let n = trust_arguments c.args.term.now (sym c.is_trust.ensures
 
 pub returns : goal.returns
 returns c =
-    c.trust_stated.ensures ∙ ap (trust_stated c.args.form) c.in_ok-predicate_from.ensures
+    c.trust_stated.ensures ∙ ap (trust_stated c.args.form) c.predicate_from.ensures
     ∙ sym (trust_statement c.args.form c.args.term.now c.in_ok-indicator.indicator (sym c.is_trust.ensures ∙ c.if-not-is_trust.false) c.in_ok-indicator.ensures)

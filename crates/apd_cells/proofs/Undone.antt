@@ -20,7 +20,7 @@ use Rattle.apd_cells.specs.Known.{IsSized}
 use Rattle.apd_cells.specs.declared.extents.Extents.{Extents}
 use Rattle.apd_cells.specs.Stored.{Stored}
 use Rattle.apd_cells.specs.Store.{binding_of, before_note, before_notes, at_mark, HasCells, IsStore, IsSound}
-use Rattle.apd_cells.specs.Undone.{nothing, IsFront, without_note, without_notes, undone, HasMoreCells}
+use Rattle.apd_cells.specs.Undone.{no_front, IsFront, without_note, without_notes, undone, HasMoreCells}
 use Rattle.apd_cells.proofs.Bindings.{not_zero}
 use Rattle.apd_cells.proofs.Flat.{short_taken}
 use Rattle.apd_cells.proofs.Following.{viewed}
@@ -137,7 +137,7 @@ module _ (kept : Front) (cells : List Sym) (bindings : List Binding) (trail note
       (without_has_more kept cells (length bindings) trail h.kept) sound x)
 
 -- where nothing is kept, the store at the mark is left
-pub nothing_kept : (cells : List Sym) (n : ℕ) (notes : List TrailNote) (j : ℕ) → IsStore cells n notes → without_notes nothing cells n notes j ≡ before_notes cells n notes j
+pub nothing_kept : (cells : List Sym) (n : ℕ) (notes : List TrailNote) (j : ℕ) → IsStore cells n notes → without_notes no_front cells n notes j ≡ before_notes cells n notes j
 nothing_kept cells n [] j h = refl
 nothing_kept cells n (Loaded c m ∷ notes) zero h = refl
 nothing_kept cells n (Loaded c m ∷ notes) (suc j) h =
@@ -145,22 +145,22 @@ nothing_kept cells n (Loaded c m ∷ notes) (suc j) h =
     let e : suc j - 1 ≡ j = omega arith in
     let a : max c 0 ≡ c = omega arith in
     let b : min n (max m 0) ≡ m = omega (arith, h.1.1.0) in
-    not_zero (suc j) here (without_notes nothing (take (max c 0) cells) (min n (max m 0)) notes (suc j - 1)) (omega arith)
-    ∙ ap (without_notes nothing (take (max c 0) cells) (min n (max m 0)) notes) e
-    ∙ ap (λ z. without_notes nothing (take z cells) (min n (max m 0)) notes j) a
-    ∙ ap (λ z. without_notes nothing (take c cells) z notes j) b
+    not_zero (suc j) here (without_notes no_front (take (max c 0) cells) (min n (max m 0)) notes (suc j - 1)) (omega arith)
+    ∙ ap (without_notes no_front (take (max c 0) cells) (min n (max m 0)) notes) e
+    ∙ ap (λ z. without_notes no_front (take z cells) (min n (max m 0)) notes j) a
+    ∙ ap (λ z. without_notes no_front (take c cells) z notes j) b
     ∙ nothing_kept (take c cells) m notes j h.1.1.1
     ∙ sym (not_zero (suc j) here (before_notes (take c cells) m notes (suc j - 1)) (omega arith) ∙ ap (before_notes (take c cells) m notes) e)
 nothing_kept cells n (Bound v c ∷ notes) zero h = refl
 nothing_kept cells n (Bound v c ∷ notes) (suc j) h =
     let here : Stored = record { cells = cells; variables = n; trail = Bound v c ∷ notes } in
     let e : suc j - 1 ≡ j = omega arith in
-    not_zero (suc j) here (without_notes nothing cells n notes (suc j - 1)) (omega arith)
-    ∙ ap (without_notes nothing cells n notes) e
+    not_zero (suc j) here (without_notes no_front cells n notes (suc j - 1)) (omega arith)
+    ∙ ap (without_notes no_front cells n notes) e
     ∙ nothing_kept cells n notes j h.1
     ∙ sym (not_zero (suc j) here (before_notes cells n notes (suc j - 1)) (omega arith) ∙ ap (before_notes cells n notes) e)
 
-pub undone_nothing : (k : ℕ) (s : Stored) → IsSound s → undone nothing k s ≡ at_mark k s
+pub undone_nothing : (k : ℕ) (s : Stored) → IsSound s → undone no_front k s ≡ at_mark k s
 undone_nothing k s h = nothing_kept s.cells s.variables s.trail (length s.trail - k) h
 
 -- what is left: the store at the mark with more cells, its trail, and the front

@@ -8,14 +8,15 @@ use Rattle.apd_cells.specs.Stored.{Stored}
 use Rattle.apd_cells.specs.Store.{HasCells}
 
 -- a front of no cells
-abbrev pub nothing : Front
-nothing = record { cells = 0; variables = 0 }
+abbrev pub no_front : Front
+no_front = record { cells = 0; variables = 0 }
 
--- a front of the cells is whole terms, whose variables have smaller numbers
+-- a front of the cells is whole terms, whose variables are below its number
 abbrev pub IsFront : Front → List Sym → Type 0
 IsFront kept cells = HasCells (take kept.cells cells) kept.variables
 
--- the store without its newest note: what it says is taken back, but for the front that is kept
+-- the store without its newest note: what it says is taken back, but for the front that is kept; nothing is added where the
+-- front tells of more than there is
 abbrev pub without_note : Front → List Sym → ℕ → List TrailNote → Stored
 without_note kept cells n [] = record { cells = cells; variables = n; trail = [] }
 without_note kept cells n (Loaded c m ∷ notes) =

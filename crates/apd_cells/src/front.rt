@@ -10,7 +10,7 @@ pub struct Front {
 }
 
 /// A front of no cells.
-pub const NOTHING: Front = Front {
+pub const NO_FRONT: Front = Front {
     cells: 0,
     variables: 0,
 };

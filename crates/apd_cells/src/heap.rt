@@ -14,7 +14,7 @@ ghost use Rattle.apd_cells.specs.Store.{meaning, term_at, written, symbol_at, bi
 ghost use Rattle.apd_cells.specs.Stretches.{AreMeant, AreStretches};
 
 use crate::extents::Extents;
-use crate::front::{Front, NOTHING, above_term};
+use crate::front::{Front, NO_FRONT, above_term};
 use crate::kept::{KeptBinding, KeptNote};
 use crate::known::Extent;
 use crate::live::Live;
@@ -55,7 +55,7 @@ pub struct Heap {
     front: Front,
     /// How many bindings lead to a term that has arguments.
     compounds: usize,
-    /// No term that was loaded has more symbols.
+    /// No term that is written has more symbols.
     longest: usize,
     /// What is known of the sizes of terms.
     sizes: Extents,
@@ -87,7 +87,7 @@ impl Heap {
             bindings: Vec::new(alloc),
             trail: Stack::new(alloc),
             touched: 0,
-            front: NOTHING,
+            front: NO_FRONT,
             compounds: 0,
             longest: 0,
             sizes: Extents::new(alloc),
@@ -375,7 +375,7 @@ impl Heap {
                 let least_variables = variables.max(kept.variables);
                 self.cells.truncate(least_cells);
                 self.bindings.truncate(least_variables);
-                self.front = NOTHING;
+                self.front = NO_FRONT;
                 self.touched = self.touched.min(variables);
             }
             TrailNote::Bound(v, to) => {

@@ -3,7 +3,7 @@ use Rattle.std.proofs.Common.{◌≡◌, ℕ, ◌<◌, Bool, true, false, ◌==�
 use Rattle.std.specs.Option.{option_map}
 use Rattle.apd_term.specs.Named.{AreNamed, IsNamed}
 use Rattle.apd_term.specs.Term.{Term, Terms, variable, integer, compound, none, more}
-use Rattle.apd_term.specs.declared.standard.TheConstants.{ALL, CELL, DIVIDE, LEAP, NIL, OFF, SKIP}
+use Rattle.apd_term.specs.declared.standard.TheConstants.{ALL, CELL, LEAP, NIL, OFF, SKIP}
 use Rattle.apd_term.specs.declared.term.NameId.{NameId}
 use Rattle.apd_term.specs.declared.term.Pred.{Pred}
 use Rattle.apd_ports.specs.declared.filter.Filter.{Filter}

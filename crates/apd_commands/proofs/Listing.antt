@@ -1,10 +1,8 @@
 -- The predicates of a list, symbol by symbol.
 use Rattle.std.proofs.Common.{◌≡◌, Bool, true, false, ◌&&◌, ◌==◌, ◌-◌, List, [], ◌∷◌, ◌++◌, length, take, drop, Option, None, Some, if◌then◌else◌, refl, ap, sym, ◌∙◌, append_assoc, arith, length-drop}
-use Rattle.std.specs.Prelude.{pos, negsuc}
 use Rattle.std.specs.Option.{option_map}
-use Rattle.std.proofs.lemmas.Bool.Decides.{nat_tests}
 use Rattle.std.proofs.lemmas.List.{append-nil, take_all}
-use Rattle.apd_term.specs.Term.{Term, Terms, variable, integer, compound, none, more, spell, spell_all, list_of}
+use Rattle.apd_term.specs.Term.{Term, variable, integer, compound, none, more, spell, spell_all}
 use Rattle.apd_term.specs.declared.standard.TheConstants.{CELL, DIVIDE, NIL}
 use Rattle.apd_term.specs.declared.term.Pred.{Pred}
 use Rattle.apd_term.specs.declared.term.Sym.{Sym}

@@ -4,7 +4,7 @@ use Rattle.std.specs.Option.{option_map, option_and_then}
 use Rattle.apd_term.specs.Term.{Term, Terms, variable, integer, compound, none, more, arguments}
 use Rattle.apd_term.specs.declared.term.NameId.{NameId}
 use Rattle.apd_term.specs.declared.term.Pred.{Pred}
-use Rattle.apd_term.specs.declared.standard.TheConstants.{ALL, CELL, DIVIDE, LEAP, NIL, OFF, SKIP}
+use Rattle.apd_term.specs.declared.standard.TheConstants.{ALL, CELL, LEAP, NIL, OFF, SKIP}
 use Rattle.apd_clauses.specs.Indicators.{predicate_from}
 use Rattle.apd_ports.specs.declared.filter.Filter.{Filter}
 use Rattle.apd_ports.specs.declared.filter.Filter.TheVariants.{Off, All, Leap, Skip}

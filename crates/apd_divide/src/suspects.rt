@@ -55,15 +55,15 @@ fn lost_by(standing: Standing, weight: u32) -> u32
     }
 }
 
-/// Whether no suspect was passed by yet, once a tree of this weight is passed by.
+/// Whether no suspect was passed by yet, once a tree of this weight is passed by; false says nothing.
 fn stays_first(is_first: bool, weight: u32) -> bool
     ensures { result ≡ true → (is_first ≡ true) × (weight ≡ 0) }
 {
     is_first && weight == 0
 }
 
-/// From where on the first suspect is found: from this place, where the tree there has such a weight and no suspect was passed
-/// by, else from the first row.
+/// From where on the first suspect is found: from this place, where the tree there has a suspect and none was passed by, else
+/// from the first row.
 fn found_from(is_first: bool, weight: u32, place: usize) -> usize
     ensures { result ≡ (if is_first && nat_lt 0 weight then place else 0) }
 {

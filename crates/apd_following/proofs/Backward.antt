@@ -1,4 +1,4 @@
--- What a log has where the store went back.
+-- What a journal has where the store went back.
 use Rattle.std.proofs.Common.{◌≡◌, inl, inr, ℕ, zero, suc, ◌-◌, ◌<◌, ◌≤◌, List, [], ◌∷◌, ◌++◌, length, take, drop, reverse, refl, sym, ◌∙◌, ap, subst, arith, Bool, true, false, Result, Ok, Err}
 use Rattle.std.specs.Prelude.{OnOk}
 use Rattle.std.specs.Result.{is_ok}
@@ -33,7 +33,7 @@ newest_bound (Bound w b ∷ notes) v c rest e =
     let there : b ≡ c = cc in
     binding-same w b notes v same ∙ ap (λ x. At x) there
 
--- the log's newest variable is free in the store: its binding is one of the newer ones
+-- the journal's newest variable is free in the store: its binding is one of the newer ones
 ahead_by : (d : Done) (s : Stored) (v c : ℕ) (rest newer : List TrailNote) → bindings_of d ≡ Bound v c ∷ rest → bindings_of d ≡ newer ++ bindings_in s.trail → AreFree newer s.trail
     → binding_of s.trail v ≡ Free → IsAhead (freed d) s
 ahead_by d s v c rest [] e is f free = let b = newest_bound s.trail v c rest (sym is ∙ e) in absurd (cc)
@@ -114,13 +114,13 @@ module _ (t : Tie) (now : Stored) (b : IsBack t now) where
   front_back = ap (λ (x : Stored). take t.cells x.cells) b.is ∙ undone_front (front_of t) b.mark b.before
 
   pub past_back : past_of t now ≡ past_of t b.before
-  past_back = ap (λ z. history_of z t.log) front_back
+  past_back = ap (λ z. history_of z t.journal) front_back
 
   within_back : t.cells ≤ length now.cells
   within_back = omega (arith, ap length front_back, length-take t.cells now.cells, length-take t.cells b.before.cells, b.tied.within)
 
-  right_back : IsRight (take t.cells now.cells) t.log.variables (reverse t.log.deeds)
-  right_back = subst (λ z. IsRight z t.log.variables (reverse t.log.deeds)) (sym front_back) b.tied.right
+  right_back : IsRight (take t.cells now.cells) t.journal.variables (reverse t.journal.deeds)
+  right_back = subst (λ z. IsRight z t.journal.variables (reverse t.journal.deeds)) (sym front_back) b.tied.right
 
   trail_back : now.trail ≡ drop (length b.before.trail - b.mark) b.before.trail
   trail_back = ap (λ (x : Stored). x.trail) b.is ∙ undone_trail (front_of t) b.mark b.before
@@ -128,12 +128,12 @@ module _ (t : Tie) (now : Stored) (b : IsBack t now) where
   count_back : length now.trail ≡ b.mark
   count_back = omega (arith, ap length trail_back, length-drop (length b.before.trail - b.mark) b.before.trail, b.there)
 
-  -- nothing was taken back of what the log followed
+  -- nothing was taken back of what the journal followed
   pub tied_still : t.followed ≤ length now.trail → IsTied t now
   tied_still l = record {
     within = within_back;
     right = right_back;
-    follows = OnTrue_from t.holds (FollowsTo t.followed t.log now)
+    follows = OnTrue_from t.holds (FollowsTo t.followed t.journal now)
         (λ e. (let f = OnTrue_at e b.tied.follows in
         let k = t.followed in
         let n = length b.before.trail in
@@ -148,7 +148,7 @@ module _ (t : Tie) (now : Stored) (b : IsBack t now) where
   }
 
   -- some was
-  pub ahead : t.holds ≡ true → length now.trail < t.followed → IsAhead t.log now
+  pub ahead : t.holds ≡ true → length now.trail < t.followed → IsAhead t.journal now
   ahead e l =
       let f = OnTrue_at e b.tied.follows in
       let k = t.followed in
@@ -170,13 +170,13 @@ module _ (t : Tie) (now : Stored) (b : IsBack t now) where
 
   -- it follows no store any more
   pub tied_given_up : t.holds ≡ false → IsTied t now
-  tied_given_up e = record { within = within_back; right = right_back; follows = subst (λ b. OnTrue b (FollowsTo t.followed t.log now)) (sym e) tt }
+  tied_given_up e = record { within = within_back; right = right_back; follows = subst (λ b. OnTrue b (FollowsTo t.followed t.journal now)) (sym e) tt }
 
-  tied_part : (d : Done) (k : ℕ) → IsRight (take t.cells now.cells) d.variables (reverse d.deeds) → IsTied (record { log = d; cells = t.cells; followed = k; holds = false }) now
+  tied_part : (d : Done) (k : ℕ) → IsRight (take t.cells now.cells) d.variables (reverse d.deeds) → IsTied (record { journal = d; cells = t.cells; followed = k; holds = false }) now
   tied_part d k r = record { within = within_back; right = r; follows = tt }
 
   tied_freed : (d : Done) (k : ℕ) → IsRight (take t.cells now.cells) d.variables (reverse d.deeds) → Follows d now → k ≡ length now.trail
-      → IsTied (record { log = d; cells = t.cells; followed = k; holds = true }) now
+      → IsTied (record { journal = d; cells = t.cells; followed = k; holds = true }) now
   tied_freed d k r f e = record {
     within = within_back;
     right = r;
@@ -184,15 +184,15 @@ module _ (t : Tie) (now : Stored) (b : IsBack t now) where
   }
 
   pub tied_by : {X E : Type 0} (r : Result X E) (holds : Bool) (d : Done) (k : ℕ) → IsRight (take t.cells now.cells) d.variables (reverse d.deeds) → OnOk r (Follows d now) → k ≡ length now.trail
-      → holds ≡ is_ok r → IsTied (record { log = d; cells = t.cells; followed = k; holds = holds }) now
-  tied_by (Ok x) holds d k right f e h = subst (λ b. IsTied (record { log = d; cells = t.cells; followed = k; holds = b }) now) (sym h) (tied_freed d k right f e)
-  tied_by (Err x) holds d k right f e h = subst (λ b. IsTied (record { log = d; cells = t.cells; followed = k; holds = b }) now) (sym h) (tied_part d k right)
+      → holds ≡ is_ok r → IsTied (record { journal = d; cells = t.cells; followed = k; holds = holds }) now
+  tied_by (Ok x) holds d k right f e h = subst (λ b. IsTied (record { journal = d; cells = t.cells; followed = k; holds = b }) now) (sym h) (tied_freed d k right f e)
+  tied_by (Err x) holds d k right f e h = subst (λ b. IsTied (record { journal = d; cells = t.cells; followed = k; holds = b }) now) (sym h) (tied_part d k right)
 
-  pub right_freed : (d : Done) → HasDoneMore t.log d → ((cells : List Sym) (n : ℕ) → IsRight cells n (reverse t.log.deeds) → IsRight cells n (reverse d.deeds))
+  pub right_freed : (d : Done) → HasDoneMore t.journal d → ((cells : List Sym) (n : ℕ) → IsRight cells n (reverse t.journal.deeds) → IsRight cells n (reverse d.deeds))
       → IsRight (take t.cells now.cells) d.variables (reverse d.deeds)
-  right_freed d m h = subst (λ n. IsRight (take t.cells now.cells) n (reverse d.deeds)) (sym m.variables) (h (take t.cells now.cells) t.log.variables right_back)
+  right_freed d m h = subst (λ n. IsRight (take t.cells now.cells) n (reverse d.deeds)) (sym m.variables) (h (take t.cells now.cells) t.journal.variables right_back)
 
-  pub keeps_freed : (d : Done) → HasDoneMore t.log d → KeepsMoments (past_of t now) (history_of (take t.cells now.cells) d)
+  pub keeps_freed : (d : Done) → HasDoneMore t.journal d → KeepsMoments (past_of t now) (history_of (take t.cells now.cells) d)
   keeps_freed d m =
       subst (λ z. KeepsMoments (past_of t now) (history_of z d)) (append-nil (take t.cells now.cells))
-      (keeps_grown (take t.cells now.cells) [] t.log d m.more right_back m.deeds)
+      (keeps_grown (take t.cells now.cells) [] t.journal d m.more right_back m.deeds)

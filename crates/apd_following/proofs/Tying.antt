@@ -1,4 +1,4 @@
--- What stays of a tie where the store goes on, and where a log catches up with it.
+-- What stays of a tie where the store goes on, and where a journal catches up with it.
 use Rattle.std.proofs.Common.{◌≡◌, ℕ, ◌-◌, ◌≤◌, List, [], ◌++◌, length, take, drop, reverse, refl, sym, ◌∙◌, ap, subst, arith, true, false}
 use Rattle.std.specs.Prelude.{max}
 use Rattle.std.proofs.Math.Seq.{take-length}
@@ -21,7 +21,7 @@ use Rattle.apd_following.specs.declared.tie.Tie.{Tie}
 use Rattle.apd_following.specs.Tied.{past_of, FollowsTo, IsLevel, IsTied}
 
 -- nothing is kept, and nothing was followed
-pub tied_none : (d : Done) (s : Stored) → d ≡ record { variables = 0; deeds = [] } → IsTied (record { log = d; cells = 0; followed = 0; holds = true }) s
+pub tied_none : (d : Done) (s : Stored) → d ≡ record { variables = 0; deeds = [] } → IsTied (record { journal = d; cells = 0; followed = 0; holds = true }) s
 tied_none d s e =
     rw e (record {
       within = omega arith;
@@ -59,13 +59,13 @@ module _ (s s' : Stored) (k : Keeps s s') where
   }
 
   pub past_more : (t : Tie) → IsTied t s → past_of t s' ≡ past_of t s
-  past_more t h = ap (λ z. history_of z t.log) (front_more t.cells h.within)
+  past_more t h = ap (λ z. history_of z t.journal) (front_more t.cells h.within)
 
   pub tied_more : (t : Tie) → IsTied t s → IsTied t s'
   tied_more t h = record {
     within = omega (arith, h.within, ap length longer, length-append s.cells (front_at_mark (length s.trail) s').0);
-    right = subst (λ z. IsRight z t.log.variables (reverse t.log.deeds)) (sym (front_more t.cells h.within)) h.right;
-    follows = OnTrue_from t.holds (FollowsTo t.followed t.log s') (λ e. follows_more t.followed t.log (OnTrue_at e h.follows));
+    right = subst (λ z. IsRight z t.journal.variables (reverse t.journal.deeds)) (sym (front_more t.cells h.within)) h.right;
+    follows = OnTrue_from t.holds (FollowsTo t.followed t.journal s') (λ e. follows_more t.followed t.journal (OnTrue_at e h.follows));
   }
 
   pub there_more : (t : Tie) (ps : List Place) → IsTied t s → AreThere (past_of t s) ps → AreThere (past_of t s') ps
@@ -77,10 +77,10 @@ module _ (s s' : Stored) (k : Keeps s s') where
 -- all of the store is kept
 module _ (t : Tie) (s : Stored) (h : IsTied t s) where
   -- there is room for its variables
-  pub tied_roomy : (d : Done) → d.deeds ≡ t.log.deeds → t.log.variables ≤ d.variables → IsTied (record { log = d; cells = t.cells; followed = t.followed; holds = t.holds }) s
+  pub tied_roomy : (d : Done) → d.deeds ≡ t.journal.deeds → t.journal.variables ≤ d.variables → IsTied (record { journal = d; cells = t.cells; followed = t.followed; holds = t.holds }) s
   tied_roomy d e l = record {
     within = h.within;
-    right = subst (λ ds. IsRight (take t.cells s.cells) d.variables (reverse ds)) (sym e) (right_wider (take t.cells s.cells) t.log.variables d.variables (reverse t.log.deeds) h.right l);
+    right = subst (λ ds. IsRight (take t.cells s.cells) d.variables (reverse ds)) (sym e) (right_wider (take t.cells s.cells) t.journal.variables d.variables (reverse t.journal.deeds) h.right l);
     follows = OnTrue_from t.holds (FollowsTo t.followed d s)
         (λ q. (let f = OnTrue_at q h.follows in record {
           there = f.there;
@@ -88,19 +88,19 @@ module _ (t : Tie) (s : Stored) (h : IsTied t s) where
         }));
   }
 
-  pub keeps_roomy : (d : Done) → d.deeds ≡ t.log.deeds → KeepsMoments (past_of t s) (history_of (take t.cells s.cells) d)
+  pub keeps_roomy : (d : Done) → d.deeds ≡ t.journal.deeds → KeepsMoments (past_of t s) (history_of (take t.cells s.cells) d)
   keeps_roomy d e = keeps_wider (past_of t s) (history_of (take t.cells s.cells) d) refl e
 
-  -- the log may follow
-  module _ (sound : IsSound s) (d : Done) (room : d ≡ with_room t.log s.variables) where
+  -- the journal may follow
+  module _ (sound : IsSound s) (d : Done) (room : d ≡ with_room t.journal s.variables) where
     whole_right : IsRight s.cells d.variables (reverse d.deeds)
     whole_right =
-        let n = max t.log.variables s.variables in
+        let n = max t.journal.variables s.variables in
         let is : take t.cells s.cells ++ drop t.cells s.cells ≡ s.cells = take-append-drop t.cells s.cells in
         let w = HasCells-of s.cells s.variables s.trail sound in
         let whole : HasCells s.cells n = record { whole = w.whole; below = λ v o. (let b = w.below v o in omega arith) } in
-        rw room (subst (λ z. IsRight z n (reverse t.log.deeds)) is
-        (right_more (take t.cells s.cells) (drop t.cells s.cells) t.log.variables n (reverse t.log.deeds) (subst (λ z. HasCells z n) (sym is) whole) (omega arith) h.right))
+        rw room (subst (λ z. IsRight z n (reverse t.journal.deeds)) is
+        (right_more (take t.cells s.cells) (drop t.cells s.cells) t.journal.variables n (reverse t.journal.deeds) (subst (λ z. HasCells z n) (sym is) whole) (omega arith) h.right))
 
     pub may_follow : t.holds ≡ true → MayFollow d s t.followed
     may_follow q =
@@ -116,10 +116,10 @@ module _ (t : Tie) (s : Stored) (h : IsTied t s) where
     pub keeps_caught : (d' : Done) (n : ℕ) → HasDoneMore d d' → n ≡ length s.cells → KeepsMoments (past_of t s) (history_of (take n s.cells) d')
     keeps_caught d' n m e =
         subst (λ z. KeepsMoments (past_of t s) (history_of z d')) (take-append-drop t.cells s.cells ∙ sym (ap (λ k. take k s.cells) e ∙ take-length s.cells))
-        (keeps_grown (take t.cells s.cells) (drop t.cells s.cells) t.log d' m.more h.right (m.deeds ∙ ap (λ (x : Done). x.deeds ++ m.more) room))
+        (keeps_grown (take t.cells s.cells) (drop t.cells s.cells) t.journal d' m.more h.right (m.deeds ∙ ap (λ (x : Done). x.deeds ++ m.more) room))
 
 -- it has followed a part, or all
-pub caught_part : (d : Done) (s : Stored) (n k : ℕ) → IsRight s.cells d.variables (reverse d.deeds) → n ≡ length s.cells → IsTied (record { log = d; cells = n; followed = k; holds = false }) s
+pub caught_part : (d : Done) (s : Stored) (n k : ℕ) → IsRight s.cells d.variables (reverse d.deeds) → n ≡ length s.cells → IsTied (record { journal = d; cells = n; followed = k; holds = false }) s
 caught_part d s n k r e = record {
   within = omega (arith, e);
   right = subst (λ z. IsRight z d.variables (reverse d.deeds)) (sym (ap (λ j. take j s.cells) e ∙ take-length s.cells)) r;
@@ -127,7 +127,7 @@ caught_part d s n k r e = record {
 }
 
 pub caught_all : (d : Done) (s : Stored) (n k : ℕ) → IsRight s.cells d.variables (reverse d.deeds) → n ≡ length s.cells → Follows d s → k ≡ length s.trail
-    → IsTied (record { log = d; cells = n; followed = k; holds = true }) s
+    → IsTied (record { journal = d; cells = n; followed = k; holds = true }) s
 caught_all d s n k r e f i = record {
   within = omega (arith, e);
   right = subst (λ z. IsRight z d.variables (reverse d.deeds)) (sym (ap (λ j. take j s.cells) e ∙ take-length s.cells)) r;
@@ -139,10 +139,10 @@ all_kept d s n e = ap (λ z. history_of z d) (ap (λ j. take j s.cells) e ∙ ta
 
 -- nothing was done that it hasn't followed, and all is kept
 module _ (t : Tie) (s : Stored) (h : IsTied t s) (l : IsLevel t s) where
-  pub level_follows : Follows t.log s
+  pub level_follows : Follows t.journal s
   level_follows =
       let f = OnTrue_at l.holds h.follows in
       f.follows ∙ ap (λ (x : Stored). bindings_in x.trail) (at_mark-here t.followed s l.notes)
 
-  pub level_all : past_of t s ≡ history_of s.cells t.log
-  level_all = ap (λ z. history_of z t.log) (take_all t.cells s.cells l.cells)
+  pub level_all : past_of t s ≡ history_of s.cells t.journal
+  level_all = ap (λ z. history_of z t.journal) (take_all t.cells s.cells l.cells)

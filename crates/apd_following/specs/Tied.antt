@@ -1,5 +1,5 @@
--- A log that has followed a store for a part of the way, and what is kept of the store.
-use Rattle.std.specs.Prelude.{◌≡◌, ℕ, ◌≤◌, List, [], ◌∷◌, ◌++◌, length, reverse, take, true}
+-- A journal that has followed a store for a part of the way, and what is kept of the store.
+use Rattle.std.specs.Prelude.{◌≡◌, ℕ, ◌≤◌, List, [], ◌∷◌, ◌++◌, length, take, true}
 use Rattle.std.specs.Bool.{OnTrue}
 use Rattle.apd_cells.specs.declared.front.Front.{Front}
 use Rattle.apd_cells.specs.declared.heap.TrailNote.{TrailNote}
@@ -10,27 +10,27 @@ use Rattle.apd_cells.specs.Store.{at_mark, binding_of, IsSound}
 use Rattle.apd_cells.specs.Undone.{undone}
 use Rattle.apd_past.specs.Done.{Done}
 use Rattle.apd_past.specs.Follows.{Follows, bindings_in}
-use Rattle.apd_past.specs.History.{History, bindings_of, history_of, IsRight}
+use Rattle.apd_past.specs.History.{History, bindings_of, history_of, IsRightHistory}
 use Rattle.apd_following.specs.declared.tie.Tie.{Tie}
 
 -- what is kept of the store
 abbrev pub front_of : Tie → Front
-front_of t = record { cells = t.cells; variables = t.log.variables }
+front_of t = record { cells = t.cells; variables = t.journal.variables }
 
 -- the history of what is kept
 abbrev pub past_of : Tie → Stored → History
-past_of t s = history_of (take t.cells s.cells) t.log
+past_of t s = history_of (take t.cells s.cells) t.journal
 
--- the log follows the store to where its trail had k notes
+-- the journal follows the store to where its trail had k notes
 pub record FollowsTo (k : ℕ) (d : Done) (s : Stored) : Type 0 where
   pub there : k ≤ length s.trail
   pub follows : Follows d (at_mark k s)
 
--- each deed was right among the cells that are kept, and the log follows the store so far, unless it was given up
+-- each deed was right among the cells that are kept, and the journal follows the store so far, unless it was given up
 pub record IsTied (t : Tie) (s : Stored) : Type 0 where
   pub within : t.cells ≤ length s.cells
-  pub right : IsRight (take t.cells s.cells) t.log.variables (reverse t.log.deeds)
-  pub follows : OnTrue t.holds (FollowsTo t.followed t.log s)
+  pub right : IsRightHistory (past_of t s)
+  pub follows : OnTrue t.holds (FollowsTo t.followed t.journal s)
 
 -- there is nothing that it hasn't followed, and nothing that isn't kept
 pub record IsLevel (t : Tie) (s : Stored) : Type 0 where
@@ -53,7 +53,7 @@ AreFree [] notes = Unit {0}
 AreFree (Loaded c n ∷ newer) notes = AreFree newer notes
 AreFree (Bound v c ∷ newer) notes = (binding_of notes v ≡ Free) × AreFree newer notes
 
--- the log has the store's bindings, and newer ones of variables that are free there
+-- the journal has the store's bindings, and newer ones of variables that are free there
 pub record IsAhead (d : Done) (s : Stored) : Type 0 where
   pub newer : List TrailNote
   pub bindings_are : bindings_of d ≡ newer ++ bindings_in s.trail

@@ -1,6 +1,6 @@
-//! Frames that a past follows.
+//! Frames over a store that a journal follows.
 //!
-//! A tuple is kept by its places and the moment, in time that doesn't depend on its terms, and can
+//! A tuple is kept by its cells and the moment, in time that doesn't depend on its terms, and can
 //! be read as it was then.
 
 ghost use Rattle.std.specs.Prelude.{◌≡◌, ℕ, ◌∷◌, ◌++◌, [], ◌<◌, length, drop, Some, OnOk, OnErr, IfOk};
@@ -95,7 +95,7 @@ fn keep_at(
         ≡ kept_tuples (past_of tie.old store.now) spots.old) }
 {
     tie.catch_up(store)?;
-    let moment = tie.log.moment();
+    let moment = tie.journal.moment();
     let numbered = spots.push(head, goals, moment, fact)?;
     Ok(numbered)
 }

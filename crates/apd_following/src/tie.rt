@@ -1,4 +1,4 @@
-//! A log that follows a store from time to time, and which of the store's cells are kept.
+//! A journal that follows a store from time to time, and which of the store's cells are kept.
 
 ghost use Rattle.std.specs.Prelude.{◌≡◌, ℕ, [], List, OnOk, reverse, take};
 ghost use Rattle.std.specs.Bool.{OnTrue};
@@ -6,23 +6,23 @@ ghost use Rattle.apd_term.specs.declared.term.Sym.{Sym};
 ghost use Rattle.apd_cells.specs.Stored.{Stored};
 ghost use Rattle.apd_cells.specs.Store.{IsSound};
 ghost use Rattle.apd_past.specs.Follows.{Follows};
-ghost use Rattle.apd_past.specs.History.{history_of, HasDoneMore, IsRight, KeepsMoments};
+ghost use Rattle.apd_past.specs.History.{history_of, HasDoneMore, IsRight, IsRightHistory, KeepsMoments};
 ghost use Rattle.apd_cells.specs.Live.{store_of};
 ghost use Rattle.apd_following.specs.Tied.{front_of, past_of, IsAhead, IsBack, IsLevel, IsTied};
 
 use apd_cells::front::Front;
 use apd_cells::live::Live;
-use apd_past::log::Log;
+use apd_past::journal::Journal;
 use apd_past::past::Past;
 use apd_term::Sym;
 use apd_unify::store::Store;
 use std::alloc::{AllocError, Global};
 
-/// A log, and how far it has followed a store.
+/// A journal, and how far it has followed a store.
 #[derive(Drop)]
 pub struct Tie {
-    pub log: Log,
-    /// So many of the store's first cells are kept, with the variables of the log.
+    pub journal: Journal,
+    /// So many of the store's first cells are kept, with the variables of the journal.
     pub cells: usize,
     /// So many notes of the store's trail it has followed, and these are there still.
     pub followed: usize,
@@ -31,29 +31,29 @@ pub struct Tie {
 }
 
 /// Frees variables that were bound last, as far as they are free in the store.
-fn free_newest(log: &mut Log, store: &Store) -> Result<(), AllocError>
-    requires { IsAhead log.old store.now }
-    ensures follows { OnOk result (Follows log.new store.now) }
-    ensures right { (cells : List Sym) (n : ℕ) → IsRight cells n (reverse log.old.deeds) →
-        IsRight cells n (reverse log.new.deeds) }
-    ensures more { HasDoneMore log.old log.new }
+fn free_newest(journal: &mut Journal, store: &Store) -> Result<(), AllocError>
+    requires { IsAhead journal.old store.now }
+    ensures follows { OnOk result (Follows journal.new store.now) }
+    ensures right { (cells : List Sym) (n : ℕ) → IsRight cells n (reverse journal.old.deeds) →
+        IsRight cells n (reverse journal.new.deeds) }
+    ensures more { HasDoneMore journal.old journal.new }
 {
-    'bound: while let Some(v) = log.newest() {
+    'bound: while let Some(v) = journal.newest() {
         if !store.is_free(v) {
             return Ok(());
         }
-        log.unbind()?;
+        journal.unbind()?;
     }
     Ok(())
 }
 
 impl Tie {
-    /// The log of any store that begins without a term. Nothing is kept.
+    /// The journal of any store that begins without a term. Nothing is kept.
     pub fn new(alloc: Global) -> Tie
         ensures { (s : Stored) → IsTied result s }
     {
         Tie {
-            log: Log::new(alloc),
+            journal: Journal::new(alloc),
             cells: 0,
             followed: 0,
             holds: true,
@@ -66,7 +66,7 @@ impl Tie {
     {
         Front {
             cells: self.cells,
-            variables: self.log.variables(),
+            variables: self.journal.variables(),
         }
     }
 
@@ -92,19 +92,20 @@ impl Tie {
     fn follow(&mut self, store: &Store) -> Result<(), AllocError>
         requires { IsTied self.old store.now }
         ensures tied { IsTied self.new store.now }
-        ensures follows { OnOk result (Follows self.new.log store.now) }
+        ensures follows { OnOk result (Follows self.new.journal store.now) }
         ensures all { OnOk result
-            (past_of self.new store.now ≡ history_of store.now.cells self.new.log) }
+            (past_of self.new store.now ≡ history_of store.now.cells self.new.journal) }
         ensures kept { KeepsMoments (past_of self.old store.now) (past_of self.new store.now) }
     {
         if !self.holds {
             return Err(AllocError);
         }
         let live = store.live();
-        self.log.make_room(live.variables)?;
+        // After want of memory halfway the journal has a part of what was done: it follows no store any more.
+        self.journal.make_room(live.variables)?;
         self.cells = live.cells.len();
         self.holds = false;
-        self.log.follow(&live, self.followed)?;
+        self.journal.follow(&live, self.followed)?;
         self.followed = live.notes.len();
         self.holds = true;
         Ok(())
@@ -115,10 +116,10 @@ impl Tie {
     pub fn catch_up(&mut self, store: &Store) -> Result<(), AllocError>
         requires { IsTied self.old store.now }
         ensures tied { IsTied self.new store.now }
-        ensures follows { OnOk result (Follows self.new.log store.now) }
+        ensures follows { OnOk result (Follows self.new.journal store.now) }
         ensures sound { OnOk result (IsSound store.now) }
         ensures all { OnOk result
-            (past_of self.new store.now ≡ history_of store.now.cells self.new.log) }
+            (past_of self.new store.now ≡ history_of store.now.cells self.new.journal) }
         ensures kept { KeepsMoments (past_of self.old store.now) (past_of self.new store.now) }
     {
         let live = store.live();
@@ -128,7 +129,8 @@ impl Tie {
         self.follow(store)
     }
 
-    /// The store went back to an earlier mark. What was at earlier moments stays.
+    /// The store went back to an earlier mark. What was at earlier moments stays. Want of memory for that is told where more is
+    /// to be kept: what was kept stays right without it.
     pub fn go_back(&mut self, store: &Store)
         requires { IsBack self.old store.now }
         ensures tied { IsTied self.new store.now }
@@ -142,21 +144,21 @@ impl Tie {
             return;
         }
         self.followed = notes;
-        self.holds = free_newest(&mut self.log, store).is_ok();
+        self.holds = free_newest(&mut self.journal, store).is_ok();
     }
 
     /// The past, where these are the store's cells.
     pub fn into_past(self, cells: Vec<Sym>) -> Past
-        requires { IsRight (take self.cells cells.items) self.log.variables (reverse self.log.deeds) }
-        ensures { result ≡ history_of (take self.cells cells.items) self.log }
+        requires { IsRightHistory (history_of (take self.cells cells.items) self.journal) }
+        ensures { result ≡ history_of (take self.cells cells.items) self.journal }
     {
         let Tie {
-            log,
+            journal,
             cells: kept,
             ..
         } = self;
         let mut cells = cells;
         cells.truncate(kept);
-        Past::of(cells, log)
+        Past::of(cells, journal)
     }
 }

@@ -17,7 +17,7 @@ ghost use Rattle.apd_frames.specs.Solves.{solution_as, Keeps};
 use crate::ahead::Ahead;
 use crate::builtin::Solved;
 use crate::linked::Linked;
-use apd_cells::front::NOTHING;
+use apd_cells::front::NO_FRONT;
 use apd_term::{Pred, Sym, Tuple};
 use apd_trace::{Called, Look, Point, Step};
 use std::alloc::{AllocError, Global};
@@ -184,7 +184,7 @@ impl Frames {
         ensures current { self.old.saved ≡ self.new.current ∷ drop 1 self.old.saved }
         ensures saved { self.new.saved ≡ self.old.saved }
     {
-        self.linked.restore(NOTHING);
+        self.linked.restore(NO_FRONT);
     }
 
     /// Gives up the frames that were saved at the newest choice.

@@ -348,7 +348,7 @@ impl Linked {
         Ok(())
     }
 
-    /// Goes back to the frames as they were at the newest choice. They stay saved, and so does a front of the cells.
+    /// Goes back to the frames as they were at the newest choice. They stay saved, and a front of the cells stays.
     pub fn restore(&mut self, kept: Front)
         requires framed { AreFramed self.old }
         requires some { 0 < length (frames_of self.old).saved }

@@ -4,7 +4,7 @@ ghost use Rattle.std.specs.Prelude.{◌≡◌, IfOk, slice_get};
 ghost use Rattle.apd_marks.specs.Positions.{noted};
 ghost use Rattle.apd_index.specs.Subterms.{position_below, positions};
 
-use apd_marks::{Parent, TOP, mixed, put_parents, wait};
+use apd_marks::{Parent, TOP, mixed, put_parent, put_parents};
 use apd_term::{Flat, Sym};
 use std::alloc::{AllocError, Global};
 
@@ -31,7 +31,7 @@ pub(crate) fn positions_of(alloc: Global, term: &Flat) -> Result<Vec<Parent>, Al
 {
     let mut positions = Vec::new(alloc);
     let mut parents = Vec::new(alloc);
-    wait(&mut parents, TOP, 1)?;
+    put_parent(&mut parents, TOP, 1)?;
     'symbols: for symbol in term.symbols() {
         let Some(parent) = parents.pop() else {
             return Ok(positions);

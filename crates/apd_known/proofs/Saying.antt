@@ -1,9 +1,9 @@
 -- What a clause says may be stated.
-use Rattle.std.proofs.Common.{◌≡◌, ◌==◌, ◌&&◌, ℕ, ◌<◌, arith, length, Bool, true, false, Option, Some, None, Result, Ok, Err, refl, ap, subst, ◌∙◌}
+use Rattle.std.proofs.Common.{◌≡◌, ◌==◌, ◌&&◌, ℕ, arith, length, Bool, true, false, Option, Some, None, Result, Ok, Err, refl, ap, subst, ◌∙◌}
 use Rattle.std.specs.Prelude.{if◌then◌else◌, slice_get}
 use Rattle.apd_term.specs.Named.{IsNamed}
 use Rattle.apd_term.specs.Term.{Term, variable, integer, compound, none, more, arguments, list_of, predicate_of}
-use Rattle.apd_term.specs.declared.standard.TheConstants.{DIVIDE, TRUSTED}
+use Rattle.apd_term.specs.declared.standard.TheConstants.{TRUSTED}
 use Rattle.apd_term.specs.declared.term.NameId.{NameId}
 use Rattle.apd_term.specs.declared.term.Pred.{Pred}
 use Rattle.apd_causes.specs.declared.faults.OracleCause.{OracleCause}

@@ -9,4 +9,4 @@ mod positions;
 pub use keys::{KeyPart, key_of};
 pub use mixing::{mixed, with_term};
 pub use places::{Places, forget, note, with_mark};
-pub use positions::{ANY_TERM, Parent, TOP, all_marks, marks_of, put_parents, wait, whole};
+pub use positions::{ANY_TERM, Parent, TOP, all_marks, marks_of, put_parent, put_parents, whole};

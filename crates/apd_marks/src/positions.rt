@@ -34,7 +34,7 @@ fn below(mark: u64, place: u64, symbol: Sym) -> u64
 }
 
 /// Puts a parent, where terms are left to be read.
-pub fn wait(parents: &mut Vec<Parent>, mark: u64, left: u64) -> Result<(), AllocError>
+pub fn put_parent(parents: &mut Vec<Parent>, mark: u64, left: u64) -> Result<(), AllocError>
     ensures { OnOk result (parents.new.items ≡ waiting mark left parents.old.items) }
 {
     if left == 0 {
@@ -61,11 +61,11 @@ fn note(marks: &mut Vec<u64>, parent: Parent, symbol: Sym) -> Result<(), AllocEr
 pub fn put_parents(parents: &mut Vec<Parent>, parent: Parent, symbol: Sym) -> Result<(), AllocError>
     ensures { OnOk result (parents.new.items ≡ onward parent symbol parents.old.items) }
 {
-    wait(parents, parent.mark, parent.left.saturating_sub(1))?;
+    put_parent(parents, parent.mark, parent.left.saturating_sub(1))?;
     match symbol {
         Sym::Fun(_, arity) => {
             let mark = below(parent.mark, parent.left, symbol);
-            wait(parents, mark, arity as u64)
+            put_parent(parents, mark, arity as u64)
         }
         _ => Ok(()),
     }
@@ -77,7 +77,7 @@ pub fn marks_of(alloc: Global, term: &Flat) -> Result<Vec<u64>, AllocError>
 {
     let mut marks = Vec::new(alloc);
     let mut parents = Vec::new(alloc);
-    wait(&mut parents, TOP, 1)?;
+    put_parent(&mut parents, TOP, 1)?;
     'symbols: for symbol in term.symbols() {
         let Some(parent) = parents.pop() else {
             return Ok(marks);

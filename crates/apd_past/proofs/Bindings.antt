@@ -9,7 +9,7 @@ use Rattle.apd_cells.specs.declared.heap.Binding.TheVariants.{Free, At}
 use Rattle.apd_cells.specs.Store.{binding_of}
 use Rattle.apd_past.specs.declared.deeds.Deed.{Deed}
 use Rattle.apd_past.specs.Done.{Done, to_of, with_deed}
-use Rattle.apd_past.specs.History.{History, after_deed, bindings_after, bindings_of, at_moment, freed, freed_first, AreBelow, HasDoneMore, IsLog, IsRight, variables_of}
+use Rattle.apd_past.specs.History.{History, after_deed, bindings_after, bindings_of, at_moment, freed, freed_first, AreBelow, HasDoneMore, IsJournal, IsRight, variables_of}
 use Rattle.apd_past.proofs.Moments.{binding_after, binding_to, last_first, right_at, right_done}
 
 -- no note of a load
@@ -53,25 +53,25 @@ below_more : (n m : ℕ) (vs : List ℕ) → n ≤ m → AreBelow n vs → AreBe
 below_more n m [] l h = tt
 below_more n m (v ∷ vs) l h = (omega (arith, h.0), below_more n m vs l h.1)
 
--- the newest variable of a log
-module _ (d : Done) (bound : List ℕ) (h : IsLog d bound) where
-  pub log_first : (v : ℕ) (vs : List ℕ) → bound ≡ v ∷ vs → IsFirst (bindings_of d) v vs
-  log_first v vs e = first_is (bindings_of d) v vs (are_bindings (reverse d.deeds)) (sym e ∙ h.bound_are)
+-- the newest variable of a journal
+module _ (d : Done) (bound : List ℕ) (h : IsJournal d bound) where
+  pub journal_first : (v : ℕ) (vs : List ℕ) → bound ≡ v ∷ vs → IsFirst (bindings_of d) v vs
+  journal_first v vs e = first_is (bindings_of d) v vs (are_bindings (reverse d.deeds)) (sym e ∙ h.bound_are)
 
-  pub log_below : (v : ℕ) (vs : List ℕ) → bound ≡ v ∷ vs → v < d.variables
-  log_below v vs e = (let b : AreBelow d.variables (v ∷ vs) = subst (AreBelow d.variables) e h.below in b.0)
+  pub journal_below : (v : ℕ) (vs : List ℕ) → bound ≡ v ∷ vs → v < d.variables
+  journal_below v vs e = (let b : AreBelow d.variables (v ∷ vs) = subst (AreBelow d.variables) e h.below in b.0)
 
-  pub log_none : bound ≡ [] → bindings_of d ≡ []
-  log_none e = none_is (bindings_of d) (are_bindings (reverse d.deeds)) (sym e ∙ h.bound_are)
+  pub journal_none : bound ≡ [] → bindings_of d ≡ []
+  journal_none e = none_is (bindings_of d) (are_bindings (reverse d.deeds)) (sym e ∙ h.bound_are)
 
-  pub log_freed : (v : ℕ) (vs : List ℕ) → bound ≡ v ∷ vs → IsLog (with_deed d v None) vs
-  log_freed v vs e = record {
-    bound_are = (log_first v vs e).rest ∙ ap (λ z. variables_of (bindings_after z)) (sym (last_first d.deeds (record { variable = v; to = None })));
+  pub journal_freed : (v : ℕ) (vs : List ℕ) → bound ≡ v ∷ vs → IsJournal (with_deed d v None) vs
+  journal_freed v vs e = record {
+    bound_are = (journal_first v vs e).rest ∙ ap (λ z. variables_of (bindings_after z)) (sym (last_first d.deeds (record { variable = v; to = None })));
     below = (let b : AreBelow d.variables (v ∷ vs) = subst (AreBelow d.variables) e h.below in b.1);
   }
 
-  pub log_more : (d' : Done) → d'.deeds ≡ d.deeds → d.variables ≤ d'.variables → IsLog d' bound
-  log_more d' e l = record {
+  pub journal_more : (d' : Done) → d'.deeds ≡ d.deeds → d.variables ≤ d'.variables → IsJournal d' bound
+  journal_more d' e l = record {
     bound_are = h.bound_are ∙ ap (λ z. variables_of (bindings_after (reverse z))) (sym e);
     below = below_more d.variables d'.variables bound l h.below;
   }

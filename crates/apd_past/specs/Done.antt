@@ -27,7 +27,7 @@ with_variables s vs = record { variables = above s.variables vs; deeds = s.deeds
 abbrev pub with_variable : Done → ℕ → Done
 with_variable s v = record { variables = max s.variables (v + 1); deeds = s.deeds }
 
--- so many variables are there
+-- at least so many variables are there
 abbrev pub with_room : Done → ℕ → Done
 with_room s n = record { variables = max s.variables n; deeds = s.deeds }
 

@@ -1,4 +1,4 @@
--- A log that follows a store: its bindings at present are those of the store.
+-- A journal that follows a store: its bindings at present are those of the store.
 use Rattle.std.specs.Prelude.{◌≡◌, ℕ, ◌≤◌, List, [], ◌∷◌, length, reverse}
 use Rattle.apd_cells.specs.declared.heap.TrailNote.{TrailNote}
 use Rattle.apd_cells.specs.declared.heap.TrailNote.TheVariants.{Loaded, Bound}
@@ -13,6 +13,7 @@ bindings_in [] = []
 bindings_in (Loaded c n ∷ notes) = bindings_in notes
 bindings_in (Bound v c ∷ notes) = Bound v c ∷ bindings_in notes
 
+-- the bindings that the deeds leave are those of the store
 abbrev pub Follows : Done → Stored → Type 0
 Follows d s = bindings_of d ≡ bindings_in s.trail
 

@@ -76,6 +76,10 @@ abbrev pub IsRight : List Sym → ℕ → List Deed → Type 0
 IsRight cells n [] = HasCells cells n
 IsRight cells n (d ∷ ds) = IsRightDeed cells n (bindings_after ds) d.variable d.to × IsRight cells n ds
 
+-- each deed of a history was right when it was done
+abbrev pub IsRightHistory : History → Type 0
+IsRightHistory h = IsRight h.cells h.variables (reverse h.deeds)
+
 -- the variables of bindings
 abbrev pub variables_of : List TrailNote → List ℕ
 variables_of [] = []
@@ -110,7 +114,7 @@ AreBelow n [] = Unit {0}
 AreBelow n (v ∷ vs) = (v < n) × AreBelow n vs
 
 -- the variables that are bound at present
-pub record IsLog (d : Done) (bound : List ℕ) : Type 0 where
+pub record IsJournal (d : Done) (bound : List ℕ) : Type 0 where
   pub bound_are : bound ≡ variables_of (bindings_of d)
   pub below : AreBelow d.variables bound
 

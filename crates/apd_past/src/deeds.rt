@@ -1,6 +1,6 @@
 //! What was done to variables, and what each was bound to after so many deeds.
 
-ghost use Rattle.std.specs.Prelude.{◌≡◌, ℕ, ◌<◌, ◌≤◌, ◌-◌, ◌^◌, [], length, take, reverse, get_or, None, IfOk, OnOk, OnErr};
+ghost use Rattle.std.specs.Prelude.{◌≡◌, ◌<◌, ◌≤◌, ◌-◌, ◌^◌, [], length, take, reverse, get_or, None, OnOk, OnErr};
 ghost use Rattle.std.specs.List.{flat_map};
 ghost use Rattle.apd_term.specs.Spelling.{variable_in};
 ghost use Rattle.apd_past.specs.Done.{to_of, with_deed, with_room, with_variable, with_variables};

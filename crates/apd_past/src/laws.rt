@@ -9,7 +9,7 @@ ghost use Rattle.apd_past.specs.declared.past.PastCell.{PastCell};
 ghost use Rattle.apd_cells.specs.Store.{IsSound};
 ghost use Rattle.apd_cells.specs.Stored.{Stored};
 
-/// Where a log has followed a store, a tuple of the store's cells is at present what it is in the store.
+/// Where a journal has followed a store, a tuple of the store's cells is at present what it is in the store.
 pub fn tuples_are_the_same_there()
     ensures { (d : Done) (s : Stored) (head : ℕ) (goals : List PastCell) → IsSound s → Follows d s →
         tuple_at (present (history_of s.cells d)) head goals ≡ tuple_at s head goals }

@@ -3,8 +3,8 @@
 #![tactic(auto)]
 
 pub mod deeds;
+pub mod journal;
 pub mod laws;
-pub mod log;
 pub mod maybe_number;
 mod passing;
 pub mod past;

@@ -1,18 +1,18 @@
 //! Cells that are never dropped, and what variables were bound to at each moment.
 
-ghost use Rattle.std.specs.Prelude.{◌≡◌, ℕ, [], ◌<◌, ◌≤◌, ◌^◌, ◌++◌, length, get_or, reverse, take, Some, IfOk, OnOk, OnErr, MatchOption};
+ghost use Rattle.std.specs.Prelude.{◌≡◌, ℕ, [], ◌<◌, ◌≤◌, ◌^◌, ◌++◌, length, get_or, Some, IfOk, OnOk, OnErr, MatchOption};
 ghost use Rattle.apd_term.specs.declared.term.Sym.TheVariants.{Var};
 ghost use Rattle.apd_term.specs.Term.{IsTerms};
 ghost use Rattle.apd_cells.specs.declared.heap.Binding.TheVariants.{Free, At};
 ghost use Rattle.apd_cells.specs.Store.{term_at, binding_of, bound, MayBind, IsSound};
-ghost use Rattle.apd_past.specs.History.{at_moment, history_of, present, unbound, with_done, with_terms, IsRight};
+ghost use Rattle.apd_past.specs.History.{at_moment, history_of, present, unbound, with_done, with_terms, IsRightHistory};
 
-use crate::log::Log;
+use crate::journal::Journal;
 use apd_term::Sym;
 use std::alloc::{AllocError, Global};
 use std::marker::Model;
 
-/// The place of a term in a past.
+/// A cell of a past, in 32 bits.
 #[derive(Clone, Copy)]
 pub struct PastCell(pub u32);
 
@@ -26,20 +26,19 @@ pub struct Moment(pub u32);
 #[derive(Drop)]
 pub struct Past {
     cells: Vec<Sym>,
-    log: Log,
+    journal: Journal,
 }
 
 impl Model for Past {
-    ghost use Rattle.std.specs.Prelude.{reverse};
-    ghost use Rattle.apd_past.specs.History.{History, history_code, history_of, IsRight};
+    ghost use Rattle.apd_past.specs.History.{History, history_code, history_of, IsRightHistory};
 
     ghost Value = { History };
 
     ghost coded = { history_code };
 
-    ghost view = { λ p. history_of p.cells.items p.log };
+    ghost view = { λ p. history_of p.cells.items p.journal };
 
-    ghost invariant = { λ p. IsRight p.cells.items p.log.variables (reverse p.log.deeds) };
+    ghost invariant = { λ p. IsRightHistory (history_of p.cells.items p.journal) };
 }
 
 /// The greatest number that is kept.
@@ -75,16 +74,16 @@ impl Past {
     {
         Past {
             cells: Vec::new(alloc),
-            log: Log::new(alloc),
+            journal: Journal::new(alloc),
         }
     }
 
     /// The past of these cells, with what was done to their variables.
-    pub fn of(cells: Vec<Sym>, log: Log) -> Past
-        requires { IsRight cells.items log.variables (reverse log.deeds) }
-        ensures { result ≡ history_of cells.items log }
+    pub fn of(cells: Vec<Sym>, journal: Journal) -> Past
+        requires { IsRightHistory (history_of cells.items journal) }
+        ensures { result ≡ history_of cells.items journal }
     {
-        Past { cells, log }
+        Past { cells, journal }
     }
 
     /// How many cells there are.
@@ -98,7 +97,7 @@ impl Past {
     pub fn variables(&self) -> usize
         ensures { result ≡ self.now.variables }
     {
-        self.log.variables()
+        self.journal.variables()
     }
 
     /// The present moment.
@@ -106,7 +105,7 @@ impl Past {
         ensures moment { result.0 ≡ length self.now.deeds }
         ensures present { at_moment result.0 self.now ≡ present self.now }
     {
-        self.log.moment()
+        self.journal.moment()
     }
 
     /// The past is a sound store, at each moment.
@@ -134,7 +133,7 @@ impl Past {
             (binding_of (at_moment moment.0 self.now).trail v ≡ Free)
             (λ c. binding_of (at_moment moment.0 self.now).trail v ≡ At c) }
     {
-        self.log.to_at(moment, v)
+        self.journal.to_at(moment, v)
     }
 
     /// Puts whole terms behind the others, and tells the cell of the first. All other cells keep
@@ -149,7 +148,7 @@ impl Past {
         ensures err { OnErr result (self.new.cells ≡ self.old.cells) }
     {
         let cell = narrow(self.cells.len() as u64)?;
-        self.log.add_variables(symbols)?;
+        self.journal.add_variables(symbols)?;
         extend(&mut self.cells, symbols)?;
         Ok(PastCell(cell))
     }
@@ -163,7 +162,7 @@ impl Past {
             at_moment m self.new ≡ at_moment m self.old }
         ensures err { OnErr result (self.new ≡ self.old) }
     {
-        self.log.bind(v, to.0 as usize)?;
+        self.journal.bind(v, to.0 as usize)?;
         Ok(())
     }
 
@@ -175,7 +174,7 @@ impl Past {
             at_moment m self.new ≡ at_moment m self.old }
         ensures err { OnErr result (self.new ≡ self.old) }
     {
-        self.log.unbind()?;
+        self.journal.unbind()?;
         Ok(())
     }
 }

@@ -15,14 +15,14 @@ use Rattle.apd_cells.specs.Stored.{Stored}
 use Rattle.apd_cells.specs.Store.{term_at}
 use Rattle.apd_cells.specs.Work.{AreRuns, run_symbols, runs_symbols}
 use Rattle.apd_cells.proofs.Passing.{started}
-use Rattle.apd_resolved.specs.declared.quick.Part.{Part}
+use Rattle.apd_resolved.specs.declared.quick.CountedPart.{CountedPart}
 use Rattle.apd_resolved.specs.Counting.{MeasuresPart, PassesFront, PassesPart}
 
 -- what was measured of a part, in the store as it was
-pub part_measured : (s h : Stored) (here : Run) (limit : ℕ) (o : Option Part) (p : Part) → h ≡ s → MeasuresPart h here limit o → o ≡ Some p → PassesPart s (here ∷ []) p.extent (p.next ∷ [])
+pub part_measured : (s h : Stored) (here : Run) (limit : ℕ) (o : Option CountedPart) (p : CountedPart) → h ≡ s → MeasuresPart h here limit o → o ≡ Some p → PassesPart s (here ∷ []) p.extent (p.next ∷ [])
 part_measured s h here limit o p e k is = subst (MeasuresPart s here limit) is (subst (λ (t : Stored). MeasuresPart t here limit o) e k)
 
-pub part_over : (s h : Stored) (here : Run) (limit : ℕ) (o : Option Part) → h ≡ s → MeasuresPart h here limit o → o ≡ None → limit < length (runs_symbols s (here ∷ []))
+pub part_over : (s h : Stored) (here : Run) (limit : ℕ) (o : Option CountedPart) → h ≡ s → MeasuresPart h here limit o → o ≡ None → limit < length (runs_symbols s (here ∷ []))
 part_over s h here limit o e k is = subst (MeasuresPart s here limit) is (subst (λ (t : Stored). MeasuresPart t here limit o) e k)
 
 -- a part is as long as the symbols that were passed

@@ -11,7 +11,7 @@ use Rattle.apd_cells.specs.Stored.{Stored}
 use Rattle.apd_cells.specs.Store.{term_at}
 use Rattle.apd_cells.specs.Work.{AreRuns, runs_symbols}
 use Rattle.apd_resolved.specs.declared.counting.Count.{Count}
-use Rattle.apd_resolved.specs.declared.quick.Part.{Part}
+use Rattle.apd_resolved.specs.declared.quick.CountedPart.{CountedPart}
 
 -- the extent of one symbol
 pub record IsOfSymbol (x : Sym) (e : Extent) : Type 0 where
@@ -46,6 +46,6 @@ MeasuredWithin s c limit None = limit < size (term_at s c)
 MeasuredWithin s c limit (Some e) = HasExtent s c e × (e.size ≤ limit)
 
 -- some symbols of a run were passed, or it has more than the limit
-abbrev pub MeasuresPart : Stored → Run → ℕ → Option Part → Type 0
+abbrev pub MeasuresPart : Stored → Run → ℕ → Option CountedPart → Type 0
 MeasuresPart s here limit None = limit < length (runs_symbols s (here ∷ []))
 MeasuresPart s here limit (Some p) = PassesPart s (here ∷ []) p.extent (p.next ∷ [])

@@ -5,7 +5,7 @@ ghost use Rattle.apd_cells.specs.Known.{HasExtent};
 ghost use Rattle.apd_cells.specs.Work.{AreRuns};
 ghost use Rattle.apd_resolved.specs.Counting.{CountedWithin, MeasuredWithin, MeasuresPart, PassesPart};
 
-use crate::quick::{Part, extent_of, fixed_part, pass_front};
+use crate::quick::{CountedPart, extent_of, fixed_part, pass_front};
 use apd_cells::heap::Heap;
 use apd_cells::known::Extent;
 use apd_cells::stack::Stack;
@@ -22,7 +22,12 @@ pub struct Count {
 
 /// Passes the first symbol of a run, behind the bindings, or the first term, where its extent is known and a binding
 /// leads to it, or it is the run's last and that is looked for.
-fn pass_part(heap: &Heap, rest: &mut Stack<Run>, here: Run, looks: bool) -> Result<Part, AllocError>
+fn pass_part(
+    heap: &Heap,
+    rest: &mut Stack<Run>,
+    here: Run,
+    looks: bool,
+) -> Result<CountedPart, AllocError>
     requires right { AreRuns heap.now.cells (here ∷ rest.old) }
     requires some { 0 < here.left }
     ensures { IfOk result
@@ -35,7 +40,7 @@ fn pass_part(heap: &Heap, rest: &mut Stack<Run>, here: Run, looks: bool) -> Resu
                 at: here.at + 1,
                 left: here.left - 1,
             };
-            return Ok(Part { extent, next });
+            return Ok(CountedPart { extent, next });
         }
     }
     if looks && here.left == 1 {
@@ -44,11 +49,11 @@ fn pass_part(heap: &Heap, rest: &mut Stack<Run>, here: Run, looks: bool) -> Resu
                 at: here.at + 1,
                 left: 0,
             };
-            return Ok(Part { extent, next });
+            return Ok(CountedPart { extent, next });
         }
     }
     let passed = pass_from(heap, rest, here, at)?;
-    Ok(Part {
+    Ok(CountedPart {
         extent: extent_of(passed.symbol)?,
         next: passed.next,
     })
@@ -193,7 +198,7 @@ fn measure_led(
     alloc: Global,
     here: Run,
     limit: u64,
-) -> Result<Option<Part>, AllocError>
+) -> Result<Option<CountedPart>, AllocError>
     requires right { AreRuns heap.old.cells (here ∷ []) }
     requires some { 0 < here.left }
     ensures part { IfOk result (MeasuresPart heap.old here limit) }
@@ -208,7 +213,7 @@ fn measure_led(
             at: here.at + 1,
             left: here.left - 1 + arity,
         };
-        return Ok(Some(Part { extent, next }));
+        return Ok(Some(CountedPart { extent, next }));
     }
     let Some(extent) = kept_within(heap, alloc, at, limit)? else {
         return Ok(None);
@@ -217,7 +222,7 @@ fn measure_led(
         at: here.at + 1,
         left: here.left - 1,
     };
-    Ok(Some(Part { extent, next }))
+    Ok(Some(CountedPart { extent, next }))
 }
 
 /// The same as [`measure_led`], which isn't asked where no variable is written.
@@ -226,7 +231,7 @@ fn measure_part(
     alloc: Global,
     here: Run,
     limit: u64,
-) -> Result<Option<Part>, AllocError>
+) -> Result<Option<CountedPart>, AllocError>
     requires right { AreRuns heap.old.cells (here ∷ []) }
     requires some { 0 < here.left }
     ensures part { IfOk result (MeasuresPart heap.old here limit) }

@@ -14,7 +14,7 @@ use std::alloc::AllocError;
 
 /// What a count passes at once: a symbol, or a term whose extent is known; and the run that it is in then.
 #[derive(Clone, Copy)]
-pub struct Part {
+pub struct CountedPart {
     pub extent: Extent,
     pub next: Run,
 }
@@ -46,7 +46,7 @@ fn is_fixed(symbol: Sym) -> bool
 
 /// Passes the first symbol of a run, where no variable is written there; none says nothing.
 #[inline(always)]
-pub fn fixed_part(heap: &Heap, here: Run) -> Option<Part>
+pub fn fixed_part(heap: &Heap, here: Run) -> Option<CountedPart>
     requires right { AreRuns heap.now.cells (here ∷ []) }
     requires some { 0 < here.left }
     ensures { IfSome result
@@ -60,7 +60,7 @@ pub fn fixed_part(heap: &Heap, here: Run) -> Option<Part>
             left: here.left - 1 + arity_of(symbol),
         };
         let extent = Extent { size: 1, above: 0 };
-        return Some(Part { extent, next });
+        return Some(CountedPart { extent, next });
     }
     None
 }
@@ -68,7 +68,7 @@ pub fn fixed_part(heap: &Heap, here: Run) -> Option<Part>
 /// Passes the first symbol of a run, or the first term, where a binding leads to it and its extent is known; none says
 /// nothing.
 #[inline(always)]
-fn known_part(heap: &Heap, here: Run) -> Option<Part>
+fn known_part(heap: &Heap, here: Run) -> Option<CountedPart>
     requires right { AreRuns heap.now.cells (here ∷ []) }
     requires some { 0 < here.left }
     ensures part { IfSome result
@@ -86,18 +86,18 @@ fn known_part(heap: &Heap, here: Run) -> Option<Part>
             at: here.at + 1,
             left: here.left - 1 + arity,
         };
-        return Some(Part { extent, next });
+        return Some(CountedPart { extent, next });
     }
     let extent = heap.known(at)?;
     let next = Run {
         at: here.at + 1,
         left: here.left - 1,
     };
-    Some(Part { extent, next })
+    Some(CountedPart { extent, next })
 }
 
 /// Passes what stands first in a run, as far as nothing is to be counted for it and it is within the limit.
-pub fn pass_front(heap: &Heap, here: Run, limit: u64) -> Part
+pub fn pass_front(heap: &Heap, here: Run, limit: u64) -> CountedPart
     requires { AreRuns heap.now.cells (here ∷ []) }
     ensures front { PassesFront heap.now (here ∷ []) result.extent (result.next ∷ []) }
     ensures within { result.extent.size ≤ limit }
@@ -107,13 +107,13 @@ pub fn pass_front(heap: &Heap, here: Run, limit: u64) -> Part
     let mut extent = Extent { size: 0, above: 0 };
     'parts: while next.left > 0 {
         let Some(part) = known_part(heap, next) else {
-            return Part { extent, next };
+            return CountedPart { extent, next };
         };
         if part.extent.size > limit - extent.size {
-            return Part { extent, next };
+            return CountedPart { extent, next };
         }
         extent = extent.and(part.extent);
         next = part.next;
     }
-    Part { extent, next }
+    CountedPart { extent, next }
 }

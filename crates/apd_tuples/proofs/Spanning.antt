@@ -8,7 +8,7 @@ use Rattle.std.proofs.Math.Seq.{drop-append_seam}
 use Rattle.apd_unify.specs.declared.store.Cell.{Cell}
 use Rattle.apd_past.specs.declared.past.PastCell.{PastCell}
 use Rattle.apd_tuples.specs.declared.spots.SpotRow.{SpotRow}
-use Rattle.apd_tuples.specs.Spots.{Place, goals_in, place_of_cell, placed_all, spot_in, spots_in, EndsWith, HasMore, HavePlaces, IsSpanned, AreSpanned}
+use Rattle.apd_tuples.specs.Spots.{Place, goals_in, kept_cell, kept_cells, spot_in, spots_in, EndsWith, HasMore, HavePlaces, IsSpanned, AreSpanned}
 
 abbrev pub with_goals : SpotRow → List PastCell → Place
 with_goals r goals = record { head = r.head; goals = goals; moment = r.moment.0; fact = r.fact }
@@ -46,41 +46,41 @@ wider goals goals' rows m h =
 pub wider_spots : (goals goals' : List PastCell) (rows : List SpotRow) → HasMore goals goals' → AreSpanned (length goals) rows → spots_in goals' rows ≡ spots_in goals rows
 wider_spots goals goals' rows m h = ap (λ gs. spots_in gs rows) m.1 ∙ spots_more goals m.0 rows h
 
-pub put_length : (goals goals' : List PastCell) (cells : List Cell) → goals' ≡ goals ++ placed_all cells → length goals' ≡ length goals + length cells
-put_length goals goals' cells e = omega (arith, ap length e, length-append goals (placed_all cells), length-map cells place_of_cell)
+pub put_length : (goals goals' : List PastCell) (cells : List Cell) → goals' ≡ goals ++ kept_cells cells → length goals' ≡ length goals + length cells
+put_length goals goals' cells e = omega (arith, ap length e, length-append goals (kept_cells cells), length-map cells kept_cell)
 
 -- goals may have been put behind, and a row with those at the end
 module _ (goals goals' : List PastCell) (cells : List Cell) (rows rows' : List SpotRow) (r : SpotRow) (grown : HasMore goals goals') (end : EndsWith goals' cells) (re : rows' ≡ rows ++ r ∷ [])
     (from : r.from ≡ length goals' - length cells) (to : r.to ≡ length goals') (h : AreSpanned (length goals) rows) where
-  own_goals : goals_in goals' r ≡ placed_all cells
+  own_goals : goals_in goals' r ≡ kept_cells cells
   own_goals =
       let n : r.from ≡ length end.before = omega (arith, from, put_length end.before goals' cells end.is) in
       ap (drop r.from) (take_all r.to goals' (omega (arith, to)) ∙ end.is)
-      ∙ ap (λ k. drop k (end.before ++ placed_all cells)) n
-      ∙ drop-append_seam end.before (placed_all cells)
+      ∙ ap (λ k. drop k (end.before ++ kept_cells cells)) n
+      ∙ drop-append_seam end.before (kept_cells cells)
 
-  pushed : spots_in goals' rows' ≡ spots_in goals rows ++ with_goals r (placed_all cells) ∷ []
+  pushed : spots_in goals' rows' ≡ spots_in goals rows ++ with_goals r (kept_cells cells) ∷ []
   pushed =
       ap (spots_in goals') re
       ∙ map-append (spot_in goals') rows (r ∷ [])
       ∙ ap (λ gs. spots_in goals' rows ++ with_goals r gs ∷ []) own_goals
-      ∙ ap (λ ps. ps ++ with_goals r (placed_all cells) ∷ []) (wider_spots goals goals' rows grown h)
+      ∙ ap (λ ps. ps ++ with_goals r (kept_cells cells) ∷ []) (wider_spots goals goals' rows grown h)
 
-  pub pushed_now : (now : List Place) → spots_in goals rows ≡ now → spots_in goals' rows' ≡ now ++ with_goals r (placed_all cells) ∷ []
-  pushed_now now view = pushed ∙ ap (λ ps. ps ++ with_goals r (placed_all cells) ∷ []) view
+  pub pushed_now : (now : List Place) → spots_in goals rows ≡ now → spots_in goals' rows' ≡ now ++ with_goals r (kept_cells cells) ∷ []
+  pushed_now now view = pushed ∙ ap (λ ps. ps ++ with_goals r (kept_cells cells) ∷ []) view
 
   pub pushed_spanned : AreSpanned (length goals') rows'
   pushed_spanned =
       subst (AreSpanned (length goals')) (sym re)
       (spanned_push (length goals') rows r (wider goals goals' rows grown h) (record { order = omega (arith, from, to); within = omega (arith, to) }))
 
--- all cells were compared with the last places
-pub ends_all : (there : List PastCell) (cells : List Cell) (from i : ℕ) → take i (drop from there) ≡ placed_all (take i cells) → from ≡ length there - length cells → length cells ≤ length there → length cells ≤ i → EndsWith there cells
+-- all cells were compared with the last ones
+pub ends_all : (there : List PastCell) (cells : List Cell) (from i : ℕ) → take i (drop from there) ≡ kept_cells (take i cells) → from ≡ length there - length cells → length cells ≤ length there → length cells ≤ i → EndsWith there cells
 ends_all there cells from i h n l m = record {
   before = take from there;
   is =
       sym (take-append-drop from there)
-      ∙ ap (λ e. take from there ++ e) (sym (take_all i (drop from there) (omega (arith, length-drop from there, n, l, m))) ∙ h ∙ ap placed_all (take_all i cells m));
+      ∙ ap (λ e. take from there ++ e) (sym (take_all i (drop from there) (omega (arith, length-drop from there, n, l, m))) ∙ h ∙ ap kept_cells (take_all i cells m));
 }
 
 -- a cell of some that have places

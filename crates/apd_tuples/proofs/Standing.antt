@@ -18,7 +18,7 @@ use Rattle.apd_past.proofs.Following.{tuple_now}
 use Rattle.apd_past.proofs.Keeping.{tuple_kept}
 use Rattle.apd_past.proofs.Moments.{present_at}
 use Rattle.apd_tuples.specs.declared.spots.Fact.{Fact}
-use Rattle.apd_tuples.specs.Spots.{HavePlaces, Place, placed, placed_all}
+use Rattle.apd_tuples.specs.Spots.{HavePlaces, Place, placed, kept_cells}
 use Rattle.apd_tuples.specs.Tuples.{kept_tuple, kept_tuples, tuple_of, AreThere, Holds, IsThere}
 
 inside_more : (n m : ℕ) (cs : List PastCell) → n ≤ m → AreInside n cs → AreInside m cs
@@ -52,21 +52,21 @@ there_get h [] i p a e = cc
 there_get h (q ∷ ps) zero p a e = let is : q ≡ p = cc in subst (IsThere h) is a.0
 there_get h (q ∷ ps) (suc i) p a e = there_get h ps i p a.1 e
 
-terms_as : (s : Stored) (cs : List Cell) → terms_at s (placed_all cs) ≡ map (λ (c : Cell). term_at s c.0) cs
+terms_as : (s : Stored) (cs : List Cell) → terms_at s (kept_cells cs) ≡ map (λ (c : Cell). term_at s c.0) cs
 terms_as s [] = refl
 terms_as s (c ∷ cs) = ap (λ ts. term_at s c.0 ∷ ts) (terms_as s cs)
 
--- a log has followed a store
+-- a journal has followed a store
 module _ (d : Done) (s : Stored) (f : Follows d s) (sound : IsSound s) (head : Cell) (goals : List Cell) (inside : head.0 < length s.cells)
     (all : HavePlaces (length s.cells) goals) (k : ℕ) (now : k ≡ length d.deeds) (fact : Fact) (holds : Holds fact (canonical_tuple (tuple_of s head goals))) where
-  placed_inside : (cs : List Cell) → HavePlaces (length s.cells) cs → AreInside (length s.cells) (placed_all cs)
+  placed_inside : (cs : List Cell) → HavePlaces (length s.cells) cs → AreInside (length s.cells) (kept_cells cs)
   placed_inside [] h = tt
   placed_inside (c ∷ cs) h = (h.0, placed_inside cs h.1)
 
   placed_tuple : kept_tuple (history_of s.cells d) (placed head goals k fact) ≡ canonical_tuple (tuple_of s head goals)
   placed_tuple =
-      ap (λ (z : Stored). canonical_tuple (tuple_at z head.0 (placed_all goals))) (present_at (history_of s.cells d) k (omega (arith, now)))
-      ∙ ap canonical_tuple (tuple_now d s head.0 (placed_all goals) sound f)
+      ap (λ (z : Stored). canonical_tuple (tuple_at z head.0 (kept_cells goals))) (present_at (history_of s.cells d) k (omega (arith, now)))
+      ∙ ap canonical_tuple (tuple_now d s head.0 (kept_cells goals) sound f)
       ∙ ap (λ ts. canonical_tuple (record { head = term_at s head.0; body = ts })) (terms_as s goals)
 
   placed_there : IsThere (history_of s.cells d) (placed head goals k fact)

@@ -41,22 +41,22 @@ abbrev pub HavePlaces : ℕ → List Cell → Type 0
 HavePlaces n [] = Unit {0}
 HavePlaces n (c ∷ cs) = (c.0 < n) × HavePlaces n cs
 
--- the place of a cell
-abbrev pub place_of_cell : Cell → PastCell
-place_of_cell c = record { 0 = c.0 }
+-- a cell as it is kept
+abbrev pub kept_cell : Cell → PastCell
+kept_cell c = record { 0 = c.0 }
 
-abbrev pub placed_all : List Cell → List PastCell
-placed_all cells = map place_of_cell cells
+abbrev pub kept_cells : List Cell → List PastCell
+kept_cells cells = map kept_cell cells
 
 -- where the tuple at a head's cell and at goals' cells is, at a moment, of which this is known
 abbrev pub placed : Cell → List Cell → ℕ → Fact → Place
-placed head goals m fact = record { head = place_of_cell head; goals = placed_all goals; moment = m; fact = fact }
+placed head goals m fact = record { head = kept_cell head; goals = kept_cells goals; moment = m; fact = fact }
 
 -- more was put behind
 abbrev pub HasMore : List PastCell → List PastCell → Type 0
 HasMore old new = (more : List PastCell) × (new ≡ old ++ more)
 
--- the last places are those of these cells
+-- the last ones are these cells
 pub record EndsWith (there : List PastCell) (cells : List Cell) : Type 0 where
   pub before : List PastCell
-  pub is : there ≡ before ++ placed_all cells
+  pub is : there ≡ before ++ kept_cells cells

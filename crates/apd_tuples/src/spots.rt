@@ -2,7 +2,7 @@
 
 ghost use Rattle.std.specs.Prelude.{◌≡◌, ◌∷◌, [], ◌++◌, ◌<◌, length, slice_get, None, Some, IfOk, OnOk, OnErr, MatchOption};
 ghost use Rattle.std.specs.Bool.{OnTrue};
-ghost use Rattle.apd_tuples.specs.Spots.{EndsWith, HasMore, IsSpanned, place_of_cell, placed, placed_all, spot_at, spot_in};
+ghost use Rattle.apd_tuples.specs.Spots.{EndsWith, HasMore, IsSpanned, kept_cell, placed, kept_cells, spot_at, spot_in};
 
 use crate::packed::KeptRow;
 use apd_cells::stack::room_for_one;
@@ -68,9 +68,9 @@ impl Model for Spots {
 /// The greatest number that is kept.
 const MOST: usize = 4_294_967_295;
 
-/// The place of a cell; want of memory where its number is too great.
-fn place_of(cell: Cell) -> Result<PastCell, AllocError>
-    ensures { IfOk result (λ c. c ≡ place_of_cell cell) }
+/// A cell as it is kept; want of memory where its number is too great.
+fn kept_cell(cell: Cell) -> Result<PastCell, AllocError>
+    ensures { IfOk result (λ c. c ≡ kept_cell cell) }
 {
     if cell.0 > MOST {
         return Err(AllocError);
@@ -78,21 +78,21 @@ fn place_of(cell: Cell) -> Result<PastCell, AllocError>
     Ok(PastCell(cell.0 as u32))
 }
 
-/// Puts the places of cells behind the others.
+/// Puts cells behind the others.
 #[inline(always)]
-fn put_places(there: &mut Vec<PastCell>, cells: &[Cell]) -> Result<(), AllocError>
-    ensures ok { OnOk result (there.new.items ≡ there.old.items ++ placed_all cells.now) }
+fn put_cells(there: &mut Vec<PastCell>, cells: &[Cell]) -> Result<(), AllocError>
+    ensures ok { OnOk result (there.new.items ≡ there.old.items ++ kept_cells cells.now) }
     ensures more { HasMore there.old.items there.new.items }
 {
     there.reserve(cells.len())?;
     'cells: for cell in cells {
-        let place = place_of(*cell)?;
-        there.push_reserved(place);
+        let kept = kept_cell(*cell)?;
+        there.push_reserved(kept);
     }
     Ok(())
 }
 
-/// Whether the last of the places are those of the cells.
+/// Whether the last ones that are kept are these cells.
 fn ends_with(there: &[PastCell], cells: &[Cell]) -> bool
     ensures { OnTrue result (EndsWith there.now cells.now) }
 {
@@ -110,17 +110,17 @@ fn ends_with(there: &[PastCell], cells: &[Cell]) -> bool
     true
 }
 
-/// Lets the last of the places be those of the cells, behind the others: a frame that takes over a built-in goal's exit was
-/// mostly kept just before with the same goals.
+/// Puts cells behind the others, unless the last ones are these: a frame that takes over a built-in goal's exit was mostly
+/// kept just before with the same goals.
 #[inline(always)]
-fn end_with(there: &mut Vec<PastCell>, cells: &[Cell]) -> Result<(), AllocError>
+fn put_if_others(there: &mut Vec<PastCell>, cells: &[Cell]) -> Result<(), AllocError>
     ensures ok { OnOk result (EndsWith there.new.items cells.now) }
     ensures more { HasMore there.old.items there.new.items }
 {
     if ends_with(there.as_slice(), cells) {
         return Ok(());
     }
-    put_places(there, cells)
+    put_cells(there, cells)
 }
 
 /// The row with this number, counted from 0.
@@ -198,14 +198,14 @@ impl Spots {
     {
         let number = self.rows.len();
         let count = goals.len();
-        let place = place_of(head)?;
-        end_with(&mut self.goals, goals)?;
+        let kept_head = kept_cell(head)?;
+        put_if_others(&mut self.goals, goals)?;
         let to = self.goals.len();
         if number > MOST || to > MOST {
             return Err(AllocError);
         }
         let kept = KeptRow::of(SpotRow {
-            head: place,
+            head: kept_head,
             moment,
             from: (to - count) as u32,
             to: to as u32,

@@ -1,13 +1,15 @@
 //! Laws of unification and of stores.
 
-ghost use Rattle.std.specs.Prelude.{◌≡◌, ◌↔◌, ◌≤◌, ℕ, List, Option, IsNone, IfSome, length};
+ghost use Rattle.std.specs.Prelude.{◌≡◌, ◌↔◌, ◌<◌, ◌≤◌, ℕ, List, Option, IsNone, IfSome, length, take};
 ghost use Rattle.apd_term.specs.Term.{Term, apply};
 ghost use Rattle.apd_term.specs.Substitution.{term_for, Unifies};
 ghost use Rattle.apd_unify.specs.Unifier.{FactorsUnifiers, IsMostGeneral, BringsNoVariable, HasNoUnifier, IsAnswer, made_of};
 ghost use Rattle.apd_cells.specs.First.{AreClashing, AreApart, key_of, first_symbol};
 ghost use Rattle.apd_unify.specs.Textbook.{unifier_of};
 ghost use Rattle.apd_cells.specs.Stored.{Stored};
-ghost use Rattle.apd_cells.specs.Store.{at_mark, Keeps};
+ghost use Rattle.apd_cells.specs.Store.{at_mark, term_at, IsSound, Keeps};
+ghost use Rattle.apd_cells.specs.Undone.{no_front, undone, HasMoreCells};
+ghost use Rattle.apd_cells.specs.declared.front.Front.{Front};
 
 /// The textbook's function gives a most general unifier of two terms that has only variables of
 /// theirs, and `None` exactly where they have no unifier (Robinson 1965).
@@ -49,4 +51,17 @@ pub fn marks_nest()
     ensures twice { (i j : ℕ) (s : Stored) → i ≤ j → j ≤ length s.trail →
         at_mark i (at_mark j s) ≡ at_mark i s }
     ensures kept { (a b c : Stored) → Keeps a b → Keeps b c → Keeps a c }
+{}
+
+/// Going back to a mark leaves the store that was there, with more cells behind it: those of the front that is kept. Where
+/// there is no front it is the store at the mark.
+pub fn what_is_kept_stays()
+    ensures front { (kept : Front) (k : ℕ) (s : Stored) →
+        take kept.cells (undone kept k s).cells ≡ take kept.cells s.cells }
+    ensures more { (kept : Front) (k : ℕ) (s : Stored) → IsSound s →
+        HasMoreCells (at_mark k s) (undone kept k s) }
+    ensures terms { (kept : Front) (k c : ℕ) (s : Stored) → IsSound s →
+        c < length (at_mark k s).cells →
+        term_at (undone kept k s) c ≡ term_at (at_mark k s) c }
+    ensures none { (k : ℕ) (s : Stored) → IsSound s → undone no_front k s ≡ at_mark k s }
 {}

@@ -24,7 +24,7 @@ use crate::heads::{Solver, load_part, unify_head};
 use crate::scratch::{Scratch, numbered_within};
 use crate::unify::unify;
 use apd_cells::first::{first_symbol, key_at};
-use apd_cells::front::{Front, NOTHING};
+use apd_cells::front::{Front, NO_FRONT};
 use apd_cells::heap::Heap;
 use apd_cells::known::Extent;
 use apd_cells::live::Live;
@@ -288,8 +288,9 @@ impl Store {
         requires { mark.0 ≤ length self.old.trail }
         ensures { self.new ≡ at_mark mark.0 self.old }
     {
+        // It tells that the store is sound.
         let _variables = self.heap.variables();
-        self.heap.undo(mark.0, NOTHING);
+        self.heap.undo(mark.0, NO_FRONT);
     }
 
     /// The same, but for a front of the cells: these stay, and so do their variables.
@@ -299,6 +300,7 @@ impl Store {
         ensures undone { self.new ≡ undone kept mark.0 self.old }
         ensures sound { IsSound self.old }
     {
+        // It tells that the store is sound.
         let _variables = self.heap.variables();
         self.heap.undo(mark.0, kept);
     }

@@ -28,13 +28,13 @@ returns-in_err-numbered-clause-err c =
 pub returns-clause-there : goal.returns-clause-there
 returns-clause-there c =
     subst (λ (h : History). AreThere h c.push.new.self) (sym c.in_ok-catch_up.ensures.all)
-    (one_there c.catch_up.new.self.log c.args.store.now c.in_ok-catch_up.ensures.follows c.in_ok-catch_up.ensures.sound c.args.head c.args.goals.now c.requires.head c.requires.goals
+    (one_there c.catch_up.new.self.journal c.args.store.now c.in_ok-catch_up.ensures.follows c.in_ok-catch_up.ensures.sound c.args.head c.args.goals.now c.requires.head c.requires.goals
     c.moment-moment.result.0 c.moment-moment.ensures c.args.fact c.requires.fact (past_of c.args.tie.now c.args.store.now) c.args.spots.now c.push.new.self
     (subst (KeepsMoments (past_of c.args.tie.now c.args.store.now)) c.in_ok-catch_up.ensures.all c.catch_up.ensures.kept) c.requires.there c.in_ok-numbered.ensures.ok)
 
 pub returns-clause-ok : goal.returns-clause-ok
 returns-clause-ok c =
     ap (λ (h : History). kept_tuples h c.push.new.self) c.in_ok-catch_up.ensures.all
-    ∙ one_kept c.catch_up.new.self.log c.args.store.now c.in_ok-catch_up.ensures.follows c.in_ok-catch_up.ensures.sound c.args.head c.args.goals.now c.requires.head c.requires.goals
+    ∙ one_kept c.catch_up.new.self.journal c.args.store.now c.in_ok-catch_up.ensures.follows c.in_ok-catch_up.ensures.sound c.args.head c.args.goals.now c.requires.head c.requires.goals
     c.moment-moment.result.0 c.moment-moment.ensures c.args.fact c.requires.fact (past_of c.args.tie.now c.args.store.now) c.args.spots.now c.push.new.self
     (subst (KeepsMoments (past_of c.args.tie.now c.args.store.now)) c.in_ok-catch_up.ensures.all c.catch_up.ensures.kept) c.requires.there c.in_ok-numbered.ensures.ok

@@ -6,23 +6,23 @@ use Rattle.apd_following.proofs.Backward.{ahead_done, ahead_freed, ahead_none, f
 use Rattle.apd_following.proofs.tie.free_newest.Goals as goal
 
 pub bound-init : goal.bound-init
-bound-init c = record { ahead = c.requires; right = λ cells n r. r; more = done_same c.args.log.now }
+bound-init c = record { ahead = c.requires; right = λ cells n r. r; more = done_same c.args.journal.now }
 
 pub bound-preserved : goal.bound-preserved
 bound-preserved c = record {
-  ahead = ahead_freed c.bound.log c.unbind.new.self c.args.store.now c.in-Some.v c.bound.invariant.ahead c.in-Some.ensures c.if-not-is_free.ensures c.in_ok-unbind.ensures.ok;
-  right = right_once c.args.log.now c.bound.log c.unbind.new.self c.bound.invariant.right c.in_ok-unbind.ensures.ok;
-  more = more_freed c.args.log.now c.bound.log c.unbind.new.self c.bound.invariant.more c.in_ok-unbind.ensures.ok;
+  ahead = ahead_freed c.bound.journal c.unbind.new.self c.args.store.now c.in-Some.v c.bound.invariant.ahead c.in-Some.ensures c.if-not-is_free.ensures c.in_ok-unbind.ensures.ok;
+  right = right_once c.args.journal.now c.bound.journal c.unbind.new.self c.bound.invariant.right c.in_ok-unbind.ensures.ok;
+  more = more_freed c.args.journal.now c.bound.journal c.unbind.new.self c.bound.invariant.more c.in_ok-unbind.ensures.ok;
 }
 
 pub bound-smaller : goal.bound-smaller
-bound-smaller c = fewer_freed c.bound.log c.unbind.new.self c.in-Some.v c.in-Some.ensures c.in_ok-unbind.ensures.ok
+bound-smaller c = fewer_freed c.bound.journal c.unbind.new.self c.in-Some.v c.in-Some.ensures c.in_ok-unbind.ensures.ok
 
 pub returns-then-not-is_free-clause-follows : goal.returns-then-not-is_free-clause-follows
-returns-then-not-is_free-clause-follows c = ahead_done c.bound.log c.args.store.now c.in-Some.v c.bound.invariant.ahead c.in-Some.ensures c.if-not-is_free.ensures
+returns-then-not-is_free-clause-follows c = ahead_done c.bound.journal c.args.store.now c.in-Some.v c.bound.invariant.ahead c.in-Some.ensures c.if-not-is_free.ensures
 
 pub returns-in_err-unbind-clause-right : goal.returns-in_err-unbind-clause-right
 returns-in_err-unbind-clause-right c = λ cells n r. subst (λ (d : Done). IsRight cells n (reverse d.deeds)) (sym c.in_err-unbind.ensures.err) (c.bound.invariant.right cells n r)
 
 pub returns-clause-follows : goal.returns-clause-follows
-returns-clause-follows c = ahead_none c.bound.log c.args.store.now c.bound.invariant.ahead c.in_default.ensures
+returns-clause-follows c = ahead_none c.bound.journal c.args.store.now c.bound.invariant.ahead c.in_default.ensures

@@ -6,10 +6,10 @@ use Rattle.apd_following.proofs.tie.free_newest.Given as goal
 
 abbrev pub invariant-bound : goal.invariant-bound
 invariant-bound l = record {
-  ahead : IsAhead l.log l.store;
-  right : (cells : List Sym) (n : ℕ) → IsRight cells n (reverse l.fn.log.deeds) → IsRight cells n (reverse l.log.deeds);
-  more : HasDoneMore l.fn.log l.log;
+  ahead : IsAhead l.journal l.store;
+  right : (cells : List Sym) (n : ℕ) → IsRight cells n (reverse l.fn.journal.deeds) → IsRight cells n (reverse l.journal.deeds);
+  more : HasDoneMore l.fn.journal l.journal;
 }
 
 abbrev pub decreases-bound : goal.decreases-bound
-decreases-bound l = length (bindings_of l.log)
+decreases-bound l = length (bindings_of l.journal)

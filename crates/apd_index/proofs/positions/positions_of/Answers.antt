@@ -6,8 +6,8 @@ use Rattle.apd_index.proofs.positions.positions_of.Goals as goal
 
 pub symbols-init : goal.symbols-init
 symbols-init c =
-    walk-begins c.args.term.now c.symbols-symbol-items.result.now c.new-parents.result.items c.wait.new.parents.items c.new-positions.result.items c.symbols-symbol-items.ensures c.new-positions.ensures.items c.new-parents.ensures.items
-    c.in_ok-wait.ensures
+    walk-begins c.args.term.now c.symbols-symbol-items.result.now c.new-parents.result.items c.put_parent.new.parents.items c.new-positions.result.items c.symbols-symbol-items.ensures c.new-positions.ensures.items c.new-parents.ensures.items
+    c.in_ok-put_parent.ensures
 
 pub symbols-preserved : goal.symbols-preserved
 symbols-preserved c =

@@ -5,7 +5,7 @@ use Rattle.apd_marks.proofs.positions.marks_of.Goals as goal
 
 pub symbols-init : goal.symbols-init
 symbols-init c =
-    walk-begins c.args.term.now c.symbols-symbol-items.result.now c.new-parents.result.items c.wait.new.parents.items c.new-marks.result.items c.symbols-symbol-items.ensures c.new-marks.ensures.items c.new-parents.ensures.items c.in_ok-wait.ensures
+    walk-begins c.args.term.now c.symbols-symbol-items.result.now c.new-parents.result.items c.put_parent.new.parents.items c.new-marks.result.items c.symbols-symbol-items.ensures c.new-marks.ensures.items c.new-parents.ensures.items c.in_ok-put_parent.ensures
 
 pub symbols-preserved : goal.symbols-preserved
 symbols-preserved c =

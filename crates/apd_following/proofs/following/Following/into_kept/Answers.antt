@@ -6,16 +6,16 @@ use Rattle.apd_following.proofs.following.Following.into_kept.Goals as goal
 
 pub into_past-requires : goal.into_past-requires
 into_past-requires c =
-    subst (λ z. IsRight (take c.self.inside.tie.cells z) c.self.inside.tie.log.variables (reverse c.self.inside.tie.log.deeds)) (sym c.into_cells-cells.ensures) c.self.invariant.1.right
+    subst (λ z. IsRight (take c.self.inside.tie.cells z) c.self.inside.tie.journal.variables (reverse c.self.inside.tie.journal.deeds)) (sym c.into_cells-cells.ensures) c.self.invariant.1.right
 
 pub new-requires : goal.new-requires
 new-requires c =
     subst (λ (h : History). AreThere h c.self.inside.spots)
-    (sym (c.into_past.ensures ∙ ap (λ z. history_of (take c.self.inside.tie.cells z) c.self.inside.tie.log) c.into_cells-cells.ensures)) c.self.invariant.2
+    (sym (c.into_past.ensures ∙ ap (λ z. history_of (take c.self.inside.tie.cells z) c.self.inside.tie.journal) c.into_cells-cells.ensures)) c.self.invariant.2
 
 pub returns : goal.returns
 returns c =
     c.new.ensures
     ∙ ap (λ (h : History). kept_tuples h c.self.inside.spots)
-    (c.into_past.ensures ∙ ap (λ z. history_of (take c.self.inside.tie.cells z) c.self.inside.tie.log) c.into_cells-cells.ensures)
+    (c.into_past.ensures ∙ ap (λ z. history_of (take c.self.inside.tie.cells z) c.self.inside.tie.journal) c.into_cells-cells.ensures)
     ∙ ap (λ (f : Followed). f.tuples) c.self.view_is

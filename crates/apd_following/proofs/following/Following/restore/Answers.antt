@@ -20,7 +20,7 @@ restore-requires-clause-some c = subst (λ (f : Followed). 0 < length f.saved) (
 pub restore-requires-clause-front : goal.restore-requires-clause-front
 restore-requires-clause-front c =
     subst (λ (f : Front). IsFront f c.self.inside.linked.store.cells) (sym c.front-kept.ensures)
-    (right_cells _ c.self.inside.tie.log.variables (reverse c.self.inside.tie.log.deeds) c.self.invariant.1.right)
+    (right_cells _ c.self.inside.tie.journal.variables (reverse c.self.inside.tie.journal.deeds) c.self.invariant.1.right)
 
 pub go_back-requires : goal.go_back-requires
 go_back-requires c = record {

@@ -22,7 +22,7 @@ pub follow-requires : goal.follow-requires
 follow-requires c =
     subst (λ (s : Stored). MayFollow c.make_room.new.self s c.args.self.now.followed) (sym c.live-live.ensures.parts)
     (may_follow c.args.self.now c.args.store.now c.requires c.live-live.ensures.sound c.make_room.new.self
-    (c.in_ok-make_room.ensures.ok ∙ ap (λ (s : Stored). with_room c.args.self.now.log s.variables) c.live-live.ensures.parts) c.if-not-self.false)
+    (c.in_ok-make_room.ensures.ok ∙ ap (λ (s : Stored). with_room c.args.self.now.journal s.variables) c.live-live.ensures.parts) c.if-not-self.false)
 
 pub returns-in_err-follow-clause-tied : goal.returns-in_err-follow-clause-tied
 returns-in_err-follow-clause-tied c =
@@ -33,7 +33,7 @@ returns-in_err-follow-clause-tied c =
 pub returns-in_err-follow-clause-kept : goal.returns-in_err-follow-clause-kept
 returns-in_err-follow-clause-kept c =
     keeps_caught c.args.self.now c.args.store.now c.requires c.live-live.ensures.sound c.make_room.new.self
-    (c.in_ok-make_room.ensures.ok ∙ ap (λ (s : Stored). with_room c.args.self.now.log s.variables) c.live-live.ensures.parts)
+    (c.in_ok-make_room.ensures.ok ∙ ap (λ (s : Stored). with_room c.args.self.now.journal s.variables) c.live-live.ensures.parts)
     c.follow.new.self (length c.live-live.result.cells.now) c.follow.ensures.more (ap (λ (s : Stored). length s.cells) c.live-live.ensures.parts)
 
 pub returns-clause-tied : goal.returns-clause-tied
@@ -54,5 +54,5 @@ returns-clause-all c =
 pub returns-clause-kept : goal.returns-clause-kept
 returns-clause-kept c =
     keeps_caught c.args.self.now c.args.store.now c.requires c.live-live.ensures.sound c.make_room.new.self
-    (c.in_ok-make_room.ensures.ok ∙ ap (λ (s : Stored). with_room c.args.self.now.log s.variables) c.live-live.ensures.parts)
+    (c.in_ok-make_room.ensures.ok ∙ ap (λ (s : Stored). with_room c.args.self.now.journal s.variables) c.live-live.ensures.parts)
     c.follow.new.self (length c.live-live.result.cells.now) c.follow.ensures.more (ap (λ (s : Stored). length s.cells) c.live-live.ensures.parts)

@@ -21,9 +21,9 @@ free_newest-requires c = ahead c.args.self.now c.args.store.now c.requires c.if-
 
 pub returns-clause-tied : goal.returns-clause-tied
 returns-clause-tied c =
-    tied_by c.args.self.now c.args.store.now c.requires c.free_newest.result c.is_ok-self.result c.free_newest.new.log c.mark-notes.result.0
-    (right_freed c.args.self.now c.args.store.now c.requires c.free_newest.new.log c.free_newest.ensures.more c.free_newest.ensures.right)
+    tied_by c.args.self.now c.args.store.now c.requires c.free_newest.result c.is_ok-self.result c.free_newest.new.journal c.mark-notes.result.0
+    (right_freed c.args.self.now c.args.store.now c.requires c.free_newest.new.journal c.free_newest.ensures.more c.free_newest.ensures.right)
     c.free_newest.ensures.follows c.mark-notes.ensures c.is_ok-self.ensures.value
 
 pub returns-clause-kept : goal.returns-clause-kept
-returns-clause-kept c = keeps_freed c.args.self.now c.args.store.now c.requires c.free_newest.new.log c.free_newest.ensures.more
+returns-clause-kept c = keeps_freed c.args.self.now c.args.store.now c.requires c.free_newest.new.journal c.free_newest.ensures.more

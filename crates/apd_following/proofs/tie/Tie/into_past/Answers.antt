@@ -3,7 +3,7 @@ use Rattle.apd_past.specs.History.{IsRight, history_of}
 use Rattle.apd_following.proofs.tie.Tie.into_past.Goals as goal
 
 pub of-requires : goal.of-requires
-of-requires c = subst (λ z. IsRight z c.args.self.log.variables (reverse c.args.self.log.deeds)) (sym c.truncate.ensures.items) c.requires
+of-requires c = subst (λ z. IsRight z c.args.self.journal.variables (reverse c.args.self.journal.deeds)) (sym c.truncate.ensures.items) c.requires
 
 pub returns : goal.returns
-returns c = c.of.ensures ∙ ap (λ z. history_of z c.args.self.log) c.truncate.ensures.items
+returns c = c.of.ensures ∙ ap (λ z. history_of z c.args.self.journal) c.truncate.ensures.items

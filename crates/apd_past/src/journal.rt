@@ -19,17 +19,17 @@ use std::alloc::{AllocError, Global};
 use std::marker::Model;
 
 /// The deeds on variables, and those variables that are bound at present. Contracts see the deeds. Where a call answers an error,
-/// it is want of memory, or there would be 2 ^ 32 variables or moments.
+/// it is want of memory, or there would be 2 ^ 32 variables or moments, or a variable be bound to a cell of such a number.
 #[derive(Drop)]
-pub struct Log {
+pub struct Journal {
     deeds: Deeds,
     /// The variables that are bound at present, the newest first.
     bound: Stack<u32>,
 }
 
-impl Model for Log {
+impl Model for Journal {
     ghost use Rattle.apd_past.specs.Done.{Done, done_code};
-    ghost use Rattle.apd_past.specs.History.{IsLog};
+    ghost use Rattle.apd_past.specs.History.{IsJournal};
 
     ghost Value = { Done };
 
@@ -37,15 +37,15 @@ impl Model for Log {
 
     ghost view = { λ l. l.deeds };
 
-    ghost invariant = { λ l. IsLog l.deeds l.bound };
+    ghost invariant = { λ l. IsJournal l.deeds l.bound };
 }
 
-impl Log {
+impl Journal {
     /// No variable.
-    pub fn new(alloc: Global) -> Log
+    pub fn new(alloc: Global) -> Journal
         ensures { result ≡ record { variables = 0; deeds = [] } }
     {
-        Log {
+        Journal {
             deeds: Deeds::new(alloc),
             bound: Stack::new(alloc),
         }

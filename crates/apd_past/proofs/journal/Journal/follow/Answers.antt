@@ -3,7 +3,7 @@ use Rattle.std.proofs.lemmas.List.{length-reverse}
 use Rattle.apd_cells.specs.Live.{store_of}
 use Rattle.apd_cells.proofs.Undoing.{at_mark-here}
 use Rattle.apd_past.specs.Follows.{Follows}
-use Rattle.apd_past.proofs.log.Log.follow.Goals as goal
+use Rattle.apd_past.proofs.journal.Journal.follow.Goals as goal
 
 pub returns-clause-follows : goal.returns-clause-follows
 returns-clause-follows c =

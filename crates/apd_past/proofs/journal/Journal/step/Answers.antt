@@ -5,7 +5,7 @@ use Rattle.apd_cells.specs.declared.heap.TrailNote.TheVariants.{Bound, Loaded}
 use Rattle.apd_cells.specs.Live.{store_of}
 use Rattle.apd_past.proofs.Following.{may_bind, step_bound, step_loaded}
 use Rattle.apd_past.proofs.Marks.{IsStep, step_at}
-use Rattle.apd_past.proofs.log.Log.step.Goals as goal
+use Rattle.apd_past.proofs.journal.Journal.step.Goals as goal
 
 pub bind-requires : goal.bind-requires
 bind-requires c =

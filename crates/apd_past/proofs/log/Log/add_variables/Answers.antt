@@ -1,6 +1,0 @@
-use Rattle.apd_past.proofs.Bindings.{log_more}
-use Rattle.apd_past.proofs.log.Log.add_variables.Goals as goal
-
-pub invariant_of-self : goal.invariant_of-self
-invariant_of-self c =
-    log_more c.self.inside.deeds c.self.inside.bound c.self.invariant c.add_variables.new.self c.add_variables.ensures.deeds c.add_variables.ensures.more

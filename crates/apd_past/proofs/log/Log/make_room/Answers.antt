@@ -1,6 +1,0 @@
-use Rattle.apd_past.proofs.Bindings.{log_more}
-use Rattle.apd_past.proofs.log.Log.make_room.Goals as goal
-
-pub invariant_of-self : goal.invariant_of-self
-invariant_of-self c =
-    log_more c.self.inside.deeds c.self.inside.bound c.self.invariant c.make_room.new.self c.make_room.ensures.deeds c.make_room.ensures.more

@@ -24,7 +24,8 @@ def program_file() -> str | None:
 
 def surroundings() -> dict[str, str]:
     """The environment in which ./apd starts the program, too: there it says what the settings are for."""
-    return {"MALLOC_MMAP_THRESHOLD_": "131072", "MALLOC_TRIM_THRESHOLD_": "1048576", **os.environ}
+    return {"MALLOC_MMAP_THRESHOLD_": "131072", "MALLOC_TRIM_THRESHOLD_": "1048576",
+            "GLIBC_TUNABLES": "glibc.malloc.hugetlb=1", **os.environ}
 
 
 class Program:

@@ -77,6 +77,7 @@ impl Search {
     }
 
     /// The Call of the innermost frame's next goal, in a new box.
+    #[inline(always)]
     fn called(&mut self) -> Result<Item, AllocError>
         requires boxes { self.old.boxes < 2 ^ 32 - 1 }
         requires goes { IsOpen self.old.boxes self.old.frames.current }
@@ -91,8 +92,9 @@ impl Search {
         }
     }
 
-    /// The same where somebody reads ports.
-    #[inline(always)]
+    /// The same where somebody reads ports. It is a function of its own, with all that it calls, so that a port is read
+    /// through no memory and the loop of a run has the registers.
+    #[inline(never)]
     fn read_call(&mut self, alloc: Global, unread: Unread) -> Result<Option<Box<Item>>, AllocError>
         requires boxes { self.old.boxes < 2 ^ 32 - 1 }
         requires goes { IsOpen self.old.boxes self.old.frames.current }
@@ -151,6 +153,7 @@ impl Search {
     }
 
     /// The innermost frame exits, or answers: the whole item.
+    #[inline(always)]
     fn ending(&mut self) -> Result<Item, AllocError>
         requires boxes { self.old.boxes < 2 ^ 32 - 1 }
         requires waits { Waits (stand self.old) }

@@ -56,6 +56,7 @@ pub enum Given {
 }
 
 /// The item, given whole.
+#[inline(always)]
 pub fn whole(alloc: Global, item: Item) -> Result<Given, AllocError>
     ensures { IfOk result (λ given. IsWhole given item) }
 {
@@ -72,6 +73,7 @@ pub fn too_large(alloc: Global, box_no: u32) -> Result<Given, AllocError>
 }
 
 /// The port of a box.
+#[inline(always)]
 pub fn event(port: Port, g: Called) -> Item
     ensures { result ≡ at_port port g }
 {

@@ -120,6 +120,7 @@ impl Following {
     }
 
     /// What the innermost frame does next, if the next box has this number.
+    #[inline(always)]
     pub fn look(&mut self, box_no: u32) -> Result<Look, AllocError>
         requires { MayCall self.old.current }
         ensures look { IfOk result (λ l. l ≡ look_of self.old.current box_no) }

@@ -107,6 +107,7 @@ impl Linked {
     }
 
     /// What the innermost frame does next, if the next box has this number.
+    #[inline(always)]
     pub fn look(&mut self, box_no: u32) -> Result<Look, AllocError>
         requires framed { AreFramed self.old }
         requires deep { MayCall (frames_of self.old).current }

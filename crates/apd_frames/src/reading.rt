@@ -111,6 +111,7 @@ pub fn left(
 }
 
 /// What the frame of a link does next, if the next box has this number.
+#[inline(always)]
 pub fn look(
     store: &Store,
     links: &Links,

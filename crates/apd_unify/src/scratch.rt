@@ -8,9 +8,12 @@ use apd_cells::heap::Heap;
 use apd_cells::order::Order;
 use apd_cells::stack::Stack;
 use apd_cells::walk::{Run, next_run, pass};
-use apd_term::{Flat, Sym};
+use apd_term::{Flat, Sym, Syms};
 use std::alloc::{AllocError, Global};
 use std::marker::Model;
+
+/// How many symbols there is room for where a term is written: few have more.
+const ROOM: usize = 64;
 
 /// What terms are written out with, kept from term to term so that its memory is taken once. Clauses
 /// see the variables that have numbers, in the order of these.
@@ -18,7 +21,6 @@ use std::marker::Model;
 pub struct Scratch {
     order: Order,
     runs: Stack<Run>,
-    symbols: Vec<Sym>,
 }
 
 impl Model for Scratch {
@@ -37,7 +39,6 @@ impl Scratch {
         Scratch {
             order: Order::new(alloc),
             runs: Stack::new(alloc),
-            symbols: Vec::new(alloc),
         }
     }
 
@@ -51,6 +52,7 @@ impl Scratch {
 
 /// Writes the symbols of the term at a cell, with the places of its variables in the order; false
 /// exactly where it is over the limit. It passes at most one symbol more than that.
+#[inline(always)]
 fn write_within(
     heap: &Heap,
     runs: &mut Stack<Run>,
@@ -90,17 +92,17 @@ pub fn numbered_within(
     requires { at < length heap.now.cells }
     ensures { IfOk result (Numbers scratch.old scratch.new (term_at heap.now at) limit) }
 {
+    let mut symbols = Vec::with_capacity(alloc, ROOM)?;
     let written = write_within(
         heap,
         &mut scratch.runs,
         &mut scratch.order,
-        &mut scratch.symbols,
+        &mut symbols,
         at,
         limit,
     )?;
     if !written {
         return Ok(None);
     }
-    let term = Flat::copy_of(alloc, scratch.symbols.as_slice())?;
-    Ok(Some(term))
+    Ok(Some(Flat::of_symbols(Syms::of_items(symbols))))
 }

@@ -16,6 +16,7 @@ use apd_term::standard::COMMA;
 use std::alloc::AllocError;
 
 /// Writes an infix operator between its operands: a space on each side, but none before the comma.
+#[inline(never)]
 fn write_infix(names: &Names, name: NameId, out: &mut Text) -> Result<(), AllocError>
     ensures { OnOk result (out.new ≡ out.old ++ between name
         (name_text (text_of_name names.now name))) }
@@ -30,6 +31,7 @@ fn write_infix(names: &Names, name: NameId, out: &mut Text) -> Result<(), AllocE
 
 /// Writes what a frame has behind the term before the next one, and tells the place of that, where there is one. Frames
 /// are without the frame.
+#[inline(always)]
 fn leave(
     names: &Names,
     frame: PendingFrame,
@@ -58,6 +60,7 @@ fn leave(
 }
 
 /// Closes what a term ends, and tells the place of the next term, where there is one.
+#[inline(always)]
 pub(crate) fn close(
     names: &Names,
     frames: &mut Vec<PendingFrame>,

@@ -1,6 +1,6 @@
 //! Symbols without arguments, in their places.
 
-ghost use Rattle.std.specs.Prelude.{◌≡◌, ◌++◌, OnOk};
+ghost use Rattle.std.specs.Prelude.{◌≡◌, ◌++◌, OnOk, codes};
 ghost use Rattle.apd_write.specs.Pending.{is_negative_symbol, is_nil_symbol, is_operator_symbol, leaf_in, leaf_rest, leaf_text};
 ghost use Rattle.apd_write.specs.Writing.{in_parentheses};
 
@@ -34,6 +34,7 @@ fn is_negative(symbol: Sym) -> bool
 }
 
 /// Writes a variable, an integer or a name.
+#[inline(always)]
 fn write_symbol(names: &Names, symbol: Sym, out: &mut Text) -> Result<(), AllocError>
     ensures { OnOk result (out.new ≡ out.old ++ leaf_text names.now symbol) }
 {
@@ -49,6 +50,7 @@ fn write_symbol(names: &Names, symbol: Sym, out: &mut Text) -> Result<(), AllocE
 }
 
 /// Writes it in parentheses.
+#[inline(never)]
 fn write_enclosed(names: &Names, symbol: Sym, out: &mut Text) -> Result<(), AllocError>
     ensures { OnOk result (out.new ≡ out.old ++ in_parentheses (leaf_text names.now symbol)) }
 {
@@ -67,19 +69,30 @@ fn is_nil(symbol: Sym) -> bool
     }
 }
 
+/// Writes it behind the bar, and the bracket that closes the list.
+#[inline(never)]
+fn write_tail(names: &Names, symbol: Sym, out: &mut Text) -> Result<(), AllocError>
+    ensures { OnOk result (out.new ≡ out.old ++ codes "|" ++ leaf_text names.now symbol
+        ++ codes "]") }
+{
+    out.push(b'|')?;
+    write_symbol(names, symbol, out)?;
+    out.push(b']')
+}
+
 /// Writes the end of a list whose rest is the symbol: what isn't `[]` stands behind the bar.
+#[inline(always)]
 fn write_rest(names: &Names, symbol: Sym, out: &mut Text) -> Result<(), AllocError>
     ensures { OnOk result (out.new ≡ out.old ++ leaf_rest names.now symbol) }
 {
-    if !is_nil(symbol) {
-        out.push(b'|')?;
-        write_symbol(names, symbol, out)?;
+    if is_nil(symbol) {
+        return out.push(b']');
     }
-    out.push(b']')?;
-    Ok(())
+    write_tail(names, symbol, out)
 }
 
 /// Writes a symbol without arguments in its place.
+#[inline(always)]
 pub(crate) fn write_leaf(
     ops: &Ops,
     names: &Names,

@@ -1,10 +1,10 @@
 //! Names: bare, or in quotes.
 
-ghost use Rattle.std.specs.Prelude.{◌≡◌, ◌++◌, ◌<◌, codes, OnOk};
+ghost use Rattle.std.specs.Prelude.{◌≡◌, ◌++◌, ◌<◌, ◌||◌, codes, false, OnOk};
 ghost use Rattle.std.specs.List.{list_all};
 ghost use Rattle.apd_term.specs.Names.{same_text};
 ghost use Rattle.apd_token.specs.Bytes.{is_word, is_graphic};
-ghost use Rattle.apd_write.specs.NameTexts.{is_word_name, is_graphic_name, begins_comment, is_solo_name, is_bracket_name, is_bare, hex_digit, quoted_byte, quoted, function_text, name_text};
+ghost use Rattle.apd_write.specs.NameTexts.{is_word_name, is_graphic_name, begins_comment, is_solo_name, is_bracket_name, hex_digit, quoted_byte, quoted, function_text, name_text};
 
 use apd_base::Text;
 use apd_token::{is_graphic, is_small, is_word};
@@ -22,7 +22,7 @@ fn is_word_name(name: &[u8]) -> bool
     ensures { result ≡ is_word_name name.now }
 {
     match name {
-        [first, ..] => is_small(*first) && are_word_bytes(name),
+        [first, rest @ ..] => is_small(*first) && are_word_bytes(rest),
         [] => false,
     }
 }
@@ -64,11 +64,11 @@ fn is_bracket_name(name: &[u8]) -> bool
     name == b"[]".as_slice() || name == b"{}".as_slice()
 }
 
-/// Whether one token without quotes stands for the name.
-fn is_bare(name: &[u8]) -> bool
-    ensures { result ≡ is_bare name.now }
+/// Whether one token without quotes that isn't a word stands for the name.
+fn is_sign(name: &[u8]) -> bool
+    ensures { result ≡ (is_graphic_name name.now || is_solo_name name.now) }
 {
-    is_word_name(name) || is_graphic_name(name) || is_solo_name(name)
+    is_graphic_name(name) || is_solo_name(name)
 }
 
 /// A hexadecimal digit in lower case.
@@ -110,25 +110,51 @@ fn write_quoted(name: &[u8], out: &mut Text) -> Result<(), AllocError>
     Ok(())
 }
 
-/// Writes a name before its arguments in parentheses: `[]` and `{}` are in quotes there.
-pub(crate) fn write_function_name(name: &[u8], out: &mut Text) -> Result<(), AllocError>
+/// Writes a name that isn't a word before its arguments. It isn't inlined: most names of programs are words.
+#[inline(never)]
+fn write_other_function(name: &[u8], out: &mut Text) -> Result<(), AllocError>
+    requires { is_word_name name.now ≡ false }
     ensures { OnOk result (out.new ≡ out.old ++ function_text name.now) }
 {
-    if is_bare(name) {
+    if is_sign(name) {
         out.extend(name)
     } else {
         write_quoted(name, out)
     }
 }
 
-/// Writes a name as it stands by itself: bare where one token or a pair of brackets stands for it, else in single quotes.
-/// After want of memory a part may stand there.
-pub fn write_name(name: &[u8], out: &mut Text) -> Result<(), AllocError>
+/// Writes a name before its arguments in parentheses: `[]` and `{}` are in quotes there.
+#[inline(always)]
+pub(crate) fn write_function_name(name: &[u8], out: &mut Text) -> Result<(), AllocError>
+    ensures { OnOk result (out.new ≡ out.old ++ function_text name.now) }
+{
+    if is_word_name(name) {
+        return out.extend(name);
+    }
+    write_other_function(name, out)
+}
+
+/// Writes a name that isn't a word, as it stands by itself.
+#[inline(never)]
+fn write_other_name(name: &[u8], out: &mut Text) -> Result<(), AllocError>
+    requires { is_word_name name.now ≡ false }
     ensures { OnOk result (out.new ≡ out.old ++ name_text name.now) }
 {
     if is_bracket_name(name) {
         out.extend(name)
     } else {
-        write_function_name(name, out)
+        write_other_function(name, out)
     }
+}
+
+/// Writes a name as it stands by itself: bare where one token or a pair of brackets stands for it, else in single quotes.
+/// After want of memory a part may stand there.
+#[inline(always)]
+pub fn write_name(name: &[u8], out: &mut Text) -> Result<(), AllocError>
+    ensures { OnOk result (out.new ≡ out.old ++ name_text name.now) }
+{
+    if is_word_name(name) {
+        return out.extend(name);
+    }
+    write_other_name(name, out)
 }

@@ -1,10 +1,11 @@
 //! What stands before the arguments of a compound.
 
-ghost use Rattle.std.specs.Prelude.{◌≡◌, ◌<◌, ◌-◌, ◌++◌, [], ◌∷◌, codes, IfOk, OnOk};
+ghost use Rattle.std.specs.Prelude.{◌≡◌, ◌<◌, ◌-◌, ◌++◌, [], ◌∷◌, codes, false, IfOk, OnOk};
 ghost use Rattle.apd_ops.specs.Operators.{left_of, right_of};
 ghost use Rattle.apd_term.specs.Names.{text_of_name};
 ghost use Rattle.apd_write.specs.NameTexts.{function_text, name_text};
 ghost use Rattle.apd_write.specs.Pending.{Opens, Puts, closing_frames, opening_mark};
+ghost use Rattle.apd_write.specs.Writing.{is_same_name};
 ghost use Rattle.apd_write.specs.declared.pending.TermPlace.TheVariants as places;
 ghost use Rattle.apd_write.specs.declared.pending.PendingFrame.TheVariants as pushed;
 
@@ -36,6 +37,7 @@ fn open_fitted(
 }
 
 /// Functional notation: the name and the opening parenthesis.
+#[inline(always)]
 fn open_function(
     names: &Names,
     name: NameId,
@@ -55,6 +57,7 @@ fn open_function(
 }
 
 /// A prefix operator before its operand.
+#[inline(never)]
 fn open_prefix(
     names: &Names,
     operator: Op,
@@ -74,6 +77,7 @@ fn open_prefix(
 }
 
 /// An infix operator, whose left operand comes first.
+#[inline(never)]
 fn open_infix(
     operator: Op,
     max: u16,
@@ -94,6 +98,7 @@ fn open_infix(
 }
 
 /// A list, from its first element on.
+#[inline(always)]
 fn open_list(frames: &mut Vec<PendingFrame>, out: &mut Text) -> Result<TermPlace, AllocError>
     ensures { IfOk result (λ next. Puts (codes "[") (pushed.Rest ∷ [])
         (places.Whole 999) frames.old.items frames.new.items out.old out.new next) }
@@ -104,6 +109,7 @@ fn open_list(frames: &mut Vec<PendingFrame>, out: &mut Text) -> Result<TermPlace
 }
 
 /// A list's next element.
+#[inline(always)]
 fn open_further(frames: &mut Vec<PendingFrame>, out: &mut Text) -> Result<TermPlace, AllocError>
     ensures { IfOk result (λ next. Puts (codes ",") (pushed.Rest ∷ [])
         (places.Whole 999) frames.old.items frames.new.items out.old out.new next) }
@@ -114,6 +120,7 @@ fn open_further(frames: &mut Vec<PendingFrame>, out: &mut Text) -> Result<TermPl
 }
 
 /// A term in braces.
+#[inline(never)]
 fn open_curly(frames: &mut Vec<PendingFrame>, out: &mut Text) -> Result<TermPlace, AllocError>
     ensures { IfOk result (λ next. Puts (codes "{") (pushed.CurlyEnd ∷ [])
         (places.Whole MOST_PRIORITY) frames.old.items frames.new.items out.old out.new next) }
@@ -124,6 +131,7 @@ fn open_curly(frames: &mut Vec<PendingFrame>, out: &mut Text) -> Result<TermPlac
 }
 
 /// What stands before the first argument of a compound in a place for this priority.
+#[inline(always)]
 fn open_compound(
     ops: &Ops,
     names: &Names,
@@ -145,28 +153,49 @@ fn open_compound(
                     priority,
                     kind,
                 };
-                open_prefix(names, operator, max, frames, out)
+                return open_prefix(names, operator, max, frames, out);
             }
-            None if name == CURLY => open_curly(frames, out),
-            None => open_function(names, name, count, frames, out),
+            None if name == CURLY => return open_curly(frames, out),
+            None => {}
         },
-        2 if name == CELL => open_list(frames, out),
-        2 => match ops.infix(name) {
-            Some((priority, kind)) => {
+        2 if name == CELL => return open_list(frames, out),
+        2 => {
+            if let Some((priority, kind)) = ops.infix(name) {
                 let operator = Op {
                     name,
                     priority,
                     kind,
                 };
-                open_infix(operator, max, frames, out)
+                return open_infix(operator, max, frames, out);
             }
-            None => open_function(names, name, count, frames, out),
-        },
-        _ => open_function(names, name, count, frames, out),
+        }
+        _ => {}
     }
+    open_function(names, name, count, frames, out)
 }
 
-/// The same in any place.
+/// The same as the rest of a list, behind the bar. It isn't inlined: few lists have such a rest.
+#[inline(never)]
+fn open_tail(
+    ops: &Ops,
+    names: &Names,
+    name: NameId,
+    count: u8,
+    frames: &mut Vec<PendingFrame>,
+    out: &mut Text,
+) -> Result<TermPlace, AllocError>
+    requires count { 0 < count }
+    requires tail { count ≡ 2 → is_same_name name CELL ≡ false }
+    ensures { IfOk result (λ next. Opens ops.now names.now name count
+        places.Rest frames.old.items frames.new.items out.old out.new next) }
+{
+    out.push(b'|')?;
+    frames.push(PendingFrame::ListEnd)?;
+    open_compound(ops, names, name, count, 999, frames, out)
+}
+
+/// What stands before the first argument of a compound in any place.
+#[inline(always)]
 pub(crate) fn open(
     ops: &Ops,
     names: &Names,
@@ -185,10 +214,6 @@ pub(crate) fn open(
             open_compound(ops, names, name, count, max, frames, out)
         }
         TermPlace::Rest if name == CELL && count == 2 => open_further(frames, out),
-        TermPlace::Rest => {
-            out.push(b'|')?;
-            frames.push(PendingFrame::ListEnd)?;
-            open_compound(ops, names, name, count, 999, frames, out)
-        }
+        TermPlace::Rest => open_tail(ops, names, name, count, frames, out),
     }
 }

@@ -17,6 +17,7 @@ use apd_term::{Flat, Sym};
 use std::alloc::{AllocError, Global};
 
 /// Writes what a symbol stands for in its place, and what stands behind it up to the place of the next symbol.
+#[inline(always)]
 fn write_next(
     ops: &Ops,
     names: &Names,
@@ -39,6 +40,7 @@ fn write_next(
 }
 
 /// Writes the term that these symbols spell, for a place of a priority. What stands in the frames doesn't matter.
+#[inline(always)]
 fn write_all(
     ops: &Ops,
     names: &Names,
@@ -78,6 +80,7 @@ impl Pen {
 
     /// Writes a term for a place where its priority may be at most `max`, by a table of operators. After want of memory a
     /// part may stand there.
+    #[inline(always)]
     pub fn write(
         &mut self,
         ops: &Ops,

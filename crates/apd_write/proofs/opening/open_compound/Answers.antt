@@ -8,6 +8,7 @@ use Rattle.apd_term.specs.declared.standard.TheConstants.{CELL, CURLY}
 use Rattle.apd_write.specs.Writing.{is_same_name}
 use Rattle.apd_write.proofs.Opened.{function_opens, one_is_function, two_is_function, many_is_function, prefix_opens, infix_opens, list_opens, curly_opens}
 use Rattle.apd_write.proofs.opening.open_compound.Goals as goal
+use Rattle.apd_write.proofs.opening.open_compound.Goals.{in-1+in-None+else-eq, in-2-2+in_default-infix, in_default}
 
 pub returns-in-Some : goal.returns-in-Some
 returns-in-Some c =
@@ -26,17 +27,6 @@ returns-in-None c =
     rw c.in-1.is (IfOk-weaker c.open_curly.result _ _ (λ next put.
     curly_opens ops names c.args.name c.args.max c.args.frames.now.items c.open_curly.new.frames.items c.args.out.now c.open_curly.new.out next is curly put) c.open_curly.ensures)
 
-pub returns-in-None-2 : goal.returns-in-None-2
-returns-in-None-2 c =
-    let ops : Table = c.args.ops.now in
-    let names : List (List ℕ) = c.args.names.now in
-    let f : NameId = c.args.name in
-    let is : prefix_in ops f.0 ≡ None = sym c.prefix.ensures ∙ c.in-None-2.is in
-    let curly : is_same_name f CURLY ≡ false = sym c.eq.ensures ∙ c.if-eq.false in
-    IfOk-weaker c.open_function.result _ _ (λ next put.
-    function_opens ops names f c.args.count c.args.max c.args.frames.now.items c.open_function.new.frames.items c.args.out.now c.open_function.new.out next c.requires
-    (λ ps long. one_is_function ops f (text_of_name names f) c.args.max is curly ps (long ∙ c.in-1.is)) put) c.open_function.ensures
-
 pub returns-in-2 : goal.returns-in-2
 returns-in-2 c =
     let ops : Table = c.args.ops.now in
@@ -54,24 +44,15 @@ returns-in-Some-infix c =
     rw c.in-2.is (IfOk-weaker c.open_infix.result _ _ (λ next put.
     infix_opens ops names c.args.name (c.in-Some-infix.priority, c.in-Some-infix.kind) c.args.max c.args.frames.now.items c.open_infix.new.frames.items c.args.out.now c.open_infix.new.out next is no_cell put) c.open_infix.ensures)
 
-pub returns-in-None-infix : goal.returns-in-None-infix
-returns-in-None-infix c =
+pub returns : goal.returns
+returns c =
     let ops : Table = c.args.ops.now in
     let names : List (List ℕ) = c.args.names.now in
     let f : NameId = c.args.name in
-    let is : infix_in ops f.0 ≡ None = sym c.infix.ensures ∙ c.in-None-infix.is in
-    let no_cell : is_same_name f CELL ≡ false = sym c.if-eq-2.ensures in
-    IfOk-weaker c.open_function-in-None-infix.result _ _ (λ next put.
-    function_opens ops names f c.args.count c.args.max c.args.frames.now.items c.open_function-in-None-infix.new.frames.items c.args.out.now c.open_function-in-None-infix.new.out next c.requires
-    (λ ps long. two_is_function ops f (text_of_name names f) c.args.max is no_cell ps (long ∙ c.in-2.is)) put) c.open_function-in-None-infix.ensures
-
-pub returns-in_default : goal.returns-in_default
-returns-in_default c =
-    let ops : Table = c.args.ops.now in
-    let names : List (List ℕ) = c.args.names.now in
-    let f : NameId = c.args.name in
-    let some : 0 < c.args.count = c.requires in
-    let many : 2 < c.args.count = omega arith in
-    IfOk-weaker c.open_function-in_default.result _ _ (λ next put.
-    function_opens ops names f c.args.count c.args.max c.args.frames.now.items c.open_function-in_default.new.frames.items c.args.out.now c.open_function-in_default.new.out next some
-    (λ ps long. many_is_function ops f (text_of_name names f) c.args.max ps (omega (arith, long, many))) put) c.open_function-in_default.ensures
+    IfOk-weaker c.open_function.result _ _ (λ next put.
+    function_opens ops names f c.args.count c.args.max c.args.frames.now.items c.open_function.new.frames.items c.args.out.now c.open_function.new.out next c.requires
+    (λ ps long. elim c.match-count.branch [
+      | in-1+in-None+else-eq w ↦ one_is_function ops f (text_of_name names f) c.args.max (sym w.prefix.ensures ∙ w.in-None.is) (sym w.eq.ensures ∙ w.if-eq.false) ps (long ∙ w.in-1.is)
+      | in-2-2+in_default-infix w ↦ two_is_function ops f (text_of_name names f) c.args.max (sym w.infix.ensures ∙ w.in_default-infix.is) (sym w.if-eq-2.ensures) ps (long ∙ w.in-2.is)
+      | in_default w ↦ let some : 0 < c.args.count = c.requires in let many : 2 < c.args.count = omega arith in many_is_function ops f (text_of_name names f) c.args.max ps (omega (arith, long, many))
+    ]) put) c.open_function.ensures

@@ -5,10 +5,11 @@
 
 PROGRAM is the proved program, which is built where none is named. UNRECORDED is one of the same sources whose
 runs leave no record (`run_query` of apd_query calls `show` in place of `run`); without it what a record costs isn't told.
-The C library's setting is that with which ./apd starts the program.
+The C library's settings are those with which ./apd starts the program.
 With `swipl` on the path some rows are beside SWI-Prolog's bare engine with the occurs check, which neither counts ports nor
-records them. A session that takes more than 20 seconds or 4 GB is cut off, and its row isn't met. With a word, only the
-rows are measured that have it in their names. It ends with 1 where a row isn't met.
+records them. The time of sessions is the least of 3 to 20 of them, that of SWI-Prolog the least of three means of many runs,
+in its processor's time. A session that takes more than 20 seconds or 4 GB, or that doesn't end well, is told as cut off, and
+its row isn't met. With a word, only the rows are measured that have it in their names. It ends with 1 where a row isn't met.
 """
 import os
 import re
@@ -23,11 +24,17 @@ import time
 from pathlib import Path
 
 TOP = Path(__file__).resolve().parent.parent
+sys.path.insert(0, str(TOP))
+from terminal.program import surroundings  # noqa: E402
+
 LONGEST = 20
 MOST_MEMORY = 4 << 30
-# A session is run so often at least; a short one again until all together take a second, up to so often.
-ROUNDS = 3
+# A session is run LEAST_ROUNDS times, and a short one again until all together take ENOUGH seconds, but at most MOST_ROUNDS
+# times. One that takes more than LONG seconds is run once.
+LEAST_ROUNDS = 3
 MOST_ROUNDS = 20
+ENOUGH = 1
+LONG = 5
 
 REVERSE = """append([], Ys, Ys).
 append([X|Xs], Ys, [X|Zs]) :- append(Xs, Ys, Zs).
@@ -72,7 +79,7 @@ def elements(number):
 
 
 class Cut(Exception):
-    """A session took too long, or too much memory."""
+    """A session took too long or too much memory, or didn't end well."""
 
 
 def memory(child):
@@ -97,26 +104,36 @@ class Bench:
         Path(path).write_text(text)
         return path
 
-    def session(self, source, lines, words=(), program=None, rounds=ROUNDS):
-        """The least seconds of some sessions, the peak memory in KB of one more, and what is printed."""
-        command = [program or self.program, *words, self.file("program.pl", source)]
-        asked = self.file("input", "\n".join(lines) + "\n")
-        printed, most = os.path.join(self.folder, "printed"), os.path.join(self.folder, "most")
-        least, spent, done = None, 0, 0
-        while done < rounds or 1 < rounds and done < MOST_ROUNDS and spent < 1:
-            took = self.once(command, asked, printed)
-            least = took if least is None else min(least, took)
-            spent, done = spent + took, done + 1
-            if took > LONGEST / 4:
-                break
-        self.once(["/usr/bin/time", "-f", "%M", "-o", most, *command], asked, printed)
-        return least, int(Path(most).read_text()), Path(printed).read_text()
+    def session(self, source, lines, words=(), program=None):
+        """The seconds of a session, its peak memory in KB, and what is printed."""
+        return self.seconds(source, lines, words, program), *self.peak(source, lines, words, program)
 
-    def once(self, command, asked, printed):
+    def seconds(self, source, lines, words=(), program=None):
+        """The least seconds of some sessions."""
+        command, asked = self.command(source, lines, words, program)
+        took = [self.once(command, asked)]
+        while took[-1] <= LONG and (len(took) < LEAST_ROUNDS or (len(took) < MOST_ROUNDS and sum(took) < ENOUGH)):
+            took.append(self.once(command, asked))
+        return min(took)
+
+    def peak(self, source, lines, words=(), program=None):
+        """The peak memory of a session in KB, and what is printed. A child's peak counts that of who started it, so `time` does."""
+        command, asked = self.command(source, lines, words, program)
+        most = os.path.join(self.folder, "most")
+        self.once(["/usr/bin/time", "-f", "%M", "-o", most, *command], asked)
+        return int(Path(most).read_text()), Path(self.folder, "printed").read_text()
+
+    def command(self, source, lines, words, program):
+        """What starts a session, and the file that it reads."""
+        return ([program or self.program, *words, self.file("program.pl", source)],
+                self.file("input", "\n".join(lines) + "\n"))
+
+    def once(self, command, asked):
         """The seconds of a session."""
-        with open(asked) as heard, open(printed, "w") as out:
+        with open(asked) as heard, open(os.path.join(self.folder, "printed"), "w") as out:
             start = time.perf_counter()
-            child = subprocess.Popen(command, stdin=heard, stdout=out, stderr=subprocess.DEVNULL, start_new_session=True)
+            child = subprocess.Popen(command, stdin=heard, stdout=out, stderr=subprocess.DEVNULL, env=surroundings(),
+                                     start_new_session=True)
             try:
                 return self.ended(child, start)
             finally:
@@ -125,7 +142,7 @@ class Bench:
                     child.wait()
 
     def ended(self, child, start):
-        """The seconds of a session, once it has ended. It is looked at seldom: each look at its memory makes it wait."""
+        """The seconds of a session, once it has ended. Its memory is looked at seldom: it waits while that is told."""
         descriptor = os.pidfd_open(child.pid)
         end = select.poll()
         end.register(descriptor, select.POLLIN)
@@ -145,7 +162,7 @@ class Bench:
         file = self.file("program.pl", source)
         times, last = [], "end: "
         with subprocess.Popen([self.program, *words, file], stdin=subprocess.PIPE, stdout=subprocess.PIPE, text=True,
-                              stderr=subprocess.DEVNULL) as talk:
+                              stderr=subprocess.DEVNULL, env=surroundings()) as talk:
             guard = threading.Timer(3 * LONGEST, talk.kill)
             guard.start()
             try:
@@ -191,13 +208,13 @@ def ports(printed):
 
 
 def swipl(bench, source, goal, runs):
-    """The seconds of a goal in SWI-Prolog, up to its first solution, the middle of so many runs left out of the start."""
+    """The processor's seconds of a goal in SWI-Prolog, up to its first solution: the least of three means of so many runs."""
     file = bench.file("program.pl", source)
     text = (f"set_prolog_flag(occurs_check, true), consult('{file}'), statistics(cputime, Start), "
             f"forall(between(1, {runs}, _), ignore({goal})), statistics(cputime, End), "
             f"Took is (End - Start) / {runs}, writeln(Took)")
-    out = subprocess.run(["swipl", "-q", "-f", "none", "-g", text, "-t", "halt"], capture_output=True, text=True, timeout=600)
-    return float(out.stdout)
+    command = ["swipl", "-q", "-f", "none", "-g", text, "-t", "halt"]
+    return min(float(subprocess.run(command, capture_output=True, text=True, timeout=600).stdout) for _ in range(3))
 
 
 def bare_and_whole(bench, source, goal, repeat, program=None):
@@ -274,8 +291,8 @@ def growing(bench):
 
     def passed_on():
         source = "t(0,a).\nt(N,f(T,T)) :- N > 0, M is N-1, t(M,T).\np(T) :- p(T).\n"
-        bare, _, _ = bench.session(source, ["?- t(17,_)."], ["--answers", "1"])
-        took, _, _ = bench.session(source, ["?- t(17,T), p(T)."])
+        bare = bench.seconds(source, ["?- t(17,_)."], ["--answers", "1"])
+        took = bench.seconds(source, ["?- t(17,T), p(T)."])
         return [took - bare]
 
     bench.measured([("a term of 2^18 symbols passed on, 100,000 ports", "s", 0.2)], passed_on)
@@ -283,14 +300,14 @@ def growing(bench):
     def walked_down():
         source = "last([X], X).\nlast([_|Xs], X) :- last(Xs, X).\n"
         goal = "last([" + ",".join(["a"] * 16000) + "], _)"
-        return [bench.session(source, [f"?- {goal}."], ["--answers", "1", "--budget", "1000000"])[0]]
+        return [bench.seconds(source, [f"?- {goal}."], ["--answers", "1", "--budget", "1000000"])]
 
     bench.measured([("a list of 16,000 elements walked down", "s", 0.2)], walked_down)
 
     def unification():
         left = ",".join(f"X{i}" for i in range(1, 41))
         right = ",".join(f"g(X{i},a,X{i})" for i in range(40))
-        took, _, _ = bench.session("q.\n", [f"?- f({left}) = f({right})."], ["--budget", "1"])
+        took = bench.seconds("q.\n", [f"?- f({left}) = f({right})."], ["--budget", "1"])
         return [took * 1000]
 
     bench.measured([("a unification whose terms double 40 times", "ms", 10)], unification)
@@ -310,8 +327,8 @@ def facts(bench):
 
     def measure(number):
         source = rule + "".join(f"e({i}, {i * 7 % number + 1}).\n" for i in range(1, number + 1))
-        bare, _, _ = bench.session(source, [f"?- {goal}."], ["--budget", "1"])
-        whole, _, _ = bench.session(source, [f"?- {goal}."], ["--budget", "1000000", "--answers", "1"])
+        bare = bench.seconds(source, [f"?- {goal}."], ["--budget", "1"])
+        whole = bench.seconds(source, [f"?- {goal}."], ["--budget", "1000000", "--answers", "1"])
         took[number] = whole - bare
         return source
 
@@ -329,27 +346,27 @@ def tables(bench):
         lines = []
         for i in range(20000):
             lines += [f"?- r({i}).", "wrong(1,1).", "yes."]
-        return [bench.session("r(X) :- q(X).\nq(_).\n", lines)[0]]
+        return [bench.seconds("r(X) :- q(X).\nq(_).\n", lines)]
 
     bench.measured([("20,000 times a query, its symptom and a reply", "s", 1)], repeated)
 
     def single():
         lines = ["?- count(20000).", "wrong(1,1)."] + ["yes."] * 20000
         words = ["--strategy", "single", "--answers", "1", "--budget", "1000000"]
-        return [bench.session("count(0).\ncount(N) :- N > 0, M is N - 1, count(M).\n", lines, words)[0]]
+        return [bench.seconds("count(0).\ncount(N) :- N > 0, M is N - 1, count(M).\n", lines, words)]
 
     bench.measured([("`--strategy single` over 20,000 suspects", "s", 1)], single)
 
     def operators():
         names = ",".join(f"a{i}" for i in range(100000))
-        return [bench.session(f":- op(700, xfx, [{names}]).\nq.\n", ["?- q."])[0]]
+        return [bench.seconds(f":- op(700, xfx, [{names}]).\nq.\n", ["?- q."])]
 
     bench.measured([("100,000 operators of one directive", "s", 1)], operators)
 
     def leap():
         names = ",".join(f"p{i}/0" for i in range(8000))
         lines = [f"trace(leap([{names}])).", "?- c(_)."]
-        return [bench.session("c(X) :- c(X).\n", lines, ["--budget", "300000"])[0]]
+        return [bench.seconds("c(X) :- c(X).\n", lines, ["--budget", "300000"])]
 
     bench.measured([("`leap` of 8,000 predicates, 300,000 ports", "s", 1)], leap)
 
@@ -358,7 +375,7 @@ def tables(bench):
         replies = bench.file("replies.pl", "\n".join(statements) + "\n")
         source = "p(0).\np(N) :- N > 0, M is N - 1, q(N, M), p(M).\nq(_, _).\n"
         words = ["--strategy", "top", "--answers", "1", "--oracle", replies]
-        return [bench.session(source, ["?- p(500).", "wrong(1,1)."] + ["no."] * 500, words)[0]]
+        return [bench.seconds(source, ["?- p(500).", "wrong(1,1)."] + ["no."] * 500, words)]
 
     bench.measured([("500 look-ups among 20,000 statements with variables", "s", 1)], known)
 
@@ -372,8 +389,8 @@ def diagnoses(bench):
     words = ["--answers", "1", "--budget", "1000000"]
     for what, source, goal in programs:
         def measure():
-            _, low, _ = bench.session(source, [f"?- {goal}."], words, rounds=1)
-            _, peak, out = bench.session(source, [f"?- {goal}.", "wrong(1, 1).", "stop."], words, rounds=1)
+            low, _ = bench.peak(source, [f"?- {goal}."], words)
+            peak, out = bench.peak(source, [f"?- {goal}.", "wrong(1, 1).", "stop."], words)
             times = bench.dialogue(source, f"?- {goal}.", ["wrong(1, 1)."] + ["yes."] * 5 + ["stop."], words)
             return [times[1], (peak - low - len(out) // 1024) / 1024, 1000 * max(times[2:-1])]
 
@@ -404,7 +421,7 @@ def diagnoses(bench):
     bench.measured([("the first diagnosis of a run of 1,000,000 ports, part of its time", "", 0.1)], part)
 
     def printed():
-        bare, _, _ = bench.session(colours(1000), ["?- maps."])
+        bare = bench.seconds(colours(1000), ["?- maps."])
         took, _, out = bench.session(colours(1000), ["?- maps."], ["--trace"])
         return [(took - bare) / ports(out) * 1e9]
 
@@ -420,13 +437,13 @@ def references(bench):
 
     def reply():
         file = bench.file("right.pl", right)
-        mine, _, _ = bench.session(source, told + ["yes."] * 2000, words)
+        mine = bench.seconds(source, told + ["yes."] * 2000, words)
         whole, _, out = bench.session(source, told, words + ["--reference", file])
         replies = out.count("(reference)")
         if not replies:
             raise Cut
         query = ["?- q(1)."] * 2000
-        bare, _, _ = bench.session(right, query, ["--budget", "1"])
+        bare = bench.seconds(right, query, ["--budget", "1"])
         runs, _, out = bench.session(right, query)
         print(f"{replies} replies of a reference, {ports(out)} ports each")
         return [1000 * ((whole - mine) / replies - (runs - bare) / len(query))]
@@ -435,25 +452,21 @@ def references(bench):
 
     def starts():
         lines = "".join(f"fact({i}, [a,b,c,d,e,f,g,h,i,j,k,l,m,n,o,p,q,r]).\n" for i in range(1, 19900))
-        return [bench.session("q.\n", [], ["--reference", bench.file("right.pl", lines)])[0]]
+        return [bench.seconds("q.\n", [], ["--reference", bench.file("right.pl", lines)])]
 
     bench.measured([("a session with a reference of 1 MB starts", "s", 0.2)], starts)
 
     def silent():
         endless = bench.file("endless.pl", "q(X) :- q(X).\n")
         asked = ["r(X) :- q(X).\nq(1).\n", ["?- r(1).", "wrong(1,1)."], ["--reference", endless]]
-        took, _, _ = bench.session(*asked)
-        run, _, _ = bench.session("q(X) :- q(X).\n", ["?- q(1)."])
+        took = bench.seconds(*asked)
+        run = bench.seconds("q(X) :- q(X).\n", ["?- q(1)."])
         return [took / run]
 
     bench.measured([("a question without a reply of a reference, times a run of 100,000 ports", "", 2)], silent)
 
 
 def main():
-    # as ./apd does
-    os.environ.setdefault("MALLOC_MMAP_THRESHOLD_", "131072")
-    os.environ.setdefault("MALLOC_TRIM_THRESHOLD_", "1048576")
-    os.environ.setdefault("GLIBC_TUNABLES", "glibc.malloc.hugetlb=1")
     words = sys.argv[1:]
     only = ""
     if words[:1] == ["--only"]:

@@ -1,8 +1,6 @@
 -- What is known of a tuple is known of its canonical form.
-use Rattle.std.proofs.Common.{◌≡◌, ℕ, ◌+◌, ◌<◌, ◌≤◌, List, [], ◌∷◌, ◌++◌, map, length, take, get_or, Option, Some, refl, sym, ◌∙◌, ap, subst}
+use Rattle.std.proofs.Common.{◌≡◌, ℕ, List, [], ◌∷◌, ◌++◌, map, Option, Some, refl, sym, ◌∙◌, ap, subst}
 use Rattle.std.specs.List.{flat_map}
-use Rattle.std.proofs.lemmas.List.{map_more, take_all}
-use Rattle.std.proofs.lemmas.List.Concat.{flat_map-append}
 use Rattle.apd_term.specs.Term.{Term, variable, apply, variables, size, IsGround}
 use Rattle.apd_term.specs.Canonical.{by_appearance, place_of}
 use Rattle.apd_term.specs.Tuple.{canonical_tuple, variables_of_tuple}
@@ -42,22 +40,6 @@ ground_canonical t g =
     let s = λ (v : ℕ). variable (place_of (by_appearance (variables_of_tuple t)) v) in
     let h = both_none (variables t.head) (flat_map variables t.body) g in
     ap (λ vs. vs ++ flat_map variables (map (apply s) t.body)) (none_after s t.head h.0) ∙ none_after_all s t.body h.1
-
--- the terms at some cells
-abbrev pub goal_terms : Stored → List Cell → List Term
-goal_terms s cs = map (λ (c : Cell). term_at s c.0) cs
-
-pub ground_next : (s : Stored) (cs : List Cell) (i : ℕ) (d : Cell) → i < length cs → flat_map variables (goal_terms s (take i cs)) ≡ [] → IsGround (term_at s (get_or cs i d).0) → flat_map variables (goal_terms s (take (i + 1) cs)) ≡ []
-ground_next s cs i d l e g =
-    let f = λ (c : Cell). term_at s c.0 in
-    ap (flat_map variables) (map_more f cs i d l)
-    ∙ flat_map-append variables (goal_terms s (take i cs)) (f (get_or cs i d) ∷ [])
-    ∙ ap (λ vs. vs ++ flat_map variables (f (get_or cs i d) ∷ [])) e
-    ∙ ap (λ vs. vs ++ []) g
-
-pub ground_whole : (s : Stored) (head : Cell) (cs : List Cell) (i : ℕ) → length cs ≤ i → flat_map variables (goal_terms s (take i cs)) ≡ [] → IsGround (term_at s head.0) → variables_of_tuple (tuple_of s head cs) ≡ []
-ground_whole s head cs i l e g =
-    ap (λ vs. vs ++ flat_map variables (goal_terms s cs)) g ∙ ap (λ xs. flat_map variables (goal_terms s xs)) (sym (take_all i cs l)) ∙ e
 
 -- what is known of the innermost frame's instance
 pub holds_nothing : (F : List Frame) → HoldsInnermost Nothing F

@@ -19,7 +19,7 @@ ghost use Rattle.apd_tuples.specs.Spots.{HavePlaces};
 ghost use Rattle.apd_tuples.specs.Tuples.{kept_tuples, tuple_of, AreThere, Holds};
 ghost use Rattle.apd_following.specs.Followed.{HoldsInnermost, IsKept, KeepsGoal, KeepsInstance, kept_of};
 
-use crate::facts::{fact_of_goal, fact_of_instance, fact_of_measure};
+use crate::facts::{fact_of_goal, fact_of_measure};
 use crate::tie::Tie;
 use apd_clauses::Program;
 use apd_frames::ahead::Ahead;
@@ -307,7 +307,7 @@ impl Following {
         Ok(Some(kept))
     }
 
-    /// The same however large it is.
+    /// The same however large it is. Nothing is told of it.
     pub fn keep_any(&mut self) -> Result<KeptFrame, AllocError>
         requires { 0 < length self.old.current }
         ensures frames { kept_of self.new ≡ kept_of self.old }
@@ -315,18 +315,7 @@ impl Following {
             (λ n. IsKept n self.old.current self.old.tuples self.new.tuples) }
         ensures err { OnErr result (self.new.tuples ≡ self.old.tuples) }
     {
-        let fact = self.fact()?;
-        self.keep_with(fact)
-    }
-
-    /// What is known of the innermost frame's instance.
-    fn fact(&self) -> Result<Fact, AllocError>
-        ensures { IfOk result (λ f. HoldsInnermost f self.now.current) }
-    {
-        match self.linked.links.get(self.linked.innermost) {
-            None => Ok(Fact::Nothing),
-            Some(link) => fact_of_instance(&self.linked.store, &link),
-        }
+        self.keep_with(Fact::Nothing)
     }
 
     /// Keeps the innermost frame's instance, of which this is known, and tells of the frame.

@@ -101,9 +101,9 @@ impl Tie {
             return Err(AllocError);
         }
         let live = store.live();
-        // After want of memory halfway the journal has a part of what was done: it follows no store any more.
         self.journal.make_room(live.variables)?;
         self.cells = live.cells.len();
+        // After want of memory halfway the journal has a part of what was done: it follows no store any more.
         self.holds = false;
         self.journal.follow(&live, self.followed)?;
         self.followed = live.notes.len();

@@ -50,8 +50,8 @@ fn cell_at(head: Cell, goals: &[Cell], place: usize) -> Cell
     goals[place - 1]
 }
 
-/// What is seen of a link's instance. No symbol is passed where the store tells that no term is long: whether variables stand
-/// in so small an instance is found as soon when it is asked for.
+/// What is seen of a link's instance. No symbol is passed where the store tells that no term is long: then it isn't seen
+/// whether variables stand there, and a diagnosis that makes a suspect of it reads it.
 #[inline(always)]
 pub fn measured(store: &mut Store, link: &LinkRef<'_>) -> Result<Measure, AllocError>
     requires { IsThere store.old link.now }

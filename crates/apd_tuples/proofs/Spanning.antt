@@ -1,5 +1,5 @@
 -- Spots as they are kept: what stays of them where goals are put behind.
-use Rattle.std.proofs.Common.{◌≡◌, ℕ, suc, zero, ◌+◌, ◌-◌, ◌<◌, ◌≤◌, List, [], ◌∷◌, ◌++◌, length, drop, take, get_or, refl, sym, ◌∙◌, ap, subst, arith, Option, Some, None, Result, Ok, Err}
+use Rattle.std.proofs.Common.{◌≡◌, ℕ, suc, zero, ◌+◌, ◌-◌, ◌≤◌, List, [], ◌∷◌, ◌++◌, length, drop, take, refl, sym, ◌∙◌, ap, subst, arith, Option, Some, None, Result, Ok, Err}
 use Rattle.std.specs.Option.{option_map}
 use Rattle.std.specs.Prelude.{slice_get, OnErr}
 use Rattle.std.proofs.lemmas.Option.{slice_get-map}
@@ -8,7 +8,7 @@ use Rattle.std.proofs.Math.Seq.{drop-append_seam}
 use Rattle.apd_unify.specs.declared.store.Cell.{Cell}
 use Rattle.apd_past.specs.declared.past.PastCell.{PastCell}
 use Rattle.apd_tuples.specs.declared.spots.SpotRow.{SpotRow}
-use Rattle.apd_tuples.specs.Spots.{Place, goals_in, kept_cell, kept_cells, spot_in, spots_in, EndsWith, HasMore, HavePlaces, IsSpanned, AreSpanned}
+use Rattle.apd_tuples.specs.Spots.{Place, goals_in, kept_cell, kept_cells, spot_in, spots_in, EndsWith, HasMore, IsSpanned, AreSpanned}
 
 abbrev pub with_goals : SpotRow → List PastCell → Place
 with_goals r goals = record { head = r.head; goals = goals; moment = r.moment.0; fact = r.fact }
@@ -82,12 +82,6 @@ ends_all there cells from i h n l m = record {
       sym (take-append-drop from there)
       ∙ ap (λ e. take from there ++ e) (sym (take_all i (drop from there) (omega (arith, length-drop from there, n, l, m))) ∙ h ∙ ap kept_cells (take_all i cells m));
 }
-
--- a cell of some that have places
-pub has_place : (n : ℕ) (cs : List Cell) (i : ℕ) (d : Cell) → HavePlaces n cs → i < length cs → (get_or cs i d).0 < n
-has_place n [] i d h l = absurd (omega arith)
-has_place n (c ∷ cs) zero d h l = h.0
-has_place n (c ∷ cs) (suc i) d h l = has_place n cs i d h.1 (omega arith)
 
 -- what holds at all holds after an error
 pub on_err_always : {X E : Type 0} (r : Result X E) (P : Type 0) → P → OnErr r P

@@ -110,8 +110,8 @@ fn ends_with(there: &[PastCell], cells: &[Cell]) -> bool
     true
 }
 
-/// Puts cells behind the others, unless the last ones are these: a frame that takes over a built-in goal's exit was mostly
-/// kept just before with the same goals.
+/// Puts cells behind the others, unless the last ones are these: a frame that takes over the exit of a built-in goal or of a
+/// fact was kept just before with the same goals.
 #[inline(always)]
 fn put_if_others(there: &mut Vec<PastCell>, cells: &[Cell]) -> Result<(), AllocError>
     ensures ok { OnOk result (EndsWith there.new.items cells.now) }

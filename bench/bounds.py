@@ -420,6 +420,12 @@ def diagnoses(bench):
 
     bench.measured([("the first diagnosis of a run of 1,000,000 ports, part of its time", "", 0.1)], part)
 
+    def counted():
+        times = bench.dialogue(COUNT, "?- count(166666).", ["wrong(1, 1)."], words)
+        return [times[1] / times[0]]
+
+    bench.measured([("the first diagnosis of a counting loop of 1,000,000 ports, part of its time", "", 0.1)], counted)
+
     def printed():
         bare = bench.seconds(colours(1000), ["?- maps."])
         took, _, out = bench.session(colours(1000), ["?- maps."], ["--trace"])

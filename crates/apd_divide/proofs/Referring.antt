@@ -2,9 +2,8 @@
 -- label of each goal that it solved.
 use Rattle.std.proofs.Common.{◌≡◌, ℕ, zero, suc, ◌<◌, Bool, true, false, List, [], ◌∷◌, length, Option, Some, None, sym, ◌∙◌, ap, subst, arith}
 use Rattle.std.specs.Prelude.{if◌then◌else◌, IfSome}
-use Rattle.std.specs.List.{flat_map}
 use Rattle.std.proofs.lemmas.Option.{slice_get_within}
-use Rattle.apd_term.specs.Term.{Term, variables, predicate_of}
+use Rattle.apd_term.specs.Term.{Term, predicate_of, IsGround}
 use Rattle.apd_term.specs.Canonical.{canonical}
 use Rattle.apd_term.specs.Tuple.{variables_of_tuple}
 use Rattle.apd_term.specs.declared.term.Pred.{Pred}
@@ -16,7 +15,6 @@ use Rattle.apd_record.specs.declared.rows.BoxRow.{BoxRow}
 use Rattle.apd_record.specs.Index.{id_of}
 use Rattle.apd_record.specs.Sound.{IsKept}
 use Rattle.apd_record.specs.Reading.{point_of, exits_to}
-use Rattle.apd_record.proofs.Missing.{both_empty}
 use Rattle.apd_divide.specs.declared.growing.PendingCall.{PendingCall}
 use Rattle.apd_divide.specs.Exits.{IsLabelled}
 use Rattle.apd_divide.specs.Solved.{IsSolvedBy, AreSolved}
@@ -61,10 +59,9 @@ ground_calls R e label pred goals g is =
 pub exit_within : (R : Recorded) (m x : ℕ) (a : Term) → IsSolvedBy R m a x → x < length R.points
 exit_within R m x a s = slice_get_within R.points x s.point s.there
 
-pub ground_label : (R : Recorded) (m x : ℕ) (a : Term) → IsSolvedBy R m a x → IfSome (point_at R x) (λ (p : Point). variables_of_tuple p.tuple ≡ []) → (point_of R x).tuple.head ≡ canonical a
+pub ground_label : (R : Recorded) (m x : ℕ) (a : Term) → IsSolvedBy R m a x → IfSome (point_at R x) (λ (p : Point). IsGround p.tuple.head) → (point_of R x).tuple.head ≡ canonical a
 ground_label R m x a s h =
-    let g : variables_of_tuple s.point.tuple ≡ [] = subst (λ o. IfSome o (λ (p : Point). variables_of_tuple p.tuple ≡ [])) s.there h in
-    let head = (both_empty (variables s.point.tuple.head) (flat_map variables s.point.tuple.body) g).0 in
+    let head : IsGround s.point.tuple.head = subst (λ o. IfSome o (λ (p : Point). IsGround p.tuple.head)) s.there h in
     let same : s.point.tuple.head ≡ a = sym (apply-ground s.instance.0 s.point.tuple.head head) ∙ s.instance.1 in
     ap (λ (p : Point). p.tuple.head) (point-is R x s.point s.there) ∙ canonical-ground s.point.tuple.head head ∙ ap canonical same
 

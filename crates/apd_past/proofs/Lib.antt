@@ -4,6 +4,7 @@ pub mod Bindings
 pub mod Variables
 pub mod Leading
 pub mod Tuples
+pub mod Grounding
 pub mod Marks
 pub mod Following
 pub mod Keeping

@@ -3,6 +3,7 @@
 #![tactic(auto)]
 
 pub mod deeds;
+mod ground;
 pub mod journal;
 pub mod laws;
 pub mod maybe_number;

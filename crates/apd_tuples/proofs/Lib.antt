@@ -2,3 +2,4 @@ pub mod Spanning
 pub mod Unpacking
 pub mod Standing
 pub mod Predicates
+pub mod Grounds

@@ -89,13 +89,16 @@ module _ (d : Done) (s : Stored) (f : Follows d s) (sound : IsSound s) (head : C
       ∙ ap (λ ts. ts ++ kept_tuple (history_of s.cells d) (placed head goals k fact) ∷ []) (tuples_same old (history_of s.cells d) ps moments h)
       ∙ ap (λ t. kept_tuples old ps ++ t ∷ []) placed_tuple
 
--- what is known of a kept tuple
-pub got_fact : (h : History) (ps : List Place) (i : ℕ) (now : List Tuple) (p : Place) → kept_tuples h ps ≡ now → AreThere h ps → slice_get ps i ≡ Some p → (t : Tuple) → slice_get now i ≡ Some t → Holds p.fact t
-got_fact h ps i now p view there at t is =
+-- a kept tuple is what its place tells
+pub got_tuple : (h : History) (ps : List Place) (i : ℕ) (now : List Tuple) (p : Place) → kept_tuples h ps ≡ now → slice_get ps i ≡ Some p → (t : Tuple) → slice_get now i ≡ Some t → kept_tuple h p ≡ t
+got_tuple h ps i now p view at t is =
     let both : Some (kept_tuple h p) ≡ Some t =
     sym (slice_get-map (kept_tuple h) ps i ∙ ap (option_map (kept_tuple h)) at) ∙ ap (λ ts. slice_get ts i) view ∙ is in
-    let same : kept_tuple h p ≡ t = cc in
-    subst (Holds p.fact) same (there_get h ps i p there at).fact
+    cc
+
+-- what is known of a kept tuple
+pub got_fact : (h : History) (ps : List Place) (i : ℕ) (now : List Tuple) (p : Place) → kept_tuples h ps ≡ now → AreThere h ps → slice_get ps i ≡ Some p → (t : Tuple) → slice_get now i ≡ Some t → Holds p.fact t
+got_fact h ps i now p view there at t is = subst (Holds p.fact) (got_tuple h ps i now p view at t is) (there_get h ps i p there at).fact
 
 -- a kept tuple by its number
 pub got_none : (h : History) (ps : List Place) (i : ℕ) (now : List Tuple) → kept_tuples h ps ≡ now → slice_get ps i ≡ None → None ≡ slice_get now i

@@ -2,13 +2,14 @@
 
 ghost use Rattle.std.specs.Prelude.{◌≡◌, [], length, slice_get, IfOk, IfSome, Some};
 ghost use Rattle.std.specs.Bool.{OnTrue};
-ghost use Rattle.apd_term.specs.Term.{Term, predicate_of, size};
+ghost use Rattle.apd_term.specs.Term.{Term, predicate_of, size, IsGround};
 ghost use Rattle.apd_term.specs.Tuple.{variables_of_tuple};
 ghost use Rattle.apd_term.specs.declared.tuple.Tuple.{Tuple};
 ghost use Rattle.apd_cells.specs.First.{first_symbol};
-ghost use Rattle.apd_tuples.specs.Tuples.{kept_tuples, AreThere, Holds};
+ghost use Rattle.apd_tuples.specs.Spots.{spot_at};
+ghost use Rattle.apd_tuples.specs.Tuples.{kept_tuple, kept_tuples, AreThere, Holds, IsThere};
 
-use crate::spots::{Fact, Spots};
+use crate::spots::{Fact, Spot, Spots};
 use apd_past::past::Past;
 use apd_past::writing::Page;
 use apd_term::{Pred, Sym, Tuple};
@@ -49,16 +50,6 @@ fn size_in(fact: Fact) -> Option<u32>
     }
 }
 
-/// Whether the fact says that no variable stands in a tuple.
-fn says_ground(fact: Fact) -> bool
-    ensures { (t : Tuple) → Holds fact t → OnTrue result (variables_of_tuple t ≡ []) }
-{
-    match fact {
-        Fact::Ground => true,
-        _ => false,
-    }
-}
-
 /// The predicate of a term with this first symbol; none where it has none.
 fn pred_of(symbol: Sym) -> Option<Pred>
     ensures { (t : Term) → first_symbol t ≡ symbol → result ≡ predicate_of t }
@@ -66,6 +57,30 @@ fn pred_of(symbol: Sym) -> Option<Pred>
     match symbol {
         Sym::Fun(name, arity) => Some(Pred { name, arity }),
         _ => None,
+    }
+}
+
+/// Whether no variable stands in the tuple at a spot: that is known, or it is seen.
+fn is_spot_ground(past: &Past, spot: &Spot<'_>) -> bool
+    requires { IsThere past.now (spot_at spot.now) }
+    ensures { OnTrue result (variables_of_tuple (kept_tuple past.now (spot_at spot.now)) ≡ []) }
+{
+    match spot.fact {
+        Fact::Ground => true,
+        _ => past
+            .at(spot.moment)
+            .is_tuple_seen_ground(spot.head, spot.goals),
+    }
+}
+
+/// The same of its head.
+fn is_spot_head_ground(past: &Past, spot: &Spot<'_>) -> bool
+    requires { IsThere past.now (spot_at spot.now) }
+    ensures { OnTrue result (IsGround (kept_tuple past.now (spot_at spot.now)).head) }
+{
+    match spot.fact {
+        Fact::Ground => true,
+        _ => past.at(spot.moment).is_seen_ground(spot.head),
     }
 }
 
@@ -107,15 +122,24 @@ impl KeptTuples {
         }
     }
 
-    /// Whether no variable stands in that with this number; false where it isn't known without a look
-    /// at it.
+    /// Whether no variable stands in that with this number; false where that is neither known nor seen at once.
     pub fn is_ground(&self, number: u32) -> bool
         ensures { (t : Tuple) → slice_get self.now number ≡ Some t →
             OnTrue result (variables_of_tuple t ≡ []) }
     {
         match self.spots.get(number as usize) {
             None => false,
-            Some(spot) => says_ground(spot.fact),
+            Some(spot) => is_spot_ground(&self.past, &spot),
+        }
+    }
+
+    /// The same of its head.
+    pub fn is_head_ground(&self, number: u32) -> bool
+        ensures { (t : Tuple) → slice_get self.now number ≡ Some t → OnTrue result (IsGround t.head) }
+    {
+        match self.spots.get(number as usize) {
+            None => false,
+            Some(spot) => is_spot_head_ground(&self.past, &spot),
         }
     }
 

@@ -1,8 +1,16 @@
+use Rattle.std.proofs.Common.{◌≡◌, [], subst}
+use Rattle.std.specs.Bool.{OnTrue}
+use Rattle.apd_term.specs.Tuple.{variables_of_tuple}
+use Rattle.apd_term.specs.declared.tuple.Tuple.{Tuple}
 use Rattle.apd_tuples.specs.Spots.{spot_at}
-use Rattle.apd_tuples.proofs.Standing.{got_fact}
+use Rattle.apd_tuples.proofs.Standing.{got_tuple, there_get}
 use Rattle.apd_tuples.proofs.tuples.KeptTuples.is_ground.Goals as goal
+
+pub is_spot_ground-requires : goal.is_spot_ground-requires
+is_spot_ground-requires c = there_get c.self.inside.past c.self.inside.spots c.args.number (spot_at c.in-Some.spot) c.self.invariant c.in-Some.ensures
 
 pub returns-in-Some : goal.returns-in-Some
 returns-in-Some c = λ t is.
-    c.says_ground.ensures t
-    (got_fact c.self.inside.past c.self.inside.spots c.args.number c.args.self.now (spot_at c.in-Some.spot) c.self.view_is c.self.invariant c.in-Some.ensures t is)
+    subst (λ (z : Tuple). OnTrue c.is_spot_ground.result (variables_of_tuple z ≡ []))
+    (got_tuple c.self.inside.past c.self.inside.spots c.args.number c.args.self.now (spot_at c.in-Some.spot) c.self.view_is c.in-Some.ensures t is)
+    c.is_spot_ground.ensures

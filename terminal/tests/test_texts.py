@@ -46,7 +46,9 @@ class Texts(unittest.TestCase):
         faults = set(re.findall(r"^\| `([A-Z][a-z]\w+)", text, re.MULTILINE))
         self.assertGreaterEqual(len(refusals), 15)
         self.assertGreaterEqual(len(faults), 35)
-        statuses = {str(status) for status in range(11)}
+        statuses = set(re.findall(r"^\| (\d+) \|", text, re.MULTILINE))
+        self.assertEqual(statuses, {str(status) for status in range(len(statuses))})
+        self.assertGreaterEqual(len(statuses), 12)
         for name in refusals | faults | statuses | {"wrong", "loop", "known", "--budget", "?-"}:
             self.assertTrue(manual.explain(name), name)
 

@@ -11,7 +11,7 @@ mod values;
 
 pub use file::{OracleText, Stated, oracle_file};
 pub use laws::one_statement_list;
-pub use scripted::{Scripted, fits_body};
+pub use scripted::{Scripted, fits_asked};
 pub use statements::FileForm;
 pub use told::{truth_told, values_told, word_told};
 pub use values::{are_true_if_builtin, unknown_count, variable_count};

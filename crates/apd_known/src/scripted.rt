@@ -14,7 +14,7 @@ use std::alloc::{AllocError, Global};
 /// # Errors
 ///
 /// Where there was no memory.
-pub fn fits_body(alloc: Global, tuple: &Tuple, values: &Atoms) -> Result<bool, AllocError>
+fn fits_body(alloc: Global, tuple: &Tuple, values: &Atoms) -> Result<bool, AllocError>
     ensures { IfOk result (λ b. b ≡ fits_body tuple.now values.now) }
 {
     if !are_ground(values) || values.len() != unknown_count(alloc, tuple)? {
@@ -25,7 +25,11 @@ pub fn fits_body(alloc: Global, tuple: &Tuple, values: &Atoms) -> Result<bool, A
 }
 
 /// Whether a reply fits what is asked.
-fn fits(alloc: Global, asked: &Asked, reply: &Reply) -> Result<bool, AllocError>
+///
+/// # Errors
+///
+/// Where there was no memory.
+pub fn fits_asked(alloc: Global, asked: &Asked, reply: &Reply) -> Result<bool, AllocError>
     ensures { IfOk result (λ b. b ≡ fits_asked asked.now reply.now) }
 {
     match (&asked.question, reply) {
@@ -50,7 +54,7 @@ fn scripted_reply(
     'pairs: for i in 0..pairs.len() {
         let reply = pairs.reply(i);
         let is_same = is_same_form(alloc, pairs.question(i), &asked.question)?;
-        if is_same && fits(alloc, asked, reply)? {
+        if is_same && fits_asked(alloc, asked, reply)? {
             return Ok(Some(reply.copy(alloc)?));
         }
     }

@@ -135,7 +135,8 @@ impl KeptTuples {
 
     /// The same of its head.
     pub fn is_head_ground(&self, number: u32) -> bool
-        ensures { (t : Tuple) → slice_get self.now number ≡ Some t → OnTrue result (IsGround t.head) }
+        ensures { (t : Tuple) → slice_get self.now number ≡ Some t →
+            OnTrue result (IsGround t.head) }
     {
         match self.spots.get(number as usize) {
             None => false,

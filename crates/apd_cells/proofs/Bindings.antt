@@ -1,17 +1,15 @@
 -- What one binding does.
-use Rattle.std.proofs.Common.{◌≡◌, ◌≢◌, ◌⊎◌, inl, inr, ℕ, ◌-◌, ◌≤◌, List, [], ◌∷◌, length, refl, sym, ◌∙◌, ap, subst, arith, ◌==◌, Bool, true, false, if◌then◌else◌}
+use Rattle.std.proofs.Common.{◌≡◌, ◌≢◌, ◌⊎◌, inl, inr, ℕ, suc, ◌-◌, ◌≤◌, List, [], ◌∷◌, length, sym, ◌∙◌, ap, subst, arith}
 use Rattle.std.proofs.lemmas.Bool.{cases_eq}
 use Rattle.apd_term.specs.Term.{Term, variable, apply, variables, IsAmong, Occurs}
 use Rattle.apd_term.specs.Substitution.{term_for, single}
 use Rattle.apd_term.proofs.Among.{IsAmong-flat_map}
 use Rattle.apd_term.proofs.Pairs.{term_for-same, term_for-other}
 use Rattle.apd_term.proofs.Applying.{apply-followed_by, variables-apply}
-use Rattle.std.specs.Bool.{Decides}
-use Rattle.std.proofs.lemmas.Bool.Decides.{Decides-eqb}
 use Rattle.apd_cells.specs.declared.heap.TrailNote.TheVariants.{Bound}
 use Rattle.apd_cells.specs.Stored.{Stored}
 use Rattle.apd_cells.specs.Store.{meaning, term_at, bound, before_notes, at_mark, Keeps}
-use Rattle.apd_cells.proofs.Undoing.{at_mark-here}
+use Rattle.apd_cells.proofs.Undoing.{at_mark-here, before_more}
 
 -- the variables of a term with a single pair applied
 pub Occurs-single : (v : ℕ) (t x : Term) (w : ℕ) → ¬ Occurs v t → Occurs w (apply (term_for (single v t)) x) → (v ≢ w) × (Occurs w t ⊎ Occurs w x)
@@ -36,20 +34,12 @@ Occurs-single v t x w n o =
 pub meaning-bound-applied : (s : Stored) (v to : ℕ) (t : Term) → apply (meaning s.cells (Bound v to ∷ s.trail)) t ≡ apply (term_for (single v (term_at s to))) (apply (meaning s.cells s.trail) t)
 meaning-bound-applied s v to t = sym (apply-followed_by (meaning s.cells s.trail) (term_for (single v (term_at s to))) t)
 
-pub not_zero : {X : Type 0} (k : ℕ) (x y : X) → k ≢ 0 → (if k == 0 then x else y) ≡ y
-not_zero k x y n = by (k == 0) (Decides-eqb k 0)
-  where
-    by : (b : Bool) → Decides b (k ≡ 0) → (if b then x else y) ≡ y
-    by true d = absurd (n (d.0 refl))
-    by false d = refl
-
 -- a binding changes nothing at an earlier mark
 pub at_mark-bound : (k : ℕ) (s : Stored) (v to : ℕ) → k ≤ length s.trail → at_mark k (bound s v to) ≡ at_mark k s
 at_mark-bound k s v to l =
-    let j = length (Bound v to ∷ s.trail) - k in
-    let e : j - 1 ≡ length s.trail - k = omega arith in
-    not_zero j (bound s v to) (before_notes s.cells s.variables s.trail (j - 1)) (omega arith)
-    ∙ ap (before_notes s.cells s.variables s.trail) e
+    let e : length (Bound v to ∷ s.trail) - k ≡ suc (length s.trail - k) = omega arith in
+    ap (before_notes s.cells s.variables (Bound v to ∷ s.trail)) e
+    ∙ before_more s.cells s.variables (Bound v to) s.trail (length s.trail - k)
 
 pub Keeps-bound : (old s : Stored) (v to : ℕ) → Keeps old s → Keeps old (bound s v to)
 Keeps-bound old s v to h = (omega (arith, h.0), at_mark-bound (length old.trail) s v to h.0 ∙ h.1)

@@ -1,6 +1,6 @@
 -- What loading keeps, and how marks nest.
 use Rattle.std.proofs.Common.{◌≡◌, ℕ, zero, suc, ◌+◌, ◌-◌, ◌<◌, ◌≤◌, List, [], ◌∷◌, ◌++◌, length, take, refl, sym, ◌∙◌, ap, arith}
-use Rattle.std.proofs.lemmas.List.{take_at, drop_at}
+use Rattle.std.proofs.lemmas.List.{length-drop, take_at, drop_at}
 use Rattle.apd_term.specs.declared.term.Sym.{Sym}
 use Rattle.apd_term.specs.Term.{Term, apply, spell, first_of, read_all}
 use Rattle.apd_term.specs.Canonical.{shifted}
@@ -11,8 +11,8 @@ use Rattle.apd_cells.specs.Stored.{Stored}
 use Rattle.apd_cells.specs.Store.{written, meaning, term_at, IsStore, before_notes, at_mark, Keeps, loaded}
 use Rattle.apd_cells.proofs.Written.{written-append}
 use Rattle.apd_cells.proofs.Meaning.{HasCells-of}
-use Rattle.apd_cells.proofs.Undoing.{before_none}
-use Rattle.apd_cells.proofs.Bindings.{not_zero, Keeps-self}
+use Rattle.apd_cells.proofs.Undoing.{before_more, before_none, before_trail}
+use Rattle.apd_cells.proofs.Bindings.{Keeps-self}
 
 -- the meaning of variables stays
 pub meaning-loaded : (s : Stored) (t : Term) (base v : ℕ) → meaning (loaded s t base).cells (loaded s t base).trail v ≡ meaning s.cells s.trail v
@@ -59,35 +59,19 @@ pub before_twice : (cells : List Sym) (n : ℕ) (notes : List TrailNote) (j k : 
 before_twice cells n [] j k = refl
 before_twice cells n (Loaded c m ∷ notes) zero k = ap (before_notes cells n (Loaded c m ∷ notes)) (omega arith)
 before_twice cells n (Loaded c m ∷ notes) (suc j) k =
-    let e : suc j - 1 ≡ j = omega arith in
-    let f : suc j + k - 1 ≡ j + k = omega arith in
-    let here : Stored = record { cells = cells; variables = n; trail = Loaded c m ∷ notes } in
-    ap (λ (s : Stored). before_notes s.cells s.variables s.trail k) (not_zero (suc j) here (before_notes (take c cells) m notes (suc j - 1)) (omega arith) ∙ ap (before_notes (take c cells) m notes) e)
+    let f : suc j + k ≡ suc (j + k) = omega arith in
+    ap (λ (s : Stored). before_notes s.cells s.variables s.trail k) (before_more cells n (Loaded c m) notes j)
     ∙ before_twice (take c cells) m notes j k
-    ∙ sym (not_zero (suc j + k) here (before_notes (take c cells) m notes (suc j + k - 1)) (omega arith) ∙ ap (before_notes (take c cells) m notes) f)
+    ∙ sym (ap (before_notes cells n (Loaded c m ∷ notes)) f ∙ before_more cells n (Loaded c m) notes (j + k))
 before_twice cells n (Bound v c ∷ notes) zero k = ap (before_notes cells n (Bound v c ∷ notes)) (omega arith)
 before_twice cells n (Bound v c ∷ notes) (suc j) k =
-    let e : suc j - 1 ≡ j = omega arith in
-    let f : suc j + k - 1 ≡ j + k = omega arith in
-    let here : Stored = record { cells = cells; variables = n; trail = Bound v c ∷ notes } in
-    ap (λ (s : Stored). before_notes s.cells s.variables s.trail k) (not_zero (suc j) here (before_notes cells n notes (suc j - 1)) (omega arith) ∙ ap (before_notes cells n notes) e)
+    let f : suc j + k ≡ suc (j + k) = omega arith in
+    ap (λ (s : Stored). before_notes s.cells s.variables s.trail k) (before_more cells n (Bound v c) notes j)
     ∙ before_twice cells n notes j k
-    ∙ sym (not_zero (suc j + k) here (before_notes cells n notes (suc j + k - 1)) (omega arith) ∙ ap (before_notes cells n notes) f)
+    ∙ sym (ap (before_notes cells n (Bound v c ∷ notes)) f ∙ before_more cells n (Bound v c) notes (j + k))
 
 pub length-before : (cells : List Sym) (n : ℕ) (notes : List TrailNote) (j : ℕ) → length (before_notes cells n notes j).trail ≡ length notes - j
-length-before cells n [] j = omega arith
-length-before cells n (Loaded c m ∷ notes) zero = omega arith
-length-before cells n (Loaded c m ∷ notes) (suc j) =
-    let e : suc j - 1 ≡ j = omega arith in
-    let here : Stored = record { cells = cells; variables = n; trail = Loaded c m ∷ notes } in
-    let q = ap (λ (s : Stored). length s.trail) (not_zero (suc j) here (before_notes (take c cells) m notes (suc j - 1)) (omega arith) ∙ ap (before_notes (take c cells) m notes) e) in
-    omega (arith, q, length-before (take c cells) m notes j)
-length-before cells n (Bound v c ∷ notes) zero = omega arith
-length-before cells n (Bound v c ∷ notes) (suc j) =
-    let e : suc j - 1 ≡ j = omega arith in
-    let here : Stored = record { cells = cells; variables = n; trail = Bound v c ∷ notes } in
-    let q = ap (λ (s : Stored). length s.trail) (not_zero (suc j) here (before_notes cells n notes (suc j - 1)) (omega arith) ∙ ap (before_notes cells n notes) e) in
-    omega (arith, q, length-before cells n notes j)
+length-before cells n notes j = ap length (before_trail cells n notes j) ∙ length-drop j notes
 
 pub at_mark-at_mark : (i j : ℕ) (s : Stored) → i ≤ j → j ≤ length s.trail → at_mark i (at_mark j s) ≡ at_mark i s
 at_mark-at_mark i j s l m =

@@ -17,7 +17,7 @@ use Rattle.apd_cells.specs.Known.{HasExtent, IsKnown, AreKnown, AreRecent, AreSi
 use Rattle.apd_cells.specs.Stored.{Stored}
 use Rattle.apd_cells.specs.Store.{written, meaning, term_at, before_notes, at_mark, HasCells, MayBind, IsStore, IsSound}
 use Rattle.apd_cells.specs.Undone.{HasMoreCells}
-use Rattle.apd_cells.proofs.Bindings.{not_zero}
+use Rattle.apd_cells.proofs.Undoing.{before_more}
 use Rattle.apd_cells.proofs.Meaning.{HasCells-of}
 use Rattle.apd_cells.proofs.Written.{written-append}
 
@@ -74,16 +74,10 @@ sound_before cells n [] zero h = h
 sound_before cells n [] (suc j) h = h
 sound_before cells n (Loaded c m ∷ notes) zero h = h
 sound_before cells n (Loaded c m ∷ notes) (suc j) h =
-    let here : Stored = record { cells = cells; variables = n; trail = Loaded c m ∷ notes } in
-    let e : suc j - 1 ≡ j = omega arith in
-    subst IsSound (sym (not_zero (suc j) here (before_notes (take c cells) m notes (suc j - 1)) (omega arith) ∙ ap (before_notes (take c cells) m notes) e))
-    (sound_before (take c cells) m notes j h.1.1.1)
+    subst IsSound (sym (before_more cells n (Loaded c m) notes j)) (sound_before (take c cells) m notes j h.1.1.1)
 sound_before cells n (Bound v c ∷ notes) zero h = h
 sound_before cells n (Bound v c ∷ notes) (suc j) h =
-    let here : Stored = record { cells = cells; variables = n; trail = Bound v c ∷ notes } in
-    let e : suc j - 1 ≡ j = omega arith in
-    subst IsSound (sym (not_zero (suc j) here (before_notes cells n notes (suc j - 1)) (omega arith) ∙ ap (before_notes cells n notes) e))
-    (sound_before cells n notes j h.1)
+    subst IsSound (sym (before_more cells n (Bound v c) notes j)) (sound_before cells n notes j h.1)
 
 pub sound_at_mark : (k : ℕ) (s : Stored) → IsSound s → IsSound (at_mark k s)
 sound_at_mark k s h = sound_before s.cells s.variables s.trail (length s.trail - k) h
@@ -106,22 +100,13 @@ more_before : (cells more : List Sym) (n n' : ℕ) (notes : List TrailNote) (j :
 more_before cells more n n' [] j h l = record { more = more; cells = refl; variables = l; trail = refl }
 more_before cells more n n' (Loaded c m ∷ notes) zero h l = record { more = more; cells = refl; variables = l; trail = refl }
 more_before cells more n n' (Loaded c m ∷ notes) (suc j) h l =
-    let here : Stored = record { cells = cells; variables = n; trail = Loaded c m ∷ notes } in
-    let there : Stored = record { cells = cells ++ more; variables = n'; trail = Loaded c m ∷ notes } in
-    let e : suc j - 1 ≡ j = omega arith in
-    let a = not_zero (suc j) here (before_notes (take c cells) m notes (suc j - 1)) (omega arith) ∙ ap (before_notes (take c cells) m notes) e in
-    let b = not_zero (suc j) there (before_notes (take c (cells ++ more)) m notes (suc j - 1)) (omega arith) ∙ ap (before_notes (take c (cells ++ more)) m notes) e
-    ∙ ap (λ z. before_notes z m notes j) (take-append-le c cells more h.1.0) in
+    let a = before_more cells n (Loaded c m) notes j in
+    let b = before_more (cells ++ more) n' (Loaded c m) notes j ∙ ap (λ z. before_notes z m notes j) (take-append-le c cells more h.1.0) in
     subst (λ z. HasMoreCells (before_notes cells n (Loaded c m ∷ notes) (suc j)) z) (a ∙ sym b) (more_self (before_notes cells n (Loaded c m ∷ notes) (suc j)))
 more_before cells more n n' (Bound v c ∷ notes) zero h l = record { more = more; cells = refl; variables = l; trail = refl }
 more_before cells more n n' (Bound v c ∷ notes) (suc j) h l =
-    let here : Stored = record { cells = cells; variables = n; trail = Bound v c ∷ notes } in
-    let there : Stored = record { cells = cells ++ more; variables = n'; trail = Bound v c ∷ notes } in
-    let e : suc j - 1 ≡ j = omega arith in
-    let a = not_zero (suc j) here (before_notes cells n notes (suc j - 1)) (omega arith) ∙ ap (before_notes cells n notes) e in
-    let b = not_zero (suc j) there (before_notes (cells ++ more) n' notes (suc j - 1)) (omega arith) ∙ ap (before_notes (cells ++ more) n' notes) e in
-    subst (λ z. HasMoreCells z (before_notes (cells ++ more) n' (Bound v c ∷ notes) (suc j))) (sym a)
-    (subst (λ z. HasMoreCells (before_notes cells n notes j) z) (sym b) (more_before cells more n n' notes j h.1 l))
+    subst (λ z. HasMoreCells z (before_notes (cells ++ more) n' (Bound v c ∷ notes) (suc j))) (sym (before_more cells n (Bound v c) notes j))
+    (subst (λ z. HasMoreCells (before_notes cells n notes j) z) (sym (before_more (cells ++ more) n' (Bound v c) notes j)) (more_before cells more n n' notes j h.1 l))
 
 pub more_at_mark : (s t : Stored) (k : ℕ) → HasMoreCells s t → IsSound s → HasMoreCells (at_mark k s) (at_mark k t)
 more_at_mark s t k h i =

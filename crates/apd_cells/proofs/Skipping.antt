@@ -4,7 +4,7 @@ use Rattle.std.specs.List.{flat_map}
 use Rattle.std.proofs.lemmas.List.{length-drop}
 use Rattle.std.proofs.lemmas.List.Concat.{flat_map-append}
 use Rattle.apd_term.specs.declared.term.Sym.{Sym}
-use Rattle.apd_term.specs.Term.{Term, size, apply, spell, IsAmong, variables}
+use Rattle.apd_term.specs.Term.{Term, size, apply, spell, IsAmong}
 use Rattle.apd_term.specs.Spelling.{variable_in}
 use Rattle.apd_term.proofs.Among.{IsAmong-left, IsAmong-right, IsAmong-append}
 use Rattle.apd_term.proofs.Spelling.{length-read_all}

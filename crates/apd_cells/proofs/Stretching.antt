@@ -8,7 +8,7 @@ use Rattle.apd_term.specs.declared.term.Sym.{Sym}
 use Rattle.apd_term.specs.declared.term.Sym.TheVariants.{Var, Int, Fun}
 use Rattle.apd_term.specs.Canonical.{shifted}
 use Rattle.apd_term.specs.Spelling.{image, variable_in, read_all-spell}
-use Rattle.apd_term.specs.Term.{Term, integer, compound, more, terms_of, apply, apply_all, first_of, read_all, size, spell, term_of, IsAmong, IsTerms}
+use Rattle.apd_term.specs.Term.{Term, integer, compound, more, terms_of, apply, apply_all, first_of, read_all, spell, term_of, IsAmong, IsTerms}
 use Rattle.apd_term.proofs.Among.{IsAmong-append}
 use Rattle.apd_term.proofs.Spelling.{IsTerms-tail, flat_map-variables, spell-apply, spell-compound, spell-injective, under_name}
 use Rattle.apd_cells.specs.Stretches.{stretched, AreMeant, IsMeant, IsStretch}

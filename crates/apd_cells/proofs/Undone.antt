@@ -21,18 +21,31 @@ use Rattle.apd_cells.specs.declared.extents.Extents.{Extents}
 use Rattle.apd_cells.specs.Stored.{Stored}
 use Rattle.apd_cells.specs.Store.{binding_of, before_note, before_notes, at_mark, HasCells, IsStore, IsSound}
 use Rattle.apd_cells.specs.Undone.{no_front, IsFront, without_note, without_notes, undone, HasMoreCells}
-use Rattle.apd_cells.proofs.Bindings.{not_zero}
 use Rattle.apd_cells.proofs.Flat.{short_taken}
 use Rattle.apd_cells.proofs.Following.{viewed}
 use Rattle.apd_cells.proofs.Longer.{compound-longer, more_self, more_sizes, store-more, touched-longer}
 use Rattle.apd_cells.proofs.Meaning.{HasCells-of}
-use Rattle.apd_cells.proofs.Undoing.{free-above, le_or_lt}
+use Rattle.apd_cells.proofs.Undoing.{before_more, free-above, le_or_lt, not_zero}
 
 -- no note is taken back, or one, or some and then more
 pub without_none : (kept : Front) (cells : List Sym) (n : ℕ) (notes : List TrailNote) → without_notes kept cells n notes 0 ≡ record { cells = cells; variables = n; trail = notes }
 without_none kept cells n [] = refl
 without_none kept cells n (Loaded c m ∷ notes) = refl
 without_none kept cells n (Bound v c ∷ notes) = refl
+
+-- the newest note first, and then the others
+without_more : (kept : Front) (cells : List Sym) (n : ℕ) (note : TrailNote) (notes : List TrailNote) (j : ℕ)
+    → without_notes kept cells n (note ∷ notes) (suc j) ≡ (let s = without_note kept cells n (note ∷ notes) in without_notes kept s.cells s.variables s.trail j)
+without_more kept cells n (Loaded c m) notes j =
+    let left = take (max c kept.cells) cells in
+    let count = min n (max m kept.variables) in
+    let e : suc j - 1 ≡ j = omega arith in
+    not_zero (suc j) (record { cells = cells; variables = n; trail = Loaded c m ∷ notes }) (without_notes kept left count notes (suc j - 1)) (omega arith)
+    ∙ ap (without_notes kept left count notes) e
+without_more kept cells n (Bound v c) notes j =
+    let e : suc j - 1 ≡ j = omega arith in
+    not_zero (suc j) (record { cells = cells; variables = n; trail = Bound v c ∷ notes }) (without_notes kept cells n notes (suc j - 1)) (omega arith)
+    ∙ ap (without_notes kept cells n notes) e
 
 pub undone_here : (kept : Front) (k : ℕ) (s : Stored) → length s.trail ≤ k → undone kept k s ≡ s
 undone_here kept k s l =
@@ -141,24 +154,16 @@ pub nothing_kept : (cells : List Sym) (n : ℕ) (notes : List TrailNote) (j : �
 nothing_kept cells n [] j h = refl
 nothing_kept cells n (Loaded c m ∷ notes) zero h = refl
 nothing_kept cells n (Loaded c m ∷ notes) (suc j) h =
-    let here : Stored = record { cells = cells; variables = n; trail = Loaded c m ∷ notes } in
-    let e : suc j - 1 ≡ j = omega arith in
     let a : max c 0 ≡ c = omega arith in
     let b : min n (max m 0) ≡ m = omega (arith, h.1.1.0) in
-    not_zero (suc j) here (without_notes no_front (take (max c 0) cells) (min n (max m 0)) notes (suc j - 1)) (omega arith)
-    ∙ ap (without_notes no_front (take (max c 0) cells) (min n (max m 0)) notes) e
+    without_more no_front cells n (Loaded c m) notes j
     ∙ ap (λ z. without_notes no_front (take z cells) (min n (max m 0)) notes j) a
     ∙ ap (λ z. without_notes no_front (take c cells) z notes j) b
     ∙ nothing_kept (take c cells) m notes j h.1.1.1
-    ∙ sym (not_zero (suc j) here (before_notes (take c cells) m notes (suc j - 1)) (omega arith) ∙ ap (before_notes (take c cells) m notes) e)
+    ∙ sym (before_more cells n (Loaded c m) notes j)
 nothing_kept cells n (Bound v c ∷ notes) zero h = refl
 nothing_kept cells n (Bound v c ∷ notes) (suc j) h =
-    let here : Stored = record { cells = cells; variables = n; trail = Bound v c ∷ notes } in
-    let e : suc j - 1 ≡ j = omega arith in
-    not_zero (suc j) here (without_notes no_front cells n notes (suc j - 1)) (omega arith)
-    ∙ ap (without_notes no_front cells n notes) e
-    ∙ nothing_kept cells n notes j h.1
-    ∙ sym (not_zero (suc j) here (before_notes cells n notes (suc j - 1)) (omega arith) ∙ ap (before_notes cells n notes) e)
+    without_more no_front cells n (Bound v c) notes j ∙ nothing_kept cells n notes j h.1 ∙ sym (before_more cells n (Bound v c) notes j)
 
 pub undone_nothing : (k : ℕ) (s : Stored) → IsSound s → undone no_front k s ≡ at_mark k s
 undone_nothing k s h = nothing_kept s.cells s.variables s.trail (length s.trail - k) h
@@ -169,27 +174,17 @@ more_without : (kept : Front) (cells more : List Sym) (n n' : ℕ) (notes : List
 more_without kept cells more n n' [] j h l = record { more = more; cells = refl; variables = l; trail = refl }
 more_without kept cells more n n' (Loaded c m ∷ notes) zero h l = record { more = more; cells = refl; variables = l; trail = refl }
 more_without kept cells more n n' (Loaded c m ∷ notes) (suc j) h l =
-    let here : Stored = record { cells = cells; variables = n; trail = Loaded c m ∷ notes } in
-    let there : Stored = record { cells = cells ++ more; variables = n'; trail = Loaded c m ∷ notes } in
     let left = take (max c kept.cells) (cells ++ more) in
     let count = min n' (max m kept.variables) in
-    let e : suc j - 1 ≡ j = omega arith in
     let is : left ≡ take c cells ++ drop c left = left_more (cells ++ more) c kept.cells ∙ ap (λ z. z ++ drop c left) (take-append-le c cells more h.1.0) in
-    let a = not_zero (suc j) here (before_notes (take c cells) m notes (suc j - 1)) (omega arith) ∙ ap (before_notes (take c cells) m notes) e in
-    let b = not_zero (suc j) there (without_notes kept left count notes (suc j - 1)) (omega arith) ∙ ap (without_notes kept left count notes) e
-    ∙ ap (λ z. without_notes kept z count notes j) is in
-    subst (λ z. HasMoreCells z (without_notes kept (cells ++ more) n' (Loaded c m ∷ notes) (suc j))) (sym a)
+    let b = without_more kept (cells ++ more) n' (Loaded c m) notes j ∙ ap (λ z. without_notes kept z count notes j) is in
+    subst (λ z. HasMoreCells z (without_notes kept (cells ++ more) n' (Loaded c m ∷ notes) (suc j))) (sym (before_more cells n (Loaded c m) notes j))
     (subst (λ z. HasMoreCells (before_notes (take c cells) m notes j) z) (sym b)
     (more_without kept (take c cells) (drop c left) m count notes j h.1.1.1 (omega (arith, h.1.1.0))))
 more_without kept cells more n n' (Bound v c ∷ notes) zero h l = record { more = more; cells = refl; variables = l; trail = refl }
 more_without kept cells more n n' (Bound v c ∷ notes) (suc j) h l =
-    let here : Stored = record { cells = cells; variables = n; trail = Bound v c ∷ notes } in
-    let there : Stored = record { cells = cells ++ more; variables = n'; trail = Bound v c ∷ notes } in
-    let e : suc j - 1 ≡ j = omega arith in
-    let a = not_zero (suc j) here (before_notes cells n notes (suc j - 1)) (omega arith) ∙ ap (before_notes cells n notes) e in
-    let b = not_zero (suc j) there (without_notes kept (cells ++ more) n' notes (suc j - 1)) (omega arith) ∙ ap (without_notes kept (cells ++ more) n' notes) e in
-    subst (λ z. HasMoreCells z (without_notes kept (cells ++ more) n' (Bound v c ∷ notes) (suc j))) (sym a)
-    (subst (λ z. HasMoreCells (before_notes cells n notes j) z) (sym b) (more_without kept cells more n n' notes j h.1 l))
+    subst (λ z. HasMoreCells z (without_notes kept (cells ++ more) n' (Bound v c ∷ notes) (suc j))) (sym (before_more cells n (Bound v c) notes j))
+    (subst (λ z. HasMoreCells (before_notes cells n notes j) z) (sym (without_more kept (cells ++ more) n' (Bound v c) notes j)) (more_without kept cells more n n' notes j h.1 l))
 
 pub undone_more : (kept : Front) (k : ℕ) (s : Stored) → IsSound s → HasMoreCells (at_mark k s) (undone kept k s)
 undone_more kept k s h =
@@ -200,40 +195,12 @@ front_left : (kept : Front) (cells : List Sym) (n : ℕ) (notes : List TrailNote
 front_left kept cells n [] j = refl
 front_left kept cells n (Loaded c m ∷ notes) zero = refl
 front_left kept cells n (Loaded c m ∷ notes) (suc j) =
-    let here : Stored = record { cells = cells; variables = n; trail = Loaded c m ∷ notes } in
-    let left = take (max c kept.cells) cells in
-    let count = min n (max m kept.variables) in
-    let e : suc j - 1 ≡ j = omega arith in
-    ap (λ (s : Stored). take kept.cells s.cells) (not_zero (suc j) here (without_notes kept left count notes (suc j - 1)) (omega arith) ∙ ap (without_notes kept left count notes) e)
-    ∙ front_left kept left count notes j
+    ap (λ (s : Stored). take kept.cells s.cells) (without_more kept cells n (Loaded c m) notes j)
+    ∙ front_left kept (take (max c kept.cells) cells) (min n (max m kept.variables)) notes j
     ∙ take-take kept.cells (max c kept.cells) cells (omega arith)
 front_left kept cells n (Bound v c ∷ notes) zero = refl
 front_left kept cells n (Bound v c ∷ notes) (suc j) =
-    let here : Stored = record { cells = cells; variables = n; trail = Bound v c ∷ notes } in
-    let e : suc j - 1 ≡ j = omega arith in
-    ap (λ (s : Stored). take kept.cells s.cells) (not_zero (suc j) here (without_notes kept cells n notes (suc j - 1)) (omega arith) ∙ ap (without_notes kept cells n notes) e)
-    ∙ front_left kept cells n notes j
+    ap (λ (s : Stored). take kept.cells s.cells) (without_more kept cells n (Bound v c) notes j) ∙ front_left kept cells n notes j
 
 pub undone_front : (kept : Front) (k : ℕ) (s : Stored) → take kept.cells (undone kept k s).cells ≡ take kept.cells s.cells
 undone_front kept k s = front_left kept s.cells s.variables s.trail (length s.trail - k)
-
-trail_left : (kept : Front) (cells : List Sym) (n : ℕ) (notes : List TrailNote) (j : ℕ) → (without_notes kept cells n notes j).trail ≡ drop j notes
-trail_left kept cells n [] zero = refl
-trail_left kept cells n [] (suc j) = refl
-trail_left kept cells n (Loaded c m ∷ notes) zero = refl
-trail_left kept cells n (Loaded c m ∷ notes) (suc j) =
-    let here : Stored = record { cells = cells; variables = n; trail = Loaded c m ∷ notes } in
-    let left = take (max c kept.cells) cells in
-    let count = min n (max m kept.variables) in
-    let e : suc j - 1 ≡ j = omega arith in
-    ap (λ (s : Stored). s.trail) (not_zero (suc j) here (without_notes kept left count notes (suc j - 1)) (omega arith) ∙ ap (without_notes kept left count notes) e)
-    ∙ trail_left kept left count notes j
-trail_left kept cells n (Bound v c ∷ notes) zero = refl
-trail_left kept cells n (Bound v c ∷ notes) (suc j) =
-    let here : Stored = record { cells = cells; variables = n; trail = Bound v c ∷ notes } in
-    let e : suc j - 1 ≡ j = omega arith in
-    ap (λ (s : Stored). s.trail) (not_zero (suc j) here (without_notes kept cells n notes (suc j - 1)) (omega arith) ∙ ap (without_notes kept cells n notes) e)
-    ∙ trail_left kept cells n notes j
-
-pub undone_trail : (kept : Front) (k : ℕ) (s : Stored) → (undone kept k s).trail ≡ drop (length s.trail - k) s.trail
-undone_trail kept k s = trail_left kept s.cells s.variables s.trail (length s.trail - k)

@@ -1,6 +1,6 @@
 //! Variables in the order of their first appearance: a sparse set (Briggs and Torczon 1993), which is emptied at once.
 
-ghost use Rattle.std.specs.Prelude.{◌≡◌, [], ◌<◌, ◌≤◌, ◌^◌, length, get_or, IfOk, OnOk, MatchOption};
+ghost use Rattle.std.specs.Prelude.{◌≡◌, [], ◌<◌, ◌≤◌, ◌^◌, length, IfOk, OnOk, MatchOption};
 ghost use Rattle.std.specs.List.{fold};
 ghost use Rattle.apd_term.specs.Term.{IsAmong};
 ghost use Rattle.apd_term.specs.Spelling.{variable_in};

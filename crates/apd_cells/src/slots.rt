@@ -1,8 +1,7 @@
 //! What stands for the variables of a clause while it is entered, and terms of the clause that are put behind the cells.
 
-ghost use Rattle.std.specs.Prelude.{◌≡◌, ◌<◌, ◌≤◌, ℕ, List, length, take, get_or, max, IfOk, IfSome, OnOk};
+ghost use Rattle.std.specs.Prelude.{◌≡◌, ◌<◌, ℕ, List, length, take, IfOk, IfSome, OnOk};
 ghost use Rattle.apd_term.specs.Term.{IsWhole, Term, term_of, variables};
-ghost use Rattle.apd_term.specs.Canonical.{shifted};
 ghost use Rattle.apd_cells.specs.Heap.{HasMore};
 ghost use Rattle.apd_cells.specs.Slots.{slot_at, AreSlots, HasRoom, HasSet, IsPutFor, Places, PlacesNext, HasPlaced, HasPut};
 ghost use Rattle.apd_cells.specs.Stretches.{AreMeant, AreStretches, IsMeant, IsStretch};

@@ -1,6 +1,6 @@
 //! A walk over the symbols of a term, with all bindings applied.
 
-ghost use Rattle.std.specs.Prelude.{◌≡◌, [], ◌∷◌, ◌<◌, ◌^◌, length, IfOk, OnOk};
+ghost use Rattle.std.specs.Prelude.{◌≡◌, ◌∷◌, ◌<◌, ◌^◌, length, IfOk, OnOk};
 ghost use Rattle.apd_term.specs.Term.{arity_of, spell};
 ghost use Rattle.apd_cells.specs.Store.{term_at};
 ghost use Rattle.apd_cells.specs.Work.{AreRuns, IsWalk, Leads, walk_symbols, Passes, PassesOn, GoesTo, HasSameVariables};

@@ -6,21 +6,24 @@ use Rattle.std.specs.Bool.{OnTrue}
 use Rattle.std.proofs.lemmas.Bool.{cases_eq, OnTrue_at, OnTrue_from}
 use Rattle.std.proofs.lemmas.List.{append-nil, append_assoc, drop-drop, length-drop, length-take}
 use Rattle.apd_term.specs.declared.term.Sym.{Sym}
+use Rattle.apd_cells.specs.declared.front.Front.{Front}
 use Rattle.apd_cells.specs.declared.heap.TrailNote.{TrailNote}
 use Rattle.apd_cells.specs.declared.heap.TrailNote.TheVariants.{Loaded, Bound}
 use Rattle.apd_cells.specs.declared.heap.Binding.TheVariants.{Free, At}
 use Rattle.apd_cells.specs.Stored.{Stored}
 use Rattle.apd_cells.specs.Store.{at_mark, binding_of, IsStore, IsSound}
+use Rattle.apd_cells.specs.Undone.{undone}
 use Rattle.apd_cells.proofs.Longer.{sound_at_mark}
 use Rattle.apd_cells.proofs.Meaning.{binding-other, binding-same}
-use Rattle.apd_cells.proofs.Undoing.{at_mark-here}
-use Rattle.apd_cells.proofs.Undone.{undone_front, undone_trail}
+use Rattle.apd_cells.proofs.Undoing.{at_mark-here, before_trail}
+use Rattle.apd_cells.proofs.Undone.{undone_front, undone_more}
 use Rattle.apd_past.specs.Done.{Done}
 use Rattle.apd_past.specs.Follows.{Follows, bindings_in}
 use Rattle.apd_past.specs.History.{bindings_of, freed, HasDoneMore, IsNewestBound, IsRight, KeepsMoments, history_of}
 use Rattle.apd_past.proofs.Bindings.{is_freed}
 use Rattle.apd_past.proofs.Keeping.{keeps_grown}
-use Rattle.apd_past.proofs.Marks.{before_trail}
+use Rattle.apd_frames.specs.Framed.{GoesBack}
+use Rattle.apd_frames.specs.declared.linked.Linked.{Linked}
 use Rattle.apd_following.specs.declared.tie.Tie.{Tie}
 use Rattle.apd_following.specs.Tied.{front_of, past_of, AreFree, FollowsTo, IsAhead, IsBack, IsTied}
 
@@ -123,7 +126,7 @@ module _ (t : Tie) (now : Stored) (b : IsBack t now) where
   right_back = subst (λ z. IsRight z t.journal.variables (reverse t.journal.deeds)) (sym front_back) b.tied.right
 
   trail_back : now.trail ≡ drop (length b.before.trail - b.mark) b.before.trail
-  trail_back = ap (λ (x : Stored). x.trail) b.is ∙ undone_trail (front_of t) b.mark b.before
+  trail_back = ap (λ (x : Stored). x.trail) b.is ∙ (undone_more (front_of t) b.mark b.before b.sound).trail ∙ trail_at b.mark b.before
 
   count_back : length now.trail ≡ b.mark
   count_back = omega (arith, ap length trail_back, length-drop (length b.before.trail - b.mark) b.before.trail, b.there)
@@ -196,3 +199,19 @@ module _ (t : Tie) (now : Stored) (b : IsBack t now) where
   keeps_freed d m =
       subst (λ z. KeepsMoments (past_of t now) (history_of z d)) (append-nil (take t.cells now.cells))
       (keeps_grown (take t.cells now.cells) [] t.journal d m.more right_back m.deeds)
+
+-- frames went back, and their store with them
+module _ (t : Tie) (old new : Linked) (kept : Front) (tied : IsTied t old.store) (sound : IsSound old.store) (back : GoesBack kept old new) (is : kept ≡ front_of t) where
+  pub is_back : IsBack t new.store
+  is_back = record {
+    before = old.store;
+    sound = sound;
+    tied = tied;
+    mark = back.0;
+    there = back.1;
+    is = back.2 ∙ ap (λ (f : Front). undone f back.0 old.store) is;
+  }
+
+  pub past_stays : past_of t new.store ≡ past_of t old.store
+  unfolding is_back
+  past_stays = past_back t new.store is_back

@@ -5,21 +5,14 @@ use Rattle.apd_term.specs.Term.{Term, variables}
 use Rattle.apd_term.specs.Canonical.{by_appearance, canonical, canonical_in}
 use Rattle.apd_term.specs.Tuple.{canonical_tuple}
 use Rattle.apd_term.specs.declared.tuple.Tuple.{Tuple}
-use Rattle.apd_unify.specs.declared.store.Cell.{Cell}
 use Rattle.apd_past.specs.History.{History}
-use Rattle.apd_tuples.specs.Spots.{HavePlaces, Place}
+use Rattle.apd_tuples.specs.Spots.{Place}
 use Rattle.apd_tuples.specs.Tuples.{kept_tuples}
 use Rattle.apd_following.specs.declared.following.KeptFrame.{KeptFrame}
 use Rattle.apd_trace.specs.Frames.{next_goal}
 use Rattle.apd_trace.specs.declared.frame.Frame.{Frame}
 use Rattle.apd_frames.specs.Kept.{Kept}
-use Rattle.apd_frames.specs.Instances.{AreInside}
 use Rattle.apd_following.specs.Followed.{Followed, IsKept, KeepsGoal}
-
--- cells inside a store have places
-pub have_places : (n : ℕ) (cs : List Cell) → AreInside n cs → HavePlaces n cs
-have_places n [] h = tt
-have_places n (c ∷ cs) h = (h.0, have_places n cs h.1)
 
 abbrev pub goal_alone : Term → Tuple
 goal_alone a = record { head = canonical a; body = [] }

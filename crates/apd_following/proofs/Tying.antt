@@ -8,12 +8,12 @@ use Rattle.apd_cells.specs.Stored.{Stored}
 use Rattle.apd_cells.specs.Store.{at_mark, HasCells, IsSound, Keeps}
 use Rattle.apd_cells.proofs.Keeping.{at_mark-at_mark}
 use Rattle.apd_cells.proofs.Meaning.{HasCells-of}
-use Rattle.apd_cells.proofs.Undoing.{at_mark-here}
+use Rattle.apd_cells.proofs.Undoing.{at_mark-here, before_trail}
 use Rattle.apd_past.specs.Done.{Done, with_room}
 use Rattle.apd_past.specs.Follows.{Follows, MayFollow, bindings_in}
 use Rattle.apd_past.specs.History.{bindings_after, HasDoneMore, KeepsMoments, history_of, IsRight}
 use Rattle.apd_past.proofs.Keeping.{keeps_grown, keeps_wider}
-use Rattle.apd_past.proofs.Marks.{before_trail, front_at_mark}
+use Rattle.apd_past.proofs.Marks.{front_at_mark}
 use Rattle.apd_past.proofs.Moments.{right_more, right_wider}
 use Rattle.apd_tuples.specs.Spots.{Place}
 use Rattle.apd_tuples.specs.Tuples.{kept_tuples, AreThere}

@@ -1,6 +1,6 @@
 //! What is known of a tuple when it is kept.
 
-ghost use Rattle.std.specs.Prelude.{◌≡◌, ◌<◌, List, [], length, IfOk};
+ghost use Rattle.std.specs.Prelude.{◌<◌, List, [], length, IfOk};
 ghost use Rattle.apd_term.specs.Tuple.{canonical_tuple};
 ghost use Rattle.apd_trace.specs.declared.frame.Frame.{Frame};
 ghost use Rattle.apd_frames.specs.Measures.{MeasuresInnermost};

@@ -15,7 +15,7 @@ ghost use Rattle.apd_term.specs.Term.{predicate_of};
 ghost use Rattle.apd_frames.specs.Measures.{MeasuresInnermost};
 ghost use Rattle.apd_frames.specs.Solves.{solution_as, Keeps};
 ghost use Rattle.apd_following.specs.Tied.{past_of, IsTied};
-ghost use Rattle.apd_tuples.specs.Spots.{HavePlaces};
+ghost use Rattle.apd_unify.specs.Cells.{AreCells};
 ghost use Rattle.apd_tuples.specs.Tuples.{kept_tuples, tuple_of, AreThere, Holds};
 ghost use Rattle.apd_following.specs.Followed.{HoldsInnermost, IsKept, KeepsGoal, KeepsInstance, kept_of};
 
@@ -82,7 +82,7 @@ fn keep_at(
     requires tied { IsTied tie.old store.now }
     requires there { AreThere (past_of tie.old store.now) spots.old }
     requires head { head.0 < length store.now.cells }
-    requires goals { HavePlaces (length store.now.cells) goals.now }
+    requires goals { AreCells (length store.now.cells) goals.now }
     requires fact { Holds fact (canonical_tuple (tuple_of store.now head goals.now)) }
     ensures tied { IsTied tie.new store.now }
     ensures there { AreThere (past_of tie.new store.now) spots.new }

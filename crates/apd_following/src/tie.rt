@@ -1,6 +1,6 @@
 //! A journal that follows a store from time to time, and which of the store's cells are kept.
 
-ghost use Rattle.std.specs.Prelude.{◌≡◌, ℕ, [], List, OnOk, reverse, take};
+ghost use Rattle.std.specs.Prelude.{◌≡◌, ℕ, List, OnOk, reverse, take};
 ghost use Rattle.std.specs.Bool.{OnTrue};
 ghost use Rattle.apd_term.specs.declared.term.Sym.{Sym};
 ghost use Rattle.apd_cells.specs.Stored.{Stored};

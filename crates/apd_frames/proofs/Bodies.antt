@@ -9,6 +9,7 @@ use Rattle.apd_term.proofs.Applying.{apply-followed_by, apply-same}
 use Rattle.apd_term.proofs.Tuples.{apply_tuple-followed_by, apply_tuple-variable}
 use Rattle.apd_unify.specs.Heads.{HasGoneOn, IsLoadedFor, Matches}
 use Rattle.apd_unify.specs.Unifier.{IsUnifier, HasNoUnifier}
+use Rattle.apd_unify.specs.Cells.{AreCells}
 use Rattle.apd_unify.specs.declared.store.Cell.{Cell}
 use Rattle.apd_unify.proofs.Fitting.{has_numbers, made_terms}
 use Rattle.apd_unify.proofs.Matched.{fits_back, gone_self, gone_trans}
@@ -19,7 +20,7 @@ use Rattle.apd_cells.specs.Store.{term_at, IsSound}
 use Rattle.apd_cells.specs.declared.slots.Slot.{Slot}
 use Rattle.apd_trace.specs.Frames.{shifted_tuple}
 use Rattle.apd_frames.specs.Links.{instance_of}
-use Rattle.apd_frames.specs.Instances.{terms_in, AreInside, HasBody, InstantiatesVariant, IsVariant}
+use Rattle.apd_frames.specs.Instances.{terms_in, HasBody, InstantiatesVariant, IsVariant}
 use Rattle.apd_frames.proofs.Branching.{inside_more}
 use Rattle.apd_frames.proofs.Instancing.{inside_one, terms_same}
 use Rattle.apd_frames.proofs.Linking.{tuple_of}
@@ -30,7 +31,7 @@ pub record AreLoadedFor (s s' : Stored) (old new : List Slot) (terms : List Term
   pub values : (g : Numbering) → Fits g s' new → (v : ℕ) → value_in s' g.of new v ≡ value_in s g.of old v
   pub others : (c : ℕ) → c < length s.cells → term_at s' c ≡ term_at s c
   pub made : (g : Numbering) → Fits g s' new → terms_in s' cs ≡ map (apply (value_in s' g.of new)) (take i terms)
-  pub inside : AreInside (length s'.cells) cs
+  pub inside : AreCells (length s'.cells) cs
 
 pub body_none : (s : Stored) (slots : List Slot) (terms : List Term) (cs : List Cell) → AreSlots s.cells s.variables slots → cs ≡ [] → AreLoadedFor s s slots slots terms 0 cs
 body_none s slots terms cs h e = rw e (record {

@@ -6,11 +6,12 @@ use Rattle.apd_cells.specs.Store.{at_mark, Keeps}
 use Rattle.apd_cells.proofs.Keeping.{at_mark-at_mark, length-before}
 use Rattle.apd_frames.specs.Links.{Link}
 use Rattle.apd_frames.specs.declared.links.Branch.{Branch}
-use Rattle.apd_frames.specs.Instances.{AreInside, IsInside}
+use Rattle.apd_frames.specs.Instances.{IsInside}
 use Rattle.apd_frames.specs.Linked.{frames_at, oldest, saved_of, ArePlaced, AreMarked, IsFramed, IsBranchAt}
+use Rattle.apd_unify.specs.Cells.{AreCells}
 use Rattle.apd_unify.specs.declared.store.Cell.{Cell}
 
-pub inside_more : (n m : ℕ) (cs : List Cell) → n ≤ m → AreInside n cs → AreInside m cs
+pub inside_more : (n m : ℕ) (cs : List Cell) → n ≤ m → AreCells n cs → AreCells m cs
 inside_more n m [] le h = tt
 inside_more n m (c ∷ cs) le h = (omega (arith, h.0), inside_more n m cs le h.1)
 

@@ -9,6 +9,7 @@ use Rattle.apd_term.proofs.Spelling.{length-apply_all}
 use Rattle.apd_term.specs.Canonical.{canonical, by_appearance, place_of}
 use Rattle.apd_term.specs.Tuple.{apply_tuple, canonical_tuple}
 use Rattle.apd_term.specs.declared.tuple.Tuple.{Tuple}
+use Rattle.apd_unify.specs.Cells.{AreCells}
 use Rattle.apd_unify.specs.declared.store.Cell.{Cell}
 use Rattle.apd_cells.specs.Stored.{Stored}
 use Rattle.apd_cells.specs.Store.{term_at}
@@ -19,7 +20,7 @@ use Rattle.apd_trace.specs.declared.frame.Called.{Called}
 use Rattle.apd_trace.specs.declared.frame.Look.TheVariants.{Nothing, Goal, Exit as Exits, Answer as Answers}
 use Rattle.apd_frames.specs.Links.{Instance, Link}
 use Rattle.apd_frames.specs.declared.links.Branch.{Branch}
-use Rattle.apd_frames.specs.Instances.{terms_in, tuple_in, AreInside, IsInside, CanonicalWithin}
+use Rattle.apd_frames.specs.Instances.{terms_in, tuple_in, IsInside, CanonicalWithin}
 use Rattle.apd_frames.specs.Kept.{Kept, Calls, IsIn, MayCall, Points, Takes, exit_in, is_large_of, newest_of, point_in}
 use Rattle.apd_frames.specs.Linked.{numbered, frame_in, frames_at, saved_of, entered_link, ArePlaced, IsFramed, IsGoalAt}
 use Rattle.apd_frames.proofs.Linking.{same_number, other_number, frames_some, frames_none, frames_newest, frames_applied, with_tuple}
@@ -52,7 +53,7 @@ get_none s [] i h = refl
 get_none s (d ∷ cs) zero h = absurd (omega arith)
 get_none s (d ∷ cs) (suc i) h = get_none s cs i (omega arith)
 
-pub get_inside : (n : ℕ) (cs : List Cell) (i : ℕ) (c : Cell) → AreInside n cs → slice_get cs i ≡ Some c → c.0 < n
+pub get_inside : (n : ℕ) (cs : List Cell) (i : ℕ) (c : Cell) → AreCells n cs → slice_get cs i ≡ Some c → c.0 < n
 get_inside n [] i c h e = cc
 get_inside n (d ∷ cs) zero c h e = let is : d ≡ c = cc in subst (λ (x : Cell). x.0 < n) is h.0
 get_inside n (d ∷ cs) (suc i) c h e = get_inside n cs i c h.1 e

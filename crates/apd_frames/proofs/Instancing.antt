@@ -11,6 +11,7 @@ use Rattle.apd_term.proofs.Applying.{apply-followed_by, apply-same, apply-variab
 use Rattle.apd_term.proofs.Variants.{apply-agree}
 use Rattle.apd_term.proofs.Spelling.{some_symbol}
 use Rattle.apd_unify.specs.Unifier.{HasNoUnifier}
+use Rattle.apd_unify.specs.Cells.{AreCells}
 use Rattle.apd_unify.specs.declared.store.Cell.{Cell}
 use Rattle.apd_unify.specs.Copies.{HasShared}
 use Rattle.apd_cells.specs.Stored.{Stored}
@@ -19,7 +20,7 @@ use Rattle.apd_cells.proofs.Keeping.{meaning-loaded, Keeps-trans}
 use Rattle.apd_cells.proofs.Bindings.{Keeps-self}
 use Rattle.apd_trace.specs.Frames.{shifted_tuple}
 use Rattle.apd_frames.specs.Links.{instance_of}
-use Rattle.apd_frames.specs.Instances.{instance_where, terms_in, raised_in, AreInside, HasGrown, HasLaid, IsInstantiated, Instantiates}
+use Rattle.apd_frames.specs.Instances.{instance_where, terms_in, raised_in, HasGrown, HasLaid, IsInstantiated, Instantiates}
 use Rattle.apd_frames.proofs.Branching.{inside_more}
 
 pub grown_self : (s : Stored) → HasGrown s s
@@ -51,11 +52,11 @@ laid_then a b c h k = record {
   others = λ d l. k.others d (omega (arith, l, h.cells)) ∙ h.others d l;
 }
 
-pub terms_same : (s new : Stored) (cs : List Cell) → AreInside (length s.cells) cs → ((c : ℕ) → c < length s.cells → term_at new c ≡ term_at s c) → terms_in new cs ≡ terms_in s cs
+pub terms_same : (s new : Stored) (cs : List Cell) → AreCells (length s.cells) cs → ((c : ℕ) → c < length s.cells → term_at new c ≡ term_at s c) → terms_in new cs ≡ terms_in s cs
 terms_same s new [] h o = refl
 terms_same s new (c ∷ cs) h o = ap (λ t. t ∷ terms_in new cs) (o c.0 h.0) ∙ ap (λ ts. term_at s c.0 ∷ ts) (terms_same s new cs h.1 o)
 
-pub inside_one : (n : ℕ) (cs : List Cell) (c : Cell) → AreInside n cs → c.0 < n → AreInside n (cs ++ c ∷ [])
+pub inside_one : (n : ℕ) (cs : List Cell) (c : Cell) → AreCells n cs → c.0 < n → AreCells n (cs ++ c ∷ [])
 inside_one n [] c h l = (l, tt)
 inside_one n (d ∷ cs) c h l = (h.0, inside_one n cs c h.1 l)
 
@@ -63,7 +64,7 @@ inside_one n (d ∷ cs) c h l = (h.0, inside_one n cs c h.1 l)
 pub record AreLoaded (old s : Stored) (base : ℕ) (terms : List Term) (i : ℕ) (cs : List Cell) : Type 0 where
   pub grown : HasGrown old s
   pub made : terms_in s cs ≡ map (raised_in old base) (take i terms)
-  pub inside : AreInside (length s.cells) cs
+  pub inside : AreCells (length s.cells) cs
 
 pub loaded_none : (s : Stored) (base : ℕ) (terms : List Term) (cs : List Cell) → cs ≡ [] → AreLoaded s s base terms 0 cs
 loaded_none s base terms cs e = rw e (record { grown = grown_self s; made = refl; inside = tt })
@@ -101,7 +102,7 @@ loaded_free s t h =
 pub undone : (old mid new : Stored) (k : ℕ) → Keeps old mid → k ≡ length old.trail → new ≡ at_mark k mid → new ≡ old
 undone old mid new k h e is = is ∙ ap (λ j. at_mark j mid) e ∙ h.1
 
-pub inside_or : (n : ℕ) (cs : List Cell) (i : ℕ) (d : Cell) → AreInside n cs → i < length cs → (get_or cs i d).0 < n
+pub inside_or : (n : ℕ) (cs : List Cell) (i : ℕ) (d : Cell) → AreCells n cs → i < length cs → (get_or cs i d).0 < n
 inside_or n [] i d h l = absurd (omega arith)
 inside_or n (c ∷ cs) zero d h l = h.0
 inside_or n (c ∷ cs) (suc i) d h l = inside_or n cs i d h.1 (omega arith)

@@ -10,6 +10,7 @@ use Rattle.apd_term.specs.Term.{Term, apply, variables, IsAmong}
 use Rattle.apd_term.specs.Tuple.{apply_tuple, variables_of_tuple}
 use Rattle.apd_term.specs.declared.tuple.Tuple.{Tuple}
 use Rattle.apd_term.proofs.Among.{IsAmong-append}
+use Rattle.apd_unify.specs.Cells.{AreCells}
 use Rattle.apd_unify.specs.declared.store.Cell.{Cell}
 use Rattle.apd_cells.specs.Stored.{Stored}
 use Rattle.apd_cells.specs.Store.{term_at}
@@ -18,7 +19,7 @@ use Rattle.apd_trace.specs.Frames.{apply_frame, apply_frames, variables_of_frame
 use Rattle.apd_trace.specs.Renaming.{IsBelow}
 use Rattle.apd_trace.specs.declared.frame.Frame.{Frame}
 use Rattle.apd_frames.specs.Links.{Instance, Link}
-use Rattle.apd_frames.specs.Instances.{terms_in, tuple_in, AreInside, IsInside}
+use Rattle.apd_frames.specs.Instances.{terms_in, tuple_in, IsInside}
 use Rattle.apd_frames.specs.Linked.{numbered, frame_in, frames_at, ArePlaced}
 
 pub same_number : {X : Type 0} (k m : ℕ) (x y : X) → k ≡ m → (if k == m then x else y) ≡ x
@@ -131,7 +132,7 @@ with_tuple l t =
 
 -- a substitution that was done on the terms of the first n cells
 module _ (f : ℕ → Term) (old new : Stored) (n : ℕ) (made : (c : ℕ) → c < n → term_at new c ≡ apply f (term_at old c)) where
-  pub terms_applied : (cs : List Cell) → AreInside n cs → terms_in new cs ≡ map (apply f) (terms_in old cs)
+  pub terms_applied : (cs : List Cell) → AreCells n cs → terms_in new cs ≡ map (apply f) (terms_in old cs)
   terms_applied [] h = refl
   terms_applied (c ∷ cs) h = ap (λ t. t ∷ terms_in new cs) (made c.0 h.0) ∙ ap (λ ts. apply f (term_at old c.0) ∷ ts) (terms_applied cs h.1)
 
@@ -158,7 +159,7 @@ module _ (f : ℕ → Term) (old new : Stored) (n : ℕ) (made : (c : ℕ) → c
 
 -- all variables of frames are below the store's number of variables
 module _ (s : Stored) (numbers : IsNumbered s) where
-  terms_below : (cs : List Cell) (v : ℕ) → AreInside (length s.cells) cs → IsAmong (flat_map variables (terms_in s cs)) v → v < s.variables
+  terms_below : (cs : List Cell) (v : ℕ) → AreCells (length s.cells) cs → IsAmong (flat_map variables (terms_in s cs)) v → v < s.variables
   terms_below [] v h m = absurd m
   terms_below (c ∷ cs) v h m = elim (IsAmong-append (variables (term_at s c.0)) (flat_map variables (terms_in s cs)) v m) [
     | inl o ↦ numbers.below c.0 v h.0 o

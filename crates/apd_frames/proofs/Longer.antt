@@ -5,15 +5,16 @@ use Rattle.apd_cells.specs.Store.{term_at, at_mark, IsSound}
 use Rattle.apd_cells.specs.Undone.{HasMoreCells}
 use Rattle.apd_cells.proofs.Longer.{more_at_mark, more_length, more_term, sound_at_mark}
 use Rattle.apd_trace.specs.declared.frame.Frame.{Frame}
+use Rattle.apd_unify.specs.Cells.{AreCells}
 use Rattle.apd_unify.specs.declared.store.Cell.{Cell}
 use Rattle.apd_frames.specs.Links.{Link}
 use Rattle.apd_frames.specs.declared.links.Branch.{Branch}
-use Rattle.apd_frames.specs.Instances.{terms_in, AreInside, IsInside}
+use Rattle.apd_frames.specs.Instances.{terms_in, IsInside}
 use Rattle.apd_frames.specs.Linked.{frame_in, frames_at, oldest, saved_of, ArePlaced, AreMarked, IsFramed}
 use Rattle.apd_frames.proofs.Branching.{placed_more}
 use Rattle.apd_frames.proofs.Linking.{tuple_of, with_tuple}
 
-terms_more : (s t : Stored) (cs : List Cell) → HasMoreCells s t → IsSound s → AreInside (length s.cells) cs → terms_in t cs ≡ terms_in s cs
+terms_more : (s t : Stored) (cs : List Cell) → HasMoreCells s t → IsSound s → AreCells (length s.cells) cs → terms_in t cs ≡ terms_in s cs
 terms_more s t [] h i a = refl
 terms_more s t (c ∷ cs) h i a = ap (λ x. x ∷ terms_in t cs) (more_term s t c.0 h i a.0) ∙ ap (λ xs. term_at s c.0 ∷ xs) (terms_more s t cs h i a.1)
 

@@ -11,11 +11,12 @@ use Rattle.apd_term.specs.declared.tuple.Tuple.{Tuple}
 use Rattle.apd_cells.specs.Ordered.{IsNumberedAnew, Numbers}
 use Rattle.apd_cells.specs.Stored.{Stored}
 use Rattle.apd_cells.specs.Store.{term_at, SizeWithin}
+use Rattle.apd_unify.specs.Cells.{AreCells}
 use Rattle.apd_unify.specs.declared.store.Cell.{Cell}
 use Rattle.apd_cells.proofs.Ordered.{among_seen, canonical_kept}
 use Rattle.apd_trace.specs.Frames.{is_large}
 use Rattle.apd_frames.specs.Links.{Instance}
-use Rattle.apd_frames.specs.Instances.{terms_in, tuple_in, AreInside, IsInside}
+use Rattle.apd_frames.specs.Instances.{terms_in, tuple_in, IsInside}
 
 pub numbers_some : (old new : List ℕ) (t r : Term) (k : ℕ) (o : Option Term) → Numbers old new t k o → o ≡ Some r → IsNumberedAnew old new t k r
 numbers_some old new t r k o h e = subst (Numbers old new t k) e h
@@ -78,7 +79,7 @@ small_so : (n : ℕ) → n ≤ 1000000 → nat_lt 1000000 n ≡ false
 small_so n h = grind (arith, nat_tests)
 
 -- terms that are all short are small together
-short_terms : (s : Stored) (cs : List Cell) → ((c : ℕ) → c < length s.cells → size (term_at s c) ≤ 15384) → AreInside (length s.cells) cs → sizes (terms_in s cs) ≤ 15384 * length cs
+short_terms : (s : Stored) (cs : List Cell) → ((c : ℕ) → c < length s.cells → size (term_at s c) ≤ 15384) → AreCells (length s.cells) cs → sizes (terms_in s cs) ≤ 15384 * length cs
 short_terms s [] h i = omega arith
 short_terms s (c ∷ cs) h i = omega (arith, h c.0 i.0, short_terms s cs h i.1)
 

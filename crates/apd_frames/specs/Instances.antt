@@ -1,11 +1,12 @@
 -- Instances of clauses in a store.
-use Rattle.std.specs.Prelude.{◌≡◌, ℕ, zero, suc, ◌<◌, ◌≤◌, List, [], ◌∷◌, get_or, length, map, Option, Some, None, Bool, true, false, not}
+use Rattle.std.specs.Prelude.{◌≡◌, ℕ, zero, suc, ◌<◌, ◌≤◌, List, get_or, length, map, Option, Some, None, Bool, true, false, not}
 use Rattle.apd_term.specs.Term.{Term, apply}
 use Rattle.apd_term.specs.Substitution.{term_for}
 use Rattle.apd_term.specs.Canonical.{shifted}
 use Rattle.apd_term.specs.Tuple.{apply_tuple, canonical_tuple}
 use Rattle.apd_term.specs.declared.tuple.Tuple.{Tuple}
 use Rattle.apd_unify.specs.Unifier.{IsUnifier, HasNoUnifier}
+use Rattle.apd_unify.specs.Cells.{AreCells}
 use Rattle.apd_unify.specs.declared.store.Cell.{Cell}
 use Rattle.apd_unify.specs.Heads.{HasGoneOn}
 use Rattle.apd_cells.specs.Slots.{Fits, Numbering, value_in}
@@ -33,14 +34,9 @@ abbrev pub cell_in : Instance → ℕ → Cell
 cell_in i zero = i.head
 cell_in i (suc n) = get_or i.goals n i.head
 
--- the cells are among the first n
-abbrev pub AreInside : ℕ → List Cell → Type 0
-AreInside n [] = Unit {0}
-AreInside n (c ∷ cs) = (c.0 < n) × AreInside n cs
-
 pub record IsInside (n : ℕ) (i : Instance) : Type 0 where
   pub head : i.head.0 < n
-  pub goals : AreInside n i.goals
+  pub goals : AreCells n i.goals
 
 -- what the bindings make of a term whose variables are raised
 abbrev pub raised_in : Stored → ℕ → Term → Term
@@ -65,7 +61,7 @@ pub record HasBody (s s' : Stored) (old new : List Slot) (body : List Term) (goa
   pub values : (g : Numbering) → Fits g s' new → (v : ℕ) → value_in s' g.of new v ≡ value_in s g.of old v
   pub others : (c : ℕ) → c < length s.cells → term_at s' c ≡ term_at s c
   pub made : (g : Numbering) → Fits g s' new → terms_in s' goals ≡ map (apply (value_in s' g.of new)) body
-  pub inside : AreInside (length s'.cells) goals
+  pub inside : AreCells (length s'.cells) goals
 
 -- the rule's variables were raised above all others, its head was unified with the goal, and this is its instance then
 pub record IsInstantiated (i : Instance) (old new : Stored) (goal : ℕ) (rule : Tuple) : Type 0 where

@@ -1,18 +1,19 @@
 //! Instances of clauses in a store.
 
-ghost use Rattle.std.specs.Prelude.{◌≡◌, ℕ, ◌∷◌, [], ◌+◌, ◌<◌, ◌≤◌, ◌^◌, length, map, IfOk, OnOk};
+ghost use Rattle.std.specs.Prelude.{◌≡◌, ℕ, ◌∷◌, [], ◌<◌, ◌≤◌, ◌^◌, length, map, IfOk, OnOk};
 ghost use Rattle.std.specs.List.{flat_map};
 ghost use Rattle.apd_term.specs.Term.{variables, IsAmong};
 ghost use Rattle.apd_cells.specs.Numbered.{IsNumbered};
 ghost use Rattle.apd_cells.specs.Slots.{AreSlots};
 ghost use Rattle.apd_term.specs.Tuple.{variables_of_tuple};
-ghost use Rattle.apd_cells.specs.Store.{at_mark, term_at, IsSound, Keeps};
+ghost use Rattle.apd_cells.specs.Store.{at_mark, IsSound, Keeps};
 ghost use Rattle.apd_trace.specs.Frames.{query_frame};
 ghost use Rattle.apd_clauses.specs.Clauses.{IsRunnable};
+ghost use Rattle.apd_unify.specs.Cells.{AreCells};
 ghost use Rattle.apd_unify.specs.Heads.{HasGoneOn, IsLoadedFor, Matches};
 ghost use Rattle.apd_frames.specs.Links.{link_of};
 ghost use Rattle.apd_frames.specs.Linked.{frames_at, IsFramed, IsThere};
-ghost use Rattle.apd_frames.specs.Instances.{terms_in, instance_where, tuple_in, raised_in, AreInside, CanonicalWithin, IsWithin, HasBody, HasGrown, InstantiatesVariant};
+ghost use Rattle.apd_frames.specs.Instances.{terms_in, instance_where, tuple_in, raised_in, CanonicalWithin, IsWithin, HasBody, HasGrown, InstantiatesVariant};
 
 use crate::floor::{Laid, expect_goal, expect_head, lay};
 use crate::links::{LinkRef, Links};
@@ -47,7 +48,7 @@ pub fn load_all(store: &mut Store, cells: &mut Vec<Cell>, terms: &[Flat]) -> Res
     ensures grown { HasGrown store.old store.new }
     ensures made { OnOk result
         (terms_in store.new cells.new.items ≡ map (raised_in store.old 0) terms.now) }
-    ensures inside { OnOk result (AreInside (length store.new.cells) cells.new.items) }
+    ensures inside { OnOk result (AreCells (length store.new.cells) cells.new.items) }
 {
     cells.clear();
     'terms: for term in terms {

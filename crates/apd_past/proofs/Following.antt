@@ -10,7 +10,7 @@ use Rattle.apd_cells.specs.declared.heap.TrailNote.TheVariants.{Loaded, Bound}
 use Rattle.apd_cells.specs.declared.heap.Binding.TheVariants.{At}
 use Rattle.apd_cells.specs.Stored.{Stored}
 use Rattle.apd_cells.specs.Store.{written, meaning, term_at, binding_of, before_note, before_notes, at_mark, HasCells, MayBind, IsStore, IsSound}
-use Rattle.apd_cells.proofs.Bindings.{not_zero}
+use Rattle.apd_cells.proofs.Undoing.{before_more}
 use Rattle.apd_cells.proofs.Longer.{meaning-more, store-more, MayBind-more, sound_at_mark}
 use Rattle.apd_past.specs.declared.deeds.Deed.{Deed}
 use Rattle.apd_past.specs.declared.past.PastCell.{PastCell}
@@ -76,15 +76,11 @@ fewer_before : (cells : List Sym) (n : ℕ) (notes : List TrailNote) (j : ℕ) �
 fewer_before cells n [] j h = omega arith
 fewer_before cells n (Loaded c m ∷ notes) zero h = omega arith
 fewer_before cells n (Loaded c m ∷ notes) (suc j) h =
-    let here : Stored = record { cells = cells; variables = n; trail = Loaded c m ∷ notes } in
-    let e : suc j - 1 ≡ j = omega arith in
-    let q = ap (λ (s : Stored). s.variables) (not_zero (suc j) here (before_notes (take c cells) m notes (suc j - 1)) (omega arith) ∙ ap (before_notes (take c cells) m notes) e) in
+    let q = ap (λ (s : Stored). s.variables) (before_more cells n (Loaded c m) notes j) in
     omega (arith, q, fewer_before (take c cells) m notes j h.1.1.1, h.1.1.0)
 fewer_before cells n (Bound v c ∷ notes) zero h = omega arith
 fewer_before cells n (Bound v c ∷ notes) (suc j) h =
-    let here : Stored = record { cells = cells; variables = n; trail = Bound v c ∷ notes } in
-    let e : suc j - 1 ≡ j = omega arith in
-    let q = ap (λ (s : Stored). s.variables) (not_zero (suc j) here (before_notes cells n notes (suc j - 1)) (omega arith) ∙ ap (before_notes cells n notes) e) in
+    let q = ap (λ (s : Stored). s.variables) (before_more cells n (Bound v c) notes j) in
     omega (arith, q, fewer_before cells n notes j h.1)
 
 -- one note of the trail is followed

@@ -1,5 +1,5 @@
 -- A store at each place of its trail.
-use Rattle.std.proofs.Common.{◌≡◌, ℕ, zero, suc, ◌+◌, ◌-◌, ◌<◌, List, [], ◌∷◌, ◌++◌, length, get_or, take, drop, reverse, refl, sym, ◌∙◌, ap, subst, arith, append_assoc}
+use Rattle.std.proofs.Common.{◌≡◌, ℕ, zero, suc, ◌+◌, ◌-◌, ◌<◌, List, [], ◌∷◌, ◌++◌, length, get_or, take, drop, reverse, sym, ◌∙◌, ap, subst, arith, append_assoc}
 use Rattle.std.proofs.Math.Seq.{drop-append_seam}
 use Rattle.std.proofs.lemmas.List.{append-nil, take-append-drop, length-drop, length-reverse, reverse-append, take_more, length-take-le}
 use Rattle.apd_term.specs.declared.term.Sym.{Sym}
@@ -8,37 +8,18 @@ use Rattle.apd_cells.specs.declared.heap.TrailNote.TheVariants.{Loaded, Bound}
 use Rattle.apd_cells.specs.Stored.{Stored}
 use Rattle.apd_cells.specs.Store.{before_note, before_notes, at_mark, bound, MayBind, IsStore, IsSound}
 use Rattle.apd_cells.proofs.Keeping.{at_mark-at_mark}
-use Rattle.apd_cells.proofs.Bindings.{not_zero}
+use Rattle.apd_cells.proofs.Undoing.{before_more, before_trail}
 use Rattle.apd_cells.proofs.Longer.{sound_at_mark}
 use Rattle.apd_cells.proofs.Sizing.{before_is}
 
--- the notes at a mark
-pub before_trail : (cells : List Sym) (n : ℕ) (notes : List TrailNote) (j : ℕ) → (before_notes cells n notes j).trail ≡ drop j notes
-before_trail cells n [] zero = refl
-before_trail cells n [] (suc j) = refl
-before_trail cells n (Loaded c m ∷ notes) zero = refl
-before_trail cells n (Loaded c m ∷ notes) (suc j) =
-    let here : Stored = record { cells = cells; variables = n; trail = Loaded c m ∷ notes } in
-    let e : suc j - 1 ≡ j = omega arith in
-    ap (λ (s : Stored). s.trail) (not_zero (suc j) here (before_notes (take c cells) m notes (suc j - 1)) (omega arith) ∙ ap (before_notes (take c cells) m notes) e)
-    ∙ before_trail (take c cells) m notes j
-before_trail cells n (Bound v c ∷ notes) zero = refl
-before_trail cells n (Bound v c ∷ notes) (suc j) =
-    let here : Stored = record { cells = cells; variables = n; trail = Bound v c ∷ notes } in
-    let e : suc j - 1 ≡ j = omega arith in
-    ap (λ (s : Stored). s.trail) (not_zero (suc j) here (before_notes cells n notes (suc j - 1)) (omega arith) ∙ ap (before_notes cells n notes) e)
-    ∙ before_trail cells n notes j
-
--- its cells are the first ones
+-- the cells at a mark are the first ones
 front_before : (cells : List Sym) (n : ℕ) (notes : List TrailNote) (j : ℕ) → (rest : List Sym) × (cells ≡ (before_notes cells n notes j).cells ++ rest)
 front_before cells n [] zero = ([], sym (append-nil cells))
 front_before cells n [] (suc j) = ([], sym (append-nil cells))
 front_before cells n (Loaded c m ∷ notes) zero = ([], sym (append-nil cells))
 front_before cells n (Loaded c m ∷ notes) (suc j) =
-    let here : Stored = record { cells = cells; variables = n; trail = Loaded c m ∷ notes } in
-    let e : suc j - 1 ≡ j = omega arith in
     let k = front_before (take c cells) m notes j in
-    let same = ap (λ (s : Stored). s.cells) (not_zero (suc j) here (before_notes (take c cells) m notes (suc j - 1)) (omega arith) ∙ ap (before_notes (take c cells) m notes) e) in (
+    let same = ap (λ (s : Stored). s.cells) (before_more cells n (Loaded c m) notes j) in (
       k.0 ++ drop c cells,
       sym (take-append-drop c cells) ∙ ap (λ z. z ++ drop c cells) k.1
           ∙ append_assoc (before_notes (take c cells) m notes j).cells k.0 (drop c cells)
@@ -46,10 +27,8 @@ front_before cells n (Loaded c m ∷ notes) (suc j) =
     )
 front_before cells n (Bound v c ∷ notes) zero = ([], sym (append-nil cells))
 front_before cells n (Bound v c ∷ notes) (suc j) =
-    let here : Stored = record { cells = cells; variables = n; trail = Bound v c ∷ notes } in
-    let e : suc j - 1 ≡ j = omega arith in
     let k = front_before cells n notes j in
-    let same = ap (λ (s : Stored). s.cells) (not_zero (suc j) here (before_notes cells n notes (suc j - 1)) (omega arith) ∙ ap (before_notes cells n notes) e) in
+    let same = ap (λ (s : Stored). s.cells) (before_more cells n (Bound v c) notes j) in
     (k.0, k.1 ∙ ap (λ z. z ++ k.0) (sym same))
 
 pub front_at_mark : (k : ℕ) (s : Stored) → (rest : List Sym) × (s.cells ≡ (at_mark k s).cells ++ rest)

@@ -5,7 +5,7 @@ use Rattle.std.proofs.Common.{ap}
 use Rattle.apd_cells.specs.Store.{above}
 use Rattle.apd_past.specs.declared.deeds.Deed.{Deed}
 
--- a number above all variables, and what was done to them, the oldest first
+-- a journal: a number above all variables, and what was done to them, the oldest first
 pub record Done : Type 0 where
   pub variables : ℕ
   pub deeds : List Deed

@@ -113,7 +113,7 @@ abbrev pub AreBelow : ℕ → List ℕ → Type 0
 AreBelow n [] = Unit {0}
 AreBelow n (v ∷ vs) = (v < n) × AreBelow n vs
 
--- the variables that are bound at present
+-- these variables are those that are bound at present, the newest first, and below the journal's number
 pub record IsJournal (d : Done) (bound : List ℕ) : Type 0 where
   pub bound_are : bound ≡ variables_of (bindings_of d)
   pub below : AreBelow d.variables bound

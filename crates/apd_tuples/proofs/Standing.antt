@@ -6,6 +6,7 @@ use Rattle.std.proofs.lemmas.List.{map-append}
 use Rattle.std.proofs.lemmas.Option.{slice_get-map}
 use Rattle.apd_term.specs.Tuple.{canonical_tuple}
 use Rattle.apd_term.specs.declared.tuple.Tuple.{Tuple}
+use Rattle.apd_unify.specs.Cells.{AreCells}
 use Rattle.apd_unify.specs.declared.store.Cell.{Cell}
 use Rattle.apd_cells.specs.Stored.{Stored}
 use Rattle.apd_cells.specs.Store.{term_at, IsSound}
@@ -18,7 +19,7 @@ use Rattle.apd_past.proofs.Following.{tuple_now}
 use Rattle.apd_past.proofs.Keeping.{tuple_kept}
 use Rattle.apd_past.proofs.Moments.{present_at}
 use Rattle.apd_tuples.specs.declared.spots.Fact.{Fact}
-use Rattle.apd_tuples.specs.Spots.{HavePlaces, Place, placed, kept_cells}
+use Rattle.apd_tuples.specs.Spots.{Place, placed, kept_cells}
 use Rattle.apd_tuples.specs.Tuples.{kept_tuple, kept_tuples, tuple_of, AreThere, Holds, IsThere}
 
 inside_more : (n m : ℕ) (cs : List PastCell) → n ≤ m → AreInside n cs → AreInside m cs
@@ -58,8 +59,8 @@ terms_as s (c ∷ cs) = ap (λ ts. term_at s c.0 ∷ ts) (terms_as s cs)
 
 -- a journal has followed a store
 module _ (d : Done) (s : Stored) (f : Follows d s) (sound : IsSound s) (head : Cell) (goals : List Cell) (inside : head.0 < length s.cells)
-    (all : HavePlaces (length s.cells) goals) (k : ℕ) (now : k ≡ length d.deeds) (fact : Fact) (holds : Holds fact (canonical_tuple (tuple_of s head goals))) where
-  placed_inside : (cs : List Cell) → HavePlaces (length s.cells) cs → AreInside (length s.cells) (kept_cells cs)
+    (all : AreCells (length s.cells) goals) (k : ℕ) (now : k ≡ length d.deeds) (fact : Fact) (holds : Holds fact (canonical_tuple (tuple_of s head goals))) where
+  placed_inside : (cs : List Cell) → AreCells (length s.cells) cs → AreInside (length s.cells) (kept_cells cs)
   placed_inside [] h = tt
   placed_inside (c ∷ cs) h = (h.0, placed_inside cs h.1)
 

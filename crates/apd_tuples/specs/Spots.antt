@@ -1,5 +1,5 @@
 -- Where tuples are in a past.
-use Rattle.std.specs.Prelude.{◌≡◌, ℕ, ◌<◌, ◌≤◌, List, [], ◌∷◌, ◌++◌, map, take, drop}
+use Rattle.std.specs.Prelude.{◌≡◌, ℕ, ◌≤◌, List, [], ◌∷◌, ◌++◌, map, take, drop}
 use Rattle.apd_unify.specs.declared.store.Cell.{Cell}
 use Rattle.apd_past.specs.declared.past.PastCell.{PastCell}
 use Rattle.apd_tuples.specs.declared.spots.Fact.{Fact}
@@ -35,11 +35,6 @@ pub record IsSpanned (n : ℕ) (r : SpotRow) : Type 0 where
 abbrev pub AreSpanned : ℕ → List SpotRow → Type 0
 AreSpanned n [] = Unit {0}
 AreSpanned n (r ∷ rs) = IsSpanned n r × AreSpanned n rs
-
--- the cells are among the first n
-abbrev pub HavePlaces : ℕ → List Cell → Type 0
-HavePlaces n [] = Unit {0}
-HavePlaces n (c ∷ cs) = (c.0 < n) × HavePlaces n cs
 
 -- a cell as it is kept
 abbrev pub kept_cell : Cell → PastCell

@@ -37,7 +37,7 @@ pub struct Numbered {
     pub goals: u32,
 }
 
-/// A spot as it is kept: its goals stand among those of all.
+/// A spot as it is kept: its goals stand among those of all, where rows that follow each other may share them.
 #[derive(Clone, Copy)]
 pub struct SpotRow {
     pub head: PastCell,

@@ -5,7 +5,7 @@ ghost use Rattle.std.specs.Prelude.{◌≡◌, ◌∷◌, ◌<◌, ◌≤◌, �
 ghost use Rattle.apd_term.specs.Term.{IsTerms, IsWhole, term_of};
 ghost use Rattle.apd_term.specs.declared.term.Sym.TheVariants.{Var};
 ghost use Rattle.apd_cells.specs.Slots.{AreSlots, HasLoaded};
-ghost use Rattle.apd_cells.specs.Store.{IsSound, Keeps, symbol_at};
+ghost use Rattle.apd_cells.specs.Store.{IsSound, Keeps};
 ghost use Rattle.apd_cells.specs.Work.{AreRuns, IsRun, Leads};
 ghost use Rattle.apd_unify.specs.Heads.{GoesUnder, HasGoneOn, IsPastFirst, Matches, Meets};
 

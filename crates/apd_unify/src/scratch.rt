@@ -12,7 +12,7 @@ use apd_term::{Flat, Sym, Syms};
 use std::alloc::{AllocError, Global};
 use std::marker::Model;
 
-/// How many symbols there is room for where a term is written: few have more.
+/// Room for so many symbols is taken before a term is written, so that most are written without asking for more.
 const ROOM: usize = 64;
 
 /// What terms are written out with, kept from term to term so that its memory is taken once. Clauses

@@ -5,8 +5,9 @@ use Rattle.apd_term.proofs.Among.{IsAmong-left, IsAmong-right}
 use Rattle.apd_cells.specs.Store.{Keeps}
 use Rattle.apd_cells.specs.Stored.{Stored}
 use Rattle.apd_cells.proofs.Keeping.{Keeps-trans}
+use Rattle.apd_unify.specs.Cells.{AreCells}
 use Rattle.apd_frames.specs.Links.{Instance, Link}
-use Rattle.apd_frames.specs.Instances.{terms_in, raised_in, AreInside}
+use Rattle.apd_frames.specs.Instances.{terms_in, raised_in}
 use Rattle.apd_frames.proofs.Instancing.{inside_new}
 use Rattle.apd_frames.proofs.Moving.{opened, opened_framed}
 use Rattle.apd_frames.proofs.instance.put_query.Goals as goal
@@ -24,7 +25,7 @@ returns-clause-framed c =
     let l : Link = record { box_no = 0; depth = 0; clause = 0; instance = i; done = 0; point = 0; around = 0 } in
     let h = inside_new c.args.store.now c.load.new.self c.args.tuple.now.head 0 c.in_ok-head.head.0 c.in_ok-head.ensures.ok c.in_ok-head.ensures.cell in
     opened_framed c.load_all.new.store l c.push.new.self [] (c.in_ok-push.ensures.ok ∙ ap (λ ls. l ∷ ls) c.requires.links) refl refl
-    (record { head = omega (arith, h, c.load_all.ensures.grown.cells); goals = subst (AreInside (length c.load_all.new.store.cells)) (sym c.as_slice-2.ensures.value) c.in_ok-load_all.ensures.inside })
+    (record { head = omega (arith, h, c.load_all.ensures.grown.cells); goals = subst (AreCells (length c.load_all.new.store.cells)) (sym c.as_slice-2.ensures.value) c.in_ok-load_all.ensures.inside })
 
 pub returns-clause-frames : goal.returns-clause-frames
 returns-clause-frames c =

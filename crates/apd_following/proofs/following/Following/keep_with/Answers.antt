@@ -10,7 +10,7 @@ use Rattle.apd_following.specs.Followed.{Followed, HoldsInnermost, kept_of}
 use Rattle.apd_tuples.specs.Tuples.{kept_tuple, kept_tuples}
 use Rattle.apd_tuples.proofs.Spanning.{on_err_always}
 use Rattle.apd_following.specs.Tied.{past_of}
-use Rattle.apd_following.proofs.Keeping.{have_places, keeps_so}
+use Rattle.apd_following.proofs.Keeping.{keeps_so}
 use Rattle.apd_following.proofs.following.Following.keep_with.Goals as goal
 
 pub unreachable-requires : goal.unreachable-requires
@@ -35,7 +35,6 @@ keep_at-requires-clause-head c =
 
 pub keep_at-requires-clause-goals : goal.keep_at-requires-clause-goals
 keep_at-requires-clause-goals c =
-    have_places (length c.self.inside.linked.store.cells) c.in-Some.link.goals.now
     (innermost_some c.self.inside.linked.store c.self.inside.linked.links c.self.inside.linked.innermost c.self.inside.linked.branches (frames_of c.self.inside.linked) (link_of c.in-Some.link) refl c.self.invariant.0 c.in-Some.ensures).inside.goals
 
 pub invariant_of-self-in-Some : goal.invariant_of-self-in-Some

@@ -1,14 +1,14 @@
 use Rattle.std.proofs.Common.{◌≡◌, ◌<◌, ◌∷◌, ◌∙◌, ap, drop, length, reverse, subst, sym}
 use Rattle.apd_cells.specs.declared.front.Front.{Front}
-use Rattle.apd_cells.specs.Undone.{IsFront, undone}
+use Rattle.apd_cells.specs.Undone.{IsFront}
 use Rattle.apd_past.proofs.Moments.{right_cells}
 use Rattle.apd_past.specs.History.{History}
 use Rattle.apd_frames.specs.Framed.{frames_of}
 use Rattle.apd_following.specs.Followed.{Followed}
-use Rattle.apd_following.specs.Tied.{past_of, IsBack}
+use Rattle.apd_following.specs.Tied.{past_of}
 use Rattle.apd_tuples.specs.Tuples.{kept_tuples, AreThere}
 use Rattle.apd_tuples.proofs.Standing.{there_more, tuples_same}
-use Rattle.apd_following.proofs.Backward.{past_back}
+use Rattle.apd_following.proofs.Backward.{is_back, past_stays}
 use Rattle.apd_following.proofs.following.Following.restore.Goals as goal
 
 pub restore-requires-clause-framed : goal.restore-requires-clause-framed
@@ -23,14 +23,7 @@ restore-requires-clause-front c =
     (right_cells _ c.self.inside.tie.journal.variables (reverse c.self.inside.tie.journal.deeds) c.self.invariant.1.right)
 
 pub go_back-requires : goal.go_back-requires
-go_back-requires c = record {
-  before = c.self.inside.linked.store;
-  sound = c.restore.ensures.sound;
-  tied = c.self.invariant.1;
-  mark = c.restore.ensures.store.0;
-  there = c.restore.ensures.store.1;
-  is = c.restore.ensures.store.2 ∙ ap (λ (f : Front). undone f c.restore.ensures.store.0 c.self.inside.linked.store) c.front-kept.ensures;
-}
+go_back-requires c = is_back c.self.inside.tie c.self.inside.linked c.restore.new.self c.front-kept.result c.self.invariant.1 c.restore.ensures.sound c.restore.ensures.store c.front-kept.ensures
 
 pub returns-clause-current : goal.returns-clause-current
 returns-clause-current c =
@@ -42,15 +35,7 @@ returns-clause-saved c = c.restore.ensures.saved ∙ ap (λ (f : Followed). f.sa
 pub returns-clause-tuples : goal.returns-clause-tuples
 returns-clause-tuples c =
     let now = c.restore.new.self.store in
-    let b : IsBack c.self.inside.tie now = record {
-      before = c.self.inside.linked.store;
-      sound = c.restore.ensures.sound;
-      tied = c.self.invariant.1;
-      mark = c.restore.ensures.store.0;
-      there = c.restore.ensures.store.1;
-      is = c.restore.ensures.store.2 ∙ ap (λ (f : Front). undone f c.restore.ensures.store.0 c.self.inside.linked.store) c.front-kept.ensures;
-    } in
-    let past = past_back c.self.inside.tie now b in
+    let past = past_stays c.self.inside.tie c.self.inside.linked c.restore.new.self c.front-kept.result c.self.invariant.1 c.restore.ensures.sound c.restore.ensures.store c.front-kept.ensures in
     tuples_same (past_of c.self.inside.tie now) (past_of c.go_back.new.self now) c.self.inside.spots c.go_back.ensures.kept
     (subst (λ (h : History). AreThere h c.self.inside.spots) (sym past) c.self.invariant.2)
     ∙ ap (λ (h : History). kept_tuples h c.self.inside.spots) past
@@ -59,16 +44,9 @@ returns-clause-tuples c =
 pub invariant_of-self : goal.invariant_of-self
 invariant_of-self c =
     let now = c.restore.new.self.store in
-    let b : IsBack c.self.inside.tie now = record {
-      before = c.self.inside.linked.store;
-      sound = c.restore.ensures.sound;
-      tied = c.self.invariant.1;
-      mark = c.restore.ensures.store.0;
-      there = c.restore.ensures.store.1;
-      is = c.restore.ensures.store.2 ∙ ap (λ (f : Front). undone f c.restore.ensures.store.0 c.self.inside.linked.store) c.front-kept.ensures;
-    } in (
+    let past = past_stays c.self.inside.tie c.self.inside.linked c.restore.new.self c.front-kept.result c.self.invariant.1 c.restore.ensures.sound c.restore.ensures.store c.front-kept.ensures in (
       c.restore.ensures.framed,
       c.go_back.ensures.tied,
       there_more (past_of c.self.inside.tie now) (past_of c.go_back.new.self now) c.self.inside.spots c.go_back.ensures.kept
-          (subst (λ (h : History). AreThere h c.self.inside.spots) (sym (past_back c.self.inside.tie now b)) c.self.invariant.2),
+          (subst (λ (h : History). AreThere h c.self.inside.spots) (sym past) c.self.invariant.2),
     )

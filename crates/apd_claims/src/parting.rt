@@ -17,7 +17,7 @@ use crate::form::{Calling, LineForm};
 use crate::forms::form_in;
 use apd_answers::Finding;
 use apd_base::Text;
-use apd_ops::Ops;
+use apd_ops::{ARGUMENT_PRIORITY, Ops};
 use apd_parts::{Led, box_first};
 use apd_term::canonical::canonical;
 use apd_term::names::Names;
@@ -40,7 +40,7 @@ fn atom_text(alloc: Global, ops: &Ops, names: &Names, atom: &Flat) -> Result<Tex
 {
     let form = canonical(alloc, atom)?;
     let mut text = Text::new(alloc);
-    write_term(alloc, ops, names, &form, 999, &mut text)?;
+    write_term(alloc, ops, names, &form, ARGUMENT_PRIORITY, &mut text)?;
     Ok(text)
 }
 

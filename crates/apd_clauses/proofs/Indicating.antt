@@ -8,21 +8,22 @@ use Rattle.apd_term.specs.Term.{Term, Terms, variable, integer, compound, none, 
 use Rattle.apd_term.specs.declared.standard.TheConstants.{DIVIDE}
 use Rattle.apd_term.specs.declared.term.Pred.{Pred}
 use Rattle.apd_term.specs.declared.term.Sym.{Sym}
-use Rattle.apd_clauses.specs.Indicators.{arity_from, arity_in, indicated, name_alone, named_in, predicate_from, predicate_in}
+use Rattle.apd_clauses.specs.Indicators.{arity_from, indicated, name_alone, predicate_from}
+use Rattle.apd_clauses.specs.IndicatorSymbols.{arity_in, named_in, predicate_in}
 
-pub some_arguments : (t : Term) (ts : Terms) → (length (list_of (more t ts)) == 0) ≡ false
-some_arguments t ts = grind (arith, nat_tests)
+pub not_without_arguments : (t : Term) (ts : Terms) → (length (list_of (more t ts)) == 0) ≡ false
+not_without_arguments t ts = grind (arith, nat_tests)
 
-pub many_arguments : (t u v : Term) (ts : Terms) → (length (list_of (more t (more u (more v ts)))) == 2) ≡ false
-many_arguments t u v ts = grind (arith, nat_tests)
+pub not_two_arguments : (t u v : Term) (ts : Terms) → (length (list_of (more t (more u (more v ts)))) == 2) ≡ false
+not_two_arguments t u v ts = grind (arith, nat_tests)
 
-pub never : {A : Type 0} (b : Bool) (o : Option A) → (if b && false then o else None) ≡ None
-never true o = refl
-never false o = refl
+pub if_and_false : {A : Type 0} (b : Bool) (o : Option A) → (if b && false then o else None) ≡ None
+if_and_false true o = refl
+if_and_false false o = refl
 
-pub always : {A : Type 0} (b : Bool) (o : Option A) → (if b && true then o else None) ≡ (if b then o else None)
-always true o = refl
-always false o = refl
+pub if_and_true : {A : Type 0} (b : Bool) (o : Option A) → (if b && true then o else None) ≡ (if b then o else None)
+if_and_true true o = refl
+if_and_true false o = refl
 
 -- what the symbols of terms tell
 arity_in-spell : (t : Term) (rest : List Sym) → arity_in (spell t ++ rest) ≡ arity_from t
@@ -35,21 +36,21 @@ named_in-spell : (a : Term) (rest : List Sym) → named_in (spell a ++ rest) ≡
 named_in-spell (variable v) rest = refl
 named_in-spell (integer i) rest = refl
 named_in-spell (compound f none) rest = refl
-named_in-spell (compound f (more t ts)) rest = rw (some_arguments t ts) refl
+named_in-spell (compound f (more t ts)) rest = rw (not_without_arguments t ts) refl
 
 pub predicate_in-spell : (t : Term) (rest : List Sym) → predicate_in (spell t ++ rest) ≡ predicate_from t
 predicate_in-spell (variable v) rest = refl
 predicate_in-spell (integer i) rest = refl
-predicate_in-spell (compound f none) rest = never (f.0 == DIVIDE.0) (named_in rest)
-predicate_in-spell (compound f (more a none)) rest = never (f.0 == DIVIDE.0) (named_in ((spell a ++ []) ++ rest))
+predicate_in-spell (compound f none) rest = if_and_false (f.0 == DIVIDE.0) (named_in rest)
+predicate_in-spell (compound f (more a none)) rest = if_and_false (f.0 == DIVIDE.0) (named_in ((spell a ++ []) ++ rest))
 predicate_in-spell (compound f (more a (more b none))) rest =
     let behind : (spell a ++ (spell b ++ [])) ++ rest ≡ spell a ++ (spell b ++ rest) = rw (append-nil (spell b)) (append_assoc (spell a) (spell b) rest) in
     let named : named_in ((spell a ++ (spell b ++ [])) ++ rest) ≡ indicated (name_alone a) (arity_from b) =
     ap named_in behind ∙ named_in-spell a (spell b ++ rest) ∙ ap (indicated (name_alone a)) (arity_in-spell b rest) in
-    always (f.0 == DIVIDE.0) (named_in ((spell a ++ (spell b ++ [])) ++ rest)) ∙ ap (λ (o : Option Pred). if f.0 == DIVIDE.0 then o else None) named
+    if_and_true (f.0 == DIVIDE.0) (named_in ((spell a ++ (spell b ++ [])) ++ rest)) ∙ ap (λ (o : Option Pred). if f.0 == DIVIDE.0 then o else None) named
 predicate_in-spell (compound f (more a (more b (more c ts)))) rest =
-    ap (λ (two : Bool). if (f.0 == DIVIDE.0) && two then named_in (spell_all (more a (more b (more c ts))) ++ rest) else None) (many_arguments a b c ts)
-    ∙ never (f.0 == DIVIDE.0) (named_in (spell_all (more a (more b (more c ts))) ++ rest))
+    ap (λ (two : Bool). if (f.0 == DIVIDE.0) && two then named_in (spell_all (more a (more b (more c ts))) ++ rest) else None) (not_two_arguments a b c ts)
+    ∙ if_and_false (f.0 == DIVIDE.0) (named_in (spell_all (more a (more b (more c ts))) ++ rest))
 
 abbrev IfKnown : ℕ → Option Pred → Type 0
 IfKnown n None = Unit {0}

@@ -12,18 +12,19 @@ use Rattle.apd_term.specs.declared.term.Sym.TheVariants.{Var, Int, Fun}
 use Rattle.apd_term.specs.declared.tuple.Tuple.{Tuple}
 use Rattle.apd_cells.specs.First.{AreClashing, key_of}
 use Rattle.apd_clauses.specs.declared.clause.Clause.{Clause}
+use Rattle.apd_clauses.specs.declared.marks.TheConstants.{NAMES, SPREAD}
 use Rattle.apd_clauses.specs.Clauses.{clauses_from, tuples_of}
 
 -- all variables have the same part
 abbrev pub part_of : Sym → ℕ
 part_of (Var v) = 0
 part_of (Int i) = unsigned_abs i + 1
-part_of (Fun f n) = 4294967296 + f.0
+part_of (Fun f n) = NAMES + f.0
 
 -- the mark of the predicate's clauses whose first arguments begin with a symbol
 unfoldable pub mark_for : Pred → Sym → ℕ
 mark_for p first =
-    (((p.name.0 * 256 + p.arity) * 11400714819323198485) % 2 ^ 64 + part_of first) % 2 ^ 64
+    (((p.name.0 * 256 + p.arity) * SPREAD) % 2 ^ 64 + part_of first) % 2 ^ 64
 
 abbrev pub mark_by : Option Pred → Sym → ℕ
 mark_by None first = 0

@@ -1,10 +1,22 @@
 //! Predicate indicators: terms `Name/Arity`.
 
-ghost use Rattle.std.specs.Prelude.{◌≡◌};
-ghost use Rattle.apd_clauses.specs.Indicators.{arity_in, named_in, predicate_from, predicate_in};
+ghost use Rattle.std.specs.Prelude.{◌≡◌, IfOk};
+ghost use Rattle.apd_clauses.specs.Indicators.{indicator_of, predicate_from};
+ghost use Rattle.apd_clauses.specs.IndicatorSymbols.{arity_in, named_in, predicate_in};
 
 use apd_term::standard::DIVIDE;
-use apd_term::{Flat, Pred, Sym};
+use apd_term::{Atoms, Flat, Pred, Sym};
+use std::alloc::{AllocError, Global};
+
+/// The indicator of a predicate.
+pub fn indicator_of(alloc: Global, pred: Pred) -> Result<Flat, AllocError>
+    ensures { IfOk result (λ t. t ≡ indicator_of pred) }
+{
+    let mut arguments = Atoms::new(alloc);
+    arguments.push(Flat::compound(alloc, pred.name, &Atoms::new(alloc))?)?;
+    arguments.push(Flat::integer(alloc, pred.arity as i64)?)?;
+    Flat::compound(alloc, DIVIDE, &arguments)
+}
 
 /// The number of arguments that the first symbol is: an integer from 0 to 255.
 fn arity_in(symbols: &[Sym]) -> Option<u8>

@@ -4,6 +4,7 @@
 ghost use Rattle.std.specs.Prelude.{◌<◌, ◌≤◌, length};
 
 use crate::small::has_small_variables;
+use apd_base::MOST_KEPT;
 use apd_term::{Flat, Sym, Tuple};
 use std::alloc::{AllocError, Global};
 
@@ -74,7 +75,7 @@ fn note_atom(
     goal: u32,
 ) -> Result<(), AllocError> {
     let symbols = atom.symbols();
-    if symbols.len() <= LARGE || symbols.len() > MOST {
+    if symbols.len() <= LARGE || symbols.len() > MOST_KEPT {
         return Ok(());
     }
     let seen = see_all(alloc, symbols)?;
@@ -92,9 +93,6 @@ fn note_atom(
     }
     Ok(())
 }
-
-/// The greatest number that is kept.
-const MOST: usize = 4_294_967_295;
 
 /// How many of the pieces are of clauses before this one.
 fn count_before(pieces: &[Piece], clause: u32) -> usize

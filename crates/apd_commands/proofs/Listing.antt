@@ -6,8 +6,9 @@ use Rattle.apd_term.specs.Term.{Term, variable, integer, compound, none, more, s
 use Rattle.apd_term.specs.declared.standard.TheConstants.{CELL, DIVIDE, NIL}
 use Rattle.apd_term.specs.declared.term.Pred.{Pred}
 use Rattle.apd_term.specs.declared.term.Sym.{Sym}
-use Rattle.apd_clauses.specs.Indicators.{arity_from, indicated, name_alone, predicate_from, predicate_in}
-use Rattle.apd_clauses.proofs.Indicating.{always, many_arguments, never, predicate_in-spell, some_arguments}
+use Rattle.apd_clauses.specs.Indicators.{arity_from, indicated, name_alone, predicate_from}
+use Rattle.apd_clauses.specs.IndicatorSymbols.{predicate_in}
+use Rattle.apd_clauses.proofs.Indicating.{if_and_false, if_and_true, not_two_arguments, not_without_arguments, predicate_in-spell}
 use Rattle.apd_commands.specs.Filters.{listed_predicates, onto_predicates}
 use Rattle.apd_commands.specs.Listed.{first_predicate, is_ended}
 
@@ -29,13 +30,13 @@ head_predicate t = None
 first_predicate-spell : (t : Term) → first_predicate (spell t) ≡ head_predicate t
 first_predicate-spell (variable v) = refl
 first_predicate-spell (integer i) = refl
-first_predicate-spell (compound g none) = never (g.0 == CELL.0) (predicate_in [])
-first_predicate-spell (compound g (more t none)) = never (g.0 == CELL.0) (predicate_in (spell t ++ []))
+first_predicate-spell (compound g none) = if_and_false (g.0 == CELL.0) (predicate_in [])
+first_predicate-spell (compound g (more t none)) = if_and_false (g.0 == CELL.0) (predicate_in (spell t ++ []))
 first_predicate-spell (compound g (more t (more u none))) =
-    always (g.0 == CELL.0) (predicate_in (spell t ++ (spell u ++ []))) ∙ ap (λ (o : Option Pred). if g.0 == CELL.0 then o else None) (predicate_in-spell t (spell u ++ []))
+    if_and_true (g.0 == CELL.0) (predicate_in (spell t ++ (spell u ++ []))) ∙ ap (λ (o : Option Pred). if g.0 == CELL.0 then o else None) (predicate_in-spell t (spell u ++ []))
 first_predicate-spell (compound g (more t (more u (more v ts)))) =
-    ap (λ (two : Bool). if (g.0 == CELL.0) && two then predicate_in (spell_all (more t (more u (more v ts)))) else None) (many_arguments t u v ts)
-    ∙ never (g.0 == CELL.0) (predicate_in (spell_all (more t (more u (more v ts)))))
+    ap (λ (two : Bool). if (g.0 == CELL.0) && two then predicate_in (spell_all (more t (more u (more v ts)))) else None) (not_two_arguments t u v ts)
+    ∙ if_and_false (g.0 == CELL.0) (predicate_in (spell_all (more t (more u (more v ts)))))
 
 -- the list `[]`
 abbrev is_nil : Term → Bool
@@ -54,7 +55,7 @@ is_ended-spell : (t : Term) → is_ended (spell t) ≡ is_nil t
 is_ended-spell (variable v) = refl
 is_ended-spell (integer i) = refl
 is_ended-spell (compound g none) = true_either (g.0 == NIL.0)
-is_ended-spell (compound g (more t ts)) = ap (λ (b : Bool). (g.0 == NIL.0) && b) (some_arguments t ts) ∙ false_either (g.0 == NIL.0)
+is_ended-spell (compound g (more t ts)) = ap (λ (b : Bool). (g.0 == NIL.0) && b) (not_without_arguments t ts) ∙ false_either (g.0 == NIL.0)
 
 -- what a choice with nothing on its other side gives
 chosen : {A : Type 0} (b : Bool) (o : Option A) (x : A) → (if b then o else None) ≡ Some x → (b ≡ true) × (o ≡ Some x)

@@ -4,7 +4,7 @@ use Rattle.apd_term.specs.declared.term.Pred.{Pred}
 use Rattle.apd_term.specs.declared.term.Sym.{Sym}
 use Rattle.apd_term.specs.declared.term.Sym.TheVariants.{Var, Int, Fun}
 use Rattle.apd_term.specs.declared.standard.TheConstants.{CELL, NIL}
-use Rattle.apd_clauses.specs.Indicators.{predicate_in}
+use Rattle.apd_clauses.specs.IndicatorSymbols.{predicate_in}
 
 -- the first element of a list, where that is a predicate
 abbrev pub first_predicate : List Sym → Option Pred

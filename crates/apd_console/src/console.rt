@@ -7,6 +7,7 @@ ghost use Rattle.apd_console.specs.Console.{Kept, IsKept, IsOnTime, fresh, Hands
 ghost use Rattle.apd_console.specs.Draft.{IsFirstNewline, TakesPart};
 ghost use Rattle.apd_console.specs.Print.{AddsFront};
 ghost use Rattle.apd_base.specs.declared.limits.TheConstants.{MAX_INPUT};
+ghost use Rattle.apd_console.specs.declared.console.TheConstants.{CHUNK};
 
 use crate::draft::Draft;
 use crate::{Line, LineEnd};
@@ -40,7 +41,7 @@ impl Model for Console {
 
     ghost view = { λ c. record { kept = drop c.at (take c.end c.chunk.items); taken = c.taken; ended = c.ended } };
 
-    ghost invariant = { λ c. (c.at ≤ c.end) × (c.end ≤ 8192) × (length c.chunk.items ≡ 8192)
+    ghost invariant = { λ c. (c.at ≤ c.end) × (c.end ≤ CHUNK) × (length c.chunk.items ≡ CHUNK)
         × IsKept record { kept = drop c.at (take c.end c.chunk.items); taken = c.taken; ended = c.ended } };
 }
 

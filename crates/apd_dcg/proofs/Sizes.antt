@@ -13,6 +13,7 @@ use Rattle.apd_dcg.specs.declared.part.Part.{Part}
 use Rattle.apd_dcg.specs.declared.part.Part.TheVariants.{Terminals, Goal, Nonterminal}
 use Rattle.apd_dcg.specs.Parts.{elements, part_by, part_of, braced, parts_by, parts_of, parts, with_move}
 use Rattle.apd_dcg.specs.Rules.{with_states, onto, goal_between, state_after, goals_from, last_state, clause_with, rule_term}
+use Rattle.apd_dcg.specs.Sizes.{most_symbols}
 use Rattle.apd_dcg.proofs.Fine.{IsEnd, with_end}
 
 -- how many symbols a part has in its body, at least
@@ -114,7 +115,7 @@ weights-end : (end : List Part) → IsEnd end → weights end ≡ 0
 weights-end end (inl e) = ap weights e
 weights-end end (inr e) = ap weights e
 
-pub size-clause : (n : ℕ) (h b : Term) → length (with_move (parts b)) ≤ 64 → size_of_tuple (clause_with n h (with_move (parts b))) ≤ size (rule_term h b) + 1000
+pub size-clause : (n : ℕ) (h b : Term) → length (with_move (parts b)) ≤ 64 → size_of_tuple (clause_with n h (with_move (parts b))) ≤ most_symbols (rule_term h b)
 size-clause n h b few =
     let k = with_end (parts b) in
     omega (

@@ -9,6 +9,7 @@ ghost use Rattle.apd_following.specs.Followed.{kept_of};
 ghost use Rattle.apd_engine.specs.Search.{Found, OfGoal, PassesBy, Postpones, Skips, numbers_by};
 
 use crate::search::Choice;
+use apd_base::MOST_KEPT;
 use apd_cells::first::{are_clashing, key_of};
 use apd_cells::stack::Stack;
 use apd_clauses::Program;
@@ -102,9 +103,6 @@ pub fn find(
     Ok(at)
 }
 
-/// The greatest index that is kept.
-const MOST: usize = 4_294_967_295;
-
 /// The clauses of the goal called in this box wait from this index on, or its Fail where there is none.
 #[inline(always)]
 pub fn postpone(
@@ -116,7 +114,7 @@ pub fn postpone(
     ensures { OnOk result (Postpones box_no next count stack.old stack.new) }
 {
     if next < count {
-        if next > MOST {
+        if next > MOST_KEPT {
             return Err(AllocError);
         }
         return stack.push(Choice::Alternatives(box_no, next as u32));

@@ -103,7 +103,7 @@ fn is_left_below(
 
 /// The first place behind those that share a word of bits with this one.
 fn next_word(place: usize) -> usize
-    requires { place < 18446744073709551615 }
+    requires { place < usize.MAX }
     ensures further { place < result }
     ensures near { (k : ℕ) → place ≤ k → k < result → k / 64 ≡ place / 64 }
 {

@@ -15,6 +15,19 @@ const INTEGERS: u64 = 2_654_435_769;
 
 const NAMES: u64 = 3_266_489_917;
 
+/// The odd numbers by which the bits of a place, of two places, and of these with a name are spread.
+const BY_PLACE: u32 = 2_654_435_769;
+
+const BY_PLACES: u32 = 2_246_822_519;
+
+const BY_ALL: u32 = 3_266_489_917;
+
+/// How many marks there are, those of 32 bits.
+const MARKS: u64 = 4_294_967_296;
+
+/// How many marks have the same number.
+const MARKS_OF_NUMBER: u32 = (MARKS / COUNT as u64) as u32;
+
 /// Where to look first, and what is noted there: two numbers that equal nodes share, equal links, and equal terms.
 #[derive(Clone, Copy)]
 pub struct Key {
@@ -39,23 +52,23 @@ pub struct Hints {
 /// The key with this mark, whose greatest bits are taken.
 fn of_mark(mark: u32) -> Key {
     Key {
-        number: (mark / (4_294_967_295 / COUNT + 1)) as usize,
+        number: (mark / MARKS_OF_NUMBER) as usize,
         mark,
     }
 }
 
 /// The key for two places and a name: their bits are spread by three odd numbers.
 fn spread(first: u32, rest: u32, name: u32) -> Key {
-    let places = first.wrapping_mul(2_654_435_769).wrapping_add(rest);
-    let all = places.wrapping_mul(2_246_822_519).wrapping_add(name);
-    of_mark(all.wrapping_mul(3_266_489_917))
+    let places = first.wrapping_mul(BY_PLACE).wrapping_add(rest);
+    let all = places.wrapping_mul(BY_PLACES).wrapping_add(name);
+    of_mark(all.wrapping_mul(BY_ALL))
 }
 
 /// The key of a number.
 pub fn key_of_number(n: u64) -> Key {
     Key {
         number: (n % COUNT as u64) as usize,
-        mark: (n % 4_294_967_296) as u32,
+        mark: (n % MARKS) as u32,
     }
 }
 
@@ -88,7 +101,7 @@ pub fn key_of_term(t: &Flat) -> Key {
     for symbol in t.symbols() {
         all = all.wrapping_add(number_of(*symbol)).wrapping_mul(MIXER);
     }
-    of_mark((all / 4_294_967_296) as u32)
+    of_mark((all / MARKS) as u32)
 }
 
 impl Hints {

@@ -6,6 +6,7 @@ ghost use Rattle.apd_term.specs.Term.{arity_of};
 ghost use Rattle.apd_intern.specs.Nodes.{Adds, IsFrontOf, AreDistinct, symbol_of, arguments_of, IsLinked, rest_at, IsRest};
 
 use crate::hints::{Hints, key_of, key_of_link};
+use apd_base::MOST_KEPT;
 use apd_term::{NameId, Sym};
 use indexmap::IndexMap;
 use std::alloc::AllocError;
@@ -28,9 +29,6 @@ pub struct ArgumentsLink {
     pub first: u32,
     pub rest: u32,
 }
-
-/// How many nodes or links there may be.
-const MOST: usize = 4_294_967_295;
 
 /// The symbol of a node.
 pub fn symbol_of(node: TermNode) -> Sym
@@ -64,7 +62,7 @@ fn put_link(
     if let Some(place) = find_link(links, hints, link) {
         return Ok(place);
     }
-    if links.len() >= MOST {
+    if links.len() >= MOST_KEPT {
         return Err(AllocError);
     }
     let (place, _) = links.insert_full(link, ())?;
@@ -153,7 +151,7 @@ pub fn put_node(
     if let Some(place) = find_by_hint(nodes, hints, node) {
         return Ok(place);
     }
-    if nodes.len() >= MOST {
+    if nodes.len() >= MOST_KEPT {
         return Err(AllocError);
     }
     let (place, _) = nodes.insert_full(node, ())?;

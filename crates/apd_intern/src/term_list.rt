@@ -7,15 +7,13 @@ ghost use Rattle.apd_intern.specs.Listed.{Keeps, MayAdd};
 
 use crate::hints::{Hints, key_of_number, key_of_term};
 use crate::terms::{TermId, Terms};
+use apd_base::MOST_KEPT;
 use apd_term::{Flat, Sym};
 use std::alloc::{AllocError, Global};
 use std::marker::Model;
 
 /// How many symbols a term has at most that is written out.
 const MOST_WRITTEN: usize = 40;
-
-/// How many spots and symbols there may be.
-const MOST: usize = 4_294_967_295;
 
 /// Where a term is kept.
 #[derive(Clone, Copy, PartialEq, Eq)]
@@ -88,7 +86,7 @@ fn write(symbols: &mut Vec<Sym>, t: &Flat) -> Result<TermSpot, AllocError>
     let more = t.symbols();
     let from = symbols.len();
     let size = more.len();
-    if from >= MOST {
+    if from >= MOST_KEPT {
         return Err(AllocError);
     }
     symbols.extend_from_slice(more)?;
@@ -104,7 +102,7 @@ fn push_spot(spots: &mut Vec<TermSpot>, spot: TermSpot) -> Result<u32, AllocErro
     ensures few { length spots.new.items < 2 ^ 32 }
 {
     let place = spots.len();
-    if place >= MOST {
+    if place >= MOST_KEPT {
         return Err(AllocError);
     }
     spots.push(spot)?;

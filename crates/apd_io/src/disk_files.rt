@@ -15,6 +15,9 @@ use std::fs;
 use std::io::Read;
 use std::marker::Model;
 
+/// How many bytes are read at once.
+const CHUNK: usize = 4_096;
+
 /// The files of a runtime, which tell no content.
 ///
 /// In contracts it is the number of its loads that failed.
@@ -91,7 +94,7 @@ fn read_all<F: Read>(alloc: Global, file: &mut F) -> Result<Text, LoadFault>
         ConsumesCount (F.remaining file.old) (F.remaining file.new) n) }
 {
     let mut text = Text::new(alloc);
-    let mut buf = [0u8; 4096];
+    let mut buf = [0u8; CHUNK];
     'chunks: while text.len() <= MAX_FILE {
         let want = (MAX_FILE + 1 - text.len()).min(buf.len());
         let Some(count) = read_part(file, &mut buf, want) else {

@@ -1,12 +1,13 @@
 -- What a store keeps as a text: an oracle file of the second form.
-use Rattle.std.specs.Prelude.{ℕ, pos, List, ◌++◌, length, flat_map, codes}
+use Rattle.std.specs.Prelude.{ℕ, List, ◌++◌, length, flat_map, codes}
 use Rattle.apd_term.specs.Canonical.{by_appearance, canonical, shifted}
-use Rattle.apd_term.specs.Term.{Term, integer, compound, none, more, variables}
-use Rattle.apd_term.specs.declared.standard.TheConstants.{BELOW, COVERS, DIVIDE, NO, TRUE, TRUSTED, UNKNOWN, YES}
+use Rattle.apd_term.specs.Term.{Term, compound, none, more, variables}
+use Rattle.apd_term.specs.declared.standard.TheConstants.{BELOW, COVERS, NO, TRUE, TRUSTED, UNKNOWN, YES}
 use Rattle.apd_term.specs.declared.term.Pred.{Pred}
 use Rattle.apd_ops.specs.declared.op.TheConstants.{MOST_PRIORITY}
 use Rattle.apd_ops.specs.Table.{Table}
 use Rattle.apd_write.specs.Writing.{written}
+use Rattle.apd_clauses.specs.Indicators.{indicator_of}
 use Rattle.apd_answers.specs.Store.{Store}
 use Rattle.apd_answers.specs.declared.question.Question.{Question}
 use Rattle.apd_answers.specs.declared.question.Question.TheVariants.{True, Covers, Below}
@@ -40,13 +41,9 @@ statement_of (Below q p) r = compound BELOW (more (canonical q) (more (apart_fro
 abbrev pub pair_term : Pair → Term
 pair_term p = canonical (statement_of p.question (reply_term p.reply))
 
--- a predicate by its indicator, `Name/Arity`
-abbrev pub indicator_term : Pred → Term
-indicator_term p = compound DIVIDE (more (compound p.name none) (more (integer (pos p.arity)) none))
-
 -- trust in a predicate as a statement
 abbrev pub trust_term : Pred → Term
-trust_term p = compound TRUSTED (more (indicator_term p) none)
+trust_term p = compound TRUSTED (more (indicator_of p) none)
 
 -- a statement in a line of its own: as a clause is written, a space and a full stop
 abbrev pub line_of : Table → List (List ℕ) → Term → List ℕ

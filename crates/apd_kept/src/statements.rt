@@ -3,12 +3,13 @@
 ghost use Rattle.std.specs.Prelude.{◌≡◌, IfOk};
 ghost use Rattle.apd_term.specs.Canonical.{canonical};
 ghost use Rattle.apd_term.specs.Term.{compound, more, none};
-ghost use Rattle.apd_kept.specs.Kept.{apart_from, indicator_term, reply_term, statement_of, trust_term};
+ghost use Rattle.apd_kept.specs.Kept.{apart_from, reply_term, statement_of, trust_term};
 
 use apd_answers::{Question, Reply};
+use apd_clauses::indicators::indicator_of;
 use apd_known::variable_count;
 use apd_term::canonical::{canonical, shifted};
-use apd_term::standard::{BELOW, COVERS, DIVIDE, NO, TRUE, TRUSTED, UNKNOWN, YES};
+use apd_term::standard::{BELOW, COVERS, NO, TRUE, TRUSTED, UNKNOWN, YES};
 use apd_term::{Atoms, Flat, NameId, Pred};
 use apd_text::{clause_term, list_term};
 use std::alloc::{AllocError, Global};
@@ -113,7 +114,5 @@ pub(crate) fn pair_term(
 pub(crate) fn trust_term(alloc: Global, pred: Pred) -> Result<Flat, AllocError>
     ensures { IfOk result (λ t. t ≡ trust_term pred) }
 {
-    let arity = Flat::integer(alloc, pred.arity as i64)?;
-    let indicator = of_two(alloc, DIVIDE, alone(alloc, pred.name)?, arity)?;
-    of_one(alloc, TRUSTED, indicator)
+    of_one(alloc, TRUSTED, indicator_of(alloc, pred)?)
 }

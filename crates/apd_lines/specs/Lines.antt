@@ -53,7 +53,7 @@ LineGrows (Text bytes) names later = GrowsBy (length bytes) names later
 pub record IsOfLine (n : ℕ) (t : Term) : Type 0 where
   pub standard : length standard_names ≤ n
   pub named : IsNamed n t
-  pub short : size t ≤ 131072
+  pub short : size t ≤ 2 * MAX_LINE
 
 -- the names of what was read are among the first n
 abbrev pub LineIsNamed : ℕ → LineRead → Type 0

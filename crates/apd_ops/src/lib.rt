@@ -9,5 +9,5 @@ mod op;
 mod standard;
 mod table;
 
-pub use op::{MOST_PRIORITY, Op, OpFault, OpKind};
+pub use op::{ARGUMENT_PRIORITY, MOST_PRIORITY, Op, OpFault, OpKind};
 pub use table::Ops;

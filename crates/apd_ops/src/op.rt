@@ -20,6 +20,9 @@ pub enum OpKind {
 /// The greatest priority of an operator (ISO/IEC 13211-1 section 6.3.4).
 pub const MOST_PRIORITY: u16 = 1200;
 
+/// The greatest priority of an argument, and of a list's element (sections 6.3.3.1 and 6.3.5).
+pub const ARGUMENT_PRIORITY: u16 = 999;
+
 /// One meaning of a name as an operator.
 #[derive(Clone, Copy)]
 pub struct Op {

@@ -25,6 +25,9 @@ use apd_token::{TokenKind, Tokens};
 use std::alloc::{AllocError, Global};
 use std::mem;
 
+/// No clause has a term so many levels below its own level 0.
+const TOO_MANY_LEVELS: u32 = 1_000;
+
 /// What is read so far.
 #[derive(Drop)]
 struct Reading {
@@ -191,7 +194,7 @@ pub fn plain_read(
         end: text.len() as u32,
     };
     let whole = read(alloc, &clause)?;
-    if whole.level >= 1000 {
+    if whole.level >= TOO_MANY_LEVELS {
         return Err(ReadFault::TooDeep(clause.start(0)));
     }
     Ok(whole.term)

@@ -15,7 +15,7 @@ use crate::load::conjunction::goals;
 use crate::load::grammar::clause_of_rule;
 use crate::load::op_terms::{kind_of, names_of, priority_of};
 use crate::load::stop::Stop;
-use apd_base::ListOf;
+use apd_base::{ListOf, MOST_CLAUSES};
 use apd_causes::{BodyFault, LoadCause, ReadFault, TokenFault};
 use apd_clauses::{Clause, clause_of};
 use apd_load::{LoadText, Note, Notes};
@@ -25,6 +25,12 @@ use apd_term::standard::{GRAMMAR_ARROW, NECK, OP, QUERY};
 use apd_term::{Flat, NameId, Names, Pred, Tuple};
 use apd_token::{Tokens, tokens};
 use std::alloc::{AllocError, Global};
+
+/// The most bytes that a text may have.
+const MOST_TEXT: usize = 1_000_000;
+
+/// The most names that there may be where a clause is read.
+const MOST_TEXT_NAMES: usize = 1_000_000;
 
 /// A definition of an operator.
 #[derive(Clone, Copy)]
@@ -191,7 +197,7 @@ fn clause_made(alloc: Global, steps: usize, term: &Flat) -> Result<Tuple, BodyFa
 fn add_clause(alloc: Global, at: At<'_>, made: &mut Plain, term: &Flat) -> Result<(), Stop> {
     let tuple = clause_made(alloc, at.steps, term)?;
     let line = at.line;
-    if made.clauses.len() >= 20_000 {
+    if made.clauses.len() >= MOST_CLAUSES as usize {
         return Err(Stop::Cause(LoadCause::ClausesOver));
     }
     made.clauses.push(Clause { tuple, line })?;
@@ -238,7 +244,7 @@ fn step(
     requires utf8 { IsUtf8 text.now }
     requires tokens { HasTokens text.now tokens.now }
 {
-    if at >= tokens.len() || names.count() > 1_000_000 {
+    if at >= tokens.len() || names.count() > MOST_TEXT_NAMES {
         return Err(LoadText::Memory);
     }
     let read = match read_clause(alloc, &made.ops, names, text, tokens, at) {
@@ -315,9 +321,9 @@ fn made_of(
     Ok(made)
 }
 
-/// What a text of at most 1,000,000 bytes makes.
+/// What a text makes. Want of memory too where it is too long.
 pub fn plain_load(alloc: Global, names: &mut Names, text: &[u8]) -> Result<Plain, LoadText> {
-    if text.len() > 1_000_000 {
+    if text.len() > MOST_TEXT {
         return Err(LoadText::Memory);
     }
     let lines = lines_of(alloc, text)?;

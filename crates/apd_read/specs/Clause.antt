@@ -1,7 +1,7 @@
 -- Reading a clause from its tokens: what each bracket holds, and the faults.
 use Rattle.std.specs.Prelude.{◌≡◌, ℕ, ◌+◌, ◌-◌, ◌<◌, ◌⊎◌, Result, Ok, Err, List, [], ◌∷◌, ◌++◌, reverse, length}
 use Rattle.apd_term.specs.declared.standard.TheConstants.{NIL}
-use Rattle.apd_ops.specs.declared.op.TheConstants.{MOST_PRIORITY}
+use Rattle.apd_ops.specs.declared.op.TheConstants.{ARGUMENT_PRIORITY, MOST_PRIORITY}
 use Rattle.apd_ops.specs.declared.op.Op.{Op}
 use Rattle.apd_ops.specs.Table.{Table}
 use Rattle.apd_read.specs.declared.lexeme.Lexeme.{Lexeme}
@@ -27,9 +27,9 @@ abbrev pub most : Inside → ℕ
 most Clause = MOST_PRIORITY
 most Paren = MOST_PRIORITY
 most Curly = MOST_PRIORITY
-most (Args f) = 999
-most Listing = 999
-most Tail = 999
+most (Args f) = ARGUMENT_PRIORITY
+most Listing = ARGUMENT_PRIORITY
+most Tail = ARGUMENT_PRIORITY
 
 -- the operand that a bracket makes of its elements, the last of them first, and the item behind them
 abbrev pub made : Inside → List Phrase → Phrase → Phrase

@@ -4,7 +4,7 @@ use Rattle.apd_term.specs.declared.term.NameId.{NameId}
 use Rattle.apd_term.specs.declared.standard.TheConstants.{NIL, CELL, CURLY}
 use Rattle.apd_term.specs.Term.{Term, compound, none, more, terms_of}
 use Rattle.apd_ops.specs.declared.op.Op.{Op}
-use Rattle.apd_read.specs.declared.phrase.TheConstants.{TOO_MANY_LEVELS}
+use Rattle.apd_read.specs.declared.phrase.TheConstants.{MOST_LEVEL, TOO_MANY_LEVELS}
 use Rattle.apd_read.specs.declared.phrase.Phrase.{Phrase}
 
 abbrev pub atom : NameId → Term
@@ -20,7 +20,7 @@ too_deep = record { term = atom NIL; height = TOO_MANY_LEVELS }
 
 -- a term over parts that reach so many levels
 abbrev pub raised : ℕ → Term → Phrase
-raised h t = if nat_lt h 999 then record { term = t; height = h + 1 } else too_deep
+raised h t = if nat_lt h MOST_LEVEL then record { term = t; height = h + 1 } else too_deep
 
 abbrev pub highest : List Phrase → ℕ
 highest [] = 0

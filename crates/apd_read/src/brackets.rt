@@ -1,19 +1,20 @@
 //! The brackets of a clause, and the items in them.
 
-ghost use Rattle.std.specs.Prelude.{◌≡◌, ◌<◌, ◌+◌, ◌^◌, length, IfOk, OnOk, MatchResult, Some, None, [], ◌∷◌, IsTrue, ◌↔◌};
+ghost use Rattle.std.specs.Prelude.{◌≡◌, ◌<◌, ◌≤◌, ◌+◌, ◌^◌, length, IfOk, OnOk, MatchResult, Some, None, [], ◌∷◌, IsTrue, ◌↔◌};
 ghost use Rattle.apd_read.specs.Reading.{Reads};
 ghost use Rattle.apd_read.specs.Stack.{closed};
 ghost use Rattle.apd_read.specs.Clause.{most, made, HasRoom, IsReading, IsClauseFault, HasAtMost};
 ghost use Rattle.apd_read.specs.Places.{goes};
 ghost use Rattle.apd_read.specs.State.{IsReady, IsNext, IsOpened};
 ghost use Rattle.apd_read.specs.declared.places.Go.TheVariants.{Closes};
+ghost use Rattle.apd_base.specs.declared.limits.TheConstants.{MAX_FILE};
 
 use crate::frames::{OperatorFrame, closed, put_infix, put_prefix};
 use crate::lexeme::Lexeme;
 use crate::phrase::{Phrase, atom, braced, call, enclosed, leaf, listing};
 use crate::places::{Begin, Go, Inside, begins, goes};
 use crate::stack::Stack;
-use apd_ops::{MOST_PRIORITY, Ops};
+use apd_ops::{ARGUMENT_PRIORITY, MOST_PRIORITY, Ops};
 use apd_term::standard::NIL;
 use std::alloc::{AllocError, Global};
 use std::mem;
@@ -66,7 +67,7 @@ fn most(inside: Inside) -> u16
         Inside::Clause => MOST_PRIORITY,
         Inside::Paren => MOST_PRIORITY,
         Inside::Curly => MOST_PRIORITY,
-        _ => 999,
+        _ => ARGUMENT_PRIORITY,
     }
 }
 
@@ -160,7 +161,7 @@ fn operand_step(
     lexemes: &[Lexeme],
     state: &mut ReadSoFar,
 ) -> Result<TokenUse, ClauseFault>
-    requires short { length lexemes.now < 4611686018427386000 }
+    requires short { length lexemes.now ≤ MAX_FILE }
     requires ready { IsReady ops.now lexemes.now state.old None }
     ensures { MatchResult result (IsNext ops.now lexemes.now state.old.at state.new)
         (IsClauseFault Reads ops.now lexemes.now) }
@@ -234,7 +235,7 @@ fn operator_step(
     state: &mut ReadSoFar,
     last: Phrase,
 ) -> Result<TokenUse, ClauseFault>
-    requires short { length lexemes.now < 4611686018427386000 }
+    requires short { length lexemes.now ≤ MAX_FILE }
     requires ready { IsReady ops.now lexemes.now state.old (Some last) }
     ensures { MatchResult result (IsNext ops.now lexemes.now state.old.at state.new)
         (IsClauseFault Reads ops.now lexemes.now) }
@@ -279,7 +280,7 @@ fn read_on(
     lexemes: &[Lexeme],
     state: &mut ReadSoFar,
 ) -> Result<Whole, ClauseFault>
-    requires short { length lexemes.now < 4611686018427386000 }
+    requires short { length lexemes.now ≤ MAX_FILE }
     requires ready { IsReady ops.now lexemes.now state.old None }
     ensures { IsReading Reads ops.now lexemes.now result }
 {
@@ -299,7 +300,7 @@ fn read_on(
 
 /// The clause that the lexemes begin with, in one pass.
 pub(crate) fn read(alloc: Global, ops: &Ops, lexemes: &[Lexeme]) -> Result<Whole, ClauseFault>
-    requires { length lexemes.now < 4611686018427386000 }
+    requires { length lexemes.now ≤ MAX_FILE }
     ensures { IsReading Reads ops.now lexemes.now result }
 {
     ops.has_no_clash();

@@ -12,6 +12,9 @@ use std::alloc::{AllocError, Global};
 /// No clause has a term so many levels below its own level 0.
 pub const TOO_MANY_LEVELS: u16 = 1000;
 
+/// The greatest level that a term may have in it.
+const MOST_LEVEL: u16 = TOO_MANY_LEVELS - 1;
+
 /// A term that was read, with the greatest level in it, counted from its own level 0.
 ///
 /// Where that is [`TOO_MANY_LEVELS`] or more it is that, and the term is left out.
@@ -66,7 +69,7 @@ pub(crate) fn unary(alloc: Global, o: Op, p: Phrase) -> Result<Phrase, AllocErro
     ensures { IfOk result (λ r. r ≡ unary o p) }
 {
     let Phrase { term, height } = p;
-    if height >= 999 {
+    if height >= MOST_LEVEL {
         return too_deep(alloc);
     }
     Ok(Phrase {
@@ -80,7 +83,7 @@ pub(crate) fn binary(alloc: Global, o: Op, p: Phrase, q: Phrase) -> Result<Phras
     ensures { IfOk result (λ r. r ≡ binary o p q) }
 {
     let height = p.height.max(q.height);
-    if height >= 999 {
+    if height >= MOST_LEVEL {
         return too_deep(alloc);
     }
     Ok(Phrase {
@@ -94,7 +97,7 @@ pub(crate) fn enclosed(alloc: Global, p: Phrase) -> Result<Phrase, AllocError>
     ensures { IfOk result (λ r. r ≡ enclosed p) }
 {
     let Phrase { term, height } = p;
-    if height >= 999 {
+    if height >= MOST_LEVEL {
         return too_deep(alloc);
     }
     Ok(Phrase {
@@ -108,7 +111,7 @@ pub(crate) fn braced(alloc: Global, p: Phrase) -> Result<Phrase, AllocError>
     ensures { IfOk result (λ r. r ≡ braced p) }
 {
     let Phrase { term, height } = p;
-    if height >= 999 {
+    if height >= MOST_LEVEL {
         return too_deep(alloc);
     }
     Ok(Phrase {
@@ -147,7 +150,7 @@ pub(crate) fn call(
     ensures { IfOk result (λ r. r ≡ call name arguments.items) }
 {
     let height = highest(&arguments);
-    if height >= 999 {
+    if height >= MOST_LEVEL {
         return too_deep(alloc);
     }
     let terms = terms(alloc, arguments)?;
@@ -180,7 +183,7 @@ pub(crate) fn listing(
     ensures { IfOk result (λ r. r ≡ listing elements.items tail) }
 {
     let height = highest(&elements).max(tail.height);
-    if height >= 999 {
+    if height >= MOST_LEVEL {
         return too_deep(alloc);
     }
     let terms = terms(alloc, elements)?;

@@ -12,6 +12,9 @@ use apd_term::standard::{COMMA, CURLY, MINUS, NIL};
 use apd_term::{Atoms, Flat, NameId};
 use std::alloc::{AllocError, Global};
 
+/// The amount of the least integer.
+const LEAST_AMOUNT: u64 = 9_223_372_036_854_775_808;
+
 /// What an item stands in.
 #[derive(Clone, Copy)]
 pub enum Inside {
@@ -121,7 +124,7 @@ fn only_infix(ops: &Ops, name: NameId, lexemes: &[Lexeme], at: usize) -> bool
 
 /// Whether a prefix operator before the place is an atom.
 fn stands_alone(ops: &Ops, lexemes: &[Lexeme], at: usize) -> bool
-    requires { at < 4611686018427387904 }
+    requires { at < usize.MAX }
     ensures { result ≡ stands_alone ops.now (slice_get lexemes.now at)
         (slice_get lexemes.now (at + 1)) }
 {
@@ -164,7 +167,7 @@ fn name_begins(
     lexemes: &[Lexeme],
     at: usize,
 ) -> Result<Begin, AllocError>
-    requires { at < 4611686018427387904 }
+    requires { at < usize.MAX }
     ensures { IfOk result (λ b. b ≡ name_begins ops.now name (slice_get lexemes.now at)
         (slice_get lexemes.now (at + 1))) }
 {
@@ -187,7 +190,7 @@ fn integer_next(lexemes: &[Lexeme], at: usize) -> Option<u64>
         None => None,
         Some(l) => match l.sort {
             Sort::Integer(i) => {
-                if !l.spaced && i <= 9_223_372_036_854_775_808 {
+                if !l.spaced && i <= LEAST_AMOUNT {
                     Some(i)
                 } else {
                     None
@@ -213,13 +216,13 @@ fn unquoted_begins(
     lexemes: &[Lexeme],
     at: usize,
 ) -> Result<Begin, AllocError>
-    requires { at < 4611686018427387904 }
+    requires { at < usize.MAX }
     ensures { IfOk result (λ b. b ≡ unquoted_begins ops.now name (slice_get lexemes.now at)
         (slice_get lexemes.now (at + 1))) }
 {
     if name.0 == MINUS.0 {
         if let Some(i) = integer_next(lexemes, at) {
-            if i <= 9_223_372_036_854_775_808 {
+            if i <= LEAST_AMOUNT {
                 return Ok(Begin::Word(leaf(Flat::integer(alloc, negative(i))?), 2));
             }
         }
@@ -254,7 +257,7 @@ fn begin_by(
     lexemes: &[Lexeme],
     next: usize,
 ) -> Result<Begin, AllocError>
-    requires { next < 4611686018427387904 }
+    requires { next < usize.MAX }
     ensures { IfOk result (λ b. b ≡ begin_by ops.now sort.now (slice_get lexemes.now next)
         (slice_get lexemes.now (next + 1))) }
 {
@@ -264,7 +267,7 @@ fn begin_by(
         Sort::Codes(codes) => Ok(Begin::Word(leaf(codes_term(alloc, codes.as_slice())?), 1)),
         Sort::Variable(v) => Ok(Begin::Word(leaf(Flat::variable(alloc, *v)?), 1)),
         Sort::Integer(i) => {
-            if *i < 9_223_372_036_854_775_808 {
+            if *i < LEAST_AMOUNT {
                 Ok(Begin::Word(leaf(Flat::integer(alloc, *i as i64)?), 1))
             } else {
                 Ok(Begin::Wide)
@@ -296,7 +299,7 @@ pub(crate) fn begins(
     lexemes: &[Lexeme],
     at: usize,
 ) -> Result<Begin, AllocError>
-    requires { at < 4611686018427387000 }
+    requires { at + 1 < usize.MAX }
     ensures { IfOk result (λ b. b ≡ begins ops.now lexemes.now at) }
 {
     match lexemes.get(at) {

@@ -58,7 +58,7 @@ fn placed(lexemes: &[Lexeme], end: u32, fault: ClauseFault) -> ReadFault
 
 /// The clause that the lexemes are, each item read by its main operators.
 fn read_by_main(alloc: Global, ops: &Ops, lexemes: &[Lexeme]) -> Result<Whole, ClauseFault>
-    requires { length lexemes.now < 4611686018427386000 }
+    requires { length lexemes.now ≤ MAX_FILE }
     ensures { IsReading Splits ops.now lexemes.now result }
 {
     ops.has_no_clash();

@@ -1,7 +1,7 @@
 -- A text of clauses, each in a line of its own.
 use Rattle.std.specs.Prelude.{◌≡◌, ℕ, ◌+◌, ◌<◌, ◌≤◌, List, [], ◌∷◌, ◌++◌, codes, flat_map, length, Ok}
 use Rattle.apd_causes.specs.declared.reading.Read.{Read}
-use Rattle.apd_ops.specs.declared.op.TheConstants.{MOST_PRIORITY}
+use Rattle.apd_ops.specs.declared.op.TheConstants.{ARGUMENT_PRIORITY, MOST_PRIORITY}
 use Rattle.apd_ops.specs.Table.{Table}
 use Rattle.apd_read.specs.declared.phrase.TheConstants.{TOO_MANY_LEVELS}
 use Rattle.apd_read.specs.Reader.{IsRead}
@@ -22,7 +22,7 @@ pub record Line : Type 0 where
 -- a term as a clause is written, or a name with one argument in parentheses
 pub data IsWritten (ops : Table) (names : List (List ℕ)) : Line → Type 0 where
   as_clause : (t : Term) → IsReadable ops names t → IsWritten ops names record { text = written ops names t MOST_PRIORITY; term = t }
-  as_call : (f : NameId) (t : Term) → f.0 < length names → IsWritable names t → levels ops t 999 + 1 < TOO_MANY_LEVELS
+  as_call : (f : NameId) (t : Term) → f.0 < length names → IsWritable names t → levels ops t ARGUMENT_PRIORITY + 1 < TOO_MANY_LEVELS
       → IsWritten ops names record { text = call_text ops names f t; term = call_term f t }
 
 abbrev pub AreWritten : Table → List (List ℕ) → List Line → Type 0

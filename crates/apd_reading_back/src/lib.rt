@@ -8,7 +8,7 @@ ghost use Rattle.apd_term.specs.Term.{Term};
 ghost use Rattle.apd_causes.specs.declared.faults.ReadFault.{ReadFault};
 ghost use Rattle.apd_causes.specs.declared.reading.Read.{Read};
 ghost use Rattle.apd_ops.specs.Table.{Table, IsTable};
-ghost use Rattle.apd_ops.specs.declared.op.TheConstants.{MOST_PRIORITY};
+ghost use Rattle.apd_ops.specs.declared.op.TheConstants.{ARGUMENT_PRIORITY, MOST_PRIORITY};
 ghost use Rattle.apd_token.specs.declared.items.Token.{Token};
 ghost use Rattle.apd_token.specs.Grammar.{HasTokens};
 ghost use Rattle.apd_read.specs.Reader.{IsRead};
@@ -50,7 +50,7 @@ pub fn items_and_queries_read_back()
         ReadsAs ops names (goals_text ops names goal goals ++ codes " .") (conjoined goal goals) }
     ensures calls { (ops : Table) (names : List (List ℕ)) (f : NameId) (t : Term) →
         IsTable ops → AreNames names → f.0 < length names → IsWritable names t →
-        levels ops t 999 + 1 < TOO_MANY_LEVELS →
+        levels ops t ARGUMENT_PRIORITY + 1 < TOO_MANY_LEVELS →
         ReadsAs ops names (call_text ops names f t ++ codes " .") (call_term f t) }
     ensures only { (ops : Table) (names : List (List ℕ)) (text : List ℕ) (t : Term) →
         IsTable ops → (back : ReadsAs ops names text t) →

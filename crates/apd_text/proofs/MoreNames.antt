@@ -24,6 +24,7 @@ use Rattle.apd_ports.specs.declared.event.Event.{Event}
 use Rattle.apd_ports.specs.declared.filter.Filter.{Filter}
 use Rattle.apd_ports.specs.declared.filter.Filter.TheVariants.{Off, All, Leap, Skip}
 use Rattle.apd_write.proofs.MoreNames.{written-more}
+use Rattle.apd_clauses.specs.Indicators.{indicator_of}
 use Rattle.apd_faults.specs.Names.{body_text, cause_text}
 use Rattle.apd_answers.specs.declared.question.Question.{Question}
 use Rattle.apd_answers.specs.declared.question.Question.TheVariants.{True, Covers, Below}
@@ -38,7 +39,7 @@ use Rattle.apd_text.specs.declared.entry.Told.TheVariants.{Wrong, Missing, NoEnd
 use Rattle.apd_text.specs.Entries.{refusal_text, text_of}
 use Rattle.apd_causes.specs.Faults.{FaultIsNamed, CauseIsNamed}
 use Rattle.apd_text.specs.Named.{RefusalIsNamed, ToldIsNamed, QuestionIsNamed, ReplyIsNamed, FindingIsNamed, HasStandardNames, EntryIsNamed}
-use Rattle.apd_text.specs.FilterTerms.{FilterIsNamed, PredsAreNamed, filter_term, name_term, predicate_term}
+use Rattle.apd_text.specs.FilterTerms.{FilterIsNamed, PredsAreNamed, filter_term}
 use Rattle.apd_text.specs.Lines.{goal_text, goals_of, head_text, elements, elements_of, bindings, answer_text, port_text}
 use Rattle.apd_text.specs.declared.entry.Refusal.{Refusal}
 use Rattle.apd_text.specs.declared.entry.Refusal.TheVariants as refusal
@@ -187,16 +188,16 @@ finding_text-more ops names others (Violation clause goal caller_no callee_no ca
     rw (atom_text-more ops names others caller named.0, atom_text-more ops names others callee named.1) refl
 finding_text-more ops names others (Candidates cs) line standard named = rw (candidates-more ops names others cs standard named) refl
 
-predicates_named : (n : ℕ) (preds : List Pred) → HasStandardNames n → PredsAreNamed n preds → AllNamed n (map predicate_term preds)
+predicates_named : (n : ℕ) (preds : List Pred) → HasStandardNames n → PredsAreNamed n preds → AllNamed n (map indicator_of preds)
 predicates_named n [] standard named = tt
 predicates_named n (p ∷ preds) standard named =
-    (pair_named n DIVIDE (name_term p.name) (integer (pos p.arity)) (omega (arith, standard, length-standard_names)) (named.0, tt) tt, predicates_named n preds standard named.1)
+    (pair_named n DIVIDE (compound p.name none) (integer (pos p.arity)) (omega (arith, standard, length-standard_names)) (named.0, tt) tt, predicates_named n preds standard named.1)
 
 filter_named : (n : ℕ) (f : Filter) → HasStandardNames n → FilterIsNamed n f → IsNamed n (filter_term f)
 filter_named n Off standard named = (omega (arith, standard, length-standard_names), tt)
 filter_named n All standard named = (omega (arith, standard, length-standard_names), tt)
 filter_named n (Leap preds) standard named =
-    (omega (arith, standard, length-standard_names), (list_named n (map predicate_term preds) (neck_named n standard) (predicates_named n preds standard named), tt))
+    (omega (arith, standard, length-standard_names), (list_named n (map indicator_of preds) (neck_named n standard) (predicates_named n preds standard named), tt))
 filter_named n (Skip b) standard named = (omega (arith, standard, length-standard_names), (tt, tt))
 
 pub text_of-more : (ops : Table) (names others : List (List ℕ)) (e : Entry) → EntryIsNamed (length names) e → text_of ops (names ++ others) e ≡ text_of ops names e

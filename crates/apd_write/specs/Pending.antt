@@ -9,6 +9,7 @@ use Rattle.apd_term.specs.declared.standard.TheConstants.{NIL}
 use Rattle.apd_term.specs.declared.term.NameId.{NameId}
 use Rattle.apd_term.specs.declared.term.Sym.{Sym}
 use Rattle.apd_term.specs.declared.term.Sym.TheVariants.{Var, Int, Fun}
+use Rattle.apd_ops.specs.declared.op.TheConstants.{ARGUMENT_PRIORITY}
 use Rattle.apd_ops.specs.Table.{Table}
 use Rattle.apd_write.specs.NameTexts.{name_text}
 use Rattle.apd_write.specs.Writing.{Part, arranged, between, in_parentheses, is_operator, is_same_name, parts, left_operand, rest_after, right_operand, variable_text}
@@ -53,7 +54,7 @@ module _ (ops : Table) (names : List (List ℕ)) where
   abbrev pub arguments_then : ℕ → (List Part → List ℕ) → List Part → List ℕ
   arguments_then zero after ps = codes ")" ++ after ps
   arguments_then (suc n) after [] = []
-  arguments_then (suc n) after (p ∷ ps) = codes "," ++ p.text 999 ++ arguments_then n after ps
+  arguments_then (suc n) after (p ∷ ps) = codes "," ++ p.text ARGUMENT_PRIORITY ++ arguments_then n after ps
 
   -- what a frame has behind the term that is written
   abbrev pub behind : PendingFrame → (List Part → List ℕ) → List Part → List ℕ

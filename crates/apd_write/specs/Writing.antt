@@ -6,7 +6,7 @@ use Rattle.apd_term.specs.declared.term.NameId.{NameId}
 use Rattle.apd_term.specs.declared.standard.TheConstants.{NIL, CELL, CURLY, COMMA}
 use Rattle.apd_term.specs.Names.{text_of_name}
 use Rattle.apd_term.specs.Term.{Term, Terms, variable, integer, compound, none, more}
-use Rattle.apd_ops.specs.declared.op.TheConstants.{MOST_PRIORITY}
+use Rattle.apd_ops.specs.declared.op.TheConstants.{ARGUMENT_PRIORITY, MOST_PRIORITY}
 use Rattle.apd_ops.specs.Operators.{left_by, right_by}
 use Rattle.apd_ops.specs.Table.{Meaning, Table, prefix_in, infix_in}
 use Rattle.apd_write.specs.NameTexts.{name_text, function_text}
@@ -58,14 +58,14 @@ module _ (ops : Table) where
   abbrev pub infix_text : Meaning → NameId → List ℕ → ℕ → Part → Part → List ℕ
   infix_text m f name max p q = fitted max m.0 (left_operand (left_by m.1 m.0) p ++ between f name ++ right_operand (right_by m.1 m.0) q)
 
--- arguments for 999, with commas between them
+-- arguments, with commas between them
 abbrev pub further_arguments : List Part → List ℕ
 further_arguments [] = []
-further_arguments (p ∷ ps) = codes "," ++ p.text 999 ++ further_arguments ps
+further_arguments (p ∷ ps) = codes "," ++ p.text ARGUMENT_PRIORITY ++ further_arguments ps
 
 abbrev pub arguments_text : List Part → List ℕ
 arguments_text [] = []
-arguments_text (p ∷ ps) = p.text 999 ++ further_arguments ps
+arguments_text (p ∷ ps) = p.text ARGUMENT_PRIORITY ++ further_arguments ps
 
 -- functional notation
 abbrev pub function : List ℕ → List Part → List ℕ
@@ -83,7 +83,7 @@ two_text ops (Some m) f name max p q = infix_text ops m f (name_text name) max p
 
 -- a list from an element on
 abbrev pub list_text : Part → Part → List ℕ
-list_text p q = p.text 999 ++ q.rest
+list_text p q = p.text ARGUMENT_PRIORITY ++ q.rest
 
 -- a name with its arguments for a place of a priority
 abbrev pub arranged : Table → NameId → List ℕ → ℕ → List Part → List ℕ
@@ -96,8 +96,8 @@ arranged ops f name max ps = function name ps
 abbrev pub rest_after : Table → NameId → List ℕ → List Part → List ℕ
 rest_after ops f name [] = if is_same_name f NIL then codes "]" else codes "|" ++ name_text name ++ codes "]"
 rest_after ops f name (p ∷ q ∷ []) =
-    if is_same_name f CELL then codes "," ++ list_text p q else codes "|" ++ arranged ops f name 999 (p ∷ q ∷ []) ++ codes "]"
-rest_after ops f name ps = codes "|" ++ arranged ops f name 999 ps ++ codes "]"
+    if is_same_name f CELL then codes "," ++ list_text p q else codes "|" ++ arranged ops f name ARGUMENT_PRIORITY (p ∷ q ∷ []) ++ codes "]"
+rest_after ops f name ps = codes "|" ++ arranged ops f name ARGUMENT_PRIORITY ps ++ codes "]"
 
 abbrev pub variable_text : ℕ → List ℕ
 variable_text v = codes "_" ++ decimal v

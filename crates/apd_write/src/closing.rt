@@ -1,6 +1,6 @@
 //! What stands behind a term.
 
-ghost use Rattle.std.specs.Prelude.{◌≡◌, ◌++◌, List, ℕ, IfOk, OnOk};
+ghost use Rattle.std.specs.Prelude.{◌≡◌, ◌++◌, IfOk, OnOk};
 ghost use Rattle.apd_ops.specs.Table.{Table};
 ghost use Rattle.apd_term.specs.Names.{text_of_name};
 ghost use Rattle.apd_write.specs.NameTexts.{name_text};
@@ -10,6 +10,7 @@ ghost use Rattle.apd_write.specs.Writing.{between};
 use crate::names::write_name;
 use crate::pending::{PendingFrame, TermPlace};
 use apd_base::Text;
+use apd_ops::ARGUMENT_PRIORITY;
 use apd_term::NameId;
 use apd_term::names::Names;
 use apd_term::standard::COMMA;
@@ -45,7 +46,7 @@ fn leave(
         PendingFrame::Arguments(left) if left > 0 => {
             out.push(b',')?;
             frames.push(PendingFrame::Arguments(left - 1))?;
-            return Ok(Some(TermPlace::Whole(999)));
+            return Ok(Some(TermPlace::Whole(ARGUMENT_PRIORITY)));
         }
         PendingFrame::Arguments(_) | PendingFrame::ParenthesisEnd => out.push(b')')?,
         PendingFrame::ListEnd => out.push(b']')?,

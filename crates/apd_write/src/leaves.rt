@@ -49,7 +49,7 @@ fn write_symbol(names: &Names, symbol: Sym, out: &mut Text) -> Result<(), AllocE
     Ok(())
 }
 
-/// Writes it in parentheses.
+/// Writes a symbol without arguments in parentheses.
 #[inline(never)]
 fn write_enclosed(names: &Names, symbol: Sym, out: &mut Text) -> Result<(), AllocError>
     ensures { OnOk result (out.new ≡ out.old ++ in_parentheses (leaf_text names.now symbol)) }
@@ -69,7 +69,7 @@ fn is_nil(symbol: Sym) -> bool
     }
 }
 
-/// Writes it behind the bar, and the bracket that closes the list.
+/// Writes a symbol without arguments behind a list's bar, and the bracket that closes the list.
 #[inline(never)]
 fn write_tail(names: &Names, symbol: Sym, out: &mut Text) -> Result<(), AllocError>
     ensures { OnOk result (out.new ≡ out.old ++ codes "|" ++ leaf_text names.now symbol

@@ -3,6 +3,8 @@
 //! [`write_term`] writes a term by a table of operators, a [`Pen`] many of them, [`write_name`] a name by itself.
 #![tactic(auto)]
 
+// What most terms don't have isn't inlined, so that the loop over symbols keeps in registers what it works with.
+
 mod closing;
 mod leaves;
 mod names;

@@ -65,7 +65,7 @@ fn is_bracket_name(name: &[u8]) -> bool
 }
 
 /// Whether one token without quotes that isn't a word stands for the name.
-fn is_sign(name: &[u8]) -> bool
+fn is_other_token(name: &[u8]) -> bool
     ensures { result ≡ (is_graphic_name name.now || is_solo_name name.now) }
 {
     is_graphic_name(name) || is_solo_name(name)
@@ -116,7 +116,7 @@ fn write_other_function(name: &[u8], out: &mut Text) -> Result<(), AllocError>
     requires { is_word_name name.now ≡ false }
     ensures { OnOk result (out.new ≡ out.old ++ function_text name.now) }
 {
-    if is_sign(name) {
+    if is_other_token(name) {
         out.extend(name)
     } else {
         write_quoted(name, out)

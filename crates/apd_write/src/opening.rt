@@ -12,7 +12,7 @@ ghost use Rattle.apd_write.specs.declared.pending.PendingFrame.TheVariants as pu
 use crate::names::{write_function_name, write_name};
 use crate::pending::{PendingFrame, TermPlace};
 use apd_base::Text;
-use apd_ops::{MOST_PRIORITY, Op, OpKind, Ops};
+use apd_ops::{ARGUMENT_PRIORITY, MOST_PRIORITY, Op, Ops};
 use apd_term::NameId;
 use apd_term::names::Names;
 use apd_term::standard::{CELL, CURLY};
@@ -48,12 +48,12 @@ fn open_function(
     requires { 0 < count }
     ensures { IfOk result (λ next. Puts (function_text (text_of_name names.now name) ++ codes "(")
         (pushed.Arguments (count - 1) ∷ [])
-        (places.Whole 999) frames.old.items frames.new.items out.old out.new next) }
+        (places.Whole ARGUMENT_PRIORITY) frames.old.items frames.new.items out.old out.new next) }
 {
     write_function_name(names.text(name), out)?;
     out.push(b'(')?;
     frames.push(PendingFrame::Arguments(count - 1))?;
-    Ok(TermPlace::Whole(999))
+    Ok(TermPlace::Whole(ARGUMENT_PRIORITY))
 }
 
 /// A prefix operator before its operand.
@@ -101,22 +101,22 @@ fn open_infix(
 #[inline(always)]
 fn open_list(frames: &mut Vec<PendingFrame>, out: &mut Text) -> Result<TermPlace, AllocError>
     ensures { IfOk result (λ next. Puts (codes "[") (pushed.Rest ∷ [])
-        (places.Whole 999) frames.old.items frames.new.items out.old out.new next) }
+        (places.Whole ARGUMENT_PRIORITY) frames.old.items frames.new.items out.old out.new next) }
 {
     out.push(b'[')?;
     frames.push(PendingFrame::Rest)?;
-    Ok(TermPlace::Whole(999))
+    Ok(TermPlace::Whole(ARGUMENT_PRIORITY))
 }
 
 /// A list's next element.
 #[inline(always)]
 fn open_further(frames: &mut Vec<PendingFrame>, out: &mut Text) -> Result<TermPlace, AllocError>
     ensures { IfOk result (λ next. Puts (codes ",") (pushed.Rest ∷ [])
-        (places.Whole 999) frames.old.items frames.new.items out.old out.new next) }
+        (places.Whole ARGUMENT_PRIORITY) frames.old.items frames.new.items out.old out.new next) }
 {
     out.push(b',')?;
     frames.push(PendingFrame::Rest)?;
-    Ok(TermPlace::Whole(999))
+    Ok(TermPlace::Whole(ARGUMENT_PRIORITY))
 }
 
 /// A term in braces.
@@ -191,7 +191,7 @@ fn open_tail(
 {
     out.push(b'|')?;
     frames.push(PendingFrame::ListEnd)?;
-    open_compound(ops, names, name, count, 999, frames, out)
+    open_compound(ops, names, name, count, ARGUMENT_PRIORITY, frames, out)
 }
 
 /// What stands before the first argument of a compound in any place.

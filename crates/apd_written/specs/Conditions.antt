@@ -2,7 +2,7 @@
 use Rattle.std.specs.Prelude.{◌≡◌, ℕ, ◌+◌, ◌<◌, ⊤, false, List, [], ◌∷◌, Some}
 use Rattle.std.specs.List.{AllByRecursion}
 use Rattle.apd_causes.specs.declared.run.Query.{Query}
-use Rattle.apd_ops.specs.declared.op.TheConstants.{MOST_PRIORITY}
+use Rattle.apd_ops.specs.declared.op.TheConstants.{ARGUMENT_PRIORITY, MOST_PRIORITY}
 use Rattle.apd_ops.specs.Table.{Table, prefix_in}
 use Rattle.apd_ops.specs.declared.op.OpKind.TheVariants.{Fx}
 use Rattle.apd_term.specs.Canonical.{canonical}
@@ -39,7 +39,7 @@ module _ (ops : Table) (names : List (List ℕ)) where
   -- in canonical form its numbers are those of symbols, and as an argument it has no term at level 1,000
   pub record IsAtomSayable (a : Term) : Type 0 where
     pub in_range : IsInRange (canonical a)
-    pub shallow : levels ops (canonical a) 999 < TOO_MANY_LEVELS
+    pub shallow : levels ops (canonical a) ARGUMENT_PRIORITY < TOO_MANY_LEVELS
 
   pub record IsClauseSayable (t : Tuple) : Type 0 where
     pub in_range : IsInRange (clause_term (canonical_tuple t))
@@ -52,7 +52,7 @@ module _ (ops : Table) (names : List (List ℕ)) where
 
   pub record AreValuesSayable (values : List Term) : Type 0 where
     pub in_range : IsInRange (list_term values)
-    pub shallow : levels ops (list_term values) 999 + 1 < TOO_MANY_LEVELS
+    pub shallow : levels ops (list_term values) ARGUMENT_PRIORITY + 1 < TOO_MANY_LEVELS
 
   -- the first goal is no infix operator that stands alone, and behind `?-` no term of the goals is at level 1,000
   abbrev pub MayBeAsked : List Term → Type 0

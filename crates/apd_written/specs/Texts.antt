@@ -16,7 +16,7 @@ use Rattle.apd_clauses.specs.Kinds.{◌∕◌}
 use Rattle.apd_clauses.specs.Predicates.{is_pred}
 use Rattle.apd_answers.specs.declared.question.Reply.{Reply}
 use Rattle.apd_answers.specs.declared.question.Reply.TheVariants.{Yes, No, Values, Unknown}
-use Rattle.apd_ops.specs.declared.op.TheConstants.{MOST_PRIORITY}
+use Rattle.apd_ops.specs.declared.op.TheConstants.{ARGUMENT_PRIORITY, MOST_PRIORITY}
 use Rattle.apd_ops.specs.Table.{Table}
 use Rattle.apd_write.specs.Writing.{written}
 use Rattle.apd_text.specs.ClauseTerms.{clause_term, list_term}
@@ -78,7 +78,7 @@ pub record AreAllowed (budget answers : ℕ) : Type 0 where
 -- the atom in canonical form can be written as an argument and read back
 pub record IsTellable (ops : Table) (names : List (List ℕ)) (a : Term) : Type 0 where
   pub writable : IsWritable names (canonical a)
-  pub shallow : levels ops (canonical a) 999 < TOO_MANY_LEVELS
+  pub shallow : levels ops (canonical a) ARGUMENT_PRIORITY < TOO_MANY_LEVELS
 
 -- a reply by a word
 abbrev pub IsWordReply : Reply → Type 0
@@ -106,11 +106,11 @@ pub record IsInstanceTellable (ops : Table) (names : List (List ℕ)) (c : Insta
 -- values, as one list, can be written as an argument and read back
 pub record AreTellable (ops : Table) (names : List (List ℕ)) (values : List Term) : Type 0 where
   pub writable : IsWritable names (list_term values)
-  pub shallow : levels ops (list_term values) 999 + 1 < TOO_MANY_LEVELS
+  pub shallow : levels ops (list_term values) ARGUMENT_PRIORITY + 1 < TOO_MANY_LEVELS
 
 -- the two atoms of a question about calls as the arguments of one term, and the text that is read as this term
 abbrev pub order_term : Term → Term → Term
 order_term q p = compound BELOW (more q (more p none))
 
 abbrev pub order_text : Table → List (List ℕ) → Term → Term → List ℕ
-order_text ops names q p = codes "below(" ++ (written ops names q 999 ++ codes ", " ++ written ops names p 999) ++ codes ")"
+order_text ops names q p = codes "below(" ++ (written ops names q ARGUMENT_PRIORITY ++ codes ", " ++ written ops names p ARGUMENT_PRIORITY) ++ codes ")"

@@ -2,7 +2,7 @@
 
 use crate::reader::pieces::{Part, Piece, split};
 use crate::reader::words::{atom, pair};
-use apd_ops::{MOST_PRIORITY, Op};
+use apd_ops::{ARGUMENT_PRIORITY, MOST_PRIORITY, Op};
 use apd_term::standard::{CELL, CURLY, NIL};
 use apd_term::{Atoms, Flat, NameId};
 use apd_token::TokenKind;
@@ -42,13 +42,13 @@ impl Bracket {
         match self.opened {
             TokenKind::End | TokenKind::OpenCurly => MOST_PRIORITY,
             TokenKind::Open if self.call.is_none() => MOST_PRIORITY,
-            _ => 999,
+            _ => ARGUMENT_PRIORITY,
         }
     }
 
     /// Whether commas separate what stands directly inside.
     pub fn has_elements(&self) -> bool {
-        self.most() == 999
+        self.most() == ARGUMENT_PRIORITY
     }
 
     pub fn is_closed_by(&self, kind: TokenKind) -> bool {

@@ -5,6 +5,7 @@ ghost use Rattle.std.specs.Prelude.{◌≡◌, ◌≤◌, length};
 ghost use Rattle.apd_term.specs.Term.{arguments};
 
 use crate::load::conjunction::goals;
+use apd_base::MOST_GOALS;
 use apd_causes::BodyFault;
 use apd_clauses::{Kind, kind_of};
 use apd_term::standard::{CALL, CELL, CURLY, NIL, UNIFY};
@@ -26,7 +27,7 @@ impl Making {
 
     /// A 65th goal is one too many.
     fn make_room(&self) -> Result<(), BodyFault> {
-        if self.goals.len() >= 64 {
+        if self.goals.len() >= MOST_GOALS {
             return Err(BodyFault::BodyOver);
         }
         Ok(())

@@ -1,7 +1,7 @@
 use Rattle.std.proofs.Common.{[], sym, ◌∙◌, ap}
 use Rattle.std.proofs.lemmas.List.{append-nil}
 use Rattle.apd_term.specs.Term.{spell}
-use Rattle.apd_clauses.specs.Indicators.{predicate_in}
+use Rattle.apd_clauses.specs.IndicatorSymbols.{predicate_in}
 use Rattle.apd_clauses.proofs.Indicating.{predicate_in-spell}
 use Rattle.apd_clauses.proofs.indicators.predicate_from.Goals as goal
 

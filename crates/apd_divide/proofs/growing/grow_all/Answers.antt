@@ -58,7 +58,7 @@ calls-preserved c =
     let n = ap length c.in_ok-push-2.ensures.items ∙ length_push c.calls.made.items c.in_ok-row.row in
     let l = c.in_ok-push-2.ensures.len in
     let q = c.calls.invariant.len in
-    let few = c.if-len-ge-MOST_NODES.false in
+    let few = c.if-len-ge-MOST_KEPT.false in
     let len = c.len.ensures in
     record {
       grows =

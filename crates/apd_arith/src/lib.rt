@@ -17,4 +17,4 @@ pub use evaluation::{Value, eval, value_of_one, value_of_two};
 pub use fault::ArithFault;
 pub use goal::Builtin;
 pub use operation::{BinaryOperation, UnaryOperation};
-pub use truths::truth;
+pub use truths::{are_ground, truth};

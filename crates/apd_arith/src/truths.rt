@@ -3,14 +3,28 @@
 ghost use Rattle.std.specs.Prelude.{◌≡◌, ◌≢◌, ◌↔◌, ◌∷◌, [], IfOk, IfSome, IsNone, IsTrue};
 ghost use Rattle.apd_term.specs.Term.{IsGround, integer};
 ghost use Rattle.apd_arith.specs.Builtins.{IsBuiltin};
+ghost use Rattle.std.specs.List.{list_all};
 ghost use Rattle.apd_arith.specs.Truth.{IsTrueAtom, Faults, IsFound, unless_fault};
+ghost use Rattle.apd_arith.specs.Truths.{is_ground};
 
 use crate::comparison::{Comparison, compare};
 use crate::evaluation::eval;
 use crate::fault::ArithFault;
 use crate::goal::Builtin;
-use apd_term::{Flat, Sym};
+use apd_term::{Atoms, Flat, Sym};
 use std::alloc::{AllocError, Global};
+
+/// Whether no atom has a variable.
+pub fn are_ground(atoms: &Atoms) -> bool
+    ensures { result ≡ list_all is_ground atoms.now }
+{
+    'atoms: for atom in atoms.as_slice() {
+        if !atom.is_ground() {
+            return false;
+        }
+    }
+    true
+}
 
 /// Whether a term is the integer.
 fn is_integer(term: &Flat, value: i64) -> bool

@@ -9,7 +9,7 @@ use crate::known::{
     Extent, KeptExtent, MOST_RECENT, above_all, forget_above, forget_many, forget_measured,
     forget_recent, forget_since, known_at, make_place, recent_at,
 };
-use crate::stack::Stack;
+use apd_base::stack::Stack;
 use apd_term::Sym;
 use std::alloc::{AllocError, Global};
 

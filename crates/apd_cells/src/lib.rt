@@ -10,6 +10,5 @@ pub mod known;
 pub mod live;
 pub mod order;
 pub mod slots;
-pub mod stack;
 mod symbols;
 pub mod walk;

@@ -6,7 +6,7 @@ ghost use Rattle.apd_cells.specs.Store.{term_at};
 ghost use Rattle.apd_cells.specs.Work.{AreRuns, IsWalk, Leads, walk_symbols, Passes, PassesOn, GoesTo, HasSameVariables};
 
 use crate::heap::Heap;
-use crate::stack::Stack;
+use apd_base::stack::Stack;
 use apd_term::Sym;
 use std::alloc::{AllocError, Global};
 

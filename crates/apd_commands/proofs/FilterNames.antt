@@ -1,43 +1,37 @@
 -- The names of a filter that a term tells.
 use Rattle.std.proofs.Common.{◌≡◌, ℕ, ◌<◌, Bool, true, false, ◌==◌, List, [], ◌∷◌, Option, None, Some, if◌then◌else◌, refl, subst}
-use Rattle.std.specs.Option.{option_map}
-use Rattle.apd_term.specs.Named.{AreNamed, IsNamed}
-use Rattle.apd_term.specs.Term.{Term, Terms, variable, integer, compound, none, more}
-use Rattle.apd_term.specs.declared.standard.TheConstants.{ALL, CELL, LEAP, NIL, OFF, SKIP}
-use Rattle.apd_term.specs.declared.term.NameId.{NameId}
+use Rattle.std.specs.Option.{option_and_then, option_map}
+use Rattle.std.specs.Prelude.{IfSome}
+use Rattle.apd_term.proofs.Listed.{listed-named}
+use Rattle.apd_term.specs.Listed.{each_as, listed, listed_as}
+use Rattle.apd_term.specs.Named.{AllNamed, IsNamed}
+use Rattle.apd_term.specs.Term.{Term, variable, integer, compound, none, more}
+use Rattle.apd_term.specs.declared.standard.TheConstants.{ALL, LEAP, OFF, SKIP}
 use Rattle.apd_term.specs.declared.term.Pred.{Pred}
 use Rattle.apd_ports.specs.declared.filter.Filter.{Filter}
 use Rattle.apd_ports.specs.declared.filter.Filter.TheVariants.{Off, All, Leap, Skip}
 use Rattle.apd_clauses.specs.Indicators.{predicate_from}
 use Rattle.apd_clauses.proofs.Indicating.{predicate_known}
 use Rattle.apd_text.specs.FilterTerms.{FilterIsNamed, PredsAreNamed}
-use Rattle.apd_commands.specs.Filters.{box_from, filter_at, filter_from, listed_predicates, onto_predicates, predicates_of_list}
+use Rattle.apd_commands.specs.Filters.{box_from, filter_at, filter_from}
 
-onto_known : (n : ℕ) (o : Option Pred) (os : Option (List Pred)) (ps : List Pred) → ((p : Pred) → o ≡ Some p → p.name.0 < n) → ((qs : List Pred) → os ≡ Some qs → PredsAreNamed n qs) →
-    onto_predicates o os ≡ Some ps → PredsAreNamed n ps
-onto_known n None os ps first others e = absurd (cc)
-onto_known n (Some p) None ps first others e = absurd (cc)
-onto_known n (Some p) (Some qs) ps first others e = let same : p ∷ qs ≡ ps = cc in subst (PredsAreNamed n) same (first p refl, others qs refl)
+-- predicates that terms are have their names
+known_each : (n : ℕ) (ts : List Term) (ps : List Pred) → AllNamed n ts → each_as predicate_from ts ≡ Some ps → PredsAreNamed n ps
+known_each n [] ps named e = let same : [] ≡ ps = cc in subst (PredsAreNamed n) same tt
+known_each n (t ∷ ts) ps named e = either (predicate_from t) (each_as predicate_from ts) (λ p is. predicate_known n t p named.0 is) (λ qs is. known_each n ts qs named.1 is) e
+  where
+    either : (o : Option Pred) (os : Option (List Pred)) → ((p : Pred) → o ≡ Some p → p.name.0 < n) → ((qs : List Pred) → os ≡ Some qs → PredsAreNamed n qs)
+        → option_and_then (λ p. option_map (λ qs. p ∷ qs) os) o ≡ Some ps → PredsAreNamed n ps
+    either None os first others e = absurd (cc)
+    either (Some p) None first others e = absurd (cc)
+    either (Some p) (Some qs) first others e = let same : p ∷ qs ≡ ps = cc in subst (PredsAreNamed n) same (first p refl, others qs refl)
 
-mutual
-  listed_known : (n : ℕ) (t : Term) (ps : List Pred) → IsNamed n t → listed_predicates t ≡ Some ps → PredsAreNamed n ps
-  listed_known n (variable v) ps named e = absurd (cc)
-  listed_known n (integer i) ps named e = absurd (cc)
-  listed_known n (compound f ts) ps named e = known_in n f ts ps named.1 e
-
-  known_in : (n : ℕ) (f : NameId) (ts : Terms) (ps : List Pred) → AreNamed n ts → predicates_of_list f ts ≡ Some ps → PredsAreNamed n ps
-  known_in n f none ps named e = either (f.0 == NIL.0) e
-    where
-      either : (c : Bool) → ◌≡◌ {A = Option (List Pred)} (if c then Some [] else None) (Some ps) → PredsAreNamed n ps
-      either true e = let same : [] ≡ ps = cc in subst (PredsAreNamed n) same tt
-      either false e = absurd (cc)
-  known_in n f (more t none) ps named e = absurd (cc)
-  known_in n f (more t (more u none)) ps named e = either (f.0 == CELL.0) e (listed_known n u)
-    where
-      either : (c : Bool) → (if c then onto_predicates (predicate_from t) (listed_predicates u) else None) ≡ Some ps → ((qs : List Pred) → IsNamed n u → listed_predicates u ≡ Some qs → PredsAreNamed n qs) → PredsAreNamed n ps
-      either true e others = onto_known n (predicate_from t) (listed_predicates u) ps (λ p is. predicate_known n t p named.0 is) (λ qs is. others qs named.1.0 is) e
-      either false e others = absurd (cc)
-  known_in n f (more t (more u (more v ts))) ps named e = absurd (cc)
+listed_known : (n : ℕ) (t : Term) (ps : List Pred) → IsNamed n t → listed_as predicate_from t ≡ Some ps → PredsAreNamed n ps
+listed_known n t ps named e = either (listed t) (listed-named n t named) e
+  where
+    either : (o : Option (List Term)) → IfSome o (AllNamed n) → option_and_then (each_as predicate_from) o ≡ Some ps → PredsAreNamed n ps
+    either None h e = absurd (cc)
+    either (Some ts) h e = known_each n ts ps h e
 
 leap_known : (n : ℕ) (o : Option (List Pred)) (f : Filter) → ((ps : List Pred) → o ≡ Some ps → PredsAreNamed n ps) → option_map Leap o ≡ Some f → FilterIsNamed n f
 leap_known n None f known e = absurd (cc)
@@ -58,8 +52,8 @@ told_known n (integer i) f named e = absurd (cc)
 told_known n (compound g none) f named e = plain_known n (g.0 == OFF.0) (g.0 == ALL.0) f e
 told_known n (compound g (more t none)) f named e = either (g.0 == LEAP.0) (g.0 == SKIP.0) e
   where
-    either : (a b : Bool) → (if a then option_map Leap (listed_predicates t) else (if b then option_map Skip (box_from t) else None)) ≡ Some f → FilterIsNamed n f
-    either true b e = leap_known n (listed_predicates t) f (λ ps is. listed_known n t ps named.1.0 is) e
+    either : (a b : Bool) → (if a then option_map Leap (listed_as predicate_from t) else (if b then option_map Skip (box_from t) else None)) ≡ Some f → FilterIsNamed n f
+    either true b e = leap_known n (listed_as predicate_from t) f (λ ps is. listed_known n t ps named.1.0 is) e
     either false true e = skip_known n (box_from t) f e
     either false false e = absurd (cc)
 told_known n (compound g (more t (more u ts))) f named e = absurd (cc)

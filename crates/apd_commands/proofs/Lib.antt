@@ -1,3 +1,2 @@
 pub mod Commanding
-pub mod Listing
 pub mod FilterNames

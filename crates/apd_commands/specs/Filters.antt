@@ -1,34 +1,16 @@
 -- The filter that the argument of `trace(F)` tells.
-use Rattle.std.specs.Prelude.{ℕ, pos, ◌==◌, ◌&&◌, nat_le, List, [], ◌∷◌, slice_get, Option, None, Some, if◌then◌else◌}
+use Rattle.std.specs.Prelude.{ℕ, pos, ◌==◌, ◌&&◌, nat_le, slice_get, Option, None, Some, if◌then◌else◌}
 use Rattle.std.specs.Option.{option_map, option_and_then}
-use Rattle.apd_term.specs.Term.{Term, Terms, variable, integer, compound, none, more, arguments}
+use Rattle.apd_term.specs.Listed.{listed_as}
+use Rattle.apd_term.specs.Term.{Term, integer, compound, none, more, arguments}
 use Rattle.apd_term.specs.declared.term.NameId.{NameId}
-use Rattle.apd_term.specs.declared.term.Pred.{Pred}
-use Rattle.apd_term.specs.declared.standard.TheConstants.{ALL, CELL, LEAP, NIL, OFF, SKIP}
+use Rattle.apd_term.specs.declared.standard.TheConstants.{ALL, LEAP, OFF, SKIP}
 use Rattle.apd_clauses.specs.Indicators.{predicate_from}
 use Rattle.apd_ports.specs.declared.filter.Filter.{Filter}
 use Rattle.apd_ports.specs.declared.filter.Filter.TheVariants.{Off, All, Leap, Skip}
 use Rattle.apd_text.specs.declared.entry.Refusal.TheVariants as refusal
 use Rattle.apd_commands.specs.declared.commands.Command.{Command}
 use Rattle.apd_commands.specs.declared.commands.Command.TheVariants as command
-
--- a predicate before further ones
-abbrev pub onto_predicates : Option Pred → Option (List Pred) → Option (List Pred)
-onto_predicates None preds = None
-onto_predicates (Some p) preds = option_map (λ ps. p ∷ ps) preds
-
--- the predicates that are the elements of a list, where all elements are predicates and the list ends in []
-abbrev mutual
-  pub listed_predicates : Term → Option (List Pred)
-  listed_predicates (variable v) = None
-  listed_predicates (integer i) = None
-  listed_predicates (compound f ts) = predicates_of_list f ts
-
-  pub predicates_of_list : NameId → Terms → Option (List Pred)
-  predicates_of_list f none = if f.0 == NIL.0 then Some [] else None
-  predicates_of_list f (more t none) = None
-  predicates_of_list f (more t (more u none)) = if f.0 == CELL.0 then onto_predicates (predicate_from t) (listed_predicates u) else None
-  predicates_of_list f (more t (more u (more v ts))) = None
 
 -- the greatest number that a box may have
 abbrev pub most_box : ℕ
@@ -46,7 +28,7 @@ filter_named f = if f.0 == OFF.0 then Some Off else (if f.0 == ALL.0 then Some A
 -- the filter that a name with one argument is
 abbrev pub filter_of : NameId → Term → Option Filter
 filter_of f t =
-    if f.0 == LEAP.0 then option_map Leap (listed_predicates t)
+    if f.0 == LEAP.0 then option_map Leap (listed_as predicate_from t)
     else (if f.0 == SKIP.0 then option_map Skip (box_from t) else None)
 
 -- the filter that a term tells: `off`, `all`, `leap` of a list of predicates, or `skip` of a box

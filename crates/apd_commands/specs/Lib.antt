@@ -1,4 +1,3 @@
 pub mod Commands
 pub mod Filters
-pub mod Listed
 pub mod Obeying

@@ -1,16 +1,18 @@
 //! The filter that a command tells.
 
 ghost use Rattle.std.specs.Prelude.{ℕ, ◌≡◌, ◌<◌, length, IfOk};
+ghost use Rattle.apd_clauses.specs.Indicators.{predicate_from};
+ghost use Rattle.apd_term.specs.Listed.{each_as, listed_as};
 ghost use Rattle.apd_term.specs.Named.{IsNamed};
 ghost use Rattle.apd_term.specs.Term.{arguments};
-ghost use Rattle.apd_commands.specs.Filters.{box_from, filter_at, filter_from, filter_named, filter_of, listed_predicates, trace_asked};
-ghost use Rattle.apd_commands.specs.Listed.{first_predicate, is_ended};
+ghost use Rattle.apd_commands.specs.Filters.{box_from, filter_at, filter_from, filter_named, filter_of, trace_asked};
 ghost use Rattle.apd_commands.specs.Obeying.{CanObey};
 
 use crate::commands::Command;
-use apd_clauses::indicators::predicate_in;
+use apd_clauses::indicators::predicate_from;
 use apd_ports::Filter;
-use apd_term::standard::{ALL, CELL, LEAP, NIL, OFF, SKIP};
+use apd_term::elements::listed;
+use apd_term::standard::{ALL, LEAP, OFF, SKIP};
 use apd_term::{Flat, NameId, Pred, Preds, Sym};
 use apd_text::Refusal;
 use std::alloc::{AllocError, Global};
@@ -18,40 +20,28 @@ use std::alloc::{AllocError, Global};
 /// The greatest number that a box may have.
 const MOST_BOX: i64 = 4_294_967_295;
 
-/// The first element of a list, where that is a predicate; with the list's cell it has four symbols.
-fn first_predicate(list: &[Sym]) -> Option<Pred>
-    ensures { result ≡ first_predicate list.now }
+/// The predicates that some terms are, where each is one.
+fn predicates(alloc: Global, terms: &[Flat]) -> Result<Option<Preds>, AllocError>
+    ensures { IfOk result (λ preds. preds ≡ each_as predicate_from terms.now) }
 {
-    match list {
-        [Sym::Fun(CELL, 2), rest @ ..] => predicate_in(rest),
-        _ => None,
+    let mut preds = Preds::new(alloc);
+    'terms: for term in terms {
+        let Some(pred) = predicate_from(term) else {
+            return Ok(None);
+        };
+        preds.push(pred)?;
     }
-}
-
-/// Whether the symbols begin with `[]`.
-fn is_ended(list: &[Sym]) -> bool
-    ensures { result ≡ is_ended list.now }
-{
-    match list {
-        [Sym::Fun(NIL, 0), ..] => true,
-        _ => false,
-    }
+    Ok(Some(preds))
 }
 
 /// The predicates that are the elements of a list, where all elements are predicates and the list ends in `[]`.
 fn listed_predicates(alloc: Global, list: &Flat) -> Result<Option<Preds>, AllocError>
-    ensures { IfOk result (λ preds. preds ≡ listed_predicates list.now) }
+    ensures { IfOk result (λ preds. preds ≡ listed_as predicate_from list.now) }
 {
-    let mut preds = Preds::new(alloc);
-    let mut rest = list.symbols();
-    'cells: while let Some(pred) = first_predicate(rest) {
-        preds.push(pred)?;
-        rest = &rest[4..];
+    match listed(alloc, list)? {
+        Some(terms) => predicates(alloc, terms.as_slice()),
+        None => Ok(None),
     }
-    if is_ended(rest) {
-        return Ok(Some(preds));
-    }
-    Ok(None)
 }
 
 /// The box that a term is: an integer from 1 to 4,294,967,295.

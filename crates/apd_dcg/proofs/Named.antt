@@ -1,12 +1,14 @@
 -- The names of a rule's clause, and of its fault, are those of the rule and of lists and equations.
 use Rattle.std.proofs.Common.{◌≡◌, ℕ, ◌+◌, ◌<◌, ◌==◌, Bool, true, false, ◌||◌, zero, suc, List, [], ◌∷◌, ◌++◌, map, length, take, Option, Some, None, Ok, Err, inl, inr, refl, sym, subst, arith}
-use Rattle.std.specs.Prelude.{nat_le, nat_lt, if◌then◌else◌}
+use Rattle.std.specs.Prelude.{IfSome, nat_le, nat_lt, if◌then◌else◌}
 use Rattle.std.specs.List.{flat_map}
-use Rattle.std.specs.Option.{option_map, option_or}
+use Rattle.std.specs.Option.{option_or}
+use Rattle.apd_term.proofs.Listed.{listed-named}
+use Rattle.apd_term.specs.Listed.{listed}
 use Rattle.apd_term.specs.Term.{Term, Terms, variable, integer, compound, none, more, list_of, terms_of}
 use Rattle.apd_term.specs.Named.{IsNamed, AreNamed, AllNamed, TupleIsNamed}
 use Rattle.apd_term.specs.declared.tuple.Tuple.{Tuple}
-use Rattle.apd_term.specs.declared.standard.TheConstants.{NIL, CELL, CURLY, COMMA, UNIFY}
+use Rattle.apd_term.specs.declared.standard.TheConstants.{CELL, CURLY, COMMA, UNIFY}
 use Rattle.apd_causes.specs.Faults.{FaultIsNamed}
 use Rattle.apd_causes.specs.declared.faults.BodyFault.{BodyFault}
 use Rattle.apd_causes.specs.declared.faults.BodyFault.TheVariants as faults
@@ -19,7 +21,7 @@ use Rattle.apd_clauses.proofs.Parts.{AllNamed-append, AllNamed-conjuncts}
 use Rattle.apd_clauses.proofs.FaultNames.{IsKnown, or_known, goal_known}
 use Rattle.apd_dcg.specs.declared.part.Part.{Part}
 use Rattle.apd_dcg.specs.declared.part.Part.TheVariants.{Terminals, Goal, Nonterminal}
-use Rattle.apd_dcg.specs.Parts.{elements, part_by, part_of, braced, parts_by, parts_of, parts, with_move}
+use Rattle.apd_dcg.specs.Parts.{part_by, part_of, braced, parts_by, parts_of, parts, with_move}
 use Rattle.apd_dcg.specs.Faults.{extended, is_list, is_call, unless_user, rule_head_fault, construct_fault, nonterminal_fault, part_fault, first_part_fault, parts_fault, rule_fault}
 use Rattle.apd_dcg.specs.Rules.{with_states, onto, goal_between, state_after, goals_from, last_state, clause_with, new_variable, rule_term, clause_of_rule}
 use Rattle.apd_dcg.proofs.Fine.{IsEnd, with_end, of_rule}
@@ -52,29 +54,11 @@ module _ (n : ℕ) where
   named_goals [] h = tt
   named_goals (g ∷ gs) h = (h.0, named_goals gs h.1)
 
-  named_elements : (t : Term) (ts : List Term) → elements t ≡ Some ts → IsNamed n t → AllNamed n ts
-  named_elements (variable v) ts e h = cc
-  named_elements (integer i) ts e h = cc
-  named_elements (compound f none) ts e h = either (f.0 == NIL.0) e
-    where
-      either : (b : Bool) → (if b then Some [] else None) ≡ Some ts → AllNamed n ts
-      either true e = let same : [] ≡ ts = cc in subst (AllNamed n) same tt
-      either false e = cc
-  named_elements (compound f (more t none)) ts e h = cc
-  named_elements (compound f (more t (more u none))) ts e h = either (f.0 == CELL.0) (elements u) (λ us k. named_elements u us k h.1.1.0) refl e
-    where
-      either : (b : Bool) (o : Option (List Term)) → ((us : List Term) → elements u ≡ Some us → AllNamed n us) → elements u ≡ o
-          → (if b then option_map (λ us. t ∷ us) o else None) ≡ Some ts → AllNamed n ts
-      either true None ih k e = cc
-      either true (Some us) ih k e = let same : t ∷ us ≡ ts = cc in subst (AllNamed n) same (h.1.0, ih us k)
-      either false o ih k e = cc
-  named_elements (compound f (more t (more u (more v us)))) ts e h = cc
-
   named_part : (t : Term) → IsNamed n t → IsNamedPart (part_of t)
-  named_part t h = either (elements t) refl
+  named_part t h = either (listed t) refl
     where
-      either : (o : Option (List Term)) → elements t ≡ o → IsNamedPart (part_by o t)
-      either (Some ts) k = named_elements t ts k h
+      either : (o : Option (List Term)) → listed t ≡ o → IsNamedPart (part_by o t)
+      either (Some ts) k = subst (λ o. IfSome o (AllNamed n)) k (listed-named n t h)
       either None k = h
 
   named_braced : (t g : Term) → braced t ≡ Some g → IsNamed n t → IsNamed n g

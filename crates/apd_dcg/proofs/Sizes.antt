@@ -3,6 +3,7 @@ use Rattle.std.proofs.Common.{◌≡◌, ℕ, ◌+◌, ◌*◌, ◌≤◌, ◌==
 use Rattle.std.specs.Prelude.{if◌then◌else◌}
 use Rattle.std.specs.List.{flat_map}
 use Rattle.std.specs.Option.{option_map}
+use Rattle.apd_term.specs.Listed.{listed}
 use Rattle.apd_term.specs.Term.{Term, Terms, variable, integer, compound, none, more, list_of, size, size_all}
 use Rattle.apd_term.specs.Tuple.{sizes, size_of_tuple}
 use Rattle.apd_term.specs.declared.standard.TheConstants.{NIL, CELL, CURLY}
@@ -11,7 +12,7 @@ use Rattle.apd_clauses.specs.Bodies.{conjuncts}
 use Rattle.apd_clauses.proofs.Parts.{sizes-append, sizes-conjuncts}
 use Rattle.apd_dcg.specs.declared.part.Part.{Part}
 use Rattle.apd_dcg.specs.declared.part.Part.TheVariants.{Terminals, Goal, Nonterminal}
-use Rattle.apd_dcg.specs.Parts.{elements, part_by, part_of, braced, parts_by, parts_of, parts, with_move}
+use Rattle.apd_dcg.specs.Parts.{part_by, part_of, braced, parts_by, parts_of, parts, with_move}
 use Rattle.apd_dcg.specs.Rules.{with_states, onto, goal_between, state_after, goals_from, last_state, clause_with, rule_term}
 use Rattle.apd_dcg.specs.Sizes.{most_symbols}
 use Rattle.apd_dcg.proofs.Fine.{IsEnd, with_end}
@@ -55,31 +56,31 @@ sizes-goals n (p ∷ ps) = omega (arith, size-goal p n (n + 1), sizes-goals (sta
 
 -- The parts of a body have no more symbols than it.
 
-weight-elements : (t : Term) (ts : List Term) → elements t ≡ Some ts → sizes ts + length ts + 1 ≡ size t
-weight-elements (variable v) ts e = cc
-weight-elements (integer i) ts e = cc
-weight-elements (compound f none) ts e = either (f.0 == NIL.0) e
+weight-listed : (t : Term) (ts : List Term) → listed t ≡ Some ts → sizes ts + length ts + 1 ≡ size t
+weight-listed (variable v) ts e = cc
+weight-listed (integer i) ts e = cc
+weight-listed (compound f none) ts e = either (f.0 == NIL.0) e
   where
     either : (b : Bool) → (if b then Some [] else None) ≡ Some ts → sizes ts + length ts + 1 ≡ 0 + 1
     either true e = let same : ts ≡ [] = cc in ap (λ xs. sizes xs + length xs + 1) same
     either false e = cc
-weight-elements (compound f (more t none)) ts e = cc
-weight-elements (compound f (more t (more u none))) ts e = either (f.0 == CELL.0) (elements u) (weight-elements u) refl e
+weight-listed (compound f (more t none)) ts e = cc
+weight-listed (compound f (more t (more u none))) ts e = either (f.0 == CELL.0) (listed u) (weight-listed u) refl e
   where
-    either : (b : Bool) (o : Option (List Term)) → ((us : List Term) → elements u ≡ Some us → sizes us + length us + 1 ≡ size u) → elements u ≡ o
+    either : (b : Bool) (o : Option (List Term)) → ((us : List Term) → listed u ≡ Some us → sizes us + length us + 1 ≡ size u) → listed u ≡ o
         → (if b then option_map (λ us. t ∷ us) o else None) ≡ Some ts → sizes ts + length ts + 1 ≡ (size t + (size u + 0)) + 1
     either true None ih k e = cc
     either true (Some us) ih k e =
         let same : ts ≡ t ∷ us = cc in
         ap (λ xs. sizes xs + length xs + 1) same ∙ omega (arith, ih us k)
     either false o ih k e = cc
-weight-elements (compound f (more t (more u (more v us)))) ts e = cc
+weight-listed (compound f (more t (more u (more v us)))) ts e = cc
 
 weight-part : (t : Term) → weight (part_of t) ≤ size t
-weight-part t = either (elements t) refl
+weight-part t = either (listed t) refl
   where
-    either : (o : Option (List Term)) → elements t ≡ o → weight (part_by o t) ≤ size t
-    either (Some ts) k = omega (arith, weight-elements t ts k)
+    either : (o : Option (List Term)) → listed t ≡ o → weight (part_by o t) ≤ size t
+    either (Some ts) k = omega (arith, weight-listed t ts k)
     either None k = omega arith
 
 weights-goals : (gs : List Term) → weights (map Goal gs) ≡ sizes gs

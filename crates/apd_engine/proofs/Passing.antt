@@ -110,10 +110,8 @@ module _ {H : Type 0} {step : H → Shown → Result (Unit {0}) HookFault → H 
   -- nothing comes any more
   pub on_exhausted : Ends P (stand p.search).mode (stand p.search).frames p.search.stack p.search.boxes p.search.points → HasEnded step course (after new p.rows p.held p.ports p.answered) hook (record { end = Exhausted; ports = p.ports; answers = p.answered })
   on_exhausted ends =
-      let all = at_end course on.showing ends in
       record {
-        shown = all.shown;
-        told = all.told;
+        shown = at_end course on.showing ends;
         recorded = sym (ends_exhausted P limits.budget limits.answers course.run p.ports p.answered (stand p.search) on.point R keeping ends);
         there = there;
       }
@@ -121,10 +119,8 @@ module _ {H : Type 0} {step : H → Shown → Result (Unit {0}) HookFault → H 
   -- an error comes
   pub on_error : {e : RunError} {b : ℕ} → Next P (stand p.search) (Error e b) (stand new) → HasEnded step course (after new p.rows p.held p.ports p.answered) hook (record { end = EndsInError e b; ports = p.ports; answers = p.answered })
   on_error {e} {b} gives =
-      let all = at_error course on.showing gives in
       record {
-        shown = all.shown;
-        told = all.told;
+        shown = at_error course on.showing gives;
         recorded = sym (ends_in_error P limits.budget limits.answers course.run p.ports p.answered (stand p.search) on.point R keeping (stand new) e b on.showing.going.height on.showing.going.within gives);
         there = there;
       }
@@ -157,10 +153,8 @@ module _ {H : Type 0} {step : H → Shown → Result (Unit {0}) HookFault → H 
     -- and there is no budget for it
     pub on_budget : p.ports ≡ limits.budget → HasEnded step course (after new p.rows p.held p.ports p.answered) hook (record { end = Budget; ports = p.ports; answers = p.answered })
     on_budget spent =
-        let all = at_budget course on.showing gives spent in
         record {
-          shown = all.shown;
-          told = all.told;
+          shown = at_budget course on.showing gives spent;
           recorded = sym (ends_at_budget P limits.budget limits.answers course.run p.ports p.answered (stand p.search) on.point R keeping (stand new) e on.showing.going.height spent gives);
           there = there;
         }
@@ -250,10 +244,8 @@ module _ {H : Type 0} {step : H → Shown → Result (Unit {0}) HookFault → H 
       -- the last one that is asked for
       pub on_last : p.answered + 1 ≡ limits.answers → HasEnded step course (after new X None p.ports (p.answered + 1)) now (record { end = AnswerLimit; ports = p.ports; answers = p.answered + 1 })
       on_last last =
-          let all = at_last course on.showing gives now shown last in
           record {
-            shown = all.shown;
-            told = all.told;
+            shown = at_last course on.showing gives now shown last;
             recorded = told_X ∙ sym (last_agrees P limits.budget limits.answers course.run p.ports p.answered (stand p.search) on.point R keeping (stand new) a on.showing.going.height on.showing.going.within gives last);
             there = in_X;
           }

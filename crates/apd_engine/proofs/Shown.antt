@@ -18,9 +18,9 @@ use Rattle.apd_trace.specs.declared.item.Item.{Item}
 use Rattle.apd_trace.specs.declared.item.Item.TheVariants.{Passed, Answer, Made, Error}
 use Rattle.apd_engine.specs.Cut.{FailsAt, IsCut}
 use Rattle.apd_engine.specs.Given.{TellsPort}
-use Rattle.apd_engine.specs.Progress.{Course, Showing, left}
+use Rattle.apd_engine.specs.Progress.{Course, HasShown, Showing, left}
 use Rattle.apd_engine.specs.Search.{Standing, stand, Gives, GivesBy, Ends, opened}
-use Rattle.apd_engine.specs.Unrecorded.{HasShown, IsShowing, IsFirstShown}
+use Rattle.apd_engine.specs.Unrecorded.{IsShowing, IsFirstShown}
 use Rattle.apd_engine.specs.declared.progress.Limits.{Limits}
 use Rattle.apd_engine.specs.declared.unrecorded.Unrecorded.{Unrecorded}
 use Rattle.apd_engine.specs.declared.given.Unread.{Unread}

@@ -20,6 +20,7 @@ use Rattle.apd_engine.specs.Given.{IsOpened, IsPointAt}
 use Rattle.apd_engine.specs.Search.{rest, stand, AllWaits, Goes, Standing, may_make}
 use Rattle.apd_engine.specs.declared.progress.Limits.{Limits}
 use Rattle.apd_engine.specs.declared.progress.Progress.{Progress}
+use Rattle.apd_engine.specs.declared.search.Mode.{Mode}
 
 -- a run that is to be passed, and the hook before its first item
 pub record Course (H : Type 0) : Type 0 where
@@ -106,16 +107,20 @@ pub record IsOn {H : Type 0} (step : H → Shown → Result (Unit {0}) HookFault
   pub there : AreIn p.search.frames.tuples p.rows
   pub keeping : Keeping P limits.budget limits.answers course.run p.ports p.answered (stand p.search) point (record_at p)
 
--- the whole run was shown and recorded, and this tells how it ended
-pub record HasEnded {H : Type 0} (step : H → Shown → Result (Unit {0}) HookFault → H → Type 0) (course : Course H) (p : Progress) (hook : H) (ran : Ran) : Type 0 where
+-- the whole run was shown, and this tells how it ended
+pub record HasShown {H : Type 0} (step : H → Shown → Result (Unit {0}) HookFault → H → Type 0) (course : Course H) (hook : H) (ran : Ran) : Type 0 where
   pub shown : GoesThrough step course.start (shown_of course.run.passed) hook
   pub told : ran ≡ ran_of course.run
+
+-- and it was recorded
+pub record HasEnded {H : Type 0} (step : H → Shown → Result (Unit {0}) HookFault → H → Type 0) (course : Course H) (p : Progress) (hook : H) (ran : Ran) : Type 0 where
+  pub shown : HasShown step course hook ran
   pub recorded : record_at p ≡ record_of course.run.passed
   pub there : AreIn p.search.frames.tuples p.rows
 
--- how many items may still come: after a port or an answer at most one point
-abbrev pub items_left : Limits → Progress → ℕ
-items_left limits p = 2 * ((limits.budget - p.ports) + (limits.answers - p.answered)) + may_make p.search.mode
+-- how many items may still come after so many ports and answers: after a port or an answer at most one point
+abbrev pub items_left : Limits → ℕ → ℕ → Mode → ℕ
+items_left limits ports answered mode = 2 * ((limits.budget - ports) + (limits.answers - answered)) + may_make mode
 
 -- the budget is spent, and nothing was passed
 pub record IsSpent {H : Type 0} (limits : Limits) (old : Progress) (hook : H) (new : Progress) (now : H) (ran : Ran) : Type 0 where

@@ -10,8 +10,8 @@ ghost use Rattle.apd_engine.specs.Search.{Found, OfGoal, PassesBy, Postpones, Sk
 
 use crate::search::Choice;
 use apd_base::MOST_KEPT;
+use apd_base::stack::Stack;
 use apd_cells::first::{are_clashing, key_of};
-use apd_cells::stack::Stack;
 use apd_clauses::Program;
 use apd_following::following::Following;
 use apd_term::{Pred, Sym};

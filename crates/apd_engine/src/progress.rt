@@ -160,7 +160,8 @@ impl Progress {
             self.new hook.new)
             (λ ran. HasEnded H.step course self.new hook.new ran)) }
         ensures nearer { IfOk result (λ o. IfNone o
-            (items_left limits self.new < items_left limits self.old)) }
+            (items_left limits self.new.ports self.new.answered self.new.search.mode
+            < items_left limits self.old.ports self.old.answered self.old.search.mode)) }
         ensures cut { IfErr result
             (IsCut H.step course.start (shown_of course.run.passed) hook.new) }
         ensures cause { Counts is_write_fault (H.faults course.start) (H.faults hook.new) result }

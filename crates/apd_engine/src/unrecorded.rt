@@ -6,8 +6,8 @@ ghost use Rattle.apd_base.specs.declared.limits.TheConstants.{MOST_SHOWN};
 ghost use Rattle.apd_clauses.specs.Clauses.{IsProgram, IsRunnable, tuples_of};
 ghost use Rattle.apd_trace.specs.Run.{shown_of};
 ghost use Rattle.apd_engine.specs.Cut.{IsCut, is_write_fault};
-ghost use Rattle.apd_engine.specs.Progress.{Course};
-ghost use Rattle.apd_engine.specs.Unrecorded.{HasShown, IsFirstShown, IsShowing, items_ahead};
+ghost use Rattle.apd_engine.specs.Progress.{Course, HasShown, items_left};
+ghost use Rattle.apd_engine.specs.Unrecorded.{IsFirstShown, IsShowing};
 
 use crate::given::{Given, Unread};
 use crate::progress::Limits;
@@ -77,7 +77,8 @@ impl Unrecorded {
             (IsShowing H.step H.faults course (tuples_of program.now) limits self.new hook.new)
             (λ ran. HasShown H.step course hook.new ran)) }
         ensures nearer { IfOk result (λ o. IfNone o
-            (items_ahead limits self.new < items_ahead limits self.old)) }
+            (items_left limits self.new.ports self.new.answered self.new.search.mode
+            < items_left limits self.old.ports self.old.answered self.old.search.mode)) }
         ensures cut { IfErr result
             (IsCut H.step course.start (shown_of course.run.passed) hook.new) }
         ensures cause { Counts is_write_fault (H.faults course.start) (H.faults hook.new) result }

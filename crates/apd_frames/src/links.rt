@@ -6,7 +6,7 @@ ghost use Rattle.apd_frames.specs.Linked.{entered_link, numbered, oldest, Hands,
 ghost use Rattle.apd_frames.specs.Kept.{IsIn};
 ghost use Rattle.apd_trace.specs.declared.frame.Called.{Called};
 
-use apd_cells::stack::room_for_one;
+use apd_base::stack::room_for_one;
 use apd_unify::store::{Cell, Mark};
 use std::alloc::{AllocError, Global};
 use std::marker::Model;

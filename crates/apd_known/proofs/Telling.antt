@@ -1,11 +1,10 @@
 -- The reply that a term tells has no other names, and fits.
-use Rattle.std.proofs.Common.{◌≡◌, ◌==◌, ℕ, Bool, true, false, List, [], ◌∷◌, Option, Some, None, refl, subst}
-use Rattle.std.specs.Prelude.{if◌then◌else◌}
+use Rattle.std.proofs.Common.{◌≡◌, ℕ, Bool, true, false, List, [], ◌∷◌, Option, Some, None, refl, subst}
+use Rattle.std.specs.Prelude.{IfSome, if◌then◌else◌}
 use Rattle.std.specs.Option.{option_map}
 use Rattle.apd_term.specs.Named.{IsNamed, AreNamed, AllNamed}
 use Rattle.apd_term.specs.Term.{Term, Terms, variable, integer, compound, none, more, arguments, list_of, predicate_of}
-use Rattle.apd_term.specs.declared.standard.TheConstants.{CELL, NIL, YES, NO, UNKNOWN}
-use Rattle.apd_term.specs.declared.term.NameId.{NameId}
+use Rattle.apd_term.specs.declared.standard.TheConstants.{YES, NO, UNKNOWN}
 use Rattle.apd_clauses.specs.Kinds.{◌∕◌}
 use Rattle.apd_clauses.specs.Predicates.{is_pred}
 use Rattle.apd_answers.specs.Named.{ReplyIsNamed}
@@ -14,32 +13,12 @@ use Rattle.apd_answers.specs.declared.question.Question.{Question}
 use Rattle.apd_answers.specs.declared.question.Reply.{Reply}
 use Rattle.apd_answers.specs.declared.question.Reply.TheVariants.{Yes, No, Values, Unknown}
 use Rattle.apd_known.specs.Told.{is_word, truth_told, values_of, values_told, word_told}
-use Rattle.apd_term.specs.Listed.{listed, listed_in}
+use Rattle.apd_term.specs.Listed.{listed}
+use Rattle.apd_term.proofs.Listed.{listed-named}
 
 if_some : {A : Type 0} (b : Bool) (o : Option A) (x : A) → (if b then o else None) ≡ Some x → o ≡ Some x
 if_some true o x is = is
 if_some false o x is = absurd (cc)
-
--- the names of a list's elements
-ended_named : (n : ℕ) (vs : List Term) → Some [] ≡ Some vs → AllNamed n vs
-ended_named n vs is = let e : [] ≡ vs = cc in rw (← e) tt
-
-onto_named : (n : ℕ) (t : Term) (o : Option (List Term)) (vs : List Term) → IsNamed n t → ((us : List Term) → o ≡ Some us → AllNamed n us) → option_map (λ ts. t ∷ ts) o ≡ Some vs → AllNamed n vs
-onto_named n t None vs named rest is = absurd (cc)
-onto_named n t (Some us) vs named rest is = let e : t ∷ us ≡ vs = cc in subst (AllNamed n) e (named, rest us refl)
-
-mutual
-  listed_named : (n : ℕ) (t : Term) (vs : List Term) → IsNamed n t → listed t ≡ Some vs → AllNamed n vs
-  listed_named n (variable v) vs named is = absurd (cc)
-  listed_named n (integer i) vs named is = absurd (cc)
-  listed_named n (compound f ts) vs named is = listed_in_named n f ts vs named.1 is
-
-  listed_in_named : (n : ℕ) (f : NameId) (ts : Terms) (vs : List Term) → AreNamed n ts → listed_in f ts ≡ Some vs → AllNamed n vs
-  listed_in_named n f none vs named is = ended_named n vs (if_some (f.0 == NIL.0) (Some []) vs is)
-  listed_in_named n f (more t none) vs named is = absurd (cc)
-  listed_in_named n f (more t (more u none)) vs named is =
-      onto_named n t (listed u) vs named.0 (λ us e. listed_named n u us named.1.0 e) (if_some (f.0 == CELL.0) (option_map (λ ts. t ∷ ts) (listed u)) vs is)
-  listed_in_named n f (more t (more u (more v ts))) vs named is = absurd (cc)
 
 reply_named : (n : ℕ) (o : Option (List Term)) (r : Reply) → ((vs : List Term) → o ≡ Some vs → AllNamed n vs) → option_map Values o ≡ Some r → ReplyIsNamed n r
 reply_named n None r named is = absurd (cc)
@@ -47,7 +26,7 @@ reply_named n (Some vs) r named is = let e : Values vs ≡ r = cc in subst (Repl
 
 values_named : (n : ℕ) (ts : Terms) (r : Reply) → AreNamed n ts → values_of (list_of ts) ≡ Some r → ReplyIsNamed n r
 values_named n none r named is = absurd (cc)
-values_named n (more t none) r named is = reply_named n (listed t) r (λ vs e. listed_named n t vs named.0 e) is
+values_named n (more t none) r named is = reply_named n (listed t) r (λ vs e. subst (λ o. IfSome o (AllNamed n)) e (listed-named n t named.0)) is
 values_named n (more t (more u ts)) r named is = absurd (cc)
 
 of_term_named : (n : ℕ) (t : Term) (r : Reply) → IsNamed n t → values_of (arguments t) ≡ Some r → ReplyIsNamed n r

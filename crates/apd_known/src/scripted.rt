@@ -5,7 +5,8 @@ ghost use Rattle.apd_known.specs.Scripts.{fits_asked, fits_body, scripted_reply}
 
 use crate::values::{are_true_if_builtin, unknown_count};
 use apd_answers::store::is_same_form;
-use apd_answers::{Answers, AskEnd, Asked, Oracle, Question, Reply, are_ground, with_values};
+use apd_answers::{Answers, AskEnd, Asked, Oracle, Question, Reply, with_values};
+use apd_arith::are_ground;
 use apd_term::{Atoms, Tuple};
 use std::alloc::{AllocError, Global};
 

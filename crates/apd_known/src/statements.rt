@@ -11,7 +11,8 @@ ghost use Rattle.apd_known.specs.Statements.{is_rule, is_own_atom, body_stated, 
 
 use crate::told::{truth_told, values_told, word_told};
 use crate::values::{are_true_if_builtin, unknown_count};
-use apd_answers::{Pair, Question, Reply, are_ground, with_values};
+use apd_answers::{Pair, Question, Reply, with_values};
+use apd_arith::are_ground;
 use apd_causes::{BodyFault, OracleCause};
 use apd_clauses::indicators::predicate_from;
 use apd_clauses::{Kind, clause_of, kind_of};

@@ -10,7 +10,7 @@ use Rattle.apd_term.specs.Substitution.{IsInstance, term_for}
 use Rattle.apd_term.specs.Tuple.{canonical_tuple, variables_of_tuple, IsTupleInstance}
 use Rattle.apd_term.specs.declared.tuple.Tuple.{Tuple}
 use Rattle.apd_term.proofs.Applying.{apply-variable}
-use Rattle.apd_term.proofs.Ground.{apply-ground}
+use Rattle.apd_term.proofs.Ground.{apply-ground, ground_list}
 use Rattle.apd_term.proofs.Opposite.{matching-makes, is_instance-is}
 use Rattle.apd_term.proofs.Tuples.{canonical_is_instance, IsTupleInstance-trans, IsTupleInstance_from_variants}
 use Rattle.apd_arith.specs.declared.goal.Builtin.{Builtin}
@@ -88,10 +88,6 @@ instance_of_rule rule goal e =
     (matching rule.head goal, rw m refl)
 
 -- bodies without variables
-ground_list : (ts : List Term) → AllByRecursion IsGround ts → flat_map variables ts ≡ []
-ground_list [] h = refl
-ground_list (t ∷ ts) h = rw (h.0, ground_list ts h.1) refl
-
 pub list_ground : (ts : List Term) → flat_map variables ts ≡ [] → AllByRecursion IsGround ts
 list_ground [] h = tt
 list_ground (t ∷ ts) h = let p = parts (variables t) (flat_map variables ts) h in (p.0, list_ground ts p.1)

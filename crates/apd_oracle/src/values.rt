@@ -4,7 +4,8 @@ ghost use Rattle.std.specs.Prelude.{◌≡◌, IfOk};
 ghost use Rattle.apd_oracle.specs.Replies.{values_spoken};
 
 use crate::spoken::Spoken;
-use apd_answers::{Reply, are_ground, with_values};
+use apd_answers::{Reply, with_values};
+use apd_arith::are_ground;
 use apd_known::{are_true_if_builtin, unknown_count};
 use apd_term::{Atoms, Tuple};
 use apd_text::Reason;

@@ -7,7 +7,7 @@ ghost use Rattle.apd_past.specs.Done.{to_of, with_deed, with_room, with_variable
 ghost use Rattle.apd_past.specs.Linked.{deeds_of, no_kept, AreLinked, GoesBack, HaveWays, IsEarlier, IsNewest};
 
 use crate::maybe_number::MaybeNumber;
-use apd_cells::stack::room_for_one;
+use apd_base::stack::room_for_one;
 use apd_term::Sym;
 use std::alloc::{AllocError, Global};
 use std::marker::Model;

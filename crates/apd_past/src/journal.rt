@@ -11,9 +11,9 @@ ghost use Rattle.apd_past.specs.History.{bindings_of, freed, HasDoneMore, IsNewe
 use crate::deeds::Deeds;
 use crate::maybe_number::MaybeNumber;
 use crate::past::{Moment, narrow};
+use apd_base::stack::Stack;
 use apd_cells::heap::TrailNote;
 use apd_cells::live::Live;
-use apd_cells::stack::Stack;
 use apd_term::Sym;
 use std::alloc::{AllocError, Global};
 use std::marker::Model;

@@ -4,7 +4,7 @@ ghost use Rattle.std.specs.Prelude.{◌∷◌, ◌<◌, IfOk};
 ghost use Rattle.apd_cells.specs.Work.{AreRuns, PassesOn};
 
 use crate::then::Then;
-use apd_cells::stack::Stack;
+use apd_base::stack::Stack;
 use apd_cells::walk::{Passed, Run, arity_of};
 use std::alloc::AllocError;
 

@@ -5,7 +5,6 @@ pub mod Clause
 pub mod Stack
 pub mod Holds
 pub mod State
-pub mod Top
 pub mod Lexemes
 pub mod Variables
 pub mod Answer

@@ -13,7 +13,7 @@ use crate::frames::{OperatorFrame, closed, put_infix, put_prefix};
 use crate::lexeme::Lexeme;
 use crate::phrase::{Phrase, atom, braced, call, enclosed, leaf, listing};
 use crate::places::{Begin, Go, Inside, begins, goes};
-use crate::stack::Stack;
+use apd_base::stack::Stack;
 use apd_ops::{ARGUMENT_PRIORITY, MOST_PRIORITY, Ops};
 use apd_term::standard::NIL;
 use std::alloc::{AllocError, Global};

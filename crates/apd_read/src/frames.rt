@@ -4,7 +4,7 @@ ghost use Rattle.std.specs.Prelude.{◌≡◌, IfOk};
 ghost use Rattle.apd_read.specs.Stack.{operator_of, done_of, top_of, place_of, closed, reduced, PutsPrefix, PutsInfix};
 
 use crate::phrase::{Phrase, binary, unary};
-use crate::stack::Stack;
+use apd_base::stack::Stack;
 use apd_ops::Op;
 use std::alloc::{AllocError, Global};
 

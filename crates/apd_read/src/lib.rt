@@ -13,7 +13,6 @@ mod lexemes;
 mod phrase;
 mod places;
 mod reader;
-mod stack;
 mod variables;
 
 pub use apd_causes::{Read, ReadFault};

@@ -6,9 +6,9 @@ ghost use Rattle.apd_cells.specs.Work.{AreRuns};
 ghost use Rattle.apd_resolved.specs.Counting.{CountedWithin, MeasuredWithin, MeasuresPart, PassesPart};
 
 use crate::quick::{CountedPart, extent_of, fixed_part, pass_front};
+use apd_base::stack::Stack;
 use apd_cells::heap::Heap;
 use apd_cells::known::Extent;
-use apd_cells::stack::Stack;
 use apd_cells::walk::{Run, arity_of, next_run, pass_from};
 use apd_term::Sym;
 use std::alloc::{AllocError, Global};

@@ -7,9 +7,9 @@ ghost use Rattle.apd_cells.specs.Store.{term_at, SizeWithin};
 
 use crate::counting::counted_within;
 use crate::reaching::reaches;
+use apd_base::stack::Stack;
 use apd_cells::heap::Heap;
 use apd_cells::order::Order;
-use apd_cells::stack::Stack;
 use apd_cells::walk::Walk;
 use apd_term::{Flat, Sym, Syms};
 use std::alloc::{AllocError, Global};

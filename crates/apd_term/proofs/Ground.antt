@@ -1,6 +1,6 @@
 -- Terms without variables.
 use Rattle.std.proofs.Common.{◌≡◌, ℕ, List, [], ◌∷◌, inl, inr, refl, sym, subst, ◌∙◌}
-use Rattle.std.specs.List.{flat_map}
+use Rattle.std.specs.List.{AllByRecursion, flat_map}
 use Rattle.apd_term.specs.Term.{Term, variable, apply, variables, IsGround, IsAmong, Occurs}
 use Rattle.apd_term.specs.Canonical.{canonical, by_appearance, place_of}
 use Rattle.apd_term.proofs.Applying.{apply-variable, variables-apply}
@@ -21,3 +21,8 @@ flat_map_none f (v ∷ vs) h = rw (h v (inl refl), flat_map_none f vs (λ w o. h
 -- ground terms for all of a term's variables make it ground
 pub IsGround-apply : (s : ℕ → Term) (t : Term) → ((v : ℕ) → Occurs v t → IsGround (s v)) → IsGround (apply s t)
 IsGround-apply s t h = variables-apply s t ∙ flat_map_none (λ v. variables (s v)) (variables t) h
+
+-- in a list of ground terms no variable stands
+pub ground_list : (ts : List Term) → AllByRecursion IsGround ts → flat_map variables ts ≡ []
+ground_list [] h = refl
+ground_list (t ∷ ts) h = rw (h.0, ground_list ts h.1) refl

@@ -12,7 +12,7 @@ use crate::term::{Flat, Sym, term_end};
 use std::alloc::{AllocError, Global};
 
 /// Whether a symbol is that of a list's cell, `'.'` with two arguments.
-fn is_cell(symbol: Sym) -> bool
+pub fn is_cell(symbol: Sym) -> bool
     ensures { IsTrue result ↔ (symbol ≡ symbols.Fun names.CELL 2) }
 {
     match symbol {

@@ -5,7 +5,7 @@ ghost use Rattle.std.specs.Bool.{OnTrue};
 ghost use Rattle.apd_tuples.specs.Spots.{EndsWith, HasMore, IsSpanned, kept_cell, placed, kept_cells, spot_at, spot_in};
 
 use crate::packed::KeptRow;
-use apd_cells::stack::room_for_one;
+use apd_base::stack::room_for_one;
 use apd_past::past::{Moment, PastCell};
 use apd_unify::store::Cell;
 use std::alloc::{AllocError, Global};

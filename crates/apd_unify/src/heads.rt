@@ -11,9 +11,9 @@ ghost use Rattle.apd_unify.specs.Heads.{GoesUnder, HasGoneOn, IsPastFirst, Match
 
 use crate::copies::{Hint, find_copied};
 use crate::unify::{Pairs, unify};
+use apd_base::stack::Stack;
 use apd_cells::heap::Heap;
 use apd_cells::slots::{Slot, Stretch, set_slot, slot_at};
-use apd_cells::stack::Stack;
 use apd_cells::walk::{Run, arity_of, next_run, pass_from};
 use apd_resolved::reading::Looking;
 use apd_term::term::term_end;

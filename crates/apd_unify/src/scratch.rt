@@ -4,9 +4,9 @@ ghost use Rattle.std.specs.Prelude.{◌≡◌, [], ◌<◌, length, IfOk};
 ghost use Rattle.apd_cells.specs.Ordered.{Numbers, Writes};
 ghost use Rattle.apd_cells.specs.Store.{term_at};
 
+use apd_base::stack::Stack;
 use apd_cells::heap::Heap;
 use apd_cells::order::Order;
-use apd_cells::stack::Stack;
 use apd_cells::walk::{Run, next_run, pass};
 use apd_term::{Flat, Sym, Syms};
 use std::alloc::{AllocError, Global};

@@ -7,8 +7,8 @@ ghost use Rattle.apd_cells.specs.Store.{term_at, symbol_at, IsEnd, IsFreeVariabl
 ghost use Rattle.apd_unify.specs.Unified.{IsUnification};
 ghost use Rattle.apd_unify.specs.Unifying.{Solves, IsPairs, ArePairs, IsPast, IsPastTwin, GoesOn, HasArguments, IsDecomposed};
 
+use apd_base::stack::Stack;
 use apd_cells::heap::Heap;
-use apd_cells::stack::Stack;
 use apd_cells::walk::arity_of;
 use apd_resolved::reading::{Looking, mentions};
 use apd_term::Sym;

@@ -57,12 +57,12 @@ into_record-requires-clause-there g c = subst (λ (p : Progress). AreIn p.search
 pub returns-in-Ok-clause-shown : goal.returns-in-Ok-clause-shown
 returns-in-Ok-clause-shown g c =
     let same = come_first (tuples_of c.args.program.now) c.args.query.now.tuple c.args.limits c.deref_mut.result.now (subst (IsFirst c.args.query.now.tuple) (sym c.deref_mut.ensures.value) c.in_ok-progress.ensures) in
-    subst (λ (r : Run). GoesThrough g.H.Hook.step c.args.hook.now (shown_of r.passed) c.pass_all.new.hook) same c.in-Ok.ensures.ended.shown
+    subst (λ (r : Run). GoesThrough g.H.Hook.step c.args.hook.now (shown_of r.passed) c.pass_all.new.hook) same c.in-Ok.ensures.ended.shown.shown
 
 pub returns-in-Ok-clause-ran : goal.returns-in-Ok-clause-ran
 returns-in-Ok-clause-ran g c =
     let same = come_first (tuples_of c.args.program.now) c.args.query.now.tuple c.args.limits c.deref_mut.result.now (subst (IsFirst c.args.query.now.tuple) (sym c.deref_mut.ensures.value) c.in_ok-progress.ensures) in
-    c.in-Ok.ensures.ended.told ∙ ap ran_of same
+    c.in-Ok.ensures.ended.shown.told ∙ ap ran_of same
 
 pub returns-in-Ok-clause-recorded : goal.returns-in-Ok-clause-recorded
 returns-in-Ok-clause-recorded g c =

@@ -14,10 +14,10 @@ returns-else-not-branch c =
 
 pub returns-in_ok-push-in-Separates : goal.returns-in_ok-push-in-Separates
 returns-in_ok-push-in-Separates c =
-    rw (c.in_ok-push-in-Separates.ensures, c.in_ok-t-in-Separates.ensures.1, c.in_ok-t-in-Separates.ensures.0)
+    rw (c.in_ok-push-in-Separates.ensures.ok, c.in_ok-t-in-Separates.ensures.1, c.in_ok-t-in-Separates.ensures.0)
     (element_ready c.args.ops.now c.args.lexemes.now c.args.state.now c.args.last c.requires.ready (sym c.goes.ensures ∙ c.in-Separates.is) (search rules))
 
 pub returns-in_ok-push-in-Turns : goal.returns-in_ok-push-in-Turns
 returns-in_ok-push-in-Turns c =
-    rw (c.in_ok-push-in-Turns.ensures, c.in_ok-t-in-Turns.ensures.1, c.in_ok-t-in-Turns.ensures.0)
+    rw (c.in_ok-push-in-Turns.ensures.ok, c.in_ok-t-in-Turns.ensures.1, c.in_ok-t-in-Turns.ensures.0)
     (tail_ready c.args.ops.now c.args.lexemes.now c.args.state.now c.args.last c.requires.ready (sym c.goes.ensures ∙ c.in-Turns.is))

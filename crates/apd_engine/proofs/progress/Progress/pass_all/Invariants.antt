@@ -9,4 +9,4 @@ abbrev pub invariant-items : goal.invariant-items
 invariant-items g l = IsOn g.H.Hook.step g.H.Hook.faults g.course (tuples_of l.program) l.limits l.self l.hook
 
 abbrev pub decreases-items : goal.decreases-items
-decreases-items g l = items_left l.limits l.self
+decreases-items g l = items_left l.limits l.self.ports l.self.answered l.self.search.mode

@@ -85,6 +85,14 @@ impl<T> Stack<T> {
         self.oldest_first.as_slice()
     }
 
+    /// All, the oldest first.
+    pub fn into_vec(self) -> Vec<T>
+        ensures { result.items ≡ reverse self }
+    {
+        let Stack { oldest_first } = self;
+        oldest_first
+    }
+
     pub fn len(&self) -> usize
         ensures { result ≡ length self.now }
     {

@@ -2,7 +2,7 @@
 use Rattle.std.proofs.Common.{[], ◌∷◌, refl}
 use Rattle.apd_term.specs.Term.{variable}
 use Rattle.apd_clauses.specs.Kinds.{impure}
-use Rattle.apd_clauses.specs.Queries.{list_term}
+use Rattle.apd_term.specs.Listed.{list_term}
 use Rattle.apd_dcg.specs.Rules.{AreClausesOf}
 use Rattle.apd_grammar.specs.Derivations.{IsGroundRule, Derives, by_rule, no_part, terminals, nonterminal}
 use Rattle.apd_grammar.specs.Example as example

@@ -13,7 +13,8 @@ use Rattle.apd_term.proofs.Tuples.{AreTupleVariants_from_instances}
 use Rattle.apd_term.proofs.Applying.{apply-followed_by, variables-apply}
 use Rattle.apd_term.proofs.Variants.{AreVariants_from_instances, IsInstance-canonical, apply-unchanged, same_test}
 use Rattle.apd_answers.specs.Questions.{unknowns}
-use Rattle.apd_text.specs.ClauseTerms.{clause_term, conjunction, list_term, pair, with_body}
+use Rattle.apd_text.specs.ClauseTerms.{clause_term, conjunction, pair, with_body}
+use Rattle.apd_term.specs.Listed.{list_term}
 
 -- what can be taken back keeps its canonical form
 pub same_form : (s r : ℕ → Term) (a : Term) → apply r (apply s a) ≡ a → canonical a ≡ canonical (apply s a)

@@ -31,12 +31,12 @@ use Rattle.apd_answers.specs.declared.question.Question.TheVariants.{True, Cover
 use Rattle.apd_answers.specs.declared.question.Reply.{Reply}
 use Rattle.apd_answers.specs.declared.question.Reply.TheVariants.{Yes, No, Values, Unknown}
 use Rattle.apd_answers.specs.declared.store.Pair.{Pair}
-use Rattle.apd_text.specs.ClauseTerms.{list_term, with_body}
+use Rattle.apd_text.specs.ClauseTerms.{with_body}
 use Rattle.apd_clauses.specs.Indicators.{indicated}
 use Rattle.apd_known.specs.Pairs.{IsStatable, MayAsk, MayCover, MayTrust}
 use Rattle.apd_known.specs.Statements.{body_stated, cover_stated, is_own, is_of_own, is_own_atom, of_reply, order_stated, pair_of, reply_stated, solution_stated, statement_added, term_stated, trust_stated, truth_stated}
 use Rattle.apd_known.specs.Told.{truth_told, values_told, word_told}
-use Rattle.apd_term.specs.Listed.{listed}
+use Rattle.apd_term.proofs.Listed.{listed-list}
 use Rattle.apd_known.specs.Truths.{is_true_if_builtin, passes}
 use Rattle.apd_known.specs.declared.statements.FileForm.TheVariants.{Second}
 use Rattle.apd_record.proofs.Missing.{both_empty}
@@ -80,14 +80,10 @@ order_back_told x y No fits = refl
 order_back_told x y (Values vs) fits = absurd fits
 order_back_told x y Unknown fits = absurd fits
 
-pub list_back : (vs : List Term) → listed (list_term vs) ≡ Some vs
-list_back [] = refl
-list_back (v ∷ vs) = ap (option_map (λ (ts : List Term). v ∷ ts)) (list_back vs)
-
 values_back_told : (t : Tuple) (r : Reply) → Fits (Covers t) r → values_told (reply_term r) ≡ Some r
 values_back_told t Yes fits = absurd fits
 values_back_told t No fits = refl
-values_back_told t (Values vs) fits = ap (option_map Values) (list_back vs)
+values_back_told t (Values vs) fits = ap (option_map Values) (listed-list vs)
 values_back_told t Unknown fits = absurd fits
 
 -- whether an atom is true

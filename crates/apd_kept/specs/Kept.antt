@@ -14,7 +14,8 @@ use Rattle.apd_answers.specs.declared.question.Question.TheVariants.{True, Cover
 use Rattle.apd_answers.specs.declared.question.Reply.{Reply}
 use Rattle.apd_answers.specs.declared.question.Reply.TheVariants.{Yes, No, Values, Unknown}
 use Rattle.apd_answers.specs.declared.store.Pair.{Pair}
-use Rattle.apd_text.specs.ClauseTerms.{clause_term, list_term}
+use Rattle.apd_text.specs.ClauseTerms.{clause_term}
+use Rattle.apd_term.specs.Listed.{list_term}
 
 -- a reply as a term: `yes`, `no`, `unknown`, or `yes` of a list of values
 abbrev pub reply_term : Reply → Term

@@ -13,7 +13,8 @@ use Rattle.apd_claims.specs.declared.claim.Claim.TheVariants.{Runs, Garbled}
 use Rattle.apd_clauses.specs.Bodies.{body_fault, conjuncts, conjuncts_all, fault_of_goal, first_fault, goal_fault, goal_fault_of_kind, unless_fault}
 use Rattle.apd_clauses.specs.Kinds.{kind_of, ◌∕◌}
 use Rattle.apd_clauses.specs.Predicates.{is_pred}
-use Rattle.apd_clauses.specs.Queries.{goals_asked, list_term, query_from, query_showing, shown, shown_variables}
+use Rattle.apd_clauses.specs.Queries.{goals_asked, query_from, query_showing, shown, shown_variables}
+use Rattle.apd_term.specs.Listed.{list_term}
 use Rattle.apd_clauses.specs.declared.kinds.Kind.{Kind}
 use Rattle.apd_clauses.specs.declared.kinds.Kind.TheVariants as kinds
 use Rattle.apd_term.specs.Canonical.{by_appearance}

@@ -28,7 +28,8 @@ use Rattle.apd_term.specs.Tuple.{canonical_tuple}
 use Rattle.apd_term.specs.declared.instance.Instance.{Instance}
 use Rattle.apd_term.specs.declared.standard.TheConstants.{NIL}
 use Rattle.apd_term.specs.declared.tuple.Tuple.{Tuple}
-use Rattle.apd_text.specs.ClauseTerms.{clause_term, conjunction, list_term, with_body}
+use Rattle.apd_text.specs.ClauseTerms.{clause_term, conjunction, with_body}
+use Rattle.apd_term.specs.Listed.{list_term}
 use Rattle.apd_text.specs.Lines.{goals_of}
 use Rattle.apd_text.specs.Named.{FindingIsNamed}
 use Rattle.apd_text.specs.declared.entry.Entry.{Entry}

@@ -21,7 +21,8 @@ use Rattle.apd_answers.specs.declared.question.Question.{Question}
 use Rattle.apd_answers.specs.declared.question.Question.TheVariants.{True, Covers, Below}
 use Rattle.apd_answers.specs.declared.question.Reply.{Reply}
 use Rattle.apd_answers.specs.declared.question.Reply.TheVariants.{Yes, No, Values, Unknown}
-use Rattle.apd_text.specs.ClauseTerms.{pair, conjunction, with_body, clause_term, list_term}
+use Rattle.apd_text.specs.ClauseTerms.{pair, conjunction, with_body, clause_term}
+use Rattle.apd_term.specs.Listed.{list_term}
 use Rattle.apd_text.specs.Dialogues.{atom_text, clause_text, asked_text, reply_text, candidate_text, finding_text}
 use Rattle.apd_numbering.specs.Lists.{BeginAlike, HasFewOperators}
 use Rattle.apd_numbering.specs.Renumbering.{renumbered, renumbered_instance, renumbered_list, renumbered_name, renumbered_tuple}

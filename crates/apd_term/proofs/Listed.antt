@@ -2,7 +2,7 @@
 use Rattle.std.proofs.Common.{◌≡◌, ◌==◌, ℕ, Bool, true, false, List, [], ◌∷◌, ◌++◌, Option, Some, None, refl, ap, sym, append_assoc}
 use Rattle.std.specs.Prelude.{IfSome, if◌then◌else◌}
 use Rattle.std.specs.Option.{option_map}
-use Rattle.apd_term.specs.Listed.{each_as, listed, listed_in}
+use Rattle.apd_term.specs.Listed.{each_as, list_term, listed, listed_in}
 use Rattle.apd_term.specs.Named.{AllNamed, AreNamed, IsNamed}
 use Rattle.apd_term.specs.Term.{Term, Terms, variable, integer, compound, none, more}
 use Rattle.apd_term.specs.declared.standard.TheConstants.{CELL, NIL}
@@ -23,6 +23,11 @@ front-more xs x (Some ys) = ap Some (sym (append_assoc xs (x ∷ []) ys))
 -- one more of the terms is something
 pub with_front-more : {A : Type 0} (f : Term → Option A) (xs : List A) (t : Term) (x : A) (ts : List Term) → f t ≡ Some x → with_front xs (each_as f (t ∷ ts)) ≡ with_front (xs ++ x ∷ []) (each_as f ts)
 with_front-more f xs t x ts is = rw is (front-more xs x (each_as f ts))
+
+-- the elements of a list are what it was made of
+pub listed-list : (ts : List Term) → listed (list_term ts) ≡ Some ts
+listed-list [] = refl
+listed-list (t ∷ ts) = ap (option_map (λ us. t ∷ us)) (listed-list ts)
 
 -- the names of a list are those of its elements, and more
 mutual

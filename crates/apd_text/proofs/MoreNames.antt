@@ -32,7 +32,8 @@ use Rattle.apd_answers.specs.declared.question.Reply.{Reply}
 use Rattle.apd_answers.specs.declared.question.Reply.TheVariants.{Yes, No, Values, Unknown}
 use Rattle.apd_answers.specs.declared.finding.Finding.{Finding}
 use Rattle.apd_answers.specs.declared.finding.Finding.TheVariants.{WrongInstance, Uncovered, Violation, Candidates}
-use Rattle.apd_text.specs.ClauseTerms.{pair, conjunction, with_body, clause_term, list_term}
+use Rattle.apd_text.specs.ClauseTerms.{pair, conjunction, with_body, clause_term}
+use Rattle.apd_term.specs.Listed.{list_term}
 use Rattle.apd_text.specs.Dialogues.{atom_text, candidate_text, clause_text, told_text, asked_text, reply_text, finding_text}
 use Rattle.apd_text.specs.declared.entry.Told.{Told}
 use Rattle.apd_text.specs.declared.entry.Told.TheVariants.{Wrong, Missing, NoEnd}

@@ -25,7 +25,8 @@ use Rattle.apd_term.proofs.Ground.{canonical-ground}
 use Rattle.apd_term.proofs.Named.{AllNamed-map, IsNamed-canonical, TupleIsNamed-canonical}
 use Rattle.apd_term.proofs.Variants.{canonical-canonical}
 use Rattle.apd_record.proofs.Atoms.{IsPureGoal-apply, IsUserAtom-apply}
-use Rattle.apd_text.specs.ClauseTerms.{clause_term, list_term}
+use Rattle.apd_text.specs.ClauseTerms.{clause_term}
+use Rattle.apd_term.specs.Listed.{list_term}
 use Rattle.apd_text.specs.Lines.{goals_of}
 use Rattle.apd_text.specs.Named.{FindingIsNamed, HasStandardNames, QuestionIsNamed, ReplyIsNamed, ToldIsNamed}
 use Rattle.apd_text.proofs.MoreNames.{clause_named, list_named, neck_named}

@@ -14,7 +14,7 @@ use Rattle.apd_ops.specs.Table.{Table, IsTable}
 use Rattle.apd_read.specs.Reader.{Reader}
 use Rattle.apd_write.specs.NameTexts.{function_text, name_text}
 use Rattle.apd_write.specs.Writing.{in_parentheses, rest_text, written}
-use Rattle.apd_text.specs.ClauseTerms.{list_term}
+use Rattle.apd_term.specs.Listed.{list_term}
 use Rattle.apd_text.specs.Dialogues.{giver_text, left_text, reply_text}
 use Rattle.apd_text.specs.Entries.{text_of}
 use Rattle.apd_text.specs.declared.entry.Entry.TheVariants as entry
@@ -24,7 +24,7 @@ use Rattle.apd_reading_back.specs.Law.{AreNames, IsWritable, ReadsAs, item_text}
 use Rattle.apd_reading_back.specs.Queries.{call_text, call_term}
 use Rattle.apd_reading_back.proofs.Goals.{calls_read_back}
 use Rattle.apd_reading_back.proofs.Read.{items_read_back, standard_text}
-use Rattle.apd_kept.proofs.StatedBack.{list_back}
+use Rattle.apd_term.proofs.Listed.{listed-list}
 use Rattle.apd_claims.specs.declared.form.LineForm.TheVariants.{Framed}
 use Rattle.apd_claims.specs.declared.form.LineFrame.TheVariants.{Reply as Answer}
 use Rattle.apd_claims.specs.Claims.{replied, reply_in}
@@ -177,7 +177,7 @@ module _ {names : List (List ℕ)} (reader : Reader names) (ops : Table) (table 
       record {
         term = call_term YES l;
         read = term-read reader ops (codes "yes(" ++ written ops names (canonical l) 999 ++ codes ")") (call_term YES l) table (subst (λ t. ReadsAs ops names t (call_term YES l)) text back) short;
-        is = ap (option_map Values) (list_back vs);
+        is = ap (option_map Values) (listed-list vs);
       }
 
   values-break : (vs : List Term) → AreTellable ops names vs → HasNoBreak (reply_text ops names (Values vs))

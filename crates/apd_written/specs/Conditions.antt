@@ -20,7 +20,8 @@ use Rattle.apd_answers.specs.declared.question.Question.{Question}
 use Rattle.apd_answers.specs.declared.question.Question.TheVariants as asks
 use Rattle.apd_answers.specs.declared.question.Reply.{Reply}
 use Rattle.apd_answers.specs.declared.question.Reply.TheVariants.{Yes, No, Values, Unknown}
-use Rattle.apd_text.specs.ClauseTerms.{clause_term, list_term}
+use Rattle.apd_text.specs.ClauseTerms.{clause_term}
+use Rattle.apd_term.specs.Listed.{list_term}
 use Rattle.apd_text.specs.Lines.{goals_of}
 use Rattle.apd_text.specs.declared.entry.Told.{Told}
 use Rattle.apd_text.specs.declared.entry.Told.TheVariants.{Wrong, Missing, NoEnd}

@@ -19,7 +19,8 @@ use Rattle.apd_answers.specs.declared.question.Reply.TheVariants.{Yes, No, Value
 use Rattle.apd_ops.specs.declared.op.TheConstants.{ARGUMENT_PRIORITY, MOST_PRIORITY}
 use Rattle.apd_ops.specs.Table.{Table}
 use Rattle.apd_write.specs.Writing.{written}
-use Rattle.apd_text.specs.ClauseTerms.{clause_term, list_term}
+use Rattle.apd_text.specs.ClauseTerms.{clause_term}
+use Rattle.apd_term.specs.Listed.{list_term}
 use Rattle.apd_text.specs.Lines.{goals_of}
 use Rattle.apd_trace.specs.Run.{Run, ran_of}
 use Rattle.apd_reading_back.specs.Law.{IsWritable}

@@ -12,7 +12,6 @@ use Rattle.apd_ports.specs.declared.event.Port.TheVariants.{Call}
 use Rattle.apd_ports.specs.declared.point.Point.{Point}
 use Rattle.apd_tuples.specs.Tuples.{IsNumbered}
 use Rattle.apd_record.specs.declared.beside.Owned.{Owned}
-use Rattle.apd_record.specs.declared.beside.PointLinks.{PointLinks}
 use Rattle.apd_record.specs.declared.kept.AtomPlace.{AtomPlace}
 use Rattle.apd_record.specs.declared.kept.AtomPlace.TheVariants.{Written, Kept}
 use Rattle.apd_record.specs.declared.kept.KeptBox.{KeptBox}
@@ -20,13 +19,16 @@ use Rattle.apd_record.specs.declared.kept.KeptPoint.{KeptPoint}
 use Rattle.apd_record.specs.declared.kept.TuplePlace.{TuplePlace}
 use Rattle.apd_record.specs.declared.kept.TuplePlace.TheVariants.{Written as Spanned, Kept as Held}
 use Rattle.apd_record.specs.declared.ongoing.OpenPoint.{OpenPoint}
-use Rattle.apd_record.specs.Beside.{earlier_of, edited, linked, owning, with_child}
+use Rattle.apd_record.specs.declared.order.Order.{Order}
+use Rattle.apd_record.specs.Beside.{earlier_of, edited, owning}
 use Rattle.apd_record.specs.Index.{is_exit, IsBelow, IsIndex, IsWithin}
 use Rattle.apd_record.specs.Kept.{atom_there, box_from, kept_passed, no_tuple, point_from, tuple_there, IsAtomThere, IsHeld, IsTupleThere}
 use Rattle.apd_record.specs.Open.{blank_point, blank_tuple, blanked, box_row, made_point, no_rows, noted_row, point_row, told_by, variables_for, with_box_row, with_point_row, AreIn, IsBeside, Rows}
+use Rattle.apd_record.specs.Ordered.{IsOrdered}
 use Rattle.apd_record.specs.Recorded.{Recorded, BoxRow, is_user_atom, noted, opened, with_point}
 use Rattle.apd_record.specs.Sound.{IsKept}
-use Rattle.apd_record.proofs.Indexed.{box_index, nothing, nowhere, point_index}
+use Rattle.apd_record.proofs.Found.{ordered-passed}
+use Rattle.apd_record.proofs.Indexed.{box_index, nothing, point_index}
 use Rattle.apd_record.proofs.KeptRows.{passed_rows, rows_box, rows_edited, rows_point}
 use Rattle.apd_record.proofs.Places.{length-edited}
 use Rattle.apd_record.proofs.Shaped.{from_of, index_same, shape, within_same, Shape}
@@ -53,28 +55,26 @@ within_point R x h o b =
 
 -- Rows.
 
-pub beside_box : (r : Rows) (o os : List Owned) (l ls : List PointLinks) (row : KeptBox) (bs : List KeptBox) → IsBeside r o l → row.from < length r.points → length r.boxes < 2 ^ 32 - 1
-    → bs ≡ r.boxes ++ row ∷ [] → os ≡ o ++ nothing ∷ [] → ls ≡ edited (with_child (length r.boxes)) l row.from → IsBeside (record { boxes = bs; points = r.points }) os ls
-beside_box r o os l ls row bs h from few be oe le =
+pub beside_box : (r : Rows) (o os : List Owned) (l : List (Option ℕ)) (d d' : Order) (row : KeptBox) (bs : List KeptBox) → IsBeside r o l d → row.from < length r.points → length r.boxes < 2 ^ 32 - 1
+    → bs ≡ r.boxes ++ row ∷ [] → os ≡ o ++ nothing ∷ [] → IsOrdered d' (r.boxes ++ row ∷ []) r.points → IsBeside (record { boxes = bs; points = r.points }) os l d'
+beside_box r o os l d d' row bs h from few be oe order =
     let n : length (blanked r).boxes ≡ length r.boxes = length-map r.boxes (box_from [] []) in
     let m : length (blanked r).points ≡ length r.points = length-map r.points blank_point in
     let there : row.from < length (blanked r).points = omega (arith, from, m) in
     let more : map (box_from [] []) (r.boxes ++ row ∷ []) ≡ map (box_from [] []) r.boxes ++ box_from [] [] row ∷ [] = map-append (box_from [] []) r.boxes (row ∷ []) in
-    rw (be, oe, le)
+    rw (be, oe)
     (record {
       boxes = omega (arith, few, length_push r.boxes row);
       points = h.points;
       within = subst (λ (rows : List BoxRow). IsWithin (record { boxes = rows; points = (blanked r).points })) (sym more) (within_box (blanked r) (box_from [] [] row) h.within there);
-      index =
-          subst (λ (rows : List BoxRow). IsIndex (record { boxes = rows; points = (blanked r).points }) (o ++ nothing ∷ []) (edited (with_child (length r.boxes)) l row.from)) (sym more)
-          (subst (λ k. IsIndex (record { boxes = (blanked r).boxes ++ box_from [] [] row ∷ []; points = (blanked r).points }) (o ++ nothing ∷ []) (edited (with_child k) l row.from)) n
-          (box_index (blanked r) o l h.within h.index (box_from [] [] row)));
+      index = subst (λ (rows : List BoxRow). IsIndex (record { boxes = rows; points = (blanked r).points }) (o ++ nothing ∷ []) l) (sym more) (box_index (blanked r) o l h.within h.index (box_from [] [] row));
+      ordered = order;
     })
 
-pub beside_point : (r : Rows) (o os : List Owned) (l ls : List PointLinks) (x : KeptPoint) (xs : List KeptPoint) (e : Option ℕ) → IsBeside r o l → x.owner ≤ length r.boxes → IsBelow (length r.points) x.before → length r.points < 2 ^ 32 - 1
+pub beside_point : (r : Rows) (o os : List Owned) (l ls : List (Option ℕ)) (d d' : Order) (x : KeptPoint) (xs : List KeptPoint) (e : Option ℕ) → IsBeside r o l d → x.owner ≤ length r.boxes → IsBelow (length r.points) x.before → length r.points < 2 ^ 32 - 1
     → ((d : Owned) → slice_get o x.owner ≡ Some d → e ≡ earlier_of (x.done == 0) d) → xs ≡ r.points ++ x ∷ []
-    → os ≡ edited (owning (length r.points) (x.done == 0) (is_exit (blank_point x))) o x.owner → ls ≡ linked x.before (length r.points) (l ++ nowhere e ∷ []) → IsBeside (record { boxes = r.boxes; points = xs }) os ls
-beside_point r o os l ls x xs e h owner below few earlier xe oe le =
+    → os ≡ edited (owning (length r.points) (x.done == 0) (is_exit (blank_point x))) o x.owner → ls ≡ l ++ e ∷ [] → IsOrdered d' r.boxes (r.points ++ x ∷ []) → IsBeside (record { boxes = r.boxes; points = xs }) os ls d'
+beside_point r o os l ls d d' x xs e h owner below few earlier xe oe le order =
     let n : length (blanked r).boxes ≡ length r.boxes = length-map r.boxes (box_from [] []) in
     let m : length (blanked r).points ≡ length r.points = length-map r.points blank_point in
     let there : x.owner ≤ length (blanked r).boxes = omega (arith, owner, n) in
@@ -85,9 +85,10 @@ beside_point r o os l ls x xs e h owner below few earlier xe oe le =
       points = omega (arith, few, length_push r.points x);
       within = subst (λ (ps : List Point). IsWithin (record { boxes = (blanked r).boxes; points = ps })) (sym more) (within_point (blanked r) (blank_point x) h.within there (subst (λ k. IsBelow k x.before) (sym m) below));
       index =
-          subst (λ (ps : List Point). IsIndex (record { boxes = (blanked r).boxes; points = ps }) (edited (owning (length r.points) (x.done == 0) (is_exit (blank_point x))) o x.owner) (linked x.before (length r.points) (l ++ nowhere e ∷ []))) (sym more)
-          (subst (λ k. IsIndex (with_point (blanked r) (blank_point x)) (edited (owning k (x.done == 0) (is_exit (blank_point x))) o x.owner) (linked x.before k (l ++ nowhere e ∷ []))) m
+          subst (λ (ps : List Point). IsIndex (record { boxes = (blanked r).boxes; points = ps }) (edited (owning (length r.points) (x.done == 0) (is_exit (blank_point x))) o x.owner) (l ++ e ∷ [])) (sym more)
+          (subst (λ k. IsIndex (with_point (blanked r) (blank_point x)) (edited (owning k (x.done == 0) (is_exit (blank_point x))) o x.owner) (l ++ e ∷ [])) m
           (point_index (blanked r) o l h.within h.index (blank_point x) there e earlier));
+      ordered = order;
     })
 
 froms_passed : (port : Port) (i : ℕ) (bs : List KeptBox) → map from_of (map (box_from [] []) (edited (kept_passed port) bs i)) ≡ map from_of (map (box_from [] []) bs)
@@ -95,8 +96,8 @@ froms_passed port i [] = refl
 froms_passed port zero (b ∷ bs) = refl
 froms_passed port (suc i) (b ∷ bs) = ap (λ ns. b.from ∷ ns) (froms_passed port i bs)
 
-pub beside_noted : (r : Rows) (o : List Owned) (l : List PointLinks) (port : Port) (i : ℕ) (bs : List KeptBox) → IsBeside r o l → bs ≡ edited (kept_passed port) r.boxes i → IsBeside (record { boxes = bs; points = r.points }) o l
-beside_noted r o l port i bs h e =
+pub beside_noted : (r : Rows) (o : List Owned) (l : List (Option ℕ)) (d : Order) (port : Port) (i : ℕ) (bs : List KeptBox) → IsBeside r o l d → bs ≡ edited (kept_passed port) r.boxes i → IsBeside (record { boxes = bs; points = r.points }) o l d
+beside_noted r o l d port i bs h e =
     let froms : map from_of (map (box_from [] []) (edited (kept_passed port) r.boxes i)) ≡ map from_of (map (box_from [] []) r.boxes) = froms_passed port i r.boxes in
     let R : Recorded = record { boxes = map (box_from [] []) (edited (kept_passed port) r.boxes i); points = map blank_point r.points } in
     rw e
@@ -105,6 +106,7 @@ beside_noted r o l port i bs h e =
       points = h.points;
       within = within_same R (blanked r) froms refl h.within;
       index = index_same R (blanked r) froms refl o l h.index;
+      ordered = ordered-passed d r.boxes r.points port i h.ordered;
     })
 
 pub noted_as : (r : Rows) (n : ℕ) (port : Port) → 0 < n → record { boxes = edited (kept_passed port) r.boxes (n - 1); points = r.points } ≡ noted_row r n port
@@ -139,8 +141,8 @@ same_froms : (kept : List Tuple) (bs : List KeptBox) → map from_of (map (box_f
 same_froms kept [] = refl
 same_froms kept (b ∷ bs) = ap (λ ns. b.from ∷ ns) (same_froms kept bs)
 
-pub closed : (kept : List Tuple) (r : Rows) (o : List Owned) (l : List PointLinks) → IsBeside r o l → IsKept (told_by kept r) → AreIn kept r → IsHeld [] [] kept r.boxes r.points o l
-closed kept r o l h sound there =
+pub closed : (kept : List Tuple) (r : Rows) (o : List Owned) (l : List (Option ℕ)) (d : Order) → IsBeside r o l d → IsKept (told_by kept r) → AreIn kept r → IsHeld [] [] kept r.boxes r.points o l d
+closed kept r o l d h sound there =
     record {
       stored = record {
         kept = sound;
@@ -149,6 +151,7 @@ closed kept r o l h sound there =
         index = index_same (told_by kept r) (blanked r) (same_froms kept r.boxes) (same_shapes kept r.points there.tuples) o l h.index;
       };
       rows = there;
+      ordered = h.ordered;
     }
 
 -- What the rows tell.

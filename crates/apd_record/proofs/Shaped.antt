@@ -7,9 +7,8 @@ use Rattle.std.proofs.lemmas.Option.{slice_get-map}
 use Rattle.apd_ports.specs.declared.point.Point.{Point}
 use Rattle.apd_ports.specs.declared.point.Step.{Step}
 use Rattle.apd_record.specs.declared.beside.Owned.{Owned}
-use Rattle.apd_record.specs.declared.beside.PointLinks.{PointLinks}
 use Rattle.apd_record.specs.Recorded.{Recorded, BoxRow, exits, numbers}
-use Rattle.apd_record.specs.Index.{id_of, is_by, is_exit, is_first_in, is_from, last_place, one_on, IsBelow, IsIndex, IsWithin}
+use Rattle.apd_record.specs.Index.{id_of, is_exit, is_first_in, last_place, one_on, IsBelow, IsIndex, IsWithin}
 
 -- what is looked at of a point
 pub record Shape : Type 0 where
@@ -57,28 +56,19 @@ module _ (R S : Recorded) (boxes : map from_of R.boxes ≡ map from_of S.boxes) 
   same_first : (b : ℕ) → last_place (is_first_in b) R.points ≡ last_place (is_first_in b) S.points
   same_first b = sym (last_place-map shape (first_in b) R.points) ∙ ap (last_place (first_in b)) points ∙ last_place-map shape (first_in b) S.points
 
-  same_child : (p : ℕ) → last_place (is_from p) R.boxes ≡ last_place (is_from p) S.boxes
-  same_child p = sym (last_place-map from_of (λ f. f == p) R.boxes) ∙ ap (last_place (λ f. f == p)) boxes ∙ last_place-map from_of (λ f. f == p) S.boxes
-
-  same_follow : (p : ℕ) → last_place (λ (x : Point). is_by x.before p) R.points ≡ last_place (λ (x : Point). is_by x.before p) S.points
-  same_follow p =
-      sym (last_place-map shape (λ (s : Shape). is_by s.before p) R.points) ∙ ap (last_place (λ (s : Shape). is_by s.before p)) points ∙ last_place-map shape (λ (s : Shape). is_by s.before p) S.points
-
   same_earlier : (b p : ℕ) → last_place (is_first_in b) (take p R.points) ≡ last_place (is_first_in b) (take p S.points)
   same_earlier b p =
       sym (last_place-map shape (first_in b) (take p R.points))
       ∙ ap (last_place (first_in b)) (sym (take-map shape p R.points) ∙ ap (take p) points ∙ take-map shape p S.points)
       ∙ last_place-map shape (first_in b) (take p S.points)
 
-  pub index_same : (o : List Owned) (l : List PointLinks) → IsIndex S o l → IsIndex R o l
+  pub index_same : (o : List Owned) (l : List (Option ℕ)) → IsIndex S o l → IsIndex R o l
   index_same o l h =
       record {
         boxes = h.boxes ∙ ap (λ n. n + 1) (sym (same_length from_of R.boxes S.boxes boxes));
         points = h.points ∙ sym (same_length shape R.points S.points points);
         exits = λ b w at. h.exits b w at ∙ ap (map id_of) (sym (same_exits b));
         first = λ b w at. h.first b w at ∙ sym (same_first b);
-        child = λ p w at. h.child p w at ∙ sym (same_child p);
-        follow = λ p w at. h.follow p w at ∙ sym (same_follow p);
         earlier = λ p w x at there d.
             let y = other shape R.points S.points p x points there in
             h.earlier p w y.0 at y.1 (ap (λ (s : Shape). s.done) y.2 ∙ d)

@@ -1,5 +1,5 @@
 -- A record of a search that goes on: kept tuples stand for terms.
-use Rattle.std.specs.Prelude.{ℕ, ◌<◌, ◌^◌, Bool, false, List, [], ◌∷◌, ◌++◌, length, map}
+use Rattle.std.specs.Prelude.{ℕ, ◌<◌, ◌^◌, Bool, false, Option, List, [], ◌∷◌, ◌++◌, length, map}
 use Rattle.std.proofs.Common.{zero, suc}
 use Rattle.apd_term.specs.Term.{Term, variable}
 use Rattle.apd_term.specs.declared.tuple.Tuple.{Tuple}
@@ -7,16 +7,17 @@ use Rattle.apd_ports.specs.declared.event.Port.{Port}
 use Rattle.apd_ports.specs.declared.event.Port.TheVariants.{Call}
 use Rattle.apd_ports.specs.declared.point.Point.{Point}
 use Rattle.apd_record.specs.declared.beside.Owned.{Owned}
-use Rattle.apd_record.specs.declared.beside.PointLinks.{PointLinks}
 use Rattle.apd_record.specs.declared.kept.AtomPlace.TheVariants.{Kept}
 use Rattle.apd_record.specs.declared.kept.KeptBox.{KeptBox}
 use Rattle.apd_record.specs.declared.kept.KeptPoint.{KeptPoint}
 use Rattle.apd_record.specs.declared.kept.TuplePlace.{TuplePlace}
 use Rattle.apd_record.specs.declared.kept.TuplePlace.TheVariants.{Written as Spanned, Kept as Held}
 use Rattle.apd_record.specs.declared.ongoing.OpenPoint.{OpenPoint}
+use Rattle.apd_record.specs.declared.order.Order.{Order}
 use Rattle.apd_record.specs.Beside.{edited}
 use Rattle.apd_record.specs.Index.{IsIndex, IsWithin}
 use Rattle.apd_record.specs.Kept.{AreKept, box_from, kept_passed, told}
+use Rattle.apd_record.specs.Ordered.{IsOrdered}
 use Rattle.apd_record.specs.Recorded.{Recorded}
 
 -- boxes in the order of their calls, and points in the order in which they were made
@@ -82,8 +83,9 @@ abbrev pub blanked : Rows → Recorded
 blanked r = record { boxes = map (box_from [] []) r.boxes; points = map blank_point r.points }
 
 -- what stands beside the rows is right
-pub record IsBeside (r : Rows) (owned : List Owned) (links : List PointLinks) : Type 0 where
+pub record IsBeside (r : Rows) (owned : List Owned) (links : List (Option ℕ)) (order : Order) : Type 0 where
   pub boxes : length r.boxes < 2 ^ 32
   pub points : length r.points < 2 ^ 32
   pub within : IsWithin (blanked r)
   pub index : IsIndex (blanked r) owned links
+  pub ordered : IsOrdered order r.boxes r.points

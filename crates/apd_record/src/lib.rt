@@ -4,10 +4,12 @@
 mod active;
 mod beside;
 mod few;
+mod finding;
 mod guesses;
 mod kept;
 pub mod laws;
 pub mod ongoing;
+mod order;
 mod packed;
 pub mod record;
 mod room;

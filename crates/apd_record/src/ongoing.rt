@@ -4,8 +4,9 @@ ghost use Rattle.std.specs.Prelude.{◌≡◌, ◌<◌, ◌≤◌, ◌+◌, ◌-
 ghost use Rattle.apd_record.specs.Index.{id_of, IsBelow};
 ghost use Rattle.apd_record.specs.Open.{no_rows, noted_row, with_box_row, with_point_row};
 
-use crate::beside::{Owned, PointLinks, link, link_child, note_owned};
+use crate::beside::{Owned, note_owned};
 use crate::kept::{AtomPlace, KeptBox, KeptPoint, TuplePlace};
+use crate::order::{NONE_YET, Order, stays_in_turn, stays_rising};
 use crate::packed::PackedPoint;
 use crate::room::{box_room, pass, point_room};
 use apd_past::maybe_number::MaybeNumber;
@@ -33,7 +34,8 @@ pub struct Open {
     pub(crate) points: Vec<PackedPoint>,
     pub(crate) query: Owned,
     pub(crate) owned: Vec<Owned>,
-    pub(crate) links: Vec<PointLinks>,
+    pub(crate) earlier: Vec<MaybeNumber>,
+    pub(crate) order: Order,
 }
 
 impl Model for Open {
@@ -44,7 +46,7 @@ impl Model for Open {
 
     ghost view = { λ o. record { boxes = o.boxes.items; points = o.points.items } };
 
-    ghost invariant = { λ o. IsBeside (record { boxes = o.boxes.items; points = o.points.items }) (o.query ∷ o.owned.items) o.links.items };
+    ghost invariant = { λ o. IsBeside (record { boxes = o.boxes.items; points = o.points.items }) (o.query ∷ o.owned.items) o.earlier.items o.order };
 }
 
 /// Whether all goals are solved.
@@ -65,7 +67,8 @@ impl Open {
             points: Vec::new(alloc),
             query: Owned::new(alloc),
             owned: Vec::new(alloc),
-            links: Vec::new(alloc),
+            earlier: Vec::new(alloc),
+            order: NONE_YET,
         }
     }
 
@@ -81,7 +84,7 @@ impl Open {
         box_room(&mut self.boxes, &mut self.owned)?;
         let place = self.boxes.len() as u32;
         self.owned.push_reserved(Owned::new(self.alloc));
-        link_child(&mut self.links, from, place);
+        self.order.rising = stays_rising(self.order.rising, &self.boxes, from.0);
         self.boxes.push_reserved(KeptBox {
             atom: AtomPlace::Kept(atom),
             from: from.0,
@@ -103,7 +106,7 @@ impl Open {
         ensures err { OnErr result (self.new ≡ self.old) }
     {
         let number = self.points.len() as u32;
-        point_room(&mut self.points, &mut self.links)?;
+        point_room(&mut self.points, &mut self.earlier)?;
         let is_exit = are_solved(point.done, point.tuple.goals);
         let earlier = note_owned(
             &mut self.query,
@@ -113,12 +116,8 @@ impl Open {
             point.done == 0,
             is_exit,
         )?;
-        self.links.push_reserved(PointLinks {
-            child: MaybeNumber::none(),
-            follow: MaybeNumber::none(),
-            earlier,
-        });
-        link(&mut self.links, point.before, number);
+        self.earlier.push_reserved(earlier);
+        self.order.in_turn = stays_in_turn(self.order.in_turn, point.before, number);
         self.points.push_reserved(PackedPoint::of(KeptPoint {
             owner: point.owner,
             clause: point.clause,

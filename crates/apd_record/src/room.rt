@@ -5,9 +5,10 @@ ghost use Rattle.apd_record.specs.Recorded.{completes};
 ghost use Rattle.apd_record.specs.Beside.{edited};
 ghost use Rattle.apd_record.specs.Kept.{kept_passed};
 
-use crate::beside::{Owned, PointLinks};
+use crate::beside::Owned;
 use crate::kept::KeptBox;
 use crate::packed::PackedPoint;
+use apd_past::maybe_number::MaybeNumber;
 use apd_ports::Port;
 use std::alloc::AllocError;
 
@@ -49,15 +50,15 @@ pub fn box_room(boxes: &mut Vec<KeptBox>, owned: &mut Vec<Owned>) -> Result<(), 
 #[inline(always)]
 pub fn point_room(
     points: &mut Vec<PackedPoint>,
-    links: &mut Vec<PointLinks>,
+    earlier: &mut Vec<MaybeNumber>,
 ) -> Result<(), AllocError>
     ensures points { points.new.items ≡ points.old.items }
-    ensures links { links.new.items ≡ links.old.items }
+    ensures earlier { earlier.new.items ≡ earlier.old.items }
     ensures points_len { vec_len points.new ≡ vec_len points.old }
-    ensures links_len { vec_len links.new ≡ vec_len links.old }
+    ensures earlier_len { vec_len earlier.new ≡ vec_len earlier.old }
     ensures room { OnOk result (vec_len points.new < vec_capacity points.new) }
-    ensures links_room { OnOk result (vec_len links.new < vec_capacity links.new) }
+    ensures earlier_room { OnOk result (vec_len earlier.new < vec_capacity earlier.new) }
 {
     points.reserve(1)?;
-    links.reserve(1)
+    earlier.reserve(1)
 }

@@ -1,0 +1,59 @@
+//! In which order boxes and points came about: where a search makes them, none of what a point leads to is kept.
+
+ghost use Rattle.std.specs.Prelude.{◌≡◌, ◌+◌, ◌<◌, ◌^◌, length};
+ghost use Rattle.std.specs.Bool.{IsTrue, OnTrue};
+ghost use Rattle.apd_record.specs.Index.{IsBelow};
+ghost use Rattle.apd_record.specs.Ordered.{AreFromBelow, AreRising, IsNext};
+
+use crate::kept::KeptBox;
+use apd_ports::Step;
+
+/// What is noted of the order in which boxes and points came about.
+#[derive(Clone, Copy)]
+pub struct Order {
+    /// Each point that came about by a step stands right behind the step's exit.
+    pub in_turn: bool,
+    /// Each box was called from a later point than those before it.
+    pub rising: bool,
+}
+
+/// Of no box and no point.
+pub const NONE_YET: Order = Order {
+    in_turn: true,
+    rising: true,
+};
+
+/// Whether a point with this number that came about so stands right behind the exit.
+fn is_next(before: Option<Step>, number: u32) -> bool
+    requires { IsBelow number before }
+    ensures { OnTrue result (IsNext number before) }
+{
+    match before {
+        Some(step) => step.exit.0 + 1 == number,
+        None => true,
+    }
+}
+
+/// Whether points are in turn where one more comes about so, with this number.
+#[inline(always)]
+pub fn stays_in_turn(in_turn: bool, before: Option<Step>, number: u32) -> bool
+    requires { IsBelow number before }
+    ensures was { OnTrue result (IsTrue in_turn) }
+    ensures next { OnTrue result (IsNext number before) }
+{
+    in_turn && is_next(before, number)
+}
+
+/// Whether boxes are rising where one more is called from this point.
+#[inline(always)]
+pub fn stays_rising(rising: bool, boxes: &Vec<KeptBox>, from: u32) -> bool
+    requires { OnTrue rising (AreRising boxes.now.items) }
+    ensures was { OnTrue result (IsTrue rising) }
+    ensures below { OnTrue result (AreFromBelow from boxes.now.items) }
+{
+    let count = boxes.len();
+    if count == 0 {
+        return rising;
+    }
+    rising && boxes[count - 1].from < from
+}

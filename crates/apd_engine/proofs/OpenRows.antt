@@ -4,7 +4,6 @@ use Rattle.std.specs.Prelude.{slice_get}
 use Rattle.std.proofs.lemmas.List.{length-map}
 use Rattle.std.proofs.lemmas.Option.{slice_get_within}
 use Rattle.apd_base.proofs.Lists.{slice_get-front}
-use Rattle.apd_term.specs.Term.{Term}
 use Rattle.apd_term.specs.declared.tuple.Tuple.{Tuple}
 use Rattle.apd_ports.specs.declared.event.Event.{Event}
 use Rattle.apd_ports.specs.declared.event.Port.TheVariants.{Call}
@@ -13,21 +12,22 @@ use Rattle.apd_ports.specs.declared.point.Step.{Step}
 use Rattle.apd_record.specs.Index.{IsBelow}
 use Rattle.apd_record.specs.Kept.{box_from, point_from, seen}
 use Rattle.apd_record.specs.Open.{AreIn, Rows, noted_row, told_by, with_box_row}
-use Rattle.apd_record.specs.Recorded.{Recorded, is_user_atom, noted, opened, with_point}
+use Rattle.apd_record.specs.Recorded.{Recorded, noted, opened, with_point}
+use Rattle.apd_record.specs.Sound.{MayOpen}
 use Rattle.apd_record.specs.declared.ongoing.OpenPoint.{OpenPoint}
 use Rattle.apd_record.proofs.Opening.{in_box, in_noted, in_on, in_point, told_box, told_noted, told_on, told_point}
 use Rattle.apd_record.proofs.Told.{make-below, open-within}
 use Rattle.apd_recorded.specs.Told.{told_port}
-use Rattle.apd_engine.specs.Given.{IsGoalAt}
+use Rattle.apd_engine.specs.Given.{IsGoalOf}
 use Rattle.apd_engine.specs.Progress.{IsHeld}
 use Rattle.apd_engine.specs.Recording.{newest, rows_held, told_held, HasRow, IsThere, MayAdd, MayBeToldHeld, MayPass}
 use Rattle.apd_engine.specs.Search.{Grows}
-use Rattle.apd_engine.specs.declared.given.KeptCall.{KeptCall}
+use Rattle.apd_engine.specs.declared.given.ToldCall.{ToldCall}
 use Rattle.apd_engine.proofs.Telling.{later_port, later_there}
 
 -- as many boxes and points as rows
 pub box_count : (kept : List Tuple) (r : Rows) → length (told_by kept r).boxes ≡ length r.boxes
-box_count kept r = length-map r.boxes (box_from [] kept)
+box_count kept r = length-map r.boxes (box_from [] (told_by kept r).points)
 
 pub point_count : (kept : List Tuple) (r : Rows) → length (told_by kept r).points ≡ length r.points
 point_count kept r = length-map r.points (point_from (seen [] []) kept)
@@ -53,11 +53,11 @@ module _ {old new : List Tuple} (grows : Grows old new) where
       }
 
 -- a point that was held back is made
-pub held_told : (kept : List Tuple) (r : Rows) (o : Option OpenPoint) (x : Option Point) → IsHeld kept o x → told_by kept (rows_held r o) ≡ told_held (told_by kept r) x
-held_told kept r None None h = refl
-held_told kept r None (Some x) h = absurd h
-held_told kept r (Some p) None h = absurd h
-held_told kept r (Some p) (Some x) h = told_point kept r p h.tuple h.there ∙ ap (with_point (told_by kept r)) (sym h.is)
+pub held_told : (kept : List Tuple) (r : Rows) (o : Option OpenPoint) (x : Option Point) → AreIn kept r → IsHeld kept o x → told_by kept (rows_held r o) ≡ told_held (told_by kept r) x
+held_told kept r None None there h = refl
+held_told kept r None (Some x) there h = absurd h
+held_told kept r (Some p) None there h = absurd h
+held_told kept r (Some p) (Some x) there h = told_point kept r p h.tuple there h.there ∙ ap (with_point (told_by kept r)) (sym h.is)
 
 pub held_in : (kept : List Tuple) (r : Rows) (o : Option OpenPoint) (x : Option Point) → AreIn kept r → IsHeld kept o x → AreIn kept (rows_held r o)
 held_in kept r None None there h = there
@@ -92,21 +92,21 @@ module _ (kept : List Tuple) (r : Rows) (R : Recorded) (told : told_by kept r �
     pub later_in : AreIn kept (noted_row r e.box_no e.port)
     later_in = in_noted kept r e.box_no e.port there
 
-  module _ (call : KeptCall) (is : e.port ≡ Call) (at : IsGoalAt kept call e) (from : ℕ) (newest_is : from ≡ newest R) where
-    pub call_below : MayPass R e e.port → from < length r.points
-    call_below may =
-        let m = subst (MayPass R e) is may in
-        let low : newest R < length R.points = slice_get_within R.points (newest R) m.caller m.there in
-        let same : length R.points ≡ length r.points = ap (λ (S : Recorded). length S.points) (sym told) ∙ point_count kept r in
-        omega (arith, low, same, newest_is)
+  module _ (call : ToldCall) (is : e.port ≡ Call) (at : IsGoalOf call e) (from : ℕ) (newest_is : from ≡ newest R) (may : MayPass R e e.port) where
+    may_open : MayOpen (told_by kept r) e.atom from
+    may_open = subst (λ (S : Recorded). MayOpen S e.atom from) (sym told) (subst (MayOpen R e.atom) (sym newest_is) (subst (MayPass R e) is may))
 
-    pub call_told : told_by kept (with_box_row r call.goal from call.is_user) ≡ told_port R e e.port
+    pub call_below : from < length r.points
+    call_below =
+        let low : from < length (told_by kept r).points = slice_get_within (told_by kept r).points from may_open.caller may_open.there in
+        omega (arith, low, point_count kept r)
+
+    pub call_told : told_by kept (with_box_row r from call.is_user call.size) ≡ told_port R e e.port
     call_told =
-        told_box kept r call.goal from call.is_user at.tuple at.there (at.is_user ∙ ap is_user_atom (sym at.atom))
-        ∙ ap (λ (S : Recorded). opened S at.tuple.head from) told
-        ∙ ap (λ (a : Term). opened R a from) at.atom
+        told_box kept r e.atom from call.size call.is_user may_open at.form at.is_user
+        ∙ ap (λ (S : Recorded). opened S e.atom from) told
         ∙ ap (opened R e.atom) newest_is
         ∙ ap (told_port R e) (sym is)
 
-    pub call_in : AreIn kept (with_box_row r call.goal from call.is_user)
-    call_in = in_box kept r call.goal from call.is_user there (slice_get_within kept call.goal at.tuple at.there)
+    pub call_in : AreIn kept (with_box_row r from call.is_user call.size)
+    call_in = in_box kept r e.atom from call.size call.is_user there may_open at.form at.sized

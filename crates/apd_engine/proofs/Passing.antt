@@ -29,10 +29,10 @@ use Rattle.apd_trace.specs.declared.item.Item.{Item}
 use Rattle.apd_trace.specs.declared.item.Item.TheVariants.{Passed, Answer, Made, Error}
 use Rattle.apd_engine.specs.Cut.{FailsAt, IsCut, is_write_fault}
 use Rattle.apd_engine.specs.Progress.{Course, HasEnded, IsFirst, IsHeld, IsOn, Keeping, PassesAnswer, PassesLater, held_point, left, record_at, to_come}
-use Rattle.apd_engine.specs.Given.{IsGoalAt, IsPointAt, IsPortRead, IsToldWhole, TellsPort}
+use Rattle.apd_engine.specs.Given.{IsGoalOf, IsPointAt, IsPortRead, IsToldWhole, TellsPort}
 use Rattle.apd_engine.specs.Recording.{newest, rows_held, told_held, HasRow, MayAdd, MayBeToldAll, MayPass, with_held}
 use Rattle.apd_engine.specs.Search.{opened, stand, GivesBy, Grows, Ends}
-use Rattle.apd_engine.specs.declared.given.KeptCall.{KeptCall}
+use Rattle.apd_engine.specs.declared.given.ToldCall.{ToldCall}
 use Rattle.apd_engine.specs.declared.given.Unread.{Unread}
 use Rattle.apd_engine.specs.declared.progress.Limits.{Limits}
 use Rattle.apd_engine.specs.declared.progress.Progress.{Progress}
@@ -143,7 +143,7 @@ module _ {H : Type 0} {step : H → Shown → Result (Unit {0}) HookFault → H 
   X = rows_held p.rows p.held
 
   told_X : told_by kept X ≡ told_held R on.point
-  told_X = held_told kept p.rows p.held on.point held
+  told_X = held_told kept p.rows p.held on.point there held
 
   in_X : AreIn kept X
   in_X = held_in kept p.rows p.held on.point there held
@@ -190,15 +190,15 @@ module _ {H : Type 0} {step : H → Shown → Result (Unit {0}) HookFault → H 
         pub on_later : (now : H) → step hook (ShownPort e) (Ok tt) now → faults now ≡ faults hook → IsOn step faults course P limits (after new (noted_row X e.box_no e.port) None (p.ports + 1) p.answered) now
         on_later = told_port_so (noted_row X e.box_no e.port) (later_told kept X (told_held R on.point) told_X in_X e later) (later_in kept X (told_held R on.point) told_X in_X e later)
 
-      -- it is a Call, and its goal was kept
-      module _ {call : KeptCall} (is : e.port ≡ Call) (at : IsGoalAt kept call e) where
+      -- it is a Call
+      module _ {call : ToldCall} (is : e.port ≡ Call) (at : IsGoalOf call e) where
         pub below_at_call : new.points - 1 < length X.points
         below_at_call = call_below kept X (told_held R on.point) told_X in_X e call is at (new.points - 1) from_at_port may_at_port
 
-        pub on_call : (now : H) → step hook (ShownPort e) (Ok tt) now → faults now ≡ faults hook → IsOn step faults course P limits (after new (with_box_row X call.goal (new.points - 1) call.is_user) None (p.ports + 1) p.answered) now
+        pub on_call : (now : H) → step hook (ShownPort e) (Ok tt) now → faults now ≡ faults hook → IsOn step faults course P limits (after new (with_box_row X (new.points - 1) call.is_user call.size) None (p.ports + 1) p.answered) now
         on_call =
-            told_port_so (with_box_row X call.goal (new.points - 1) call.is_user) (call_told kept X (told_held R on.point) told_X in_X e call is at (new.points - 1) from_at_port)
-            (call_in kept X (told_held R on.point) told_X in_X e call is at (new.points - 1) from_at_port)
+            told_port_so (with_box_row X (new.points - 1) call.is_user call.size) (call_told kept X (told_held R on.point) told_X in_X e call is at (new.points - 1) from_at_port may_at_port)
+            (call_in kept X (told_held R on.point) told_X in_X e call is at (new.points - 1) from_at_port may_at_port)
 
     -- it is later than the Call of its box: it was passed, or there was no budget for it
     module _ (later : e.port ≢ Call) where

@@ -4,9 +4,10 @@ use Rattle.std.proofs.lemmas.Bool.{not-false, not-true}
 use Rattle.std.proofs.lemmas.List.{length-map}
 use Rattle.std.specs.Prelude.{◌==◌, if◌then◌else◌, slice_get}
 use Rattle.apd_term.specs.Canonical.{canonical}
-use Rattle.apd_term.specs.Term.{Term, predicate_of}
+use Rattle.apd_term.specs.Term.{Term, predicate_of, size as size_of}
 use Rattle.apd_term.specs.Tuple.{canonical_tuple}
 use Rattle.apd_term.specs.declared.term.Pred.{Pred}
+use Rattle.apd_term.proofs.Variants.{canonical-canonical, size-canonical}
 use Rattle.apd_term.specs.declared.tuple.Tuple.{Tuple}
 use Rattle.apd_ports.specs.declared.event.Event.{Event}
 use Rattle.apd_ports.specs.declared.event.Port.{Port}
@@ -26,15 +27,15 @@ use Rattle.apd_trace.specs.declared.item.Item.TheVariants.{Passed, Made}
 use Rattle.apd_frames.specs.Kept.{Kept, Calls, ahead_of, exit_in, fits, is_large_of, newest_of, point_in}
 use Rattle.apd_frames.specs.declared.ahead.Ahead.TheVariants.{Call as CallsNext, Exit as ExitsNext}
 use Rattle.std.specs.Global.{Box}
-use Rattle.apd_following.specs.Followed.{KeepsGoal, KeepsInstance}
+use Rattle.apd_following.specs.Followed.{IsGoalSized, KeepsInstance}
 use Rattle.apd_following.specs.declared.following.KeptFrame.{KeptFrame}
 use Rattle.apd_record.specs.declared.ongoing.OpenPoint.{OpenPoint}
 use Rattle.apd_engine.specs.Given.{Holding, HoldsWhere, IsCalled, IsPointOf, IsToldWhole, IsWhole, Makes, MayBeWhole, SetsHeld, SetsHeldSome, Tells, TellsCall, TellsKept, TellsPoint, TellsPort, TellsSome, of_point}
-use Rattle.apd_engine.specs.declared.given.KeptCall.{KeptCall}
+use Rattle.apd_engine.specs.declared.given.ToldCall.{ToldCall}
 use Rattle.apd_engine.specs.Recording.{IsThere, MayPass}
 use Rattle.apd_engine.specs.Search.{Standing, Grows, Ends, GivesAlways, GivesBy, GivesOrEnds, HasFailed, IsCalling, IsLeft, IsOpen, AllWaits, Waits, called_at, in_mode, left_at}
 use Rattle.apd_engine.specs.declared.given.Given.{Given}
-use Rattle.apd_engine.specs.declared.given.Given.TheVariants.{Whole, Port as PortOf, Point as SomePoint, Kept as KeptPoint, Call as KeptGoal}
+use Rattle.apd_engine.specs.declared.given.Given.TheVariants.{Whole, Port as PortOf, Point as SomePoint, Kept as KeptPoint, Call as CallOf}
 use Rattle.apd_engine.specs.declared.given.Unread.{Unread}
 use Rattle.apd_engine.specs.declared.search.Choice.{Choice}
 use Rattle.apd_engine.specs.declared.search.Choice.TheVariants.{Over}
@@ -78,7 +79,7 @@ tells_weaker kept unread KeptPoint A B weaker h =
       at = h.at;
       may = h.may;
     }
-tells_weaker kept unread (KeptGoal call) A B weaker h =
+tells_weaker kept unread (CallOf call) A B weaker h =
     record {
       event = h.event;
       holds = weaker (Passed h.event) h.holds;
@@ -94,14 +95,14 @@ tells_whole kept unread (Whole w) i B is may h = (subst (MayBeWhole unread) (sym
 tells_whole kept unread (PortOf port b) i B is may h = absurd is
 tells_whole kept unread SomePoint i B is may h = absurd is
 tells_whole kept unread KeptPoint i B is may h = absurd is
-tells_whole kept unread (KeptGoal call) i B is may h = absurd is
+tells_whole kept unread (CallOf call) i B is may h = absurd is
 
 pub whole_told : (kept : Holding) (unread : Unread) (given : Given) (i : Item) (B : Item → Type 0) → IsWhole given i → Tells kept unread given B → MayBeWhole unread i × B i
 whole_told kept unread (Whole w) i B is h = (subst (MayBeWhole unread) is h.0, subst B is h.1)
 whole_told kept unread (PortOf port b) i B is h = absurd is
 whole_told kept unread SomePoint i B is h = absurd is
 whole_told kept unread KeptPoint i B is h = absurd is
-whole_told kept unread (KeptGoal call) i B is h = absurd is
+whole_told kept unread (CallOf call) i B is h = absurd is
 
 -- a port of a goal, told by its box
 tells_port : (unread : Unread) (port : Port) (g : Called) (b : ℕ) (B : Item → Type 0) → g.box_no ≡ b → unread.ports ≡ true → (port ≡ Call → unread.points ≡ true) → B (at_port port g) → TellsPort unread port b B
@@ -190,7 +191,7 @@ held_same (Whole i) same = same
 held_same (PortOf port b) same = same
 held_same SomePoint same = same
 held_same KeptPoint same = tt
-held_same (KeptGoal call) same = same
+held_same (CallOf call) same = same
 
 pub held_where : (b unread : Bool) {old new : Option OpenPoint} → new ≡ old → HoldsWhere b unread old new
 held_where false unread same = same
@@ -219,7 +220,7 @@ whole_same (Whole i) r old new is sets = sets
 whole_same (PortOf port b) r old new is sets = absurd is
 whole_same SomePoint r old new is sets = absurd is
 whole_same KeptPoint r old new is sets = absurd is
-whole_same (KeptGoal call) r old new is sets = absurd is
+whole_same (CallOf call) r old new is sets = absurd is
 
 module _ (o : Option Given) (old new : Option OpenPoint) (h : SetsHeldSome o old new) where
   pub same_none : o ≡ None → new ≡ old
@@ -232,7 +233,7 @@ module _ (o : Option Given) (old new : Option OpenPoint) (h : SetsHeldSome o old
     pub same_port : (port : Port) (b : ℕ) → given ≡ PortOf port b → new ≡ old
     same_port port b bare = subst (λ g. SetsHeld g old new) bare (sets_given o old new h given is)
 
-    pub same_called : (call : KeptCall) → given ≡ KeptGoal call → new ≡ old
+    pub same_called : (call : ToldCall) → given ≡ CallOf call → new ≡ old
     same_called call bare = subst (λ g. SetsHeld g old new) bare (sets_given o old new h given is)
 
 -- what waits behind a built-in goal that has exited
@@ -299,47 +300,31 @@ tells_called kept unread given s new i points told ready waits now is =
     tells_whole kept unread given i (GivesAlways (in_mode Forward s) new) is (subst (MayBeWhole unread) (sym told.item) (λ same. points))
     (λ P. subst (λ (j : Item). GivesBy P (in_mode Forward s) new j) (sym told.item) (called_gives s new told.goal told.calls ready waits now P))
 
--- a Call whose goal is kept
-goal_called : (o : Option Term) (f : Frame) (F : List Frame) (b : ℕ) (g : Called) (a : Term) → look_at o f F b ≡ Goal g → o ≡ Some a → canonical a ≡ g.atom
-goal_called None f F b g a calls is = cc
-goal_called (Some x) f F b g a calls is =
-    let same : called f x b ≡ g = cc in
-    let term : x ≡ a = cc in
-    ap canonical (sym term) ∙ ap (λ (c : Called). c.atom) same
+-- a Call whose goal the newest point has
+goal_called : (o : Option Term) (f : Frame) (F : List Frame) (b : ℕ) (g : Called) → look_at o f F b ≡ Goal g → (a : Term) × (o ≡ Some a) × (canonical a ≡ g.atom)
+goal_called None f F b g calls = elim (f.box_no == 0) as (λ t. (if t then Answers (canonical f.tuple.head) else Exits (left f F) f.point) ≡ Goal g → (a : Term) × (None ≡ Some a) × (canonical a ≡ g.atom)) [ true ↦ λ bad. cc | false ↦ λ bad. cc ] calls
+goal_called (Some x) f F b g calls = let same : called f x b ≡ g = cc in (x, refl, ap (λ (c : Called). c.atom) same)
 
-next_called : (F : List Frame) (b : ℕ) (g : Called) (a : Term) → Calls F b g → next_goal F ≡ Some a → canonical a ≡ g.atom
-next_called [] b g a calls is = cc
-next_called (f ∷ F) b g a calls is = goal_called (goal_of f) f F b g a calls is
+next_called : (F : List Frame) (b : ℕ) (g : Called) → Calls F b g → (a : Term) × (next_goal F ≡ Some a) × (canonical a ≡ g.atom)
+next_called [] b g calls = cc
+next_called (f ∷ F) b g calls = goal_called (goal_of f) f F b g calls
 
-none_at : (o : Option Term) (f : Frame) (F : List Frame) → CallsNext ≡ ahead_of (look_at o f F 0) → o ≡ None → ⊥
-none_at (Some a) f F calls is = cc
-none_at None f F calls is = elim (f.box_no == 0) as (λ b. CallsNext ≡ ahead_of (if b then Answers (canonical f.tuple.head) else Exits (left f F) f.point) → ⊥) [ true ↦ λ bad. cc | false ↦ λ bad. cc ] calls
-
-none_next : (F : List Frame) → CallsNext ≡ ahead_of (look_of F 0) → next_goal F ≡ None → ⊥
-none_next [] calls is = cc
-none_next (f ∷ F) calls is = none_at (goal_of f) f F calls is
-
-pub goal_kept : (o : Option ℕ) (F : List Frame) (old new : List Tuple) → KeepsGoal o F old new → CallsNext ≡ ahead_of (look_of F 0) → ((n : ℕ) → ¬ (o ≡ Some n)) → ⊥
-goal_kept None F old new h calls none = none_next F calls h.0
-goal_kept (Some n) F old new h calls none = none n refl
-
-pub tells_kept_call : (unread : Unread) (s new : Standing) (port : Option (Box Item)) (goal : ℕ) (is_user : Bool) (o : Option Pred) (old kept : List Tuple) (held : Option OpenPoint) → unread.points ≡ false → ((n : ℕ) → CallsNext ≡ ahead_of (look_of s.frames.current n)) → IsOpen s.boxes s.frames.current → Waits s → new ≡ called_at s
+pub tells_call_of : (kept : Holding) (unread : Unread) (s new : Standing) (port : Option (Box Item)) (size : ℕ) (is_user : Bool) (o : Option Pred) → unread.points ≡ false → ((n : ℕ) → CallsNext ≡ ahead_of (look_of s.frames.current n)) → IsOpen s.boxes s.frames.current → Waits s → new ≡ called_at s
     → IsToldWhole unread (IsCalled s.frames.current (s.boxes + 1)) port → ((n : ℕ) (g : Called) → Calls s.frames.current n g → o ≡ predicate_of g.atom) → ((atom : Term) → o ≡ predicate_of atom → is_user ≡ is_user_atom atom)
-    → KeepsGoal (Some goal) s.frames.current old kept
-    → Tells (record { tuples = kept; held = held }) unread (KeptGoal (record { goal = goal; is_user = is_user; port = port })) (GivesAlways (in_mode Forward s) new)
-tells_kept_call unread s new port goal is_user o old kept held may calls ready waits now read pred user keeps =
+    → IsGoalSized size s.frames.current
+    → Tells kept unread (CallOf (record { size = size; is_user = is_user; port = port })) (GivesAlways (in_mode Forward s) new)
+tells_call_of kept unread s new port size is_user o may calls ready waits now read pred user sized =
     let x = call_so (look_of s.frames.current (s.boxes + 1)) (calls (s.boxes + 1)) in
     let g : Called = x.0 in
-    let k = keeps.1 in
+    let goal = next_called s.frames.current (s.boxes + 1) g x.1 in
     record {
       event = record { port = Call; box_no = g.box_no; caller = g.caller; depth = g.depth; atom = g.atom };
       holds = called_gives s new g x.1 ready waits now;
       port_is = refl;
       at = record {
-        tuple = record { head = canonical k.goal; body = [] };
-        there = subst (λ ts. slice_get ts goal ≡ Some (record { head = canonical k.goal; body = [] })) (sym k.more) (get-last old (record { head = canonical k.goal; body = [] }) goal (sym keeps.0));
-        atom = next_called s.frames.current (s.boxes + 1) g k.goal x.1 k.is;
+        form = subst (λ a. canonical a ≡ a) goal.2 (canonical-canonical goal.0);
         is_user = user g.atom (pred (s.boxes + 1) g x.1);
+        sized = λ some. sized goal.0 goal.1 some ∙ sym (size-canonical goal.0) ∙ ap size_of goal.2;
       };
       read = read_so port read;
       may = may;
@@ -374,7 +359,7 @@ module _ (P : List Tuple) (kept : Holding) (unread : Unread) (s new : Standing) 
     pub gives_kept : given ≡ KeptPoint → TellsKept kept unread (GivesBy P s new)
     gives_kept bare = subst (λ (x : Given). Tells kept unread x (GivesBy P s new)) bare (gives_told given is)
 
-    pub gives_called : (call : KeptCall) → given ≡ KeptGoal call → TellsCall kept.tuples unread call (GivesBy P s new)
+    pub gives_called : (call : ToldCall) → given ≡ CallOf call → TellsCall unread call (GivesBy P s new)
     gives_called call bare = subst (λ (x : Given). Tells kept unread x (GivesBy P s new)) bare (gives_told given is)
 
 -- a Call is told whole where points are read

@@ -1,6 +1,7 @@
 -- What is told of an item.
 use Rattle.std.specs.Prelude.{◌≡◌, ℕ, Bool, if◌then◌else◌, ◌∷◌, [], List, length, Result, Ok, true, false, Option, Some, None, slice_get}
 use Rattle.std.specs.Global.{Box}
+use Rattle.apd_term.specs.Canonical.{canonical}
 use Rattle.apd_term.specs.declared.tuple.Tuple.{Tuple}
 use Rattle.apd_term.specs.Tuple.{canonical_tuple}
 use Rattle.apd_ports.specs.declared.event.Event.{Event}
@@ -11,6 +12,7 @@ use Rattle.apd_ports.specs.declared.hook.Shown.{Shown}
 use Rattle.apd_ports.specs.declared.hook.Shown.TheVariants.{Port as ShownPort}
 use Rattle.apd_ports.specs.declared.point.Point.{Point}
 use Rattle.apd_ports.specs.declared.point.Step.{Step}
+use Rattle.apd_record.specs.Kept.{IsSized}
 use Rattle.apd_record.specs.Open.{made_point}
 use Rattle.apd_record.specs.Recorded.{is_user_atom, query_point}
 use Rattle.apd_record.specs.declared.ongoing.OpenPoint.{OpenPoint}
@@ -23,8 +25,8 @@ use Rattle.apd_frames.specs.Kept.{Calls, Points}
 use Rattle.apd_engine.specs.Search.{opened, stand}
 use Rattle.apd_engine.specs.declared.given.Unread.{Unread}
 use Rattle.apd_engine.specs.declared.given.Given.{Given}
-use Rattle.apd_engine.specs.declared.given.Given.TheVariants.{Whole, Port as PortOf, Point as SomePoint, Kept as KeptPoint, Call as KeptGoal}
-use Rattle.apd_engine.specs.declared.given.KeptCall.{KeptCall}
+use Rattle.apd_engine.specs.declared.given.Given.TheVariants.{Whole, Port as PortOf, Point as SomePoint, Kept as KeptPoint, Call as CallOf}
+use Rattle.apd_engine.specs.declared.given.ToldCall.{ToldCall}
 use Rattle.apd_engine.specs.declared.search.Search.{Search}
 
 -- a port is told by its box alone, where nobody reads it; B holds of its item
@@ -68,19 +70,18 @@ abbrev pub IsToldWhole : Unread → (Item → Type 0) → Option (Box Item) → 
 IsToldWhole unread B None = unread.ports ≡ true
 IsToldWhole unread B (Some item) = B item.value
 
--- the goal is the head of a kept tuple
-pub record IsGoalAt (kept : List Tuple) (call : KeptCall) (event : Event) : Type 0 where
-  pub tuple : Tuple
-  pub there : slice_get kept call.goal ≡ Some tuple
-  pub atom : tuple.head ≡ event.atom
+-- the goal of the event is in canonical form, and this is told of it
+pub record IsGoalOf (call : ToldCall) (event : Event) : Type 0 where
+  pub form : canonical event.atom ≡ event.atom
   pub is_user : call.is_user ≡ is_user_atom event.atom
+  pub sized : IsSized call.size event.atom
 
--- a Call is told by its kept goal; B holds of it
-pub record TellsCall (kept : List Tuple) (unread : Unread) (call : KeptCall) (B : Item → Type 0) : Type 0 where
+-- a Call is told by what is told of its goal; B holds of it
+pub record TellsCall (unread : Unread) (call : ToldCall) (B : Item → Type 0) : Type 0 where
   pub event : Event
   pub holds : B (Passed event)
   pub port_is : event.port ≡ Call
-  pub at : IsGoalAt kept call event
+  pub at : IsGoalOf call event
   pub read : IsToldWhole unread (λ i. i ≡ Passed event) call.port
   pub may : unread.points ≡ false
 
@@ -97,7 +98,7 @@ IsWhole (Whole whole) i = whole.value ≡ i
 IsWhole (PortOf port b) i = ⊥
 IsWhole SomePoint i = ⊥
 IsWhole KeptPoint i = ⊥
-IsWhole (KeptGoal call) i = ⊥
+IsWhole (CallOf call) i = ⊥
 
 -- B holds of the item of which this is told, where this was kept
 abbrev pub Tells : Holding → Unread → Given → (Item → Type 0) → Type 0
@@ -105,15 +106,11 @@ Tells kept unread (Whole i) B = MayBeWhole unread i.value × B i.value
 Tells kept unread (PortOf port b) B = TellsPort unread port b B
 Tells kept unread SomePoint B = TellsPoint unread B
 Tells kept unread KeptPoint B = TellsKept kept unread B
-Tells kept unread (KeptGoal call) B = TellsCall kept.tuples unread call B
+Tells kept unread (CallOf call) B = TellsCall unread call B
 
 -- the same whatever was kept, and whatever point is held
 abbrev pub TellsAlways : Unread → Given → (Item → Type 0) → Type 0
 TellsAlways unread given B = (kept : Holding) → Tells kept unread given B
-
-abbrev pub TellsBeside : List Tuple → Unread → Given → (Item → Type 0) → Type 0
-TellsBeside tuples unread given B =
-    (held : Option OpenPoint) → Tells (record { tuples = tuples; held = held }) unread given B
 
 -- the same where there may be no item
 abbrev pub TellsSome : Holding → Unread → Option Given → (Option Item → Type 0) → Type 0
@@ -126,7 +123,7 @@ SetsHeld (Whole i) old new = new ≡ old
 SetsHeld (PortOf port b) old new = new ≡ old
 SetsHeld SomePoint old new = new ≡ old
 SetsHeld KeptPoint old new = Unit {0}
-SetsHeld (KeptGoal call) old new = new ≡ old
+SetsHeld (CallOf call) old new = new ≡ old
 
 abbrev pub SetsHeldSome : Option Given → Option OpenPoint → Option OpenPoint → Type 0
 SetsHeldSome None old new = new ≡ old

@@ -3,10 +3,10 @@
 ghost use Rattle.std.specs.Prelude.{◌≡◌, ℕ, OnOk, IfOk, ◌<◌, ◌+◌, ◌-◌, ◌^◌};
 ghost use Rattle.apd_frames.specs.Kept.{ahead_of};
 ghost use Rattle.apd_trace.specs.Frames.{look_of};
-ghost use Rattle.apd_engine.specs.Search.{GivesAlways, Grows, IsOpen, Waits, called_at, in_mode, left_at, stand};
-ghost use Rattle.apd_engine.specs.Given.{IsCalled, IsToldWhole, MayBeWhole, TellsAlways, TellsBeside};
+ghost use Rattle.apd_engine.specs.Search.{GivesAlways, IsOpen, Waits, called_at, in_mode, left_at, stand};
+ghost use Rattle.apd_engine.specs.Given.{IsCalled, IsToldWhole, MayBeWhole, TellsAlways};
 
-use crate::given::{Given, KeptCall, Unread, event, is_user, whole};
+use crate::given::{Given, ToldCall, Unread, event, is_user, whole};
 use crate::search::{Choice, Mode, Search};
 use apd_frames::ahead::Ahead;
 use apd_ports::Port;
@@ -21,9 +21,9 @@ impl Search {
         requires boxes { self.old.boxes < 2 ^ 32 - 1 }
         requires waits { Waits (stand self.old) }
         requires goes { IsOpen self.old.boxes self.old.frames.current }
-        ensures told { IfOk result (λ given. TellsBeside self.new.frames.tuples unread given
+        ensures told { IfOk result (λ given. TellsAlways unread given
             (GivesAlways (in_mode Mode.Forward (stand self.old)) (stand self.new))) }
-        ensures more { OnOk result (Grows self.old.frames.tuples self.new.frames.tuples) }
+        ensures tuples { OnOk result (self.new.frames.tuples ≡ self.old.frames.tuples) }
     {
         match self.frames.ahead() {
             Ahead::Call => self.call(alloc, unread),
@@ -49,9 +49,9 @@ impl Search {
         requires waits { Waits (stand self.old) }
         requires goes { IsOpen self.old.boxes self.old.frames.current }
         requires calls { (n : ℕ) → Ahead.Call ≡ ahead_of (look_of self.old.frames.current n) }
-        ensures told { IfOk result (λ given. TellsBeside self.new.frames.tuples unread given
+        ensures told { IfOk result (λ given. TellsAlways unread given
             (GivesAlways (in_mode Mode.Forward (stand self.old)) (stand self.new))) }
-        ensures more { OnOk result (Grows self.old.frames.tuples self.new.frames.tuples) }
+        ensures tuples { OnOk result (self.new.frames.tuples ≡ self.old.frames.tuples) }
     {
         if unread.points {
             if unread.ports {
@@ -65,12 +65,10 @@ impl Search {
         let port = self.read_call(alloc, unread)?;
         let is_user = is_user(self.frames.predicate());
         // Only calls of the program's own stand in chains, whose sizes are compared.
-        let Some(goal) = self.frames.keep_goal(is_user)? else {
-            unreachable!();
-        };
+        let size = self.frames.goal_size(is_user)?;
         self.step_in()?;
-        Ok(Given::Call(KeptCall {
-            goal,
+        Ok(Given::Call(ToldCall {
+            size,
             is_user,
             port,
         }))

@@ -25,15 +25,15 @@ use std::boxed::Box;
 pub struct Unread {
     /// Ports. A Call is read with the points, where a record is made of them.
     pub ports: bool,
-    /// Points. Where they are read, each point and each goal that is called is kept.
+    /// Points. Where they are read, each point is kept.
     pub points: bool,
 }
 
-/// A goal that is called, kept.
+/// What is told of a goal that is called: the newest point, which is kept, has it.
 #[derive(Drop)]
-pub struct KeptCall {
-    /// The number of the kept tuple that the goal is the head of.
-    pub goal: u32,
+pub struct ToldCall {
+    /// How many symbols it has, or 0 where that isn't known.
+    pub size: u32,
     /// Whether it is one of the program's, and not built in.
     pub is_user: bool,
     /// The port, where somebody reads ports.
@@ -51,8 +51,8 @@ pub enum Given {
     Point,
     /// A point whose instance is kept: the point is held.
     Kept,
-    /// A Call whose goal is kept.
-    Call(KeptCall),
+    /// A Call of the next goal of the newest point, which is kept.
+    Call(ToldCall),
 }
 
 /// The item, given whole.

@@ -9,7 +9,7 @@ ghost use Rattle.apd_engine.specs.Cut.{FailsAt, is_write_fault};
 ghost use Rattle.apd_engine.specs.Given.{IsPortRead};
 ghost use Rattle.apd_engine.specs.Recording.{HasRow, MayAdd, rows_held};
 
-use crate::given::KeptCall;
+use crate::given::ToldCall;
 use crate::recording::{tell_answer, tell_call, tell_later};
 use crate::running::RunFault;
 use apd_ports::{Event, Hook, PointId};
@@ -43,7 +43,7 @@ pub fn show_call<H: Hook>(
     hook: &mut H,
     rows: &mut Open,
     held: &mut Option<OpenPoint>,
-    call: KeptCall,
+    call: ToldCall,
     from: PointId,
 ) -> Result<(), RunFault>
     requires held { MayAdd rows.old held.old }
@@ -51,7 +51,7 @@ pub fn show_call<H: Hook>(
     requires few_points { length rows.old.points < 2 ^ 32 - 1 }
     requires few_boxes { length rows.old.boxes < 2 ^ 32 - 1 }
     ensures told { OnOk result (rows.new ≡
-        with_box_row (rows_held rows.old held.old) call.goal from.0 call.is_user) }
+        with_box_row (rows_held rows.old held.old) from.0 call.is_user call.size) }
     ensures none { held.new ≡ None }
     ensures shown { (e : Event) → IsPortRead H.step hook.old e call.port →
         OnOk result (H.step hook.old (ShownPort e) (Ok tt) hook.new) }
@@ -59,7 +59,7 @@ pub fn show_call<H: Hook>(
         IfErr result (FailsAt H.step hook.old (ShownPort e) hook.new) }
     ensures cause { Counts is_write_fault (H.faults hook.old) (H.faults hook.new) result }
 {
-    tell_call(rows, held, call.goal, call.is_user, from)?;
+    tell_call(rows, held, from, call.is_user, call.size)?;
     show_read(hook, call.port)
 }
 

@@ -1,21 +1,14 @@
 -- What was kept of frames.
-use Rattle.std.proofs.Common.{◌≡◌, ℕ, List, [], ◌∷◌, ◌++◌, length, Some, None, refl, ◌∙◌, ap, subst}
-use Rattle.std.proofs.lemmas.List.{append-nil}
-use Rattle.apd_term.specs.Term.{Term, variables}
-use Rattle.apd_term.specs.Canonical.{by_appearance, canonical, canonical_in}
+use Rattle.std.proofs.Common.{◌≡◌, ℕ, List, [], ◌∷◌, ◌++◌, length, refl, subst}
 use Rattle.apd_term.specs.Tuple.{canonical_tuple}
 use Rattle.apd_term.specs.declared.tuple.Tuple.{Tuple}
 use Rattle.apd_past.specs.History.{History}
 use Rattle.apd_tuples.specs.Spots.{Place}
 use Rattle.apd_tuples.specs.Tuples.{kept_tuples}
 use Rattle.apd_following.specs.declared.following.KeptFrame.{KeptFrame}
-use Rattle.apd_trace.specs.Frames.{next_goal}
 use Rattle.apd_trace.specs.declared.frame.Frame.{Frame}
 use Rattle.apd_frames.specs.Kept.{Kept}
-use Rattle.apd_following.specs.Followed.{Followed, IsKept, KeepsGoal}
-
-abbrev pub goal_alone : Term → Tuple
-goal_alone a = record { head = canonical a; body = [] }
+use Rattle.apd_following.specs.Followed.{Followed, IsKept}
 
 abbrev pub followed : Kept → List Tuple → Followed
 followed k ts = record { current = k.current; saved = k.saved; tuples = ts }
@@ -32,15 +25,3 @@ pub keeps_so : (now : Followed) (k : Kept) (ts new : List Tuple) (f : Frame) (ar
 keeps_so now k ts new f around n view is goals number owner clause done more =
     subst (λ (x : Followed). IsKept n x.current x.tuples new) view
     (record { frame = f; around = around; is = is; more = more; number = number; goals = goals; owner = owner; clause = clause; done = done })
-
--- the next goal was kept, or there is none
-pub alone : (a : Term) → canonical_tuple (record { head = a; body = [] }) ≡ goal_alone a
-alone a = ap (λ vs. record { head = canonical_in (by_appearance vs) a; body = [] }) (append-nil (variables a))
-
-pub keeps_goal : (now : Followed) (k : Kept) (ts new : List Tuple) (a : Term) (n : ℕ) → followed k ts ≡ now → next_goal k.current ≡ Some a → n ≡ length ts
-    → new ≡ ts ++ canonical_tuple (record { head = a; body = [] }) ∷ [] → KeepsGoal (Some n) now.current now.tuples new
-keeps_goal now k ts new a n view is ne more =
-    subst (λ (x : Followed). KeepsGoal (Some n) x.current x.tuples new) view (ne, record { goal = a; is = is; more = more ∙ ap (λ t. ts ++ t ∷ []) (alone a) })
-
-pub keeps_none : (now : Followed) (k : Kept) (ts : List Tuple) → followed k ts ≡ now → next_goal k.current ≡ None → KeepsGoal None now.current now.tuples now.tuples
-keeps_none now k ts view is = subst (λ (x : Followed). KeepsGoal None x.current x.tuples x.tuples) view (is, refl)

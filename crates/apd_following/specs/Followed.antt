@@ -1,8 +1,7 @@
 -- Frames, and tuples that were kept of them.
-use Rattle.std.specs.Prelude.{◌≡◌, ℕ, Option, Some, None, true, false, List, [], ◌∷◌, ◌++◌, length, refl}
+use Rattle.std.specs.Prelude.{◌≡◌, ◌≢◌, ℕ, Option, Some, None, true, false, List, [], ◌∷◌, ◌++◌, length, refl}
 use Rattle.std.specs.Coded.{Coded, code_by, coded_list, coded×}
-use Rattle.apd_term.specs.Term.{Term}
-use Rattle.apd_term.specs.Canonical.{canonical}
+use Rattle.apd_term.specs.Term.{Term, size}
 use Rattle.apd_term.specs.Tuple.{canonical_tuple}
 use Rattle.apd_term.specs.declared.tuple.Tuple.{Tuple}
 use Rattle.apd_clauses.specs.Codes.{tuple_code}
@@ -50,18 +49,11 @@ pub record IsKept (n : KeptFrame) (F : List Frame) (old new : List Tuple) : Type
   pub clause : n.clause ≡ frame.clause
   pub done : n.done ≡ frame.done
 
--- the next goal stands alone behind the others, in canonical form
-pub record IsGoalKept (F : List Frame) (old new : List Tuple) : Type 0 where
-  pub goal : Term
-  pub is : next_goal F ≡ Some goal
-  pub more : new ≡ old ++ record { head = canonical goal; body = [] } ∷ []
-
 -- the innermost frame's tuple was kept behind the others, or it is too large and nothing changed
 abbrev pub KeepsInstance : Option KeptFrame → List Frame → List Tuple → List Tuple → Type 0
 KeepsInstance None F old new = (is_large_of F ≡ true) × (new ≡ old)
 KeepsInstance (Some n) F old new = (is_large_of F ≡ false) × IsKept n F old new
 
--- the next goal was kept alone behind the others and has number n, or there is none and nothing changed
-abbrev pub KeepsGoal : Option ℕ → List Frame → List Tuple → List Tuple → Type 0
-KeepsGoal None F old new = (next_goal F ≡ None) × (new ≡ old)
-KeepsGoal (Some n) F old new = (n ≡ length old) × IsGoalKept F old new
+-- so many symbols has the next goal, unless the number is 0
+abbrev pub IsGoalSized : ℕ → List Frame → Type 0
+IsGoalSized n F = (a : Term) → next_goal F ≡ Some a → n ≢ 0 → n ≡ size a

@@ -1,11 +1,11 @@
 //! What is known of a tuple when it is kept.
 
-ghost use Rattle.std.specs.Prelude.{◌<◌, List, [], length, IfOk};
-ghost use Rattle.apd_term.specs.Tuple.{canonical_tuple};
+ghost use Rattle.std.specs.Prelude.{◌≡◌, ◌≢◌, ◌<◌, List, length, IfOk};
+ghost use Rattle.apd_term.specs.Term.{size};
+ghost use Rattle.apd_cells.specs.Store.{term_at};
 ghost use Rattle.apd_trace.specs.declared.frame.Frame.{Frame};
 ghost use Rattle.apd_frames.specs.Measures.{MeasuresInnermost};
 ghost use Rattle.apd_following.specs.Followed.{HoldsInnermost};
-ghost use Rattle.apd_tuples.specs.Tuples.{tuple_of, Holds};
 
 use apd_base::MOST_INSTANCE_SYMBOLS;
 use apd_frames::measuring::Measure;
@@ -13,19 +13,16 @@ use apd_tuples::spots::Fact;
 use apd_unify::store::{Cell, Store};
 use std::alloc::AllocError;
 
-/// The size of a goal that is kept alone, where it is asked for, unless it is larger than an instance may be.
+/// How many symbols the term at a cell has; 0 where it is larger than an instance may be.
 #[inline(always)]
-pub fn fact_of_goal(store: &Store, goal: Cell, is_sized: bool) -> Result<Fact, AllocError>
-    requires { goal.0 < length store.now.cells }
-    ensures { IfOk result (λ f. Holds f (canonical_tuple (tuple_of store.now goal []))) }
+pub fn size_of(store: &Store, cell: Cell) -> Result<u32, AllocError>
+    requires { cell.0 < length store.now.cells }
+    ensures { IfOk result (λ n. n ≢ 0 → n ≡ size (term_at store.now cell.0)) }
 {
-    if !is_sized {
-        return Ok(Fact::Nothing);
+    match store.size_within(cell, MOST_INSTANCE_SYMBOLS)? {
+        None => Ok(0),
+        Some(size) => Ok(size as u32),
     }
-    let Some(size) = store.size_within(goal, MOST_INSTANCE_SYMBOLS)? else {
-        return Ok(Fact::Nothing);
-    };
-    Ok(Fact::HeadSize(size as u32))
 }
 
 /// What is known of an instance that was measured.

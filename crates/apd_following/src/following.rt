@@ -17,9 +17,9 @@ ghost use Rattle.apd_frames.specs.Solves.{solution_as, Keeps};
 ghost use Rattle.apd_following.specs.Tied.{past_of, IsTied};
 ghost use Rattle.apd_unify.specs.Cells.{AreCells};
 ghost use Rattle.apd_tuples.specs.Tuples.{kept_tuples, tuple_of, AreThere, Holds};
-ghost use Rattle.apd_following.specs.Followed.{HoldsInnermost, IsKept, KeepsGoal, KeepsInstance, kept_of};
+ghost use Rattle.apd_following.specs.Followed.{HoldsInnermost, IsGoalSized, IsKept, KeepsInstance, kept_of};
 
-use crate::facts::{fact_of_goal, fact_of_measure};
+use crate::facts::{fact_of_measure, size_of};
 use crate::tie::Tie;
 use apd_clauses::Program;
 use apd_frames::ahead::Ahead;
@@ -343,23 +343,18 @@ impl Following {
         }
     }
 
-    /// Keeps the innermost frame's next goal alone, with its size where that is asked for, and tells its number; none
-    /// where it calls none.
+    /// How many symbols the innermost frame's next goal has, where that is asked for; 0 where it isn't, or there is no such
+    /// goal, or it is larger than an instance may be.
     #[inline(always)]
-    pub fn keep_goal(&mut self, is_sized: bool) -> Result<Option<u32>, AllocError>
-        ensures frames { kept_of self.new ≡ kept_of self.old }
-        ensures kept { IfOk result
-            (λ o. KeepsGoal o self.old.current self.old.tuples self.new.tuples) }
-        ensures err { OnErr result (self.new.tuples ≡ self.old.tuples) }
+    pub fn goal_size(&self, is_asked: bool) -> Result<u32, AllocError>
+        ensures { IfOk result (λ n. IsGoalSized n self.now.current) }
     {
+        if !is_asked {
+            return Ok(0);
+        }
         match next_goal(&self.linked.links, self.linked.innermost) {
-            None => Ok(None),
-            Some(goal) => {
-                let fact = fact_of_goal(&self.linked.store, goal, is_sized)?;
-                let (tie, spots) = (&mut self.tie, &mut self.spots);
-                let numbered = keep_at(tie, spots, &self.linked.store, goal, &[], fact)?;
-                Ok(Some(numbered.number))
-            }
+            None => Ok(0),
+            Some(goal) => size_of(&self.linked.store, goal),
         }
     }
 

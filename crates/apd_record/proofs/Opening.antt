@@ -1,10 +1,11 @@
 -- Rows of a search that goes on: what stands beside them stays right, and what record they tell.
-use Rattle.std.proofs.Common.{◌≡◌, ℕ, zero, suc, ◌+◌, ◌-◌, ◌^◌, ◌<◌, ◌≤◌, ◌==◌, Bool, false, List, [], ◌∷◌, ◌++◌, length, map, get_or, not, Option, Some, refl, ap, sym, subst, ◌∙◌, arith, inl, inr, length-append}
+use Rattle.std.proofs.Common.{◌≡◌, ℕ, zero, suc, ◌+◌, ◌-◌, ◌^◌, ◌<◌, ◌≤◌, ◌==◌, Bool, false, List, [], ◌∷◌, ◌++◌, length, map, get_or, not, Option, Some, refl, ap, sym, subst, ◌∙◌, arith, inl, inr}
 use Rattle.std.specs.Prelude.{nat_lt, slice_get, All}
 use Rattle.std.proofs.lemmas.List.{get_or_append_left, length-map, map-append, length_push}
 use Rattle.std.proofs.lemmas.List.Elements.{All-nil, All-head, All-tail, All-weaker}
 use Rattle.std.proofs.lemmas.Option.{get_or_from_slice_get, slice_get_within}
 use Rattle.apd_base.proofs.Lists.{slice_get-front, slice_get-push}
+use Rattle.apd_term.specs.Canonical.{canonical}
 use Rattle.apd_term.specs.Term.{Term}
 use Rattle.apd_term.specs.declared.tuple.Tuple.{Tuple}
 use Rattle.apd_ports.specs.declared.event.Port.{Port}
@@ -12,8 +13,6 @@ use Rattle.apd_ports.specs.declared.event.Port.TheVariants.{Call}
 use Rattle.apd_ports.specs.declared.point.Point.{Point}
 use Rattle.apd_tuples.specs.Tuples.{IsNumbered}
 use Rattle.apd_record.specs.declared.beside.Owned.{Owned}
-use Rattle.apd_record.specs.declared.kept.AtomPlace.{AtomPlace}
-use Rattle.apd_record.specs.declared.kept.AtomPlace.TheVariants.{Written, Kept}
 use Rattle.apd_record.specs.declared.kept.KeptBox.{KeptBox}
 use Rattle.apd_record.specs.declared.kept.KeptPoint.{KeptPoint}
 use Rattle.apd_record.specs.declared.kept.TuplePlace.{TuplePlace}
@@ -22,14 +21,14 @@ use Rattle.apd_record.specs.declared.ongoing.OpenPoint.{OpenPoint}
 use Rattle.apd_record.specs.declared.order.Order.{Order}
 use Rattle.apd_record.specs.Beside.{earlier_of, edited, owning}
 use Rattle.apd_record.specs.Index.{is_exit, IsBelow, IsIndex, IsWithin}
-use Rattle.apd_record.specs.Kept.{atom_there, box_from, kept_passed, no_tuple, point_from, tuple_there, IsAtomThere, IsHeld, IsTupleThere}
+use Rattle.apd_record.specs.Kept.{box_from, form_of, goal_of, kept_passed, no_tuple, point_from, tuple_there, IsAtomThere, IsHeld, IsSized, IsTupleThere}
 use Rattle.apd_record.specs.Open.{blank_point, blank_tuple, blanked, box_row, made_point, no_rows, noted_row, point_row, told_by, variables_for, with_box_row, with_point_row, AreIn, IsBeside, Rows}
 use Rattle.apd_record.specs.Ordered.{IsOrdered}
-use Rattle.apd_record.specs.Recorded.{Recorded, BoxRow, is_user_atom, noted, opened, with_point}
-use Rattle.apd_record.specs.Sound.{IsKept}
+use Rattle.apd_record.specs.Recorded.{Recorded, BoxRow, is_user_atom, noted, opened, point_at, with_point}
+use Rattle.apd_record.specs.Sound.{IsKept, MayOpen}
 use Rattle.apd_record.proofs.Found.{ordered-passed}
 use Rattle.apd_record.proofs.Indexed.{box_index, nothing, point_index}
-use Rattle.apd_record.proofs.KeptRows.{passed_rows, rows_box, rows_edited, rows_point}
+use Rattle.apd_record.proofs.KeptRows.{passed_rows, rows_box, rows_edited, rows_point, told_pushed}
 use Rattle.apd_record.proofs.Places.{length-edited}
 use Rattle.apd_record.proofs.Shaped.{from_of, index_same, shape, within_same, Shape}
 
@@ -137,18 +136,18 @@ same_shapes kept (x ∷ xs) h =
     ap (λ n. with_exit x (not (nat_lt x.done n)) ∷ map shape (map (point_from [] kept) xs)) (same_goals kept x.tuple (All-head P x xs h))
     ∙ ap (λ ss. shape (blank_point x) ∷ ss) (same_shapes kept xs (All-tail P x xs h))
 
-same_froms : (kept : List Tuple) (bs : List KeptBox) → map from_of (map (box_from [] kept) bs) ≡ map from_of (map (box_from [] []) bs)
-same_froms kept [] = refl
-same_froms kept (b ∷ bs) = ap (λ ns. b.from ∷ ns) (same_froms kept bs)
+same_froms : (ps : List Point) (bs : List KeptBox) → map from_of (map (box_from [] ps) bs) ≡ map from_of (map (box_from [] []) bs)
+same_froms ps [] = refl
+same_froms ps (b ∷ bs) = ap (λ ns. b.from ∷ ns) (same_froms ps bs)
 
 pub closed : (kept : List Tuple) (r : Rows) (o : List Owned) (l : List (Option ℕ)) (d : Order) → IsBeside r o l d → IsKept (told_by kept r) → AreIn kept r → IsHeld [] [] kept r.boxes r.points o l d
 closed kept r o l d h sound there =
     record {
       stored = record {
         kept = sound;
-        boxes = omega (arith, h.boxes, length-map r.boxes (box_from [] kept));
+        boxes = omega (arith, h.boxes, length-map r.boxes (box_from [] (told_by kept r).points));
         points = omega (arith, h.points, length-map r.points (point_from [] kept));
-        index = index_same (told_by kept r) (blanked r) (same_froms kept r.boxes) (same_shapes kept r.points there.tuples) o l h.index;
+        index = index_same (told_by kept r) (blanked r) (same_froms (told_by kept r).points r.boxes) (same_shapes kept r.points there.tuples) o l h.index;
       };
       rows = there;
       ordered = h.ordered;
@@ -156,32 +155,32 @@ closed kept r o l d h sound there =
 
 -- What the rows tell.
 
+-- what is called is the next goal of the point, in canonical form
+pub goal_called : (R : Recorded) (atom : Term) (from : ℕ) → MayOpen R atom from → canonical atom ≡ atom → goal_of (point_at R from) ≡ atom
+goal_called R atom from may form = ap goal_of may.there ∙ ap form_of may.next ∙ may.variant ∙ form
+
 abbrev called_by : Term → ℕ → Bool → BoxRow
 called_by atom from user = record { atom = atom; from = from; is_user = user; last = Call; complete = false }
 
-pub told_box : (kept : List Tuple) (r : Rows) (atom from : ℕ) (user : Bool) (t : Tuple) → slice_get kept atom ≡ Some t → user ≡ is_user_atom t.head → told_by kept (with_box_row r atom from user) ≡ opened (told_by kept r) t.head from
-told_box kept r atom from user t at is =
-    let e : get_or kept atom no_tuple ≡ t = get_or_from_slice_get kept atom t no_tuple at in
-    ap (λ bs. record { boxes = bs; points = (told_by kept r).points }) (map-append (box_from [] kept) r.boxes (box_row atom from user ∷ []))
-    ∙ ap (λ (u : Tuple). record { boxes = (told_by kept r).boxes ++ called_by u.head from user ∷ []; points = (told_by kept r).points }) e
-    ∙ ap (λ b. record { boxes = (told_by kept r).boxes ++ called_by t.head from b ∷ []; points = (told_by kept r).points }) is
+pub told_box : (kept : List Tuple) (r : Rows) (atom : Term) (from size : ℕ) (user : Bool) → MayOpen (told_by kept r) atom from → canonical atom ≡ atom → user ≡ is_user_atom atom
+    → told_by kept (with_box_row r from user size) ≡ opened (told_by kept r) atom from
+told_box kept r atom from size user may form is =
+    let R : Recorded = told_by kept r in
+    ap (λ bs. record { boxes = bs; points = R.points }) (map-append (box_from [] R.points) r.boxes (box_row from user size ∷ []))
+    ∙ ap (λ a. record { boxes = R.boxes ++ called_by a from user ∷ []; points = R.points }) (goal_called R atom from may form)
+    ∙ ap (λ b. record { boxes = R.boxes ++ called_by atom from b ∷ []; points = R.points }) is
 
-pub told_point : (kept : List Tuple) (r : Rows) (p : OpenPoint) (t : Tuple) → slice_get kept p.tuple.number ≡ Some t
+pub told_point : (kept : List Tuple) (r : Rows) (p : OpenPoint) (t : Tuple) → AreIn kept r → slice_get kept p.tuple.number ≡ Some t
     → told_by kept (with_point_row r p) ≡ with_point (told_by kept r) (made_point p t)
-told_point kept r p t at =
+told_point kept r p t there at =
     let e : get_or kept p.tuple.number no_tuple ≡ t = get_or_from_slice_get kept p.tuple.number t no_tuple at in
-    ap (λ ps. record { boxes = (told_by kept r).boxes; points = ps }) (map-append (point_from [] kept) r.points (point_row p ∷ []))
-    ∙ rw e refl
+    told_pushed [] [] kept r.boxes r.points (point_row p) (made_point p t) there (ap (made_point p) e)
 
 pub told_noted : (kept : List Tuple) (r : Rows) (n : ℕ) (port : Port) → told_by kept (noted_row r n port) ≡ noted (told_by kept r) n port
 told_noted kept r zero port = refl
-told_noted kept r (suc i) port = ap (λ bs. record { boxes = bs; points = (told_by kept r).points }) (passed_rows [] kept port i r.boxes)
+told_noted kept r (suc i) port = ap (λ bs. record { boxes = bs; points = (told_by kept r).points }) (passed_rows [] (told_by kept r).points port i r.boxes)
 
 -- where more tuples are kept
-
-atom_on : (kept more : List Tuple) (at : AtomPlace) → IsAtomThere [] kept at → (atom_there [] (kept ++ more) at ≡ atom_there [] kept at) × IsAtomThere [] (kept ++ more) at
-atom_on kept more (Written p) h = absurd (omega (arith, h))
-atom_on kept more (Kept n) h = (ap (λ (t : Tuple). t.head) (get_or_append_left kept more no_tuple n h), omega (arith, h, length-append kept more))
 
 tuple_on : (kept more : List Tuple) (at : TuplePlace) → IsTupleThere 0 kept at → (tuple_there [] (kept ++ more) at ≡ tuple_there [] kept at) × IsTupleThere 0 (kept ++ more) at
 tuple_on kept more (Spanned s) h = absurd (omega (arith, h))
@@ -189,13 +188,6 @@ tuple_on kept more (Held k) h = (
   get_or_append_left kept more no_tuple k.number (slice_get_within kept k.number h.tuple h.there),
   record { tuple = h.tuple; there = slice_get-front kept more k.number h.tuple h.there; goals = h.goals },
 )
-
-boxes_on : (kept more : List Tuple) (bs : List KeptBox) → All (λ (b : KeptBox). IsAtomThere [] kept b.atom) bs → map (box_from [] (kept ++ more)) bs ≡ map (box_from [] kept) bs
-boxes_on kept more [] h = refl
-boxes_on kept more (b ∷ bs) h =
-    let P : KeptBox → Type 0 = λ b. IsAtomThere [] kept b.atom in
-    ap (λ a. record { atom = a; from = b.from; is_user = b.is_user; last = b.last; complete = b.complete } ∷ map (box_from [] (kept ++ more)) bs) (atom_on kept more b.atom (All-head P b bs h)).0
-    ∙ ap (λ rows. box_from [] kept b ∷ rows) (boxes_on kept more bs (All-tail P b bs h))
 
 points_on : (kept more : List Tuple) (xs : List KeptPoint) → All (λ (x : KeptPoint). IsTupleThere 0 kept x.tuple) xs → map (point_from [] (kept ++ more)) xs ≡ map (point_from [] kept) xs
 points_on kept more [] h = refl
@@ -205,22 +197,25 @@ points_on kept more (x ∷ xs) h =
     ∙ ap (λ ps. point_from [] kept x ∷ ps) (points_on kept more xs (All-tail P x xs h))
 
 pub told_on : (kept more : List Tuple) (r : Rows) → AreIn kept r → told_by (kept ++ more) r ≡ told_by kept r
-told_on kept more r h =
-    ap (λ bs. record { boxes = bs; points = (told_by (kept ++ more) r).points }) (boxes_on kept more r.boxes h.atoms)
-    ∙ ap (λ ps. record { boxes = (told_by kept r).boxes; points = ps }) (points_on kept more r.points h.tuples)
+told_on kept more r h = ap (λ ps. record { boxes = map (box_from [] ps) r.boxes; points = ps }) (points_on kept more r.points h.tuples)
 
 pub in_on : (kept more : List Tuple) (r : Rows) → AreIn kept r → AreIn (kept ++ more) r
 in_on kept more r h =
     record {
       there = h.there;
-      atoms = All-weaker (λ (b : KeptBox). IsAtomThere [] kept b.atom) (λ (b : KeptBox). IsAtomThere [] (kept ++ more) b.atom) (λ b i. (atom_on kept more b.atom i).1) r.boxes h.atoms;
+      atoms = subst (λ (ps : List Point). All (IsAtomThere [] ps) r.boxes) (sym (points_on kept more r.points h.tuples)) h.atoms;
       tuples = All-weaker (λ (x : KeptPoint). IsTupleThere 0 kept x.tuple) (λ (x : KeptPoint). IsTupleThere 0 (kept ++ more) x.tuple) (λ x i. (tuple_on kept more x.tuple i).1) r.points h.tuples;
     }
 
 -- where a row comes behind
 
-pub in_box : (kept : List Tuple) (r : Rows) (atom from : ℕ) (user : Bool) → AreIn kept r → atom < length kept → AreIn kept (with_box_row r atom from user)
-in_box kept r atom from user h l = rows_box [] [] kept r.boxes r.points (box_row atom from user) h l
+pub in_box : (kept : List Tuple) (r : Rows) (atom : Term) (from size : ℕ) (user : Bool) → AreIn kept r → MayOpen (told_by kept r) atom from → canonical atom ≡ atom → IsSized size atom → AreIn kept (with_box_row r from user size)
+in_box kept r atom from size user h may form sized =
+    rows_box [] [] kept r.boxes r.points (box_row from user size) h (record {
+      from = slice_get_within (told_by kept r).points from may.caller may.there;
+      written = λ w. absurd (cc);
+      sized = λ w. subst (IsSized size) (sym (goal_called (told_by kept r) atom from may form)) sized;
+    })
 
 pub in_point : (kept : List Tuple) (r : Rows) (p : OpenPoint) → AreIn kept r → IsNumbered kept p.tuple → AreIn kept (with_point_row r p)
 in_point kept r p h l = rows_point [] [] kept r.boxes r.points (point_row p) h l
@@ -233,6 +228,6 @@ pub in_none : (kept : List Tuple) → AreIn kept no_rows
 in_none kept =
     record {
       there = All-nil (λ (p : ℕ). p < 0);
-      atoms = All-nil (λ (b : KeptBox). IsAtomThere [] kept b.atom);
+      atoms = All-nil (IsAtomThere [] []);
       tuples = All-nil (λ (x : KeptPoint). IsTupleThere 0 kept x.tuple);
     }

@@ -4,10 +4,8 @@ use Rattle.std.proofs.Common.{zero, suc}
 use Rattle.apd_term.specs.Term.{Term, variable}
 use Rattle.apd_term.specs.declared.tuple.Tuple.{Tuple}
 use Rattle.apd_ports.specs.declared.event.Port.{Port}
-use Rattle.apd_ports.specs.declared.event.Port.TheVariants.{Call}
 use Rattle.apd_ports.specs.declared.point.Point.{Point}
 use Rattle.apd_record.specs.declared.beside.Owned.{Owned}
-use Rattle.apd_record.specs.declared.kept.AtomPlace.TheVariants.{Kept}
 use Rattle.apd_record.specs.declared.kept.KeptBox.{KeptBox}
 use Rattle.apd_record.specs.declared.kept.KeptPoint.{KeptPoint}
 use Rattle.apd_record.specs.declared.kept.TuplePlace.{TuplePlace}
@@ -16,7 +14,7 @@ use Rattle.apd_record.specs.declared.ongoing.OpenPoint.{OpenPoint}
 use Rattle.apd_record.specs.declared.order.Order.{Order}
 use Rattle.apd_record.specs.Beside.{edited}
 use Rattle.apd_record.specs.Index.{IsIndex, IsWithin}
-use Rattle.apd_record.specs.Kept.{AreKept, box_from, kept_passed, told}
+use Rattle.apd_record.specs.Kept.{AreKept, box_from, called_box, kept_passed, told}
 use Rattle.apd_record.specs.Ordered.{IsOrdered}
 use Rattle.apd_record.specs.Recorded.{Recorded}
 
@@ -36,12 +34,12 @@ AreIn kept r = AreKept [] [] kept r.boxes r.points
 abbrev pub no_rows : Rows
 no_rows = record { boxes = []; points = [] }
 
--- a box is called, for the head of this kept tuple, from point number `from`
-abbrev pub box_row : ℕ → ℕ → Bool → KeptBox
-box_row atom from user = record { atom = Kept atom; from = from; is_user = user; last = Call; complete = false }
+-- a box is called for the next goal of point number `from`, which has so many symbols, or 0 where that isn't known
+abbrev pub box_row : ℕ → Bool → ℕ → KeptBox
+box_row from user size = called_box from size false user
 
-abbrev pub with_box_row : Rows → ℕ → ℕ → Bool → Rows
-with_box_row r atom from user = record { boxes = r.boxes ++ box_row atom from user ∷ []; points = r.points }
+abbrev pub with_box_row : Rows → ℕ → Bool → ℕ → Rows
+with_box_row r from user size = record { boxes = r.boxes ++ box_row from user size ∷ []; points = r.points }
 
 abbrev pub point_row : OpenPoint → KeptPoint
 point_row p = record { owner = p.owner; clause = p.clause; done = p.done; tuple = Held p.tuple; before = p.before }

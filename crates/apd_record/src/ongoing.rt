@@ -5,7 +5,7 @@ ghost use Rattle.apd_record.specs.Index.{id_of, IsBelow};
 ghost use Rattle.apd_record.specs.Open.{no_rows, noted_row, with_box_row, with_point_row};
 
 use crate::beside::{Owned, note_owned};
-use crate::kept::{AtomPlace, KeptBox, KeptPoint, TuplePlace};
+use crate::kept::{KeptBox, KeptPoint, TuplePlace, called_box};
 use crate::order::{NONE_YET, Order, stays_in_turn, stays_rising};
 use crate::packed::PackedPoint;
 use crate::room::{box_room, pass, point_room};
@@ -72,26 +72,21 @@ impl Open {
         }
     }
 
-    /// Calls a goal, the head of the kept tuple with this number: a new box, and its number.
+    /// Calls the next goal of a point, which has so many symbols, or 0 where that isn't known: a new box, and its number.
     #[inline(always)]
-    pub fn open_box(&mut self, atom: u32, from: PointId, user: bool) -> Result<u32, AllocError>
+    pub fn open_box(&mut self, from: PointId, user: bool, size: u32) -> Result<u32, AllocError>
         requires from { from.0 < length self.old.points }
         requires few { length self.old.boxes < 2 ^ 32 - 1 }
         ensures number { IfOk result (λ b. b ≡ length self.old.boxes + 1) }
-        ensures opened { OnOk result (self.new ≡ with_box_row self.old atom from.0 user) }
+        ensures opened { OnOk result (self.new ≡ with_box_row self.old from.0 user size) }
         ensures err { OnErr result (self.new ≡ self.old) }
     {
         box_room(&mut self.boxes, &mut self.owned)?;
         let place = self.boxes.len() as u32;
         self.owned.push_reserved(Owned::new(self.alloc));
         self.order.rising = stays_rising(self.order.rising, &self.boxes, from.0);
-        self.boxes.push_reserved(KeptBox {
-            atom: AtomPlace::Kept(atom),
-            from: from.0,
-            is_user: user,
-            last: Port::Call,
-            complete: false,
-        });
+        self.boxes
+            .push_reserved(called_box(from.0, size, false, user));
         Ok(place + 1)
     }
 

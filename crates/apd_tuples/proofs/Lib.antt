@@ -1,5 +1,6 @@
 pub mod Spanning
 pub mod Unpacking
 pub mod Standing
+pub mod Alone
 pub mod Predicates
 pub mod Grounds

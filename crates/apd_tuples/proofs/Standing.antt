@@ -97,10 +97,6 @@ got_tuple h ps i now p view at t is =
     sym (slice_get-map (kept_tuple h) ps i ∙ ap (option_map (kept_tuple h)) at) ∙ ap (λ ts. slice_get ts i) view ∙ is in
     cc
 
--- what is known of a kept tuple
-pub got_fact : (h : History) (ps : List Place) (i : ℕ) (now : List Tuple) (p : Place) → kept_tuples h ps ≡ now → AreThere h ps → slice_get ps i ≡ Some p → (t : Tuple) → slice_get now i ≡ Some t → Holds p.fact t
-got_fact h ps i now p view there at t is = subst (Holds p.fact) (got_tuple h ps i now p view at t is) (there_get h ps i p there at).fact
-
 -- a kept tuple by its number
 pub got_none : (h : History) (ps : List Place) (i : ℕ) (now : List Tuple) → kept_tuples h ps ≡ now → slice_get ps i ≡ None → None ≡ slice_get now i
 got_none h ps i now view e =

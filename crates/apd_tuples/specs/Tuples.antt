@@ -1,6 +1,5 @@
 -- Tuples that stand in a past.
 use Rattle.std.specs.Prelude.{◌≡◌, ◌<◌, ◌≤◌, List, [], ◌∷◌, length, map, slice_get, Some}
-use Rattle.apd_term.specs.Term.{size}
 use Rattle.apd_term.specs.Tuple.{canonical_tuple, variables_of_tuple}
 use Rattle.apd_term.specs.declared.tuple.Tuple.{Tuple}
 use Rattle.apd_unify.specs.declared.store.Cell.{Cell}
@@ -9,7 +8,7 @@ use Rattle.apd_cells.specs.Store.{term_at}
 use Rattle.apd_past.specs.History.{History, at_moment}
 use Rattle.apd_past.specs.Tuples.{AreInside, tuple_at}
 use Rattle.apd_tuples.specs.declared.spots.Fact.{Fact}
-use Rattle.apd_tuples.specs.declared.spots.Fact.TheVariants.{Nothing, HeadSize, Ground}
+use Rattle.apd_tuples.specs.declared.spots.Fact.TheVariants.{Nothing, Ground}
 use Rattle.apd_tuples.specs.declared.spots.Numbered.{Numbered}
 use Rattle.apd_tuples.specs.Spots.{Place}
 
@@ -33,7 +32,6 @@ pub record IsNumbered (kept : List Tuple) (k : Numbered) : Type 0 where
 -- what is known of a tuple is so
 abbrev pub Holds : Fact → Tuple → Type 0
 Holds Nothing t = Unit {0}
-Holds (HeadSize n) t = n ≡ size t.head
 Holds Ground t = variables_of_tuple t ≡ []
 
 -- its moment and its cells were there, and what is known of it is so

@@ -1,10 +1,10 @@
 //! Rows in 16 bytes each.
 
 ghost use Rattle.std.specs.Prelude.{◌≡◌, ◌≤◌, IfOk};
-ghost use Rattle.apd_tuples.specs.Packed.{code_of, fact_in};
+ghost use Rattle.apd_tuples.specs.Packed.{fact_in};
 
 use crate::spots::{Fact, SpotRow};
-use apd_base::{MOST_GOALS, MOST_INSTANCE_SYMBOLS};
+use apd_base::MOST_GOALS;
 use apd_past::past::{Moment, PastCell};
 use std::alloc::AllocError;
 use std::marker::Model;
@@ -16,12 +16,13 @@ pub struct KeptRow {
     head: PastCell,
     moment: Moment,
     to: u32,
-    /// How many goals it has, and 256 times the number of its fact.
-    rest: u32,
+    goals: u8,
+    /// Whether it is known that no variable stands in it.
+    is_ground: bool,
 }
 
 impl Model for KeptRow {
-    ghost use Rattle.std.specs.Prelude.{◌-◌, ◌/◌, ◌%◌};
+    ghost use Rattle.std.specs.Prelude.{◌-◌};
     ghost use Rattle.apd_tuples.specs.declared.spots.SpotRow.{SpotRow};
     ghost use Rattle.apd_tuples.specs.Packed.{fact_in};
 
@@ -30,9 +31,9 @@ impl Model for KeptRow {
     ghost view = { λ r. record {
       head = r.head;
       moment = r.moment;
-      from = r.to - r.rest % 256;
+      from = r.to - r.goals;
       to = r.to;
-      fact = fact_in (r.rest / 256);
+      fact = fact_in r.is_ground;
     } };
 }
 
@@ -43,51 +44,42 @@ const MOST_KEPT_GOALS: u32 = 255;
 
 const _: () = prove!(MOST_GOALS <= MOST_KEPT_GOALS as usize);
 
-/// The greatest number of a fact that a row has room for. No size is told of more symbols than an instance may have.
-const MOST_FACT: u64 = 16_777_215;
-
-const _: () = prove!(MOST_INSTANCE_SYMBOLS + 2 <= MOST_FACT);
-
-/// The number of a fact.
-fn code_of(fact: Fact) -> u64
-    ensures { result ≡ code_of fact }
+/// Whether a fact says that no variable stands in a tuple.
+fn says_ground(fact: Fact) -> bool
+    ensures { fact_in result ≡ fact }
 {
     match fact {
-        Fact::Nothing => 0,
-        Fact::Ground => 1,
-        Fact::HeadSize(size) => size as u64 + 2,
+        Fact::Nothing => false,
+        Fact::Ground => true,
     }
 }
 
-/// The fact with this number.
-fn fact_in(code: u32) -> Fact
-    ensures { result ≡ fact_in code }
+/// What is known of a tuple of which that is known or isn't.
+fn fact_in(is_ground: bool) -> Fact
+    ensures { result ≡ fact_in is_ground }
 {
-    if code == 0 {
-        return Fact::Nothing;
-    }
-    if code == 1 {
+    if is_ground {
         return Fact::Ground;
     }
-    Fact::HeadSize(code - 2)
+    Fact::Nothing
 }
 
 impl KeptRow {
-    /// The row as it is kept; want of memory where a number is too great.
+    /// The row as it is kept; want of memory where it has more goals than there is room for.
     pub fn of(row: SpotRow) -> Result<KeptRow, AllocError>
         requires { row.from ≤ row.to }
         ensures { IfOk result (λ k. k ≡ row) }
     {
         let goals = row.to - row.from;
-        let code = code_of(row.fact);
-        if goals > MOST_KEPT_GOALS || code > MOST_FACT {
+        if goals > MOST_KEPT_GOALS {
             return Err(AllocError);
         }
         Ok(KeptRow {
             head: row.head,
             moment: row.moment,
             to: row.to,
-            rest: code as u32 * 256 + goals,
+            goals: goals as u8,
+            is_ground: says_ground(row.fact),
         })
     }
 
@@ -99,9 +91,9 @@ impl KeptRow {
         SpotRow {
             head: self.head,
             moment: self.moment,
-            from: self.to.saturating_sub(self.rest % 256),
+            from: self.to.saturating_sub(self.goals as u32),
             to: self.to,
-            fact: fact_in(self.rest / 256),
+            fact: fact_in(self.is_ground),
         }
     }
 }

@@ -15,8 +15,6 @@ use std::marker::Model;
 #[derive(Clone, Copy)]
 pub enum Fact {
     Nothing,
-    /// How many symbols its head has.
-    HeadSize(u32),
     /// No variable stands in it.
     Ground,
 }

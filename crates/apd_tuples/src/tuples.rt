@@ -2,17 +2,19 @@
 
 ghost use Rattle.std.specs.Prelude.{◌≡◌, [], length, slice_get, IfOk, IfSome, Some};
 ghost use Rattle.std.specs.Bool.{OnTrue};
-ghost use Rattle.apd_term.specs.Term.{Term, predicate_of, size, IsGround};
+ghost use Rattle.std.specs.Option.{option_map};
+ghost use Rattle.apd_term.specs.Canonical.{canonical};
+ghost use Rattle.apd_term.specs.Term.{Term, predicate_of, IsGround};
 ghost use Rattle.apd_term.specs.Tuple.{variables_of_tuple};
 ghost use Rattle.apd_term.specs.declared.tuple.Tuple.{Tuple};
 ghost use Rattle.apd_cells.specs.First.{first_symbol};
 ghost use Rattle.apd_tuples.specs.Spots.{spot_at};
-ghost use Rattle.apd_tuples.specs.Tuples.{kept_tuple, kept_tuples, AreThere, Holds, IsThere};
+ghost use Rattle.apd_tuples.specs.Tuples.{kept_tuple, kept_tuples, AreThere, IsThere};
 
 use crate::spots::{Fact, Spot, Spots};
-use apd_past::past::Past;
+use apd_past::past::{Past, PastCell};
 use apd_past::writing::Page;
-use apd_term::{Pred, Sym, Tuple};
+use apd_term::{Flat, Pred, Sym, Tuple};
 use std::alloc::{AllocError, Global};
 use std::marker::Model;
 
@@ -40,16 +42,6 @@ impl Model for KeptTuples {
     ghost invariant = { λ k. AreThere k.past k.spots };
 }
 
-/// The size of a tuple's head, where the fact says it.
-fn size_in(fact: Fact) -> Option<u32>
-    ensures { (t : Tuple) → Holds fact t → IfSome result (λ n. n ≡ size t.head) }
-{
-    match fact {
-        Fact::HeadSize(size) => Some(size),
-        _ => None,
-    }
-}
-
 /// The predicate of a term with this first symbol; none where it has none.
 fn pred_of(symbol: Sym) -> Option<Pred>
     ensures { (t : Term) → first_symbol t ≡ symbol → result ≡ predicate_of t }
@@ -57,6 +49,16 @@ fn pred_of(symbol: Sym) -> Option<Pred>
     match symbol {
         Sym::Fun(name, arity) => Some(Pred { name, arity }),
         _ => None,
+    }
+}
+
+/// The cell with this number, counted from 0.
+fn cell_at(cells: &[PastCell], k: usize) -> Option<PastCell>
+    ensures { result ≡ slice_get cells.now k }
+{
+    match cells.get(k) {
+        None => None,
+        Some(cell) => Some(*cell),
     }
 }
 
@@ -110,18 +112,6 @@ impl KeptTuples {
         self.spots.len()
     }
 
-    /// How many symbols the head of that with this number has; none where it isn't known without a look
-    /// at it.
-    pub fn head_size(&self, number: u32) -> Option<u32>
-        ensures { (t : Tuple) → slice_get self.now number ≡ Some t →
-            IfSome result (λ n. n ≡ size t.head) }
-    {
-        match self.spots.get(number as usize) {
-            None => None,
-            Some(spot) => size_in(spot.fact),
-        }
-    }
-
     /// Whether no variable stands in that with this number; false where that is neither known nor seen at once.
     pub fn is_ground(&self, number: u32) -> bool
         ensures { (t : Tuple) → slice_get self.now number ≡ Some t →
@@ -160,6 +150,30 @@ impl KeptTuples {
                 let tuple = then.tuple(page, alloc, spot.head, spot.goals)?;
                 Ok(Some(tuple))
             }
+        }
+    }
+
+    /// The goal with this number, counted from 0, of that with this number: alone, in canonical form.
+    pub fn goal(
+        &self,
+        page: &mut Page,
+        alloc: Global,
+        number: u32,
+        k: usize,
+    ) -> Result<Option<Flat>, AllocError>
+        ensures { IfOk result (λ o. (t : Tuple) → slice_get self.now number ≡ Some t →
+            o ≡ option_map canonical (slice_get t.body k)) }
+    {
+        match self.spots.get(number as usize) {
+            None => Ok(None),
+            Some(spot) => match cell_at(spot.goals, k) {
+                None => Ok(None),
+                Some(cell) => {
+                    let then = self.past.at(spot.moment);
+                    let goal = then.term(page, alloc, cell)?;
+                    Ok(Some(goal))
+                }
+            },
         }
     }
 

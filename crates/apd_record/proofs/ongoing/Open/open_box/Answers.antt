@@ -21,17 +21,17 @@ pub invariant_of-self-2 : goal.invariant_of-self-2
 invariant_of-self-2 c =
     let n = ap (λ (r : Rows). length r.points) c.self.view_is in
     let m = ap (λ (r : Rows). length r.boxes) c.self.view_is in
-    let order : IsOrdered (record { in_turn = c.self.inside.order.in_turn; rising = c.stays_rising-self-inside.result }) (c.self.inside.boxes.items ++ box_row c.args.atom c.args.from.0 c.args.user ∷ []) c.self.inside.points.items =
-    ordered-box c.self.inside.order c.self.inside.boxes.items c.self.inside.points.items (box_row c.args.atom c.args.from.0 c.args.user) c.stays_rising-self-inside.result c.self.invariant.ordered c.stays_rising-self-inside.ensures.was
+    let order : IsOrdered (record { in_turn = c.self.inside.order.in_turn; rising = c.stays_rising-self-inside.result }) (c.self.inside.boxes.items ++ box_row c.args.from.0 c.args.user c.args.size ∷ []) c.self.inside.points.items =
+    ordered-box c.self.inside.order c.self.inside.boxes.items c.self.inside.points.items (box_row c.args.from.0 c.args.user c.args.size) c.stays_rising-self-inside.result c.self.invariant.ordered c.stays_rising-self-inside.ensures.was
     (subst (λ (bs : List KeptBox). OnTrue c.stays_rising-self-inside.result (AreFromBelow c.args.from.0 bs)) c.box_room.ensures.boxes c.stays_rising-self-inside.ensures.below) in
     beside_box (record { boxes = c.self.inside.boxes.items; points = c.self.inside.points.items }) (c.self.inside.query ∷ c.self.inside.owned.items) _ c.self.inside.earlier.items c.self.inside.order _
-    (box_row c.args.atom c.args.from.0 c.args.user) _ c.self.invariant (omega (arith, c.requires.from, n)) (omega (arith, c.requires.few, m))
-    (c.push_reserved-2.ensures.items ∙ ap (λ (bs : List KeptBox). bs ++ box_row c.args.atom c.args.from.0 c.args.user ∷ []) c.box_room.ensures.boxes)
+    (box_row c.args.from.0 c.args.user c.args.size) _ c.self.invariant (omega (arith, c.requires.from, n)) (omega (arith, c.requires.few, m))
+    (c.push_reserved-2.ensures.items ∙ ap (λ (b : KeptBox). c.box_room.new.boxes.items ++ b ∷ []) c.called_box.ensures ∙ ap (λ (bs : List KeptBox). bs ++ box_row c.args.from.0 c.args.user c.args.size ∷ []) c.box_room.ensures.boxes)
     (ap (λ (xs : List Owned). c.self.inside.query ∷ xs) (c.push_reserved.ensures.items ∙ rw (c.box_room.ensures.owned, c.new.ensures) refl))
     order
 
 pub returns-clause-opened : goal.returns-clause-opened
 returns-clause-opened c =
     ap (λ (bs : List KeptBox). record { boxes = bs; points = c.self.inside.points.items })
-    (c.push_reserved-2.ensures.items ∙ ap (λ (bs : List KeptBox). bs ++ box_row c.args.atom c.args.from.0 c.args.user ∷ []) c.box_room.ensures.boxes)
-    ∙ ap (λ (r : Rows). record { boxes = r.boxes ++ box_row c.args.atom c.args.from.0 c.args.user ∷ []; points = r.points }) c.self.view_is
+    (c.push_reserved-2.ensures.items ∙ ap (λ (b : KeptBox). c.box_room.new.boxes.items ++ b ∷ []) c.called_box.ensures ∙ ap (λ (bs : List KeptBox). bs ++ box_row c.args.from.0 c.args.user c.args.size ∷ []) c.box_room.ensures.boxes)
+    ∙ ap (λ (r : Rows). record { boxes = r.boxes ++ box_row c.args.from.0 c.args.user c.args.size ∷ []; points = r.points }) c.self.view_is

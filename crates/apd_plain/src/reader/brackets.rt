@@ -2,11 +2,14 @@
 
 use crate::reader::pieces::{Part, Piece, split};
 use crate::reader::words::{atom, pair};
-use apd_ops::{ARGUMENT_PRIORITY, MOST_PRIORITY, Op};
+use apd_ops::{MOST_PRIORITY, Op};
 use apd_term::standard::{CELL, CURLY, NIL};
 use apd_term::{Atoms, Flat, NameId};
 use apd_token::TokenKind;
 use std::alloc::{AllocError, Global};
+
+/// The greatest priority of an argument, in a number of its own, so that rows compare it.
+const MOST_OF_ARGUMENT: u16 = 999;
 
 /// An open bracket with what was read inside.
 #[derive(Drop)]
@@ -42,13 +45,13 @@ impl Bracket {
         match self.opened {
             TokenKind::End | TokenKind::OpenCurly => MOST_PRIORITY,
             TokenKind::Open if self.call.is_none() => MOST_PRIORITY,
-            _ => ARGUMENT_PRIORITY,
+            _ => MOST_OF_ARGUMENT,
         }
     }
 
     /// Whether commas separate what stands directly inside.
     pub fn has_elements(&self) -> bool {
-        self.most() == ARGUMENT_PRIORITY
+        self.most() == MOST_OF_ARGUMENT
     }
 
     pub fn is_closed_by(&self, kind: TokenKind) -> bool {

@@ -109,6 +109,6 @@ handed_row r n m =
       around = r.around;
     }
 
--- a branch by its numbers
-abbrev pub branch_in : ℕ → ℕ → ℕ → Branch
-branch_in mark links innermost = record { mark = record { 0 = mark }; links = links; innermost = innermost }
+-- a branch by its mark and its number of links, the newest of which is the innermost
+abbrev pub branch_in : ℕ → ℕ → Branch
+branch_in mark links = record { mark = record { 0 = mark }; links = links; innermost = links }

@@ -10,6 +10,7 @@ use apd_base::stack::room_for_one;
 use apd_unify::store::{Cell, Mark};
 use std::alloc::{AllocError, Global};
 use std::marker::Model;
+use std::mem::size_of;
 
 /// A clause instance in its box, with so many goals of its body solved, and its newest point.
 #[derive(Clone, Copy)]
@@ -51,13 +52,14 @@ pub struct Branch {
     pub innermost: usize,
 }
 
-/// A branch as it is kept. Contracts see the branch.
+/// A branch as it is kept: the newest of its links is the innermost. Contracts see the branch.
 #[derive(Drop)]
 pub struct KeptBranch {
     mark: u32,
     links: u32,
-    innermost: u32,
 }
+
+const _: () = prove!(size_of::<KeptBranch>() == 8);
 
 impl Model for KeptBranch {
     ghost use Rattle.apd_frames.specs.declared.links.Branch.{Branch};
@@ -65,7 +67,7 @@ impl Model for KeptBranch {
 
     ghost Value = { Branch };
 
-    ghost view = { λ b. branch_in b.mark b.links b.innermost };
+    ghost view = { λ b. branch_in b.mark b.links };
 }
 
 /// Links, numbered from 1. Contracts see their list, the newest first.
@@ -168,17 +170,17 @@ fn cells_of(rows: &[LinkRow]) -> usize
 }
 
 impl KeptBranch {
-    /// The branch as it is kept; want of memory where a number is too great.
+    /// The branch as it is kept; want of memory where a number is too great, and where the innermost link isn't the newest: no
+    /// search saves frames there, since it has just put a link behind the others, or has gone back to where it had.
     pub fn of(branch: Branch) -> Result<KeptBranch, AllocError>
         ensures { IfOk result (λ b. b ≡ branch) }
     {
-        if branch.mark.0 > MOST || branch.links > MOST || branch.innermost > MOST {
+        if branch.mark.0 > MOST || branch.links > MOST || branch.innermost != branch.links {
             return Err(AllocError);
         }
         Ok(KeptBranch {
             mark: branch.mark.0 as u32,
             links: branch.links as u32,
-            innermost: branch.innermost as u32,
         })
     }
 
@@ -187,10 +189,11 @@ impl KeptBranch {
     pub fn get(&self) -> Branch
         ensures { result ≡ self.now }
     {
+        let links = self.links as usize;
         Branch {
             mark: Mark(self.mark as usize),
-            links: self.links as usize,
-            innermost: self.innermost as usize,
+            links,
+            innermost: links,
         }
     }
 }

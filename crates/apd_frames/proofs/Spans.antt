@@ -1,14 +1,14 @@
 -- Links as they are kept: what stays of them where cells of goals are added or cut off.
-use Rattle.std.proofs.Common.{◌≡◌, ℕ, zero, suc, ◌+◌, ◌-◌, ◌≤◌, List, [], ◌∷◌, ◌++◌, length, take, drop, map, refl, sym, ◌∙◌, ap, subst, arith, Option, Some, None, Result, Ok, Err}
+use Rattle.std.proofs.Common.{◌≡◌, ℕ, zero, suc, ◌+◌, ◌-◌, ◌<◌, ◌≤◌, List, [], ◌∷◌, ◌++◌, length, take, drop, map, refl, sym, ◌∙◌, ap, subst, arith, Option, Some, None, Result, Ok, Err}
 use Rattle.std.specs.Prelude.{reverse, slice_get, OnErr}
 use Rattle.std.specs.Option.{option_map}
-use Rattle.std.proofs.lemmas.List.{reverse-append, map-append, length-append, length-map, length-take-le, take-append-le, take_all, take-take, drop-map}
+use Rattle.std.proofs.lemmas.List.{reverse-append, map-append, length-append, length-map, length-take-le, take-append-drop, take-append-le, take_all, take-take, drop-map}
 use Rattle.std.proofs.lemmas.Option.{slice_get-map}
 use Rattle.std.proofs.Math.Seq.{take-append-add, drop-append_seam}
 use Rattle.apd_unify.specs.declared.store.Cell.{Cell}
 use Rattle.apd_frames.specs.declared.links.LinkRow.{LinkRow}
 use Rattle.apd_frames.specs.declared.links.LinkRef.{LinkRef}
-use Rattle.apd_frames.specs.Links.{Link, instance_of, link_of, goals_in, link_in, links_in, row_at, row_of, handed_row, cells_of, IsSpanned, AreSpanned}
+use Rattle.apd_frames.specs.Links.{link_of, goals_in, with_goals, link_in, links_in, row_at, handed_row, before, cells_left, IsRowOf, IsSpanned, AreSpanned}
 use Rattle.apd_frames.specs.Linked.{numbered, oldest}
 use Rattle.apd_frames.proofs.Linking.{numbered-zero, numbered-reverse, oldest-reverse}
 
@@ -20,46 +20,87 @@ map-reverse f (x ∷ xs) =
     ∙ ap (λ ys. ys ++ f x ∷ []) (map-reverse f xs)
     ∙ sym (reverse-append (f x ∷ []) (map f xs))
 
+before_more : (d f n m : ℕ) → n ≤ m → before d f n ≤ before d f m
+before_more zero f n m le = omega arith
+before_more (suc d) f n m le = le
+
+before_within : (d f g n : ℕ) → f + g ≤ n → before d f n ≤ n
+before_within zero f g n le = omega (arith, le)
+before_within (suc d) f g n le = omega arith
+
+-- a row behind so many cells has no fewer before it
+before_behind : (d f n m : ℕ) → m ≤ f → m ≤ n → m ≤ before d f n
+before_behind zero f n m le more = le
+before_behind (suc d) f n m le more = more
+
+-- where a goal is solved there are no fewer before it
+before_solved : (d f n : ℕ) → 0 < d → n ≤ before d f n
+before_solved zero f n some = omega (arith, some)
+before_solved (suc d) f n some = omega arith
+
 spanned_more : (n m : ℕ) (rows : List LinkRow) → n ≤ m → AreSpanned n rows → AreSpanned m rows
 spanned_more n m [] le h = tt
-spanned_more n m (r ∷ older) le h = (h.0, omega (arith, h.1), h.2)
+spanned_more n m (r ∷ older) le h =
+    (omega (arith, le, h.0), spanned_more (before r.done r.from n) (before r.done r.from m) older (before_more r.done r.from n m le) h.1)
 
-spanned_drop : (n k : ℕ) (rows : List LinkRow) → AreSpanned n rows → AreSpanned n (drop k rows)
-spanned_drop n zero rows h = h
-spanned_drop n (suc k) [] h = tt
-spanned_drop n (suc k) (r ∷ older) h = spanned_drop n k older (spanned_more r.cells n older h.1 h.2)
+-- how many of n cells there were before all these rows
+abbrev below : ℕ → List LinkRow → ℕ
+below n [] = n
+below n (r ∷ older) = below (before r.done r.from n) older
 
--- the cells that were there with the newest row are enough
-spanned_own : (n : ℕ) (rows : List LinkRow) → AreSpanned n rows → AreSpanned (cells_of rows) rows
-spanned_own n [] h = tt
-spanned_own n (r ∷ older) h = (h.0, omega arith, h.2)
+below-append : (n : ℕ) (xs ys : List LinkRow) → below n (xs ++ ys) ≡ below (below n xs) ys
+below-append n [] ys = refl
+below-append n (r ∷ older) ys = below-append (before r.done r.from n) older ys
 
-own_within : (n : ℕ) (rows : List LinkRow) → AreSpanned n rows → cells_of rows ≤ n
-own_within n [] h = omega arith
-own_within n (r ∷ older) h = h.1
+below_within : (n : ℕ) (rows : List LinkRow) → AreSpanned n rows → below n rows ≤ n
+below_within n [] h = omega arith
+below_within n (r ∷ older) h = omega (arith, below_within (before r.done r.from n) older h.1, before_within r.done r.from r.goals n h.0)
 
-abbrev pub with_cells : LinkRow → List Cell → Link
-with_cells r goals =
-    record {
-      box_no = r.box_no;
-      depth = r.depth;
-      clause = r.clause;
-      instance = instance_of (record { 0 = r.head }) goals;
-      done = r.done;
-      point = r.point;
-      around = r.around;
-    }
+spanned_front : (n : ℕ) (xs ys : List LinkRow) → AreSpanned n (xs ++ ys) → AreSpanned n xs
+spanned_front n [] ys h = tt
+spanned_front n (r ∷ older) ys h = (h.0, spanned_front (before r.done r.from n) older ys h.1)
+
+spanned_behind : (n : ℕ) (xs ys : List LinkRow) → AreSpanned n (xs ++ ys) → AreSpanned (below n xs) ys
+spanned_behind n [] ys h = h
+spanned_behind n (r ∷ older) ys h = spanned_behind (before r.done r.from n) older ys h.1
+
+-- what is left where rows are given up is no less than what there was before all of them
+below_left : (n : ℕ) (rows : List LinkRow) (count : ℕ) → AreSpanned n (reverse (drop count rows)) → below n (reverse (drop count rows)) ≤ cells_left (slice_get rows count) n
+below_left n [] zero h = omega arith
+below_left n [] (suc count) h = omega arith
+below_left n (r ∷ rows) zero h =
+    let e : reverse (r ∷ rows) ≡ reverse rows ++ r ∷ [] = reverse-append (r ∷ []) rows in
+    let w : below n (reverse rows) ≤ n = below_within n (reverse rows) (spanned_front n (reverse rows) (r ∷ []) (subst (AreSpanned n) e h)) in
+    subst (λ k. k ≤ before r.done r.from n) (sym (ap (below n) e ∙ below-append n (reverse rows) (r ∷ [])))
+    (before_more r.done r.from (below n (reverse rows)) n w)
+below_left n (r ∷ rows) (suc count) h = below_left n rows count h
+
+spanned_last : (n : ℕ) (rows : List LinkRow) (r : LinkRow) → AreSpanned n (rows ++ r ∷ []) → IsSpanned n r
+spanned_last n [] r h = h.0
+spanned_last n (x ∷ rows) r h =
+    omega (arith, spanned_last (before x.done x.from n) rows r h.1, before_within x.done x.from x.goals n h.0)
+
+left_within : (n : ℕ) (rows : List LinkRow) (count : ℕ) → AreSpanned n (reverse rows) → cells_left (slice_get rows count) n ≤ n
+left_within n [] count h = omega arith
+left_within n (r ∷ rows) zero h =
+    let e : reverse (r ∷ rows) ≡ reverse rows ++ r ∷ [] = reverse-append (r ∷ []) rows in
+    before_within r.done r.from r.goals n (spanned_last n (reverse rows) r (subst (AreSpanned n) e h))
+left_within n (r ∷ rows) (suc count) h =
+    let e : reverse (r ∷ rows) ≡ reverse rows ++ r ∷ [] = reverse-append (r ∷ []) rows in
+    left_within n rows count (spanned_front n (reverse rows) (r ∷ []) (subst (AreSpanned n) e h))
 
 -- two lists of cells have the same first n
 module _ (n : ℕ) (xs ys : List Cell) (same : take n xs ≡ take n ys) where
-  goals_same : (r : LinkRow) → r.to ≤ n → goals_in xs r ≡ goals_in ys r
-  goals_same r le = ap (drop r.from) (sym (take-take r.to n xs le) ∙ ap (take r.to) same ∙ take-take r.to n ys le)
+  goals_same : (r : LinkRow) → r.from + r.goals ≤ n → goals_in xs r ≡ goals_in ys r
+  goals_same r le =
+      let to = r.from + r.goals in
+      ap (drop r.from) (sym (take-take to n xs le) ∙ ap (take to) same ∙ take-take to n ys le)
 
   links_same : (rows : List LinkRow) (m : ℕ) → m ≤ n → AreSpanned m rows → links_in xs rows ≡ links_in ys rows
   links_same [] m le h = refl
   links_same (r ∷ older) m le h =
-      ap (λ gs. with_cells r gs ∷ links_in xs older) (goals_same r (omega (arith, h.0.within, h.1)))
-      ∙ ap (λ ls. link_in ys r ∷ ls) (links_same older r.cells (omega (arith, h.1)) h.2)
+      ap (λ gs. with_goals r gs ∷ links_in xs older) (goals_same r (omega (arith, h.0)))
+      ∙ ap (λ ls. link_in ys r ∷ ls) (links_same older (before r.done r.from m) (omega (arith, before_within r.done r.from r.goals m h.0)) h.1)
 
 -- cells were put behind
 pub more_cells : (cells goals : List Cell) (rows : List LinkRow) → AreSpanned (length cells) rows → links_in (cells ++ goals) rows ≡ links_in cells rows
@@ -70,43 +111,37 @@ pub more_spanned : (cells goals : List Cell) (rows : List LinkRow) → AreSpanne
 more_spanned cells goals rows h = spanned_more (length cells) (length (cells ++ goals)) rows (omega (arith, length-append cells goals)) h
 
 -- a link was put behind
-module _ (cells : List Cell) (rows : List LinkRow) (l : LinkRef) (h : AreSpanned (length cells) (reverse rows)) where
-  own_goals : goals_in (cells ++ l.goals.now) (row_of l (length cells)) ≡ l.goals.now
+module _ (cells : List Cell) (rows : List LinkRow) (l : LinkRef) (h : AreSpanned (length cells) (reverse rows)) (r : LinkRow) (is : IsRowOf l (length cells) r) where
+  own_goals : goals_in (cells ++ l.goals.now) r ≡ l.goals.now
   own_goals =
-      ap (drop (length cells)) (take-append-add cells l.goals.now (length l.goals.now) ∙ ap (λ gs. cells ++ gs) (take_all (length l.goals.now) l.goals.now (omega arith)))
+      ap (λ g. drop r.from (take (r.from + g) (cells ++ l.goals.now))) is.goals
+      ∙ ap (λ f. drop f (take (f + length l.goals.now) (cells ++ l.goals.now))) is.from
+      ∙ ap (drop (length cells)) (take-append-add cells l.goals.now (length l.goals.now) ∙ ap (λ gs. cells ++ gs) (take_all (length l.goals.now) l.goals.now (omega arith)))
       ∙ drop-append_seam cells l.goals.now
 
-  pub pushed_link : (r : LinkRow) → r ≡ row_of l (length cells) → links_in (cells ++ l.goals.now) (reverse (rows ++ r ∷ [])) ≡ link_of l ∷ links_in cells (reverse rows)
-  pushed_link r e =
+  pub pushed_link : links_in (cells ++ l.goals.now) (reverse (rows ++ r ∷ [])) ≡ link_of l ∷ links_in cells (reverse rows)
+  pushed_link =
       ap (links_in (cells ++ l.goals.now)) (reverse-append rows (r ∷ []))
-      ∙ ap (λ x. link_in (cells ++ l.goals.now) x ∷ links_in (cells ++ l.goals.now) (reverse rows)) e
-      ∙ ap (λ gs. with_cells (row_of l (length cells)) gs ∷ links_in (cells ++ l.goals.now) (reverse rows)) own_goals
+      ∙ ap (λ gs. with_goals r gs ∷ links_in (cells ++ l.goals.now) (reverse rows)) own_goals
+      ∙ ap (λ x. x ∷ links_in (cells ++ l.goals.now) (reverse rows)) is.link
       ∙ ap (λ ls. link_of l ∷ ls) (more_cells cells l.goals.now (reverse rows) h)
 
-  pub pushed_spanned : (r : LinkRow) → r ≡ row_of l (length cells) → AreSpanned (length (cells ++ l.goals.now)) (reverse (rows ++ r ∷ []))
-  pushed_spanned r e =
-      let n : length (cells ++ l.goals.now) ≡ length cells + length l.goals.now = length-append cells l.goals.now in
-      let x = row_of l (length cells) in
-      subst (AreSpanned (length (cells ++ l.goals.now))) (sym (reverse-append rows (r ∷ [])))
-      (subst (λ y. AreSpanned (length (cells ++ l.goals.now)) (y ∷ reverse rows)) (sym e)
-      (record { order = omega arith; within = omega arith }, omega (arith, n), spanned_more (length cells) x.cells (reverse rows) (omega arith) h))
-
-spanned_last : (n : ℕ) (rows : List LinkRow) (r : LinkRow) → AreSpanned n (rows ++ r ∷ []) → IsSpanned n r
-spanned_last n [] r h = record { order = h.0.order; within = omega (arith, h.0.within, h.1) }
-spanned_last n (x ∷ rows) r h =
-    let k = spanned_last x.cells rows r h.2 in
-    record { order = k.order; within = omega (arith, k.within, h.1) }
-
-spanned_front : (n : ℕ) (rows : List LinkRow) (r : LinkRow) → AreSpanned n (rows ++ r ∷ []) → AreSpanned n rows
-spanned_front n [] r h = tt
-spanned_front n (x ∷ rows) r h = (h.0, h.1, spanned_front x.cells rows r h.2)
+  pub pushed_spanned : AreSpanned (length (cells ++ l.goals.now)) (reverse (rows ++ r ∷ []))
+  pushed_spanned =
+      let all = length (cells ++ l.goals.now) in
+      let n : all ≡ length cells + length l.goals.now = length-append cells l.goals.now in
+      subst (AreSpanned all) (sym (reverse-append rows (r ∷ []))) (
+        omega (arith, n, is.from, is.goals),
+        spanned_more (length cells) (before r.done r.from all) (reverse rows)
+            (before_behind r.done r.from all (length cells) (omega (arith, is.from)) (omega (arith, n))) h,
+      )
 
 place_among : (n : ℕ) (rows : List LinkRow) (i : ℕ) (r : LinkRow) → AreSpanned n (reverse rows) → slice_get rows i ≡ Some r → IsSpanned n r
 place_among n [] i r h e = cc
 place_among n (x ∷ rows) zero r h e =
     let is : x ≡ r = cc in
     subst (IsSpanned n) is (spanned_last n (reverse rows) x (subst (AreSpanned n) (reverse-append (x ∷ []) rows) h))
-place_among n (x ∷ rows) (suc i) r h e = place_among n rows i r (spanned_front n (reverse rows) x (subst (AreSpanned n) (reverse-append (x ∷ []) rows) h)) e
+place_among n (x ∷ rows) (suc i) r h e = place_among n rows i r (spanned_front n (reverse rows) (x ∷ []) (subst (AreSpanned n) (reverse-append (x ∷ []) rows) h)) e
 
 pub row_among : (n : ℕ) (rows : List LinkRow) (k : ℕ) (r : LinkRow) → AreSpanned n (reverse rows) → row_at rows k ≡ Some r → IsSpanned n r
 row_among n rows zero r h e = cc
@@ -119,47 +154,54 @@ numbered_row cells rows (suc i) =
     ap (λ ls. numbered ls (suc i)) (map-reverse (link_in cells) rows) ∙ numbered-reverse (map (link_in cells) rows) i ∙ slice_get-map (link_in cells) rows i
 
 -- a row was put behind once more, with one more goal solved
-module _ (cells : List Cell) (rows : List LinkRow) (r : LinkRow) (n m : ℕ) (e : n ≡ length cells) where
-  pub handed_links : (x : LinkRow) → x ≡ handed_row r n m → links_in cells (reverse (rows ++ x ∷ [])) ≡ link_in cells (handed_row r n m) ∷ links_in cells (reverse rows)
+module _ (cells : List Cell) (rows : List LinkRow) (r : LinkRow) (m : ℕ) where
+  pub handed_links : (x : LinkRow) → x ≡ handed_row r m → links_in cells (reverse (rows ++ x ∷ [])) ≡ link_in cells (handed_row r m) ∷ links_in cells (reverse rows)
   handed_links x is = ap (links_in cells) (reverse-append rows (x ∷ [])) ∙ ap (λ y. link_in cells y ∷ links_in cells (reverse rows)) is
 
-  pub handed_spanned : (x : LinkRow) → x ≡ handed_row r n m → AreSpanned (length cells) (reverse rows) → IsSpanned (length cells) r → AreSpanned (length cells) (reverse (rows ++ x ∷ []))
+  pub handed_spanned : (x : LinkRow) → x ≡ handed_row r m → AreSpanned (length cells) (reverse rows) → IsSpanned (length cells) r → AreSpanned (length cells) (reverse (rows ++ x ∷ []))
   handed_spanned x is h k =
       subst (AreSpanned (length cells)) (sym (reverse-append rows (x ∷ [])))
       (subst (λ y. AreSpanned (length cells) (y ∷ reverse rows)) (sym is)
-      (record { order = k.order; within = omega (arith, e, k.within) }, omega (arith, e), subst (λ j. AreSpanned j (reverse rows)) (sym e) h))
+      (k, spanned_more (length cells) (before (r.done + 1) r.from (length cells)) (reverse rows) (before_solved (r.done + 1) r.from (length cells) (omega arith)) h))
 
--- so many of the oldest rows were kept, and the cells that were there with them
+-- how many cells are left, as the call tells it
+pub left_so : (cells : List Cell) (rows seen : List LinkRow) (count n k : ℕ) → seen ≡ rows → n ≡ length cells → k ≡ cells_left (slice_get seen count) n → k ≡ cells_left (slice_get rows count) (length cells)
+left_so cells rows seen count n k se ne e = e ∙ ap (λ xs. cells_left (slice_get xs count) n) se ∙ ap (cells_left (slice_get rows count)) ne
+
+-- so many of the oldest rows were kept, and the cells that are left then
 module _ (cells : List Cell) (rows : List LinkRow) (count : ℕ) (h : AreSpanned (length cells) (reverse rows)) where
   abbrev left : List LinkRow
   left = reverse (take count rows)
 
-  left_spanned : AreSpanned (length cells) left
+  abbrev there : ℕ
+  there = cells_left (slice_get rows count) (length cells)
+
+  parted : reverse rows ≡ reverse (drop count rows) ++ left
+  parted = ap reverse (sym (take-append-drop count rows)) ∙ reverse-append (take count rows) (drop count rows)
+
+  left_spanned : AreSpanned there left
   left_spanned =
-      subst (AreSpanned (length cells)) (sym (oldest-reverse rows count)) (spanned_drop (length cells) (length (reverse rows) - count) (reverse rows) h)
+      let p : AreSpanned (length cells) (reverse (drop count rows) ++ left) = subst (AreSpanned (length cells)) parted h in
+      spanned_more (below (length cells) (reverse (drop count rows))) there left
+      (below_left (length cells) rows count (spanned_front (length cells) (reverse (drop count rows)) left p))
+      (spanned_behind (length cells) (reverse (drop count rows)) left p)
 
-  pub kept_spanned : AreSpanned (length (take (cells_of left) cells)) left
-  kept_spanned =
-      subst (λ n. AreSpanned n left) (sym (length-take-le (cells_of left) cells (own_within (length cells) left left_spanned)))
-      (spanned_own (length cells) left left_spanned)
+  pub kept_spanned : AreSpanned (length (take there cells)) left
+  kept_spanned = subst (λ n. AreSpanned n left) (sym (length-take-le there cells (left_within (length cells) rows count h))) left_spanned
 
-  pub kept_links : links_in (take (cells_of left) cells) left ≡ oldest count (links_in cells (reverse rows))
+  pub kept_links : links_in (take there cells) left ≡ oldest count (links_in cells (reverse rows))
   kept_links =
       let f = link_in cells in
       let n : length (map f (reverse rows)) ≡ length (reverse rows) = length-map (reverse rows) f in
-      links_same (cells_of left) (take (cells_of left) cells) cells (take-take (cells_of left) (cells_of left) cells (omega arith)) left (cells_of left) (omega arith)
-      (spanned_own (length cells) left left_spanned)
+      links_same there (take there cells) cells (take-take there there cells (omega arith)) left there (omega arith) left_spanned
       ∙ ap (map f) (oldest-reverse rows count)
       ∙ sym (drop-map f (length (reverse rows) - count) (reverse rows))
       ∙ ap (λ k. drop (k - count) (map f (reverse rows))) (sym n)
 
   -- the same, as what the calls make of them
-  module _ (rows' seen : List LinkRow) (n : ℕ) (cells' : List Cell) (re : rows' ≡ take count rows) (se : seen ≡ rows') (ne : n ≡ cells_of (reverse seen)) (ce : cells' ≡ take n cells) where
-    count_there : n ≡ cells_of left
-    count_there = ne ∙ ap (λ xs. cells_of (reverse xs)) (se ∙ re)
-
-    cells_there : cells' ≡ take (cells_of left) cells
-    cells_there = ce ∙ ap (λ k. take k cells) count_there
+  module _ (rows' : List LinkRow) (n : ℕ) (cells' : List Cell) (ne : n ≡ there) (re : rows' ≡ take count rows) (ce : cells' ≡ take n cells) where
+    cells_there : cells' ≡ take there cells
+    cells_there = ce ∙ ap (λ k. take k cells) ne
 
     pub keeps_spanned : AreSpanned (length cells') (reverse rows')
     keeps_spanned =

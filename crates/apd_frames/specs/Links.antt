@@ -1,5 +1,5 @@
 -- Links, and how they are kept: the cells of all links' goals stand in one list.
-use Rattle.std.specs.Prelude.{ℕ, zero, suc, ◌+◌, ◌≤◌, List, [], ◌∷◌, length, map, take, drop, Option, None, slice_get}
+use Rattle.std.specs.Prelude.{ℕ, zero, suc, ◌+◌, ◌≤◌, List, [], ◌∷◌, ◌≡◌, ◌==◌, length, map, take, drop, Option, Some, None, slice_get, if◌then◌else◌}
 use Rattle.apd_unify.specs.declared.store.Cell.{Cell}
 use Rattle.apd_frames.specs.declared.links.Branch.{Branch}
 use Rattle.apd_frames.specs.declared.links.LinkRow.{LinkRow}
@@ -39,38 +39,50 @@ link_of l =
 
 -- the goals of a row among the cells of all goals
 abbrev pub goals_in : List Cell → LinkRow → List Cell
-goals_in cells r = drop r.from (take r.to cells)
+goals_in cells r = drop r.from (take (r.from + r.goals) cells)
 
-abbrev pub link_in : List Cell → LinkRow → Link
-link_in cells r =
+-- the number of a clause, or of a built-in goal, that is kept so
+abbrev pub clause_in : ℕ → ℕ
+clause_in k = if k == 65535 then 4294967295 else k
+
+-- the link of a row with these goals
+abbrev pub with_goals : LinkRow → List Cell → Link
+with_goals r goals =
     record {
       box_no = r.box_no;
       depth = r.depth;
-      clause = r.clause;
-      instance = instance_of (record { 0 = r.head }) (goals_in cells r);
+      clause = clause_in r.clause;
+      instance = instance_of (record { 0 = r.head }) goals;
       done = r.done;
       point = r.point;
       around = r.around;
     }
 
+abbrev pub link_in : List Cell → LinkRow → Link
+link_in cells r = with_goals r (goals_in cells r)
+
 abbrev pub links_in : List Cell → List LinkRow → List Link
 links_in cells rows = map (link_in cells) rows
 
 -- a row's goals are among the first n cells
-pub record IsSpanned (n : ℕ) (r : LinkRow) : Type 0 where
-  pub order : r.from ≤ r.to
-  pub within : r.to ≤ n
+abbrev pub IsSpanned : ℕ → LinkRow → Type 0
+IsSpanned n r = r.from + r.goals ≤ n
 
--- the rows are given the newest first: the goals of each are among the cells that were there with it, no more than were
--- there with a newer one, or are there now, n
+-- how many of n cells were there before a row: where no goal is solved yet, those before its own
+abbrev pub before : ℕ → ℕ → ℕ → ℕ
+before zero from n = from
+before (suc done) from n = n
+
+-- the rows are given the newest first: the goals of each are among the n cells that are there with it, and those of older
+-- ones among the cells that were there before
 abbrev pub AreSpanned : ℕ → List LinkRow → Type 0
 AreSpanned n [] = Unit {0}
-AreSpanned n (r ∷ older) = IsSpanned r.cells r × (r.cells ≤ n) × AreSpanned r.cells older
+AreSpanned n (r ∷ older) = IsSpanned n r × AreSpanned (before r.done r.from n) older
 
--- how many cells there were with the newest row
-abbrev pub cells_of : List LinkRow → ℕ
-cells_of [] = 0
-cells_of (r ∷ older) = r.cells
+-- how many of n cells are left where this row is the oldest of those that are given up, if any is
+abbrev pub cells_left : Option LinkRow → ℕ → ℕ
+cells_left None n = n
+cells_left (Some r) n = before r.done r.from n
 
 -- the row with a number, counted from 1 at the oldest, which stands first
 abbrev pub row_at : List LinkRow → ℕ → Option LinkRow
@@ -78,35 +90,24 @@ row_at rows zero = None
 row_at rows (suc i) = slice_get rows i
 
 -- the row of a link whose goals' cells are put behind n others
-abbrev pub row_of : LinkRef → ℕ → LinkRow
-row_of l n =
-    record {
-      box_no = l.box_no;
-      depth = l.depth;
-      clause = l.clause;
-      head = l.head.0;
-      from = n;
-      to = n + length l.goals.now;
-      cells = n + length l.goals.now;
-      done = l.done;
-      point = l.point;
-      around = l.around;
-    }
+pub record IsRowOf (l : LinkRef) (n : ℕ) (r : LinkRow) : Type 0 where
+  pub link : with_goals r l.goals.now ≡ link_of l
+  pub from : r.from ≡ n
+  pub goals : r.goals ≡ length l.goals.now
 
--- the row with one more goal solved, at point m, where there are n cells
-abbrev pub handed_row : LinkRow → ℕ → ℕ → LinkRow
-handed_row r n m =
+-- the row with one more goal solved, at point m
+abbrev pub handed_row : LinkRow → ℕ → LinkRow
+handed_row r m =
     record {
       box_no = r.box_no;
       depth = r.depth;
-      clause = r.clause;
       head = r.head;
       from = r.from;
-      to = r.to;
-      cells = n;
-      done = r.done + 1;
       point = m;
       around = r.around;
+      clause = r.clause;
+      goals = r.goals;
+      done = r.done + 1;
     }
 
 -- a branch by its mark and its number of links, the newest of which is the innermost

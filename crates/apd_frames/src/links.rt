@@ -1,12 +1,14 @@
 //! Links between clause instances.
 
-ghost use Rattle.std.specs.Prelude.{◌≡◌, ◌∷◌, [], ◌+◌, ◌<◌, ◌≤◌, length, reverse, None, Some, IfOk, OnOk, OnErr, MatchOption};
-ghost use Rattle.apd_frames.specs.Links.{instance_of, link_of, link_in, row_at, row_of, handed_row, cells_of, IsSpanned};
+ghost use Rattle.std.specs.Prelude.{◌≡◌, ◌∷◌, [], ◌+◌, ◌<◌, ◌≤◌, length, slice_get, None, Some, IfOk, OnOk, OnErr, MatchOption};
+ghost use Rattle.apd_frames.specs.Links.{instance_of, link_of, link_in, row_at, handed_row, clause_in, cells_left, IsRowOf, IsSpanned};
 ghost use Rattle.apd_frames.specs.Linked.{entered_link, numbered, oldest, Hands, MayHand};
 ghost use Rattle.apd_frames.specs.Kept.{IsIn};
 ghost use Rattle.apd_trace.specs.declared.frame.Called.{Called};
 
 use apd_base::stack::room_for_one;
+use apd_base::{MOST_CLAUSES, MOST_GOALS, MOST_KEPT};
+use apd_ports::BUILTIN;
 use apd_unify::store::{Cell, Mark};
 use std::alloc::{AllocError, Global};
 use std::marker::Model;
@@ -26,23 +28,25 @@ pub struct LinkRef<'a> {
     pub around: usize,
 }
 
-/// A link as it is kept. Its goals' cells stand among those of all links, and a link that is handed
-/// an exit shares them with the link that it comes from.
+/// A link as it is kept. Its goals' cells stand among those of all links: where no goal is solved yet they were put there
+/// with it, behind those of older links. A link that is handed an exit shares them with the link that it comes from.
 #[derive(Clone, Copy)]
 pub struct LinkRow {
     pub box_no: u32,
     pub depth: u32,
-    pub clause: u32,
     pub head: u32,
-    /// Where its goals' cells begin, and where they end.
+    /// Where its goals' cells begin.
     pub from: u32,
-    pub to: u32,
-    /// How many cells of goals there were with it.
-    pub cells: u32,
-    pub done: u8,
     pub point: u32,
     pub around: u32,
+    /// The number of its clause; [`KEPT_BUILTIN`] for a built-in goal.
+    pub clause: u16,
+    /// How many goals it has.
+    pub goals: u8,
+    pub done: u8,
 }
+
+const _: () = prove!(size_of::<LinkRow>() == 28);
 
 /// Where a search may come back to: the store's mark, and how many links there were, and which was the innermost.
 #[derive(Clone, Copy)]
@@ -89,30 +93,65 @@ impl Model for Links {
     ghost invariant = { λ s. AreSpanned (length s.cells.items) (reverse s.oldest_first.items) };
 }
 
-/// The greatest number that is kept.
-const MOST: usize = 4_294_967_295;
+/// The greatest number of goals that a row has room for. No clause has so many.
+const MOST_KEPT_GOALS: usize = 255;
 
-/// The row of a link whose goals' cells are put behind so many others.
+const _: () = prove!(MOST_GOALS <= MOST_KEPT_GOALS);
+
+/// What stands in a row in place of [`BUILTIN`]. No clause has this number.
+const KEPT_BUILTIN: u16 = 65_535;
+
+const _: () = prove!(MOST_CLAUSES < KEPT_BUILTIN as u32);
+
+/// The number of a clause as it is kept; want of memory where it is too great.
 #[inline(always)]
-fn row_of(link: &LinkRef<'_>, cells: usize) -> Result<LinkRow, AllocError>
-    ensures { IfOk result (λ r. r ≡ row_of link.now cells) }
+fn kept_clause(clause: u32) -> Result<u16, AllocError>
+    ensures { IfOk result (λ k. clause_in k ≡ clause) }
 {
-    let goals = link.goals.len();
-    if goals > MOST || cells > MOST - goals || link.head.0 > MOST || link.around > MOST {
+    if clause == BUILTIN {
+        return Ok(KEPT_BUILTIN);
+    }
+    if clause >= KEPT_BUILTIN as u32 {
         return Err(AllocError);
     }
-    let to = (cells + goals) as u32;
+    Ok(clause as u16)
+}
+
+/// The number of a clause that is kept so.
+#[inline(always)]
+fn clause_in(kept: u16) -> u32
+    ensures { result ≡ clause_in kept }
+{
+    if kept == KEPT_BUILTIN {
+        return BUILTIN;
+    }
+    kept as u32
+}
+
+/// The row of a link whose goals' cells are put behind so many others; want of memory where a number is too great.
+#[inline(always)]
+fn row_of(link: &LinkRef<'_>, cells: usize) -> Result<LinkRow, AllocError>
+    ensures { IfOk result (IsRowOf link.now cells) }
+{
+    let goals = link.goals.len();
+    if goals > MOST_KEPT_GOALS
+        || cells > MOST_KEPT
+        || link.head.0 > MOST_KEPT
+        || link.around > MOST_KEPT
+    {
+        return Err(AllocError);
+    }
+    let clause = kept_clause(link.clause)?;
     Ok(LinkRow {
         box_no: link.box_no,
         depth: link.depth,
-        clause: link.clause,
         head: link.head.0 as u32,
         from: cells as u32,
-        to,
-        cells: to,
-        done: link.done,
         point: link.point,
         around: link.around as u32,
+        clause,
+        goals: goals as u8,
+        done: link.done,
     })
 }
 
@@ -134,38 +173,46 @@ fn link_in<'a>(cells: &'a [Cell], row: LinkRow) -> LinkRef<'a>
     requires { IsSpanned (length cells.now) row }
     ensures { link_of result ≡ link_in cells.now row }
 {
+    let from = row.from as usize;
+    let to = from + row.goals as usize;
     LinkRef {
         box_no: row.box_no,
         depth: row.depth,
-        clause: row.clause,
+        clause: clause_in(row.clause),
         head: Cell(row.head as usize),
-        goals: &cells[row.from as usize..row.to as usize],
+        goals: &cells[from..to],
         done: row.done,
         point: row.point,
         around: row.around as usize,
     }
 }
 
-/// The row with one more goal solved, at a point, where there are so many cells.
-fn handed(row: LinkRow, cells: u32, point: u32) -> LinkRow
+/// The row with one more goal solved, at a point.
+fn handed(row: LinkRow, point: u32) -> LinkRow
     requires { row.done < 64 }
-    ensures { result ≡ handed_row row cells point }
+    ensures { result ≡ handed_row row point }
 {
     LinkRow {
-        cells,
-        done: row.done + 1,
         point,
+        done: row.done + 1,
         ..row
     }
 }
 
-/// How many cells there were with the newest row.
-fn cells_of(rows: &[LinkRow]) -> usize
-    ensures { result ≡ cells_of (reverse rows.now) }
+/// How many of so many cells of goals are left where the rows from this place on, counted from 0, are given up. Where the
+/// first of these rows shares its goals' cells all stay: the search has given up the rows behind it before.
+#[inline(always)]
+fn cells_left(rows: &[LinkRow], place: usize, cells: usize) -> usize
+    ensures { result ≡ cells_left (slice_get rows.now place) cells }
 {
-    match rows.last() {
-        None => 0,
-        Some(row) => row.cells as usize,
+    match rows.get(place) {
+        None => cells,
+        Some(row) => {
+            if row.done == 0 {
+                return row.from as usize;
+            }
+            cells
+        }
     }
 }
 
@@ -175,7 +222,10 @@ impl KeptBranch {
     pub fn of(branch: Branch) -> Result<KeptBranch, AllocError>
         ensures { IfOk result (λ b. b ≡ branch) }
     {
-        if branch.mark.0 > MOST || branch.links > MOST || branch.innermost != branch.links {
+        if branch.mark.0 > MOST_KEPT
+            || branch.links > MOST_KEPT
+            || branch.innermost != branch.links
+        {
             return Err(AllocError);
         }
         Ok(KeptBranch {
@@ -277,13 +327,8 @@ impl Links {
         let Some(row) = row_at(self.oldest_first.as_slice(), number) else {
             return Ok(None);
         };
-        let cells = self.cells.len();
-        if cells > MOST {
-            return Err(AllocError);
-        }
         room_for_one(&mut self.oldest_first)?;
-        self.oldest_first
-            .push_reserved(handed(row, cells as u32, point));
+        self.oldest_first.push_reserved(handed(row, point));
         Ok(Some(self.oldest_first.len()))
     }
 
@@ -293,8 +338,8 @@ impl Links {
         requires { count ≤ length self.old }
         ensures { self.new ≡ oldest count self.old }
     {
+        let cells = cells_left(self.oldest_first.as_slice(), count, self.cells.len());
         self.oldest_first.truncate(count);
-        let cells = cells_of(self.oldest_first.as_slice());
         self.cells.truncate(cells);
     }
 }

@@ -1,6 +1,6 @@
-use Rattle.std.proofs.Common.{◌≡◌, ◌∷◌, ◌++◌, ◌∙◌, [], length, ap, arith}
+use Rattle.std.proofs.Common.{◌≡◌, ◌∷◌, ◌++◌, ◌∙◌, [], length, ap, subst, arith}
 use Rattle.std.specs.Prelude.{reverse}
-use Rattle.apd_frames.specs.Links.{link_of, links_in, row_of}
+use Rattle.apd_frames.specs.Links.{link_of, links_in, IsRowOf}
 use Rattle.apd_frames.proofs.Spans.{on_err_always, more_cells, more_spanned, pushed_link, pushed_spanned}
 use Rattle.apd_frames.proofs.links.Links.push.Goals as goal
 
@@ -21,12 +21,14 @@ pub invariant_of-self-2 : goal.invariant_of-self-2
 invariant_of-self-2 c =
     let n : c.len.result ≡ length c.self.inside.cells.items = omega arith in
     rw ((c.push_reserved.ensures.items ∙ ap (λ rows. rows ++ c.in_ok-row.row ∷ []) c.room_for_one.ensures.items), c.in_ok-extend_from_slice.ensures.items)
-    (pushed_spanned c.self.inside.cells.items c.self.inside.oldest_first.items c.args.link.now c.self.invariant c.in_ok-row.row (c.in_ok-row.ensures ∙ ap (row_of c.args.link.now) n))
+    (pushed_spanned c.self.inside.cells.items c.self.inside.oldest_first.items c.args.link.now c.self.invariant c.in_ok-row.row
+    (subst (λ k. IsRowOf c.args.link.now k c.in_ok-row.row) n c.in_ok-row.ensures))
 
 pub returns-clause-ok : goal.returns-clause-ok
 returns-clause-ok c =
     let n : c.len.result ≡ length c.self.inside.cells.items = omega arith in
     ap (λ cs. links_in cs (reverse c.push_reserved.new.self.items)) c.in_ok-extend_from_slice.ensures.items
     ∙ ap (λ rows. links_in (c.self.inside.cells.items ++ c.args.link.now.goals.now) (reverse rows)) (c.push_reserved.ensures.items ∙ ap (λ rows. rows ++ c.in_ok-row.row ∷ []) c.room_for_one.ensures.items)
-    ∙ pushed_link c.self.inside.cells.items c.self.inside.oldest_first.items c.args.link.now c.self.invariant c.in_ok-row.row (c.in_ok-row.ensures ∙ ap (row_of c.args.link.now) n)
+    ∙ pushed_link c.self.inside.cells.items c.self.inside.oldest_first.items c.args.link.now c.self.invariant c.in_ok-row.row
+    (subst (λ k. IsRowOf c.args.link.now k c.in_ok-row.row) n c.in_ok-row.ensures)
     ∙ ap (λ ls. link_of c.args.link.now ∷ ls) c.self.view_is

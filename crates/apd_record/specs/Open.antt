@@ -5,14 +5,13 @@ use Rattle.apd_term.specs.Term.{Term, variable}
 use Rattle.apd_term.specs.declared.tuple.Tuple.{Tuple}
 use Rattle.apd_ports.specs.declared.event.Port.{Port}
 use Rattle.apd_ports.specs.declared.point.Point.{Point}
-use Rattle.apd_record.specs.declared.beside.Owned.{Owned}
+use Rattle.apd_record.specs.Beside.{Owned, edited}
 use Rattle.apd_record.specs.declared.kept.KeptBox.{KeptBox}
 use Rattle.apd_record.specs.declared.kept.KeptPoint.{KeptPoint}
 use Rattle.apd_record.specs.declared.kept.TuplePlace.{TuplePlace}
 use Rattle.apd_record.specs.declared.kept.TuplePlace.TheVariants.{Written as Spanned, Kept as Held}
 use Rattle.apd_record.specs.declared.ongoing.OpenPoint.{OpenPoint}
 use Rattle.apd_record.specs.declared.order.Order.{Order}
-use Rattle.apd_record.specs.Beside.{edited}
 use Rattle.apd_record.specs.Index.{IsIndex, IsWithin}
 use Rattle.apd_record.specs.Kept.{AreKept, box_from, called_box, kept_passed, told}
 use Rattle.apd_record.specs.Ordered.{IsOrdered}
@@ -81,9 +80,9 @@ abbrev pub blanked : Rows → Recorded
 blanked r = record { boxes = map (box_from [] []) r.boxes; points = map blank_point r.points }
 
 -- what stands beside the rows is right
-pub record IsBeside (r : Rows) (owned : List Owned) (links : List (Option ℕ)) (order : Order) : Type 0 where
+pub record IsBeside (r : Rows) (owned : List Owned) (earlier : List (Option ℕ)) (order : Order) : Type 0 where
   pub boxes : length r.boxes < 2 ^ 32
   pub points : length r.points < 2 ^ 32
   pub within : IsWithin (blanked r)
-  pub index : IsIndex (blanked r) owned links
+  pub index : IsIndex (blanked r) owned earlier
   pub ordered : IsOrdered order r.boxes r.points

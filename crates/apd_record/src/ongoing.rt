@@ -4,7 +4,7 @@ ghost use Rattle.std.specs.Prelude.{◌≡◌, ◌<◌, ◌≤◌, ◌+◌, ◌-
 ghost use Rattle.apd_record.specs.Index.{id_of, IsBelow};
 ghost use Rattle.apd_record.specs.Open.{no_rows, noted_row, with_box_row, with_point_row};
 
-use crate::beside::{Owned, note_owned};
+use crate::beside::Owners;
 use crate::kept::{KeptBox, KeptPoint, TuplePlace, called_box};
 use crate::order::{NONE_YET, Order, stays_in_turn, stays_rising};
 use crate::packed::PackedPoint;
@@ -32,8 +32,7 @@ pub struct Open {
     pub(crate) alloc: Global,
     pub(crate) boxes: Vec<KeptBox>,
     pub(crate) points: Vec<PackedPoint>,
-    pub(crate) query: Owned,
-    pub(crate) owned: Vec<Owned>,
+    pub(crate) owned: Owners,
     pub(crate) earlier: Vec<MaybeNumber>,
     pub(crate) order: Order,
 }
@@ -46,7 +45,7 @@ impl Model for Open {
 
     ghost view = { λ o. record { boxes = o.boxes.items; points = o.points.items } };
 
-    ghost invariant = { λ o. IsBeside (record { boxes = o.boxes.items; points = o.points.items }) (o.query ∷ o.owned.items) o.earlier.items o.order };
+    ghost invariant = { λ o. IsBeside (record { boxes = o.boxes.items; points = o.points.items }) o.owned o.earlier.items o.order };
 }
 
 /// Whether all goals are solved.
@@ -65,8 +64,7 @@ impl Open {
             alloc,
             boxes: Vec::new(alloc),
             points: Vec::new(alloc),
-            query: Owned::new(alloc),
-            owned: Vec::new(alloc),
+            owned: Owners::new(alloc),
             earlier: Vec::new(alloc),
             order: NONE_YET,
         }
@@ -83,7 +81,6 @@ impl Open {
     {
         box_room(&mut self.boxes, &mut self.owned)?;
         let place = self.boxes.len() as u32;
-        self.owned.push_reserved(Owned::new(self.alloc));
         self.order.rising = stays_rising(self.order.rising, &self.boxes, from.0);
         self.boxes
             .push_reserved(called_box(from.0, size, false, user));
@@ -101,25 +98,20 @@ impl Open {
         ensures err { OnErr result (self.new ≡ self.old) }
     {
         let number = self.points.len() as u32;
-        point_room(&mut self.points, &mut self.earlier)?;
-        let is_exit = are_solved(point.done, point.tuple.goals);
-        let earlier = note_owned(
-            &mut self.query,
-            &mut self.owned,
-            point.owner,
-            number,
-            point.done == 0,
-            is_exit,
-        )?;
-        self.earlier.push_reserved(earlier);
-        self.order.in_turn = stays_in_turn(self.order.in_turn, point.before, number);
-        self.points.push_reserved(PackedPoint::of(KeptPoint {
+        let row = PackedPoint::of(KeptPoint {
             owner: point.owner,
             clause: point.clause,
             done: point.done,
             tuple: TuplePlace::Kept(point.tuple),
             before: point.before,
-        }));
+        })?;
+        point_room(&mut self.points, &mut self.earlier)?;
+        let is_exit = are_solved(point.done, point.tuple.goals);
+        let is_first = point.done == 0;
+        let earlier = self.owned.add(point.owner, number, is_first, is_exit)?;
+        self.earlier.push_reserved(earlier);
+        self.order.in_turn = stays_in_turn(self.order.in_turn, point.before, number);
+        self.points.push_reserved(row);
         Ok(PointId(number))
     }
 

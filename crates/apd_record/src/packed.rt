@@ -1,11 +1,13 @@
-//! Points in 28 bytes each.
+//! Points in 24 bytes each.
 
-ghost use Rattle.std.specs.Prelude.{◌≡◌};
+ghost use Rattle.std.specs.Prelude.{◌≡◌, IfOk};
 ghost use Rattle.apd_record.specs.Packed.{step_in, tuple_in};
 
 use crate::kept::{KeptPoint, Span, TuplePlace};
+use apd_base::MOST_GOALS;
 use apd_ports::{PointId, Step};
 use apd_tuples::spots::Numbered;
+use std::alloc::AllocError;
 use std::marker::Model;
 use std::mem::size_of;
 
@@ -17,25 +19,31 @@ struct Pack {
     second: u32,
 }
 
-/// A point as it is kept: its truth values stand together, so that they take four bytes. Contracts see the point.
+/// A point as it is kept: its small numbers stand together, so that they take four bytes. Contracts see the point.
 #[derive(Drop)]
 pub struct PackedPoint {
     owner: u32,
     clause: u32,
     done: u8,
-    /// Whether its tuple was written, and isn't a kept one.
+    /// How many goals its tuple has.
+    goals: u8,
+    /// Whether the tuple was written, and isn't a kept one.
     is_written: bool,
     /// Whether it came about by a step.
     has_before: bool,
-    /// Where the tuple is, and how many goals it has.
+    /// Where the tuple is.
     place: u32,
-    goals: u32,
     /// The step's point and exit.
     point: u32,
     exit: u32,
 }
 
-const _: () = prove!(size_of::<PackedPoint>() == 28);
+const _: () = prove!(size_of::<PackedPoint>() == 24);
+
+/// The greatest number of goals that a point has room for. No clause has so many.
+const MOST_KEPT_GOALS: u32 = 255;
+
+const _: () = prove!(MOST_GOALS <= MOST_KEPT_GOALS as usize);
 
 impl Model for PackedPoint {
     ghost use Rattle.apd_record.specs.declared.kept.KeptPoint.{KeptPoint};
@@ -115,23 +123,27 @@ fn step_in(is_some: bool, point: u32, exit: u32) -> Option<Step>
 }
 
 impl PackedPoint {
-    /// The point as it is kept.
-    pub fn of(point: KeptPoint) -> PackedPoint
-        ensures { result ≡ point }
+    /// The point as it is kept; want of memory where its tuple has more goals than there is room for.
+    #[inline(always)]
+    pub fn of(point: KeptPoint) -> Result<PackedPoint, AllocError>
+        ensures { IfOk result (λ p. p ≡ point) }
     {
         let tuple = pack_tuple(point.tuple);
+        if tuple.second > MOST_KEPT_GOALS {
+            return Err(AllocError);
+        }
         let before = pack_step(point.before);
-        PackedPoint {
+        Ok(PackedPoint {
             owner: point.owner,
             clause: point.clause,
             done: point.done,
+            goals: tuple.second as u8,
             is_written: tuple.is,
             has_before: before.is,
             place: tuple.first,
-            goals: tuple.second,
             point: before.first,
             exit: before.second,
-        }
+        })
     }
 
     /// The point.
@@ -143,7 +155,7 @@ impl PackedPoint {
             owner: self.owner,
             clause: self.clause,
             done: self.done,
-            tuple: tuple_in(self.is_written, self.place, self.goals),
+            tuple: tuple_in(self.is_written, self.place, self.goals as u32),
             before: step_in(self.has_before, self.point, self.exit),
         }
     }

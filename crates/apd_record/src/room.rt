@@ -1,13 +1,14 @@
 //! Room for boxes and points, and ports that boxes pass.
 
-ghost use Rattle.std.specs.Prelude.{◌≡◌, ◌<◌, length, OnOk, vec_len, vec_capacity};
+ghost use Rattle.std.specs.Prelude.{◌≡◌, ◌<◌, ◌++◌, ◌∷◌, [], length, OnOk, OnErr, vec_len, vec_capacity};
 ghost use Rattle.apd_record.specs.Recorded.{completes};
-ghost use Rattle.apd_record.specs.Beside.{edited};
+ghost use Rattle.apd_record.specs.Beside.{nothing, edited};
 ghost use Rattle.apd_record.specs.Kept.{kept_passed};
 
-use crate::beside::Owned;
+use crate::beside::Owners;
 use crate::kept::KeptBox;
 use crate::packed::PackedPoint;
+use apd_base::stack::room_for_one;
 use apd_past::maybe_number::MaybeNumber;
 use apd_ports::Port;
 use std::alloc::AllocError;
@@ -32,18 +33,17 @@ pub fn pass(boxes: &mut Vec<KeptBox>, place: usize, port: Port)
     row.complete = completes(port, row.complete);
 }
 
-/// Room for a box.
+/// Room for a box, which owns nothing yet.
 #[inline(always)]
-pub fn box_room(boxes: &mut Vec<KeptBox>, owned: &mut Vec<Owned>) -> Result<(), AllocError>
+pub fn box_room(boxes: &mut Vec<KeptBox>, owned: &mut Owners) -> Result<(), AllocError>
     ensures boxes { boxes.new.items ≡ boxes.old.items }
-    ensures owned { owned.new.items ≡ owned.old.items }
-    ensures boxes_len { vec_len boxes.new ≡ vec_len boxes.old }
-    ensures owned_len { vec_len owned.new ≡ vec_len owned.old }
+    ensures len { vec_len boxes.new ≡ vec_len boxes.old }
     ensures room { OnOk result (vec_len boxes.new < vec_capacity boxes.new) }
-    ensures owned_room { OnOk result (vec_len owned.new < vec_capacity owned.new) }
+    ensures owned { OnOk result (owned.new ≡ owned.old ++ nothing ∷ []) }
+    ensures err { OnErr result (owned.new ≡ owned.old) }
 {
-    boxes.reserve(1)?;
-    owned.reserve(1)
+    room_for_one(boxes)?;
+    owned.open()
 }
 
 /// Room for a point.
@@ -59,6 +59,6 @@ pub fn point_room(
     ensures room { OnOk result (vec_len points.new < vec_capacity points.new) }
     ensures earlier_room { OnOk result (vec_len earlier.new < vec_capacity earlier.new) }
 {
-    points.reserve(1)?;
-    earlier.reserve(1)
+    room_for_one(points)?;
+    room_for_one(earlier)
 }

@@ -1,4 +1,4 @@
-use Rattle.std.proofs.Common.{List, ◌∷◌, ◌-◌, ap, ◌∙◌}
+use Rattle.std.proofs.Common.{List, ◌-◌, ap, ◌∙◌}
 use Rattle.apd_record.specs.declared.kept.KeptBox.{KeptBox}
 use Rattle.apd_record.specs.Open.{noted_row, Rows}
 use Rattle.apd_record.proofs.Opening.{beside_noted, noted_as}
@@ -6,7 +6,7 @@ use Rattle.apd_record.proofs.ongoing.Open.note.Goals as goal
 
 pub invariant_of-self : goal.invariant_of-self
 invariant_of-self c =
-    beside_noted (record { boxes = c.self.inside.boxes.items; points = c.self.inside.points.items }) (c.self.inside.query ∷ c.self.inside.owned.items) c.self.inside.earlier.items c.self.inside.order c.args.port (c.args.box_no - 1)
+    beside_noted (record { boxes = c.self.inside.boxes.items; points = c.self.inside.points.items }) c.self.inside.owned c.self.inside.earlier.items c.self.inside.order c.args.port (c.args.box_no - 1)
     c.pass.new.boxes.items c.self.invariant c.pass.ensures
 
 pub returns : goal.returns

@@ -1,6 +1,5 @@
-use Rattle.std.proofs.Common.{List, ◌++◌, ◌∷◌, [], length, ap, arith, refl, subst, sym, ◌∙◌}
+use Rattle.std.proofs.Common.{List, ◌++◌, ◌∷◌, [], length, ap, arith, subst, sym, ◌∙◌}
 use Rattle.std.specs.Bool.{OnTrue}
-use Rattle.apd_record.specs.declared.beside.Owned.{Owned}
 use Rattle.apd_record.specs.declared.kept.KeptBox.{KeptBox}
 use Rattle.apd_record.specs.Open.{box_row, IsBeside, Rows}
 use Rattle.apd_record.specs.Ordered.{AreFromBelow, AreRising, IsOrdered}
@@ -10,8 +9,8 @@ use Rattle.apd_record.proofs.ongoing.Open.open_box.Goals as goal
 
 pub invariant_of-self : goal.invariant_of-self
 invariant_of-self c =
-    subst (λ (bs : List KeptBox). IsBeside (record { boxes = bs; points = c.self.inside.points.items }) (c.self.inside.query ∷ c.box_room.new.owned.items) c.self.inside.earlier.items c.self.inside.order) (sym c.box_room.ensures.boxes)
-    (subst (λ os. IsBeside (record { boxes = c.self.inside.boxes.items; points = c.self.inside.points.items }) (c.self.inside.query ∷ os) c.self.inside.earlier.items c.self.inside.order) (sym c.box_room.ensures.owned) c.self.invariant)
+    subst (λ (bs : List KeptBox). IsBeside (record { boxes = bs; points = c.self.inside.points.items }) c.box_room.new.owned c.self.inside.earlier.items c.self.inside.order) (sym c.box_room.ensures.boxes)
+    (subst (λ os. IsBeside (record { boxes = c.self.inside.boxes.items; points = c.self.inside.points.items }) os c.self.inside.earlier.items c.self.inside.order) (sym c.in_err-box_room.ensures.err) c.self.invariant)
 
 pub stays_rising-self-inside-requires : goal.stays_rising-self-inside-requires
 stays_rising-self-inside-requires c =
@@ -24,14 +23,14 @@ invariant_of-self-2 c =
     let order : IsOrdered (record { in_turn = c.self.inside.order.in_turn; rising = c.stays_rising-self-inside.result }) (c.self.inside.boxes.items ++ box_row c.args.from.0 c.args.user c.args.size ∷ []) c.self.inside.points.items =
     ordered-box c.self.inside.order c.self.inside.boxes.items c.self.inside.points.items (box_row c.args.from.0 c.args.user c.args.size) c.stays_rising-self-inside.result c.self.invariant.ordered c.stays_rising-self-inside.ensures.was
     (subst (λ (bs : List KeptBox). OnTrue c.stays_rising-self-inside.result (AreFromBelow c.args.from.0 bs)) c.box_room.ensures.boxes c.stays_rising-self-inside.ensures.below) in
-    beside_box (record { boxes = c.self.inside.boxes.items; points = c.self.inside.points.items }) (c.self.inside.query ∷ c.self.inside.owned.items) _ c.self.inside.earlier.items c.self.inside.order _
+    beside_box (record { boxes = c.self.inside.boxes.items; points = c.self.inside.points.items }) c.self.inside.owned _ c.self.inside.earlier.items c.self.inside.order _
     (box_row c.args.from.0 c.args.user c.args.size) _ c.self.invariant (omega (arith, c.requires.from, n)) (omega (arith, c.requires.few, m))
-    (c.push_reserved-2.ensures.items ∙ ap (λ (b : KeptBox). c.box_room.new.boxes.items ++ b ∷ []) c.called_box.ensures ∙ ap (λ (bs : List KeptBox). bs ++ box_row c.args.from.0 c.args.user c.args.size ∷ []) c.box_room.ensures.boxes)
-    (ap (λ (xs : List Owned). c.self.inside.query ∷ xs) (c.push_reserved.ensures.items ∙ rw (c.box_room.ensures.owned, c.new.ensures) refl))
+    (c.push_reserved.ensures.items ∙ ap (λ (b : KeptBox). c.box_room.new.boxes.items ++ b ∷ []) c.called_box.ensures ∙ ap (λ (bs : List KeptBox). bs ++ box_row c.args.from.0 c.args.user c.args.size ∷ []) c.box_room.ensures.boxes)
+    c.in_ok-box_room.ensures.owned
     order
 
 pub returns-clause-opened : goal.returns-clause-opened
 returns-clause-opened c =
     ap (λ (bs : List KeptBox). record { boxes = bs; points = c.self.inside.points.items })
-    (c.push_reserved-2.ensures.items ∙ ap (λ (b : KeptBox). c.box_room.new.boxes.items ++ b ∷ []) c.called_box.ensures ∙ ap (λ (bs : List KeptBox). bs ++ box_row c.args.from.0 c.args.user c.args.size ∷ []) c.box_room.ensures.boxes)
+    (c.push_reserved.ensures.items ∙ ap (λ (b : KeptBox). c.box_room.new.boxes.items ++ b ∷ []) c.called_box.ensures ∙ ap (λ (bs : List KeptBox). bs ++ box_row c.args.from.0 c.args.user c.args.size ∷ []) c.box_room.ensures.boxes)
     ∙ ap (λ (r : Rows). record { boxes = r.boxes ++ box_row c.args.from.0 c.args.user c.args.size ∷ []; points = r.points }) c.self.view_is

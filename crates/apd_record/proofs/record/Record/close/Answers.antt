@@ -1,4 +1,4 @@
-use Rattle.std.proofs.Common.{List, ℕ, ◌∷◌, [], ◌∙◌, ap, subst, sym}
+use Rattle.std.proofs.Common.{List, ℕ, [], ◌∙◌, ap, subst, sym}
 use Rattle.apd_term.specs.Term.{Term}
 use Rattle.apd_record.specs.Kept.{told, IsHeld}
 use Rattle.apd_record.specs.Open.{told_by, AreIn, Rows}
@@ -11,9 +11,9 @@ invariant_of-result c =
     let r : Rows = record { boxes = c.rows.inside.boxes.items; points = c.rows.inside.points.items } in
     let sound : IsKept (told_by c.args.kept r) = subst (λ (r : Rows). IsKept (told_by c.args.kept r)) (sym c.rows.view_is) c.requires.sound in
     let there : AreIn c.args.kept r = subst (λ (r : Rows). AreIn c.args.kept r) (sym c.rows.view_is) c.requires.there in
-    subst (λ (ts : List Term). IsHeld ts c.new-2.result.items c.args.kept c.rows.inside.boxes.items c.rows.inside.points.items (c.rows.inside.query ∷ c.rows.inside.owned.items) c.rows.inside.earlier.items c.rows.inside.order) (sym c.new.ensures)
-    (subst (λ (ps : List ℕ). IsHeld [] ps c.args.kept c.rows.inside.boxes.items c.rows.inside.points.items (c.rows.inside.query ∷ c.rows.inside.owned.items) c.rows.inside.earlier.items c.rows.inside.order) (sym c.new-2.ensures.items)
-    (closed c.args.kept r (c.rows.inside.query ∷ c.rows.inside.owned.items) c.rows.inside.earlier.items c.rows.inside.order c.rows.invariant sound there))
+    subst (λ (ts : List Term). IsHeld ts c.new-2.result.items c.args.kept c.rows.inside.boxes.items c.rows.inside.points.items c.rows.inside.owned c.rows.inside.earlier.items c.rows.inside.order) (sym c.new.ensures)
+    (subst (λ (ps : List ℕ). IsHeld [] ps c.args.kept c.rows.inside.boxes.items c.rows.inside.points.items c.rows.inside.owned c.rows.inside.earlier.items c.rows.inside.order) (sym c.new-2.ensures.items)
+    (closed c.args.kept r c.rows.inside.owned c.rows.inside.earlier.items c.rows.inside.order c.rows.invariant sound there))
 
 pub returns : goal.returns
 returns c =

@@ -90,9 +90,8 @@ impl Search {
         }
     }
 
-    /// The same where somebody reads ports. It is a function of its own, with all that it calls, so that a port is read
-    /// through no memory and the loop of a run has the registers.
-    #[inline(never)]
+    /// The same where somebody reads ports.
+    #[inline(always)]
     fn read_call(&mut self, alloc: Global, unread: Unread) -> Result<Option<Box<Item>>, AllocError>
         requires boxes { self.old.boxes < 2 ^ 32 - 1 }
         requires goes { IsOpen self.old.boxes self.old.frames.current }
@@ -104,8 +103,23 @@ impl Search {
         if unread.ports {
             return Ok(None);
         }
-        let port = Box::new(alloc, self.called()?)?;
+        let port = self.written_call(alloc)?;
         Ok(Some(port))
+    }
+
+    /// The Call, written out. It is a function of its own, with all that it calls, so that the loop of a run has the
+    /// registers.
+    #[inline(never)]
+    fn written_call(&mut self, alloc: Global) -> Result<Box<Item>, AllocError>
+        requires boxes { self.old.boxes < 2 ^ 32 - 1 }
+        requires goes { IsOpen self.old.boxes self.old.frames.current }
+        requires calls { (n : ℕ) → Ahead.Call ≡ ahead_of (look_of self.old.frames.current n) }
+        ensures called { IfOk result
+            (λ port. IsCalled self.old.frames.current (self.old.boxes + 1) port.value) }
+        ensures kept { self.new ≡ self.old }
+    {
+        let port = Box::new(alloc, self.called()?)?;
+        Ok(port)
     }
 
     /// The innermost frame's next goal is called, in a new box.

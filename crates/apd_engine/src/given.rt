@@ -23,7 +23,7 @@ use std::boxed::Box;
 /// What nobody reads, so that it may be given bare.
 #[derive(Clone, Copy)]
 pub struct Unread {
-    /// Ports. A Call is read with the points, where a record is made of them.
+    /// Ports. Where points are read, a Call is told all the same.
     pub ports: bool,
     /// Points. Where they are read, each point is kept.
     pub points: bool,
@@ -164,6 +164,25 @@ pub fn leaving(
     }
 }
 
+/// Fail of the goal that the frames call in this box, written out. It is a function of its own, so that the loop of a
+/// run has the registers.
+#[inline(never)]
+fn written_fail(frames: &mut Following, alloc: Global, box_no: u32) -> Result<Box<Item>, AllocError>
+    requires deep { MayCall frames.old.current }
+    requires goal { (g : Called) × Calls frames.old.current box_no g }
+    ensures failed { IfOk result (λ item. (g : Called) → Calls frames.old.current box_no g →
+        item.value ≡ at_port Port.Fail g) }
+    ensures kept { frames.new ≡ frames.old }
+{
+    match frames.look(box_no)? {
+        Look::Goal(g) => {
+            let item = Box::new(alloc, event(Port::Fail, g))?;
+            Ok(item)
+        }
+        _ => unreachable!(),
+    }
+}
+
 /// Fail of the goal that the frames call in this box; what was saved for it is given up.
 #[inline(always)]
 pub fn fail(
@@ -183,11 +202,7 @@ pub fn fail(
         frames.forget();
         return Ok(Given::Port(Port::Fail, box_no));
     }
-    match frames.look(box_no)? {
-        Look::Goal(g) => {
-            frames.forget();
-            whole(alloc, event(Port::Fail, g))
-        }
-        _ => unreachable!(),
-    }
+    let item = written_fail(frames, alloc, box_no)?;
+    frames.forget();
+    Ok(Given::Whole(item))
 }

@@ -7,9 +7,10 @@ ghost use Rattle.apd_ports.specs.declared.point.PointId.{PointId};
 ghost use Rattle.apd_record.specs.Index.{id_of};
 ghost use Rattle.apd_record.specs.Recorded.{is_step};
 ghost use Rattle.apd_record.specs.Ordered.{AreInTurn, AreRising, kept_child, kept_follow};
+ghost use Rattle.apd_record.specs.Packed.{points_of};
 
 use crate::kept::KeptBox;
-use crate::packed::PackedPoint;
+use crate::points::Points;
 use apd_ports::{PointId, Step};
 
 /// Whether a point followed this one after the exit.
@@ -23,30 +24,30 @@ fn is_step(before: Option<Step>, p: PointId, exit: PointId) -> bool
 }
 
 /// The point that followed, where it stands right behind the exit if there is one.
-fn follow_in_turn(points: &Vec<PackedPoint>, p: PointId, exit: PointId) -> Option<PointId>
-    requires few { length points.now.items < 2 ^ 32 }
-    requires in_turn { AreInTurn points.now.items }
-    ensures point { result ≡ option_map id_of (kept_follow points.now.items p.0 exit.0) }
-    ensures there { IfSome result (λ (q : PointId). q.0 < length points.now.items) }
+fn follow_in_turn(points: &Points, p: PointId, exit: PointId) -> Option<PointId>
+    requires few { length points.now.rows < 2 ^ 32 }
+    requires in_turn { AreInTurn (points_of points.now) }
+    ensures point { result ≡ option_map id_of (kept_follow (points_of points.now) p.0 exit.0) }
+    ensures there { IfSome result (λ (q : PointId). q.0 < length points.now.rows) }
 {
     let next = exit.0 as usize + 1;
     if next >= points.len() {
         return None;
     }
-    if is_step(points[next].read().before, p, exit) {
+    if is_step(points.read(next as u32).point.before, p, exit) {
         return Some(PointId(next as u32));
     }
     None
 }
 
 /// The point that followed, wherever it stands.
-fn follow_anywhere(points: &Vec<PackedPoint>, p: PointId, exit: PointId) -> Option<PointId>
-    requires { length points.now.items < 2 ^ 32 }
-    ensures point { result ≡ option_map id_of (kept_follow points.now.items p.0 exit.0) }
-    ensures there { IfSome result (λ (q : PointId). q.0 < length points.now.items) }
+fn follow_anywhere(points: &Points, p: PointId, exit: PointId) -> Option<PointId>
+    requires { length points.now.rows < 2 ^ 32 }
+    ensures point { result ≡ option_map id_of (kept_follow (points_of points.now) p.0 exit.0) }
+    ensures there { IfSome result (λ (q : PointId). q.0 < length points.now.rows) }
 {
     'points: for place in 0..points.len() {
-        if is_step(points[place].read().before, p, exit) {
+        if is_step(points.read(place as u32).point.before, p, exit) {
             return Some(PointId(place as u32));
         }
     }
@@ -54,16 +55,11 @@ fn follow_anywhere(points: &Vec<PackedPoint>, p: PointId, exit: PointId) -> Opti
 }
 
 /// The point that followed this one when its goal exited at the other.
-pub fn find_follow(
-    in_turn: bool,
-    points: &Vec<PackedPoint>,
-    p: PointId,
-    exit: PointId,
-) -> Option<PointId>
-    requires few { length points.now.items < 2 ^ 32 }
-    requires in_turn { OnTrue in_turn (AreInTurn points.now.items) }
-    ensures point { result ≡ option_map id_of (kept_follow points.now.items p.0 exit.0) }
-    ensures there { IfSome result (λ (q : PointId). q.0 < length points.now.items) }
+pub fn find_follow(in_turn: bool, points: &Points, p: PointId, exit: PointId) -> Option<PointId>
+    requires few { length points.now.rows < 2 ^ 32 }
+    requires in_turn { OnTrue in_turn (AreInTurn (points_of points.now)) }
+    ensures point { result ≡ option_map id_of (kept_follow (points_of points.now) p.0 exit.0) }
+    ensures there { IfSome result (λ (q : PointId). q.0 < length points.now.rows) }
 {
     if in_turn {
         return follow_in_turn(points, p, exit);

@@ -11,6 +11,7 @@ pub mod laws;
 pub mod ongoing;
 mod order;
 mod packed;
+mod points;
 pub mod record;
 mod room;
 pub mod rows;

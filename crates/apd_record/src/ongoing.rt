@@ -7,9 +7,8 @@ ghost use Rattle.apd_record.specs.Open.{no_rows, noted_row, with_box_row, with_p
 use crate::beside::Owners;
 use crate::kept::{KeptBox, KeptPoint, TuplePlace, called_box};
 use crate::order::{NONE_YET, Order, stays_in_turn, stays_rising};
-use crate::packed::PackedPoint;
-use crate::room::{box_room, pass, point_room};
-use apd_past::maybe_number::MaybeNumber;
+use crate::points::Points;
+use crate::room::{box_room, pass};
 use apd_ports::{PointId, Port, Step};
 use apd_tuples::spots::Numbered;
 use std::alloc::{AllocError, Global};
@@ -31,21 +30,20 @@ pub struct OpenPoint {
 pub struct Open {
     pub(crate) alloc: Global,
     pub(crate) boxes: Vec<KeptBox>,
-    pub(crate) points: Vec<PackedPoint>,
+    pub(crate) points: Points,
     pub(crate) owned: Owners,
-    pub(crate) earlier: Vec<MaybeNumber>,
     pub(crate) order: Order,
 }
 
 impl Model for Open {
-    ghost use Rattle.std.specs.Prelude.{◌∷◌};
     ghost use Rattle.apd_record.specs.Open.{Rows, IsBeside};
+    ghost use Rattle.apd_record.specs.Packed.{links_of, points_of};
 
     ghost Value = { Rows };
 
-    ghost view = { λ o. record { boxes = o.boxes.items; points = o.points.items } };
+    ghost view = { λ o. record { boxes = o.boxes.items; points = points_of o.points } };
 
-    ghost invariant = { λ o. IsBeside (record { boxes = o.boxes.items; points = o.points.items }) o.owned o.earlier.items o.order };
+    ghost invariant = { λ o. IsBeside (record { boxes = o.boxes.items; points = points_of o.points }) o.owned (links_of o.points) o.order };
 }
 
 /// Whether all goals are solved.
@@ -63,9 +61,8 @@ impl Open {
         Open {
             alloc,
             boxes: Vec::new(alloc),
-            points: Vec::new(alloc),
+            points: Points::new(alloc),
             owned: Owners::new(alloc),
-            earlier: Vec::new(alloc),
             order: NONE_YET,
         }
     }
@@ -98,20 +95,19 @@ impl Open {
         ensures err { OnErr result (self.new ≡ self.old) }
     {
         let number = self.points.len() as u32;
-        let row = PackedPoint::of(KeptPoint {
+        self.points.room()?;
+        let is_exit = are_solved(point.done, point.tuple.goals);
+        let is_first = point.done == 0;
+        let earlier = self.owned.add(point.owner, number, is_first, is_exit)?;
+        self.order.in_turn = stays_in_turn(self.order.in_turn, point.before, number);
+        let row = KeptPoint {
             owner: point.owner,
             clause: point.clause,
             done: point.done,
             tuple: TuplePlace::Kept(point.tuple),
             before: point.before,
-        })?;
-        point_room(&mut self.points, &mut self.earlier)?;
-        let is_exit = are_solved(point.done, point.tuple.goals);
-        let is_first = point.done == 0;
-        let earlier = self.owned.add(point.owner, number, is_first, is_exit)?;
-        self.earlier.push_reserved(earlier);
-        self.order.in_turn = stays_in_turn(self.order.in_turn, point.before, number);
-        self.points.push_reserved(row);
+        };
+        self.points.push_reserved(row, earlier.get());
         Ok(PointId(number))
     }
 

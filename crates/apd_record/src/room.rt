@@ -1,4 +1,4 @@
-//! Room for boxes and points, and ports that boxes pass.
+//! Room for boxes, and ports that boxes pass.
 
 ghost use Rattle.std.specs.Prelude.{◌≡◌, ◌<◌, ◌++◌, ◌∷◌, [], length, OnOk, OnErr, vec_len, vec_capacity};
 ghost use Rattle.apd_record.specs.Recorded.{completes};
@@ -7,9 +7,7 @@ ghost use Rattle.apd_record.specs.Kept.{kept_passed};
 
 use crate::beside::Owners;
 use crate::kept::KeptBox;
-use crate::packed::PackedPoint;
 use apd_base::stack::room_for_one;
-use apd_past::maybe_number::MaybeNumber;
 use apd_ports::Port;
 use std::alloc::AllocError;
 
@@ -44,21 +42,4 @@ pub fn box_room(boxes: &mut Vec<KeptBox>, owned: &mut Owners) -> Result<(), Allo
 {
     room_for_one(boxes)?;
     owned.open()
-}
-
-/// Room for a point.
-#[inline(always)]
-pub fn point_room(
-    points: &mut Vec<PackedPoint>,
-    earlier: &mut Vec<MaybeNumber>,
-) -> Result<(), AllocError>
-    ensures points { points.new.items ≡ points.old.items }
-    ensures earlier { earlier.new.items ≡ earlier.old.items }
-    ensures points_len { vec_len points.new ≡ vec_len points.old }
-    ensures earlier_len { vec_len earlier.new ≡ vec_len earlier.old }
-    ensures room { OnOk result (vec_len points.new < vec_capacity points.new) }
-    ensures earlier_room { OnOk result (vec_len earlier.new < vec_capacity earlier.new) }
-{
-    room_for_one(points)?;
-    room_for_one(earlier)
 }

@@ -29,7 +29,7 @@ alone_read f (Var v) rest h = absurd h
 alone_read f (Int i) rest h = record { one = refl; none = λ v o. absurd o }
 alone_read f (Fun g n) rest h = rw h (record { one = refl; none = λ v o. absurd o })
 
-alone_at : (s : Stored) (c : ℕ) → c < length s.cells → IsConstant (get_or s.cells c (Var 0)) → IsAlone (term_at s c)
+pub alone_at : (s : Stored) (c : ℕ) → c < length s.cells → IsConstant (get_or s.cells c (Var 0)) → IsAlone (term_at s c)
 alone_at s c l h =
     let x = get_or s.cells c (Var 0) in
     let e : drop c s.cells ≡ x ∷ drop (c + 1) s.cells = drop_more s.cells c (Var 0) l in

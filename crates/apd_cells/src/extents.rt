@@ -45,6 +45,7 @@ impl Extents {
     }
 
     /// The extent of the term at a cell, where it is known; none says nothing.
+    #[inline(always)]
     pub fn known(&self, cell: usize) -> Option<Extent>
         ensures { (s : Stored) → IsSized s self.now → IfSome result (HasExtent s cell) }
     {
@@ -56,6 +57,7 @@ impl Extents {
     }
 
     /// The same where the term was measured lately.
+    #[inline(always)]
     pub fn recalled(&self, cell: usize) -> Option<Extent>
         ensures { (s : Stored) → IsSized s self.now → IfSome result (HasExtent s cell) }
     {
@@ -88,6 +90,7 @@ impl Extents {
     }
 
     /// Notes the extent of a term that was measured, or nothing, where the trail has so many notes.
+    #[inline(always)]
     pub fn remember(&mut self, cell: usize, extent: Extent, since: usize) -> Result<(), AllocError>
         ensures { (s : Stored) → HasExtent s cell extent → since ≡ length s.trail →
             IsSized s self.old → IsSized s self.new }

@@ -19,7 +19,7 @@ use crate::kept::{KeptBinding, KeptNote};
 use crate::known::Extent;
 use crate::live::Live;
 use crate::slots::{Slot, Stretch, append_for};
-use crate::symbols::{append, compound_at};
+use crate::symbols::{append, compound_at, constant_at};
 use apd_base::stack::Stack;
 use apd_term::term::term_end;
 use apd_term::{Flat, Sym};
@@ -229,24 +229,22 @@ impl Heap {
         self.is_flat()
     }
 
-    /// Whether the variable is so new that it can't stand in the term at a cell; false says nothing.
+    /// Whether a constant is at the cell, or the variable is too new to stand in the term there; false says nothing.
     pub fn is_apart(&self, v: u64, at: usize) -> bool
         requires { at < length self.now.cells }
         ensures { OnTrue result (¬ Occurs v (term_at self.now at)) }
     {
-        if at >= self.front.cells {
-            return false;
+        if constant_at(self.cells.as_slice(), at) {
+            return true;
         }
-        if v < self.front.variables as u64 {
-            return false;
-        }
-        if v < self.touched as u64 {
+        if at >= self.front.cells || v < self.front.variables as u64 || v < self.touched as u64 {
             return false;
         }
         true
     }
 
     /// The extent of the term at a cell, where it is known; none says nothing.
+    #[inline(always)]
     pub fn known(&self, at: usize) -> Option<Extent>
         ensures { IfSome result (HasExtent self.now at) }
     {
@@ -254,6 +252,7 @@ impl Heap {
     }
 
     /// The extent of the term at a cell, where it was measured lately; none says nothing.
+    #[inline(always)]
     pub fn recalled(&self, at: usize) -> Option<Extent>
         ensures { IfSome result (HasExtent self.now at) }
     {
@@ -261,6 +260,7 @@ impl Heap {
     }
 
     /// Notes the extent of a term that was measured.
+    #[inline(always)]
     pub fn remember(&mut self, at: usize, extent: Extent) -> Result<(), AllocError>
         requires { HasExtent self.old at extent }
         ensures { self.new ≡ self.old }

@@ -9,7 +9,7 @@ ghost use Rattle.apd_term.specs.declared.term.Sym.TheVariants.{Var};
 ghost use Rattle.apd_cells.specs.Known.{AreKnown, AreRecent, HasExtent, IsConstant};
 ghost use Rattle.apd_cells.specs.Stored.{Stored};
 
-use apd_base::stack::Stack;
+use apd_base::stack::{Stack, room_for_one};
 use apd_term::Sym;
 use std::alloc::AllocError;
 use std::marker::Model;
@@ -108,6 +108,7 @@ impl KeptExtent {
 }
 
 /// What is known of a cell's term, if it stands at this place, counted from the oldest.
+#[inline(always)]
 pub fn known_at(known: &Stack<KeptExtent>, place: usize, cell: usize) -> Option<Extent>
     ensures { (s : Stored) (n a : ℕ) → n ≤ length s.trail → AreKnown s n a known.now →
         IfSome result (HasExtent s cell) }
@@ -121,6 +122,7 @@ pub fn known_at(known: &Stack<KeptExtent>, place: usize, cell: usize) -> Option<
 }
 
 /// What was measured lately of a cell's term, if it stands at this place, counted from the oldest.
+#[inline(always)]
 pub fn recent_at(recent: &Stack<KeptExtent>, place: usize, cell: usize) -> Option<Extent>
     ensures { (s : Stored) (n : ℕ) → n ≤ length s.trail → AreRecent s n recent.now →
         IfSome result (HasExtent s cell) }
@@ -162,6 +164,7 @@ pub fn forget_measured(recent: &mut Stack<KeptExtent>, cells: &[Sym], to: usize)
 pub const MOST_RECENT: usize = 64;
 
 /// Forgets all that was measured, where it is much.
+#[inline(always)]
 pub fn forget_many(recent: &mut Stack<KeptExtent>)
     ensures { (recent.new ≡ recent.old) ⊎ (recent.new ≡ []) }
 {
@@ -217,11 +220,13 @@ pub fn above_all(known: &Stack<KeptExtent>, above: u64) -> u64
 const MOST: usize = 4_294_967_295;
 
 /// Makes room for the place of a cell.
+#[inline(always)]
 pub fn make_place(places: &mut Vec<u32>, cell: usize) -> Result<(), AllocError>
     ensures { OnOk result (cell < length places.new.items) }
 {
     'room: while places.len() <= cell {
-        places.push(0)?;
+        room_for_one(places)?;
+        places.push_reserved(0);
     }
     Ok(())
 }

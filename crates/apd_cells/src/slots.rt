@@ -8,6 +8,7 @@ ghost use Rattle.apd_cells.specs.Stretches.{AreMeant, AreStretches, IsMeant, IsS
 
 use crate::kept::KeptBinding;
 use crate::symbols::{above_symbol, make_room};
+use apd_base::stack::room_for_one;
 use apd_term::Sym;
 use std::alloc::AllocError;
 
@@ -48,7 +49,8 @@ fn make_slot(slots: &mut Vec<Slot>, v: u64) -> Result<(), AllocError>
     ensures same { HasRoom slots.old.items slots.new.items }
 {
     'room: while slots.len() as u64 <= v {
-        slots.push(Slot::New)?;
+        room_for_one(slots)?;
+        slots.push_reserved(Slot::New);
     }
     Ok(())
 }
@@ -90,6 +92,7 @@ fn place(
 
 /// Puts the symbols of a clause's term behind the cells, and tells how many variables there are then, with `there` of them
 /// before.
+#[inline(always)]
 fn append_placed(
     cells: &mut Vec<Sym>,
     slots: &mut Vec<Slot>,
@@ -165,6 +168,7 @@ fn number_behind(number: usize, size: usize) -> usize {
 
 /// Puts the symbols of a clause's term behind the cells as [`append_placed`] does, but for stretches of them one symbol
 /// each.
+#[inline(never)]
 fn append_copied(
     cells: &mut Vec<Sym>,
     slots: &mut Vec<Slot>,

@@ -1,15 +1,18 @@
 //! Symbols of terms that are put behind others, and whether a symbol has arguments.
 
 ghost use Rattle.std.specs.Prelude.{◌≡◌, ℕ, ◌+◌, ◌<◌, ◌^◌, ◌++◌, get_or, length, max, IfOk, OnOk, take};
+ghost use Rattle.std.specs.Bool.{OnTrue};
 ghost use Rattle.apd_term.specs.Term.{Occurs, spell, variables};
 ghost use Rattle.apd_term.specs.Canonical.{shifted};
 ghost use Rattle.apd_term.specs.declared.term.Sym.TheVariants.{Var};
 ghost use Rattle.apd_term.specs.Spelling.{variable_in};
 ghost use Rattle.apd_cells.specs.Flat.{compound_in};
 ghost use Rattle.apd_cells.specs.Heap.{HasMore, raised};
+ghost use Rattle.apd_cells.specs.Known.{IsConstant};
 ghost use Rattle.apd_cells.specs.Store.{above};
 
 use crate::kept::KeptBinding;
+use apd_base::stack::room_for_one;
 use apd_term::{Flat, Sym};
 use std::alloc::AllocError;
 
@@ -21,7 +24,8 @@ pub(crate) fn make_room(bindings: &mut Vec<KeptBinding>, count: usize) -> Result
         (length bindings.new.items ≡ max (length bindings.old.items) count) }
 {
     'room: while bindings.len() < count {
-        bindings.push(KeptBinding::free())?;
+        room_for_one(bindings)?;
+        bindings.push_reserved(KeptBinding::free());
     }
     Ok(())
 }
@@ -35,6 +39,18 @@ pub(crate) fn compound_at(cells: &[Sym], at: usize) -> usize
         Sym::Fun(_, 0) => 0,
         Sym::Fun(..) => 1,
         _ => 0,
+    }
+}
+
+/// Whether an integer or an atom is at this place.
+pub(crate) fn constant_at(cells: &[Sym], at: usize) -> bool
+    requires { at < length cells.now }
+    ensures { OnTrue result (IsConstant (get_or cells.now at (Var 0))) }
+{
+    match cells[at] {
+        Sym::Int(_) => true,
+        Sym::Fun(_, 0) => true,
+        _ => false,
     }
 }
 

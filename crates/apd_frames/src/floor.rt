@@ -127,6 +127,15 @@ pub fn lay(
     }
 }
 
+/// Whether the clause may have pieces: it is none before the first one that has some, and none behind the last.
+#[inline(always)]
+pub fn may_share(floor: &[Laid], clause: u32) -> bool {
+    let (Some(first), Some(last)) = (floor.first(), floor.last()) else {
+        return false;
+    };
+    first.piece.clause <= clause && clause <= last.piece.clause
+}
+
 /// The pieces of a clause, which stand together.
 fn laid_of(floor: &[Laid], clause: u32) -> &[Laid] {
     let from = floor.partition_point(|laid| laid.piece.clause < clause);
@@ -159,7 +168,8 @@ fn expect_laid(
     store.expect(hints.as_slice())
 }
 
-/// The same of a clause's head, where there are pieces at all.
+/// The same of a clause's head. Nothing is expected of the clause where it can't have pieces.
+#[inline(always)]
 pub fn expect_head(
     store: &mut Store,
     hints: &mut Vec<Hint>,
@@ -168,8 +178,8 @@ pub fn expect_head(
 ) -> Result<(), AllocError>
     ensures { store.new ≡ store.old }
 {
-    if floor.is_empty() {
-        return Ok(());
+    if !may_share(floor, clause) {
+        return store.expect(&[]);
     }
     expect_laid(store, hints, laid_of(floor, clause), 0)
 }

@@ -15,7 +15,7 @@ ghost use Rattle.apd_frames.specs.Links.{link_of};
 ghost use Rattle.apd_frames.specs.Linked.{frames_at, IsFramed, IsThere};
 ghost use Rattle.apd_frames.specs.Instances.{terms_in, instance_where, tuple_in, raised_in, CanonicalWithin, IsWithin, HasBody, HasGrown, InstantiatesVariant};
 
-use crate::floor::{Laid, expect_goal, expect_head, lay};
+use crate::floor::{Laid, expect_goal, expect_head, lay, may_share};
 use crate::links::{LinkRef, Links};
 use crate::small::is_small;
 use apd_base::{MOST_GOALS, MOST_INSTANCE_SYMBOLS};
@@ -192,7 +192,7 @@ fn load_goals(
     ensures kept { Keeps store.old store.new }
     ensures more { length store.old.cells ≤ length store.new.cells }
 {
-    if made.floor.is_empty() {
+    if !may_share(made.floor.as_slice(), clause) {
         return load_body(store, &mut made.goals, &mut made.slots, body);
     }
     load_sharing(store, made, body, clause)

@@ -2,7 +2,7 @@
 
 ghost use Rattle.std.specs.Prelude.{◌≡◌, ◌≤◌, List, length, IfOk};
 ghost use Rattle.apd_trace.specs.declared.frame.Frame.{Frame};
-ghost use Rattle.apd_frames.specs.Instances.{cell_in, tuple_in};
+ghost use Rattle.apd_frames.specs.Instances.{cell_in, tuple_in, IsInside};
 ghost use Rattle.apd_frames.specs.Kept.{fits};
 ghost use Rattle.apd_frames.specs.Linked.{IsThere};
 ghost use Rattle.apd_frames.specs.Links.{instance_of, link_of};
@@ -50,6 +50,32 @@ fn cell_at(head: Cell, goals: &[Cell], place: usize) -> Cell
     goals[place - 1]
 }
 
+/// What is seen of the instance of a head and goals, in a walk over its symbols.
+#[inline(never)]
+fn walked(store: &mut Store, head: Cell, goals: &[Cell]) -> Result<Measure, AllocError>
+    requires { IsInside (length store.old.cells) (instance_of head goals.now) }
+    ensures measured { IfOk result
+        (λ m. IsMeasured m (tuple_in store.old (instance_of head goals.now))) }
+    ensures same { store.new ≡ store.old }
+{
+    let mut left = MOST_INSTANCE_SYMBOLS;
+    let mut is_ground = true;
+    let mut place: usize = 0;
+    'places: while place <= goals.len() {
+        let cell = cell_at(head, goals, place);
+        let Some(term) = store.measure(cell, left)? else {
+            return Ok(Measure::TooLarge);
+        };
+        left -= term.size;
+        is_ground = is_ground && term.above == 0;
+        place += 1;
+    }
+    if is_ground {
+        return Ok(Measure::Ground);
+    }
+    Ok(Measure::Fits)
+}
+
 /// What is seen of a link's instance. No symbol is passed where the store tells that no term is long: then it isn't seen
 /// whether variables stand there, and a diagnosis that makes a suspect of it reads it.
 #[inline(always)]
@@ -62,20 +88,5 @@ pub fn measured(store: &mut Store, link: &LinkRef<'_>) -> Result<Measure, AllocE
     if link.goals.len() <= MOST_GOALS && store.are_within(MOST_OF_EACH) {
         return Ok(Measure::Fits);
     }
-    let mut left = MOST_INSTANCE_SYMBOLS;
-    let mut is_ground = true;
-    let mut place: usize = 0;
-    'places: while place <= link.goals.len() {
-        let cell = cell_at(link.head, link.goals, place);
-        let Some(term) = store.measure(cell, left)? else {
-            return Ok(Measure::TooLarge);
-        };
-        left -= term.size;
-        is_ground = is_ground && term.above == 0;
-        place += 1;
-    }
-    if is_ground {
-        return Ok(Measure::Ground);
-    }
-    Ok(Measure::Fits)
+    walked(store, link.head, link.goals)
 }

@@ -144,6 +144,31 @@ const MANY_STEPS: u64 = 64;
 
 /// The extent of the term at a cell; none exactly where its size is over the limit. It is kept if it takes long to count
 /// it.
+#[inline(never)]
+fn kept_anew(
+    heap: &mut Heap,
+    alloc: Global,
+    at: usize,
+    limit: u64,
+) -> Result<Option<Extent>, AllocError>
+    requires { at < length heap.old.cells }
+    ensures extent { IfOk result (MeasuredWithin heap.old at limit) }
+    ensures same { heap.new ≡ heap.old }
+{
+    let Some(count) = count_with_front(heap, alloc, at, limit)? else {
+        return Ok(None);
+    };
+    if count.steps > MANY_STEPS && count.extent.above == 0 {
+        keep_tails(heap, alloc, at, limit)?;
+    }
+    if is_long(count) {
+        heap.keep(at, count.extent)?;
+    }
+    Ok(Some(count.extent))
+}
+
+/// The same, where it may be known.
+#[inline(always)]
 fn kept_within(
     heap: &mut Heap,
     alloc: Global,
@@ -160,16 +185,7 @@ fn kept_within(
         }
         return Ok(Some(extent));
     }
-    let Some(count) = count_with_front(heap, alloc, at, limit)? else {
-        return Ok(None);
-    };
-    if count.steps > MANY_STEPS && count.extent.above == 0 {
-        keep_tails(heap, alloc, at, limit)?;
-    }
-    if is_long(count) {
-        heap.keep(at, count.extent)?;
-    }
-    Ok(Some(count.extent))
+    kept_anew(heap, alloc, at, limit)
 }
 
 /// The same as [`counted_within`] tells, which is asked where the terms that bindings lead to aren't known.
@@ -193,6 +209,7 @@ fn count_with_front(
 
 /// Passes the first symbol of a run, or the first term, where a binding leads to it; none only where that is over the
 /// limit.
+#[inline(always)]
 fn measure_led(
     heap: &mut Heap,
     alloc: Global,
@@ -226,6 +243,7 @@ fn measure_led(
 }
 
 /// The same as [`measure_led`], which isn't asked where no variable is written.
+#[inline(always)]
 fn measure_part(
     heap: &mut Heap,
     alloc: Global,
@@ -247,6 +265,7 @@ fn measure_part(
 const FEW_SYMBOLS: u64 = 3;
 
 /// Notes the extent of a term that was measured, where it isn't short, and some terms have more symbols than are written.
+#[inline(always)]
 fn note_long(heap: &mut Heap, at: usize, extent: Extent) -> Result<(), AllocError>
     requires { HasExtent heap.old at extent }
     ensures { heap.new ≡ heap.old }
@@ -258,6 +277,7 @@ fn note_long(heap: &mut Heap, at: usize, extent: Extent) -> Result<(), AllocErro
 }
 
 /// The same as [`measured_within`] tells, by a count.
+#[inline(always)]
 fn measured_anew(
     heap: &mut Heap,
     alloc: Global,
@@ -286,6 +306,7 @@ fn measured_anew(
 
 /// The same as [`counted_within`] tells. The extents of long terms that bindings lead to are kept, and that of the term is
 /// noted, so that later counts needn't pass them.
+#[inline(always)]
 pub fn measured_within(
     heap: &mut Heap,
     alloc: Global,

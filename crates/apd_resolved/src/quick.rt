@@ -20,6 +20,7 @@ pub struct CountedPart {
 }
 
 /// The extent of a symbol. No store has a variable with the greatest number.
+#[inline(always)]
 pub fn extent_of(symbol: Sym) -> Result<Extent, AllocError>
     ensures { IfOk result (IsOfSymbol symbol) }
 {

@@ -42,8 +42,10 @@ pub enum Met {
     Symbol(usize),
 }
 
-/// Loads a term of a clause's term, whose symbols are its own from a place on.
-pub fn load_part(
+/// Loads a term of a clause's term, whose symbols are its own from a place on. What is expected of it isn't copied where it
+/// stands in the cells.
+#[inline(never)]
+fn load_sharing(
     heap: &mut Heap,
     solver: &mut Solver,
     slots: &mut Vec<Slot>,
@@ -62,6 +64,29 @@ pub fn load_part(
     let hints = solver.hints.as_slice();
     find_copied(heap, symbols, begin, hints, &mut solver.copied)?;
     heap.load_for(symbols, slots, solver.copied.as_slice())
+}
+
+/// The same, where mostly nothing is expected.
+#[inline(always)]
+pub fn load_part(
+    heap: &mut Heap,
+    solver: &mut Solver,
+    slots: &mut Vec<Slot>,
+    begin: usize,
+    symbols: &[Sym],
+) -> Result<usize, AllocError>
+    requires whole { IsWhole symbols.now }
+    requires slots { AreSlots heap.old.cells heap.old.variables slots.old.items }
+    ensures cell { IfOk result (λ c. c ≡ length heap.old.cells) }
+    ensures ok { OnOk result
+        (HasLoaded heap.old heap.new slots.old.items slots.new.items (term_of symbols.now)) }
+    ensures store { IsSound heap.old }
+    ensures err { OnErr result (heap.new ≡ heap.old) }
+{
+    if solver.hints.is_empty() {
+        return heap.load_for(symbols, slots, &[]);
+    }
+    load_sharing(heap, solver, slots, begin, symbols)
 }
 
 /// Makes a term of a head, which is loaded, and the term at a cell equal.

@@ -67,6 +67,7 @@ impl Model for Store {
 }
 
 /// Keeps these hints alone.
+#[inline(always)]
 fn keep_hints(kept: &mut Vec<Hint>, hints: &[Hint]) -> Result<(), AllocError> {
     kept.clear();
     for hint in hints {
@@ -129,6 +130,7 @@ impl Store {
 
     /// Of the clause's terms that are loaded next, and of its head, this is expected: where it is so, a term that stands in
     /// the store isn't copied.
+    #[inline(always)]
     pub fn expect(&mut self, hints: &[Hint]) -> Result<(), AllocError>
         ensures { self.new ≡ self.old }
     {
@@ -343,6 +345,7 @@ impl Store {
 
     /// The extent of the term at a cell; none exactly where its size is over the limit. What is counted of long terms
     /// is kept, so that later counts needn't pass them.
+    #[inline(always)]
     pub fn measure(&mut self, cell: Cell, limit: u64) -> Result<Option<Extent>, AllocError>
         requires { cell.0 < length self.old.cells }
         ensures extent { IfOk result (MeasuredWithin self.old cell.0 limit) }

@@ -1,7 +1,7 @@
 use Rattle.std.proofs.Common.{subst, sym}
 use Rattle.apd_cells.specs.Stretches.{AreMeant, AreStretches}
 use Rattle.apd_cells.specs.Store.{meaning}
-use Rattle.apd_unify.proofs.heads.load_part.Goals as goal
+use Rattle.apd_unify.proofs.heads.load_sharing.Goals as goal
 
 pub load_for-requires-clause-stretches : goal.load_for-requires-clause-stretches
 load_for-requires-clause-stretches c =

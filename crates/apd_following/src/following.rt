@@ -250,7 +250,7 @@ impl Following {
         self.linked.take_over(point)
     }
 
-    /// Saves the frames for a choice.
+    /// Saves the frames for a choice; want of memory also where the innermost link isn't the newest, where no search saves.
     #[inline(always)]
     pub fn save(&mut self) -> Result<(), AllocError>
         ensures saved { OnOk result (self.new ≡ record {

@@ -332,7 +332,7 @@ impl Linked {
         Ok(())
     }
 
-    /// Saves the frames for a choice.
+    /// Saves the frames for a choice; want of memory also where the innermost link isn't the newest, where no search saves.
     #[inline(always)]
     pub fn save(&mut self) -> Result<(), AllocError>
         requires { AreFramed self.old }

@@ -45,40 +45,6 @@ seeing_first s c l = record {
   variables_are = ap (flat_map variable_in) (append-nil (run_symbols s c 1) ∙ run_one s c l) ∙ flat_map-variables (term_at s c);
 }
 
-none_in : (x : Sym) → IsFixed x → variable_in x ≡ []
-none_in (Var v) f = absurd (f v refl)
-none_in (Int i) f = refl
-none_in (Fun g n) f = refl
-
-pub seeing_more : (s : Stored) (c : ℕ) (here next : Run) → IsSeeing s c here → PassesFixed s here next → IsSeeing s c next
-seeing_more s c here next h p = record {
-  right = p.passes.right;
-  variables_are =
-      sym (ap (λ vs. vs ++ flat_map variable_in (runs_symbols s (next ∷ []))) (none_in p.symbol p.fixed))
-      ∙ ap (flat_map variable_in) (sym p.passes.symbols) ∙ h.variables_are;
-}
-
--- fewer symbols are left
-pub seeing_smaller : (s : Stored) (here next : Run) → PassesFixed s here next → length (runs_symbols s (next ∷ [])) < length (runs_symbols s (here ∷ []))
-seeing_smaller s here next p = omega (arith, ap length p.passes.symbols)
-
--- nothing is left
-pub seeing_last : (s : Stored) (c : ℕ) (here : Run) → IsSeeing s c here → here.left ≡ 0 → variables (term_at s c) ≡ []
-seeing_last s c here h e = sym h.variables_are ∙ ap (λ n. flat_map variable_in (run_symbols s here.at n ++ [])) e
-
 -- no variable stands in the terms before those that are left
 pub record AreGround (s : Stored) (cells : List PastCell) (left : ℕ) : Type 0 where
   pub same : flat_map variables (terms_at s cells) ≡ flat_map variables (terms_at s (drop left cells))
-
-pub grounds_more : (s : Stored) (cells : List PastCell) (i : ℕ) (d : PastCell) → AreGround s cells i → i < length cells → variables (term_at s (get_or cells i d).0) ≡ []
-    → AreGround s cells (i + 1)
-grounds_more s cells i d h l g = record {
-  same = h.same ∙ ap (λ cs. flat_map variables (terms_at s cs)) (drop_more cells i d l)
-      ∙ ap (λ vs. vs ++ flat_map variables (terms_at s (drop (i + 1) cells))) g;
-}
-
-pub grounds_last : (s : Stored) (head : ℕ) (cells : List PastCell) (i : ℕ) → AreGround s cells i → length cells ≤ i → variables (term_at s head) ≡ []
-    → variables_of_tuple (tuple_at s head cells) ≡ []
-grounds_last s head cells i h l g =
-    ap (λ vs. vs ++ flat_map variables (terms_at s cells)) g
-    ∙ h.same ∙ ap (λ cs. flat_map variables (terms_at s cs)) (drop_all i cells l)

@@ -6,7 +6,7 @@ ghost use Rattle.apd_trace.specs.Frames.{look_of};
 ghost use Rattle.apd_engine.specs.Search.{GivesAlways, IsOpen, Waits, called_at, in_mode, left_at, stand};
 ghost use Rattle.apd_engine.specs.Given.{IsCalled, IsToldWhole, MayBeWhole, TellsAlways};
 
-use crate::given::{Given, ToldCall, Unread, event, is_user, whole};
+use crate::given::{Given, ToldCall, Unread, event, is_user, whole_again};
 use crate::search::{Choice, Mode, Search};
 use apd_frames::ahead::Ahead;
 use apd_ports::Port;
@@ -60,7 +60,7 @@ impl Search {
             }
             let port = self.called()?;
             self.step_in()?;
-            return whole(alloc, port);
+            return whole_again(&mut self.frames, alloc, port);
         }
         let port = self.read_call(alloc, unread)?;
         let is_user = is_user(self.frames.predicate());
@@ -118,8 +118,9 @@ impl Search {
             (λ port. IsCalled self.old.frames.current (self.old.boxes + 1) port.value) }
         ensures kept { self.new ≡ self.old }
     {
-        let port = Box::new(alloc, self.called()?)?;
-        Ok(port)
+        let port = self.called()?;
+        let boxed = self.frames.boxed(alloc, port)?;
+        Ok(boxed)
     }
 
     /// The innermost frame's next goal is called, in a new box.
@@ -161,7 +162,7 @@ impl Search {
         ensures tuples { OnOk result (self.new.frames.tuples ≡ self.old.frames.tuples) }
     {
         let item = self.ending()?;
-        whole(alloc, item)
+        whole_again(&mut self.frames, alloc, item)
     }
 
     /// The innermost frame exits, or answers: the whole item.

@@ -64,6 +64,26 @@ pub fn whole(alloc: Global, item: Item) -> Result<Given, AllocError>
     Ok(Given::Whole(item))
 }
 
+/// The same in the room of an item that was given up, where there is one.
+#[inline(always)]
+pub fn whole_again(frames: &mut Following, alloc: Global, item: Item) -> Result<Given, AllocError>
+    ensures whole { IfOk result (λ given. IsWhole given item) }
+    ensures kept { frames.new ≡ frames.old }
+{
+    let item = frames.boxed(alloc, item)?;
+    Ok(Given::Whole(item))
+}
+
+/// A Call that was shown is given up, where it was told whole.
+#[inline(always)]
+pub fn give_up_call(frames: &mut Following, port: Option<Box<Item>>)
+    ensures { frames.new ≡ frames.old }
+{
+    if let Some(item) = port {
+        frames.give_up(item);
+    }
+}
+
 /// The error of an instance that is too large.
 #[inline(never)]
 pub fn too_large(alloc: Global, box_no: u32) -> Result<Given, AllocError>
@@ -156,7 +176,7 @@ pub fn leaving(
 {
     if !unread.ports {
         let (left, point) = frames.exited()?;
-        return Ok((whole(alloc, event(port, left))?, point));
+        return Ok((whole_again(frames, alloc, event(port, left))?, point));
     }
     match frames.newest() {
         None => unreachable!(),
@@ -176,7 +196,7 @@ fn written_fail(frames: &mut Following, alloc: Global, box_no: u32) -> Result<Bo
 {
     match frames.look(box_no)? {
         Look::Goal(g) => {
-            let item = Box::new(alloc, event(Port::Fail, g))?;
+            let item = frames.boxed(alloc, event(Port::Fail, g))?;
             Ok(item)
         }
         _ => unreachable!(),

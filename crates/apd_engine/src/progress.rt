@@ -14,7 +14,7 @@ ghost use Rattle.apd_engine.specs.Progress.{Course, HasEnded, IsFirst, IsOn, ite
 ghost use Rattle.apd_engine.specs.Progress.{PassesAnswer, PassesLater};
 ghost use Rattle.apd_engine.specs.Recording.{HasRow, MayAdd, rows_held};
 
-use crate::given::{Given, Unread};
+use crate::given::{Given, Unread, give_up_call};
 use crate::recording::tell_later;
 use crate::running::RunFault;
 use crate::search::Search;
@@ -177,7 +177,11 @@ impl Progress {
             Given::Whole(item) => match &*item {
                 Item::Made(_) => unreachable!(),
                 Item::Error(error, at) => Ok(Some(self.ended(RunEnd::Error(*error, *at)))),
-                Item::Passed(event) => self.pass_later(limits, hook, event),
+                Item::Passed(event) => {
+                    let passed = self.pass_later(limits, hook, event);
+                    self.search.frames.give_up(item);
+                    passed
+                }
                 Item::Answer(values) => self.pass_answer(limits, hook, values),
             },
             Given::Point => unreachable!(),
@@ -187,7 +191,8 @@ impl Progress {
                     return Ok(Some(self.ended(RunEnd::Budget)));
                 }
                 let from = self.search.newest();
-                show_call(hook, &mut self.rows, &mut self.held, call, from)?;
+                show_call(hook, &mut self.rows, &mut self.held, &call, from)?;
+                give_up_call(&mut self.search.frames, call.port);
                 self.ports += 1;
                 Ok(None)
             }

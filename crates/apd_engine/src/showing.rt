@@ -19,16 +19,16 @@ use apd_trace::Item;
 use std::boxed::Box;
 
 /// The Call is shown, where somebody reads ports.
-fn show_read<H: Hook>(hook: &mut H, port: Option<Box<Item>>) -> Result<(), RunFault>
-    ensures shown { (e : Event) → IsPortRead H.step hook.old e port →
+fn show_read<H: Hook>(hook: &mut H, port: &Option<Box<Item>>) -> Result<(), RunFault>
+    ensures shown { (e : Event) → IsPortRead H.step hook.old e port.now →
         OnOk result (H.step hook.old (ShownPort e) (Ok tt) hook.new) }
-    ensures cut { (e : Event) → IsPortRead H.step hook.old e port →
+    ensures cut { (e : Event) → IsPortRead H.step hook.old e port.now →
         IfErr result (FailsAt H.step hook.old (ShownPort e) hook.new) }
     ensures cause { Counts is_write_fault (H.faults hook.old) (H.faults hook.new) result }
 {
     match port {
         None => Ok(()),
-        Some(item) => match &*item {
+        Some(item) => match &**item {
             Item::Passed(event) => {
                 hook.event(event)?;
                 Ok(())
@@ -43,7 +43,7 @@ pub fn show_call<H: Hook>(
     hook: &mut H,
     rows: &mut Open,
     held: &mut Option<OpenPoint>,
-    call: ToldCall,
+    call: &ToldCall,
     from: PointId,
 ) -> Result<(), RunFault>
     requires held { MayAdd rows.old held.old }
@@ -51,16 +51,16 @@ pub fn show_call<H: Hook>(
     requires few_points { length rows.old.points < 2 ^ 32 - 1 }
     requires few_boxes { length rows.old.boxes < 2 ^ 32 - 1 }
     ensures told { OnOk result (rows.new ≡
-        with_box_row (rows_held rows.old held.old) from.0 call.is_user call.size) }
+        with_box_row (rows_held rows.old held.old) from.0 call.now.is_user call.now.size) }
     ensures none { held.new ≡ None }
-    ensures shown { (e : Event) → IsPortRead H.step hook.old e call.port →
+    ensures shown { (e : Event) → IsPortRead H.step hook.old e call.now.port →
         OnOk result (H.step hook.old (ShownPort e) (Ok tt) hook.new) }
-    ensures cut { (e : Event) → IsPortRead H.step hook.old e call.port →
+    ensures cut { (e : Event) → IsPortRead H.step hook.old e call.now.port →
         IfErr result (FailsAt H.step hook.old (ShownPort e) hook.new) }
     ensures cause { Counts is_write_fault (H.faults hook.old) (H.faults hook.new) result }
 {
     tell_call(rows, held, from, call.is_user, call.size)?;
-    show_read(hook, call.port)
+    show_read(hook, &call.port)
 }
 
 /// A port other than Call is passed, after a point that was held back.

@@ -100,6 +100,7 @@ impl Unrecorded {
                         return Ok(Some(self.ended(RunEnd::Budget)));
                     }
                     hook.event(event)?;
+                    self.search.frames.give_up(item);
                     self.ports += 1;
                     Ok(None)
                 }

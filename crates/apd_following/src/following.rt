@@ -19,6 +19,8 @@ ghost use Rattle.apd_unify.specs.Cells.{AreCells};
 ghost use Rattle.apd_tuples.specs.Tuples.{kept_tuples, tuple_of, AreThere, Holds};
 ghost use Rattle.apd_following.specs.Followed.{HoldsInnermost, IsGoalSized, IsKept, KeepsInstance, kept_of};
 
+mod room;
+
 use crate::facts::{fact_of_measure, size_of};
 use crate::tie::Tie;
 use apd_clauses::Program;
@@ -28,11 +30,12 @@ use apd_frames::linked::Linked;
 use apd_frames::measuring::Measure;
 use apd_frames::reading::next_goal;
 use apd_term::{Pred, Sym, Tuple};
-use apd_trace::{Called, Look};
+use apd_trace::{Called, Item, Look};
 use apd_tuples::spots::{Fact, Numbered, Spots};
 use apd_tuples::tuples::KeptTuples;
 use apd_unify::store::{Cell, Store};
 use std::alloc::{AllocError, Global};
+use std::boxed::Box;
 use std::marker::Model;
 
 /// Frames, and the tuples that were kept of them.
@@ -41,6 +44,8 @@ pub struct Following {
     linked: Linked,
     tie: Tie,
     spots: Spots,
+    /// The room of an item that was given up: the next one is put there.
+    room: Option<Box<Item>>,
 }
 
 impl Model for Following {
@@ -116,6 +121,7 @@ impl Following {
             linked,
             tie: Tie::new(alloc),
             spots: Spots::new(alloc),
+            room: None,
         })
     }
 
@@ -362,7 +368,13 @@ impl Following {
     pub fn into_kept(self) -> KeptTuples
         ensures { result ≡ self.tuples }
     {
-        let Following { linked, tie, spots } = self;
+        let Following {
+            linked,
+            tie,
+            spots,
+            room,
+        } = self;
+        drop(room);
         let cells = linked.store.into_cells();
         KeptTuples::new(tie.into_past(cells), spots)
     }

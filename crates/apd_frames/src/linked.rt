@@ -29,7 +29,7 @@ use apd_clauses::Program;
 use apd_ports::BUILTIN;
 use apd_term::tuple::canonical_tuple;
 use apd_term::{Pred, Sym, Tuple};
-use apd_trace::{Called, Look, Point, Step};
+use apd_trace::{Called, Item, Look, Point, Step};
 use apd_unify::scratch::Scratch;
 use apd_unify::store::Store;
 use std::alloc::{AllocError, Global};
@@ -144,6 +144,16 @@ impl Linked {
                 let called = left(&self.store, &self.links, &mut self.scratch, &link)?;
                 Ok((called, link.point))
             }
+        }
+    }
+
+    /// Gives up an item. The next goal or head that is read is written in the room of its term.
+    pub fn give_up(&mut self, item: Item)
+        ensures { IsSame self.old self.new }
+    {
+        match item {
+            Item::Passed(event) => self.scratch.give_up(event.atom),
+            other => drop(other),
         }
     }
 

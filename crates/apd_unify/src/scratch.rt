@@ -11,6 +11,7 @@ use apd_cells::walk::{Run, next_run, pass};
 use apd_term::{Flat, Sym, Syms};
 use std::alloc::{AllocError, Global};
 use std::marker::Model;
+use std::mem::replace;
 
 /// Room for so many symbols is taken before a term is written, so that most are written without asking for more.
 const ROOM: usize = 64;
@@ -21,6 +22,8 @@ const ROOM: usize = 64;
 pub struct Scratch {
     order: Order,
     runs: Stack<Run>,
+    /// The room of a term that was given up: the next term is written there.
+    room: Vec<Sym>,
 }
 
 impl Model for Scratch {
@@ -39,6 +42,7 @@ impl Scratch {
         Scratch {
             order: Order::new(alloc),
             runs: Stack::new(alloc),
+            room: Vec::new(alloc),
         }
     }
 
@@ -47,6 +51,24 @@ impl Scratch {
         ensures { self.new ≡ [] }
     {
         self.order.clear();
+    }
+
+    /// Room for symbols: that of a term that was given up, where there is one.
+    #[inline(always)]
+    fn take_room(&mut self, alloc: Global) -> Result<Vec<Sym>, AllocError>
+        ensures { self.new ≡ self.old }
+    {
+        if self.room.capacity() == 0 {
+            return Vec::with_capacity(alloc, ROOM);
+        }
+        Ok(replace(&mut self.room, Vec::new(alloc)))
+    }
+
+    /// Gives up a term that isn't needed any more: the next one is written in its room.
+    pub fn give_up(&mut self, term: Flat)
+        ensures { self.new ≡ self.old }
+    {
+        drop(replace(&mut self.room, term.into_symbols()));
     }
 }
 
@@ -92,7 +114,7 @@ pub fn numbered_within(
     requires { at < length heap.now.cells }
     ensures { IfOk result (Numbers scratch.old scratch.new (term_at heap.now at) limit) }
 {
-    let mut symbols = Vec::with_capacity(alloc, ROOM)?;
+    let mut symbols = scratch.take_room(alloc)?;
     let written = write_within(
         heap,
         &mut scratch.runs,

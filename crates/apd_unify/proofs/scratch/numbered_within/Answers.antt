@@ -28,4 +28,4 @@ returns c =
     let t = term_at c.args.heap.now c.args.at in
     let n = numbered_anew c.scratch.inside.order c.write_within.new.order t c.args.limit c.of_items.result c.of_symbols.result w
     (c.of_symbols.ensures ∙ term_of_from_spelled c.of_items.result (canonical_in c.write_within.new.order t) w.symbols_are) in
-    subst (λ o. IsNumberedAnew o c.write_within.new.order t c.args.limit c.of_symbols.result) c.scratch.view_is n
+    subst (λ o. IsNumberedAnew o c.write_within.new.order t c.args.limit c.of_symbols.result) (c.scratch.view_is ∙ c.take_room.ensures) n

@@ -53,11 +53,11 @@ returns-in_err-show_call-in-Call-clause-cut g c =
     let p = err_from_is_err_and c.from_residual-in_err-show_call-in-Call.result c.from_residual-in_err-show_call-in-Call.ensures.1 in
     rw (p.1, p.2) (cut_at_port g.course c.requires.1.1.1.1.showing k.holds within c.show_call.new.hook _ (c.in_err-show_call-in-Call.ensures.cut k.event (port_read g.H.Hook.step c.args.hook.now (record { ports = c.ignores_ports.result; points = false }) k.event c.in-Call.call.port k.read c.ignores_ports.ensures)))
 
-pub returns-in-Call-clause-passed : goal.returns-in-Call-clause-passed
-returns-in-Call-clause-passed g c =
+pub returns-in_ok-show_call-in-Call-clause-passed : goal.returns-in_ok-show_call-in-Call-clause-passed
+returns-in_ok-show_call-in-Call-clause-passed g c =
     let within : c.args.self.now.ports < c.args.limits.budget = omega (arith, c.requires.1.1.1.1.showing.going.within) in
     let k = (gives_called (tuples_of c.args.program.now) (record { tuples = c.next.new.self.frames.tuples; held = c.next.new.held }) _ (stand c.args.self.now.search) (stand c.next.new.self) _ c.in_ok-given.ensures.told _ c.in-Some.is _ c.in-Call.is) in
-    rw (c.in_ok-show_call-in-Call.ensures.none, c.in_ok-show_call-in-Call.ensures.told, c.newest-from.ensures)
+    rw (c.give_up_call.ensures, c.in_ok-show_call-in-Call.ensures.none, c.in_ok-show_call-in-Call.ensures.told, c.newest-from.ensures)
     (on_call (still_held c.next.new.held (same_called _ c.args.self.now.held c.next.new.held c.in_ok-given.ensures.held _ c.in-Some.is _ c.in-Call.is) c.requires.1.1.1.1) c.next.new.self c.in_ok-given.ensures.more k.holds within k.port_is k.at c.show_call.new.hook (c.in_ok-show_call-in-Call.ensures.shown k.event (port_read g.H.Hook.step c.args.hook.now (record { ports = c.ignores_ports.result; points = false }) k.event c.in-Call.call.port k.read c.ignores_ports.ensures)) c.in_ok-show_call-in-Call.ensures.cause)
 
 pub returns-then-self-limits-2-clause-passed : goal.returns-then-self-limits-2-clause-passed
@@ -78,36 +78,36 @@ pub returns-in_err-tell_later-in-Port-clause-cut : goal.returns-in_err-tell_late
 returns-in_err-tell_later-in-Port-clause-cut g c =
     let p = err_from_is_err_and c.from_residual-in_err-tell_later-in-Port.result c.from_residual-in_err-tell_later-in-Port.ensures.1 in rw (p.1, p.2) (memory_cut g.course c.requires.1.1.1.1.showing)
 
-pub returns-clause-passed : goal.returns-clause-passed
-returns-clause-passed g c =
+pub returns-in_ok-tell_later-in-Port-clause-passed : goal.returns-in_ok-tell_later-in-Port-clause-passed
+returns-in_ok-tell_later-in-Port-clause-passed g c =
     let within : c.args.self.now.ports < c.args.limits.budget = omega (arith, c.requires.1.1.1.1.showing.going.within) in
     rw (c.in_ok-tell_later-in-Port.ensures.none, c.in_ok-tell_later-in-Port.ensures.told)
     (on_bare (still_held c.next.new.held (same_port _ c.args.self.now.held c.next.new.held c.in_ok-given.ensures.held _ c.in-Some.is _ _ c.in-Port.is) c.requires.1.1.1.1) c.next.new.self c.in_ok-given.ensures.more (gives_port (tuples_of c.args.program.now) (record { tuples = c.next.new.self.frames.tuples; held = c.next.new.held }) _ (stand c.args.self.now.search) (stand c.next.new.self) _ c.in_ok-given.ensures.told _ c.in-Some.is _ _ c.in-Port.is) within refl c.ignores_ports.ensures)
 
-pub pass_later-requires-clause-held : goal.pass_later-requires-clause-held
-pass_later-requires-clause-held g c =
+pub pass_later-passed-requires-clause-held : goal.pass_later-passed-requires-clause-held
+pass_later-passed-requires-clause-held g c =
     add_at_port (still_held c.next.new.held (same_whole _ c.args.self.now.held c.next.new.held c.in_ok-given.ensures.held _ c.in-Some.is c.deref.result.now (rw c.in-Whole.is (sym c.deref.ensures))) c.requires.1.1.1.1) c.next.new.self c.in_ok-given.ensures.more (gives_of (tuples_of c.args.program.now) (record { tuples = c.next.new.self.frames.tuples; held = c.next.new.held }) _ (stand c.args.self.now.search) (stand c.next.new.self) _ c.in_ok-given.ensures.told _ c.in-Some.is c.deref.result.now _ (rw c.in-Whole.is (sym c.deref.ensures)) c.in-Passed.is)
 
-pub pass_later-requires-clause-there : goal.pass_later-requires-clause-there
-pass_later-requires-clause-there g c =
+pub pass_later-passed-requires-clause-there : goal.pass_later-passed-requires-clause-there
+pass_later-passed-requires-clause-there g c =
     λ within. row_at_port (still_held c.next.new.held (same_whole _ c.args.self.now.held c.next.new.held c.in_ok-given.ensures.held _ c.in-Some.is c.deref.result.now (rw c.in-Whole.is (sym c.deref.ensures))) c.requires.1.1.1.1) c.next.new.self c.in_ok-given.ensures.more (gives_of (tuples_of c.args.program.now) (record { tuples = c.next.new.self.frames.tuples; held = c.next.new.held }) _ (stand c.args.self.now.search) (stand c.next.new.self) _ c.in_ok-given.ensures.told _ c.in-Some.is c.deref.result.now _ (rw c.in-Whole.is (sym c.deref.ensures)) c.in-Passed.is) within (later_whole (record { ports = c.ignores_ports.result; points = false }) c.in-Passed.event refl (whole_of (tuples_of c.args.program.now) (record { tuples = c.next.new.self.frames.tuples; held = c.next.new.held }) _ (stand c.args.self.now.search) (stand c.next.new.self) _ c.in_ok-given.ensures.told _ c.in-Some.is c.deref.result.now _ (rw c.in-Whole.is (sym c.deref.ensures)) c.in-Passed.is))
 
 pub returns-in-Passed-clause-passed : goal.returns-in-Passed-clause-passed
 returns-in-Passed-clause-passed g c =
-    on_passed_later (still_held c.next.new.held (same_whole _ c.args.self.now.held c.next.new.held c.in_ok-given.ensures.held _ c.in-Some.is c.deref.result.now (rw c.in-Whole.is (sym c.deref.ensures))) c.requires.1.1.1.1) c.next.new.self c.in_ok-given.ensures.more (gives_of (tuples_of c.args.program.now) (record { tuples = c.next.new.self.frames.tuples; held = c.next.new.held }) _ (stand c.args.self.now.search) (stand c.next.new.self) _ c.in_ok-given.ensures.told _ c.in-Some.is c.deref.result.now _ (rw c.in-Whole.is (sym c.deref.ensures)) c.in-Passed.is) (later_whole (record { ports = c.ignores_ports.result; points = false }) c.in-Passed.event refl (whole_of (tuples_of c.args.program.now) (record { tuples = c.next.new.self.frames.tuples; held = c.next.new.held }) _ (stand c.args.self.now.search) (stand c.next.new.self) _ c.in_ok-given.ensures.told _ c.in-Some.is c.deref.result.now _ (rw c.in-Whole.is (sym c.deref.ensures)) c.in-Passed.is)) c.pass_later.new.self c.pass_later.new.hook c.pass_later.result c.pass_later.ensures.passed c.pass_later.ensures.cause
+    rw c.give_up.ensures (on_passed_later (still_held c.next.new.held (same_whole _ c.args.self.now.held c.next.new.held c.in_ok-given.ensures.held _ c.in-Some.is c.deref.result.now (rw c.in-Whole.is (sym c.deref.ensures))) c.requires.1.1.1.1) c.next.new.self c.in_ok-given.ensures.more (gives_of (tuples_of c.args.program.now) (record { tuples = c.next.new.self.frames.tuples; held = c.next.new.held }) _ (stand c.args.self.now.search) (stand c.next.new.self) _ c.in_ok-given.ensures.told _ c.in-Some.is c.deref.result.now _ (rw c.in-Whole.is (sym c.deref.ensures)) c.in-Passed.is) (later_whole (record { ports = c.ignores_ports.result; points = false }) c.in-Passed.event refl (whole_of (tuples_of c.args.program.now) (record { tuples = c.next.new.self.frames.tuples; held = c.next.new.held }) _ (stand c.args.self.now.search) (stand c.next.new.self) _ c.in_ok-given.ensures.told _ c.in-Some.is c.deref.result.now _ (rw c.in-Whole.is (sym c.deref.ensures)) c.in-Passed.is)) c.pass_later-passed.new.self c.pass_later-passed.new.hook c.pass_later-passed.result c.pass_later-passed.ensures.passed c.pass_later-passed.ensures.cause)
 
 pub returns-in-Passed-clause-cut : goal.returns-in-Passed-clause-cut
 returns-in-Passed-clause-cut g c =
-    cut_later (still_held c.next.new.held (same_whole _ c.args.self.now.held c.next.new.held c.in_ok-given.ensures.held _ c.in-Some.is c.deref.result.now (rw c.in-Whole.is (sym c.deref.ensures))) c.requires.1.1.1.1) c.next.new.self c.in_ok-given.ensures.more (gives_of (tuples_of c.args.program.now) (record { tuples = c.next.new.self.frames.tuples; held = c.next.new.held }) _ (stand c.args.self.now.search) (stand c.next.new.self) _ c.in_ok-given.ensures.told _ c.in-Some.is c.deref.result.now _ (rw c.in-Whole.is (sym c.deref.ensures)) c.in-Passed.is) (later_whole (record { ports = c.ignores_ports.result; points = false }) c.in-Passed.event refl (whole_of (tuples_of c.args.program.now) (record { tuples = c.next.new.self.frames.tuples; held = c.next.new.held }) _ (stand c.args.self.now.search) (stand c.next.new.self) _ c.in_ok-given.ensures.told _ c.in-Some.is c.deref.result.now _ (rw c.in-Whole.is (sym c.deref.ensures)) c.in-Passed.is)) c.pass_later.new.hook c.pass_later.result c.pass_later.ensures.cut
+    cut_later (still_held c.next.new.held (same_whole _ c.args.self.now.held c.next.new.held c.in_ok-given.ensures.held _ c.in-Some.is c.deref.result.now (rw c.in-Whole.is (sym c.deref.ensures))) c.requires.1.1.1.1) c.next.new.self c.in_ok-given.ensures.more (gives_of (tuples_of c.args.program.now) (record { tuples = c.next.new.self.frames.tuples; held = c.next.new.held }) _ (stand c.args.self.now.search) (stand c.next.new.self) _ c.in_ok-given.ensures.told _ c.in-Some.is c.deref.result.now _ (rw c.in-Whole.is (sym c.deref.ensures)) c.in-Passed.is) (later_whole (record { ports = c.ignores_ports.result; points = false }) c.in-Passed.event refl (whole_of (tuples_of c.args.program.now) (record { tuples = c.next.new.self.frames.tuples; held = c.next.new.held }) _ (stand c.args.self.now.search) (stand c.next.new.self) _ c.in_ok-given.ensures.told _ c.in-Some.is c.deref.result.now _ (rw c.in-Whole.is (sym c.deref.ensures)) c.in-Passed.is)) c.pass_later-passed.new.hook c.pass_later-passed.result c.pass_later-passed.ensures.cut
 
 pub pass_answer-requires-clause-held : goal.pass_answer-requires-clause-held
 pass_answer-requires-clause-held g c =
     add_at_answer (still_held c.next.new.held (same_whole _ c.args.self.now.held c.next.new.held c.in_ok-given.ensures.held _ c.in-Some.is c.deref.result.now (rw c.in-Whole.is (sym c.deref.ensures))) c.requires.1.1.1.1) c.next.new.self c.in_ok-given.ensures.more (gives_of (tuples_of c.args.program.now) (record { tuples = c.next.new.self.frames.tuples; held = c.next.new.held }) _ (stand c.args.self.now.search) (stand c.next.new.self) _ c.in_ok-given.ensures.told _ c.in-Some.is c.deref.result.now _ (rw c.in-Whole.is (sym c.deref.ensures)) c.in-Answer.is)
 
-pub returns-in-Whole-clause-passed : goal.returns-in-Whole-clause-passed
-returns-in-Whole-clause-passed g c =
+pub returns-in-Answer-clause-passed : goal.returns-in-Answer-clause-passed
+returns-in-Answer-clause-passed g c =
     on_passed_answer (still_held c.next.new.held (same_whole _ c.args.self.now.held c.next.new.held c.in_ok-given.ensures.held _ c.in-Some.is c.deref.result.now (rw c.in-Whole.is (sym c.deref.ensures))) c.requires.1.1.1.1) c.next.new.self c.in_ok-given.ensures.more (gives_of (tuples_of c.args.program.now) (record { tuples = c.next.new.self.frames.tuples; held = c.next.new.held }) _ (stand c.args.self.now.search) (stand c.next.new.self) _ c.in_ok-given.ensures.told _ c.in-Some.is c.deref.result.now _ (rw c.in-Whole.is (sym c.deref.ensures)) c.in-Answer.is) c.pass_answer.new.self c.pass_answer.new.hook c.pass_answer.result c.pass_answer.ensures.answered c.pass_answer.ensures.shown c.pass_answer.ensures.cause
 
-pub returns-in-Whole-clause-cut : goal.returns-in-Whole-clause-cut
-returns-in-Whole-clause-cut g c =
+pub returns-in-Answer-clause-cut : goal.returns-in-Answer-clause-cut
+returns-in-Answer-clause-cut g c =
     cut_answer (still_held c.next.new.held (same_whole _ c.args.self.now.held c.next.new.held c.in_ok-given.ensures.held _ c.in-Some.is c.deref.result.now (rw c.in-Whole.is (sym c.deref.ensures))) c.requires.1.1.1.1) c.next.new.self c.in_ok-given.ensures.more (gives_of (tuples_of c.args.program.now) (record { tuples = c.next.new.self.frames.tuples; held = c.next.new.held }) _ (stand c.args.self.now.search) (stand c.next.new.self) _ c.in_ok-given.ensures.told _ c.in-Some.is c.deref.result.now _ (rw c.in-Whole.is (sym c.deref.ensures)) c.in-Answer.is) c.pass_answer.new.hook c.pass_answer.result c.pass_answer.ensures.cut

@@ -15,11 +15,11 @@ returns-then-unread-2-clause-told c = λ kept.
 
 pub returns-then-unread-clause-told : goal.returns-then-unread-clause-told
 returns-then-unread-clause-told c =
-    IfOk-weaker c.whole.result _ _
+    rw c.whole_again.ensures.kept (IfOk-weaker c.whole_again.result _ _
     (λ given is kept.
     tells_called kept c.args.unread given (stand c.args.self.now) (stand c.step_in-then-unread.new.self) c.in_ok-port.port c.if-unread.true c.in_ok-port.ensures.called c.requires.goes c.requires.waits
     (c.in_ok-step_in-2.ensures.called ∙ ap (λ (t : Search). called_at (stand t)) c.in_ok-port.ensures.kept) is)
-    c.whole.ensures
+    c.whole_again.ensures.whole)
 
 pub returns-clause-told : goal.returns-clause-told
 returns-clause-told c = λ kept.

@@ -45,18 +45,18 @@ returns-in_err-event-in-Passed-clause-cause g c =
     let p = err_from_is_err_and c.from_residual-in_err-event-in-Passed.result c.from_residual-in_err-event-in-Passed.ensures.1 in
     rw (p.1, p.2, sym c.requires.1.1.1.1.kept) (hook_counts (g.H.Hook.faults c.args.hook.now) (g.H.Hook.faults c.event.new.self) c.in_err-event-in-Passed.field-0.0 c.in_err-event-in-Passed.ensures.cause)
 
-pub returns-in-Passed-clause-passed : goal.returns-in-Passed-clause-passed
-returns-in-Passed-clause-passed g c =
+pub returns-in_ok-event-in-Passed-clause-passed : goal.returns-in_ok-event-in-Passed-clause-passed
+returns-in_ok-event-in-Passed-clause-passed g c =
     let within : c.args.self.now.ports < c.args.limits.budget = omega (arith, c.requires.1.1.1.1.going.within) in
-    after_port g.course c.requires.1.1.1.1 (gives_of (tuples_of c.args.program.now) (record { tuples = c.next.new.self.frames.tuples; held = c.next.new.held }) _ (stand c.args.self.now.search) (stand c.next.new.self) _ c.in_ok-given.ensures.told _ c.in-Some.is c.deref.result.now _ (rw c.in-Whole.is (sym c.deref.ensures)) c.in-Passed.is) within c.event.new.self c.in_ok-event-in-Passed.ensures.step c.in_ok-event-in-Passed.ensures.cause
+    rw c.give_up.ensures (after_port g.course c.requires.1.1.1.1 (gives_of (tuples_of c.args.program.now) (record { tuples = c.next.new.self.frames.tuples; held = c.next.new.held }) _ (stand c.args.self.now.search) (stand c.next.new.self) _ c.in_ok-given.ensures.told _ c.in-Some.is c.deref.result.now _ (rw c.in-Whole.is (sym c.deref.ensures)) c.in-Passed.is) within c.event.new.self c.in_ok-event-in-Passed.ensures.step c.in_ok-event-in-Passed.ensures.cause)
 
 pub returns-then-self-limits-3-clause-passed : goal.returns-then-self-limits-3-clause-passed
 returns-then-self-limits-3-clause-passed g c =
     let bare = gives_port (tuples_of c.args.program.now) (record { tuples = c.next.new.self.frames.tuples; held = c.next.new.held }) _ (stand c.args.self.now.search) (stand c.next.new.self) _ c.in_ok-given.ensures.told _ c.in-Some.is _ _ c.in-Port.is in
     rw c.ended-then-self-limits-3.ensures (at_budget g.course c.requires.1.1.1.1 bare.holds (omega (arith, c.requires.1.1.1.1.going.within)))
 
-pub returns-clause-passed : goal.returns-clause-passed
-returns-clause-passed g c =
+pub returns-else-self-limits-3-clause-passed : goal.returns-else-self-limits-3-clause-passed
+returns-else-self-limits-3-clause-passed g c =
     let within : c.args.self.now.ports < c.args.limits.budget = omega (arith, c.requires.1.1.1.1.going.within) in
     after_bare g.course c.requires.1.1.1.1 (gives_port (tuples_of c.args.program.now) (record { tuples = c.next.new.self.frames.tuples; held = c.next.new.held }) _ (stand c.args.self.now.search) (stand c.next.new.self) _ c.in_ok-given.ensures.told _ c.in-Some.is _ _ c.in-Port.is) within c.ignores_ports.ensures
 
@@ -76,8 +76,8 @@ returns-then-self-limits-2-clause-passed g c =
     let last : c.args.self.now.answered + 1 ≡ c.args.limits.answers = omega arith in
     rw c.ended-then-self-limits-2.ensures (at_last g.course c.requires.1.1.1.1 (gives_of (tuples_of c.args.program.now) (record { tuples = c.next.new.self.frames.tuples; held = c.next.new.held }) _ (stand c.args.self.now.search) (stand c.next.new.self) _ c.in_ok-given.ensures.told _ c.in-Some.is c.deref.result.now _ (rw c.in-Whole.is (sym c.deref.ensures)) c.in-Answer.is) c.answer.new.self c.in_ok-answer-in-Answer.ensures.step last)
 
-pub returns-in-Whole-clause-passed : goal.returns-in-Whole-clause-passed
-returns-in-Whole-clause-passed g c =
+pub returns-else-self-limits-2-clause-passed : goal.returns-else-self-limits-2-clause-passed
+returns-else-self-limits-2-clause-passed g c =
     let more : c.args.self.now.answered + 1 < c.args.limits.answers = omega (arith, c.requires.1.1.1.1.going.below) in
     after_answer g.course c.requires.1.1.1.1 (gives_of (tuples_of c.args.program.now) (record { tuples = c.next.new.self.frames.tuples; held = c.next.new.held }) _ (stand c.args.self.now.search) (stand c.next.new.self) _ c.in_ok-given.ensures.told _ c.in-Some.is c.deref.result.now _ (rw c.in-Whole.is (sym c.deref.ensures)) c.in-Answer.is) c.answer.new.self c.in_ok-answer-in-Answer.ensures.step more c.in_ok-answer-in-Answer.ensures.cause
 

@@ -32,12 +32,12 @@ impl Search {
                     self.exit(exit)?;
                     return Ok(Given::Port(Port::Exit, box_no));
                 }
-                let given = self.ends(alloc)?;
-                Ok(given)
+                let item = self.ends(alloc)?;
+                Ok(Given::Whole(item))
             }
             _ => {
-                let given = self.ends(alloc)?;
-                Ok(given)
+                let item = self.ends(alloc)?;
+                Ok(Given::Whole(item))
             }
         }
     }
@@ -152,17 +152,19 @@ impl Search {
 
     /// The innermost frame exits, or answers, which is given whole.
     #[inline(never)]
-    fn ends(&mut self, alloc: Global) -> Result<Given, AllocError>
+    fn ends(&mut self, alloc: Global) -> Result<Box<Item>, AllocError>
         requires boxes { self.old.boxes < 2 ^ 32 - 1 }
         requires waits { Waits (stand self.old) }
         requires goes { IsOpen self.old.boxes self.old.frames.current }
         requires ends { (n : ℕ) → ¬ (Ahead.Call ≡ ahead_of (look_of self.old.frames.current n)) }
-        ensures told { IfOk result (λ given. (unread : Unread) → TellsAlways unread given
-            (GivesAlways (in_mode Mode.Forward (stand self.old)) (stand self.new))) }
+        ensures gives { IfOk result (λ item.
+            GivesAlways (in_mode Mode.Forward (stand self.old)) (stand self.new) item.value) }
+        ensures whole { IfOk result (λ item. (unread : Unread) → MayBeWhole unread item.value) }
         ensures tuples { OnOk result (self.new.frames.tuples ≡ self.old.frames.tuples) }
     {
         let item = self.ending()?;
-        whole_again(&mut self.frames, alloc, item)
+        let boxed = self.frames.boxed(alloc, item)?;
+        Ok(boxed)
     }
 
     /// The innermost frame exits, or answers: the whole item.

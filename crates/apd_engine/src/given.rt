@@ -160,6 +160,23 @@ pub fn of_point(unread: Unread) -> Given
     Given::Kept
 }
 
+/// A port of the box that the innermost frame leaves, written out, and the frame's newest point. It is a function of its own,
+/// so that the loop of a run has the registers.
+#[inline(never)]
+fn written_left(
+    frames: &mut Following,
+    alloc: Global,
+    port: Port,
+) -> Result<(Box<Item>, u32), AllocError>
+    requires { 0 < length frames.old.current }
+    ensures left { IfOk result (λ x. IsLeft frames.old.current port x.1 x.0.value) }
+    ensures kept { frames.new ≡ frames.old }
+{
+    let (left, point) = frames.exited()?;
+    let item = frames.boxed(alloc, event(port, left))?;
+    Ok((item, point))
+}
+
 /// A port of the box that the innermost frame leaves, and the frame's newest point.
 #[inline(always)]
 pub fn leaving(
@@ -175,8 +192,8 @@ pub fn leaving(
     ensures kept { frames.new ≡ frames.old }
 {
     if !unread.ports {
-        let (left, point) = frames.exited()?;
-        return Ok((whole_again(frames, alloc, event(port, left))?, point));
+        let (item, point) = written_left(frames, alloc, port)?;
+        return Ok((Given::Whole(item), point));
     }
     match frames.newest() {
         None => unreachable!(),

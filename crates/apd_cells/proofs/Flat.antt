@@ -91,18 +91,22 @@ written_inside cells c h l =
     let e : d ≡ spell t ++ rest = split_terms d (IsTerms-drop c cells h) (omega (arith, length-drop c cells)) in
     omega (arith, length-drop c cells, ap length e, length-append (spell t) rest, length-spell t)
 
--- where a term is put, none is longer than before or than it
-pub short_put : (cells longer : List Sym) (n : ℕ) (notes : List TrailNote) (t : Term) (j k : ℕ) → IsStore cells n notes → longer ≡ cells ++ spell t → AreShort cells j
+-- where terms are put, none is longer than before or than these together
+pub short_behind : (cells longer xs : List Sym) (n : ℕ) (notes : List TrailNote) (j k : ℕ) → IsStore cells n notes → IsTerms xs → longer ≡ cells ++ xs → AreShort cells j
     → k ≡ max j (length longer - length cells) → AreShort longer k
-short_put cells longer n notes t j k i e h is c l =
+short_behind cells longer xs n notes j k i w e h is c l =
     let whole = (HasCells-of cells n notes i).whole in
-    let longer_whole : IsTerms longer = subst IsTerms (sym e) (IsTerms-append cells (spell t) whole (IsTerms-spell t)) in
+    let longer_whole : IsTerms longer = subst IsTerms (sym e) (IsTerms-append cells xs whole w) in
     elim (le_or_lt (length cells) c) [
       | inl o ↦ omega (arith, written_inside longer c longer_whole l, o)
       | inr o ↦
-          (let same : written longer c ≡ written cells c = ap (λ z. written z c) e ∙ written-append cells (spell t) c whole o in
+          (let same : written longer c ≡ written cells c = ap (λ z. written z c) e ∙ written-append cells xs c whole o in
           omega (arith, h c o, ap size same))
     ]
+
+pub short_put : (cells longer : List Sym) (n : ℕ) (notes : List TrailNote) (t : Term) (j k : ℕ) → IsStore cells n notes → longer ≡ cells ++ spell t → AreShort cells j
+    → k ≡ max j (length longer - length cells) → AreShort longer k
+short_put cells longer n notes t j k i e h is = short_behind cells longer (spell t) n notes j k i (IsTerms-spell t) e h is
 
 -- a front of whole terms has no longer ones
 pub short_taken : (cells : List Sym) (n k : ℕ) → IsTerms (take n cells) → AreShort cells k → AreShort (take n cells) k

@@ -8,15 +8,18 @@ use Rattle.apd_term.specs.Spelling.{term_of-spell}
 use Rattle.apd_cells.specs.declared.heap.TrailNote.{TrailNote}
 use Rattle.apd_cells.specs.declared.heap.TrailNote.TheVariants.{Loaded, Bound}
 use Rattle.apd_cells.specs.Stored.{Stored}
-use Rattle.apd_cells.specs.Store.{written, meaning, term_at, IsStore, before_notes, at_mark, Keeps, loaded}
+use Rattle.apd_cells.specs.Store.{written, meaning, term_at, IsStore, before_notes, at_mark, Keeps, loaded, with_symbols}
 use Rattle.apd_cells.proofs.Written.{written-append}
 use Rattle.apd_cells.proofs.Meaning.{HasCells-of}
 use Rattle.apd_cells.proofs.Undoing.{before_more, before_none, before_trail}
 use Rattle.apd_cells.proofs.Bindings.{Keeps-self}
 
 -- the meaning of variables stays
+pub meaning-behind : (s : Stored) (xs : List Sym) (n v : ℕ) → meaning (with_symbols s xs n).cells (with_symbols s xs n).trail v ≡ meaning s.cells s.trail v
+meaning-behind s xs n v = ap (λ cells. meaning cells s.trail v) (take_at s.cells xs (length s.cells) refl)
+
 pub meaning-loaded : (s : Stored) (t : Term) (base v : ℕ) → meaning (loaded s t base).cells (loaded s t base).trail v ≡ meaning s.cells s.trail v
-meaning-loaded s t base v = ap (λ cells. meaning cells s.trail v) (take_at s.cells (spell (shifted base t)) (length s.cells) refl)
+meaning-loaded s t base v = meaning-behind s (spell (shifted base t)) (loaded s t base).variables v
 
 pub term_at-loaded : (s : Stored) (t : Term) (base : ℕ) → term_at (loaded s t base) (length s.cells) ≡ apply (meaning s.cells s.trail) (shifted base t)
 term_at-loaded s t base =
@@ -24,23 +27,28 @@ term_at-loaded s t base =
     ap (λ cells. apply (meaning cells s.trail) (written (s.cells ++ spell u) (length s.cells))) (take_at s.cells (spell u) (length s.cells) refl)
     ∙ ap (apply (meaning s.cells s.trail)) (ap (λ y. first_of (read_all y)) (drop_at s.cells (spell u) (length s.cells) refl) ∙ term_of-spell u)
 
-pub term_at-others : (s : Stored) (t : Term) (base c : ℕ) → IsStore s.cells s.variables s.trail → c < length s.cells → term_at (loaded s t base) c ≡ term_at s c
-term_at-others s t base c h l =
-    let u = shifted base t in
-    ap (λ cells. apply (meaning cells s.trail) (written (s.cells ++ spell u) c)) (take_at s.cells (spell u) (length s.cells) refl)
-    ∙ ap (apply (meaning s.cells s.trail)) (written-append s.cells (spell u) c (HasCells-of s.cells s.variables s.trail h).whole l)
+-- so do the terms at other cells
+pub others-behind : (s : Stored) (xs : List Sym) (n c : ℕ) → IsStore s.cells s.variables s.trail → c < length s.cells → term_at (with_symbols s xs n) c ≡ term_at s c
+others-behind s xs n c h l =
+    ap (λ cells. apply (meaning cells s.trail) (written (s.cells ++ xs) c)) (take_at s.cells xs (length s.cells) refl)
+    ∙ ap (apply (meaning s.cells s.trail)) (written-append s.cells xs c (HasCells-of s.cells s.variables s.trail h).whole l)
 
-pub Keeps-loaded : (s : Stored) (t : Term) (base : ℕ) → Keeps s (loaded s t base)
-Keeps-loaded s t base =
-    let new = loaded s t base in
+pub term_at-others : (s : Stored) (t : Term) (base c : ℕ) → IsStore s.cells s.variables s.trail → c < length s.cells → term_at (loaded s t base) c ≡ term_at s c
+term_at-others s t base c h l = others-behind s (spell (shifted base t)) (loaded s t base).variables c h l
+
+pub Keeps-behind : (s : Stored) (xs : List Sym) (n : ℕ) → Keeps s (with_symbols s xs n)
+Keeps-behind s xs n =
     let note = Loaded (length s.cells) s.variables in
     let j = length (note ∷ s.trail) - length s.trail in
     let e : j ≡ 1 = omega arith in (
       omega arith,
-      ap (before_notes new.cells new.variables (note ∷ s.trail)) e
-          ∙ ap (λ cells. before_notes cells s.variables s.trail 0) (take_at s.cells (spell (shifted base t)) (length s.cells) refl)
+      ap (before_notes (s.cells ++ xs) n (note ∷ s.trail)) e
+          ∙ ap (λ cells. before_notes cells s.variables s.trail 0) (take_at s.cells xs (length s.cells) refl)
           ∙ before_none s.cells s.variables s.trail,
     )
+
+pub Keeps-loaded : (s : Stored) (t : Term) (base : ℕ) → Keeps s (loaded s t base)
+Keeps-loaded s t base = Keeps-behind s (spell (shifted base t)) (loaded s t base).variables
 
 -- what loading keeps, where it succeeds and where it changes nothing
 pub record HasKept (s new : Stored) : Type 0 where

@@ -24,4 +24,5 @@ pub mod Ordered
 pub mod Placing
 pub mod Seen
 pub mod Standing
+pub mod Together
 pub mod Stretching

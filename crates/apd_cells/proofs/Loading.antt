@@ -18,7 +18,7 @@ use Rattle.apd_cells.specs.declared.heap.Binding.{Binding}
 use Rattle.apd_cells.specs.declared.heap.Binding.TheVariants.{Free}
 use Rattle.apd_cells.specs.Heap.{IsHeap, HasMore}
 use Rattle.apd_cells.specs.Stored.{Stored}
-use Rattle.apd_cells.specs.Store.{above, binding_of, HasCells, IsStore, loaded}
+use Rattle.apd_cells.specs.Store.{above, binding_of, HasCells, IsStore, loaded, with_symbols}
 use Rattle.apd_cells.proofs.Meaning.{HasCells-of}
 use Rattle.apd_cells.proofs.Undoing.{le_or_lt}
 use Rattle.apd_cells.proofs.Following.{viewed}
@@ -51,28 +51,46 @@ IsTerms-append xs ys h k =
     ap (flat_map spell) (read_all-append xs ys h) ∙ flat_map-append spell (read_all xs) (read_all ys)
     ∙ ap (λ z. z ++ flat_map spell (read_all ys)) h ∙ ap (λ z. xs ++ z) k
 
-pub HasCells-more : (cells : List Sym) (n : ℕ) (t : Term) → HasCells cells n → HasCells (cells ++ spell t) (above n (variables t))
-HasCells-more cells n t h = record {
-  whole = IsTerms-append cells (spell t) h.whole (IsTerms-spell t);
-  below = λ v o. elim (IsAmong-append (flat_map variable_in cells) (flat_map variable_in (spell t)) v (subst (λ r. IsAmong r v) (flat_map-append variable_in cells (spell t)) o)) [
-    | inl i ↦ (let l = h.below v i in omega (arith, above-ge n (variables t)))
-    | inr j ↦ above-gt n (variables t) v (subst (λ r. IsAmong r v) (flat_map-variables t) j)
+HasCells-behind : (cells xs : List Sym) (n : ℕ) → HasCells cells n → IsTerms xs → HasCells (cells ++ xs) (above n (flat_map variable_in xs))
+HasCells-behind cells xs n h w = record {
+  whole = IsTerms-append cells xs h.whole w;
+  below = λ v o. elim (IsAmong-append (flat_map variable_in cells) (flat_map variable_in xs) v (subst (λ r. IsAmong r v) (flat_map-append variable_in cells xs) o)) [
+    | inl i ↦ (let l = h.below v i in omega (arith, above-ge n (flat_map variable_in xs)))
+    | inr j ↦ above-gt n (flat_map variable_in xs) v j
   ];
+}
+
+-- terms behind the cells, with one note
+pub store_behind : (cells xs : List Sym) (n : ℕ) (notes : List TrailNote) → IsStore cells n notes → IsTerms xs
+    → IsStore (cells ++ xs) (above n (flat_map variable_in xs)) (Loaded (length cells) n ∷ notes)
+store_behind cells xs n notes h w =
+    let front : take (length cells) (cells ++ xs) ≡ cells = take_at cells xs (length cells) refl in (
+      HasCells-behind cells xs n (HasCells-of cells n notes h) w,
+      (omega (arith, length-append cells xs), (above-ge n (flat_map variable_in xs), subst (λ z. IsStore z n notes) (sym front) h)),
+    )
+
+pub store_loaded : (cells : List Sym) (n : ℕ) (t : Term) (notes : List TrailNote) → IsStore cells n notes → IsStore (cells ++ spell t) (above n (variables t)) (Loaded (length cells) n ∷ notes)
+store_loaded cells n t notes h =
+    subst (λ vs. IsStore (cells ++ spell t) (above n vs) (Loaded (length cells) n ∷ notes)) (flat_map-variables t) (store_behind cells (spell t) n notes h (IsTerms-spell t))
+
+pub heap_behind : (cells new xs : List Sym) (bindings bnew : List Binding) (notes trail : List TrailNote)
+    → IsHeap cells bindings notes → IsTerms xs → new ≡ cells ++ xs → length bnew ≡ above (length bindings) (flat_map variable_in xs)
+    → HasMore bindings bnew → trail ≡ Loaded (length cells) (length bindings) ∷ notes → IsHeap new bnew trail
+heap_behind cells new xs bindings bnew notes trail h w e n m i = record {
+  kept = rw (e, n, i) (store_behind cells xs (length bindings) notes h.kept w);
+  agrees = λ v. get_or-more bindings bnew v m ∙ h.agrees v ∙ ap (λ z. binding_of z v) (sym i);
 }
 
 pub heap_loaded : (cells new : List Sym) (bindings bnew : List Binding) (notes trail : List TrailNote) (t : Term) (base : ℕ)
     → IsHeap cells bindings notes → new ≡ cells ++ spell (shifted base t) → length bnew ≡ above (length bindings) (variables (shifted base t))
     → HasMore bindings bnew → trail ≡ Loaded (length cells) (length bindings) ∷ notes → IsHeap new bnew trail
 heap_loaded cells new bindings bnew notes trail t base h e n m i =
-    let u = shifted base t in
-    let whole : HasCells (cells ++ spell u) (above (length bindings) (variables u)) = HasCells-more cells (length bindings) u (HasCells-of cells (length bindings) notes h.kept) in
-    let front : take (length cells) (cells ++ spell u) ≡ cells = take_at cells (spell u) (length cells) refl in
-    let kept : IsStore (cells ++ spell u) (above (length bindings) (variables u)) (Loaded (length cells) (length bindings) ∷ notes) =
-    (whole, (omega (arith, length-append cells (spell u)), (above-ge (length bindings) (variables u), subst (λ z. IsStore z (length bindings) notes) (sym front) h.kept))) in
-    record {
-      kept = rw (e, n, i) kept;
-      agrees = λ v. get_or-more bindings bnew v m ∙ h.agrees v ∙ ap (λ z. binding_of z v) (sym i);
-    }
+    heap_behind cells new (spell (shifted base t)) bindings bnew notes trail h (IsTerms-spell (shifted base t)) e
+    (n ∙ ap (above (length bindings)) (sym (flat_map-variables (shifted base t)))) m i
+
+pub viewed_behind : (s : Stored) (cells new xs : List Sym) (bindings bnew : List Binding) (notes trail : List TrailNote)
+    → viewed cells bindings notes ≡ s → new ≡ cells ++ xs → trail ≡ Loaded (length cells) (length bindings) ∷ notes → viewed new bnew trail ≡ with_symbols s xs (length bnew)
+viewed_behind s cells new xs bindings bnew notes trail g e i = (rw (e, i) refl) ∙ ap (λ (y : Stored). with_symbols y xs (length bnew)) g
 
 pub viewed_loaded : (s : Stored) (cells new : List Sym) (bindings bnew : List Binding) (notes trail : List TrailNote) (t : Term) (base : ℕ)
     → viewed cells bindings notes ≡ s → new ≡ cells ++ spell (shifted base t) → length bnew ≡ above (length bindings) (variables (shifted base t))

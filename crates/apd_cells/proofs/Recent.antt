@@ -11,13 +11,13 @@ use Rattle.apd_cells.specs.declared.heap.TrailNote.{TrailNote}
 use Rattle.apd_cells.specs.declared.known.Extent.{Extent}
 use Rattle.apd_cells.specs.declared.known.KnownExtent.{KnownExtent}
 use Rattle.apd_cells.specs.Stored.{Stored}
-use Rattle.apd_cells.specs.Store.{written, meaning, term_at, at_mark, before_note, bound, loaded, IsStore}
+use Rattle.apd_cells.specs.Store.{written, meaning, term_at, at_mark, before_note, bound, with_symbols, IsStore}
 use Rattle.apd_cells.specs.declared.extents.Extents.{Extents}
 use Rattle.apd_cells.specs.Known.{HasExtent, IsConstant, AreKnown, AreRecent, AreSized, IsSized}
 use Rattle.apd_cells.proofs.Bindings.{Keeps-bound, Keeps-self, Occurs-single, meaning-bound-applied}
 use Rattle.apd_cells.proofs.Flat.{single_size, size-applied}
-use Rattle.apd_cells.proofs.Keeping.{Keeps-loaded, at_mark-at_mark}
-use Rattle.apd_cells.proofs.Sizing.{before_is, extent_loaded, forgets, known_here, known_next, known_now, length-at_mark, sized_before, sized_loaded, sized_none}
+use Rattle.apd_cells.proofs.Keeping.{Keeps-behind, at_mark-at_mark}
+use Rattle.apd_cells.proofs.Sizing.{before_is, extent_behind, forgets, known_here, known_next, known_now, length-at_mark, sized_before, sized_behind, sized_none}
 
 -- what begins with an integer or an atom is that alone
 pub record IsAlone (t : Term) : Type 0 where
@@ -62,12 +62,12 @@ recent_bound s v to n (k ∷ ks) l a h = (
   recent_bound s v to k.since ks (omega (arith, h.1)) a h.2,
 )
 
-recent_loaded : (s : Stored) (t : Term) (base n : ℕ) (ks : List KnownExtent) → IsStore s.cells s.variables s.trail → n ≤ length s.trail → AreRecent s n ks → AreRecent (loaded s t base) n ks
-recent_loaded s t base n [] i l h = tt
-recent_loaded s t base n (k ∷ ks) i l h = (
-  known_next s (loaded s t base) k (Keeps-loaded s t base) (omega arith) (extent_loaded s t base k.cell k.extent i (known_now s k h.0 (omega (arith, h.1)))) h.0,
+recent_behind : (s : Stored) (xs : List Sym) (m n : ℕ) (ks : List KnownExtent) → IsStore s.cells s.variables s.trail → n ≤ length s.trail → AreRecent s n ks → AreRecent (with_symbols s xs m) n ks
+recent_behind s xs m n [] i l h = tt
+recent_behind s xs m n (k ∷ ks) i l h = (
+  known_next s (with_symbols s xs m) k (Keeps-behind s xs m) (omega arith) (extent_behind s xs m k.cell k.extent i (known_now s k h.0 (omega (arith, h.1)))) h.0,
   h.1,
-  recent_loaded s t base k.since ks i (omega (arith, h.1)) h.2,
+  recent_behind s xs m k.since ks i (omega (arith, h.1)) h.2,
 )
 
 recent_before : (s : Stored) (mark n : ℕ) (ks : List KnownExtent) → mark ≤ length s.trail → AreRecent s n ks → AreRecent (at_mark mark s) n ks
@@ -81,10 +81,10 @@ recent_before s mark n (k ∷ ks) l h = (
 )
 
 -- after a load
-pub recent_after_load : (s new : Stored) (t : Term) (base : ℕ) (ks : List KnownExtent) → IsStore s.cells s.variables s.trail → new ≡ loaded s t base
+recent_after_load : (s new : Stored) (xs : List Sym) (m : ℕ) (ks : List KnownExtent) → IsStore s.cells s.variables s.trail → new ≡ with_symbols s xs m
     → AreRecent s (length s.trail) ks → AreRecent new (length new.trail) ks
-recent_after_load s new t base ks i e h =
-    rw e (recent_more (loaded s t base) (length s.trail) (length (loaded s t base).trail) ks (omega arith) (recent_loaded s t base (length s.trail) ks i (omega arith) h))
+recent_after_load s new xs m ks i e h =
+    rw e (recent_more (with_symbols s xs m) (length s.trail) (length (with_symbols s xs m).trail) ks (omega arith) (recent_behind s xs m (length s.trail) ks i (omega arith) h))
 
 -- after a binding, where all was forgotten unless it was one to an integer or an atom
 pub recent_after_binding : (s new : Stored) (v to : ℕ) (ks left : List KnownExtent) → to < length s.cells → new ≡ bound s v to
@@ -146,10 +146,10 @@ recent_room s n ks left (inl e) h = rw e h
 recent_room s n ks left (inr e) h = rw e tt
 
 -- all of it, after a load
-pub sizes_loaded : (s new : Stored) (t : Term) (base : ℕ) (k : Extents) → IsStore s.cells s.variables s.trail → new ≡ loaded s t base → IsSized s k → IsSized new k
-sizes_loaded s new t base k i e h = record {
-  kept = sized_loaded s new t base k.ground_terms k.open_terms i e h.kept;
-  lately = recent_after_load s new t base k.recent i e h.lately;
+pub sizes_behind : (s new : Stored) (xs : List Sym) (m : ℕ) (k : Extents) → IsStore s.cells s.variables s.trail → new ≡ with_symbols s xs m → IsSized s k → IsSized new k
+sizes_behind s new xs m k i e h = record {
+  kept = sized_behind s new xs m k.ground_terms k.open_terms i e h.kept;
+  lately = recent_after_load s new xs m k.recent i e h.lately;
 }
 
 -- before the newest note, if there is one

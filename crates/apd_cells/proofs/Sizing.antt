@@ -4,19 +4,18 @@ use Rattle.std.specs.Prelude.{reverse, slice_get, Option, None, MatchOption}
 use Rattle.std.proofs.lemmas.Option.{slice_get_within, get_or_from_slice_get}
 use Rattle.std.proofs.lemmas.List.{get_or-reverse, length-reverse, length-append}
 use Rattle.apd_term.specs.declared.term.Sym.{Sym}
-use Rattle.apd_term.specs.Term.{Term, Occurs, size, spell}
-use Rattle.apd_term.specs.Canonical.{shifted}
+use Rattle.apd_term.specs.Term.{Occurs, size}
 use Rattle.apd_cells.specs.declared.heap.TrailNote.{TrailNote}
 use Rattle.apd_cells.specs.declared.heap.TrailNote.TheVariants.{Loaded, Bound}
 use Rattle.apd_cells.specs.declared.known.Extent.{Extent}
 use Rattle.apd_cells.specs.declared.known.KnownExtent.{KnownExtent}
 use Rattle.apd_cells.specs.Stored.{Stored}
-use Rattle.apd_cells.specs.Store.{written, term_at, at_mark, before_note, before_notes, bound, loaded, IsStore, Keeps}
+use Rattle.apd_cells.specs.Store.{written, term_at, at_mark, before_note, before_notes, bound, with_symbols, IsStore, Keeps}
 use Rattle.apd_cells.specs.Known.{HasExtent, IsKnown, AreKnown, AreSized}
 use Rattle.apd_cells.proofs.Meaning.{apply-absent}
 use Rattle.apd_cells.proofs.Undoing.{at_mark-here, before_none, le_or_lt}
 use Rattle.apd_cells.proofs.Bindings.{meaning-bound-applied, Keeps-bound, Keeps-self}
-use Rattle.apd_cells.proofs.Keeping.{at_mark-at_mark, length-before, Keeps-loaded, term_at-others}
+use Rattle.apd_cells.proofs.Keeping.{at_mark-at_mark, length-before, Keeps-behind, others-behind}
 
 -- greater bounds
 pub known_more : (s : Stored) (n m a b : ℕ) (ks : List KnownExtent) → n ≤ m → a ≤ b → AreKnown s n a ks → AreKnown s m b ks
@@ -70,23 +69,23 @@ known_bound s v to n a (k ∷ ks) l g h = (
   known_bound s v to k.since k.extent.above ks (omega (arith, h.1)) (omega (arith, h.2)) h.3,
 )
 
--- one more term
-pub extent_loaded : (s : Stored) (t : Term) (base c : ℕ) (e : Extent) → IsStore s.cells s.variables s.trail → HasExtent s c e → HasExtent (loaded s t base) c e
-extent_loaded s t base c e h k =
-    let same : term_at (loaded s t base) c ≡ term_at s c = term_at-others s t base c h k.inside in
+-- more symbols behind the cells
+pub extent_behind : (s : Stored) (xs : List Sym) (m c : ℕ) (e : Extent) → IsStore s.cells s.variables s.trail → HasExtent s c e → HasExtent (with_symbols s xs m) c e
+extent_behind s xs m c e h k =
+    let same : term_at (with_symbols s xs m) c ≡ term_at s c = others-behind s xs m c h k.inside in
     record {
-      inside = omega (arith, k.inside, length-append s.cells (spell (shifted base t)));
+      inside = omega (arith, k.inside, length-append s.cells xs);
       long = k.long ∙ ap size (sym same);
       below = λ w o. k.below w (subst (Occurs w) same o);
     }
 
-pub known_loaded : (s : Stored) (t : Term) (base n a : ℕ) (ks : List KnownExtent) → IsStore s.cells s.variables s.trail → n ≤ length s.trail → AreKnown s n a ks → AreKnown (loaded s t base) n a ks
-known_loaded s t base n a [] i l h = tt
-known_loaded s t base n a (k ∷ ks) i l h = (
-  known_next s (loaded s t base) k (Keeps-loaded s t base) (omega arith) (extent_loaded s t base k.cell k.extent i (known_now s k h.0 (omega (arith, h.1)))) h.0,
+known_behind : (s : Stored) (xs : List Sym) (m n a : ℕ) (ks : List KnownExtent) → IsStore s.cells s.variables s.trail → n ≤ length s.trail → AreKnown s n a ks → AreKnown (with_symbols s xs m) n a ks
+known_behind s xs m n a [] i l h = tt
+known_behind s xs m n a (k ∷ ks) i l h = (
+  known_next s (with_symbols s xs m) k (Keeps-behind s xs m) (omega arith) (extent_behind s xs m k.cell k.extent i (known_now s k h.0 (omega (arith, h.1)))) h.0,
   h.1,
   h.2,
-  known_loaded s t base k.since k.extent.above ks i (omega (arith, h.1)) h.3,
+  known_behind s xs m k.since k.extent.above ks i (omega (arith, h.1)) h.3,
 )
 
 -- the store at a mark has so many notes
@@ -117,12 +116,14 @@ before_is s note notes e =
     ∙ ap (before_note s.cells s.variables) (sym e)
 
 -- after a load
-pub sized_loaded : (s new : Stored) (t : Term) (base : ℕ) (ground_terms open_terms : List KnownExtent) → IsStore s.cells s.variables s.trail → new ≡ loaded s t base
+pub sized_behind : (s new : Stored) (xs : List Sym) (m : ℕ) (ground_terms open_terms : List KnownExtent) → IsStore s.cells s.variables s.trail → new ≡ with_symbols s xs m
     → AreSized s ground_terms open_terms → AreSized new ground_terms open_terms
-sized_loaded s new t base ground_terms open_terms i e h = rw e (record {
-  of_ground = known_more (loaded s t base) (length s.trail) (length (loaded s t base).trail) 0 0 ground_terms (omega arith) (omega arith) (known_loaded s t base (length s.trail) 0 ground_terms i (omega arith) h.of_ground);
+sized_behind s new xs m ground_terms open_terms i e h = rw e (record {
+  of_ground = known_more (with_symbols s xs m) (length s.trail) (length (with_symbols s xs m).trail) 0 0 ground_terms (omega arith) (omega arith)
+      (known_behind s xs m (length s.trail) 0 ground_terms i (omega arith) h.of_ground);
   most = h.most;
-  of_open = known_more (loaded s t base) (length s.trail) (length (loaded s t base).trail) h.most h.most open_terms (omega arith) (omega arith) (known_loaded s t base (length s.trail) h.most open_terms i (omega arith) h.of_open);
+  of_open = known_more (with_symbols s xs m) (length s.trail) (length (with_symbols s xs m).trail) h.most h.most open_terms (omega arith) (omega arith)
+      (known_behind s xs m (length s.trail) h.most open_terms i (omega arith) h.of_open);
 })
 
 -- after a binding, where what it may change was forgotten

@@ -4,7 +4,7 @@ use Rattle.std.specs.List.{flat_map}
 use Rattle.std.proofs.Math.Seq.{get_or-append_seam}
 use Rattle.std.proofs.lemmas.Bool.{cases_eq}
 use Rattle.std.proofs.lemmas.Bool.Decides.{nat_tests}
-use Rattle.std.proofs.lemmas.List.{append-nil, get_or_append_left, length-append, map-append, take_all, take_more}
+use Rattle.std.proofs.lemmas.List.{append-nil, get_or_append_left, length-append, map-append, take_more}
 use Rattle.std.proofs.lemmas.List.Concat.{flat_map-append}
 use Rattle.apd_term.specs.declared.term.Sym.{Sym}
 use Rattle.apd_term.specs.declared.term.Sym.TheVariants.{Var, Int, Fun}
@@ -14,7 +14,7 @@ use Rattle.apd_term.specs.Canonical.{shifted}
 use Rattle.apd_term.proofs.Among.{IsAmong-left, IsAmong-right, IsAmong-append}
 use Rattle.apd_term.proofs.Applying.{apply-same, apply-variable}
 use Rattle.apd_term.proofs.Spelling.{spell-apply, flat_map-variables}
-use Rattle.apd_cells.specs.Slots.{slot_at, cell_of, IsSet, HasRoom, HasSet, IsSingle, IsOwn, IsSlot, AreSlots, GetsOwn, EachGetsOwn, put_symbol, single_term, put_for, Places, HasPlaced}
+use Rattle.apd_cells.specs.Slots.{slot_at, cell_of, IsSet, HasRoom, HasSet, IsSingle, IsOwn, IsSlot, AreSlots, GetsOwn, EachGetsOwn, put_symbol, single_term, put_for, Places, Placing, HasPlaced}
 use Rattle.apd_cells.specs.Store.{above}
 use Rattle.apd_cells.specs.declared.slots.Slot.{Slot}
 use Rattle.apd_cells.specs.declared.slots.Slot.TheVariants.{New, Own, Given}
@@ -157,14 +157,7 @@ place_new cells n slots new v h e k = record {
     there : get_or (cells ++ Var n ∷ []) (length cells) (Var 0) ≡ Var n
     there = get_or-append_seam cells (Var n) [] (Var 0)
 
--- some symbols were put behind the cells
-pub record Placing (cells cells' : List Sym) (n n' : ℕ) (old new : List Slot) (xs : List Sym) : Type 0 where
-  pub put : cells' ≡ cells ++ map (put_symbol cells' new) xs
-  pub count : n' ≡ above n (flat_map variable_in (map (put_symbol cells' new) xs))
-  pub slots : AreSlots cells' n' new
-  pub newer : EachGetsOwn n cells' old new
-  pub set : (v : ℕ) → IsAmong (flat_map variable_in xs) v → IsSet (slot_at new v)
-
+-- no symbol was put
 pub placing_first : (cells cells' : List Sym) (n : ℕ) (slots : List Slot) → AreSlots cells n slots → cells' ≡ cells → Placing cells cells' n n slots slots []
 placing_first cells cells' n slots h e = rw e (record {
   put = sym (append-nil cells);
@@ -174,22 +167,23 @@ placing_first cells cells' n slots h e = rw e (record {
   set = λ v m. absurd m;
 })
 
-same_put : (cells : List Sym) (y : Sym) (n : ℕ) (old new : List Slot) (k m : ℕ) (x : Sym) → AreSlots cells k old → EachGetsOwn m (cells ++ y ∷ []) old new
-    → ((v : ℕ) → IsAmong (variable_in x) v → IsSet (slot_at old v)) → put_symbol (cells ++ y ∷ []) new x ≡ put_symbol cells old x
-same_put cells y n old new k m (Var v) h l s =
+-- more cells behind the others, and more slots that are set, change nothing of what was put
+same_put : (cells more : List Sym) (old new : List Slot) (k m : ℕ) (x : Sym) → AreSlots cells k old → EachGetsOwn m (cells ++ more) old new
+    → ((v : ℕ) → IsAmong (variable_in x) v → IsSet (slot_at old v)) → put_symbol (cells ++ more) new x ≡ put_symbol cells old x
+same_put cells more old new k m (Var v) h l s =
     let set = s v (inl refl) in
-    ap (λ z. get_or (cells ++ y ∷ []) (cell_of z) (Var 0)) (stays m (cells ++ y ∷ []) (slot_at old v) (slot_at new v) (l v) set)
-    ∙ get_or_append_left cells (y ∷ []) (Var 0) (cell_of (slot_at old v)) (single_at cells k old v h set).inside
-same_put cells y n old new k m (Int i) h l s = refl
-same_put cells y n old new k m (Fun f j) h l s = refl
+    ap (λ z. get_or (cells ++ more) (cell_of z) (Var 0)) (stays m (cells ++ more) (slot_at old v) (slot_at new v) (l v) set)
+    ∙ get_or_append_left cells more (Var 0) (cell_of (slot_at old v)) (single_at cells k old v h set).inside
+same_put cells more old new k m (Int i) h l s = refl
+same_put cells more old new k m (Fun f j) h l s = refl
 
-pub same_puts : (cells : List Sym) (y : Sym) (n : ℕ) (old new : List Slot) (k m : ℕ) (xs : List Sym) → AreSlots cells k old → EachGetsOwn m (cells ++ y ∷ []) old new
-    → ((v : ℕ) → IsAmong (flat_map variable_in xs) v → IsSet (slot_at old v)) → map (put_symbol (cells ++ y ∷ []) new) xs ≡ map (put_symbol cells old) xs
-same_puts cells y n old new k m [] h l s = refl
-same_puts cells y n old new k m (x ∷ xs) h l s =
-    ap (λ z. z ∷ map (put_symbol (cells ++ y ∷ []) new) xs)
-    (same_put cells y n old new k m x h l (λ v i. s v (IsAmong-left (variable_in x) (flat_map variable_in xs) v i)))
-    ∙ ap (λ zs. put_symbol cells old x ∷ zs) (same_puts cells y n old new k m xs h l (λ v i. s v (IsAmong-right (variable_in x) (flat_map variable_in xs) v i)))
+pub same_puts : (cells more : List Sym) (old new : List Slot) (k m : ℕ) (xs : List Sym) → AreSlots cells k old → EachGetsOwn m (cells ++ more) old new
+    → ((v : ℕ) → IsAmong (flat_map variable_in xs) v → IsSet (slot_at old v)) → map (put_symbol (cells ++ more) new) xs ≡ map (put_symbol cells old) xs
+same_puts cells more old new k m [] h l s = refl
+same_puts cells more old new k m (x ∷ xs) h l s =
+    ap (λ z. z ∷ map (put_symbol (cells ++ more) new) xs)
+    (same_put cells more old new k m x h l (λ v i. s v (IsAmong-left (variable_in x) (flat_map variable_in xs) v i)))
+    ∙ ap (λ zs. put_symbol cells old x ∷ zs) (same_puts cells more old new k m xs h l (λ v i. s v (IsAmong-right (variable_in x) (flat_map variable_in xs) v i)))
 
 variable_of_one : (x : Sym) (v : ℕ) → IsAmong (variable_in x) v → x ≡ Var v
 variable_of_one (Var w) v (inl e) = ap Var e
@@ -200,35 +194,51 @@ variable_of_one (Fun f n) v m = absurd m
 pub set_stays : (n : ℕ) (cells : List Sym) (old new : List Slot) (v : ℕ) → EachGetsOwn n cells old new → IsSet (slot_at old v) → IsSet (slot_at new v)
 set_stays n cells old new v l s = subst IsSet (sym (stays n cells (slot_at old v) (slot_at new v) (l v) s)) s
 
--- one more symbol
-more_put : (cells mid : List Sym) (n m : ℕ) (old ms new : List Slot) (xs : List Sym) (x y : Sym) → Placing cells mid n m old ms xs → Places mid m ms new x y
-    → Placing cells (mid ++ y ∷ []) n (above m (variable_in y)) old new (xs ++ x ∷ [])
-more_put cells mid n m old ms new xs x y h p =
+-- more symbols, behind which the cells end with these
+more_put : (cells mid ys : List Sym) (n m k : ℕ) (old ms new : List Slot) (xs zs : List Sym) → Placing cells mid n m old ms xs → Placing mid (mid ++ ys) m k ms new zs → ys ≡ map (put_symbol (mid ++ ys) new) zs
+    → Placing cells (mid ++ ys) n k old new (xs ++ zs)
+more_put cells mid ys n m k old ms new xs zs h p e =
     let l : n ≤ m = omega (arith, h.count, above-ge n (flat_map variable_in (map (put_symbol mid ms) xs))) in
-    let f = put_symbol (mid ++ y ∷ []) new in
-    let same = same_puts mid y n ms new m m xs h.slots p.newer h.set in
-    let puts : map f (xs ++ x ∷ []) ≡ map (put_symbol mid ms) xs ++ y ∷ [] = map-append f xs (x ∷ []) ∙ ap (λ z. z ++ f x ∷ []) same ∙ ap (λ z. map (put_symbol mid ms) xs ++ z ∷ []) (sym p.put) in
+    let f = put_symbol (mid ++ ys) new in
+    let before = map (put_symbol mid ms) xs in
+    let puts : map f (xs ++ zs) ≡ before ++ ys = map-append f xs zs ∙ ap (λ z. z ++ map f zs) (same_puts mid ys ms new m m xs h.slots p.newer h.set) ∙ ap (λ z. before ++ z) (sym e) in
     record {
-      put = ap (λ z. z ++ y ∷ []) h.put ∙ append_assoc cells (map (put_symbol mid ms) xs) (y ∷ []) ∙ ap (λ z. cells ++ z) (sym puts);
-      count = ap (λ k. above k (variable_in y)) h.count
-          ∙ sym (above-append n (flat_map variable_in (map (put_symbol mid ms) xs)) (variable_in y))
-          ∙ ap (above n)
-          (ap (λ z. flat_map variable_in (map (put_symbol mid ms) xs) ++ z) (sym (append-nil (variable_in y)))
-          ∙ sym (flat_map-append variable_in (map (put_symbol mid ms) xs) (y ∷ [])) ∙ ap (flat_map variable_in) (sym puts));
+      put = ap (λ z. z ++ ys) h.put ∙ append_assoc cells before ys ∙ ap (λ z. cells ++ z) (sym puts);
+      count = p.count
+          ∙ ap (λ z. above m (flat_map variable_in z)) (sym e)
+          ∙ ap (λ j. above j (flat_map variable_in ys)) h.count
+          ∙ sym (above-append n (flat_map variable_in before) (flat_map variable_in ys))
+          ∙ ap (above n) (sym (flat_map-append variable_in before ys) ∙ ap (flat_map variable_in) (sym puts));
       slots = p.slots;
-      newer = newer_trans mid (y ∷ []) n m m old ms new l h.slots h.newer p.newer;
-      set = λ v i. elim (IsAmong-append (flat_map variable_in xs) (flat_map variable_in (x ∷ [])) v (subst (λ r. IsAmong r v) (flat_map-append variable_in xs (x ∷ [])) i)) [
-        | inl a ↦ set_stays m (mid ++ y ∷ []) ms new v p.newer (h.set v a)
-        | inr b ↦ p.set v (variable_of_one x v (subst (λ r. IsAmong r v) (append-nil (variable_in x)) b))
+      newer = newer_trans mid ys n m m old ms new l h.slots h.newer p.newer;
+      set = λ v i. elim (IsAmong-append (flat_map variable_in xs) (flat_map variable_in zs) v (subst (λ r. IsAmong r v) (flat_map-append variable_in xs zs) i)) [
+        | inl a ↦ set_stays m (mid ++ ys) ms new v p.newer (h.set v a)
+        | inr b ↦ p.set v b
       ];
     }
+
+pub placing_then : (cells mid new : List Sym) (n m k : ℕ) (old ms slots : List Slot) (xs zs : List Sym) → Placing cells mid n m old ms xs → Placing mid new m k ms slots zs → Placing cells new n k old slots (xs ++ zs)
+placing_then cells mid new n m k old ms slots xs zs h p =
+    let ys = map (put_symbol new slots) zs in
+    subst (λ z. Placing cells z n k old slots (xs ++ zs)) (sym p.put)
+    (more_put cells mid ys n m k old ms slots xs zs h (subst (λ z. Placing mid z m k ms slots zs) p.put p) (ap (λ z. map (put_symbol z slots) zs) p.put))
+
+-- one symbol
+placing_one : (mid : List Sym) (m : ℕ) (ms new : List Slot) (x y : Sym) → Places mid m ms new x y → Placing mid (mid ++ y ∷ []) m (above m (variable_in y)) ms new (x ∷ [])
+placing_one mid m ms new x y p = record {
+  put = ap (λ z. mid ++ z ∷ []) p.put;
+  count = ap (above m) (sym (append-nil (variable_in y)) ∙ ap (λ z. variable_in z ++ []) p.put);
+  slots = p.slots;
+  newer = p.newer;
+  set = λ v i. p.set v (variable_of_one x v (subst (λ r. IsAmong r v) (append-nil (variable_in x)) i));
+}
 
 pub placing_more : (cells mid new : List Sym) (n m k : ℕ) (old ms slots : List Slot) (symbols : List Sym) (i : ℕ) (x y : Sym)
     → Placing cells mid n m old ms (take i symbols) → i < length symbols → get_or symbols i (Var 0) ≡ x → Places mid m ms slots x y
     → k ≡ above m (variable_in y) → new ≡ mid ++ y ∷ [] → Placing cells new n k old slots (take (i + 1) symbols)
 placing_more cells mid new n m k old ms slots symbols i x y h l e p c q =
     let t : take (i + 1) symbols ≡ take i symbols ++ x ∷ [] = take_more symbols i (Var 0) l ∙ ap (λ z. take i symbols ++ z ∷ []) e in
-    rw (q, c, t) (more_put cells mid n m old ms slots (take i symbols) x y h p)
+    rw (q, c, t) (placing_then cells mid (mid ++ y ∷ []) n m (above m (variable_in y)) old ms slots (take i symbols) (x ∷ []) h (placing_one mid m ms slots x y p))
 
 spell_single : (x : Sym) → arity_of x ≡ 0 → spell (single_term x) ≡ x ∷ []
 spell_single (Var v) e = refl
@@ -251,10 +261,9 @@ images_put cells n slots (x ∷ xs) h s =
 pub shifted_zero : (t : Term) → shifted 0 t ≡ t
 shifted_zero t = apply-same (λ v. variable (0 + v)) variable (λ v. ap variable (omega arith)) t ∙ apply-variable t
 
-pub placed_all : (cells new : List Sym) (n m : ℕ) (old slots : List Slot) (symbols : List Sym) (i : ℕ) (t : Term) → Placing cells new n m old slots (take i symbols) → length symbols ≤ i → symbols ≡ spell t
-    → HasPlaced cells new n m old slots t
-placed_all cells new n m old slots symbols i t g l is =
-    let h : Placing cells new n m old slots (spell t) = subst (Placing cells new n m old slots) (take_all i symbols l ∙ is) g in
+pub placed_all : (cells new : List Sym) (n m : ℕ) (old slots : List Slot) (symbols : List Sym) (t : Term) → Placing cells new n m old slots symbols → symbols ≡ spell t → HasPlaced cells new n m old slots t
+placed_all cells new n m old slots symbols t g is =
+    let h : Placing cells new n m old slots (spell t) = subst (Placing cells new n m old slots) is g in
     let set : (v : ℕ) → Occurs v t → IsSet (slot_at slots v) = λ v o. h.set v (subst (λ r. IsAmong r v) (sym (flat_map-variables t)) o) in
     let u = apply (put_for new slots) t in
     let e : map (put_symbol new slots) (spell t) ≡ spell (shifted 0 u) =

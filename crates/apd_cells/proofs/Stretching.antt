@@ -111,7 +111,7 @@ module _ (copied : List Stretch) (symbols cells mid : List Sym) (n m : ℕ) (old
       let f = put_symbol (mid ++ y ∷ []) new in
       flat_map-append (image means) h.ys (y ∷ [])
       ∙ ap (λ z. flat_map (image means) h.ys ++ z) (append-nil (image means y) ∙ put means a)
-      ∙ ap (λ z. z ++ flat_map (image means) (map f zs)) (h.same means a ∙ ap (flat_map (image means)) (sym (same_puts mid y n ms new m m xs h.slots newer h.set)))
+      ∙ ap (λ z. z ++ flat_map (image means) (map f zs)) (h.same means a ∙ ap (flat_map (image means)) (sym (same_puts mid (y ∷ []) ms new m m xs h.slots newer h.set)))
       ∙ sym (flat_map-append (image means) (map f xs) (map f zs))
       ∙ ap (flat_map (image means)) (sym (map-append f xs zs))
 

@@ -8,7 +8,7 @@ use Rattle.apd_term.specs.Term.{Term, variable, integer, compound, none, apply, 
 use Rattle.apd_term.specs.Spelling.{image, variable_in}
 use Rattle.apd_term.specs.Canonical.{shifted}
 use Rattle.apd_cells.specs.Stored.{Stored}
-use Rattle.apd_cells.specs.Store.{above, meaning, term_at, loaded, symbol_at}
+use Rattle.apd_cells.specs.Store.{above, meaning, term_at, loaded, symbol_at, with_symbols}
 use Rattle.apd_cells.specs.declared.slots.Stretch.{Stretch}
 use Rattle.apd_cells.specs.declared.slots.Slot.{Slot}
 use Rattle.apd_cells.specs.declared.slots.Slot.TheVariants.{New, Own, Given}
@@ -106,6 +106,14 @@ pub record Places (cells : List Sym) (n : ℕ) (old new : List Slot) (x y : Sym)
   pub put : y ≡ put_symbol (cells ++ y ∷ []) new x
   pub set : (v : ℕ) → x ≡ Var v → IsSet (slot_at new v)
 
+-- symbols of a clause were put behind the cells, where there were n variables and are n'
+pub record Placing (cells cells' : List Sym) (n n' : ℕ) (old new : List Slot) (xs : List Sym) : Type 0 where
+  pub put : cells' ≡ cells ++ map (put_symbol cells' new) xs
+  pub count : n' ≡ above n (flat_map variable_in (map (put_symbol cells' new) xs))
+  pub slots : AreSlots cells' n' new
+  pub newer : EachGetsOwn n cells' old new
+  pub set : (v : ℕ) → IsAmong (flat_map variable_in xs) v → IsSet (slot_at new v)
+
 -- a clause's term was put behind the cells, where there were n variables and are n'
 pub record HasPlaced (cells cells' : List Sym) (n n' : ℕ) (old new : List Slot) (t : Term) : Type 0 where
   pub put : cells' ≡ cells ++ spell (shifted 0 (apply (put_for cells' new) t))
@@ -145,6 +153,17 @@ pub record HasLoaded (s s' : Stored) (old new : List Slot) (t : Term) : Type 0 w
   pub slots : AreSlots s'.cells s'.variables new
   pub newer : EachGetsOwn s.variables s'.cells old new
   pub set : (v : ℕ) → Occurs v t → IsSet (slot_at new v)
+
+-- the symbols of what is put for terms of the clause
+abbrev pub put_terms : List Sym → List Slot → List Term → List Sym
+put_terms cells slots ts = flat_map spell (map (apply (put_for cells slots)) ts)
+
+-- terms of a clause were loaded at once, one behind the other, with what stands for its variables in their places
+pub record HasLoadedAll (s s' : Stored) (old new : List Slot) (ts : List Term) : Type 0 where
+  pub is : s' ≡ with_symbols s (put_terms s'.cells new ts) (above s.variables (flat_map variable_in (put_terms s'.cells new ts)))
+  pub slots : AreSlots s'.cells s'.variables new
+  pub newer : EachGetsOwn s.variables s'.cells old new
+  pub set : (v : ℕ) → IsAmong (flat_map variables ts) v → IsSet (slot_at new v)
 
 -- what stands for a variable, which is variable n where nothing does
 abbrev pub value_of : Stored → ℕ → Slot → Term

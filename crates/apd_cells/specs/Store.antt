@@ -92,6 +92,10 @@ loaded s t base = record {
   trail = Loaded (length s.cells) s.variables ∷ s.trail;
 }
 
+-- the store with more symbols behind the others, so many variables, and one note
+abbrev pub with_symbols : Stored → List Sym → ℕ → Stored
+with_symbols s xs n = record { cells = s.cells ++ xs; variables = n; trail = Loaded (length s.cells) s.variables ∷ s.trail }
+
 -- the store where a variable is bound to a cell
 abbrev pub bound : Stored → ℕ → ℕ → Stored
 bound s v c = record { cells = s.cells; variables = s.variables; trail = Bound v c ∷ s.trail }

@@ -1,28 +1,27 @@
 //! Cells, bindings and the trail.
 
-ghost use Rattle.std.specs.Prelude.{◌≡◌, ℕ, ◌+◌, ◌<◌, ◌≤◌, ◌^◌, ◌⊎◌, [], length, min, max, IfOk, IfSome, OnOk, OnErr, MatchOption};
+ghost use Rattle.std.specs.Prelude.{◌≡◌, ℕ, ◌+◌, ◌<◌, ◌≤◌, ◌^◌, ◌⊎◌, [], length, min, max, IfSome, OnOk, OnErr, MatchOption};
 ghost use Rattle.std.specs.Bool.{OnTrue};
-ghost use Rattle.apd_term.specs.Term.{IsWhole, Occurs, size, spell, term_of};
+ghost use Rattle.apd_term.specs.Term.{Occurs, size, spell};
 ghost use Rattle.apd_term.specs.declared.term.Sym.TheVariants.{Var};
 ghost use Rattle.apd_cells.specs.Known.{HasExtent};
 ghost use Rattle.apd_cells.specs.Heap.{IsVariable};
 ghost use Rattle.apd_cells.specs.Live.{store_of};
-ghost use Rattle.apd_cells.specs.Slots.{AreSlots, HasLoaded};
 ghost use Rattle.apd_cells.specs.Undone.{undone, without_note, IsFront};
 ghost use Rattle.apd_cells.specs.declared.heap.Binding.TheVariants.{Free, At};
-ghost use Rattle.apd_cells.specs.Store.{meaning, term_at, written, symbol_at, binding_of, MayBind, bound, loaded, IsSound, IsEnd, IsTwin};
-ghost use Rattle.apd_cells.specs.Stretches.{AreMeant, AreStretches};
+ghost use Rattle.apd_cells.specs.Store.{term_at, written, symbol_at, binding_of, MayBind, bound, IsSound, IsEnd, IsTwin};
+
+mod loading;
 
 use crate::extents::Extents;
 use crate::front::{Front, NO_FRONT, above_term};
 use crate::kept::{KeptBinding, KeptNote};
 use crate::known::Extent;
 use crate::live::Live;
-use crate::slots::{Slot, Stretch, append_for};
-use crate::symbols::{append, compound_at, constant_at};
+use crate::symbols::{compound_at, constant_at};
 use apd_base::stack::Stack;
+use apd_term::Sym;
 use apd_term::term::term_end;
-use apd_term::{Flat, Sym};
 use std::alloc::{AllocError, Global};
 use std::marker::Model;
 
@@ -37,7 +36,7 @@ pub enum Binding {
 /// A note of the trail.
 #[derive(Clone, Copy)]
 pub enum TrailNote {
-    /// A term was loaded where so many cells and so many variables were.
+    /// Terms were loaded where so many cells and so many variables were.
     Loaded(usize, usize),
     /// A variable was bound to a cell.
     Bound(u64, usize),
@@ -295,61 +294,6 @@ impl Heap {
         self.touched = self.touched.max(above);
         self.sizes.forget_bound(self.cells.as_slice(), v, to);
         Ok(())
-    }
-
-    /// Puts a term behind the others, its variables raised by `base`. After want of memory nothing has changed.
-    pub fn load(&mut self, t: &Flat, base: u64) -> Result<usize, AllocError>
-        requires { (v : ℕ) → Occurs v t.now → base + v < 2 ^ 64 }
-        ensures cell { IfOk result (λ c. c ≡ length self.old.cells) }
-        ensures ok { OnOk result (self.new ≡ loaded self.old t.now base) }
-        ensures store { IsSound self.old }
-        ensures err { OnErr result (self.new ≡ self.old) }
-    {
-        let cells = self.cells.len();
-        let variables = self.bindings.len();
-        let note = KeptNote::loaded(cells, variables)?;
-        self.trail.push(note)?;
-        if let Err(e) = append(&mut self.cells, &mut self.bindings, t, base) {
-            self.cells.truncate(cells);
-            self.bindings.truncate(variables);
-            let _ = self.trail.pop();
-            return Err(e);
-        }
-        self.front = Front { cells, variables };
-        self.longest = self.longest.max(self.cells.len() - cells);
-        Ok(cells)
-    }
-
-    /// Loads a term of a clause by slots and stretches. After want of memory nothing has changed but slots.
-    pub fn load_for(
-        &mut self,
-        symbols: &[Sym],
-        slots: &mut Vec<Slot>,
-        copied: &[Stretch],
-    ) -> Result<usize, AllocError>
-        requires whole { IsWhole symbols.now }
-        requires slots { AreSlots self.old.cells self.old.variables slots.old.items }
-        requires stretches { AreStretches symbols.now copied.now }
-        requires meant { AreMeant (meaning self.old.cells self.old.trail) symbols.now copied.now }
-        ensures cell { IfOk result (λ c. c ≡ length self.old.cells) }
-        ensures ok { OnOk result
-            (HasLoaded self.old self.new slots.old.items slots.new.items (term_of symbols.now)) }
-        ensures store { IsSound self.old }
-        ensures err { OnErr result (self.new ≡ self.old) }
-    {
-        let cells = self.cells.len();
-        let variables = self.bindings.len();
-        let note = KeptNote::loaded(cells, variables)?;
-        self.trail.push(note)?;
-        if let Err(e) = append_for(&mut self.cells, &mut self.bindings, slots, symbols, copied) {
-            self.cells.truncate(cells);
-            self.bindings.truncate(variables);
-            let _ = self.trail.pop();
-            return Err(e);
-        }
-        self.front = Front { cells, variables };
-        self.longest = self.longest.max(self.cells.len() - cells);
-        Ok(cells)
     }
 
     /// How many notes the trail has.

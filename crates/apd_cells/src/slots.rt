@@ -1,15 +1,16 @@
 //! What stands for the variables of a clause while it is entered, and terms of the clause that are put behind the cells.
 
 ghost use Rattle.std.specs.Prelude.{◌≡◌, ◌<◌, ℕ, List, length, take, IfOk, IfSome, OnOk};
-ghost use Rattle.apd_term.specs.Term.{IsWhole, Term, term_of, variables};
+ghost use Rattle.std.specs.List.{flat_map};
+ghost use Rattle.apd_term.specs.Term.{IsWhole, Term, spell, term_of, variables};
 ghost use Rattle.apd_cells.specs.Heap.{HasMore};
-ghost use Rattle.apd_cells.specs.Slots.{slot_at, AreSlots, HasRoom, HasSet, IsPutFor, Places, PlacesNext, HasPlaced, HasPut};
+ghost use Rattle.apd_cells.specs.Slots.{slot_at, AreSlots, HasRoom, HasSet, IsPutFor, Places, PlacesNext, Placing, HasPut};
 ghost use Rattle.apd_cells.specs.Stretches.{AreMeant, AreStretches, IsMeant, IsStretch};
 
 use crate::kept::KeptBinding;
 use crate::symbols::{above_symbol, make_room};
 use apd_base::stack::room_for_one;
-use apd_term::Sym;
+use apd_term::{Flat, Sym};
 use std::alloc::AllocError;
 
 /// What stands for a variable of a clause.
@@ -99,10 +100,9 @@ fn append_placed(
     there: usize,
     symbols: &[Sym],
 ) -> Result<usize, AllocError>
-    requires slots { AreSlots cells.old.items there slots.old.items }
-    requires whole { IsWhole symbols.now }
-    ensures put { IfOk result (λ n. HasPlaced cells.old.items cells.new.items there n
-        slots.old.items slots.new.items (term_of symbols.now)) }
+    requires { AreSlots cells.old.items there slots.old.items }
+    ensures put { IfOk result (λ n. Placing cells.old.items cells.new.items there n
+        slots.old.items slots.new.items symbols.now) }
     ensures front { take (length cells.old.items) cells.new.items ≡ cells.old.items }
 {
     cells.reserve(symbols.len())?;
@@ -242,6 +242,28 @@ pub fn append_for(
     ensures more { HasMore bindings.old.items bindings.new.items }
 {
     let count = append_symbols(cells, slots, bindings.len(), symbols, copied)?;
+    make_room(bindings, count)?;
+    Ok(())
+}
+
+/// Puts terms of a clause behind the cells, one behind the other, with what stands for its variables in their places.
+pub fn append_all(
+    cells: &mut Vec<Sym>,
+    bindings: &mut Vec<KeptBinding>,
+    slots: &mut Vec<Slot>,
+    terms: &[Flat],
+) -> Result<(), AllocError>
+    requires { AreSlots cells.old.items (length bindings.old.items) slots.old.items }
+    ensures put { OnOk result (Placing cells.old.items cells.new.items
+        (length bindings.old.items) (length bindings.new.items)
+        slots.old.items slots.new.items (flat_map spell terms.now)) }
+    ensures front { take (length cells.old.items) cells.new.items ≡ cells.old.items }
+    ensures more { HasMore bindings.old.items bindings.new.items }
+{
+    let mut count = bindings.len();
+    'terms: for term in terms {
+        count = append_placed(cells, slots, count, term.symbols())?;
+    }
     make_room(bindings, count)?;
     Ok(())
 }

@@ -7,10 +7,11 @@ use Rattle.apd_term.specs.Tuple.{apply_tuple}
 use Rattle.apd_term.specs.declared.tuple.Tuple.{Tuple}
 use Rattle.apd_term.proofs.Applying.{apply-followed_by, apply-same}
 use Rattle.apd_term.proofs.Tuples.{apply_tuple-followed_by, apply_tuple-variable}
-use Rattle.apd_unify.specs.Heads.{HasGoneOn, IsLoadedFor, Matches}
+use Rattle.apd_unify.specs.Heads.{HasBody, HasGoneOn, IsLoadedFor, Matches}
 use Rattle.apd_unify.specs.Unifier.{IsUnifier, HasNoUnifier}
 use Rattle.apd_unify.specs.Cells.{AreCells}
 use Rattle.apd_unify.specs.declared.store.Cell.{Cell}
+use Rattle.apd_unify.proofs.Bodies.{each_same}
 use Rattle.apd_unify.proofs.Fitting.{has_numbers, made_terms}
 use Rattle.apd_unify.proofs.Matched.{fits_back, gone_self, gone_trans}
 use Rattle.apd_unify.proofs.Turning.{more_cells}
@@ -20,7 +21,7 @@ use Rattle.apd_cells.specs.Store.{term_at, IsSound}
 use Rattle.apd_cells.specs.declared.slots.Slot.{Slot}
 use Rattle.apd_trace.specs.Frames.{shifted_tuple}
 use Rattle.apd_frames.specs.Links.{instance_of}
-use Rattle.apd_frames.specs.Instances.{terms_in, HasBody, InstantiatesVariant, IsVariant}
+use Rattle.apd_frames.specs.Instances.{terms_in, InstantiatesVariant, IsVariant}
 use Rattle.apd_frames.proofs.Branching.{inside_more}
 use Rattle.apd_frames.proofs.Instancing.{inside_one, terms_same}
 use Rattle.apd_frames.proofs.Linking.{tuple_of}
@@ -42,10 +43,6 @@ body_none s slots terms cs h e = rw e (record {
   inside = tt;
 })
 
-map_same : (v w : ℕ → Term) (ts : List Term) → ((x : ℕ) → v x ≡ w x) → map (apply v) ts ≡ map (apply w) ts
-map_same v w [] h = refl
-map_same v w (t ∷ ts) h = ap (λ x. x ∷ map (apply v) ts) (apply-same v w h t) ∙ ap (λ xs. apply w t ∷ xs) (map_same v w ts h)
-
 pub body_more : (s m s' : Stored) (old mid new : List Slot) (terms : List Term) (i : ℕ) (cs out : List Cell) (t : Term) (c : Cell) → AreLoadedFor s m old mid terms i cs
     → i < length terms → t ≡ get_or terms i t → IsLoadedFor m s' mid new t c.0 → out ≡ cs ++ c ∷ [] → AreLoadedFor s s' old new terms (i + 1) out
 body_more s m s' old mid new terms i cs out t c h l at k e =
@@ -58,7 +55,7 @@ body_more s m s' old mid new terms i cs out t c h l at k e =
       made = λ g f. (let f1 = fits_back g m s' mid new h.gone.slots k.gone f in let w = value_in s' g.of new in
           map-append (λ (d : Cell). term_at s' d.0) cs (c ∷ [])
           ∙ ap (λ ts. ts ++ term_at s' c.0 ∷ [])
-          (terms_same m s' cs h.inside k.others ∙ h.made g f1 ∙ map_same (value_in m g.of mid) w (take i terms) (λ v. sym (k.values g f v)))
+          (terms_same m s' cs h.inside k.others ∙ h.made g f1 ∙ each_same (value_in m g.of mid) w (take i terms) (λ v. sym (k.values g f v)))
           ∙ ap (λ x. map (apply w) (take i terms) ++ x ∷ []) (k.made g f ∙ ap (apply w) at)
           ∙ sym (map_more (apply w) terms i t l));
       inside = inside_one (length s'.cells) cs c (inside_more (length m.cells) (length s'.cells) cs j h.inside) k.inside;
@@ -74,7 +71,7 @@ body_all s s' old new terms i cs h l = record {
 }
 
 tuple_same : (v w : ℕ → Term) (t : Tuple) → ((x : ℕ) → v x ≡ w x) → apply_tuple v t ≡ apply_tuple w t
-tuple_same v w t h = ap (λ x. tuple_of x (map (apply v) t.body)) (apply-same v w h t.head) ∙ ap (tuple_of (apply w t.head)) (map_same v w t.body h)
+tuple_same v w t h = ap (λ x. tuple_of x (map (apply v) t.body)) (apply-same v w h t.head) ∙ ap (tuple_of (apply w t.head)) (each_same v w t.body h)
 
 -- the clause by the numbers of its variables, counted from n
 abbrev numbered_by : Numbering → ℕ → Tuple → Tuple

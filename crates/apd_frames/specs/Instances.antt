@@ -8,9 +8,6 @@ use Rattle.apd_term.specs.declared.tuple.Tuple.{Tuple}
 use Rattle.apd_unify.specs.Unifier.{IsUnifier, HasNoUnifier}
 use Rattle.apd_unify.specs.Cells.{AreCells}
 use Rattle.apd_unify.specs.declared.store.Cell.{Cell}
-use Rattle.apd_unify.specs.Heads.{HasGoneOn}
-use Rattle.apd_cells.specs.Slots.{Fits, Numbering, value_in}
-use Rattle.apd_cells.specs.declared.slots.Slot.{Slot}
 use Rattle.apd_cells.specs.Stored.{Stored}
 use Rattle.apd_cells.specs.Store.{term_at, meaning, Keeps}
 use Rattle.apd_trace.specs.Frames.{is_large, shifted_tuple}
@@ -54,14 +51,6 @@ pub record HasLaid (old new : Stored) : Type 0 where
   pub kept : Keeps old new
   pub cells : length old.cells ≤ length new.cells
   pub others : (c : ℕ) → c < length old.cells → term_at new c ≡ term_at old c
-
--- a clause's goals were loaded, with what stands for its variables in their places
-pub record HasBody (s s' : Stored) (old new : List Slot) (body : List Term) (goals : List Cell) : Type 0 where
-  pub gone : HasGoneOn s s' old new
-  pub values : (g : Numbering) → Fits g s' new → (v : ℕ) → value_in s' g.of new v ≡ value_in s g.of old v
-  pub others : (c : ℕ) → c < length s.cells → term_at s' c ≡ term_at s c
-  pub made : (g : Numbering) → Fits g s' new → terms_in s' goals ≡ map (apply (value_in s' g.of new)) body
-  pub inside : AreCells (length s'.cells) goals
 
 -- the rule's variables were raised above all others, its head was unified with the goal, and this is its instance then
 pub record IsInstantiated (i : Instance) (old new : Stored) (goal : ℕ) (rule : Tuple) : Type 0 where

@@ -112,7 +112,7 @@ fn lay_all(
     Ok(())
 }
 
-/// The same, where there is a program.
+/// Lays the pieces of a program as [`lay_all`] does, where there is one.
 pub fn lay(
     store: &mut Store,
     floor: &mut Vec<Laid>,
@@ -168,7 +168,7 @@ fn expect_laid(
     store.expect(hints.as_slice())
 }
 
-/// The same of a clause's head. Nothing is expected of the clause where it can't have pieces.
+/// Tells the store where the first pieces of a clause's head are expected: none where the clause can't have pieces.
 #[inline(always)]
 pub fn expect_head(
     store: &mut Store,
@@ -184,7 +184,7 @@ pub fn expect_head(
     expect_laid(store, hints, laid_of(floor, clause), 0)
 }
 
-/// The same of a clause's goal, counted from 1.
+/// Tells the store where the first pieces of a clause's goal, counted from 1, are expected.
 pub fn expect_goal(
     store: &mut Store,
     hints: &mut Vec<Hint>,

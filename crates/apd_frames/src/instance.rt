@@ -10,10 +10,10 @@ ghost use Rattle.apd_cells.specs.Store.{at_mark, IsSound, Keeps};
 ghost use Rattle.apd_trace.specs.Frames.{query_frame};
 ghost use Rattle.apd_clauses.specs.Clauses.{IsRunnable};
 ghost use Rattle.apd_unify.specs.Cells.{AreCells};
-ghost use Rattle.apd_unify.specs.Heads.{HasGoneOn, IsLoadedFor, Matches};
+ghost use Rattle.apd_unify.specs.Heads.{HasBody, HasGoneOn, IsLoadedFor, Matches};
 ghost use Rattle.apd_frames.specs.Links.{link_of};
 ghost use Rattle.apd_frames.specs.Linked.{frames_at, IsFramed, IsThere};
-ghost use Rattle.apd_frames.specs.Instances.{terms_in, instance_where, tuple_in, raised_in, CanonicalWithin, IsWithin, HasBody, HasGrown, InstantiatesVariant};
+ghost use Rattle.apd_frames.specs.Instances.{terms_in, instance_where, tuple_in, raised_in, CanonicalWithin, IsWithin, HasGrown, InstantiatesVariant};
 
 use crate::floor::{Laid, expect_goal, expect_head, lay, may_share};
 use crate::links::{LinkRef, Links};
@@ -113,28 +113,6 @@ pub fn lay_query(
     Ok(())
 }
 
-/// Loads the goals of a clause, with what stands for its variables in their places, and leaves their cells alone in
-/// `cells`.
-fn load_body(
-    store: &mut Store,
-    cells: &mut Vec<Cell>,
-    slots: &mut Vec<Slot>,
-    body: &[Flat],
-) -> Result<(), AllocError>
-    requires { AreSlots store.old.cells store.old.variables slots.old.items }
-    ensures loaded { OnOk result
-        (HasBody store.old store.new slots.old.items slots.new.items body.now cells.new.items) }
-    ensures kept { Keeps store.old store.new }
-    ensures more { length store.old.cells ≤ length store.new.cells }
-{
-    cells.clear();
-    'goals: for goal in body {
-        let cell = store.load_for(goal, slots)?;
-        cells.push(cell)?;
-    }
-    Ok(())
-}
-
 /// Loads a goal of a clause as [`Store::load_for`] does. Its pieces aren't copied where they stand in the store.
 fn load_goal(
     store: &mut Store,
@@ -155,8 +133,8 @@ fn load_goal(
     store.load_for(goal, &mut made.slots)
 }
 
-/// Loads the goals of a clause that may have pieces as [`load_body`] does.
-fn load_sharing(
+/// Loads the goals of a clause that may have pieces one by one, as [`load_goals`] does.
+fn load_in_turn(
     store: &mut Store,
     made: &mut Made,
     body: &[Flat],
@@ -193,9 +171,9 @@ fn load_goals(
     ensures more { length store.old.cells ≤ length store.new.cells }
 {
     if !may_share(made.floor.as_slice(), clause) {
-        return load_body(store, &mut made.goals, &mut made.slots, body);
+        return store.load_body(body, &mut made.slots, &mut made.goals);
     }
-    load_sharing(store, made, body, clause)
+    load_in_turn(store, made, body, clause)
 }
 
 /// Makes the goal at a cell and the head of a clause equal as [`Store::unify_head`] does. Pieces of the head aren't copied

@@ -167,7 +167,7 @@ fn kept_anew(
     Ok(Some(count.extent))
 }
 
-/// The same, where it may be known.
+/// The extent of the term at a cell, up to a limit: what is known of it, or else a count, as [`kept_anew`] makes it.
 #[inline(always)]
 fn kept_within(
     heap: &mut Heap,

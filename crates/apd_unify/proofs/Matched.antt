@@ -2,7 +2,7 @@
 use Rattle.std.proofs.Common.{◌≡◌, ◌≢◌, inl, inr, ℕ, ◌+◌, ◌<◌, ◌≤◌, Bool, true, false, List, [], ◌∷◌, ◌++◌, length, get_or, take, drop, refl, sym, ◌∙◌, ap, subst, arith, append_assoc}
 use Rattle.std.specs.Prelude.{OnOk, Some, Result, Ok, Err, slice_get}
 use Rattle.std.proofs.lemmas.Bool.{cases_eq}
-use Rattle.std.proofs.lemmas.List.{append-nil, drop_more, get_or_append_left, length-append, take_at}
+use Rattle.std.proofs.lemmas.List.{append-nil, drop_more, get_or_append_left, length-append}
 use Rattle.apd_term.specs.declared.term.Sym.{Sym}
 use Rattle.apd_term.specs.declared.term.Sym.TheVariants.{Var, Int, Fun}
 use Rattle.apd_term.specs.Term.{Term, variable, compound, terms_of, apply, spell, variables, arity_of, first_of, read_all, term_of, IsTerms, Occurs}
@@ -19,17 +19,17 @@ use Rattle.apd_unify.specs.Unifier.{OccursIn, BringsNoVariable, HasNoUnifier, Is
 use Rattle.apd_unify.proofs.Beginning.{first_symbol-apply, apart_first, no_unifier_apart}
 use Rattle.apd_cells.specs.First.{first_symbol, IsFixed}
 use Rattle.apd_cells.specs.Numbered.{IsNumbered}
-use Rattle.apd_cells.specs.Slots.{slot_at, cell_of, IsSet, HasSet, IsSingle, IsSlot, AreSlots, GetsOwn, GetsAny, EachGetsAny, single_term, put_for, HasLoaded, value_of, value_in, Numbering, IsNumberOf, Fits}
+use Rattle.apd_cells.specs.Slots.{slot_at, cell_of, IsSet, HasSet, IsSingle, IsSlot, AreSlots, GetsOwn, EachGetsOwn, GetsAny, EachGetsAny, single_term, put_for, HasLoaded, value_of, value_in, Numbering, IsNumberOf, Fits}
 use Rattle.apd_cells.specs.Stored.{Stored}
-use Rattle.apd_cells.specs.Store.{written, meaning, term_at, symbol_at, loaded, IsEnd, IsSound, IsStore, Keeps}
+use Rattle.apd_cells.specs.Store.{written, meaning, term_at, symbol_at, loaded, IsEnd, IsSound, Keeps}
 use Rattle.apd_cells.specs.declared.slots.Slot.{Slot}
 use Rattle.apd_cells.specs.declared.slots.Slot.TheVariants.{New, Own, Given}
 use Rattle.apd_cells.proofs.Bindings.{Keeps-self}
 use Rattle.apd_cells.proofs.Following.{written-variable}
 use Rattle.apd_cells.proofs.Keeping.{meaning-loaded, term_at-others, made_loaded, Keeps-loaded, Keeps-trans}
 use Rattle.apd_cells.proofs.Keys.{first_symbol-end}
-use Rattle.apd_cells.proofs.Loading.{above-ge, HasCells-more}
-use Rattle.apd_cells.proofs.Meaning.{HasCells-of, apply-absent}
+use Rattle.apd_cells.proofs.Loading.{above-ge, store_loaded}
+use Rattle.apd_cells.proofs.Meaning.{apply-absent}
 use Rattle.apd_cells.proofs.Numbering.{is_numbered}
 use Rattle.apd_cells.proofs.Standing.{shifted_zero}
 use Rattle.apd_cells.proofs.Touching.{touched-all, untouched}
@@ -123,11 +123,46 @@ gone_self s slots h = record {
 }
 
 sound_loaded : (s : Stored) (t : Term) (base : ℕ) → IsSound s → IsSound (loaded s t base)
-sound_loaded s t base h =
-    let u = shifted base t in (
-      HasCells-more s.cells s.variables u (HasCells-of s.cells s.variables s.trail h),
-      (omega (arith, length-append s.cells (spell u)), (above-ge s.variables (variables u), subst (λ z. IsStore z s.variables s.trail) (sym (take_at s.cells (spell u) (length s.cells) refl)) h)),
-    )
+sound_loaded s t base h = store_loaded s.cells s.variables (shifted base t) s.trail h
+
+-- cells came behind the others, slots got some of them, and nothing else was done
+module _ (s s' : Stored) (old new : List Slot) (store : IsSound s) (slots : AreSlots s.cells s.variables old) (now : AreSlots s'.cells s'.variables new) (newer : EachGetsOwn s.variables s'.cells old new)
+    (means : (v : ℕ) → meaning s'.cells s'.trail v ≡ meaning s.cells s.trail v) (others : (c : ℕ) → c < length s.cells → term_at s' c ≡ term_at s c) where
+  value_newer : (owner owner' : ℕ → ℕ) (v n : ℕ) (a b : Slot) → IsSlot s.cells s.variables owner v a → IsSlot s'.cells s'.variables owner' v b → GetsOwn s.variables s'.cells a b → IsNumberOf s' n b
+      → value_of s' n b ≡ value_of s n a
+  value_newer owner owner' v n New New i j k f = refl
+  value_newer owner owner' v n New (Own c) i j k f =
+      ap (apply (meaning s'.cells s'.trail)) (written-variable s'.cells c n j.0.inside f) ∙ means n ∙ (is_numbered s store).unused n (k n f)
+  value_newer owner owner' v n New (Given c) i j k f = absurd k
+  value_newer owner owner' v n (Own c) b i j k f = ap (value_of s' n) k ∙ others c i.0.inside
+  value_newer owner owner' v n (Given c) b i j k f = ap (value_of s' n) k ∙ others c i.inside
+
+  pub values_newer : (g : Numbering) → Fits g s' new → (v : ℕ) → value_in s' g.of new v ≡ value_in s g.of old v
+  values_newer g f v = value_newer slots.owner now.owner v (g.of v) (slot_at old v) (slot_at new v) (slots.each v) (now.each v) (newer v) (f v)
+
+  value_put : (g : Numbering) (v : ℕ) → IsSet (slot_at new v) → apply (meaning s.cells s.trail) (put_for s'.cells new v) ≡ value_in s' g.of new v
+  value_put g v i =
+      let c = cell_of (slot_at new v) in
+      let one = inside_of s'.cells s'.variables now.owner v (slot_at new v) (now.each v) i in
+      ap (apply (meaning s.cells s.trail)) (sym (written_single s'.cells c one))
+      ∙ apply-same (meaning s.cells s.trail) (meaning s'.cells s'.trail) (λ w. sym (means w)) (written s'.cells c)
+      ∙ sym (value_set s' (g.of v) (slot_at new v) i)
+
+  -- what is put for a term means what its variables stand for
+  pub applied_put : (g : Numbering) (t : Term) → ((v : ℕ) → Occurs v t → IsSet (slot_at new v)) → apply (meaning s.cells s.trail) (apply (put_for s'.cells new) t) ≡ apply (value_in s' g.of new) t
+  applied_put g t set =
+      apply-followed_by (put_for s'.cells new) (meaning s.cells s.trail) t
+      ∙ apply-agree (followed_by (put_for s'.cells new) (meaning s.cells s.trail)) (value_in s' g.of new) t (λ v o. value_put g v (set v o))
+
+  pub gone_newer : (more : List Sym) → s'.cells ≡ s.cells ++ more → s.variables ≤ s'.variables → Keeps s s' → HasGoneOn s s' old new
+  gone_newer more cells variables keeps = record {
+    more = more;
+    cells = cells;
+    variables = variables;
+    slots = now;
+    later = λ v. later_newer s.variables s'.cells (slot_at old v) (slot_at new v) (newer v);
+    keeps = keeps;
+  }
 
 -- a term of the clause was loaded
 module _ (s s' : Stored) (old new : List Slot) (t : Term) (store : IsSound s) (slots : AreSlots s.cells s.variables old) (h : HasLoaded s s' old new t) where
@@ -140,47 +175,23 @@ module _ (s s' : Stored) (old new : List Slot) (t : Term) (store : IsSound s) (s
   others_then : (c : ℕ) → c < length s.cells → term_at s' c ≡ term_at s c
   others_then c l = ap (λ (z : Stored). term_at z c) h.is ∙ term_at-others s h.term 0 c store l
 
-  value_newer : (owner owner' : ℕ → ℕ) (v n : ℕ) (a b : Slot) → IsSlot s.cells s.variables owner v a → IsSlot s'.cells s'.variables owner' v b → GetsOwn s.variables s'.cells a b → IsNumberOf s' n b
-      → value_of s' n b ≡ value_of s n a
-  value_newer owner owner' v n New New i j k f = refl
-  value_newer owner owner' v n New (Own c) i j k f =
-      ap (apply (meaning s'.cells s'.trail)) (written-variable s'.cells c n j.0.inside f) ∙ means_then n ∙ (is_numbered s store).unused n (k n f)
-  value_newer owner owner' v n New (Given c) i j k f = absurd k
-  value_newer owner owner' v n (Own c) b i j k f = ap (value_of s' n) k ∙ others_then c i.0.inside
-  value_newer owner owner' v n (Given c) b i j k f = ap (value_of s' n) k ∙ others_then c i.inside
-
-  value_put : (g : Numbering) (v : ℕ) → IsSet (slot_at new v) → apply (meaning s.cells s.trail) (put_for s'.cells new v) ≡ value_in s' g.of new v
-  value_put g v i =
-      let c = cell_of (slot_at new v) in
-      let one = inside_of s'.cells s'.variables h.slots.owner v (slot_at new v) (h.slots.each v) i in
-      ap (apply (meaning s.cells s.trail)) (sym (written_single s'.cells c one))
-      ∙ apply-same (meaning s.cells s.trail) (meaning s'.cells s'.trail) (λ w. sym (means_then w)) (written s'.cells c)
-      ∙ sym (value_set s' (g.of v) (slot_at new v) i)
-
   pub loaded_for : (c : ℕ) → c ≡ length s.cells → IsLoadedFor s s' old new t c
   loaded_for c e =
       let u = h.term in
       let n : length s'.cells ≡ length s.cells + length (spell (shifted 0 u)) = ap (λ (z : Stored). length z.cells) h.is ∙ length-append s.cells (spell (shifted 0 u)) in
       let there : s'.variables ≡ (loaded s u 0).variables = ap (λ (z : Stored). z.variables) h.is in
       record {
-        gone = record {
-          more = spell (shifted 0 u);
-          cells = ap (λ (z : Stored). z.cells) h.is;
-          variables = omega (arith, there, above-ge s.variables (variables (shifted 0 u)));
-          slots = h.slots;
-          later = λ v. later_newer s.variables s'.cells (slot_at old v) (slot_at new v) (h.newer v);
-          keeps = subst (Keeps s) (sym h.is) (Keeps-loaded s u 0);
-        };
+        gone = gone_newer s s' old new store slots h.slots h.newer means_then others_then (spell (shifted 0 u)) (ap (λ (z : Stored). z.cells) h.is)
+            (omega (arith, there, above-ge s.variables (variables (shifted 0 u)))) (subst (Keeps s) (sym h.is) (Keeps-loaded s u 0));
         inside = omega (arith, n, e, some_symbol (shifted 0 u));
-        values = λ g f v. value_newer slots.owner h.slots.owner v (g.of v) (slot_at old v) (slot_at new v) (slots.each v) (h.slots.each v) (h.newer v) (f v);
+        values = values_newer s s' old new store slots h.slots h.newer means_then others_then;
         means = means_then;
         others = others_then;
         made = λ g f.
             made_loaded s s' u 0 c h.is e
             ∙ ap (apply (meaning s.cells s.trail)) (shifted_zero u)
             ∙ h.same
-            ∙ apply-followed_by (put_for s'.cells new) (meaning s.cells s.trail) t
-            ∙ apply-agree (followed_by (put_for s'.cells new) (meaning s.cells s.trail)) (value_in s' g.of new) t (λ v o. value_put g v (h.set v o));
+            ∙ applied_put s s' old new store slots h.slots h.newer means_then others_then g t h.set;
       }
 
 -- pairs change no variable that stands in neither term

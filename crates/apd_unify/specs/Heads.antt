@@ -1,10 +1,12 @@
 -- A goal and a clause's head that are made equal, where the head isn't loaded as a whole.
-use Rattle.std.specs.Prelude.{◌≡◌, ℕ, ◌+◌, ◌<◌, ◌≤◌, ◌^◌, Bool, true, false, List, ◌++◌, length, get_or, drop}
+use Rattle.std.specs.Prelude.{◌≡◌, ℕ, ◌+◌, ◌<◌, ◌≤◌, ◌^◌, Bool, true, false, List, ◌++◌, length, map, get_or, drop}
 use Rattle.apd_term.specs.declared.term.Sym.{Sym}
 use Rattle.apd_term.specs.declared.term.Sym.TheVariants.{Var}
 use Rattle.apd_term.specs.Term.{Term, apply, spell, size, first_of, read_all}
 use Rattle.apd_term.specs.Substitution.{term_for}
 use Rattle.apd_unify.specs.Unifier.{IsUnifier, HasNoUnifier}
+use Rattle.apd_unify.specs.Cells.{AreCells}
+use Rattle.apd_unify.specs.declared.store.Cell.{Cell}
 use Rattle.apd_unify.specs.declared.heads.Met.{Met}
 use Rattle.apd_unify.specs.declared.heads.Met.TheVariants.{Clash, Past, Symbol}
 use Rattle.apd_cells.specs.Slots.{EachGetsAny, AreSlots, Fits, Numbering, value_in}
@@ -43,6 +45,14 @@ pub record IsLoadedFor (s s' : Stored) (old new : List Slot) (t : Term) (c : ℕ
   pub means : (v : ℕ) → meaning s'.cells s'.trail v ≡ meaning s.cells s.trail v
   pub others : (d : ℕ) → d < length s.cells → term_at s' d ≡ term_at s d
   pub made : (g : Numbering) → Fits g s' new → term_at s' c ≡ apply (value_in s' g.of new) t
+
+-- a clause's goals were loaded at these cells, with what stands for its variables in their places
+pub record HasBody (s s' : Stored) (old new : List Slot) (body : List Term) (goals : List Cell) : Type 0 where
+  pub gone : HasGoneOn s s' old new
+  pub values : (g : Numbering) → Fits g s' new → (v : ℕ) → value_in s' g.of new v ≡ value_in s g.of old v
+  pub others : (c : ℕ) → c < length s.cells → term_at s' c ≡ term_at s c
+  pub made : (g : Numbering) → Fits g s' new → map (λ (c : Cell). term_at s' c.0) goals ≡ map (apply (value_in s' g.of new)) body
+  pub inside : AreCells (length s'.cells) goals
 
 -- whether the two have a unifier, and what was done where they have, by any numbers that fit what stands for variables
 -- in the end

@@ -66,7 +66,7 @@ fn load_sharing(
     heap.load_for(symbols, slots, solver.copied.as_slice())
 }
 
-/// The same, where mostly nothing is expected.
+/// Loads a term of a clause's term as [`load_sharing`] does. Mostly nothing is expected, and nothing looked for then.
 #[inline(always)]
 pub fn load_part(
     heap: &mut Heap,

@@ -1,26 +1,24 @@
 //! The store: terms in cells, which unification binds and which can be taken back.
 
-ghost use Rattle.std.specs.Prelude.{◌≡◌, ℕ, ◌<◌, ◌≤◌, ◌^◌, [], length, IfOk, MatchBool, OnOk, OnErr};
+ghost use Rattle.std.specs.Prelude.{◌≡◌, ℕ, ◌<◌, ◌≤◌, ◌^◌, [], length, IfOk, MatchBool, OnOk};
 ghost use Rattle.std.specs.Bool.{OnTrue};
-ghost use Rattle.apd_term.specs.Term.{arguments, integer, IsGround, Occurs, size};
-ghost use Rattle.apd_term.specs.Canonical.{shifted};
+ghost use Rattle.apd_term.specs.Term.{arguments, IsGround, size};
 ghost use Rattle.apd_cells.specs.First.{key_of, first_symbol};
 ghost use Rattle.apd_cells.specs.Live.{store_of};
 ghost use Rattle.apd_cells.specs.Numbered.{IsNumbered};
 ghost use Rattle.apd_cells.specs.Ordered.{Numbers};
-ghost use Rattle.apd_cells.specs.Slots.{AreSlots};
-ghost use Rattle.apd_cells.specs.Store.{term_at, under_bindings, binding_of, loaded, at_mark, Keeps, IsSound, SizeWithin};
+ghost use Rattle.apd_cells.specs.Store.{term_at, binding_of, at_mark, Keeps, IsSound, SizeWithin};
 ghost use Rattle.apd_cells.specs.Undone.{IsFront, undone};
 ghost use Rattle.apd_cells.specs.declared.heap.Binding.TheVariants.{Free};
 ghost use Rattle.apd_resolved.specs.Counting.{MeasuredWithin};
 ghost use Rattle.apd_unify.specs.Arguments.{HasOne, HasTwo};
-ghost use Rattle.apd_unify.specs.Copies.{HasShared};
-ghost use Rattle.apd_unify.specs.Heads.{HasGoneOn, IsLoadedFor, Matches};
+ghost use Rattle.apd_unify.specs.Heads.{HasGoneOn, Matches};
 ghost use Rattle.apd_unify.specs.Unified.{IsUnification};
 
+mod loading;
+
 use crate::arguments::{only_argument, two_arguments};
-use crate::copies::Hint;
-use crate::heads::{Solver, load_part, unify_head};
+use crate::heads::{Solver, unify_head};
 use crate::scratch::{Scratch, numbered_within};
 use crate::unify::unify;
 use apd_base::stack::Stack;
@@ -36,7 +34,6 @@ use apd_resolved::reading::{Looking, is_ground_within, resolved, size_within};
 use apd_term::{Flat, Sym};
 use std::alloc::{AllocError, Global};
 use std::marker::Model;
-use std::slice;
 
 /// The place of a term in a store.
 #[derive(Clone, Copy)]
@@ -66,16 +63,6 @@ impl Model for Store {
     ghost view = { λ s. s.heap };
 }
 
-/// Keeps these hints alone.
-#[inline(always)]
-fn keep_hints(kept: &mut Vec<Hint>, hints: &[Hint]) -> Result<(), AllocError> {
-    kept.clear();
-    for hint in hints {
-        kept.push(*hint)?;
-    }
-    Ok(())
-}
-
 impl Store {
     /// The store without a term.
     pub fn new(alloc: Global) -> Store
@@ -92,68 +79,6 @@ impl Store {
             runs: Stack::new(alloc),
             alloc,
         }
-    }
-
-    /// Loads a term, whose variables are the store's variables of these numbers. Memory is taken for all
-    /// variables up to the greatest. All other cells keep their terms. After want of memory nothing
-    /// has changed.
-    pub fn load(&mut self, t: &Flat) -> Result<Cell, AllocError>
-        requires { (v : ℕ) → Occurs v t.now → v < 2 ^ 64 }
-        ensures ok { OnOk result (self.new ≡ loaded self.old t.now 0) }
-        ensures cell { IfOk result (λ c. c.0 ≡ length self.old.cells) }
-        ensures made { IfOk result
-            (λ c. term_at self.new c.0 ≡ under_bindings self.old (shifted 0 t.now)) }
-        ensures others { (c : ℕ) → c < length self.old.cells →
-            term_at self.new c ≡ term_at self.old c }
-        ensures kept { Keeps self.old self.new }
-        ensures err { OnErr result (self.new ≡ self.old) }
-    {
-        let cell = self.heap.load(t, 0)?;
-        Ok(Cell(cell))
-    }
-
-    /// Loads a term without variables and a variable that is bound to it, whose cell it tells. The term's size is counted
-    /// once.
-    pub fn share(&mut self, t: &Flat) -> Result<Cell, AllocError>
-        requires { IsGround t.now }
-        ensures shared { OnOk result (HasShared self.old self.new) }
-        ensures kept { OnOk result (Keeps self.old self.new) }
-    {
-        let v = self.heap.variables() as u64;
-        let variable = Flat::variable(self.alloc, v)?;
-        let at = self.heap.load(&variable, 0)?;
-        let to = self.heap.load(t, 0)?;
-        self.heap.bind(v, to)?;
-        self.measure(Cell(at), u64::MAX)?;
-        Ok(Cell(at))
-    }
-
-    /// Of the clause's terms that are loaded next, and of its head, this is expected: where it is so, a term that stands in
-    /// the store isn't copied.
-    #[inline(always)]
-    pub fn expect(&mut self, hints: &[Hint]) -> Result<(), AllocError>
-        ensures { self.new ≡ self.old }
-    {
-        keep_hints(&mut self.solver.hints, hints)
-    }
-
-    /// Loads an integer. All other cells keep their terms. After want of memory nothing has changed.
-    pub fn load_integer(&mut self, value: i64) -> Result<Cell, AllocError>
-        ensures made { IfOk result (λ c. term_at self.new c.0 ≡ integer value) }
-        ensures cell { IfOk result (λ c. c.0 ≡ length self.old.cells) }
-        ensures there { IfOk result (λ c. c.0 < length self.new.cells) }
-        ensures others { OnOk result ((c : ℕ) → c < length self.old.cells →
-            term_at self.new c ≡ term_at self.old c) }
-        ensures kept { Keeps self.old self.new }
-        ensures cells { length self.old.cells ≤ length self.new.cells }
-        ensures err { OnErr result (self.new ≡ self.old) }
-    {
-        let symbol = Sym::Int(value);
-        let mut slots = Vec::new(self.alloc);
-        let cell = self
-            .heap
-            .load_for(slice::from_ref(&symbol), &mut slots, &[])?;
-        Ok(Cell(cell))
     }
 
     /// Applies a most general unifier of the terms at two cells to the terms of all cells; false
@@ -201,20 +126,6 @@ impl Store {
             goal.0,
             head,
         )
-    }
-
-    /// Loads a term of the clause, with what stands for its variables in their places. After want of memory the store is
-    /// as it was, and more may stand for variables than before.
-    pub fn load_for(&mut self, t: &Flat, slots: &mut Vec<Slot>) -> Result<Cell, AllocError>
-        requires { AreSlots self.old.cells self.old.variables slots.old.items }
-        ensures ok { IfOk result
-            (λ c. IsLoadedFor self.old self.new slots.old.items slots.new.items t.now c.0) }
-        ensures kept { Keeps self.old self.new }
-        ensures more { length self.old.cells ≤ length self.new.cells }
-        ensures err { OnErr result (self.new ≡ self.old) }
-    {
-        let cell = load_part(&mut self.heap, &mut self.solver, slots, 0, t.symbols())?;
-        Ok(Cell(cell))
     }
 
     /// How many cells there are.

@@ -1,13 +1,13 @@
-use Rattle.std.proofs.Common.{arith, get_or, refl, subst, sym}
-use Rattle.apd_term.specs.Term.{term_of}
+use Rattle.std.proofs.Common.{arith, get_or, refl, subst}
+use Rattle.std.proofs.lemmas.List.{take_all}
 use Rattle.apd_term.specs.declared.term.Sym.TheVariants.{Var}
-use Rattle.apd_cells.specs.Slots.{Places}
-use Rattle.apd_cells.proofs.Standing.{placing_first, placing_more, placed_all}
+use Rattle.apd_cells.specs.Slots.{Places, Placing}
+use Rattle.apd_cells.proofs.Standing.{placing_first, placing_more}
 use Rattle.apd_cells.proofs.slots.append_placed.Goals as goal
 
 pub loop-symbol-init : goal.loop-symbol-init
 loop-symbol-init c = record {
-  done = placing_first c.args.cells.now.items c.reserve.new.self.items c.args.there c.args.slots.now.items c.requires.slots c.reserve.ensures.items;
+  done = placing_first c.args.cells.now.items c.reserve.new.self.items c.args.there c.args.slots.now.items c.requires c.reserve.ensures.items;
   room = omega (arith, c.in_ok-reserve.ensures.ok);
 }
 
@@ -25,5 +25,5 @@ loop-symbol-preserved c = record {
 
 pub returns-clause-put : goal.returns-clause-put
 returns-clause-put c =
-    placed_all c.args.cells.now.items c.loop-symbol.cells.items c.args.there c.loop-symbol.count c.args.slots.now.items c.loop-symbol.slots.items
-    c.args.symbols.now c.loop-symbol.symbol-index (term_of c.args.symbols.now) c.loop-symbol.invariant.done c.loop-symbol-test.false (sym c.requires.whole)
+    subst (Placing c.args.cells.now.items c.loop-symbol.cells.items c.args.there c.loop-symbol.count c.args.slots.now.items c.loop-symbol.slots.items)
+    (take_all c.loop-symbol.symbol-index c.args.symbols.now c.loop-symbol-test.false) c.loop-symbol.invariant.done

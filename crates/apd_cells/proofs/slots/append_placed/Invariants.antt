@@ -1,6 +1,6 @@
 use Rattle.std.proofs.Common.{◌+◌, ◌-◌, ◌≤◌, length, take}
 use Rattle.std.specs.Prelude.{vec_capacity, vec_len}
-use Rattle.apd_cells.proofs.Standing.{Placing}
+use Rattle.apd_cells.specs.Slots.{Placing}
 use Rattle.apd_cells.proofs.slots.append_placed.Given as goal
 
 abbrev pub invariant-loop-symbol : goal.invariant-loop-symbol

@@ -1,7 +1,6 @@
 use Rattle.std.proofs.Common.{false, subst, true}
 use Rattle.apd_cells.proofs.Keeping.{Keeps-trans}
-use Rattle.apd_unify.specs.Heads.{Matches}
-use Rattle.apd_frames.specs.Instances.{HasBody}
+use Rattle.apd_unify.specs.Heads.{HasBody, Matches}
 use Rattle.apd_frames.proofs.Bodies.{entered_by_goal, not_entered}
 use Rattle.apd_frames.proofs.instance.instantiate_small.Goals as goal
 

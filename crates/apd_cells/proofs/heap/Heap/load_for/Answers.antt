@@ -1,14 +1,14 @@
 use Rattle.std.proofs.Common.{◌≡◌, ◌∷◌, ◌-◌, ◌∙◌, ap, length, arith, refl, subst, sym}
 use Rattle.std.specs.Prelude.{max}
-use Rattle.apd_term.specs.Term.{spell, term_of}
+use Rattle.apd_term.specs.Term.{spell, term_of, variables}
 use Rattle.apd_term.specs.Canonical.{shifted}
 use Rattle.apd_cells.specs.Stretches.{AreMeant}
 use Rattle.apd_cells.specs.Slots.{HasLoaded}
-use Rattle.apd_cells.specs.Store.{meaning}
+use Rattle.apd_cells.specs.Store.{above, meaning}
 use Rattle.apd_cells.specs.Stored.{Stored}
 use Rattle.apd_cells.proofs.Following.{viewed}
 use Rattle.apd_cells.proofs.Loading.{heap_loaded, viewed_loaded}
-use Rattle.apd_cells.proofs.Recent.{sizes_loaded}
+use Rattle.apd_cells.proofs.Recent.{sizes_behind}
 use Rattle.apd_cells.proofs.Touching.{marked_loaded}
 use Rattle.apd_cells.proofs.Flat.{compound_loaded, short_put}
 use Rattle.apd_cells.proofs.heap.Heap.load_for.Goals as goal
@@ -32,8 +32,8 @@ invariant_of-self-2 c =
       c.self.invariant.2 ∙ sym (compound_loaded c.self.inside.cells.items c.append_for.new.cells.items c.self.inside.trail c.push.new.self _ c.in_default.ensures.front g),
       short_put c.self.inside.cells.items c.append_for.new.cells.items (length c.self.inside.bindings.items) c.self.inside.trail (shifted 0 t) c.self.inside.longest _
           c.self.invariant.0.kept put.put c.self.invariant.3 longest,
-      sizes_loaded (viewed c.self.inside.cells.items c.self.inside.bindings.items c.self.inside.trail) _ t 0
-          c.self.inside.sizes c.self.invariant.0.kept
+      sizes_behind (viewed c.self.inside.cells.items c.self.inside.bindings.items c.self.inside.trail) _ (spell (shifted 0 t))
+          (above (length c.self.inside.bindings.items) (variables (shifted 0 t))) c.self.inside.sizes c.self.invariant.0.kept
           (viewed_loaded (viewed c.self.inside.cells.items c.self.inside.bindings.items c.self.inside.trail) c.self.inside.cells.items c.append_for.new.cells.items
           c.self.inside.bindings.items c.append_for.new.bindings.items c.self.inside.trail c.push.new.self t 0 refl put.put put.count g) c.self.invariant.4,
     )

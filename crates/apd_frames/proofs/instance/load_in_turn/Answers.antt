@@ -2,7 +2,7 @@ use Rattle.std.proofs.Common.{◌∙◌, ◌∷◌, ◌++◌, ◌≤◌, [], ap,
 use Rattle.apd_cells.proofs.Keeping.{Keeps-trans}
 use Rattle.apd_unify.proofs.Turning.{more_cells}
 use Rattle.apd_frames.proofs.Bodies.{body_none, body_more, body_all}
-use Rattle.apd_frames.proofs.instance.load_sharing.Goals as goal
+use Rattle.apd_frames.proofs.instance.load_in_turn.Goals as goal
 
 pub goals-init : goal.goals-init
 goals-init c = body_none c.args.store.now c.args.made.now.slots.items c.args.body.now c.clear.new.self.items c.requires c.clear.ensures.items

@@ -1,5 +1,6 @@
 -- What a journal has of a store that it follows.
-use Rattle.std.proofs.Common.{◌≡◌, ℕ, zero, suc, ◌+◌, ◌-◌, ◌<◌, ◌≤◌, Some, List, [], ◌∷◌, ◌++◌, length, take, drop, reverse, refl, sym, ◌∙◌, ap, subst, arith, ◌==◌, if◌then◌else◌}
+use Rattle.std.proofs.Common.{◌≡◌, ℕ, zero, suc, ◌+◌, ◌-◌, ◌<◌, ◌≤◌, List, [], ◌∷◌, ◌++◌, length, take, drop, refl, sym, ◌∙◌, ap, subst, arith, ◌==◌, if◌then◌else◌, Result, Ok, Err}
+use Rattle.std.specs.Prelude.{OnOk}
 use Rattle.std.proofs.lemmas.List.{take-append-drop}
 use Rattle.apd_term.specs.declared.term.Sym.{Sym}
 use Rattle.apd_term.specs.Term.{apply, Occurs}
@@ -12,14 +13,13 @@ use Rattle.apd_cells.specs.Stored.{Stored}
 use Rattle.apd_cells.specs.Store.{written, meaning, term_at, binding_of, before_note, before_notes, at_mark, HasCells, MayBind, IsStore, IsSound}
 use Rattle.apd_cells.proofs.Undoing.{before_more}
 use Rattle.apd_cells.proofs.Longer.{meaning-more, store-more, MayBind-more, sound_at_mark}
-use Rattle.apd_past.specs.declared.deeds.Deed.{Deed}
 use Rattle.apd_past.specs.declared.past.PastCell.{PastCell}
-use Rattle.apd_past.specs.Done.{Done, with_deed}
+use Rattle.apd_past.specs.Done.{Done}
 use Rattle.apd_past.specs.Follows.{bindings_in, Follows, MayFollow}
-use Rattle.apd_past.specs.History.{bindings_after, bindings_of, history_of, present}
+use Rattle.apd_past.specs.History.{bindings_of, history_of, present, IsRight}
 use Rattle.apd_past.specs.Tuples.{terms_at, tuple_at}
 use Rattle.apd_past.proofs.Marks.{front_at_mark, IsStep, binding_step}
-use Rattle.apd_past.proofs.Moments.{last_first, right_cells, right_done}
+use Rattle.apd_past.proofs.Moments.{right_cells}
 
 -- all cells are there before the notes of loads
 wide : (cells : List Sym) (n c m : ℕ) (notes : List TrailNote) → IsStore cells n (Loaded c m ∷ notes) → IsStore cells n notes
@@ -93,25 +93,22 @@ module _ (d : Done) (s : Stored) (k : ℕ) (h : MayFollow d s k) (l : k < length
       let e = at_mark k s in
       let front = front_at_mark k s in
       let sound = sound_at_mark k s h.sound in
-      let whole : HasCells (e.cells ++ front.0) d.variables = subst (λ z. HasCells z d.variables) front.1 (right_cells s.cells d.variables (reverse d.deeds) h.right) in
+      let whole : HasCells (e.cells ++ front.0) d.variables = subst (λ z. HasCells z d.variables) front.1 (right_cells s.cells d.variables d.spans h.right) in
       let may : MayBind (e.cells ++ front.0) d.variables e.trail v c =
       MayBind-more e.cells front.0 e.variables d.variables e.trail v c sound fewer (binding_step s k v c h.sound p).may in
       let there : IsStore (e.cells ++ front.0) d.variables e.trail = store-more e.cells front.0 e.variables d.variables e.trail whole fewer sound in
       subst (λ z. MayBind s.cells d.variables z v c) (sym h.follows)
       (subst (λ z. MayBind z d.variables (bindings_in e.trail) v c) (sym front.1) (MayBind-bare (e.cells ++ front.0) d.variables e.trail v c there may))
 
-  pub step_bound : (v c : ℕ) (d' : Done) → IsStep s k (Bound v c) → d' ≡ with_deed d v (Some c) → MayFollow d' s (k + 1)
-  step_bound v c d' p e =
-      let deed : Deed = record { variable = v; to = Some c } in
-      rw e (record {
-        sound = h.sound;
-        there = omega arith;
-        follows = ap bindings_after (last_first d.deeds deed)
-            ∙ ap (λ z. Bound v c ∷ z) h.follows
-            ∙ sym (ap (λ (x : Stored). bindings_in x.trail) (binding_step s k v c h.sound p).made);
-        room = h.room;
-        right = right_done s.cells d.variables d.deeds (with_deed d v (Some c)).deeds v (Some c) h.right (may_bind v c p) refl;
-      })
+  pub step_bound : (v c : ℕ) (d' : Done) → IsStep s k (Bound v c) → d'.variables ≡ d.variables → bindings_of d' ≡ Bound v c ∷ bindings_of d → IsRight s.cells d.variables d'.spans
+      → MayFollow d' s (k + 1)
+  step_bound v c d' p same e r = record {
+    sound = h.sound;
+    there = omega arith;
+    follows = e ∙ ap (λ z. Bound v c ∷ z) h.follows ∙ sym (ap (λ (x : Stored). bindings_in x.trail) (binding_step s k v c h.sound p).made);
+    room = omega (arith, h.room, same);
+    right = subst (λ n. IsRight s.cells n d'.spans) (sym same) r;
+  }
 
   pub step_loaded : (c m : ℕ) → IsStep s k (Loaded c m) → MayFollow d s (k + 1)
   step_loaded c m p =
@@ -126,3 +123,8 @@ module _ (d : Done) (s : Stored) (k : ℕ) (h : MayFollow d s k) (l : k < length
         room = h.room;
         right = h.right;
       }
+
+-- what a call that succeeded gives, put together
+pub on_ok_all : {X E : Type 0} {A B C D : Type 0} (r : Result X E) → (A → B → C → D) → OnOk r A → OnOk r B → OnOk r C → OnOk r D
+on_ok_all (Ok x) f a b c = f a b c
+on_ok_all (Err e) f a b c = tt

@@ -1,6 +1,10 @@
+pub mod Chains
 pub mod Ways
+pub mod Telling
 pub mod Moments
 pub mod Bindings
+pub mod Ends
+pub mod Journals
 pub mod Variables
 pub mod Leading
 pub mod Tuples

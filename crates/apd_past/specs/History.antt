@@ -1,84 +1,74 @@
 -- What a past is: cells that are never dropped, and what was done to variables. At each moment it is a store.
-use Rattle.std.specs.Prelude.{◌≡◌, ℕ, ◌<◌, ◌≤◌, ◌⊎◌, Option, Some, None, List, [], ◌∷◌, ◌++◌, length, map, take, drop, reverse, refl}
-use Rattle.std.specs.Coded.{Coded, code_by, coded_list, coded_option, coded×, coded⊎, coded_ℕ, coded_ℤ}
+use Rattle.std.specs.Prelude.{◌≡◌, ℕ, ◌+◌, ◌<◌, ◌≤◌, ◌⊎◌, ltb, Bool, true, false, Option, Some, None, List, [], ◌∷◌, ◌++◌, length, map, drop, if◌then◌else◌, refl}
+use Rattle.std.specs.Coded.{Coded, code_by, coded_list, coded×, coded⊎, coded_ℕ, coded_ℤ}
 use Rattle.std.specs.List.{flat_map}
 use Rattle.std.proofs.Common.{ℤ}
 use Rattle.apd_term.specs.declared.term.Sym.{Sym}
 use Rattle.apd_term.specs.Spelling.{parts, whole, map-whole-parts, variable_in}
 use Rattle.apd_cells.specs.declared.heap.TrailNote.{TrailNote}
 use Rattle.apd_cells.specs.declared.heap.TrailNote.TheVariants.{Loaded, Bound}
+use Rattle.apd_cells.specs.declared.heap.Binding.TheVariants.{Free}
 use Rattle.apd_cells.specs.Stored.{Stored}
-use Rattle.apd_cells.specs.Store.{above, term_at, HasCells, MayBind}
-use Rattle.apd_past.specs.declared.deeds.Deed.{Deed}
-use Rattle.apd_past.specs.Done.{Done, deed_parts, deed_whole, map-deed_whole, with_deed}
+use Rattle.apd_cells.specs.Store.{above, binding_of, term_at, HasCells, MayBind}
+use Rattle.apd_past.specs.Done.{Done, Span, coded_spans, is_within, map-span_whole, span_parts, span_whole, with_end, with_span}
 
 -- the symbols of all terms that were loaded, one after another, each term in prefix order; a number above all their
--- variables; and what was done to variables, the oldest first
+-- variables; how often one was bound or freed; and the bindings, the newest first
 pub record History : Type 0 where
   pub cells : List Sym
   pub variables : ℕ
-  pub deeds : List Deed
+  pub moments : ℕ
+  pub spans : List Span
 
--- the bindings after a deed on variable v, the newest first: a variable that is freed is the one that was bound last
-abbrev pub after_deed : ℕ → Option ℕ → List TrailNote → List TrailNote
-after_deed v (Some c) notes = Bound v c ∷ notes
-after_deed v None notes = drop 1 notes
+-- it was made before the moment, and hadn't ended by then
+abbrev pub is_bound : ℕ → Span → Bool
+is_bound m s = if ltb s.from m then is_within m s.until else false
 
--- the bindings that are left after these deeds, both the newest first
-abbrev pub bindings_after : List Deed → List TrailNote
-bindings_after [] = []
-bindings_after (d ∷ ds) = after_deed d.variable d.to (bindings_after ds)
+-- the bindings at a moment: those that were made before it and hadn't ended by then
+abbrev pub bindings_at : ℕ → List Span → List TrailNote
+bindings_at m [] = []
+bindings_at m (s ∷ ss) = if is_bound m s then Bound s.variable s.cell ∷ bindings_at m ss else bindings_at m ss
 
--- the store after these deeds, the newest first
-abbrev pub store_after : History → List Deed → Stored
-store_after h ds = record { cells = h.cells; variables = h.variables; trail = bindings_after ds }
-
--- the store after the first m deeds, and after all
+-- the store at a moment, and at present
 abbrev pub at_moment : ℕ → History → Stored
-at_moment m h = store_after h (reverse (take m h.deeds))
+at_moment m h = record { cells = h.cells; variables = h.variables; trail = bindings_at m h.spans }
 
 abbrev pub present : History → Stored
-present h = store_after h (reverse h.deeds)
+present h = at_moment h.moments h
 
 -- more terms, behind the others
 abbrev pub with_terms : History → List Sym → History
 with_terms h symbols = record {
   cells = h.cells ++ symbols;
   variables = above h.variables (flat_map variable_in symbols);
-  deeds = h.deeds;
-}
-
--- one more deed
-abbrev pub with_done : History → ℕ → Option ℕ → History
-with_done h v to = record {
-  cells = h.cells;
-  variables = h.variables;
-  deeds = h.deeds ++ record { variable = v; to = to } ∷ [];
+  moments = h.moments;
+  spans = h.spans;
 }
 
 -- what there was at each moment is there as it was
 pub record KeepsMoments (old new : History) : Type 0 where
-  pub moments : length old.deeds ≤ length new.deeds
+  pub moments : old.moments ≤ new.moments
   pub cells : length old.cells ≤ length new.cells
-  pub terms : (m c : ℕ) → m ≤ length old.deeds → c < length old.cells → term_at (at_moment m new) c ≡ term_at (at_moment m old) c
+  pub terms : (m c : ℕ) → m ≤ old.moments → c < length old.cells → term_at (at_moment m new) c ≡ term_at (at_moment m old) c
 
 -- the store where the newest binding is taken back
 abbrev pub unbound : Stored → Stored
 unbound s = record { cells = s.cells; variables = s.variables; trail = drop 1 s.trail }
 
--- a variable may be bound where it is free and the term at the cell doesn't have it; the one that is freed was bound last
-abbrev pub IsRightDeed : List Sym → ℕ → List TrailNote → ℕ → Option ℕ → Type 0
-IsRightDeed cells n notes v (Some c) = MayBind cells n notes v c
-IsRightDeed cells n notes v None = (c : ℕ) × (notes ≡ Bound v c ∷ drop 1 notes)
+-- the variable might be bound to the cell when it was: it was free, and the term there doesn't have it; and as long as it is
+-- bound, those that were bound before are
+pub record IsRightSpan (cells : List Sym) (n : ℕ) (s : Span) (before : List Span) : Type 0 where
+  pub may : MayBind cells n (bindings_at s.from before) s.variable s.cell
+  pub stays : (m : ℕ) → is_bound m s ≡ true → bindings_at m before ≡ bindings_at s.from before
 
--- each deed was right when it was done
-abbrev pub IsRight : List Sym → ℕ → List Deed → Type 0
+-- each binding was right
+abbrev pub IsRight : List Sym → ℕ → List Span → Type 0
 IsRight cells n [] = HasCells cells n
-IsRight cells n (d ∷ ds) = IsRightDeed cells n (bindings_after ds) d.variable d.to × IsRight cells n ds
+IsRight cells n (s ∷ ss) = IsRightSpan cells n s ss × IsRight cells n ss
 
--- each deed of a history was right when it was done
+-- each binding of a history was right
 abbrev pub IsRightHistory : History → Type 0
-IsRightHistory h = IsRight h.cells h.variables (reverse h.deeds)
+IsRightHistory h = IsRight h.cells h.variables h.spans
 
 -- the variables of bindings
 abbrev pub variables_of : List TrailNote → List ℕ
@@ -88,17 +78,30 @@ variables_of (Bound v c ∷ notes) = v ∷ variables_of notes
 
 -- the cells of a history, and what was done
 abbrev pub history_of : List Sym → Done → History
-history_of cells d = record { cells = cells; variables = d.variables; deeds = d.deeds }
+history_of cells d = record { cells = cells; variables = d.variables; moments = d.moments; spans = d.spans }
 
--- the bindings that are left after all that was done
+-- one more binding
+abbrev pub with_done : History → ℕ → ℕ → History
+with_done h v c = history_of h.cells (with_span (record { variables = h.variables; moments = h.moments; spans = h.spans }) v c)
+
+-- the bindings at present
 abbrev pub bindings_of : Done → List TrailNote
-bindings_of d = bindings_after (reverse d.deeds)
+bindings_of d = bindings_at d.moments d.spans
+
+-- it has no end
+abbrev pub is_open : Option ℕ → Bool
+is_open None = true
+is_open (Some u) = false
+
+-- the newest binding without an end ends
+abbrev pub ended : ℕ → List Span → List Span
+ended m [] = []
+ended m (s ∷ ss) = if is_open s.until then with_end m s ∷ ss else s ∷ ended m ss
 
 -- the variable of the newest of these bindings is freed, if there is one
 abbrev pub freed_first : List TrailNote → Done → Done
 freed_first [] d = d
-freed_first (Loaded c n ∷ notes) d = d
-freed_first (Bound v c ∷ notes) d = with_deed d v None
+freed_first (b ∷ bs) d = record { variables = d.variables; moments = d.moments + 1; spans = ended d.moments d.spans }
 
 -- the variable that was bound last is freed, if one is bound
 abbrev pub freed : Done → Done
@@ -113,24 +116,45 @@ abbrev pub AreBelow : ℕ → List ℕ → Type 0
 AreBelow n [] = Unit {0}
 AreBelow n (v ∷ vs) = (v < n) × AreBelow n vs
 
--- these variables are those that are bound at present, the newest first, and below the journal's number
+-- they were made behind moments before this one
+abbrev pub ComeBefore : ℕ → List Span → Type 0
+ComeBefore m [] = Unit {0}
+ComeBefore m (s ∷ ss) = (s.from < m) × ComeBefore m ss
+
+-- it is past, if there is one
+abbrev pub IsPast : ℕ → Option ℕ → Type 0
+IsPast m None = Unit {0}
+IsPast m (Some u) = u < m
+
+-- a binding was made behind a moment that is past, and after all those before it; its end is past too; and its variable was free
+pub record IsSpan (m : ℕ) (s : Span) (before : List Span) : Type 0 where
+  pub made : s.from < m
+  pub ended : IsPast m s.until
+  pub after : ComeBefore s.from before
+  pub free : binding_of (bindings_at s.from before) s.variable ≡ Free
+
+abbrev pub AreSpans : ℕ → List Span → Type 0
+AreSpans m [] = Unit {0}
+AreSpans m (s ∷ ss) = IsSpan m s ss × AreSpans m ss
+
+-- each binding is one; these variables are those that are bound at present, the newest first, and below the journal's number
 pub record IsJournal (d : Done) (bound : List ℕ) : Type 0 where
+  pub spans : AreSpans d.moments d.spans
   pub bound_are : bound ≡ variables_of (bindings_of d)
   pub below : AreBelow d.variables bound
 
--- more was done
+-- more was done, and the bindings at each moment up to the present one are as they were
 pub record HasDoneMore (old new : Done) : Type 0 where
   pub variables : new.variables ≡ old.variables
-  pub more : List Deed
-  pub deeds : new.deeds ≡ old.deeds ++ more
+  pub moments : old.moments ≤ new.moments
+  pub earlier : (m : ℕ) → m ≤ old.moments → bindings_at m new.spans ≡ bindings_at m old.spans
 
--- the triple of its parts
+-- its parts
 abbrev pub history_code : Coded History
 history_code =
     code_by
-    (List (ℕ ⊎ (ℤ ⊎ (ℕ × ℕ))) × (ℕ × List (ℕ × Option ℕ)))
-    (coded× (coded_list (coded⊎ coded_ℕ (coded⊎ coded_ℤ (coded× coded_ℕ coded_ℕ))))
-    (coded× coded_ℕ (coded_list (coded× coded_ℕ (coded_option coded_ℕ)))))
-    (λ h. (map parts h.cells, (h.variables, map deed_parts h.deeds)))
-    (λ p. record { cells = map whole p.0; variables = p.1.0; deeds = map deed_whole p.1.1 })
-    (λ h. rw (map-whole-parts h.cells, map-deed_whole h.deeds) refl)
+    (List (ℕ ⊎ (ℤ ⊎ (ℕ × ℕ))) × (ℕ × (ℕ × List ((ℕ × ℕ) × (ℕ × Option ℕ)))))
+    (coded× (coded_list (coded⊎ coded_ℕ (coded⊎ coded_ℤ (coded× coded_ℕ coded_ℕ)))) (coded× coded_ℕ (coded× coded_ℕ coded_spans)))
+    (λ h. (map parts h.cells, (h.variables, (h.moments, map span_parts h.spans))))
+    (λ p. record { cells = map whole p.0; variables = p.1.0; moments = p.1.1.0; spans = map span_whole p.1.1.1 })
+    (λ h. rw (map-whole-parts h.cells, map-span_whole h.spans) refl)

@@ -18,6 +18,6 @@ pub fn tuples_are_the_same_there()
 /// Where moments are kept, a tuple at cells that were there is at each of them what it was.
 pub fn tuples_stay()
     ensures { (old new : History) (m head : ℕ) (goals : List PastCell) → KeepsMoments old new →
-        m ≤ length old.deeds → head < length old.cells → AreInside (length old.cells) goals →
+        m ≤ old.moments → head < length old.cells → AreInside (length old.cells) goals →
         tuple_at (at_moment m new) head goals ≡ tuple_at (at_moment m old) head goals }
 {}

@@ -2,12 +2,12 @@
 //! each moment.
 #![tactic(auto)]
 
-pub mod deeds;
 mod ground;
 pub mod journal;
 pub mod laws;
 pub mod maybe_number;
 mod passing;
 pub mod past;
+pub mod spans;
 pub mod then;
 pub mod writing;

@@ -1,6 +1,6 @@
 //! Cells that are never dropped, and what variables were bound to at each moment.
 
-ghost use Rattle.std.specs.Prelude.{◌≡◌, ℕ, [], ◌<◌, ◌≤◌, ◌^◌, ◌++◌, length, get_or, Some, IfOk, OnOk, OnErr, MatchOption};
+ghost use Rattle.std.specs.Prelude.{◌≡◌, ℕ, [], ◌<◌, ◌≤◌, ◌^◌, ◌++◌, length, get_or, IfOk, OnOk, OnErr, MatchOption};
 ghost use Rattle.apd_term.specs.declared.term.Sym.TheVariants.{Var};
 ghost use Rattle.apd_term.specs.Term.{IsTerms};
 ghost use Rattle.apd_cells.specs.declared.heap.Binding.TheVariants.{Free, At};
@@ -70,7 +70,7 @@ fn extend(cells: &mut Vec<Sym>, symbols: &[Sym]) -> Result<(), AllocError>
 impl Past {
     /// No term.
     pub fn new(alloc: Global) -> Past
-        ensures { result ≡ record { cells = []; variables = 0; deeds = [] } }
+        ensures { result ≡ record { cells = []; variables = 0; moments = 0; spans = [] } }
     {
         Past {
             cells: Vec::new(alloc),
@@ -102,7 +102,7 @@ impl Past {
 
     /// The present moment.
     pub fn moment(&self) -> Moment
-        ensures moment { result.0 ≡ length self.now.deeds }
+        ensures moment { result.0 ≡ self.now.moments }
         ensures present { at_moment result.0 self.now ≡ present self.now }
     {
         self.journal.moment()
@@ -128,7 +128,7 @@ impl Past {
 
     /// The cell that a variable was bound to at a moment; none exactly where it was free.
     pub fn bound_at(&self, moment: Moment, v: u64) -> Option<u32>
-        requires { moment.0 ≤ length self.now.deeds }
+        requires { moment.0 ≤ self.now.moments }
         ensures { MatchOption result
             (binding_of (at_moment moment.0 self.now).trail v ≡ Free)
             (λ c. binding_of (at_moment moment.0 self.now).trail v ≡ At c) }
@@ -144,7 +144,7 @@ impl Past {
         ensures ok { OnOk result (self.new ≡ with_terms self.old symbols.now) }
         ensures others { (m c : ℕ) → c < length self.old.cells →
             term_at (at_moment m self.new) c ≡ term_at (at_moment m self.old) c }
-        ensures deeds { self.new.deeds ≡ self.old.deeds }
+        ensures moments { self.new.moments ≡ self.old.moments }
         ensures err { OnErr result (self.new.cells ≡ self.old.cells) }
     {
         let cell = narrow(self.cells.len() as u64)?;
@@ -156,9 +156,9 @@ impl Past {
     /// Binds a free variable to the term at a cell. Earlier moments stay as they are.
     pub fn bind(&mut self, v: u64, to: PastCell) -> Result<(), AllocError>
         requires { MayBind self.old.cells self.old.variables (present self.old).trail v to.0 }
-        ensures ok { OnOk result (self.new ≡ with_done self.old v (Some to.0)) }
+        ensures ok { OnOk result (self.new ≡ with_done self.old v to.0) }
         ensures present { OnOk result (present self.new ≡ bound (present self.old) v to.0) }
-        ensures earlier { (m : ℕ) → m ≤ length self.old.deeds →
+        ensures earlier { (m : ℕ) → m ≤ self.old.moments →
             at_moment m self.new ≡ at_moment m self.old }
         ensures err { OnErr result (self.new ≡ self.old) }
     {
@@ -169,8 +169,8 @@ impl Past {
     /// Frees the variable that was bound last, if one is bound. Earlier moments stay as they are.
     pub fn unbind(&mut self) -> Result<(), AllocError>
         ensures present { OnOk result (present self.new ≡ unbound (present self.old)) }
-        ensures longer { length self.old.deeds ≤ length self.new.deeds }
-        ensures earlier { (m : ℕ) → m ≤ length self.old.deeds →
+        ensures longer { self.old.moments ≤ self.new.moments }
+        ensures earlier { (m : ℕ) → m ≤ self.old.moments →
             at_moment m self.new ≡ at_moment m self.old }
         ensures err { OnErr result (self.new ≡ self.old) }
     {

@@ -18,7 +18,7 @@ pub struct Then<'a> {
 }
 
 impl<'a> Model for Then<'a> {
-    ghost use Rattle.std.specs.Prelude.{◌≤◌, length};
+    ghost use Rattle.std.specs.Prelude.{◌≤◌};
     ghost use Rattle.apd_cells.specs.Stored.{Stored, stored_code};
     ghost use Rattle.apd_past.specs.History.{at_moment};
 
@@ -28,13 +28,13 @@ impl<'a> Model for Then<'a> {
 
     ghost view = { λ t. at_moment t.moment.0 t.past.now };
 
-    ghost invariant = { λ t. t.moment.0 ≤ length t.past.now.deeds };
+    ghost invariant = { λ t. t.moment.0 ≤ t.past.now.moments };
 }
 
 impl Past {
     /// The past as it was at a moment.
     pub fn at(&self, moment: Moment) -> Then<'_>
-        requires { moment.0 ≤ length self.now.deeds }
+        requires { moment.0 ≤ self.now.moments }
         ensures { result ≡ at_moment moment.0 self.now }
     {
         Then { past: self, moment }

@@ -13,11 +13,10 @@ use Rattle.apd_cells.specs.Store.{term_at, IsSound}
 use Rattle.apd_past.specs.declared.past.PastCell.{PastCell}
 use Rattle.apd_past.specs.Follows.{Follows}
 use Rattle.apd_past.specs.Done.{Done}
-use Rattle.apd_past.specs.History.{History, KeepsMoments, history_of}
+use Rattle.apd_past.specs.History.{History, KeepsMoments, at_moment, history_of}
 use Rattle.apd_past.specs.Tuples.{AreInside, terms_at, tuple_at}
 use Rattle.apd_past.proofs.Following.{tuple_now}
 use Rattle.apd_past.proofs.Keeping.{tuple_kept}
-use Rattle.apd_past.proofs.Moments.{present_at}
 use Rattle.apd_tuples.specs.declared.spots.Fact.{Fact}
 use Rattle.apd_tuples.specs.Spots.{Place, placed, kept_cells}
 use Rattle.apd_tuples.specs.Tuples.{kept_tuple, kept_tuples, tuple_of, AreThere, Holds, IsThere}
@@ -59,14 +58,14 @@ terms_as s (c ∷ cs) = ap (λ ts. term_at s c.0 ∷ ts) (terms_as s cs)
 
 -- a journal has followed a store
 module _ (d : Done) (s : Stored) (f : Follows d s) (sound : IsSound s) (head : Cell) (goals : List Cell) (inside : head.0 < length s.cells)
-    (all : AreCells (length s.cells) goals) (k : ℕ) (now : k ≡ length d.deeds) (fact : Fact) (holds : Holds fact (canonical_tuple (tuple_of s head goals))) where
+    (all : AreCells (length s.cells) goals) (k : ℕ) (now : k ≡ d.moments) (fact : Fact) (holds : Holds fact (canonical_tuple (tuple_of s head goals))) where
   placed_inside : (cs : List Cell) → AreCells (length s.cells) cs → AreInside (length s.cells) (kept_cells cs)
   placed_inside [] h = tt
   placed_inside (c ∷ cs) h = (h.0, placed_inside cs h.1)
 
   placed_tuple : kept_tuple (history_of s.cells d) (placed head goals k fact) ≡ canonical_tuple (tuple_of s head goals)
   placed_tuple =
-      ap (λ (z : Stored). canonical_tuple (tuple_at z head.0 (kept_cells goals))) (present_at (history_of s.cells d) k (omega (arith, now)))
+      ap (λ m. canonical_tuple (tuple_at (at_moment m (history_of s.cells d)) head.0 (kept_cells goals))) now
       ∙ ap canonical_tuple (tuple_now d s head.0 (kept_cells goals) sound f)
       ∙ ap (λ ts. canonical_tuple (record { head = term_at s head.0; body = ts })) (terms_as s goals)
 

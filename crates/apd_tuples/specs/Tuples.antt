@@ -36,7 +36,7 @@ Holds Ground t = variables_of_tuple t ≡ []
 
 -- its moment and its cells were there, and what is known of it is so
 pub record IsThere (h : History) (p : Place) : Type 0 where
-  pub moment : p.moment ≤ length h.deeds
+  pub moment : p.moment ≤ h.moments
   pub head : p.head.0 < length h.cells
   pub goals : AreInside (length h.cells) p.goals
   pub fact : Holds p.fact (kept_tuple h p)

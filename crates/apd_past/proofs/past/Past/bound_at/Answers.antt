@@ -1,11 +1,12 @@
-use Rattle.std.proofs.Common.{◌∙◌, ap, reverse, subst, take}
-use Rattle.apd_past.specs.Done.{to_of}
-use Rattle.apd_past.specs.History.{History, IsRight}
-use Rattle.apd_past.proofs.Bindings.{bound_says}
+use Rattle.std.specs.Prelude.{MatchOption}
+use Rattle.std.proofs.Common.{◌≡◌, subst}
+use Rattle.apd_cells.specs.declared.heap.Binding.TheVariants.{Free, At}
+use Rattle.apd_cells.specs.Store.{binding_of}
+use Rattle.apd_past.specs.History.{History, bindings_at}
 use Rattle.apd_past.proofs.past.Past.bound_at.Goals as goal
 
 pub returns : goal.returns
 returns c =
-    bound_says c.to_at.result c.args.self.now c.args.moment.0 c.args.v
-    (subst (λ (h : History). IsRight h.cells h.variables (reverse h.deeds)) c.self.view_is c.self.invariant)
-    (c.to_at.ensures ∙ ap (λ (h : History). to_of (reverse (take c.args.moment.0 h.deeds)) c.args.v) c.self.view_is)
+    subst (λ (h : History). MatchOption c.to_at.result
+    (binding_of (bindings_at c.args.moment.0 h.spans) c.args.v ≡ Free) (λ k. binding_of (bindings_at c.args.moment.0 h.spans) c.args.v ≡ At k))
+    c.self.view_is c.to_at.ensures

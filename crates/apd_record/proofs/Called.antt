@@ -5,7 +5,7 @@ use Rattle.std.proofs.lemmas.Option.{get_or_from_slice_get}
 use Rattle.apd_term.specs.Term.{Term, variable}
 use Rattle.apd_intern.specs.Nodes.{term_at}
 use Rattle.apd_ports.specs.declared.point.Point.{Point}
-use Rattle.apd_record.specs.declared.kept.KeptBox.{KeptBox}
+use Rattle.apd_boxes.specs.declared.boxes.KeptBox.{KeptBox}
 use Rattle.apd_record.specs.Kept.{atom_from, box_from, form_of, goal_of}
 use Rattle.apd_record.specs.Recorded.{Recorded, box_at, goal_left, point_at}
 use Rattle.apd_record.specs.Sound.{IsKept}

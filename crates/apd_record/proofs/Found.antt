@@ -1,21 +1,21 @@
 -- The first of a list that meets a test, where those before it don't.
 use Rattle.std.proofs.Common.{◌≡◌, ℕ, zero, suc, ◌+◌, ◌<◌, ◌≤◌, List, [], ◌∷◌, ◌++◌, length, get_or, refl, ap, subst, sym, ◌∙◌, arith, Option, Some, None, Bool, true, false, map, if◌then◌else◌, inl, inr}
-use Rattle.std.specs.Prelude.{slice_get, ◌==◌}
+use Rattle.std.specs.Prelude.{slice_get, ◌==◌, IfSome}
 use Rattle.std.specs.Bool.{IsTrue, OnTrue}
 use Rattle.std.proofs.lemmas.Bool.{cases_eq, eqb-true, ne_eqb, and_parts, false_from_ne_true, OnTrue_at, OnTrue_from}
-use Rattle.std.proofs.lemmas.Option.{slice_get_read, slice_get_within}
+use Rattle.std.proofs.lemmas.Option.{slice_get-get_or, slice_get_read, slice_get_within, MatchOption-at_some}
 use Rattle.apd_base.proofs.Lists.{slice_get-push}
 use Rattle.apd_ports.specs.declared.event.Port.{Port}
 use Rattle.apd_ports.specs.declared.point.Step.{Step}
-use Rattle.apd_record.specs.declared.kept.KeptBox.{KeptBox}
-use Rattle.apd_record.specs.declared.kept.KeptPoint.{KeptPoint}
+use Rattle.apd_boxes.specs.declared.boxes.KeptBox.{KeptBox}
+use Rattle.apd_points.specs.declared.kept.KeptPoint.{KeptPoint}
 use Rattle.apd_record.specs.declared.order.Order.{Order}
-use Rattle.apd_record.specs.Beside.{edited}
-use Rattle.apd_record.specs.Kept.{kept_passed}
+use Rattle.apd_boxes.specs.Owned.{edited}
+use Rattle.apd_boxes.specs.Boxes.{called_box, kept_passed}
 use Rattle.apd_record.specs.Ordered.{AreFromBelow, AreInTurn, AreRising, IsNext, IsOrdered}
 use Rattle.apd_record.specs.Recorded.{first_number, is_step}
 use Rattle.apd_record.proofs.Lists.{get-one}
-use Rattle.apd_record.proofs.Places.{slice_get-edited}
+use Rattle.apd_boxes.proofs.Places.{slice_get-edited}
 
 module _ {X : Type 0} (test : X → Bool) where
   pub first_at : (n : ℕ) (xs : List X) (i : ℕ) (x : X) → slice_get xs i ≡ Some x → test x ≡ true → ((k : ℕ) (y : X) → slice_get xs k ≡ Some y → k < i → test y ≡ false) → first_number test n xs ≡ Some (n + i)
@@ -53,29 +53,52 @@ rising-push boxes row h below i j b c at there l =
       | inr new ↦ elim (slice_get-push boxes row i b at) [ inl q ↦ rw (sym new.1) (below i b q) | inr q ↦ absurd (omega (arith, q.0, new.0, l)) ]
     ]
 
-pub rising-passed : (boxes : List KeptBox) (port : Port) (place : ℕ) → AreRising boxes → AreRising (edited (kept_passed port) boxes place)
-rising-passed boxes port place h i j b c at there l =
-    let x = from-passed i b at in
-    let y = from-passed j c there in
-    omega (arith, h i j x.0 y.0 x.1 y.1 l, x.2, y.2)
-  where
-    from-passed : (k : ℕ) (z : KeptBox) → slice_get (edited (kept_passed port) boxes place) k ≡ Some z → (y : KeptBox) × (slice_get boxes k ≡ Some y) × (y.from ≡ z.from)
-    from-passed k z h = elim (slice_get-edited (kept_passed port) boxes place k z h) [ inl e ↦ (e.1.0, e.1.1, ap (λ (w : KeptBox). w.from) e.1.2) | inr e ↦ (z, e.1, refl) ]
+pub above-push : (boxes : List KeptBox) (row : KeptBox) (n m : ℕ) → AreFromBelow n boxes → n ≤ row.from → m ≡ row.from + 1 → AreFromBelow m (boxes ++ row ∷ [])
+above-push boxes row n m h le e i b at =
+    elim (slice_get-push boxes row i b at) [ inl q ↦ omega (arith, h i b q, le, e) | inr q ↦ rw (sym q.1) (omega (arith, e)) ]
 
-pub ordered-box : (d : Order) (boxes : List KeptBox) (points : List KeptPoint) (row : KeptBox) (rising : Bool) → IsOrdered d boxes points → OnTrue rising (IsTrue d.rising) → OnTrue rising (AreFromBelow row.from boxes)
-    → IsOrdered (record { in_turn = d.in_turn; rising = rising }) (boxes ++ row ∷ []) points
-ordered-box d boxes points row rising h was below =
-    record { in_turn = h.in_turn; rising = OnTrue_from rising _ (λ t. rising-push boxes row (OnTrue_at (OnTrue_at t was) h.rising) (OnTrue_at t below)) }
+module _ (boxes : List KeptBox) (port : Port) (place : ℕ) where
+  from-passed : (k : ℕ) (z : KeptBox) → slice_get (edited (kept_passed port) boxes place) k ≡ Some z → (y : KeptBox) × (slice_get boxes k ≡ Some y) × (y.from ≡ z.from)
+  from-passed k z h = elim (slice_get-edited (kept_passed port) boxes place k z h) [ inl e ↦ (e.1.0, e.1.1, ap (λ (w : KeptBox). w.from) e.1.2) | inr e ↦ (z, e.1, refl) ]
+
+  pub rising-passed : AreRising boxes → AreRising (edited (kept_passed port) boxes place)
+  rising-passed h i j b c at there l =
+      let x = from-passed i b at in
+      let y = from-passed j c there in
+      omega (arith, h i j x.0 y.0 x.1 y.1 l, x.2, y.2)
+
+  pub above-passed : (n : ℕ) → AreFromBelow n boxes → AreFromBelow n (edited (kept_passed port) boxes place)
+  above-passed n h i b at = let x = from-passed i b at in omega (arith, h i x.0 x.1, x.2)
+
+pub ordered-box : (d e : Order) (boxes : List KeptBox) (points : List KeptPoint) (row : KeptBox) → IsOrdered d boxes points → e.in_turn ≡ d.in_turn → OnTrue e.rising (IsTrue d.rising) → OnTrue e.rising (d.above ≤ row.from) → e.above ≡ row.from + 1
+    → IsOrdered e (boxes ++ row ∷ []) points
+ordered-box d e boxes points row h same was later above =
+    record {
+      in_turn = subst (λ b. OnTrue b (AreInTurn points)) (sym same) h.in_turn;
+      rising = OnTrue_from e.rising _ (λ t. rising-push boxes row (OnTrue_at (OnTrue_at t was) h.rising) (λ i b at. let l = OnTrue_at t later in omega (arith, OnTrue_at (OnTrue_at t was) h.above i b at, l)));
+      above = OnTrue_from e.rising _ (λ t. above-push boxes row d.above e.above (OnTrue_at (OnTrue_at t was) h.above) (OnTrue_at t later) above);
+    }
 
 pub ordered-point : (d : Order) (boxes : List KeptBox) (points : List KeptPoint) (x : KeptPoint) (in_turn : Bool) (n : ℕ) → IsOrdered d boxes points → n ≡ length points → OnTrue in_turn (IsTrue d.in_turn) → OnTrue in_turn (IsNext n x.before)
-    → IsOrdered (record { in_turn = in_turn; rising = d.rising }) boxes (points ++ x ∷ [])
+    → IsOrdered (record { in_turn = in_turn; rising = d.rising; above = d.above }) boxes (points ++ x ∷ [])
 ordered-point d boxes points x in_turn n h e was next =
-    record { in_turn = OnTrue_from in_turn _ (λ t. in_turn-push points x (OnTrue_at (OnTrue_at t was) h.in_turn) (subst (λ k. IsNext k x.before) e (OnTrue_at t next))); rising = h.rising }
+    record { in_turn = OnTrue_from in_turn _ (λ t. in_turn-push points x (OnTrue_at (OnTrue_at t was) h.in_turn) (subst (λ k. IsNext k x.before) e (OnTrue_at t next))); rising = h.rising; above = h.above }
 
 pub ordered-passed : (d : Order) (boxes : List KeptBox) (points : List KeptPoint) (port : Port) (place : ℕ) → IsOrdered d boxes points → IsOrdered d (edited (kept_passed port) boxes place) points
-ordered-passed d boxes points port place h = record { in_turn = h.in_turn; rising = OnTrue_from d.rising _ (λ t. rising-passed boxes port place (OnTrue_at t h.rising)) }
+ordered-passed d boxes points port place h =
+    record {
+      in_turn = h.in_turn;
+      rising = OnTrue_from d.rising _ (λ t. rising-passed boxes port place (OnTrue_at t h.rising));
+      above = OnTrue_from d.rising _ (λ t. above-passed boxes port place d.above (OnTrue_at t h.above));
+    }
 
 -- Looking.
+
+pub from-read : (boxes : List KeptBox) (i n : ℕ) → i < length boxes → IfSome (slice_get boxes i) (λ (b : KeptBox). n ≡ b.from) → (b : KeptBox) × (slice_get boxes i ≡ Some b) × (n ≡ b.from)
+from-read boxes i n l h =
+    let none : KeptBox = called_box 0 0 false false in
+    let at = slice_get-get_or boxes i none l in
+    (get_or boxes i none, at, MatchOption-at_some _ _ (get_or boxes i none) at h)
 
 pub read-at : {X : Type 0} (xs : List X) (n : ℕ) (x : X) → n < length xs → x ≡ get_or xs n x → slice_get xs n ≡ Some x
 read-at xs n x l e = slice_get_read xs (length xs) n x refl l e

@@ -12,15 +12,15 @@ use Rattle.apd_ports.specs.declared.event.Port.{Port}
 use Rattle.apd_ports.specs.declared.event.Port.TheVariants.{Call}
 use Rattle.apd_ports.specs.declared.point.Point.{Point}
 use Rattle.apd_tuples.specs.Tuples.{IsNumbered}
-use Rattle.apd_record.specs.Beside.{Owned, nothing, earlier_of, edited, owning}
-use Rattle.apd_record.specs.declared.kept.KeptBox.{KeptBox}
-use Rattle.apd_record.specs.declared.kept.KeptPoint.{KeptPoint}
-use Rattle.apd_record.specs.declared.kept.TuplePlace.{TuplePlace}
-use Rattle.apd_record.specs.declared.kept.TuplePlace.TheVariants.{Written as Spanned, Kept as Held}
+use Rattle.apd_boxes.specs.Owned.{Owned, nothing, earlier_of, edited, owning}
+use Rattle.apd_boxes.specs.declared.boxes.KeptBox.{KeptBox}
+use Rattle.apd_points.specs.declared.kept.KeptPoint.{KeptPoint}
+use Rattle.apd_points.specs.declared.kept.TuplePlace.{TuplePlace}
+use Rattle.apd_points.specs.declared.kept.TuplePlace.TheVariants.{Written as Spanned, Kept as Held}
 use Rattle.apd_record.specs.declared.ongoing.OpenPoint.{OpenPoint}
 use Rattle.apd_record.specs.declared.order.Order.{Order}
 use Rattle.apd_record.specs.Index.{is_exit, IsBelow, IsIndex, IsWithin}
-use Rattle.apd_record.specs.Kept.{box_from, form_of, goal_of, kept_passed, no_tuple, point_from, tuple_there, IsAtomThere, IsHeld, IsSized, IsTupleThere}
+use Rattle.apd_record.specs.Kept.{box_from, form_of, goal_of, no_tuple, point_from, tuple_there, IsAtomThere, IsHeld, IsSized, IsTupleThere}
 use Rattle.apd_record.specs.Open.{blank_point, blank_tuple, blanked, box_row, made_point, no_rows, noted_row, point_row, told_by, variables_for, with_box_row, with_point_row, AreIn, IsBeside, Rows}
 use Rattle.apd_record.specs.Ordered.{IsOrdered}
 use Rattle.apd_record.specs.Recorded.{Recorded, BoxRow, is_user_atom, noted, opened, point_at, with_point}
@@ -28,7 +28,8 @@ use Rattle.apd_record.specs.Sound.{IsKept, MayOpen}
 use Rattle.apd_record.proofs.Found.{ordered-passed}
 use Rattle.apd_record.proofs.Indexed.{box_index, point_index}
 use Rattle.apd_record.proofs.KeptRows.{passed_rows, rows_box, rows_edited, rows_point, told_pushed}
-use Rattle.apd_record.proofs.Places.{length-edited}
+use Rattle.apd_boxes.specs.Boxes.{kept_passed}
+use Rattle.apd_boxes.proofs.Places.{length-edited}
 use Rattle.apd_record.proofs.Shaped.{from_of, index_same, shape, within_same, Shape}
 
 -- Numbers that are there.

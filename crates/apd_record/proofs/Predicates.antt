@@ -7,8 +7,8 @@ use Rattle.apd_term.specs.declared.term.Pred.{Pred}
 use Rattle.apd_term.specs.declared.tuple.Tuple.{Tuple}
 use Rattle.apd_tuples.specs.declared.spots.Numbered.{Numbered}
 use Rattle.apd_tuples.specs.Tuples.{IsNumbered}
-use Rattle.apd_record.specs.declared.kept.TuplePlace.{TuplePlace}
-use Rattle.apd_record.specs.declared.kept.TuplePlace.TheVariants.{Kept}
+use Rattle.apd_points.specs.declared.kept.TuplePlace.{TuplePlace}
+use Rattle.apd_points.specs.declared.kept.TuplePlace.TheVariants.{Kept}
 use Rattle.apd_record.specs.Kept.{no_tuple, tuple_there, IsTupleThere}
 
 same_pred : (o p : Option Pred) → o ≡ p → IfSome o (λ q. p ≡ Some q)

@@ -6,7 +6,7 @@ use Rattle.std.proofs.lemmas.List.{length-map, take-map}
 use Rattle.std.proofs.lemmas.Option.{slice_get-map}
 use Rattle.apd_ports.specs.declared.point.Point.{Point}
 use Rattle.apd_ports.specs.declared.point.Step.{Step}
-use Rattle.apd_record.specs.Beside.{Owned}
+use Rattle.apd_boxes.specs.Owned.{Owned}
 use Rattle.apd_record.specs.Recorded.{Recorded, BoxRow, exits, numbers}
 use Rattle.apd_record.specs.Index.{id_of, is_exit, is_first_in, last_place, one_on, IsBelow, IsIndex, IsWithin}
 

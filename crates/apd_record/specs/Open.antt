@@ -5,15 +5,16 @@ use Rattle.apd_term.specs.Term.{Term, variable}
 use Rattle.apd_term.specs.declared.tuple.Tuple.{Tuple}
 use Rattle.apd_ports.specs.declared.event.Port.{Port}
 use Rattle.apd_ports.specs.declared.point.Point.{Point}
-use Rattle.apd_record.specs.Beside.{Owned, edited}
-use Rattle.apd_record.specs.declared.kept.KeptBox.{KeptBox}
-use Rattle.apd_record.specs.declared.kept.KeptPoint.{KeptPoint}
-use Rattle.apd_record.specs.declared.kept.TuplePlace.{TuplePlace}
-use Rattle.apd_record.specs.declared.kept.TuplePlace.TheVariants.{Written as Spanned, Kept as Held}
+use Rattle.apd_boxes.specs.Boxes.{called_box, kept_passed}
+use Rattle.apd_boxes.specs.Owned.{Owned, edited}
+use Rattle.apd_boxes.specs.declared.boxes.KeptBox.{KeptBox}
+use Rattle.apd_points.specs.declared.kept.KeptPoint.{KeptPoint}
+use Rattle.apd_points.specs.declared.kept.TuplePlace.{TuplePlace}
+use Rattle.apd_points.specs.declared.kept.TuplePlace.TheVariants.{Written as Spanned, Kept as Held}
 use Rattle.apd_record.specs.declared.ongoing.OpenPoint.{OpenPoint}
 use Rattle.apd_record.specs.declared.order.Order.{Order}
 use Rattle.apd_record.specs.Index.{IsIndex, IsWithin}
-use Rattle.apd_record.specs.Kept.{AreKept, box_from, called_box, kept_passed, told}
+use Rattle.apd_record.specs.Kept.{AreKept, box_from, told}
 use Rattle.apd_record.specs.Ordered.{IsOrdered}
 use Rattle.apd_record.specs.Recorded.{Recorded}
 

@@ -2,8 +2,8 @@
 use Rattle.std.specs.Prelude.{◌≡◌, ℕ, ◌+◌, ◌<◌, List, Option, Some, None, slice_get, ◌==◌}
 use Rattle.std.specs.Bool.{OnTrue}
 use Rattle.apd_ports.specs.declared.point.Step.{Step}
-use Rattle.apd_record.specs.declared.kept.KeptBox.{KeptBox}
-use Rattle.apd_record.specs.declared.kept.KeptPoint.{KeptPoint}
+use Rattle.apd_boxes.specs.declared.boxes.KeptBox.{KeptBox}
+use Rattle.apd_points.specs.declared.kept.KeptPoint.{KeptPoint}
 use Rattle.apd_record.specs.declared.order.Order.{Order}
 use Rattle.apd_record.specs.Recorded.{first_number, is_step}
 
@@ -28,6 +28,7 @@ AreRising boxes = (i j : ℕ) (b c : KeptBox) → slice_get boxes i ≡ Some b �
 pub record IsOrdered (order : Order) (boxes : List KeptBox) (points : List KeptPoint) : Type 0 where
   pub in_turn : OnTrue order.in_turn (AreInTurn points)
   pub rising : OnTrue order.rising (AreRising boxes)
+  pub above : OnTrue order.rising (AreFromBelow order.above boxes)
 
 -- the number of the box that was called from the point
 abbrev pub kept_child : List KeptBox → ℕ → Option ℕ

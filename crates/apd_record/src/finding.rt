@@ -7,10 +7,10 @@ ghost use Rattle.apd_ports.specs.declared.point.PointId.{PointId};
 ghost use Rattle.apd_record.specs.Index.{id_of};
 ghost use Rattle.apd_record.specs.Recorded.{is_step};
 ghost use Rattle.apd_record.specs.Ordered.{AreInTurn, AreRising, kept_child, kept_follow};
-ghost use Rattle.apd_record.specs.Packed.{points_of};
+ghost use Rattle.apd_points.specs.Packed.{points_of};
 
-use crate::kept::KeptBox;
-use crate::points::Points;
+use apd_boxes::Boxes;
+use apd_points::Points;
 use apd_ports::{PointId, Step};
 
 /// Whether a point followed this one after the exit.
@@ -68,17 +68,17 @@ pub fn find_follow(in_turn: bool, points: &Points, p: PointId, exit: PointId) ->
 }
 
 /// The box that was called from the point, by halving, where boxes are rising.
-fn child_rising(boxes: &Vec<KeptBox>, from: u32) -> Option<u32>
-    requires few { length boxes.now.items < 2 ^ 32 }
-    requires rising { AreRising boxes.now.items }
-    ensures child { result ≡ kept_child boxes.now.items from }
-    ensures there { IfSome result (λ b. (0 < b) × (b ≤ length boxes.now.items)) }
+fn child_rising(boxes: &Boxes, from: u32) -> Option<u32>
+    requires few { length boxes.now.boxes < 2 ^ 32 }
+    requires rising { AreRising boxes.now.boxes }
+    ensures child { result ≡ kept_child boxes.now.boxes from }
+    ensures there { IfSome result (λ b. (0 < b) × (b ≤ length boxes.now.boxes)) }
 {
     let mut low = 0;
     let mut high = boxes.len();
     'halves: while low < high {
         let middle = low + (high - low) / 2;
-        let there = boxes[middle].from;
+        let there = boxes.from(middle);
         if there == from {
             return Some(middle as u32 + 1);
         }
@@ -92,13 +92,13 @@ fn child_rising(boxes: &Vec<KeptBox>, from: u32) -> Option<u32>
 }
 
 /// The box that was called from the point, wherever it stands.
-fn child_anywhere(boxes: &Vec<KeptBox>, from: u32) -> Option<u32>
-    requires { length boxes.now.items < 2 ^ 32 }
-    ensures child { result ≡ kept_child boxes.now.items from }
-    ensures there { IfSome result (λ b. (0 < b) × (b ≤ length boxes.now.items)) }
+fn child_anywhere(boxes: &Boxes, from: u32) -> Option<u32>
+    requires { length boxes.now.boxes < 2 ^ 32 }
+    ensures child { result ≡ kept_child boxes.now.boxes from }
+    ensures there { IfSome result (λ b. (0 < b) × (b ≤ length boxes.now.boxes)) }
 {
     'boxes: for place in 0..boxes.len() {
-        if boxes[place].from == from {
+        if boxes.from(place) == from {
             return Some(place as u32 + 1);
         }
     }
@@ -106,11 +106,11 @@ fn child_anywhere(boxes: &Vec<KeptBox>, from: u32) -> Option<u32>
 }
 
 /// The box that was called from the point.
-pub fn find_child(rising: bool, boxes: &Vec<KeptBox>, from: u32) -> Option<u32>
-    requires few { length boxes.now.items < 2 ^ 32 }
-    requires rising { OnTrue rising (AreRising boxes.now.items) }
-    ensures child { result ≡ kept_child boxes.now.items from }
-    ensures there { IfSome result (λ b. (0 < b) × (b ≤ length boxes.now.items)) }
+pub fn find_child(rising: bool, boxes: &Boxes, from: u32) -> Option<u32>
+    requires few { length boxes.now.boxes < 2 ^ 32 }
+    requires rising { OnTrue rising (AreRising boxes.now.boxes) }
+    ensures child { result ≡ kept_child boxes.now.boxes from }
+    ensures there { IfSome result (λ b. (0 < b) × (b ≤ length boxes.now.boxes)) }
 {
     if rising {
         return child_rising(boxes, from);

@@ -4,11 +4,9 @@ ghost use Rattle.std.specs.Prelude.{◌≡◌, ◌<◌, ◌≤◌, ◌+◌, ◌-
 ghost use Rattle.apd_record.specs.Index.{id_of, IsBelow};
 ghost use Rattle.apd_record.specs.Open.{no_rows, noted_row, with_box_row, with_point_row};
 
-use crate::beside::Owners;
-use crate::kept::{KeptBox, KeptPoint, TuplePlace, called_box};
-use crate::order::{NONE_YET, Order, stays_in_turn, stays_rising};
-use crate::points::Points;
-use crate::room::{box_room, pass};
+use crate::order::{NONE_YET, Order, stays_in_turn, with_call};
+use apd_boxes::{Boxes, Call};
+use apd_points::{KeptPoint, Points, TuplePlace};
 use apd_ports::{PointId, Port, Step};
 use apd_tuples::spots::Numbered;
 use std::alloc::{AllocError, Global};
@@ -29,21 +27,20 @@ pub struct OpenPoint {
 #[derive(Drop)]
 pub struct Open {
     pub(crate) alloc: Global,
-    pub(crate) boxes: Vec<KeptBox>,
+    pub(crate) boxes: Boxes,
     pub(crate) points: Points,
-    pub(crate) owned: Owners,
     pub(crate) order: Order,
 }
 
 impl Model for Open {
     ghost use Rattle.apd_record.specs.Open.{Rows, IsBeside};
-    ghost use Rattle.apd_record.specs.Packed.{links_of, points_of};
+    ghost use Rattle.apd_points.specs.Packed.{links_of, points_of};
 
     ghost Value = { Rows };
 
-    ghost view = { λ o. record { boxes = o.boxes.items; points = points_of o.points } };
+    ghost view = { λ o. record { boxes = o.boxes.boxes; points = points_of o.points } };
 
-    ghost invariant = { λ o. IsBeside (record { boxes = o.boxes.items; points = points_of o.points }) o.owned (links_of o.points) o.order };
+    ghost invariant = { λ o. IsBeside (record { boxes = o.boxes.boxes; points = points_of o.points }) o.boxes.owned (links_of o.points) o.order };
 }
 
 /// Whether all goals are solved.
@@ -60,9 +57,8 @@ impl Open {
     {
         Open {
             alloc,
-            boxes: Vec::new(alloc),
+            boxes: Boxes::new(alloc),
             points: Points::new(alloc),
-            owned: Owners::new(alloc),
             order: NONE_YET,
         }
     }
@@ -76,11 +72,15 @@ impl Open {
         ensures opened { OnOk result (self.new ≡ with_box_row self.old from.0 user size) }
         ensures err { OnErr result (self.new ≡ self.old) }
     {
-        box_room(&mut self.boxes, &mut self.owned)?;
+        let order = with_call(self.order, from.0);
         let place = self.boxes.len() as u32;
-        self.order.rising = stays_rising(self.order.rising, &self.boxes, from.0);
-        self.boxes
-            .push_reserved(called_box(from.0, size, false, user));
+        let call = Call {
+            from: from.0,
+            number: size,
+            is_written: false,
+        };
+        self.boxes.open(call, user)?;
+        self.order = order;
         Ok(place + 1)
     }
 
@@ -98,7 +98,7 @@ impl Open {
         self.points.room()?;
         let is_exit = are_solved(point.done, point.tuple.goals);
         let is_first = point.done == 0;
-        let earlier = self.owned.add(point.owner, number, is_first, is_exit)?;
+        let earlier = self.boxes.add(point.owner, number, is_first, is_exit)?;
         self.order.in_turn = stays_in_turn(self.order.in_turn, point.before, number);
         let row = KeptPoint {
             owner: point.owner,
@@ -107,7 +107,7 @@ impl Open {
             tuple: TuplePlace::Kept(point.tuple),
             before: point.before,
         };
-        self.points.push_reserved(row, earlier.get());
+        self.points.push_reserved(row, earlier);
         Ok(PointId(number))
     }
 
@@ -117,6 +117,6 @@ impl Open {
         requires to { box_no ≤ length self.old.boxes }
         ensures { self.new ≡ noted_row self.old box_no port }
     {
-        pass(&mut self.boxes, box_no as usize - 1, port);
+        self.boxes.pass(box_no as usize - 1, port);
     }
 }

@@ -1,11 +1,10 @@
 //! In which order boxes and points came about: where a search makes them, none of what a point leads to is kept.
 
-ghost use Rattle.std.specs.Prelude.{◌≡◌, ◌+◌, ◌<◌, ◌^◌, length};
+ghost use Rattle.std.specs.Prelude.{◌≡◌, ◌+◌, ◌-◌, ◌<◌, ◌≤◌, ◌^◌};
 ghost use Rattle.std.specs.Bool.{IsTrue, OnTrue};
 ghost use Rattle.apd_record.specs.Index.{IsBelow};
-ghost use Rattle.apd_record.specs.Ordered.{AreFromBelow, AreRising, IsNext};
+ghost use Rattle.apd_record.specs.Ordered.{IsNext};
 
-use crate::kept::KeptBox;
 use apd_ports::Step;
 
 /// What is noted of the order in which boxes and points came about.
@@ -15,12 +14,15 @@ pub struct Order {
     pub in_turn: bool,
     /// Each box was called from a later point than those before it.
     pub rising: bool,
+    /// Each box was called from a point below this one, where they are rising.
+    pub above: u32,
 }
 
 /// Of no box and no point.
 pub const NONE_YET: Order = Order {
     in_turn: true,
     rising: true,
+    above: 0,
 };
 
 /// Whether a point with this number that came about so stands right behind the exit.
@@ -44,16 +46,18 @@ pub fn stays_in_turn(in_turn: bool, before: Option<Step>, number: u32) -> bool
     in_turn && is_next(before, number)
 }
 
-/// Whether boxes are rising where one more is called from this point.
+/// The same where one more box is called from this point.
 #[inline(always)]
-pub fn stays_rising(rising: bool, boxes: &Vec<KeptBox>, from: u32) -> bool
-    requires { OnTrue rising (AreRising boxes.now.items) }
-    ensures was { OnTrue result (IsTrue rising) }
-    ensures below { OnTrue result (AreFromBelow from boxes.now.items) }
+pub fn with_call(order: Order, from: u32) -> Order
+    requires { from < 2 ^ 32 - 1 }
+    ensures in_turn { result.in_turn ≡ order.in_turn }
+    ensures was { OnTrue result.rising (IsTrue order.rising) }
+    ensures later { OnTrue result.rising (order.above ≤ from) }
+    ensures above { result.above ≡ from + 1 }
 {
-    let count = boxes.len();
-    if count == 0 {
-        return rising;
+    Order {
+        in_turn: order.in_turn,
+        rising: order.rising && order.above <= from,
+        above: from + 1,
     }
-    rising && boxes[count - 1].from < from
 }

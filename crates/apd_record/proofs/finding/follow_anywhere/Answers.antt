@@ -1,12 +1,12 @@
 use Rattle.std.proofs.Common.{◌≡◌, ◌+◌, ap, sym, ◌∙◌, arith, Some, true, false}
 use Rattle.std.specs.Option.{option_map}
 use Rattle.std.proofs.lemmas.Option.{slice_get_within}
-use Rattle.apd_record.specs.declared.kept.KeptPoint.{KeptPoint}
+use Rattle.apd_points.specs.declared.kept.KeptPoint.{KeptPoint}
 use Rattle.apd_record.specs.Index.{id_of}
 use Rattle.apd_record.specs.Recorded.{is_step}
 use Rattle.apd_record.proofs.Found.{first_at, first_none, not-upto}
-use Rattle.apd_record.specs.Packed.{points_of}
-use Rattle.apd_record.proofs.Packing.{points_length}
+use Rattle.apd_points.specs.Packed.{points_of}
+use Rattle.apd_points.proofs.Packing.{points_length}
 use Rattle.apd_record.proofs.finding.follow_anywhere.Goals as goal
 
 pub returns-then-is_step-clause-point : goal.returns-then-is_step-clause-point

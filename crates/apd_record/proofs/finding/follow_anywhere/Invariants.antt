@@ -1,8 +1,8 @@
 use Rattle.std.proofs.Common.{◌≡◌, ℕ, ◌<◌, Some, false}
 use Rattle.std.specs.Prelude.{slice_get}
-use Rattle.apd_record.specs.declared.kept.KeptPoint.{KeptPoint}
+use Rattle.apd_points.specs.declared.kept.KeptPoint.{KeptPoint}
 use Rattle.apd_record.specs.Recorded.{is_step}
-use Rattle.apd_record.specs.Packed.{points_of}
+use Rattle.apd_points.specs.Packed.{points_of}
 use Rattle.apd_record.proofs.finding.follow_anywhere.Given as goal
 
 -- none of those before followed

@@ -5,26 +5,26 @@ use Rattle.apd_ports.specs.declared.point.Point.{Point}
 use Rattle.apd_record.specs.Kept.{seen, tuple_there, IsTupleThere}
 use Rattle.apd_record.specs.Recorded.{Recorded}
 use Rattle.apd_record.proofs.KeptRows.{point_told, told_points, tuple_read}
-use Rattle.apd_record.specs.Packed.{points_of}
-use Rattle.apd_record.proofs.Packing.{points_length, read_as}
+use Rattle.apd_points.specs.Packed.{points_of}
+use Rattle.apd_points.proofs.Packing.{points_length, read_as}
 use Rattle.apd_record.proofs.record.Record.tuple.Goals as goal
 
 pub read-requires : goal.read-requires
 read-requires c =
     let points = ap (λ (R : Recorded). length R.points) c.self.view_is in
-    let n = told_points c.self.inside.terms c.self.inside.places.items c.self.inside.kept c.self.inside.boxes.items (points_of c.self.inside.points) in
+    let n = told_points c.self.inside.terms c.self.inside.places.items c.self.inside.kept c.self.inside.boxes.boxes (points_of c.self.inside.points) in
     omega (arith, c.requires, points, n, points_length c.self.inside.points)
 
 pub tuple_there-requires-clause-within : goal.tuple_there-requires-clause-within
 tuple_there-requires-clause-within c =
     let points = ap (λ (R : Recorded). length R.points) c.self.view_is in
-    let n = told_points c.self.inside.terms c.self.inside.places.items c.self.inside.kept c.self.inside.boxes.items (points_of c.self.inside.points) in
+    let n = told_points c.self.inside.terms c.self.inside.places.items c.self.inside.kept c.self.inside.boxes.boxes (points_of c.self.inside.points) in
     (subst (λ (ps : List ℕ). IsTupleThere (length ps) c.self.inside.kept c.read.result.point.tuple) (sym c.as_slice-places.ensures.value)
     (tuple_read (length c.self.inside.places.items) c.self.inside.kept (points_of c.self.inside.points) c.args.p.0 c.read.result.point c.self.invariant.rows.tuples (omega (arith, c.requires, points, n)) (read_as (points_of c.self.inside.points) c.args.p.0 c.read.result.point c.read.ensures.point)))
 
 pub returns : goal.returns
 returns c =
-    let row = point_told c.self.inside.terms c.self.inside.places.items c.self.inside.kept c.self.inside.boxes.items (points_of c.self.inside.points) c.args.self.now c.args.p.0 c.read.result.point c.self.view_is c.requires (read_as (points_of c.self.inside.points) c.args.p.0 c.read.result.point c.read.ensures.point) in
+    let row = point_told c.self.inside.terms c.self.inside.places.items c.self.inside.kept c.self.inside.boxes.boxes (points_of c.self.inside.points) c.args.self.now c.args.p.0 c.read.result.point c.self.view_is c.requires (read_as (points_of c.self.inside.points) c.args.p.0 c.read.result.point c.read.ensures.point) in
     IfOk-weaker c.tuple_there.result _ _
     (λ t h. subst (λ o. IfSome o (λ (x : Point). t ≡ x.tuple)) (sym row) (h ∙ ap (λ (ps : List ℕ). tuple_there (seen c.self.inside.terms ps) c.self.inside.kept c.read.result.point.tuple) c.as_slice-places.ensures.value))
     c.tuple_there.ensures

@@ -1,0 +1,4 @@
+pub mod Places
+pub mod Apart
+pub mod Parts
+pub mod Packing

@@ -1,0 +1,6 @@
+pub mod Owned
+pub mod Ports
+pub mod Facts
+pub mod Few
+pub mod Boxes
+pub mod Packed

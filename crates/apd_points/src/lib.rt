@@ -1,0 +1,10 @@
+//! The points of a record, in few bytes.
+#![tactic(auto)]
+
+mod kept;
+mod packed;
+mod points;
+
+pub use kept::{KeptPoint, Span, TuplePlace};
+pub use packed::WholePoint;
+pub use points::Points;

@@ -8,6 +8,7 @@ ghost use Rattle.apd_frames.specs.Kept.{Calls, MayCall};
 ghost use Rattle.apd_following.specs.Followed.{kept_of};
 ghost use Rattle.apd_engine.specs.Search.{Found, OfGoal, PassesBy, Postpones, Skips, numbers_by};
 
+use crate::choices::{KeptChoice, push};
 use crate::search::Choice;
 use apd_base::MOST_KEPT;
 use apd_base::stack::Stack;
@@ -106,7 +107,7 @@ pub fn find(
 /// The clauses of the goal called in this box wait from this index on, or its Fail where there is none.
 #[inline(always)]
 pub fn postpone(
-    stack: &mut Stack<Choice>,
+    stack: &mut Stack<KeptChoice>,
     box_no: u32,
     next: usize,
     count: usize,
@@ -117,7 +118,7 @@ pub fn postpone(
         if next > MOST_KEPT {
             return Err(AllocError);
         }
-        return stack.push(Choice::Alternatives(box_no, next as u32));
+        return push(stack, Choice::Alternatives(box_no, next as u32));
     }
-    stack.push(Choice::Closing(box_no))
+    push(stack, Choice::Closing(box_no))
 }

@@ -6,6 +6,7 @@ ghost use Rattle.apd_trace.specs.Frames.{look_of};
 ghost use Rattle.apd_engine.specs.Search.{GivesAlways, IsOpen, Waits, called_at, in_mode, left_at, stand};
 ghost use Rattle.apd_engine.specs.Given.{IsCalled, IsToldWhole, MayBeWhole, TellsAlways};
 
+use crate::choices::push;
 use crate::given::{Given, ToldCall, Unread, event, is_user, whole_again};
 use crate::search::{Choice, Mode, Search};
 use apd_frames::ahead::Ahead;
@@ -132,7 +133,7 @@ impl Search {
     {
         self.frames.save()?;
         self.boxes += 1;
-        self.stack.push(Choice::Alternatives(self.boxes, 0))?;
+        push(&mut self.stack, Choice::Alternatives(self.boxes, 0))?;
         self.mode = Mode::Back;
         Ok(())
     }
@@ -145,7 +146,7 @@ impl Search {
     {
         self.frames.save()?;
         self.frames.leave();
-        self.stack.push(Choice::Again)?;
+        push(&mut self.stack, Choice::Again)?;
         self.mode = Mode::Hand(exit);
         Ok(())
     }

@@ -86,10 +86,11 @@ pub fn give_up_call(frames: &mut Following, port: Option<Box<Item>>)
 
 /// The error of an instance that is too large.
 #[inline(never)]
-pub fn too_large(alloc: Global, box_no: u32) -> Result<Given, AllocError>
-    ensures { IfOk result (λ given. IsWhole given (Item.Error RunError.Size box_no)) }
+pub fn too_large(alloc: Global, box_no: u32) -> Result<Box<Item>, AllocError>
+    ensures { IfOk result (λ item. item.value ≡ Item.Error RunError.Size box_no) }
 {
-    whole(alloc, Item::Error(RunError::Size, box_no))
+    let item = Box::new(alloc, Item::Error(RunError::Size, box_no))?;
+    Ok(item)
 }
 
 /// The port of a box.

@@ -12,9 +12,11 @@ use apd_ports::Port;
 use apd_record::ongoing::OpenPoint;
 use apd_trace::{PointId, Step};
 use std::alloc::{AllocError, Global};
+use std::boxed::Box;
 
 impl Search {
-    /// An exit is handed where there is no frame. It is a function of its own, as no run comes here.
+    /// An exit is handed where there is no frame. It is a function of its own, as no run comes here, and answers a box, so
+    /// that the loop of a run has no place for what it gives.
     #[inline(never)]
     fn hand_none(
         &mut self,
@@ -22,20 +24,22 @@ impl Search {
         program: &Program,
         unread: Unread,
         held: &mut Option<OpenPoint>,
-    ) -> Result<Option<Given>, AllocError>
+    ) -> Result<Box<Option<Given>>, AllocError>
         requires program { IsProgram program.now }
         requires boxes { self.old.boxes < 2 ^ 32 - 1 }
         requires points { self.old.points < 2 ^ 32 - 1 }
         requires mode { self.old.mode ≡ Mode.Back }
         requires waits { Waits (stand self.old) }
         ensures told { IfOk result (λ o. TellsSome
-            (record { tuples = self.new.frames.tuples; held = held.new }) unread o
+            (record { tuples = self.new.frames.tuples; held = held.new }) unread o.value
             (GivesOrEnds (tuples_of program.now) (in_mode Mode.Back (stand self.old))
             (stand self.new))) }
-        ensures held { IfOk result (λ o. SetsHeldSome o held.old held.new) }
+        ensures held { IfOk result (λ o. SetsHeldSome o.value held.old held.new) }
         ensures more { OnOk result (Grows self.old.frames.tuples self.new.frames.tuples) }
     {
-        self.back(alloc, program, unread, held)
+        let given = self.back(alloc, program, unread, held)?;
+        let boxed = Box::new(alloc, given)?;
+        Ok(boxed)
     }
 
     /// An exit is handed to the innermost frame.
@@ -62,7 +66,10 @@ impl Search {
     {
         self.mode = Mode::Back;
         match self.frames.newest() {
-            None => self.hand_none(alloc, program, unread, held),
+            None => {
+                let given = self.hand_none(alloc, program, unread, held)?;
+                Ok(Box::into_inner(given))
+            }
             Some((box_no, newest)) => {
                 self.frames.take_over(self.points)?;
                 let step = Step {
@@ -71,7 +78,8 @@ impl Search {
                 };
                 let is_made = made(&mut self.frames, Some(step), unread, held)?;
                 if !is_made {
-                    return Ok(Some(too_large(alloc, box_no)?));
+                    let item = too_large(alloc, box_no)?;
+                    return Ok(Some(Given::Whole(item)));
                 }
                 self.points += 1;
                 self.mode = Mode::Forward;

@@ -13,11 +13,12 @@ ghost use Rattle.apd_engine.specs.Cut.{FailsAt, IsCut, is_write_fault};
 ghost use Rattle.apd_engine.specs.Progress.{Course, HasEnded, IsFirst, IsOn, items_left};
 ghost use Rattle.apd_engine.specs.Progress.{PassesAnswer, PassesLater};
 ghost use Rattle.apd_engine.specs.Recording.{HasRow, MayAdd, rows_held};
+ghost use Rattle.apd_engine.specs.Stepped.{HasStepped};
 
 use crate::given::{Given, Unread, give_up_call};
 use crate::recording::tell_later;
 use crate::running::RunFault;
-use crate::search::Search;
+use crate::search::{Mode, Search};
 use crate::showing::{show_answer, show_call, show_later};
 use apd_causes::{Ran, RunEnd};
 use apd_clauses::Program;
@@ -140,37 +141,31 @@ impl Progress {
         Ok(None)
     }
 
-    /// Passes the next item; or tells how the run ended, where it passes no more after this.
+    /// Passes the item of which the search gave this, if it did; or tells how the run ended, where it passes no more after this.
     #[inline(always)]
-    fn pass<H: Hook>(
+    fn take<H: Hook>(
         &mut self,
-        alloc: Global,
-        program: &Program,
         limits: Limits,
         hook: &mut H,
+        given: Option<Given>,
     ) -> Result<Option<Ran>, RunFault>
         ghost course: { Course H }
-        requires program { IsProgram program.now }
         requires budget_limit { limits.budget ≤ MOST_SHOWN }
         requires answers_limit { limits.answers ≤ MOST_SHOWN }
-        requires on { IsOn H.step H.faults course (tuples_of program.now) limits
-            self.old hook.old }
-        ensures passed { IfOk result (λ o. MatchOption o
-            (IsOn H.step H.faults course (tuples_of program.now) limits
-            self.new hook.new)
+        requires stepped { HasStepped H.step H.faults course limits given self.old hook.old }
+        ensures passed { (s : HasStepped H.step H.faults course limits given self.old hook.old) →
+            IfOk result (λ o. MatchOption o
+            (IsOn H.step H.faults course s.program limits self.new hook.new)
             (λ ran. HasEnded H.step course self.new hook.new ran)) }
-        ensures nearer { IfOk result (λ o. IfNone o
+        ensures nearer { (s : HasStepped H.step H.faults course limits given self.old hook.old) →
+            IfOk result (λ o. IfNone o
             (items_left limits self.new.ports self.new.answered self.new.search.mode
-            < items_left limits self.old.ports self.old.answered self.old.search.mode)) }
+            < items_left limits self.old.ports self.old.answered s.search.mode)) }
         ensures cut { IfErr result
             (IsCut H.step course.start (shown_of course.run.passed) hook.new) }
         ensures cause { Counts is_write_fault (H.faults course.start) (H.faults hook.new) result }
     {
-        let unread = Unread {
-            ports: hook.ignores_ports(),
-            points: false,
-        };
-        let Some(given) = self.search.next(alloc, program, unread, &mut self.held)? else {
+        let Some(given) = given else {
             return Ok(Some(self.ended(RunEnd::Exhausted)));
         };
         match given {
@@ -203,6 +198,58 @@ impl Progress {
                 tell_later(&mut self.rows, &mut self.held, port, box_no)?;
                 self.ports += 1;
                 Ok(None)
+            }
+        }
+    }
+
+    /// Passes the next item; or tells how the run ended, where it passes no more after this. What each mode gives is taken in its
+    /// own arm: what it may be is known there. It is too large for a hint, and compiled into `pass_all` as its only caller.
+    fn pass<H: Hook>(
+        &mut self,
+        alloc: Global,
+        program: &Program,
+        limits: Limits,
+        hook: &mut H,
+    ) -> Result<Option<Ran>, RunFault>
+        ghost course: { Course H }
+        requires program { IsProgram program.now }
+        requires budget_limit { limits.budget ≤ MOST_SHOWN }
+        requires answers_limit { limits.answers ≤ MOST_SHOWN }
+        requires on { IsOn H.step H.faults course (tuples_of program.now) limits
+            self.old hook.old }
+        ensures passed { IfOk result (λ o. MatchOption o
+            (IsOn H.step H.faults course (tuples_of program.now) limits
+            self.new hook.new)
+            (λ ran. HasEnded H.step course self.new hook.new ran)) }
+        ensures nearer { IfOk result (λ o. IfNone o
+            (items_left limits self.new.ports self.new.answered self.new.search.mode
+            < items_left limits self.old.ports self.old.answered self.old.search.mode)) }
+        ensures cut { IfErr result
+            (IsCut H.step course.start (shown_of course.run.passed) hook.new) }
+        ensures cause { Counts is_write_fault (H.faults course.start) (H.faults hook.new) result }
+    {
+        let unread = Unread {
+            ports: hook.ignores_ports(),
+            points: false,
+        };
+        match self.search.mode {
+            Mode::Forward => {
+                let given = self.search.forward(alloc, unread)?;
+                self.take(limits, hook, Some(given))
+            }
+            Mode::Hand(exit) => {
+                let given = self
+                    .search
+                    .hand(alloc, program, exit, unread, &mut self.held)?;
+                self.take(limits, hook, given)
+            }
+            Mode::Leave => {
+                let given = self.search.leave(alloc, unread)?;
+                self.take(limits, hook, Some(given))
+            }
+            Mode::Back => {
+                let given = self.search.back(alloc, program, unread, &mut self.held)?;
+                self.take(limits, hook, given)
             }
         }
     }

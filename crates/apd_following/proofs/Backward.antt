@@ -1,10 +1,10 @@
 -- What a journal has where the store went back.
-use Rattle.std.proofs.Common.{◌≡◌, inl, inr, ℕ, zero, suc, ◌-◌, ◌<◌, ◌≤◌, List, [], ◌∷◌, ◌++◌, length, take, drop, reverse, refl, sym, ◌∙◌, ap, subst, arith, Bool, true, false, Result, Ok, Err}
+use Rattle.std.proofs.Common.{◌≡◌, inl, inr, ℕ, zero, suc, ◌-◌, ◌<◌, ◌≤◌, List, [], ◌∷◌, ◌++◌, length, take, drop, refl, sym, ◌∙◌, ap, subst, arith, Bool, true, false, Result, Ok, Err}
 use Rattle.std.specs.Prelude.{OnOk}
 use Rattle.std.specs.Result.{is_ok}
 use Rattle.std.specs.Bool.{OnTrue}
 use Rattle.std.proofs.lemmas.Bool.{cases_eq, OnTrue_at, OnTrue_from}
-use Rattle.std.proofs.lemmas.List.{append-nil, append_assoc, drop-drop, length-drop, length-take}
+use Rattle.std.proofs.lemmas.List.{append-nil, drop-drop, length-drop, length-take}
 use Rattle.apd_term.specs.declared.term.Sym.{Sym}
 use Rattle.apd_cells.specs.declared.front.Front.{Front}
 use Rattle.apd_cells.specs.declared.heap.TrailNote.{TrailNote}
@@ -19,8 +19,7 @@ use Rattle.apd_cells.proofs.Undoing.{at_mark-here, before_trail}
 use Rattle.apd_cells.proofs.Undone.{undone_front, undone_more}
 use Rattle.apd_past.specs.Done.{Done}
 use Rattle.apd_past.specs.Follows.{Follows, bindings_in}
-use Rattle.apd_past.specs.History.{bindings_of, freed, HasDoneMore, IsNewestBound, IsRight, KeepsMoments, history_of}
-use Rattle.apd_past.proofs.Bindings.{is_freed}
+use Rattle.apd_past.specs.History.{bindings_of, HasDoneMore, IsNewestBound, IsRight, KeepsMoments, history_of}
 use Rattle.apd_past.proofs.Keeping.{keeps_grown}
 use Rattle.apd_frames.specs.Framed.{GoesBack}
 use Rattle.apd_frames.specs.declared.linked.Linked.{Linked}
@@ -37,33 +36,17 @@ newest_bound (Bound w b ∷ notes) v c rest e =
     binding-same w b notes v same ∙ ap (λ x. At x) there
 
 -- the journal's newest variable is free in the store: its binding is one of the newer ones
-ahead_by : (d : Done) (s : Stored) (v c : ℕ) (rest newer : List TrailNote) → bindings_of d ≡ Bound v c ∷ rest → bindings_of d ≡ newer ++ bindings_in s.trail → AreFree newer s.trail
-    → binding_of s.trail v ≡ Free → IsAhead (freed d) s
-ahead_by d s v c rest [] e is f free = let b = newest_bound s.trail v c rest (sym is ∙ e) in absurd (cc)
-ahead_by d s v c rest (Loaded k n ∷ newer) e is f free = record { newer = newer; bindings_are = (is_freed d).bindings ∙ ap (drop 1) is; free = f }
-ahead_by d s v c rest (Bound w k ∷ newer) e is f free = record { newer = newer; bindings_are = (is_freed d).bindings ∙ ap (drop 1) is; free = f.1 }
+ahead_by : (d d' : Done) (s : Stored) (v c : ℕ) (rest newer : List TrailNote) → bindings_of d ≡ Bound v c ∷ rest → bindings_of d ≡ newer ++ bindings_in s.trail → AreFree newer s.trail
+    → binding_of s.trail v ≡ Free → bindings_of d' ≡ drop 1 (bindings_of d) → IsAhead d' s
+ahead_by d d' s v c rest [] e is f free left = let b = newest_bound s.trail v c rest (sym is ∙ e) in absurd (cc)
+ahead_by d d' s v c rest (Loaded k n ∷ newer) e is f free left = record { newer = newer; bindings_are = left ∙ ap (drop 1) is; free = f }
+ahead_by d d' s v c rest (Bound w k ∷ newer) e is f free left = record { newer = newer; bindings_are = left ∙ ap (drop 1) is; free = f.1 }
 
-pub ahead_freed : (d d' : Done) (s : Stored) (v : ℕ) → IsAhead d s → IsNewestBound v (bindings_of d) → binding_of s.trail v ≡ Free → d' ≡ freed d → IsAhead d' s
-ahead_freed d d' s v a n free e =
-    subst (λ x. IsAhead x s) (sym e) (ahead_by d s v n.0 (drop 1 (bindings_of d)) a.newer n.1 a.bindings_are a.free free)
+pub ahead_freed : (d d' : Done) (s : Stored) (v : ℕ) → IsAhead d s → IsNewestBound v (bindings_of d) → binding_of s.trail v ≡ Free → bindings_of d' ≡ drop 1 (bindings_of d) → IsAhead d' s
+ahead_freed d d' s v a n free e = ahead_by d d' s v n.0 (drop 1 (bindings_of d)) a.newer n.1 a.bindings_are a.free free e
 
-pub fewer_freed : (d d' : Done) (v : ℕ) → IsNewestBound v (bindings_of d) → d' ≡ freed d → length (bindings_of d') < length (bindings_of d)
-fewer_freed d d' v n e =
-    omega (arith, ap (λ x. length (bindings_of x)) e, ap length (is_freed d).bindings, length-drop 1 (bindings_of d), ap length n.1)
-
--- so far some were freed, and one more
-pub more_freed : (old d d' : Done) → HasDoneMore old d → d' ≡ freed d → HasDoneMore old d'
-more_freed old d d' h e =
-    let k = subst (HasDoneMore d) (sym e) (is_freed d).more in
-    record {
-      variables = k.variables ∙ h.variables;
-      more = h.more ++ k.more;
-      deeds = k.deeds ∙ ap (λ ds. ds ++ k.more) h.deeds ∙ append_assoc old.deeds h.more k.more;
-    }
-
-pub right_once : (old d d' : Done) → ((cells : List Sym) (n : ℕ) → IsRight cells n (reverse old.deeds) → IsRight cells n (reverse d.deeds)) → d' ≡ freed d
-    → ((cells : List Sym) (n : ℕ) → IsRight cells n (reverse old.deeds) → IsRight cells n (reverse d'.deeds))
-right_once old d d' h e = λ cells n r. subst (λ (x : Done). IsRight cells n (reverse x.deeds)) (sym e) ((is_freed d).right cells n (h cells n r))
+pub fewer_freed : (d d' : Done) (v : ℕ) → IsNewestBound v (bindings_of d) → bindings_of d' ≡ drop 1 (bindings_of d) → length (bindings_of d') < length (bindings_of d)
+fewer_freed d d' v n e = omega (arith, ap length e, length-drop 1 (bindings_of d), ap length n.1)
 
 -- it is bound there: there is no newer one
 done_by : (d : Done) (s : Stored) (v c : ℕ) (rest newer : List TrailNote) → bindings_of d ≡ Bound v c ∷ rest → bindings_of d ≡ newer ++ bindings_in s.trail → AreFree newer s.trail
@@ -122,8 +105,8 @@ module _ (t : Tie) (now : Stored) (b : IsBack t now) where
   within_back : t.cells ≤ length now.cells
   within_back = omega (arith, ap length front_back, length-take t.cells now.cells, length-take t.cells b.before.cells, b.tied.within)
 
-  right_back : IsRight (take t.cells now.cells) t.journal.variables (reverse t.journal.deeds)
-  right_back = subst (λ z. IsRight z t.journal.variables (reverse t.journal.deeds)) (sym front_back) b.tied.right
+  right_back : IsRight (take t.cells now.cells) t.journal.variables t.journal.spans
+  right_back = subst (λ z. IsRight z t.journal.variables t.journal.spans) (sym front_back) b.tied.right
 
   trail_back : now.trail ≡ drop (length b.before.trail - b.mark) b.before.trail
   trail_back = ap (λ (x : Stored). x.trail) b.is ∙ (undone_more (front_of t) b.mark b.before b.sound).trail ∙ trail_at b.mark b.before
@@ -175,10 +158,10 @@ module _ (t : Tie) (now : Stored) (b : IsBack t now) where
   pub tied_given_up : t.holds ≡ false → IsTied t now
   tied_given_up e = record { within = within_back; right = right_back; follows = subst (λ b. OnTrue b (FollowsTo t.followed t.journal now)) (sym e) tt }
 
-  tied_part : (d : Done) (k : ℕ) → IsRight (take t.cells now.cells) d.variables (reverse d.deeds) → IsTied (record { journal = d; cells = t.cells; followed = k; holds = false }) now
+  tied_part : (d : Done) (k : ℕ) → IsRight (take t.cells now.cells) d.variables d.spans → IsTied (record { journal = d; cells = t.cells; followed = k; holds = false }) now
   tied_part d k r = record { within = within_back; right = r; follows = tt }
 
-  tied_freed : (d : Done) (k : ℕ) → IsRight (take t.cells now.cells) d.variables (reverse d.deeds) → Follows d now → k ≡ length now.trail
+  tied_freed : (d : Done) (k : ℕ) → IsRight (take t.cells now.cells) d.variables d.spans → Follows d now → k ≡ length now.trail
       → IsTied (record { journal = d; cells = t.cells; followed = k; holds = true }) now
   tied_freed d k r f e = record {
     within = within_back;
@@ -186,19 +169,19 @@ module _ (t : Tie) (now : Stored) (b : IsBack t now) where
     follows = record { there = omega (arith, e); follows = f ∙ ap (λ (x : Stored). bindings_in x.trail) (sym (at_mark-here k now (omega (arith, e)))) };
   }
 
-  pub tied_by : {X E : Type 0} (r : Result X E) (holds : Bool) (d : Done) (k : ℕ) → IsRight (take t.cells now.cells) d.variables (reverse d.deeds) → OnOk r (Follows d now) → k ≡ length now.trail
+  pub tied_by : {X E : Type 0} (r : Result X E) (holds : Bool) (d : Done) (k : ℕ) → IsRight (take t.cells now.cells) d.variables d.spans → OnOk r (Follows d now) → k ≡ length now.trail
       → holds ≡ is_ok r → IsTied (record { journal = d; cells = t.cells; followed = k; holds = holds }) now
   tied_by (Ok x) holds d k right f e h = subst (λ b. IsTied (record { journal = d; cells = t.cells; followed = k; holds = b }) now) (sym h) (tied_freed d k right f e)
   tied_by (Err x) holds d k right f e h = subst (λ b. IsTied (record { journal = d; cells = t.cells; followed = k; holds = b }) now) (sym h) (tied_part d k right)
 
-  pub right_freed : (d : Done) → HasDoneMore t.journal d → ((cells : List Sym) (n : ℕ) → IsRight cells n (reverse t.journal.deeds) → IsRight cells n (reverse d.deeds))
-      → IsRight (take t.cells now.cells) d.variables (reverse d.deeds)
-  right_freed d m h = subst (λ n. IsRight (take t.cells now.cells) n (reverse d.deeds)) (sym m.variables) (h (take t.cells now.cells) t.journal.variables right_back)
+  pub right_freed : (d : Done) → HasDoneMore t.journal d → ((cells : List Sym) (n : ℕ) → IsRight cells n t.journal.spans → IsRight cells n d.spans)
+      → IsRight (take t.cells now.cells) d.variables d.spans
+  right_freed d m h = subst (λ n. IsRight (take t.cells now.cells) n d.spans) (sym m.variables) (h (take t.cells now.cells) t.journal.variables right_back)
 
   pub keeps_freed : (d : Done) → HasDoneMore t.journal d → KeepsMoments (past_of t now) (history_of (take t.cells now.cells) d)
   keeps_freed d m =
       subst (λ z. KeepsMoments (past_of t now) (history_of z d)) (append-nil (take t.cells now.cells))
-      (keeps_grown (take t.cells now.cells) [] t.journal d m.more right_back m.deeds)
+      (keeps_grown (take t.cells now.cells) [] t.journal d right_back m.moments m.earlier)
 
 -- frames went back, and their store with them
 module _ (t : Tie) (old new : Linked) (kept : Front) (tied : IsTied t old.store) (sound : IsSound old.store) (back : GoesBack kept old new) (is : kept ≡ front_of t) where

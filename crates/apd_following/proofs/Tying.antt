@@ -1,5 +1,5 @@
 -- What stays of a tie where the store goes on, and where a journal catches up with it.
-use Rattle.std.proofs.Common.{◌≡◌, ℕ, ◌-◌, ◌≤◌, List, [], ◌++◌, length, take, drop, reverse, refl, sym, ◌∙◌, ap, subst, arith, true, false}
+use Rattle.std.proofs.Common.{◌≡◌, ℕ, ◌-◌, ◌≤◌, List, [], ◌++◌, length, take, drop, refl, sym, ◌∙◌, ap, subst, arith, true, false}
 use Rattle.std.specs.Prelude.{max}
 use Rattle.std.proofs.Math.Seq.{take-length}
 use Rattle.std.proofs.lemmas.Bool.{OnTrue_at, OnTrue_from}
@@ -11,7 +11,7 @@ use Rattle.apd_cells.proofs.Meaning.{HasCells-of}
 use Rattle.apd_cells.proofs.Undoing.{at_mark-here, before_trail}
 use Rattle.apd_past.specs.Done.{Done, with_room}
 use Rattle.apd_past.specs.Follows.{Follows, MayFollow, bindings_in}
-use Rattle.apd_past.specs.History.{bindings_after, HasDoneMore, KeepsMoments, history_of, IsRight}
+use Rattle.apd_past.specs.History.{bindings_at, bindings_of, HasDoneMore, KeepsMoments, history_of, IsRight}
 use Rattle.apd_past.proofs.Keeping.{keeps_grown, keeps_wider}
 use Rattle.apd_past.proofs.Marks.{front_at_mark}
 use Rattle.apd_past.proofs.Moments.{right_more, right_wider}
@@ -21,7 +21,7 @@ use Rattle.apd_following.specs.declared.tie.Tie.{Tie}
 use Rattle.apd_following.specs.Tied.{past_of, FollowsTo, IsLevel, IsTied}
 
 -- nothing is kept, and nothing was followed
-pub tied_none : (d : Done) (s : Stored) → d ≡ record { variables = 0; deeds = [] } → IsTied (record { journal = d; cells = 0; followed = 0; holds = true }) s
+pub tied_none : (d : Done) (s : Stored) → d ≡ record { variables = 0; moments = 0; spans = [] } → IsTied (record { journal = d; cells = 0; followed = 0; holds = true }) s
 tied_none d s e =
     rw e (record {
       within = omega arith;
@@ -64,7 +64,7 @@ module _ (s s' : Stored) (k : Keeps s s') where
   pub tied_more : (t : Tie) → IsTied t s → IsTied t s'
   tied_more t h = record {
     within = omega (arith, h.within, ap length longer, length-append s.cells (front_at_mark (length s.trail) s').0);
-    right = subst (λ z. IsRight z t.journal.variables (reverse t.journal.deeds)) (sym (front_more t.cells h.within)) h.right;
+    right = subst (λ z. IsRight z t.journal.variables t.journal.spans) (sym (front_more t.cells h.within)) h.right;
     follows = OnTrue_from t.holds (FollowsTo t.followed t.journal s') (λ e. follows_more t.followed t.journal (OnTrue_at e h.follows));
   }
 
@@ -77,30 +77,30 @@ module _ (s s' : Stored) (k : Keeps s s') where
 -- all of the store is kept
 module _ (t : Tie) (s : Stored) (h : IsTied t s) where
   -- there is room for its variables
-  pub tied_roomy : (d : Done) → d.deeds ≡ t.journal.deeds → t.journal.variables ≤ d.variables → IsTied (record { journal = d; cells = t.cells; followed = t.followed; holds = t.holds }) s
-  tied_roomy d e l = record {
+  pub tied_roomy : (d : Done) → d.moments ≡ t.journal.moments → d.spans ≡ t.journal.spans → t.journal.variables ≤ d.variables → IsTied (record { journal = d; cells = t.cells; followed = t.followed; holds = t.holds }) s
+  tied_roomy d k e l = record {
     within = h.within;
-    right = subst (λ ds. IsRight (take t.cells s.cells) d.variables (reverse ds)) (sym e) (right_wider (take t.cells s.cells) t.journal.variables d.variables (reverse t.journal.deeds) h.right l);
+    right = subst (λ ss. IsRight (take t.cells s.cells) d.variables ss) (sym e) (right_wider (take t.cells s.cells) t.journal.variables d.variables t.journal.spans h.right l);
     follows = OnTrue_from t.holds (FollowsTo t.followed d s)
         (λ q. (let f = OnTrue_at q h.follows in record {
           there = f.there;
-          follows = ap (λ ds. bindings_after (reverse ds)) e ∙ f.follows;
+          follows = ap (λ m. bindings_at m d.spans) k ∙ ap (λ ss. bindings_at t.journal.moments ss) e ∙ f.follows;
         }));
   }
 
-  pub keeps_roomy : (d : Done) → d.deeds ≡ t.journal.deeds → KeepsMoments (past_of t s) (history_of (take t.cells s.cells) d)
-  keeps_roomy d e = keeps_wider (past_of t s) (history_of (take t.cells s.cells) d) refl e
+  pub keeps_roomy : (d : Done) → d.moments ≡ t.journal.moments → d.spans ≡ t.journal.spans → KeepsMoments (past_of t s) (history_of (take t.cells s.cells) d)
+  keeps_roomy d k e = keeps_wider (past_of t s) (history_of (take t.cells s.cells) d) refl k e
 
   -- the journal may follow
   module _ (sound : IsSound s) (d : Done) (room : d ≡ with_room t.journal s.variables) where
-    whole_right : IsRight s.cells d.variables (reverse d.deeds)
+    whole_right : IsRight s.cells d.variables d.spans
     whole_right =
         let n = max t.journal.variables s.variables in
         let is : take t.cells s.cells ++ drop t.cells s.cells ≡ s.cells = take-append-drop t.cells s.cells in
         let w = HasCells-of s.cells s.variables s.trail sound in
         let whole : HasCells s.cells n = record { whole = w.whole; below = λ v o. (let b = w.below v o in omega arith) } in
-        rw room (subst (λ z. IsRight z n (reverse t.journal.deeds)) is
-        (right_more (take t.cells s.cells) (drop t.cells s.cells) t.journal.variables n (reverse t.journal.deeds) (subst (λ z. HasCells z n) (sym is) whole) (omega arith) h.right))
+        rw room (subst (λ z. IsRight z n t.journal.spans) is
+        (right_more (take t.cells s.cells) (drop t.cells s.cells) t.journal.variables n t.journal.spans (subst (λ z. HasCells z n) (sym is) whole) (omega arith) h.right))
 
     pub may_follow : t.holds ≡ true → MayFollow d s t.followed
     may_follow q =
@@ -108,7 +108,7 @@ module _ (t : Tie) (s : Stored) (h : IsTied t s) where
         record {
           sound = sound;
           there = f.there;
-          follows = ap (λ (x : Done). bindings_after (reverse x.deeds)) room ∙ f.follows;
+          follows = ap bindings_of room ∙ f.follows;
           room = omega (arith, ap (λ (x : Done). x.variables) room);
           right = whole_right;
         }
@@ -116,21 +116,23 @@ module _ (t : Tie) (s : Stored) (h : IsTied t s) where
     pub keeps_caught : (d' : Done) (n : ℕ) → HasDoneMore d d' → n ≡ length s.cells → KeepsMoments (past_of t s) (history_of (take n s.cells) d')
     keeps_caught d' n m e =
         subst (λ z. KeepsMoments (past_of t s) (history_of z d')) (take-append-drop t.cells s.cells ∙ sym (ap (λ k. take k s.cells) e ∙ take-length s.cells))
-        (keeps_grown (take t.cells s.cells) (drop t.cells s.cells) t.journal d' m.more h.right (m.deeds ∙ ap (λ (x : Done). x.deeds ++ m.more) room))
+        (keeps_grown (take t.cells s.cells) (drop t.cells s.cells) t.journal d' h.right
+        (subst (λ (x : Done). x.moments ≤ d'.moments) room m.moments)
+        (subst (λ (x : Done). (k : ℕ) → k ≤ x.moments → bindings_at k d'.spans ≡ bindings_at k x.spans) room m.earlier))
 
 -- it has followed a part, or all
-pub caught_part : (d : Done) (s : Stored) (n k : ℕ) → IsRight s.cells d.variables (reverse d.deeds) → n ≡ length s.cells → IsTied (record { journal = d; cells = n; followed = k; holds = false }) s
+pub caught_part : (d : Done) (s : Stored) (n k : ℕ) → IsRight s.cells d.variables d.spans → n ≡ length s.cells → IsTied (record { journal = d; cells = n; followed = k; holds = false }) s
 caught_part d s n k r e = record {
   within = omega (arith, e);
-  right = subst (λ z. IsRight z d.variables (reverse d.deeds)) (sym (ap (λ j. take j s.cells) e ∙ take-length s.cells)) r;
+  right = subst (λ z. IsRight z d.variables d.spans) (sym (ap (λ j. take j s.cells) e ∙ take-length s.cells)) r;
   follows = tt;
 }
 
-pub caught_all : (d : Done) (s : Stored) (n k : ℕ) → IsRight s.cells d.variables (reverse d.deeds) → n ≡ length s.cells → Follows d s → k ≡ length s.trail
+pub caught_all : (d : Done) (s : Stored) (n k : ℕ) → IsRight s.cells d.variables d.spans → n ≡ length s.cells → Follows d s → k ≡ length s.trail
     → IsTied (record { journal = d; cells = n; followed = k; holds = true }) s
 caught_all d s n k r e f i = record {
   within = omega (arith, e);
-  right = subst (λ z. IsRight z d.variables (reverse d.deeds)) (sym (ap (λ j. take j s.cells) e ∙ take-length s.cells)) r;
+  right = subst (λ z. IsRight z d.variables d.spans) (sym (ap (λ j. take j s.cells) e ∙ take-length s.cells)) r;
   follows = record { there = omega (arith, i); follows = f ∙ ap (λ (x : Stored). bindings_in x.trail) (sym (at_mark-here k s (omega (arith, i)))) };
 }
 

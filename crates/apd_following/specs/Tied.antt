@@ -26,7 +26,7 @@ pub record FollowsTo (k : ℕ) (d : Done) (s : Stored) : Type 0 where
   pub there : k ≤ length s.trail
   pub follows : Follows d (at_mark k s)
 
--- each deed was right among the cells that are kept, and the journal follows the store so far, unless it was given up
+-- each binding was right among the cells that are kept, and the journal follows the store so far, unless it was given up
 pub record IsTied (t : Tie) (s : Stored) : Type 0 where
   pub within : t.cells ≤ length s.cells
   pub right : IsRightHistory (past_of t s)

@@ -3,7 +3,7 @@
 //! A tuple is kept by its cells and the moment, in time that doesn't depend on its terms, and can
 //! be read as it was then.
 
-ghost use Rattle.std.specs.Prelude.{◌≡◌, ℕ, ◌∷◌, ◌++◌, [], ◌<◌, length, drop, Some, OnOk, OnErr, IfOk};
+ghost use Rattle.std.specs.Prelude.{◌≡◌, ℕ, List, ◌∷◌, [], ◌<◌, length, drop, Some, OnOk, OnErr, IfOk};
 ghost use Rattle.apd_term.specs.Tuple.{canonical_tuple};
 ghost use Rattle.apd_clauses.specs.Clauses.{IsRunnable};
 ghost use Rattle.apd_trace.specs.Frames.{entering, look_of, handed_all, outer, query_frame};
@@ -12,12 +12,14 @@ ghost use Rattle.apd_trace.specs.Renaming.{AreAlike};
 ghost use Rattle.apd_frames.specs.Kept.{Calls, Enters, IsKey, MayCall, Takes, ahead_of, exit_in, fits, newest_of};
 ghost use Rattle.apd_trace.specs.declared.frame.Called.{Called};
 ghost use Rattle.apd_term.specs.Term.{predicate_of};
+ghost use Rattle.apd_trace.specs.declared.frame.Frame.{Frame};
+ghost use Rattle.apd_frames.specs.Linked.{IsThere, frame_in};
+ghost use Rattle.apd_frames.specs.Links.{link_of};
 ghost use Rattle.apd_frames.specs.Measures.{MeasuresInnermost};
 ghost use Rattle.apd_frames.specs.Solves.{solution_as, Keeps};
 ghost use Rattle.apd_following.specs.Tied.{past_of, IsTied};
-ghost use Rattle.apd_unify.specs.Cells.{AreCells};
-ghost use Rattle.apd_tuples.specs.Tuples.{kept_tuples, tuple_of, AreThere, Holds};
-ghost use Rattle.apd_following.specs.Followed.{HoldsInnermost, IsGoalSized, IsKept, KeepsInstance, kept_of};
+ghost use Rattle.apd_tuples.specs.Tuples.{kept_tuples, AreThere, Holds};
+ghost use Rattle.apd_following.specs.Followed.{IsGoalSized, IsKept, KeepsInstance, kept_of};
 
 mod room;
 
@@ -27,13 +29,14 @@ use apd_clauses::Program;
 use apd_frames::ahead::Ahead;
 use apd_frames::builtin::Solved;
 use apd_frames::linked::Linked;
-use apd_frames::measuring::Measure;
+use apd_frames::links::LinkRef;
+use apd_frames::measuring::{Measure, measured};
 use apd_frames::reading::next_goal;
 use apd_term::{Pred, Sym, Tuple};
 use apd_trace::{Called, Item, Look};
 use apd_tuples::spots::{Fact, Numbered, Spots};
 use apd_tuples::tuples::KeptTuples;
-use apd_unify::store::{Cell, Store};
+use apd_unify::store::Store;
 use std::alloc::{AllocError, Global};
 use std::boxed::Box;
 use std::marker::Model;
@@ -73,36 +76,37 @@ pub struct KeptFrame {
     pub tuple: Numbered,
 }
 
-/// Keeps the tuple at a head's cell and at goals' cells of the store that is followed, with what is known of
-/// it, and tells its number and how many goals it has.
+/// Keeps the tuple of a link over the store that is followed, with what is known of it, and tells of its frame.
 #[inline(always)]
 fn keep_at(
     tie: &mut Tie,
     spots: &mut Spots,
     store: &Store,
-    head: Cell,
-    goals: &[Cell],
+    link: &LinkRef<'_>,
     fact: Fact,
-) -> Result<Numbered, AllocError>
+) -> Result<KeptFrame, AllocError>
     requires tied { IsTied tie.old store.now }
     requires there { AreThere (past_of tie.old store.now) spots.old }
-    requires head { head.0 < length store.now.cells }
-    requires goals { AreCells (length store.now.cells) goals.now }
-    requires fact { Holds fact (canonical_tuple (tuple_of store.now head goals.now)) }
+    requires link { IsThere store.now link.now }
+    requires fact { Holds fact (canonical_tuple (frame_in store.now (link_of link.now)).tuple) }
     ensures tied { IsTied tie.new store.now }
     ensures there { AreThere (past_of tie.new store.now) spots.new }
-    ensures number { IfOk result (λ n. n.number ≡ length spots.old) }
-    ensures count { IfOk result (λ n. n.goals ≡ length goals.now) }
-    ensures ok { OnOk result (kept_tuples (past_of tie.new store.now) spots.new
-        ≡ kept_tuples (past_of tie.old store.now) spots.old
-        ++ canonical_tuple (tuple_of store.now head goals.now) ∷ []) }
+    ensures kept { IfOk result (λ n. (F : List Frame) →
+        IsKept n (frame_in store.now (link_of link.now) ∷ F)
+        (kept_tuples (past_of tie.old store.now) spots.old)
+        (kept_tuples (past_of tie.new store.now) spots.new)) }
     ensures err { OnErr result (kept_tuples (past_of tie.new store.now) spots.new
         ≡ kept_tuples (past_of tie.old store.now) spots.old) }
 {
     tie.catch_up(store)?;
     let moment = tie.journal.moment();
-    let numbered = spots.push(head, goals, moment, fact)?;
-    Ok(numbered)
+    let tuple = spots.push(link.head, link.goals, moment, fact)?;
+    Ok(KeptFrame {
+        owner: link.box_no,
+        clause: link.clause,
+        done: link.done,
+        tuple,
+    })
 }
 
 impl Following {
@@ -296,7 +300,7 @@ impl Following {
     }
 
     /// Keeps the innermost frame's instance, and tells of the frame; none exactly where it is too
-    /// large.
+    /// large. Its link is looked up once: a run comes here at each point.
     #[inline(always)]
     pub fn keep(&mut self) -> Result<Option<KeptFrame>, AllocError>
         requires { 0 < length self.old.current }
@@ -305,12 +309,19 @@ impl Following {
             (λ o. KeepsInstance o self.old.current self.old.tuples self.new.tuples) }
         ensures err { OnErr result (self.new.tuples ≡ self.old.tuples) }
     {
-        let seen = self.measured()?;
-        if !seen.fits() {
-            return Ok(None);
+        match self.linked.links.get(self.linked.innermost) {
+            None => unreachable!(),
+            Some(link) => {
+                let seen = measured(&mut self.linked.store, &link)?;
+                if !seen.fits() {
+                    return Ok(None);
+                }
+                let fact = fact_of_measure(seen);
+                let (tie, spots) = (&mut self.tie, &mut self.spots);
+                let kept = keep_at(tie, spots, &self.linked.store, &link, fact)?;
+                Ok(Some(kept))
+            }
         }
-        let kept = self.keep_with(fact_of_measure(seen))?;
-        Ok(Some(kept))
     }
 
     /// The same however large it is. Nothing is told of it.
@@ -321,30 +332,12 @@ impl Following {
             (λ n. IsKept n self.old.current self.old.tuples self.new.tuples) }
         ensures err { OnErr result (self.new.tuples ≡ self.old.tuples) }
     {
-        self.keep_with(Fact::Nothing)
-    }
-
-    /// Keeps the innermost frame's instance, of which this is known, and tells of the frame.
-    #[inline(always)]
-    fn keep_with(&mut self, fact: Fact) -> Result<KeptFrame, AllocError>
-        requires some { 0 < length self.old.current }
-        requires fact { HoldsInnermost fact self.old.current }
-        ensures frames { kept_of self.new ≡ kept_of self.old }
-        ensures kept { IfOk result
-            (λ n. IsKept n self.old.current self.old.tuples self.new.tuples) }
-        ensures err { OnErr result (self.new.tuples ≡ self.old.tuples) }
-    {
         match self.linked.links.get(self.linked.innermost) {
             None => unreachable!(),
             Some(link) => {
                 let (tie, spots) = (&mut self.tie, &mut self.spots);
-                let tuple = keep_at(tie, spots, &self.linked.store, link.head, link.goals, fact)?;
-                Ok(KeptFrame {
-                    owner: link.box_no,
-                    clause: link.clause,
-                    done: link.done,
-                    tuple,
-                })
+                let kept = keep_at(tie, spots, &self.linked.store, &link, Fact::Nothing)?;
+                Ok(kept)
             }
         }
     }

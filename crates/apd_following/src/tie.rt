@@ -1,6 +1,6 @@
 //! A journal that follows a store from time to time, and which of the store's cells are kept.
 
-ghost use Rattle.std.specs.Prelude.{◌≡◌, ℕ, List, OnOk, reverse, take};
+ghost use Rattle.std.specs.Prelude.{◌≡◌, ℕ, List, OnOk, take};
 ghost use Rattle.std.specs.Bool.{OnTrue};
 ghost use Rattle.apd_term.specs.declared.term.Sym.{Sym};
 ghost use Rattle.apd_cells.specs.Stored.{Stored};
@@ -34,8 +34,8 @@ pub struct Tie {
 fn free_newest(journal: &mut Journal, store: &Store) -> Result<(), AllocError>
     requires { IsAhead journal.old store.now }
     ensures follows { OnOk result (Follows journal.new store.now) }
-    ensures right { (cells : List Sym) (n : ℕ) → IsRight cells n (reverse journal.old.deeds) →
-        IsRight cells n (reverse journal.new.deeds) }
+    ensures right { (cells : List Sym) (n : ℕ) → IsRight cells n journal.old.spans →
+        IsRight cells n journal.new.spans }
     ensures more { HasDoneMore journal.old journal.new }
 {
     'bound: while let Some(v) = journal.newest() {

@@ -11,15 +11,6 @@ use std::mem::replace;
 /// The room of a term with more symbols isn't kept.
 const LARGE: u64 = 4096;
 
-/// Whether the item is a port. Of one that is, no other part need be looked at before another stands in its place.
-#[inline(always)]
-fn is_port(item: &Item) -> bool {
-    match item {
-        Item::Passed(_) => true,
-        _ => false,
-    }
-}
-
 impl Following {
     /// An item in a box: that of the item that was given up, where there is one, the room of whose term is then written again.
     #[inline(always)]
@@ -30,10 +21,10 @@ impl Following {
         match self.room.take() {
             None => Ok(Box::new(alloc, item)?),
             Some(mut room) => {
-                if is_port(&room) {
-                    self.linked.give_up(Box::replace(&mut room, item));
-                } else {
-                    drop(Box::replace(&mut room, item));
+                // Of a port no other part need be looked at before the item stands in its place.
+                match &*room {
+                    Item::Passed(_) => self.linked.give_up(Box::replace(&mut room, item)),
+                    _ => drop(Box::replace(&mut room, item)),
                 }
                 Ok(room)
             }

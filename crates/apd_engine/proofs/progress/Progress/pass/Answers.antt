@@ -1,113 +1,70 @@
-use Rattle.std.proofs.Common.{◌≡◌, ◌<◌, true, false, refl, arith, sym}
+use Rattle.std.proofs.Common.{refl, sym}
 use Rattle.std.proofs.lemmas.Result.{err_from_is_err_and}
-use Rattle.apd_clauses.specs.Clauses.{tuples_of}
-use Rattle.apd_engine.specs.Search.{stand}
-use Rattle.apd_engine.proofs.Telling.{ends_told, gives_called, gives_kept, gives_of, gives_point, gives_port, later_whole, same_called, same_none, same_port, same_whole, whole_of}
-use Rattle.apd_engine.proofs.Shown.{memory_cut, cut_at_port}
-use Rattle.apd_engine.proofs.Passing.{add_at_answer, add_at_port, below_at_call, cut_answer, cut_later, on_bare, on_bare_budget, on_budget, on_call, on_error, on_exhausted, on_passed_answer, on_passed_later, on_point, port_read, row_at_bare, row_at_port, still_held}
+use Rattle.apd_engine.specs.declared.search.Mode.TheVariants.{Forward, Hand, Leave, Back}
+use Rattle.apd_engine.proofs.Shown.{memory_cut}
+use Rattle.apd_engine.proofs.Stepping.{steps_always, steps_some}
 use Rattle.apd_engine.proofs.progress.Progress.pass.Goals as goal
 
-pub returns-in_err-given-clause-cut : goal.returns-in_err-given-clause-cut
-returns-in_err-given-clause-cut g c =
+pub returns-in_err-given-in-Forward-clause-cut : goal.returns-in_err-given-in-Forward-clause-cut
+returns-in_err-given-in-Forward-clause-cut g c =
     let p = err_from_is_err_and c.from_residual.result c.from_residual.ensures.1 in rw (p.1, p.2) (memory_cut g.course c.requires.1.1.1.1.showing)
 
-pub returns-in_default-clause-passed : goal.returns-in_default-clause-passed
-returns-in_default-clause-passed g c =
-    rw c.ended.ensures (on_exhausted (still_held c.next.new.held (same_none _ c.args.self.now.held c.next.new.held c.in_ok-given.ensures.held c.in_default.is) c.requires.1.1.1.1) c.next.new.self c.in_ok-given.ensures.more (ends_told (tuples_of c.args.program.now) (record { tuples = c.next.new.self.frames.tuples; held = c.next.new.held }) _ (stand c.args.self.now.search) (stand c.next.new.self) _ c.in_ok-given.ensures.told c.in_default.is))
+pub take-requires : goal.take-requires
+take-requires g c =
+    λ κs sub. (sub, (c.requires.1.1.0, (c.requires.1.1.1.0, steps_always c.requires.1.1.1.1 c.ignores_ports.result c.ignores_ports.ensures c.forward.new.self Forward c.in-Forward.is c.in_ok-given-in-Forward.given c.in_ok-given-in-Forward.ensures.told c.in_ok-given-in-Forward.ensures.tuples)))
 
-pub unreachable-requires : goal.unreachable-requires
-unreachable-requires g c =
-    (whole_of (tuples_of c.args.program.now) (record { tuples = c.next.new.self.frames.tuples; held = c.next.new.held }) _ (stand c.args.self.now.search) (stand c.next.new.self) _ c.in_ok-given.ensures.told _ c.in-Some.is c.deref.result.now _ (rw c.in-Whole.is (sym c.deref.ensures)) c.in-Made.is)
+pub returns-in_ok-given-in-Forward-clause-passed : goal.returns-in_ok-given-in-Forward-clause-passed
+returns-in_ok-given-in-Forward-clause-passed g c =
+    c.take.ensures.passed (steps_always c.requires.1.1.1.1 c.ignores_ports.result c.ignores_ports.ensures c.forward.new.self Forward c.in-Forward.is c.in_ok-given-in-Forward.given c.in_ok-given-in-Forward.ensures.told c.in_ok-given-in-Forward.ensures.tuples)
 
-pub returns-in-Error-clause-passed : goal.returns-in-Error-clause-passed
-returns-in-Error-clause-passed g c =
-    rw c.ended-in-Error.ensures (on_error (still_held c.next.new.held (same_whole _ c.args.self.now.held c.next.new.held c.in_ok-given.ensures.held _ c.in-Some.is c.deref.result.now (rw c.in-Whole.is (sym c.deref.ensures))) c.requires.1.1.1.1) c.next.new.self c.in_ok-given.ensures.more (gives_of (tuples_of c.args.program.now) (record { tuples = c.next.new.self.frames.tuples; held = c.next.new.held }) _ (stand c.args.self.now.search) (stand c.next.new.self) _ c.in_ok-given.ensures.told _ c.in-Some.is c.deref.result.now _ (rw c.in-Whole.is (sym c.deref.ensures)) c.in-Error.is))
+pub returns-in_ok-given-in-Forward-clause-nearer : goal.returns-in_ok-given-in-Forward-clause-nearer
+returns-in_ok-given-in-Forward-clause-nearer g c =
+    c.take.ensures.nearer (steps_always c.requires.1.1.1.1 c.ignores_ports.result c.ignores_ports.ensures c.forward.new.self Forward c.in-Forward.is c.in_ok-given-in-Forward.given c.in_ok-given-in-Forward.ensures.told c.in_ok-given-in-Forward.ensures.tuples)
 
-pub unreachable-requires-in-Point : goal.unreachable-requires-in-Point
-unreachable-requires-in-Point g c =
-    let read : false ≡ true = (gives_point (tuples_of c.args.program.now) (record { tuples = c.next.new.self.frames.tuples; held = c.next.new.held }) _ (stand c.args.self.now.search) (stand c.next.new.self) _ c.in_ok-given.ensures.told _ c.in-Some.is c.in-Point.is).may in cc
+pub returns-in_err-given-in-Hand-clause-cut : goal.returns-in_err-given-in-Hand-clause-cut
+returns-in_err-given-in-Hand-clause-cut g c =
+    let p = err_from_is_err_and c.from_residual-in_err-given-in-Hand.result c.from_residual-in_err-given-in-Hand.ensures.1 in rw (p.1, p.2) (memory_cut g.course c.requires.1.1.1.1.showing)
 
-pub returns-in-Kept-clause-passed : goal.returns-in-Kept-clause-passed
-returns-in-Kept-clause-passed g c =
-    let k = (gives_kept (tuples_of c.args.program.now) (record { tuples = c.next.new.self.frames.tuples; held = c.next.new.held }) _ (stand c.args.self.now.search) (stand c.next.new.self) _ c.in_ok-given.ensures.told _ c.in-Some.is c.in-Kept.is) in rw k.held (on_point c.requires.1.1.1.1 c.next.new.self c.in_ok-given.ensures.more k.holds k.at)
+pub take-requires-in-Hand : goal.take-requires-in-Hand
+take-requires-in-Hand g c =
+    λ κs sub. (sub, (c.requires.1.1.0, (c.requires.1.1.1.0, steps_some c.requires.1.1.1.1 c.ignores_ports.result c.ignores_ports.ensures c.hand.new.self (Hand c.in-Hand.exit) c.in-Hand.is c.in_ok-given-in-Hand.given c.hand.new.held c.in_ok-given-in-Hand.ensures.told c.in_ok-given-in-Hand.ensures.held c.in_ok-given-in-Hand.ensures.more)))
 
-pub returns-then-self-limits-clause-passed : goal.returns-then-self-limits-clause-passed
-returns-then-self-limits-clause-passed g c =
-    rw c.ended-then-self-limits.ensures (on_budget (still_held c.next.new.held (same_called _ c.args.self.now.held c.next.new.held c.in_ok-given.ensures.held _ c.in-Some.is _ c.in-Call.is) c.requires.1.1.1.1) c.next.new.self c.in_ok-given.ensures.more (gives_called (tuples_of c.args.program.now) (record { tuples = c.next.new.self.frames.tuples; held = c.next.new.held }) _ (stand c.args.self.now.search) (stand c.next.new.self) _ c.in_ok-given.ensures.told _ c.in-Some.is _ c.in-Call.is).holds (omega (arith, c.requires.1.1.1.1.showing.going.within)))
+pub returns-in_ok-given-in-Hand-clause-passed : goal.returns-in_ok-given-in-Hand-clause-passed
+returns-in_ok-given-in-Hand-clause-passed g c =
+    c.take-in-Hand.ensures.passed (steps_some c.requires.1.1.1.1 c.ignores_ports.result c.ignores_ports.ensures c.hand.new.self (Hand c.in-Hand.exit) c.in-Hand.is c.in_ok-given-in-Hand.given c.hand.new.held c.in_ok-given-in-Hand.ensures.told c.in_ok-given-in-Hand.ensures.held c.in_ok-given-in-Hand.ensures.more)
 
-pub show_call-requires-clause-held : goal.show_call-requires-clause-held
-show_call-requires-clause-held g c =
-    let within : c.args.self.now.ports < c.args.limits.budget = omega (arith, c.requires.1.1.1.1.showing.going.within) in
-    add_at_port (still_held c.next.new.held (same_called _ c.args.self.now.held c.next.new.held c.in_ok-given.ensures.held _ c.in-Some.is _ c.in-Call.is) c.requires.1.1.1.1) c.next.new.self c.in_ok-given.ensures.more (gives_called (tuples_of c.args.program.now) (record { tuples = c.next.new.self.frames.tuples; held = c.next.new.held }) _ (stand c.args.self.now.search) (stand c.next.new.self) _ c.in_ok-given.ensures.told _ c.in-Some.is _ c.in-Call.is).holds within
+pub returns-in_ok-given-in-Hand-clause-nearer : goal.returns-in_ok-given-in-Hand-clause-nearer
+returns-in_ok-given-in-Hand-clause-nearer g c =
+    c.take-in-Hand.ensures.nearer (steps_some c.requires.1.1.1.1 c.ignores_ports.result c.ignores_ports.ensures c.hand.new.self (Hand c.in-Hand.exit) c.in-Hand.is c.in_ok-given-in-Hand.given c.hand.new.held c.in_ok-given-in-Hand.ensures.told c.in_ok-given-in-Hand.ensures.held c.in_ok-given-in-Hand.ensures.more)
 
-pub show_call-requires-clause-from : goal.show_call-requires-clause-from
-show_call-requires-clause-from g c =
-    let within : c.args.self.now.ports < c.args.limits.budget = omega (arith, c.requires.1.1.1.1.showing.going.within) in
-    let k = (gives_called (tuples_of c.args.program.now) (record { tuples = c.next.new.self.frames.tuples; held = c.next.new.held }) _ (stand c.args.self.now.search) (stand c.next.new.self) _ c.in_ok-given.ensures.told _ c.in-Some.is _ c.in-Call.is) in
-    rw c.newest-from.ensures (below_at_call (still_held c.next.new.held (same_called _ c.args.self.now.held c.next.new.held c.in_ok-given.ensures.held _ c.in-Some.is _ c.in-Call.is) c.requires.1.1.1.1) c.next.new.self c.in_ok-given.ensures.more k.holds within k.port_is k.at)
+pub returns-in_err-given-in-Leave-clause-cut : goal.returns-in_err-given-in-Leave-clause-cut
+returns-in_err-given-in-Leave-clause-cut g c =
+    let p = err_from_is_err_and c.from_residual-in_err-given-in-Leave.result c.from_residual-in_err-given-in-Leave.ensures.1 in rw (p.1, p.2) (memory_cut g.course c.requires.1.1.1.1.showing)
 
-pub returns-in_err-show_call-in-Call-clause-cut : goal.returns-in_err-show_call-in-Call-clause-cut
-returns-in_err-show_call-in-Call-clause-cut g c =
-    let within : c.args.self.now.ports < c.args.limits.budget = omega (arith, c.requires.1.1.1.1.showing.going.within) in
-    let k = (gives_called (tuples_of c.args.program.now) (record { tuples = c.next.new.self.frames.tuples; held = c.next.new.held }) _ (stand c.args.self.now.search) (stand c.next.new.self) _ c.in_ok-given.ensures.told _ c.in-Some.is _ c.in-Call.is) in
-    let p = err_from_is_err_and c.from_residual-in_err-show_call-in-Call.result c.from_residual-in_err-show_call-in-Call.ensures.1 in
-    rw (p.1, p.2) (cut_at_port g.course c.requires.1.1.1.1.showing k.holds within c.show_call.new.hook _ (c.in_err-show_call-in-Call.ensures.cut k.event (port_read g.H.Hook.step c.args.hook.now (record { ports = c.ignores_ports.result; points = false }) k.event c.in-Call.call.port k.read c.ignores_ports.ensures)))
+pub take-requires-in-Leave : goal.take-requires-in-Leave
+take-requires-in-Leave g c =
+    λ κs sub. (sub, (c.requires.1.1.0, (c.requires.1.1.1.0, steps_always c.requires.1.1.1.1 c.ignores_ports.result c.ignores_ports.ensures c.leave.new.self Leave c.in-Leave.is c.in_ok-given-in-Leave.given c.in_ok-given-in-Leave.ensures.told c.in_ok-given-in-Leave.ensures.tuples)))
 
-pub returns-in_ok-show_call-in-Call-clause-passed : goal.returns-in_ok-show_call-in-Call-clause-passed
-returns-in_ok-show_call-in-Call-clause-passed g c =
-    let within : c.args.self.now.ports < c.args.limits.budget = omega (arith, c.requires.1.1.1.1.showing.going.within) in
-    let k = (gives_called (tuples_of c.args.program.now) (record { tuples = c.next.new.self.frames.tuples; held = c.next.new.held }) _ (stand c.args.self.now.search) (stand c.next.new.self) _ c.in_ok-given.ensures.told _ c.in-Some.is _ c.in-Call.is) in
-    rw (c.give_up_call.ensures, c.in_ok-show_call-in-Call.ensures.none, c.in_ok-show_call-in-Call.ensures.told, c.newest-from.ensures)
-    (on_call (still_held c.next.new.held (same_called _ c.args.self.now.held c.next.new.held c.in_ok-given.ensures.held _ c.in-Some.is _ c.in-Call.is) c.requires.1.1.1.1) c.next.new.self c.in_ok-given.ensures.more k.holds within k.port_is k.at c.show_call.new.hook (c.in_ok-show_call-in-Call.ensures.shown k.event (port_read g.H.Hook.step c.args.hook.now (record { ports = c.ignores_ports.result; points = false }) k.event c.in-Call.call.port k.read c.ignores_ports.ensures)) c.in_ok-show_call-in-Call.ensures.cause)
+pub returns-in_ok-given-in-Leave-clause-passed : goal.returns-in_ok-given-in-Leave-clause-passed
+returns-in_ok-given-in-Leave-clause-passed g c =
+    c.take-in-Leave.ensures.passed (steps_always c.requires.1.1.1.1 c.ignores_ports.result c.ignores_ports.ensures c.leave.new.self Leave c.in-Leave.is c.in_ok-given-in-Leave.given c.in_ok-given-in-Leave.ensures.told c.in_ok-given-in-Leave.ensures.tuples)
 
-pub returns-then-self-limits-2-clause-passed : goal.returns-then-self-limits-2-clause-passed
-returns-then-self-limits-2-clause-passed g c =
-    rw c.ended-then-self-limits-2.ensures (on_bare_budget (still_held c.next.new.held (same_port _ c.args.self.now.held c.next.new.held c.in_ok-given.ensures.held _ c.in-Some.is _ _ c.in-Port.is) c.requires.1.1.1.1) c.next.new.self c.in_ok-given.ensures.more (gives_port (tuples_of c.args.program.now) (record { tuples = c.next.new.self.frames.tuples; held = c.next.new.held }) _ (stand c.args.self.now.search) (stand c.next.new.self) _ c.in_ok-given.ensures.told _ c.in-Some.is _ _ c.in-Port.is) (omega (arith, c.requires.1.1.1.1.showing.going.within)))
+pub returns-in_ok-given-in-Leave-clause-nearer : goal.returns-in_ok-given-in-Leave-clause-nearer
+returns-in_ok-given-in-Leave-clause-nearer g c =
+    c.take-in-Leave.ensures.nearer (steps_always c.requires.1.1.1.1 c.ignores_ports.result c.ignores_ports.ensures c.leave.new.self Leave c.in-Leave.is c.in_ok-given-in-Leave.given c.in_ok-given-in-Leave.ensures.told c.in_ok-given-in-Leave.ensures.tuples)
 
-pub tell_later-requires-clause-held : goal.tell_later-requires-clause-held
-tell_later-requires-clause-held g c =
-    let within : c.args.self.now.ports < c.args.limits.budget = omega (arith, c.requires.1.1.1.1.showing.going.within) in
-    add_at_port (still_held c.next.new.held (same_port _ c.args.self.now.held c.next.new.held c.in_ok-given.ensures.held _ c.in-Some.is _ _ c.in-Port.is) c.requires.1.1.1.1) c.next.new.self c.in_ok-given.ensures.more (gives_port (tuples_of c.args.program.now) (record { tuples = c.next.new.self.frames.tuples; held = c.next.new.held }) _ (stand c.args.self.now.search) (stand c.next.new.self) _ c.in_ok-given.ensures.told _ c.in-Some.is _ _ c.in-Port.is).holds within
+pub returns-in_err-given-in-Back-clause-cut : goal.returns-in_err-given-in-Back-clause-cut
+returns-in_err-given-in-Back-clause-cut g c =
+    let p = err_from_is_err_and c.from_residual-in_err-given-in-Back.result c.from_residual-in_err-given-in-Back.ensures.1 in rw (p.1, p.2) (memory_cut g.course c.requires.1.1.1.1.showing)
 
-pub tell_later-requires-clause-there : goal.tell_later-requires-clause-there
-tell_later-requires-clause-there g c =
-    let within : c.args.self.now.ports < c.args.limits.budget = omega (arith, c.requires.1.1.1.1.showing.going.within) in
-    row_at_bare (still_held c.next.new.held (same_port _ c.args.self.now.held c.next.new.held c.in_ok-given.ensures.held _ c.in-Some.is _ _ c.in-Port.is) c.requires.1.1.1.1) c.next.new.self c.in_ok-given.ensures.more (gives_port (tuples_of c.args.program.now) (record { tuples = c.next.new.self.frames.tuples; held = c.next.new.held }) _ (stand c.args.self.now.search) (stand c.next.new.self) _ c.in_ok-given.ensures.told _ c.in-Some.is _ _ c.in-Port.is) within refl
+pub take-requires-in-Back : goal.take-requires-in-Back
+take-requires-in-Back g c =
+    λ κs sub. (sub, (c.requires.1.1.0, (c.requires.1.1.1.0, steps_some c.requires.1.1.1.1 c.ignores_ports.result c.ignores_ports.ensures c.back.new.self Back c.in-Back.is c.in_ok-given-in-Back.given c.back.new.held c.in_ok-given-in-Back.ensures.told c.in_ok-given-in-Back.ensures.held c.in_ok-given-in-Back.ensures.more)))
 
-pub returns-in_err-tell_later-in-Port-clause-cut : goal.returns-in_err-tell_later-in-Port-clause-cut
-returns-in_err-tell_later-in-Port-clause-cut g c =
-    let p = err_from_is_err_and c.from_residual-in_err-tell_later-in-Port.result c.from_residual-in_err-tell_later-in-Port.ensures.1 in rw (p.1, p.2) (memory_cut g.course c.requires.1.1.1.1.showing)
+pub returns-in_ok-given-in-Back-clause-passed : goal.returns-in_ok-given-in-Back-clause-passed
+returns-in_ok-given-in-Back-clause-passed g c =
+    c.take-in-Back.ensures.passed (steps_some c.requires.1.1.1.1 c.ignores_ports.result c.ignores_ports.ensures c.back.new.self Back c.in-Back.is c.in_ok-given-in-Back.given c.back.new.held c.in_ok-given-in-Back.ensures.told c.in_ok-given-in-Back.ensures.held c.in_ok-given-in-Back.ensures.more)
 
-pub returns-in_ok-tell_later-in-Port-clause-passed : goal.returns-in_ok-tell_later-in-Port-clause-passed
-returns-in_ok-tell_later-in-Port-clause-passed g c =
-    let within : c.args.self.now.ports < c.args.limits.budget = omega (arith, c.requires.1.1.1.1.showing.going.within) in
-    rw (c.in_ok-tell_later-in-Port.ensures.none, c.in_ok-tell_later-in-Port.ensures.told)
-    (on_bare (still_held c.next.new.held (same_port _ c.args.self.now.held c.next.new.held c.in_ok-given.ensures.held _ c.in-Some.is _ _ c.in-Port.is) c.requires.1.1.1.1) c.next.new.self c.in_ok-given.ensures.more (gives_port (tuples_of c.args.program.now) (record { tuples = c.next.new.self.frames.tuples; held = c.next.new.held }) _ (stand c.args.self.now.search) (stand c.next.new.self) _ c.in_ok-given.ensures.told _ c.in-Some.is _ _ c.in-Port.is) within refl c.ignores_ports.ensures)
-
-pub pass_later-passed-requires-clause-held : goal.pass_later-passed-requires-clause-held
-pass_later-passed-requires-clause-held g c =
-    add_at_port (still_held c.next.new.held (same_whole _ c.args.self.now.held c.next.new.held c.in_ok-given.ensures.held _ c.in-Some.is c.deref.result.now (rw c.in-Whole.is (sym c.deref.ensures))) c.requires.1.1.1.1) c.next.new.self c.in_ok-given.ensures.more (gives_of (tuples_of c.args.program.now) (record { tuples = c.next.new.self.frames.tuples; held = c.next.new.held }) _ (stand c.args.self.now.search) (stand c.next.new.self) _ c.in_ok-given.ensures.told _ c.in-Some.is c.deref.result.now _ (rw c.in-Whole.is (sym c.deref.ensures)) c.in-Passed.is)
-
-pub pass_later-passed-requires-clause-there : goal.pass_later-passed-requires-clause-there
-pass_later-passed-requires-clause-there g c =
-    λ within. row_at_port (still_held c.next.new.held (same_whole _ c.args.self.now.held c.next.new.held c.in_ok-given.ensures.held _ c.in-Some.is c.deref.result.now (rw c.in-Whole.is (sym c.deref.ensures))) c.requires.1.1.1.1) c.next.new.self c.in_ok-given.ensures.more (gives_of (tuples_of c.args.program.now) (record { tuples = c.next.new.self.frames.tuples; held = c.next.new.held }) _ (stand c.args.self.now.search) (stand c.next.new.self) _ c.in_ok-given.ensures.told _ c.in-Some.is c.deref.result.now _ (rw c.in-Whole.is (sym c.deref.ensures)) c.in-Passed.is) within (later_whole (record { ports = c.ignores_ports.result; points = false }) c.in-Passed.event refl (whole_of (tuples_of c.args.program.now) (record { tuples = c.next.new.self.frames.tuples; held = c.next.new.held }) _ (stand c.args.self.now.search) (stand c.next.new.self) _ c.in_ok-given.ensures.told _ c.in-Some.is c.deref.result.now _ (rw c.in-Whole.is (sym c.deref.ensures)) c.in-Passed.is))
-
-pub returns-in-Passed-clause-passed : goal.returns-in-Passed-clause-passed
-returns-in-Passed-clause-passed g c =
-    rw c.give_up.ensures (on_passed_later (still_held c.next.new.held (same_whole _ c.args.self.now.held c.next.new.held c.in_ok-given.ensures.held _ c.in-Some.is c.deref.result.now (rw c.in-Whole.is (sym c.deref.ensures))) c.requires.1.1.1.1) c.next.new.self c.in_ok-given.ensures.more (gives_of (tuples_of c.args.program.now) (record { tuples = c.next.new.self.frames.tuples; held = c.next.new.held }) _ (stand c.args.self.now.search) (stand c.next.new.self) _ c.in_ok-given.ensures.told _ c.in-Some.is c.deref.result.now _ (rw c.in-Whole.is (sym c.deref.ensures)) c.in-Passed.is) (later_whole (record { ports = c.ignores_ports.result; points = false }) c.in-Passed.event refl (whole_of (tuples_of c.args.program.now) (record { tuples = c.next.new.self.frames.tuples; held = c.next.new.held }) _ (stand c.args.self.now.search) (stand c.next.new.self) _ c.in_ok-given.ensures.told _ c.in-Some.is c.deref.result.now _ (rw c.in-Whole.is (sym c.deref.ensures)) c.in-Passed.is)) c.pass_later-passed.new.self c.pass_later-passed.new.hook c.pass_later-passed.result c.pass_later-passed.ensures.passed c.pass_later-passed.ensures.cause)
-
-pub returns-in-Passed-clause-cut : goal.returns-in-Passed-clause-cut
-returns-in-Passed-clause-cut g c =
-    cut_later (still_held c.next.new.held (same_whole _ c.args.self.now.held c.next.new.held c.in_ok-given.ensures.held _ c.in-Some.is c.deref.result.now (rw c.in-Whole.is (sym c.deref.ensures))) c.requires.1.1.1.1) c.next.new.self c.in_ok-given.ensures.more (gives_of (tuples_of c.args.program.now) (record { tuples = c.next.new.self.frames.tuples; held = c.next.new.held }) _ (stand c.args.self.now.search) (stand c.next.new.self) _ c.in_ok-given.ensures.told _ c.in-Some.is c.deref.result.now _ (rw c.in-Whole.is (sym c.deref.ensures)) c.in-Passed.is) (later_whole (record { ports = c.ignores_ports.result; points = false }) c.in-Passed.event refl (whole_of (tuples_of c.args.program.now) (record { tuples = c.next.new.self.frames.tuples; held = c.next.new.held }) _ (stand c.args.self.now.search) (stand c.next.new.self) _ c.in_ok-given.ensures.told _ c.in-Some.is c.deref.result.now _ (rw c.in-Whole.is (sym c.deref.ensures)) c.in-Passed.is)) c.pass_later-passed.new.hook c.pass_later-passed.result c.pass_later-passed.ensures.cut
-
-pub pass_answer-requires-clause-held : goal.pass_answer-requires-clause-held
-pass_answer-requires-clause-held g c =
-    add_at_answer (still_held c.next.new.held (same_whole _ c.args.self.now.held c.next.new.held c.in_ok-given.ensures.held _ c.in-Some.is c.deref.result.now (rw c.in-Whole.is (sym c.deref.ensures))) c.requires.1.1.1.1) c.next.new.self c.in_ok-given.ensures.more (gives_of (tuples_of c.args.program.now) (record { tuples = c.next.new.self.frames.tuples; held = c.next.new.held }) _ (stand c.args.self.now.search) (stand c.next.new.self) _ c.in_ok-given.ensures.told _ c.in-Some.is c.deref.result.now _ (rw c.in-Whole.is (sym c.deref.ensures)) c.in-Answer.is)
-
-pub returns-in-Answer-clause-passed : goal.returns-in-Answer-clause-passed
-returns-in-Answer-clause-passed g c =
-    on_passed_answer (still_held c.next.new.held (same_whole _ c.args.self.now.held c.next.new.held c.in_ok-given.ensures.held _ c.in-Some.is c.deref.result.now (rw c.in-Whole.is (sym c.deref.ensures))) c.requires.1.1.1.1) c.next.new.self c.in_ok-given.ensures.more (gives_of (tuples_of c.args.program.now) (record { tuples = c.next.new.self.frames.tuples; held = c.next.new.held }) _ (stand c.args.self.now.search) (stand c.next.new.self) _ c.in_ok-given.ensures.told _ c.in-Some.is c.deref.result.now _ (rw c.in-Whole.is (sym c.deref.ensures)) c.in-Answer.is) c.pass_answer.new.self c.pass_answer.new.hook c.pass_answer.result c.pass_answer.ensures.answered c.pass_answer.ensures.shown c.pass_answer.ensures.cause
-
-pub returns-in-Answer-clause-cut : goal.returns-in-Answer-clause-cut
-returns-in-Answer-clause-cut g c =
-    cut_answer (still_held c.next.new.held (same_whole _ c.args.self.now.held c.next.new.held c.in_ok-given.ensures.held _ c.in-Some.is c.deref.result.now (rw c.in-Whole.is (sym c.deref.ensures))) c.requires.1.1.1.1) c.next.new.self c.in_ok-given.ensures.more (gives_of (tuples_of c.args.program.now) (record { tuples = c.next.new.self.frames.tuples; held = c.next.new.held }) _ (stand c.args.self.now.search) (stand c.next.new.self) _ c.in_ok-given.ensures.told _ c.in-Some.is c.deref.result.now _ (rw c.in-Whole.is (sym c.deref.ensures)) c.in-Answer.is) c.pass_answer.new.hook c.pass_answer.result c.pass_answer.ensures.cut
+pub returns-in_ok-given-in-Back-clause-nearer : goal.returns-in_ok-given-in-Back-clause-nearer
+returns-in_ok-given-in-Back-clause-nearer g c =
+    c.take-in-Back.ensures.nearer (steps_some c.requires.1.1.1.1 c.ignores_ports.result c.ignores_ports.ensures c.back.new.self Back c.in-Back.is c.in_ok-given-in-Back.given c.back.new.held c.in_ok-given-in-Back.ensures.told c.in_ok-given-in-Back.ensures.held c.in_ok-given-in-Back.ensures.more)

@@ -1,4 +1,4 @@
-use Rattle.std.proofs.Common.{◌∙◌, ap, reverse, subst, sym, take}
+use Rattle.std.proofs.Common.{◌∙◌, ap, subst, sym, take}
 use Rattle.apd_past.specs.History.{History, IsRight, history_of}
 use Rattle.apd_tuples.specs.Tuples.{kept_tuples, AreThere}
 use Rattle.apd_following.specs.Followed.{Followed}
@@ -6,7 +6,7 @@ use Rattle.apd_following.proofs.following.Following.into_kept.Goals as goal
 
 pub into_past-requires : goal.into_past-requires
 into_past-requires c =
-    subst (λ z. IsRight (take c.self.inside.tie.cells z) c.self.inside.tie.journal.variables (reverse c.self.inside.tie.journal.deeds)) (sym c.into_cells-cells.ensures) c.self.invariant.1.right
+    subst (λ z. IsRight (take c.self.inside.tie.cells z) c.self.inside.tie.journal.variables c.self.inside.tie.journal.spans) (sym c.into_cells-cells.ensures) c.self.invariant.1.right
 
 pub new-requires : goal.new-requires
 new-requires c =

@@ -1,4 +1,4 @@
-use Rattle.std.proofs.Common.{◌≡◌, ◌<◌, ◌∷◌, ◌∙◌, ap, drop, length, reverse, subst, sym}
+use Rattle.std.proofs.Common.{◌≡◌, ◌<◌, ◌∷◌, ◌∙◌, ap, drop, length, subst, sym}
 use Rattle.apd_cells.specs.declared.front.Front.{Front}
 use Rattle.apd_cells.specs.Undone.{IsFront}
 use Rattle.apd_past.proofs.Moments.{right_cells}
@@ -20,7 +20,7 @@ restore-requires-clause-some c = subst (λ (f : Followed). 0 < length f.saved) (
 pub restore-requires-clause-front : goal.restore-requires-clause-front
 restore-requires-clause-front c =
     subst (λ (f : Front). IsFront f c.self.inside.linked.store.cells) (sym c.front-kept.ensures)
-    (right_cells _ c.self.inside.tie.journal.variables (reverse c.self.inside.tie.journal.deeds) c.self.invariant.1.right)
+    (right_cells _ c.self.inside.tie.journal.variables c.self.inside.tie.journal.spans c.self.invariant.1.right)
 
 pub go_back-requires : goal.go_back-requires
 go_back-requires c = is_back c.self.inside.tie c.self.inside.linked c.restore.new.self c.front-kept.result c.self.invariant.1 c.restore.ensures.sound c.restore.ensures.store c.front-kept.ensures

@@ -1,4 +1,4 @@
-use Rattle.std.proofs.Common.{◌∙◌, ap, length, refl, reverse, subst, sym}
+use Rattle.std.proofs.Common.{◌∙◌, ap, length, refl, subst, sym}
 use Rattle.std.proofs.lemmas.List.{length-reverse}
 use Rattle.apd_cells.specs.Stored.{Stored}
 use Rattle.apd_past.specs.Done.{with_room}
@@ -13,10 +13,10 @@ pub returns-then-not-self-clause-kept : goal.returns-then-not-self-clause-kept
 returns-then-not-self-clause-kept c = keeps_same (past_of c.args.self.now c.args.store.now) (past_of c.args.self.now c.args.store.now) refl
 
 pub returns-in_err-make_room-clause-tied : goal.returns-in_err-make_room-clause-tied
-returns-in_err-make_room-clause-tied c = tied_roomy c.args.self.now c.args.store.now c.requires c.make_room.new.self c.make_room.ensures.deeds c.make_room.ensures.more
+returns-in_err-make_room-clause-tied c = tied_roomy c.args.self.now c.args.store.now c.requires c.make_room.new.self c.make_room.ensures.moments c.make_room.ensures.spans c.make_room.ensures.more
 
 pub returns-in_err-make_room-clause-kept : goal.returns-in_err-make_room-clause-kept
-returns-in_err-make_room-clause-kept c = keeps_roomy c.args.self.now c.args.store.now c.requires c.make_room.new.self c.make_room.ensures.deeds
+returns-in_err-make_room-clause-kept c = keeps_roomy c.args.self.now c.args.store.now c.requires c.make_room.new.self c.make_room.ensures.moments c.make_room.ensures.spans
 
 pub follow-requires : goal.follow-requires
 follow-requires c =
@@ -27,7 +27,7 @@ follow-requires c =
 pub returns-in_err-follow-clause-tied : goal.returns-in_err-follow-clause-tied
 returns-in_err-follow-clause-tied c =
     caught_part c.follow.new.self c.args.store.now (length c.live-live.result.cells.now) c.args.self.now.followed
-    (subst (λ (s : Stored). IsRight s.cells c.follow.new.self.variables (reverse c.follow.new.self.deeds)) c.live-live.ensures.parts c.follow.ensures.right)
+    (subst (λ (s : Stored). IsRight s.cells c.follow.new.self.variables c.follow.new.self.spans) c.live-live.ensures.parts c.follow.ensures.right)
     (ap (λ (s : Stored). length s.cells) c.live-live.ensures.parts)
 
 pub returns-in_err-follow-clause-kept : goal.returns-in_err-follow-clause-kept
@@ -39,7 +39,7 @@ returns-in_err-follow-clause-kept c =
 pub returns-clause-tied : goal.returns-clause-tied
 returns-clause-tied c =
     caught_all c.follow.new.self c.args.store.now (length c.live-live.result.cells.now) (length c.live-live.result.notes.now)
-    (subst (λ (s : Stored). IsRight s.cells c.follow.new.self.variables (reverse c.follow.new.self.deeds)) c.live-live.ensures.parts c.follow.ensures.right)
+    (subst (λ (s : Stored). IsRight s.cells c.follow.new.self.variables c.follow.new.self.spans) c.live-live.ensures.parts c.follow.ensures.right)
     (ap (λ (s : Stored). length s.cells) c.live-live.ensures.parts)
     (subst (λ (s : Stored). Follows c.follow.new.self s) c.live-live.ensures.parts c.in_ok-follow.ensures.follows)
     (sym (length-reverse c.live-live.result.notes.now) ∙ ap (λ (s : Stored). length s.trail) c.live-live.ensures.parts)

@@ -1,7 +1,8 @@
 //! A stack.
 
-ghost use Rattle.std.specs.Prelude.{◌≡◌, ◌∷◌, ◌<◌, [], length, drop, reverse, slice_get, vec_len, vec_capacity, Some, OnOk, OnErr, IfSome, MatchOption};
+ghost use Rattle.std.specs.Prelude.{◌≡◌, ◌∷◌, [], length, drop, reverse, slice_get, Some, OnOk, OnErr, IfSome, MatchOption};
 
+use crate::room::room_for_one;
 use std::alloc::{AllocError, Global};
 use std::marker::Model;
 
@@ -17,20 +18,6 @@ impl<T> Model for Stack<T> {
     ghost Value = { List T };
 
     ghost view = { λ s. reverse s.oldest_first.items };
-}
-
-/// Room for one more element in a vector. Where it is there, as it mostly is, that takes a comparison: a step of a search
-/// pushes on several vectors, and each push would be a call.
-#[inline(always)]
-pub fn room_for_one<T>(v: &mut Vec<T>) -> Result<(), AllocError>
-    ensures items { v.new.items ≡ v.old.items }
-    ensures len { vec_len v.new ≡ vec_len v.old }
-    ensures room { OnOk result (vec_len v.new < vec_capacity v.new) }
-{
-    if v.len() < v.capacity() {
-        return Ok(());
-    }
-    v.reserve(1)
 }
 
 impl<T> Stack<T> {

@@ -9,7 +9,8 @@ ghost use Rattle.apd_term.specs.declared.term.Sym.TheVariants.{Var};
 ghost use Rattle.apd_cells.specs.Known.{AreKnown, AreRecent, HasExtent, IsConstant};
 ghost use Rattle.apd_cells.specs.Stored.{Stored};
 
-use apd_base::stack::{Stack, room_for_one};
+use apd_base::room::room_for_one;
+use apd_base::stack::Stack;
 use apd_term::Sym;
 use std::alloc::AllocError;
 use std::marker::Model;

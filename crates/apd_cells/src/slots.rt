@@ -9,7 +9,7 @@ ghost use Rattle.apd_cells.specs.Stretches.{AreMeant, AreStretches, IsMeant, IsS
 
 use crate::kept::KeptBinding;
 use crate::symbols::{above_symbol, make_room};
-use apd_base::stack::room_for_one;
+use apd_base::room::{room_for, room_for_one};
 use apd_term::{Flat, Sym};
 use std::alloc::AllocError;
 
@@ -105,7 +105,7 @@ fn append_placed(
         slots.old.items slots.new.items symbols.now) }
     ensures front { take (length cells.old.items) cells.new.items ≡ cells.old.items }
 {
-    cells.reserve(symbols.len())?;
+    room_for(cells, symbols.len())?;
     let mut count = there;
     for symbol in symbols {
         let put = place(cells.as_slice(), slots, *symbol, count)?;
@@ -184,7 +184,7 @@ fn append_copied(
         slots.old.items slots.new.items (term_of symbols.now)) }
     ensures front { take (length cells.old.items) cells.new.items ≡ cells.old.items }
 {
-    cells.reserve(symbols.len())?;
+    room_for(cells, symbols.len())?;
     let mut count = there;
     let mut next: usize = 0;
     let mut at: usize = 0;

@@ -12,7 +12,7 @@ ghost use Rattle.apd_cells.specs.Known.{IsConstant};
 ghost use Rattle.apd_cells.specs.Store.{above};
 
 use crate::kept::KeptBinding;
-use apd_base::stack::room_for_one;
+use apd_base::room::{room_for, room_for_one};
 use apd_term::{Flat, Sym};
 use std::alloc::AllocError;
 
@@ -99,7 +99,7 @@ fn append_symbols(
     ensures front { take (length cells.old.items) cells.new.items ≡ cells.old.items }
 {
     let symbols = t.symbols();
-    cells.reserve(symbols.len())?;
+    room_for(cells, symbols.len())?;
     let mut count = there;
     for symbol in symbols {
         let moved = raised(*symbol, base);

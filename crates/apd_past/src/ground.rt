@@ -80,7 +80,8 @@ impl<'a> Then<'a> {
         true
     }
 
-    /// The same of the tuple of the terms at a head's cell and at goals' cells.
+    /// Whether it is seen that no variable stands in the tuple of the terms at a head's cell and at goals' cells. False says
+    /// nothing.
     pub fn is_tuple_seen_ground(&self, head: PastCell, goals: &[PastCell]) -> bool
         requires head { head.0 < length self.now.cells }
         requires goals { AreInside (length self.now.cells) goals.now }

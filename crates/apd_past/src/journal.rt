@@ -111,7 +111,7 @@ impl Journal {
     }
 
     /// A variable is bound to a cell.
-    pub fn bind(&mut self, v: u64, to: usize) -> Result<(), AllocError>
+    pub(crate) fn bind(&mut self, v: u64, to: usize) -> Result<(), AllocError>
         requires below { v < self.old.variables }
         requires free { binding_of (bindings_of self.old) v ≡ Free }
         ensures ok { OnOk result (self.new ≡ with_span self.old v to) }

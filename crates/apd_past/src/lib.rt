@@ -8,6 +8,6 @@ pub mod laws;
 pub mod maybe_number;
 mod passing;
 pub mod past;
-pub mod spans;
+mod spans;
 pub mod then;
 pub mod writing;

@@ -128,7 +128,6 @@ impl Past {
 
     /// The cell that a variable was bound to at a moment; none exactly where it was free.
     pub fn bound_at(&self, moment: Moment, v: u64) -> Option<u32>
-        requires { moment.0 ≤ self.now.moments }
         ensures { MatchOption result
             (binding_of (at_moment moment.0 self.now).trail v ≡ Free)
             (λ c. binding_of (at_moment moment.0 self.now).trail v ≡ At c) }
@@ -145,6 +144,7 @@ impl Past {
         ensures others { (m c : ℕ) → c < length self.old.cells →
             term_at (at_moment m self.new) c ≡ term_at (at_moment m self.old) c }
         ensures moments { self.new.moments ≡ self.old.moments }
+        ensures spans { self.new.spans ≡ self.old.spans }
         ensures err { OnErr result (self.new.cells ≡ self.old.cells) }
     {
         let cell = narrow(self.cells.len() as u64)?;

@@ -8,7 +8,7 @@ ghost use Rattle.apd_past.specs.Linked.{before_of, ended_at, span_of, variable_b
 ghost use Rattle.apd_past.specs.Linked.{AreLinked, GoesBack, HaveWays, IsEarlier, IsNewest, IsNewestAt};
 
 use crate::maybe_number::MaybeNumber;
-use apd_base::stack::room_for_one;
+use apd_base::room::room_for_one;
 use apd_term::Sym;
 use std::alloc::{AllocError, Global};
 use std::marker::Model;
@@ -26,7 +26,7 @@ pub struct KeptSpan {
     pub until: MaybeNumber,
     /// The place of the one before it; of the first one the variable itself.
     pub way: u32,
-    /// The place of one further back; none where this is the first one.
+    /// The place of that one or of one further back; none where this is the first one.
     pub jump: MaybeNumber,
 }
 
@@ -228,7 +228,7 @@ impl Spans {
         Ok(())
     }
 
-    /// The same for the variable that a symbol is, if it is one.
+    /// Makes room for the variable that a symbol is, if it is one, and for all below it.
     fn add_variable_of(&mut self, symbol: Sym) -> Result<(), AllocError>
         ensures ok { OnOk result (self.new ≡ with_variables self.old (variable_in symbol)) }
         ensures moments { self.new.moments ≡ self.old.moments }
@@ -241,7 +241,7 @@ impl Spans {
         }
     }
 
-    /// The same for the variables of symbols.
+    /// Makes room for the variables of symbols, and for all below them.
     pub fn add_variables(&mut self, symbols: &[Sym]) -> Result<(), AllocError>
         ensures ok { OnOk result
             (self.new ≡ with_variables self.old (flat_map variable_in symbols.now)) }

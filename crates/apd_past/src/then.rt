@@ -1,6 +1,6 @@
 //! A past as it was at a moment.
 
-ghost use Rattle.std.specs.Prelude.{◌≡◌, ◌⊎◌, ◌<◌, ◌≤◌, ◌^◌, length, MatchOption};
+ghost use Rattle.std.specs.Prelude.{◌≡◌, ◌⊎◌, ◌<◌, ◌^◌, length, MatchOption};
 ghost use Rattle.apd_cells.specs.declared.heap.Binding.TheVariants.{Free, At};
 ghost use Rattle.apd_cells.specs.Heap.{IsVariable};
 ghost use Rattle.apd_cells.specs.Store.{term_at, binding_of, symbol_at, IsSound, IsEnd};
@@ -18,7 +18,6 @@ pub struct Then<'a> {
 }
 
 impl<'a> Model for Then<'a> {
-    ghost use Rattle.std.specs.Prelude.{◌≤◌};
     ghost use Rattle.apd_cells.specs.Stored.{Stored, stored_code};
     ghost use Rattle.apd_past.specs.History.{at_moment};
 
@@ -27,14 +26,11 @@ impl<'a> Model for Then<'a> {
     ghost coded = { stored_code };
 
     ghost view = { λ t. at_moment t.moment.0 t.past.now };
-
-    ghost invariant = { λ t. t.moment.0 ≤ t.past.now.moments };
 }
 
 impl Past {
     /// The past as it was at a moment.
     pub fn at(&self, moment: Moment) -> Then<'_>
-        requires { moment.0 ≤ self.now.moments }
         ensures { result ≡ at_moment moment.0 self.now }
     {
         Then { past: self, moment }

@@ -111,7 +111,7 @@ impl<'a> Then<'a> {
         Ok(Some(term))
     }
 
-    /// The same without a limit.
+    /// The term at a cell, with all bindings of the moment applied and its variables numbered behind those that have numbers.
     fn number(&self, page: &mut Page, alloc: Global, cell: PastCell) -> Result<Flat, AllocError>
         requires { cell.0 < length self.now.cells }
         ensures { IfOk result (IsNumbered page.old page.new (term_at self.now cell.0)) }

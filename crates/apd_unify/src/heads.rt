@@ -101,8 +101,8 @@ fn match_loaded(
     requires at { at < length heap.old.cells }
     requires whole { IsWhole symbols.now }
     requires slots { AreSlots heap.old.cells heap.old.variables slots.old.items }
-    ensures answer { IfOk result
-        (λ r. Matches r heap.old heap.new slots.old.items slots.new.items at (term_of symbols.now)) }
+    ensures answer { IfOk result (λ r.
+        Matches r heap.old heap.new slots.old.items slots.new.items at (term_of symbols.now)) }
     ensures gone { OnOk result (HasGoneOn heap.old heap.new slots.old.items slots.new.items) }
     ensures kept { Keeps heap.old heap.new }
     ensures more { length heap.old.cells ≤ length heap.new.cells }
@@ -126,8 +126,8 @@ fn match_variable(
     requires whole { IsWhole symbols.now }
     requires variable { slice_get symbols.now 0 ≡ Some (Var v) }
     requires slots { AreSlots heap.old.cells heap.old.variables slots.old.items }
-    ensures answer { IfOk result
-        (λ r. Matches r heap.old heap.new slots.old.items slots.new.items at (term_of symbols.now)) }
+    ensures answer { IfOk result (λ r.
+        Matches r heap.old heap.new slots.old.items slots.new.items at (term_of symbols.now)) }
     ensures gone { OnOk result (HasGoneOn heap.old heap.new slots.old.items slots.new.items) }
     ensures store { IsSound heap.old }
     ensures kept { Keeps heap.old heap.new }

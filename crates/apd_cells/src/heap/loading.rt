@@ -11,7 +11,7 @@ use crate::front::Front;
 use crate::kept::KeptNote;
 use crate::slots::{Slot, Stretch, append_all, append_for};
 use crate::symbols::append;
-use apd_base::stack::room_for_one;
+use apd_base::room::room_for_one;
 use apd_term::{Flat, Sym};
 use std::alloc::AllocError;
 

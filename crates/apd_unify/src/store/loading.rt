@@ -11,6 +11,7 @@ ghost use Rattle.apd_unify.specs.Heads.{HasBody, IsLoadedFor};
 use super::{Cell, Store};
 use crate::copies::Hint;
 use crate::heads::load_part;
+use apd_base::room::room_for;
 use apd_cells::slots::Slot;
 use apd_term::Flat;
 use std::alloc::AllocError;
@@ -99,7 +100,7 @@ impl Store {
     }
 
     /// Loads the goals of a clause at once, with what stands for its variables in their places, and leaves their cells alone
-    /// in `cells`.
+    /// in `cells`. After want of memory the store is as it was, and more may stand for variables than before.
     pub fn load_body(
         &mut self,
         body: &[Flat],
@@ -111,15 +112,17 @@ impl Store {
             slots.old.items slots.new.items body.now cells.new.items) }
         ensures kept { Keeps self.old self.new }
         ensures more { length self.old.cells ≤ length self.new.cells }
+        ensures err { OnErr result (self.new ≡ self.old) }
     {
         cells.clear();
         if body.is_empty() {
             return Ok(());
         }
+        room_for(cells, body.len())?;
         let first = self.heap.load_all(body, slots)?;
         let mut at = first;
         'goals: for goal in body {
-            cells.push(Cell(at))?;
+            cells.push_reserved(Cell(at));
             at += goal.symbols().len();
         }
         Ok(())

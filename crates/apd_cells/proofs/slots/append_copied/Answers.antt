@@ -6,8 +6,8 @@ use Rattle.apd_cells.proofs.slots.append_copied.Goals as goal
 
 pub symbols-init : goal.symbols-init
 symbols-init c = record {
-  done = putting_first c.args.copied.now c.args.symbols.now c.args.cells.now.items c.reserve.new.self.items c.args.there c.args.slots.now.items c.requires.slots c.reserve.ensures.items;
-  room = omega (arith, c.in_ok-reserve.ensures.ok);
+  done = putting_first c.args.copied.now c.args.symbols.now c.args.cells.now.items c.room_for.new.v.items c.args.there c.args.slots.now.items c.requires.slots c.room_for.ensures.items;
+  room = omega (arith, c.in_ok-room_for.ensures.room);
 }
 
 pub place_next-requires-clause-found : goal.place_next-requires-clause-found

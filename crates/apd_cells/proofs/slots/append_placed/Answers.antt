@@ -7,8 +7,8 @@ use Rattle.apd_cells.proofs.slots.append_placed.Goals as goal
 
 pub loop-symbol-init : goal.loop-symbol-init
 loop-symbol-init c = record {
-  done = placing_first c.args.cells.now.items c.reserve.new.self.items c.args.there c.args.slots.now.items c.requires c.reserve.ensures.items;
-  room = omega (arith, c.in_ok-reserve.ensures.ok);
+  done = placing_first c.args.cells.now.items c.room_for.new.v.items c.args.there c.args.slots.now.items c.requires c.room_for.ensures.items;
+  room = omega (arith, c.in_ok-room_for.ensures.room);
 }
 
 pub loop-symbol-preserved : goal.loop-symbol-preserved

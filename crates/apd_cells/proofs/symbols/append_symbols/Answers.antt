@@ -8,8 +8,8 @@ raised-moved-requires c =
 
 pub loop-symbol-init : goal.loop-symbol-init
 loop-symbol-init c = record {
-  done = appended_none c.args.base c.symbols-symbols.result.now c.args.cells.now.items c.reserve.new.self.items c.args.there c.reserve.ensures.items;
-  room = omega (arith, c.in_ok-reserve.ensures.ok);
+  done = appended_none c.args.base c.symbols-symbols.result.now c.args.cells.now.items c.room_for.new.v.items c.args.there c.room_for.ensures.items;
+  room = omega (arith, c.in_ok-room_for.ensures.room);
 }
 
 pub loop-symbol-preserved : goal.loop-symbol-preserved

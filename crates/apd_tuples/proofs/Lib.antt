@@ -1,3 +1,4 @@
+pub mod Laid
 pub mod Spanning
 pub mod Unpacking
 pub mod Standing

@@ -1,87 +1,72 @@
--- Spots as they are kept: what stays of them where goals are put behind.
-use Rattle.std.proofs.Common.{◌≡◌, ℕ, suc, zero, ◌+◌, ◌-◌, ◌≤◌, List, [], ◌∷◌, ◌++◌, length, drop, take, refl, sym, ◌∙◌, ap, subst, arith, Option, Some, None, Result, Ok, Err}
+-- Spots as they are kept: what stays of them where cells are put behind.
+use Rattle.std.proofs.Common.{◌≡◌, ℕ, suc, zero, List, [], ◌∷◌, ◌++◌, refl, sym, ◌∙◌, ap, subst, Option, Some, None, Result, Ok, Err}
 use Rattle.std.specs.Option.{option_map}
 use Rattle.std.specs.Prelude.{slice_get, OnErr}
 use Rattle.std.proofs.lemmas.Option.{slice_get-map}
-use Rattle.std.proofs.lemmas.List.{map-append, length-append, length-map, length-drop, take-append-le, take_all, take-append-drop}
-use Rattle.std.proofs.Math.Seq.{drop-append_seam}
-use Rattle.apd_unify.specs.declared.store.Cell.{Cell}
+use Rattle.std.proofs.lemmas.List.{map-append}
 use Rattle.apd_past.specs.declared.past.PastCell.{PastCell}
 use Rattle.apd_tuples.specs.declared.spots.SpotRow.{SpotRow}
-use Rattle.apd_tuples.specs.Spots.{Place, goals_in, kept_cell, kept_cells, spot_in, spots_in, EndsWith, HasMore, IsSpanned, AreSpanned}
+use Rattle.apd_tuples.specs.Cells.{goals_at, HasMore, Stands}
+use Rattle.apd_tuples.specs.Spots.{Place, spot_in, spots_in, IsSpanned, AreSpanned}
+use Rattle.apd_tuples.proofs.Laid.{goals_more, head_more, within_more}
 
-abbrev pub with_goals : SpotRow → List PastCell → Place
-with_goals r goals = record { head = r.head; goals = goals; moment = r.moment.0; fact = r.fact }
+abbrev pub place_with : SpotRow → PastCell → List PastCell → Place
+place_with r head goals = record { head = head; goals = goals; moment = r.moment.0; fact = r.fact }
 
-pub spots_more : (goals more : List PastCell) (rows : List SpotRow) → AreSpanned (length goals) rows → spots_in (goals ++ more) rows ≡ spots_in goals rows
-spots_more goals more [] h = refl
-spots_more goals more (r ∷ rs) h =
-    ap (λ gs. with_goals r (drop r.from gs) ∷ spots_in (goals ++ more) rs) (take-append-le r.to goals more h.0.within)
-    ∙ ap (λ ps. spot_in goals r ∷ ps) (spots_more goals more rs h.1)
+spot_more : (cells more : List PastCell) (r : SpotRow) → IsSpanned cells r → spot_in (cells ++ more) r ≡ spot_in cells r
+spot_more cells more r h =
+    ap (λ head. place_with r head (goals_at (cells ++ more) r.has_goals r.at)) (head_more cells more r.at r.has_goals h)
+    ∙ ap (place_with r (spot_in cells r).head) (goals_more cells more r.at r.has_goals h)
 
-spanned_more : (n m : ℕ) (rows : List SpotRow) → n ≤ m → AreSpanned n rows → AreSpanned m rows
-spanned_more n m [] le h = tt
-spanned_more n m (r ∷ rs) le h = (record { order = h.0.order; within = omega (arith, h.0.within, le) }, spanned_more n m rs le h.1)
+spots_more : (cells more : List PastCell) (rows : List SpotRow) → AreSpanned cells rows → spots_in (cells ++ more) rows ≡ spots_in cells rows
+spots_more cells more [] h = refl
+spots_more cells more (r ∷ rs) h =
+    ap (λ p. p ∷ spots_in (cells ++ more) rs) (spot_more cells more r h.0)
+    ∙ ap (λ ps. spot_in cells r ∷ ps) (spots_more cells more rs h.1)
 
-spanned_push : (n : ℕ) (rows : List SpotRow) (r : SpotRow) → AreSpanned n rows → IsSpanned n r → AreSpanned n (rows ++ r ∷ [])
-spanned_push n [] r h k = (k, tt)
-spanned_push n (x ∷ rows) r h k = (h.0, spanned_push n rows r h.1 k)
+spanned_more : (cells more : List PastCell) (rows : List SpotRow) → AreSpanned cells rows → AreSpanned (cells ++ more) rows
+spanned_more cells more [] h = tt
+spanned_more cells more (r ∷ rs) h = (within_more cells more r.at r.has_goals h.0, spanned_more cells more rs h.1)
 
-pub spanned_get : (n : ℕ) (rows : List SpotRow) (i : ℕ) (r : SpotRow) → AreSpanned n rows → slice_get rows i ≡ Some r → IsSpanned n r
-spanned_get n [] i r h e = cc
-spanned_get n (x ∷ rows) zero r h e = let is : x ≡ r = cc in subst (IsSpanned n) is h.0
-spanned_get n (x ∷ rows) (suc i) r h e = spanned_get n rows i r h.1 e
+spanned_push : (cells : List PastCell) (rows : List SpotRow) (r : SpotRow) → AreSpanned cells rows → IsSpanned cells r → AreSpanned cells (rows ++ r ∷ [])
+spanned_push cells [] r h k = (k, tt)
+spanned_push cells (x ∷ rows) r h k = (h.0, spanned_push cells rows r h.1 k)
 
-pub spots_get : (goals : List PastCell) (rows : List SpotRow) (i : ℕ) (o : Option SpotRow) (r : SpotRow) → o ≡ slice_get rows i → o ≡ Some r → slice_get (spots_in goals rows) i ≡ Some (spot_in goals r)
-spots_get goals rows i o r e is = slice_get-map (spot_in goals) rows i ∙ ap (option_map (spot_in goals)) (sym e ∙ is)
+pub spanned_get : (cells : List PastCell) (rows : List SpotRow) (i : ℕ) (r : SpotRow) → AreSpanned cells rows → slice_get rows i ≡ Some r → IsSpanned cells r
+spanned_get cells [] i r h e = cc
+spanned_get cells (x ∷ rows) zero r h e = let is : x ≡ r = cc in subst (IsSpanned cells) is h.0
+spanned_get cells (x ∷ rows) (suc i) r h e = spanned_get cells rows i r h.1 e
 
-pub spots_none : (goals : List PastCell) (rows : List SpotRow) (i : ℕ) (o : Option SpotRow) → o ≡ slice_get rows i → o ≡ None → slice_get (spots_in goals rows) i ≡ None
-spots_none goals rows i o e is = slice_get-map (spot_in goals) rows i ∙ ap (option_map (spot_in goals)) (sym e ∙ is)
+pub spots_get : (cells : List PastCell) (rows : List SpotRow) (i : ℕ) (o : Option SpotRow) (r : SpotRow) → o ≡ slice_get rows i → o ≡ Some r → slice_get (spots_in cells rows) i ≡ Some (spot_in cells r)
+spots_get cells rows i o r e is = slice_get-map (spot_in cells) rows i ∙ ap (option_map (spot_in cells)) (sym e ∙ is)
 
--- goals were put behind, and no row
-pub wider : (goals goals' : List PastCell) (rows : List SpotRow) → HasMore goals goals' → AreSpanned (length goals) rows → AreSpanned (length goals') rows
-wider goals goals' rows m h =
-    spanned_more (length goals) (length goals') rows (omega (arith, ap length m.1, length-append goals m.0)) h
+pub spots_none : (cells : List PastCell) (rows : List SpotRow) (i : ℕ) (o : Option SpotRow) → o ≡ slice_get rows i → o ≡ None → slice_get (spots_in cells rows) i ≡ None
+spots_none cells rows i o e is = slice_get-map (spot_in cells) rows i ∙ ap (option_map (spot_in cells)) (sym e ∙ is)
 
-pub wider_spots : (goals goals' : List PastCell) (rows : List SpotRow) → HasMore goals goals' → AreSpanned (length goals) rows → spots_in goals' rows ≡ spots_in goals rows
-wider_spots goals goals' rows m h = ap (λ gs. spots_in gs rows) m.1 ∙ spots_more goals m.0 rows h
+-- cells were put behind, and no row
+pub wider : (cells new : List PastCell) (rows : List SpotRow) → HasMore cells new → AreSpanned cells rows → AreSpanned new rows
+wider cells new rows m h = subst (λ cs. AreSpanned cs rows) (sym m.1) (spanned_more cells m.0 rows h)
 
-pub put_length : (goals goals' : List PastCell) (cells : List Cell) → goals' ≡ goals ++ kept_cells cells → length goals' ≡ length goals + length cells
-put_length goals goals' cells e = omega (arith, ap length e, length-append goals (kept_cells cells), length-map cells kept_cell)
+pub wider_spots : (cells new : List PastCell) (rows : List SpotRow) → HasMore cells new → AreSpanned cells rows → spots_in new rows ≡ spots_in cells rows
+wider_spots cells new rows m h = ap (λ cs. spots_in cs rows) m.1 ∙ spots_more cells m.0 rows h
 
--- goals may have been put behind, and a row with those at the end
-module _ (goals goals' : List PastCell) (cells : List Cell) (rows rows' : List SpotRow) (r : SpotRow) (grown : HasMore goals goals') (end : EndsWith goals' cells) (re : rows' ≡ rows ++ r ∷ [])
-    (from : r.from ≡ length goals' - length cells) (to : r.to ≡ length goals') (h : AreSpanned (length goals) rows) where
-  own_goals : goals_in goals' r ≡ kept_cells cells
-  own_goals =
-      let n : r.from ≡ length end.before = omega (arith, from, put_length end.before goals' cells end.is) in
-      ap (drop r.from) (take_all r.to goals' (omega (arith, to)) ∙ end.is)
-      ∙ ap (λ k. drop k (end.before ++ kept_cells cells)) n
-      ∙ drop-append_seam end.before (kept_cells cells)
+-- cells may have been put behind, and a row at whose place a head and goals stand
+module _ (cells new : List PastCell) (head : PastCell) (goals : List PastCell) (rows rows' : List SpotRow) (r : SpotRow) (grown : HasMore cells new) (stands : Stands new r.has_goals r.at head goals) (re : rows' ≡ rows ++ r ∷ [])
+    (h : AreSpanned cells rows) where
+  own : spot_in new r ≡ place_with r head goals
+  own =
+      ap (λ c. place_with r c (goals_at new r.has_goals r.at)) stands.head
+      ∙ ap (place_with r head) stands.goals
 
-  pushed : spots_in goals' rows' ≡ spots_in goals rows ++ with_goals r (kept_cells cells) ∷ []
-  pushed =
-      ap (spots_in goals') re
-      ∙ map-append (spot_in goals') rows (r ∷ [])
-      ∙ ap (λ gs. spots_in goals' rows ++ with_goals r gs ∷ []) own_goals
-      ∙ ap (λ ps. ps ++ with_goals r (kept_cells cells) ∷ []) (wider_spots goals goals' rows grown h)
+  pub pushed_now : (now : List Place) → spots_in cells rows ≡ now → spots_in new rows' ≡ now ++ place_with r head goals ∷ []
+  pushed_now now view =
+      ap (spots_in new) re
+      ∙ map-append (spot_in new) rows (r ∷ [])
+      ∙ ap (λ p. spots_in new rows ++ p ∷ []) own
+      ∙ ap (λ ps. ps ++ place_with r head goals ∷ []) (wider_spots cells new rows grown h ∙ view)
 
-  pub pushed_now : (now : List Place) → spots_in goals rows ≡ now → spots_in goals' rows' ≡ now ++ with_goals r (kept_cells cells) ∷ []
-  pushed_now now view = pushed ∙ ap (λ ps. ps ++ with_goals r (kept_cells cells) ∷ []) view
-
-  pub pushed_spanned : AreSpanned (length goals') rows'
-  pushed_spanned =
-      subst (AreSpanned (length goals')) (sym re)
-      (spanned_push (length goals') rows r (wider goals goals' rows grown h) (record { order = omega (arith, from, to); within = omega (arith, to) }))
-
--- all cells were compared with the last ones
-pub ends_all : (there : List PastCell) (cells : List Cell) (from i : ℕ) → take i (drop from there) ≡ kept_cells (take i cells) → from ≡ length there - length cells → length cells ≤ length there → length cells ≤ i → EndsWith there cells
-ends_all there cells from i h n l m = record {
-  before = take from there;
-  is =
-      sym (take-append-drop from there)
-      ∙ ap (λ e. take from there ++ e) (sym (take_all i (drop from there) (omega (arith, length-drop from there, n, l, m))) ∙ h ∙ ap kept_cells (take_all i cells m));
-}
+  pub pushed_spanned : AreSpanned new rows'
+  pushed_spanned = subst (AreSpanned new) (sym re) (spanned_push new rows r (wider cells new rows grown h) stands.within)
 
 -- what holds at all holds after an error
 pub on_err_always : {X E : Type 0} (r : Result X E) (P : Type 0) → P → OnErr r P

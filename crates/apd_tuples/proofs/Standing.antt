@@ -18,7 +18,8 @@ use Rattle.apd_past.specs.Tuples.{AreInside, terms_at, tuple_at}
 use Rattle.apd_past.proofs.Following.{tuple_now}
 use Rattle.apd_past.proofs.Keeping.{tuple_kept}
 use Rattle.apd_tuples.specs.declared.spots.Fact.{Fact}
-use Rattle.apd_tuples.specs.Spots.{Place, placed, kept_cells}
+use Rattle.apd_tuples.specs.Cells.{kept_cells}
+use Rattle.apd_tuples.specs.Spots.{Place, placed}
 use Rattle.apd_tuples.specs.Tuples.{kept_tuple, kept_tuples, tuple_of, AreThere, Holds, IsThere}
 
 inside_more : (n m : ℕ) (cs : List PastCell) → n ≤ m → AreInside n cs → AreInside m cs

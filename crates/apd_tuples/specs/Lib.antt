@@ -1,3 +1,4 @@
+pub mod Cells
 pub mod Packed
 pub mod Spots
 pub mod Tuples

@@ -2,6 +2,8 @@
 //! written out before.
 #![tactic(auto)]
 
+mod cells;
 mod packed;
+mod putting;
 pub mod spots;
 pub mod tuples;

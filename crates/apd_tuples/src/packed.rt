@@ -1,48 +1,40 @@
-//! Rows in 16 bytes each.
+//! Rows in 8 bytes each.
 
-ghost use Rattle.std.specs.Prelude.{◌≡◌, ◌≤◌, IfOk};
-ghost use Rattle.apd_tuples.specs.Packed.{fact_in};
+ghost use Rattle.std.specs.Prelude.{◌≡◌, ◌≤◌};
+ghost use Rattle.apd_tuples.specs.Packed.{bit, fact_in};
 
 use crate::spots::{Fact, SpotRow};
-use apd_base::MOST_GOALS;
-use apd_past::past::{Moment, PastCell};
-use std::alloc::AllocError;
+use apd_past::past::Moment;
 use std::marker::Model;
 use std::mem::size_of;
 
 /// A row as it is kept. Contracts see the row.
 #[derive(Drop)]
 pub struct KeptRow {
-    head: PastCell,
     moment: Moment,
-    to: u32,
-    goals: u8,
-    /// Whether it is known that no variable stands in it.
-    is_ground: bool,
+    /// Its place, and two bits: whether it has goals, and whether it is known that no variable stands in it.
+    at: u32,
 }
 
 impl Model for KeptRow {
-    ghost use Rattle.std.specs.Prelude.{◌-◌};
+    ghost use Rattle.std.specs.Prelude.{◌/◌, ◌%◌, ◌==◌};
     ghost use Rattle.apd_tuples.specs.declared.spots.SpotRow.{SpotRow};
     ghost use Rattle.apd_tuples.specs.Packed.{fact_in};
 
     ghost Value = { SpotRow };
 
     ghost view = { λ r. record {
-      head = r.head;
       moment = r.moment;
-      from = r.to - r.goals;
-      to = r.to;
-      fact = fact_in r.is_ground;
+      at = r.at / 4;
+      has_goals = r.at / 2 % 2 == 1;
+      fact = fact_in (r.at % 2 == 1);
     } };
 }
 
-const _: () = prove!(size_of::<KeptRow>() == 16);
+const _: () = prove!(size_of::<KeptRow>() == 8);
 
-/// The greatest number of goals that a row has room for. No clause has so many.
-const MOST_KEPT_GOALS: u32 = 255;
-
-const _: () = prove!(MOST_GOALS <= MOST_KEPT_GOALS as usize);
+/// The greatest place that is kept.
+pub const MOST_PLACE: usize = 1_073_741_823;
 
 /// Whether a fact says that no variable stands in a tuple.
 fn says_ground(fact: Fact) -> bool
@@ -64,23 +56,28 @@ fn fact_in(is_ground: bool) -> Fact
     Fact::Nothing
 }
 
+/// A truth value as a bit.
+fn bit(truth: bool) -> u32
+    ensures is { result ≡ bit truth }
+    ensures small { result ≤ 1 }
+{
+    if truth {
+        return 1;
+    }
+    0
+}
+
 impl KeptRow {
-    /// The row as it is kept; want of memory where it has more goals than there is room for.
-    pub fn of(row: SpotRow) -> Result<KeptRow, AllocError>
-        requires { row.from ≤ row.to }
-        ensures { IfOk result (λ k. k ≡ row) }
+    /// The row as it is kept.
+    #[inline(always)]
+    pub fn of(row: SpotRow) -> KeptRow
+        requires { row.at ≤ MOST_PLACE }
+        ensures { result ≡ row }
     {
-        let goals = row.to - row.from;
-        if goals > MOST_KEPT_GOALS {
-            return Err(AllocError);
-        }
-        Ok(KeptRow {
-            head: row.head,
+        KeptRow {
             moment: row.moment,
-            to: row.to,
-            goals: goals as u8,
-            is_ground: says_ground(row.fact),
-        })
+            at: row.at * 4 + bit(row.has_goals) * 2 + bit(says_ground(row.fact)),
+        }
     }
 
     /// The row.
@@ -89,11 +86,10 @@ impl KeptRow {
         ensures { result ≡ self.now }
     {
         SpotRow {
-            head: self.head,
             moment: self.moment,
-            from: self.to.saturating_sub(self.goals as u32),
-            to: self.to,
-            fact: fact_in(self.is_ground),
+            at: self.at / 4,
+            has_goals: self.at / 2 % 2 == 1,
+            fact: fact_in(self.at % 2 == 1),
         }
     }
 }

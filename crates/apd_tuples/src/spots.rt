@@ -1,11 +1,14 @@
 //! Where kept tuples are in a past.
 
-ghost use Rattle.std.specs.Prelude.{◌≡◌, ◌∷◌, [], ◌++◌, ◌<◌, length, slice_get, None, Some, IfOk, OnOk, OnErr, MatchOption};
-ghost use Rattle.std.specs.Bool.{OnTrue};
-ghost use Rattle.apd_tuples.specs.Spots.{EndsWith, HasMore, IsSpanned, kept_cell, placed, kept_cells, spot_at, spot_in};
+ghost use Rattle.std.specs.Prelude.{◌≡◌, ◌∷◌, [], ◌++◌, true, length, slice_get, None, Some, IfOk, OnOk, OnErr, MatchOption};
+ghost use Rattle.apd_tuples.specs.Cells.{goals_at, head_at, IsWithin};
+ghost use Rattle.apd_tuples.specs.Spots.{IsSpanned, placed, spot_at, spot_in};
 
-use crate::packed::KeptRow;
-use apd_base::stack::room_for_one;
+use crate::cells::{cell_at, goals_of, head_place, is_cell, kept_cell};
+use crate::packed::{KeptRow, MOST_PLACE};
+use crate::putting::{Laid, put};
+use apd_base::MOST_KEPT;
+use apd_base::room::room_for_one;
 use apd_past::past::{Moment, PastCell};
 use apd_unify::store::Cell;
 use std::alloc::{AllocError, Global};
@@ -35,13 +38,12 @@ pub struct Numbered {
     pub goals: u32,
 }
 
-/// A spot as it is kept: its goals stand among those of all, where rows that follow each other may share them.
+/// A spot as it is kept: its head and goals stand at a place among the cells of all, where rows may share them.
 #[derive(Clone, Copy)]
 pub struct SpotRow {
-    pub head: PastCell,
     pub moment: Moment,
-    pub from: u32,
-    pub to: u32,
+    pub at: u32,
+    pub has_goals: bool,
     pub fact: Fact,
 }
 
@@ -49,76 +51,21 @@ pub struct SpotRow {
 #[derive(Drop)]
 pub struct Spots {
     rows: Vec<KeptRow>,
-    goals: Vec<PastCell>,
+    /// Heads' and goals' cells, and a tag before the goals of each frame.
+    cells: Vec<PastCell>,
+    /// Where the head that is kept next is thought to stand.
+    next: usize,
 }
 
 impl Model for Spots {
-    ghost use Rattle.std.specs.Prelude.{List, length};
+    ghost use Rattle.std.specs.Prelude.{List};
     ghost use Rattle.apd_tuples.specs.Spots.{Place, spots_in, AreSpanned};
 
     ghost Value = { List Place };
 
-    ghost view = { λ s. spots_in s.goals.items s.rows.items };
+    ghost view = { λ s. spots_in s.cells.items s.rows.items };
 
-    ghost invariant = { λ s. AreSpanned (length s.goals.items) s.rows.items };
-}
-
-/// The greatest number that is kept.
-const MOST: usize = 4_294_967_295;
-
-/// A cell as it is kept; want of memory where its number is too great.
-fn kept_cell(cell: Cell) -> Result<PastCell, AllocError>
-    ensures { IfOk result (λ c. c ≡ kept_cell cell) }
-{
-    if cell.0 > MOST {
-        return Err(AllocError);
-    }
-    Ok(PastCell(cell.0 as u32))
-}
-
-/// Puts cells behind the others.
-#[inline(always)]
-fn put_cells(there: &mut Vec<PastCell>, cells: &[Cell]) -> Result<(), AllocError>
-    ensures ok { OnOk result (there.new.items ≡ there.old.items ++ kept_cells cells.now) }
-    ensures more { HasMore there.old.items there.new.items }
-{
-    there.reserve(cells.len())?;
-    'cells: for cell in cells {
-        let kept = kept_cell(*cell)?;
-        there.push_reserved(kept);
-    }
-    Ok(())
-}
-
-/// Whether the last ones that are kept are these cells.
-fn ends_with(there: &[PastCell], cells: &[Cell]) -> bool
-    ensures { OnTrue result (EndsWith there.now cells.now) }
-{
-    if there.len() < cells.len() {
-        return false;
-    }
-    let from = there.len() - cells.len();
-    let mut i: usize = 0;
-    'cells: while i < cells.len() {
-        if there[from + i].0 as usize != cells[i].0 {
-            return false;
-        }
-        i += 1;
-    }
-    true
-}
-
-/// Puts cells behind the others, unless the last ones are these: a frame that takes over the exit of a built-in goal or of a
-/// fact was kept just before with the same goals.
-#[inline(always)]
-fn put_if_others(there: &mut Vec<PastCell>, cells: &[Cell]) -> Result<(), AllocError>
-    ensures ok { OnOk result (EndsWith there.new.items cells.now) }
-    ensures more { HasMore there.old.items there.new.items }
-{
-    if ends_with(there.as_slice(), cells) {
-        return Ok(());
-    }
-    put_cells(there, cells)
+    ghost invariant = { λ s. AreSpanned s.cells.items s.rows.items };
 }
 
 /// The row with this number, counted from 0.
@@ -131,14 +78,73 @@ fn row_at(rows: &[KeptRow], number: usize) -> Option<SpotRow>
     }
 }
 
-/// The spot that is kept as a row.
-fn spot_in<'a>(goals: &'a [PastCell], row: SpotRow) -> Spot<'a>
-    requires { IsSpanned (length goals.now) row }
-    ensures { spot_at result ≡ spot_in goals.now row }
+/// Where the head and the goals of a row stand; 0 where there is no such row.
+#[inline(always)]
+fn place_of(rows: &[KeptRow], number: u32) -> usize {
+    match row_at(rows, number as usize) {
+        None => 0,
+        Some(row) => row.at as usize,
+    }
+}
+
+/// Where this goal behind a tag stands.
+#[inline(always)]
+fn goal_place(tag: usize, goal: u8) -> usize {
+    tag.wrapping_add(1).wrapping_add(goal as usize)
+}
+
+/// Where the head that is kept next is thought to stand, where so many goals of those that were laid are solved. Those of a
+/// fact and of a built-in goal leave it: the caller's are kept again.
+#[inline(always)]
+fn next_behind(laid: Laid, done: u8, next: usize) -> usize {
+    if laid.has_goals {
+        return goal_place(laid.at, done);
+    }
+    next
+}
+
+/// The head that stands at a place, with goals or without.
+#[inline(always)]
+fn head_at(cells: &[PastCell], has_goals: bool, at: usize) -> PastCell
+    ensures { result ≡ head_at cells.now has_goals at }
 {
+    if has_goals {
+        return cell_at(cells, head_place(cells, at));
+    }
+    cell_at(cells, at)
+}
+
+/// The goals that stand behind a tag.
+#[inline(always)]
+fn goals_behind(cells: &[PastCell], at: usize) -> &[PastCell]
+    requires { IsWithin cells.now true at }
+    ensures { result.now ≡ goals_at cells.now true at }
+{
+    let count = goals_of(cell_at(cells, at));
+    &cells[at + 1..at + 1 + count]
+}
+
+/// The goals that stand at a place.
+#[inline(always)]
+fn goals_at(cells: &[PastCell], has_goals: bool, at: usize) -> &[PastCell]
+    requires { IsWithin cells.now has_goals at }
+    ensures { result.now ≡ goals_at cells.now has_goals at }
+{
+    if !has_goals {
+        return &[];
+    }
+    goals_behind(cells, at)
+}
+
+/// The spot that is kept as a row.
+fn spot_in<'a>(cells: &'a [PastCell], row: SpotRow) -> Spot<'a>
+    requires { IsSpanned cells.now row }
+    ensures { spot_at result ≡ spot_in cells.now row }
+{
+    let at = row.at as usize;
     Spot {
-        head: row.head,
-        goals: &goals[row.from as usize..row.to as usize],
+        head: head_at(cells, row.has_goals, at),
+        goals: goals_at(cells, row.has_goals, at),
         moment: row.moment,
         fact: row.fact,
     }
@@ -151,7 +157,8 @@ impl Spots {
     {
         Spots {
             rows: Vec::new(alloc),
-            goals: Vec::new(alloc),
+            cells: Vec::new(alloc),
+            next: 0,
         }
     }
 
@@ -170,12 +177,30 @@ impl Spots {
     {
         match row_at(self.rows.as_slice(), number) {
             None => None,
-            Some(row) => Some(spot_in(self.goals.as_slice(), row)),
+            Some(row) => Some(spot_in(self.cells.as_slice(), row)),
         }
     }
 
+    /// Whether a head is the goal of which it was told that it is kept next.
+    #[inline(always)]
+    pub fn is_next(&self, head: Cell) -> bool {
+        if head.0 > MOST_KEPT {
+            return false;
+        }
+        is_cell(self.cells.as_slice(), self.next, PastCell(head.0 as u32))
+    }
+
+    /// Tells that the head that is kept next is this goal of the tuple with this number.
+    #[inline(always)]
+    pub fn turn_to(&mut self, number: u32, goal: u8)
+        ensures { self.new ≡ self.old }
+    {
+        self.next = goal_place(place_of(self.rows.as_slice(), number), goal);
+    }
+
     /// Puts the spot of the terms at a head's cell and at goals' cells behind the others, and tells its
-    /// number and how many goals it has.
+    /// number and how many goals it has. Its next goal is the head that is thought to be kept next; the same head and goals may
+    /// have been kept before, with a number.
     ///
     /// # Errors
     ///
@@ -187,6 +212,8 @@ impl Spots {
         goals: &[Cell],
         moment: Moment,
         fact: Fact,
+        done: u8,
+        before: Option<u32>,
     ) -> Result<Numbered, AllocError>
         ensures ok { OnOk result
             (self.new ≡ self.old ++ placed head goals.now moment.0 fact ∷ []) }
@@ -194,26 +221,28 @@ impl Spots {
         ensures count { IfOk result (λ n. n.goals ≡ length goals.now) }
         ensures err { OnErr result (self.new ≡ self.old) }
     {
-        let number = self.rows.len();
-        let count = goals.len();
         let kept_head = kept_cell(head)?;
-        put_if_others(&mut self.goals, goals)?;
-        let to = self.goals.len();
-        if number > MOST || to > MOST {
+        let thought = match before {
+            None => None,
+            Some(number) => Some(place_of(self.rows.as_slice(), number)),
+        };
+        let laid = put(&mut self.cells, thought, self.next, kept_head, goals)?;
+        let number = self.rows.len();
+        if number > MOST_KEPT || laid.at > MOST_PLACE {
             return Err(AllocError);
         }
         let kept = KeptRow::of(SpotRow {
-            head: kept_head,
             moment,
-            from: (to - count) as u32,
-            to: to as u32,
+            at: laid.at as u32,
+            has_goals: laid.has_goals,
             fact,
-        })?;
+        });
         room_for_one(&mut self.rows)?;
         self.rows.push_reserved(kept);
+        self.next = next_behind(laid, done, self.next);
         Ok(Numbered {
             number: number as u32,
-            goals: count as u32,
+            goals: goals.len() as u32,
         })
     }
 }

@@ -75,7 +75,7 @@ fn is_spot_ground(past: &Past, spot: &Spot<'_>) -> bool
     }
 }
 
-/// The same of its head.
+/// Whether no variable stands in the head of a kept tuple; false where that is neither known nor seen at once.
 fn is_spot_head_ground(past: &Past, spot: &Spot<'_>) -> bool
     requires { IsThere past.now (spot_at spot.now) }
     ensures { OnTrue result (IsGround (kept_tuple past.now (spot_at spot.now)).head) }
@@ -123,7 +123,7 @@ impl KeptTuples {
         }
     }
 
-    /// The same of its head.
+    /// Whether no variable stands in the head of that with this number; false where that is neither known nor seen at once.
     pub fn is_head_ground(&self, number: u32) -> bool
         ensures { (t : Tuple) → slice_get self.now number ≡ Some t →
             OnTrue result (IsGround t.head) }

@@ -4,4 +4,4 @@ use Rattle.apd_tuples.specs.Spots.{spot_in}
 use Rattle.apd_tuples.proofs.spots.Spots.len.Goals as goal
 
 pub returns : goal.returns
-returns c = c.len.ensures ∙ c.self.inside.rows.ok.0 ∙ sym (length-map c.self.inside.rows.items (spot_in c.self.inside.goals.items)) ∙ ap length c.self.view_is
+returns c = c.len.ensures ∙ c.self.inside.rows.ok.0 ∙ sym (length-map c.self.inside.rows.items (spot_in c.self.inside.cells.items)) ∙ ap length c.self.view_is

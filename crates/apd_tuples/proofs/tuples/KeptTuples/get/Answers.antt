@@ -7,9 +7,6 @@ use Rattle.apd_tuples.specs.Tuples.{IsThere}
 use Rattle.apd_tuples.proofs.Standing.{got_none, got_some, there_get}
 use Rattle.apd_tuples.proofs.tuples.KeptTuples.get.Goals as goal
 
-pub at-then-requires : goal.at-then-requires
-at-then-requires c = (there_get c.self.inside.past c.self.inside.spots c.args.number (spot_at c.in-Some.spot) c.self.invariant c.in-Some.ensures).moment
-
 pub tuple-requires-clause-head : goal.tuple-requires-clause-head
 tuple-requires-clause-head c =
     let there : IsThere c.self.inside.past (spot_at c.in-Some.spot) = there_get c.self.inside.past c.self.inside.spots c.args.number (spot_at c.in-Some.spot) c.self.invariant c.in-Some.ensures in

@@ -15,9 +15,6 @@ pub returns-in-None-cell_at : goal.returns-in-None-cell_at
 returns-in-None-cell_at c = λ t at.
     goal_none c.self.inside.past (spot_at c.in-Some.spot) t c.args.k (got_tuple c.self.inside.past c.self.inside.spots c.args.number c.args.self.now (spot_at c.in-Some.spot) c.self.view_is c.in-Some.ensures t at) (sym c.cell_at.ensures ∙ c.in-None-cell_at.is)
 
-pub at-then-requires : goal.at-then-requires
-at-then-requires c = (there_get c.self.inside.past c.self.inside.spots c.args.number (spot_at c.in-Some.spot) c.self.invariant c.in-Some.ensures).moment
-
 pub term-requires : goal.term-requires
 term-requires c =
     let there : IsThere c.self.inside.past (spot_at c.in-Some.spot) = there_get c.self.inside.past c.self.inside.spots c.args.number (spot_at c.in-Some.spot) c.self.invariant c.in-Some.ensures in

@@ -11,9 +11,6 @@ use Rattle.apd_tuples.proofs.Standing.{got_none, there_get}
 use Rattle.apd_tuples.proofs.Predicates.{predicate-kept}
 use Rattle.apd_tuples.proofs.tuples.KeptTuples.pred.Goals as goal
 
-pub at-then-requires : goal.at-then-requires
-at-then-requires c = (there_get c.self.inside.past c.self.inside.spots c.args.number (spot_at c.in-Some.spot) c.self.invariant c.in-Some.ensures).moment
-
 pub follow-at-requires : goal.follow-at-requires
 follow-at-requires c =
     let there : IsThere c.self.inside.past (spot_at c.in-Some.spot) = there_get c.self.inside.past c.self.inside.spots c.args.number (spot_at c.in-Some.spot) c.self.invariant c.in-Some.ensures in

@@ -19,14 +19,14 @@ use Rattle.apd_trace.specs.declared.frame.Frame.{Frame}
 use Rattle.apd_trace.specs.declared.frame.Called.{Called}
 use Rattle.apd_trace.specs.declared.frame.Look.TheVariants.{Nothing, Goal, Exit as Exits, Answer as Answers}
 use Rattle.apd_frames.specs.Links.{Instance, Link}
-use Rattle.apd_frames.specs.declared.links.Branch.{Branch}
+use Rattle.apd_notes.specs.declared.notes.Note.{Note}
 use Rattle.apd_frames.specs.Instances.{terms_in, tuple_in, IsInside, CanonicalWithin}
 use Rattle.apd_frames.specs.Kept.{Kept, Calls, IsIn, MayCall, Points, Takes, exit_in, is_large_of, newest_of, point_in}
 use Rattle.apd_frames.specs.Linked.{numbered, frame_in, frames_at, saved_of, entered_link, ArePlaced, IsFramed, IsGoalAt}
 use Rattle.apd_frames.proofs.Linking.{same_number, other_number, frames_some, frames_none, frames_newest, frames_applied, with_tuple}
 
 -- the view of frames
-abbrev pub view_of : Stored → List Link → ℕ → List Branch → Kept
+abbrev pub view_of : Stored → List Link → ℕ → List Note → Kept
 view_of s links k bs = record { current = frames_at s links k; saved = saved_of s links bs }
 
 -- the innermost link of frames
@@ -35,12 +35,12 @@ pub record IsInnermost (s : Stored) (links : List Link) (l : Link) (now : Kept) 
   pub inside : IsInside (length s.cells) l.instance
   pub older : l.around ≤ length links
 
-pub innermost_some : (s : Stored) (links : List Link) (k : ℕ) (bs : List Branch) (now : Kept) (l : Link) → view_of s links k bs ≡ now → IsFramed s links k bs → numbered links k ≡ Some l → IsInnermost s links l now
+pub innermost_some : (s : Stored) (links : List Link) (k : ℕ) (bs : List Note) (now : Kept) (l : Link) → view_of s links k bs ≡ now → IsFramed s links k bs → numbered links k ≡ Some l → IsInnermost s links l now
 innermost_some s links k bs now l view f e =
     let h = frames_some s (length s.cells) links k l f.placed e in
     record { is = ap (λ (x : Kept). x.current) (sym view) ∙ h.frames; inside = h.inside; older = h.older }
 
-pub innermost_none : (s : Stored) (links : List Link) (k : ℕ) (bs : List Branch) (now : Kept) → view_of s links k bs ≡ now → numbered links k ≡ None → now.current ≡ []
+pub innermost_none : (s : Stored) (links : List Link) (k : ℕ) (bs : List Note) (now : Kept) → view_of s links k bs ≡ now → numbered links k ≡ None → now.current ≡ []
 innermost_none s links k bs now view e = ap (λ (x : Kept). x.current) (sym view) ∙ frames_none s links k e
 
 pub get_terms : (s : Stored) (cs : List Cell) (i : ℕ) (c : Cell) → slice_get cs i ≡ Some c → slice_get (terms_in s cs) i ≡ Some (term_at s c.0)
@@ -197,7 +197,7 @@ predicate_in [] n g a e h = cc
 predicate_in (f ∷ F) n g a e h = predicate_by (goal_of f) f F n g a e h
 
 -- the predicate of the next goal
-module _ (s : Stored) (links : List Link) (k : ℕ) (bs : List Branch) (now : Kept) (view : view_of s links k bs ≡ now) where
+module _ (s : Stored) (links : List Link) (k : ℕ) (bs : List Note) (now : Kept) (view : view_of s links k bs ≡ now) where
   pub predicate_some : (c : Cell) (o : Option Pred) → IsGoalAt links k (Some c) → o ≡ predicate_of (term_at s c.0) → (n : ℕ) (g : Called) → Calls now.current n g → o ≡ predicate_of g.atom
   predicate_some c o at e n g h =
       e ∙ predicate_in (frames_at s links k) n g (term_at s c.0) (at.1 s) (subst (λ (x : Kept). Calls x.current n g) (sym view) h)

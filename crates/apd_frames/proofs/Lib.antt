@@ -1,6 +1,7 @@
 pub mod Outcomes
 pub mod Numbers
 pub mod Linking
+pub mod Changing
 pub mod Spans
 pub mod Branching
 pub mod Longer

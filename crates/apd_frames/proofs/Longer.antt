@@ -8,9 +8,10 @@ use Rattle.apd_trace.specs.declared.frame.Frame.{Frame}
 use Rattle.apd_unify.specs.Cells.{AreCells}
 use Rattle.apd_unify.specs.declared.store.Cell.{Cell}
 use Rattle.apd_frames.specs.Links.{Link}
-use Rattle.apd_frames.specs.declared.links.Branch.{Branch}
+use Rattle.apd_notes.specs.declared.notes.Note.{Note}
+use Rattle.apd_notes.specs.declared.notes.Note.TheVariants.{Saved, Handed}
 use Rattle.apd_frames.specs.Instances.{terms_in, IsInside}
-use Rattle.apd_frames.specs.Linked.{frame_in, frames_at, oldest, saved_of, ArePlaced, AreMarked, IsFramed}
+use Rattle.apd_frames.specs.Linked.{changed, taken_link, frame_in, frames_at, oldest, saved_of, ArePlaced, AreMarked, IsFramed}
 use Rattle.apd_frames.proofs.Branching.{placed_more}
 use Rattle.apd_frames.proofs.Linking.{tuple_of, with_tuple}
 
@@ -31,9 +32,10 @@ frames_more s t (l ∷ older) k h i a =
     ∙ ap (λ F. if k == n then frame_in s l ∷ F else frames_at t older k) (frames_more s t older l.around h i a.2)
     ∙ ap (λ F. if k == n then frame_in s l ∷ frames_at s older l.around else F) (frames_more s t older k h i a.2)
 
-pub saved_more : (s t : Stored) (links : List Link) (bs : List Branch) → HasMoreCells s t → IsSound s → AreMarked s links bs → saved_of t links bs ≡ saved_of s links bs
+pub saved_more : (s t : Stored) (links : List Link) (bs : List Note) → HasMoreCells s t → IsSound s → AreMarked s links bs → saved_of t links bs ≡ saved_of s links bs
 saved_more s t links [] h i a = refl
-saved_more s t links (b ∷ bs) h i a =
+saved_more s t links (Handed k p ∷ bs) h i a = saved_more s t (changed (taken_link p) k links) bs h i a.1
+saved_more s t links (Saved b ∷ bs) h i a =
     let k = b.mark.0 in
     let ls = oldest b.links links in
     let m = more_at_mark s t k h i in
@@ -41,9 +43,10 @@ saved_more s t links (b ∷ bs) h i a =
     ap (λ F. F ∷ saved_of (at_mark k t) ls bs) (frames_more (at_mark k s) (at_mark k t) ls b.innermost m j a.3)
     ∙ ap (λ S. frames_at (at_mark k s) ls b.innermost ∷ S) (saved_more (at_mark k s) (at_mark k t) ls bs m j a.4)
 
-marked_more : (s t : Stored) (links : List Link) (bs : List Branch) → HasMoreCells s t → IsSound s → AreMarked s links bs → AreMarked t links bs
+marked_more : (s t : Stored) (links : List Link) (bs : List Note) → HasMoreCells s t → IsSound s → AreMarked s links bs → AreMarked t links bs
 marked_more s t links [] h i a = tt
-marked_more s t links (b ∷ bs) h i a =
+marked_more s t links (Handed k p ∷ bs) h i a = (a.0, marked_more s t (changed (taken_link p) k links) bs h i a.1)
+marked_more s t links (Saved b ∷ bs) h i a =
     let k = b.mark.0 in
     let ls = oldest b.links links in
     let m = more_at_mark s t k h i in (
@@ -54,7 +57,7 @@ marked_more s t links (b ∷ bs) h i a =
       marked_more (at_mark k s) (at_mark k t) ls bs m (sound_at_mark k s i) a.4,
     )
 
-pub framed_more : (s t : Stored) (links : List Link) (k : ℕ) (bs : List Branch) → HasMoreCells s t → IsSound s → IsFramed s links k bs → IsFramed t links k bs
+pub framed_more : (s t : Stored) (links : List Link) (k : ℕ) (bs : List Note) → HasMoreCells s t → IsSound s → IsFramed s links k bs → IsFramed t links k bs
 framed_more s t links k bs h i f = record {
   placed = placed_more (length s.cells) (length t.cells) links (more_length s t h) f.placed;
   within = f.within;

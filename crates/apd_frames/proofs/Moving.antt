@@ -16,7 +16,6 @@ use Rattle.apd_cells.proofs.Undone.{undone_more}
 use Rattle.apd_cells.specs.Numbered.{IsNumbered}
 use Rattle.apd_cells.specs.First.{AreApart}
 use Rattle.apd_cells.proofs.Keeping.{meaning-loaded}
-use Rattle.apd_cells.proofs.Bindings.{Keeps-self}
 use Rattle.apd_trace.specs.Frames.{apply_frames, entering, entered, shifted_tuple, outer, handed_all, query_frame}
 use Rattle.apd_trace.specs.BuiltIn.{built, solution}
 use Rattle.apd_trace.specs.Renaming.{AreAlike}
@@ -25,14 +24,18 @@ use Rattle.apd_trace.specs.declared.frame.Called.{Called}
 use Rattle.apd_frames.specs.declared.builtin.Solved.{Solved}
 use Rattle.apd_frames.specs.declared.builtin.Solved.TheVariants.{Entered}
 use Rattle.apd_frames.specs.Links.{Instance, Link}
-use Rattle.apd_frames.specs.declared.links.Branch.{Branch}
+use Rattle.apd_notes.specs.declared.notes.Branch.{Branch}
+use Rattle.apd_notes.specs.declared.notes.Note.{Note}
+use Rattle.apd_notes.specs.declared.notes.Note.TheVariants.{Saved, Handed}
+use Rattle.apd_notes.specs.Notes.{forgotten}
 use Rattle.apd_frames.specs.Instances.{terms_in, tuple_in, raised_in, IsInside, IsVariant, HasGrown, HasLaid, IsInstantiated}
 use Rattle.apd_frames.specs.Kept.{Kept, HasEntered, Enters}
 use Rattle.apd_frames.specs.Solves.{solution_as, Settles}
-use Rattle.apd_frames.specs.Linked.{frame_in, frames_at, oldest, saved_of, entered_link, handed_link, ArePlaced, IsFramed, IsGoalAt, IsBranchAt}
+use Rattle.apd_frames.specs.Linked.{changed, frame_in, frames_at, links_then, notes_then, oldest, saved_of, entered_link, handed_link, taken_link, ArePlaced, AreMarked, Hands, IsFramed, IsGoalAt}
+use Rattle.apd_frames.proofs.Changing.{length-changed, placed_changed, handed_frames, taken_handed}
 use Rattle.apd_frames.proofs.Linking.{frames_newest, frames_below, tuple_of, with_tuple}
 use Rattle.apd_ports.specs.declared.point.TheConstants.{BUILTIN}
-use Rattle.apd_frames.proofs.Branching.{framed_kept, framed_link, framed_there, saved-branch, framed_branch, saved-link, saved-kept, saved-forgotten, marked-forgotten}
+use Rattle.apd_frames.proofs.Branching.{framed_kept, framed_link, framed_there, framed_then, saved-branch, framed_branch, saved-link, saved-kept, saved-forgotten, saved-then, saved-without, marked-without}
 use Rattle.apd_frames.proofs.Longer.{framed_more, frames_more, saved_more}
 use Rattle.apd_frames.proofs.Instancing.{loaded_free, terms_same}
 use Rattle.apd_frames.proofs.Current.{view_of, IsInnermost, front_applied}
@@ -47,10 +50,10 @@ pub kept_so : (F G : List Frame) (S T : List (List Frame)) → F ≡ G → S ≡
 kept_so F G S T e f = ap (λ x. kept_of x S) e ∙ ap (kept_of G) f
 
 -- the store did more
-pub view_kept : (s s' : Stored) (links : List Link) (k : ℕ) (bs : List Branch) → s' ≡ s → view_of s' links k bs ≡ view_of s links k bs
+pub view_kept : (s s' : Stored) (links : List Link) (k : ℕ) (bs : List Note) → s' ≡ s → view_of s' links k bs ≡ view_of s links k bs
 view_kept s s' links k bs e = ap (λ (x : Stored). view_of x links k bs) e
 
-module _ (s : Stored) (links : List Link) (k : ℕ) (bs : List Branch) (now : Kept) (view : view_of s links k bs ≡ now) (f : IsFramed s links k bs) (g : Called) (r : Tuple) (c m : ℕ) where
+module _ (s : Stored) (links : List Link) (k : ℕ) (bs : List Note) (now : Kept) (view : view_of s links k bs ≡ now) (f : IsFramed s links k bs) (g : Called) (r : Tuple) (c m : ℕ) where
   -- no goal is next, or its first argument differs from the clause's, or it doesn't unify with the clause's head
 
   pub enters_no : (goal : Cell) → IsGoalAt links k (Some goal) → AreApart (term_at s goal.0) r.head → Enters (entering now.current g r c m) false now now
@@ -93,7 +96,7 @@ module _ (s : Stored) (links : List Link) (k : ℕ) (bs : List Branch) (now : Ke
         rw (le, ne, is) (subst (λ (x : Kept). HasEntered (entering x.current g r c m) x (view_of s' (entered_link g c i m k ∷ links) (length links + 1) bs)) view k')
 
 -- a built-in goal
-module _ (s : Stored) (links : List Link) (k : ℕ) (bs : List Branch) (now : Kept) (view : view_of s links k bs ≡ now) (f : IsFramed s links k bs) (g : Called) (m : ℕ) where
+module _ (s : Stored) (links : List Link) (k : ℕ) (bs : List Note) (now : Kept) (view : view_of s links k bs ≡ now) (f : IsFramed s links k bs) (g : Called) (m : ℕ) where
   module _ (goal : Cell) (h : IsGoalAt links k (Some goal)) (s' : Stored) where
     pub solves_without : (r : Solved) (G : List Frame) → r ≢ Entered → Settles r s s' (term_at s goal.0) → AreAlike (solution now.current g m) (solution_as r G)
     solves_without r G n a = subst (λ (x : Kept). AreAlike (solution x.current g m) (solution_as r G)) view (solves_other (frames_at s links k) g m (term_at s goal.0) (h.1 s) r s s' G n a)
@@ -123,45 +126,62 @@ module _ (s : Stored) (links : List Link) (k : ℕ) (bs : List Branch) (now : Ke
       let inside : goal.0 < length s.cells = h.0 (length s.cells) f.placed in
       rw (le, is, none) (pushed_framed s' (entered_link g BUILTIN (record { head = goal; goals = [] }) m k) n kept more (record { head = omega arith; goals = tt }) f.within ne)
 
--- the innermost link gives way to one that is handed an exit, or to the one around it
-pub takes_over : (s : Stored) (links : List Link) (k : ℕ) (bs : List Branch) (now : Kept) (l : Link) (m n : ℕ) (links' : List Link) → view_of s links k bs ≡ now → IsFramed s links k bs → IsInnermost s links l now
-    → links' ≡ handed_link l m ∷ links → n ≡ length links + 1 → view_of s links' n bs ≡ kept_of (handed_all now.current m) now.saved
-takes_over s links k bs now l m n links' view f h le ne =
-    rw (le, ne) (kept_so (frames_at s (handed_link l m ∷ links) (length links + 1)) (handed_all now.current m) (saved_of s (handed_link l m ∷ links) bs) now.saved
-    (frames_newest s (handed_link l m) links ∙ ap (λ F. handed_all F m) (sym h.is))
-    (saved-link s (handed_link l m) links bs f.marked ∙ ap (λ (x : Kept). x.saved) view))
+-- the innermost link is handed an exit
+module _ (s : Stored) (links : List Link) (k : ℕ) (ns : List Note) (m p : ℕ) (links' : List Link) (h : Hands links links' k m p) where
+  pub links_again : changed (taken_link p) k links' ≡ links
+  links_again = ap (changed (taken_link p) k) h.more ∙ taken_handed k m p h.link links h.is (sym h.before)
 
-pub takes_framed : (s : Stored) (links : List Link) (k : ℕ) (bs : List Branch) (now : Kept) (l l' : Link) (m n : ℕ) (links' : List Link) → IsFramed s links k bs → IsInnermost s links l now
-    → l' ≡ handed_link l m → links' ≡ l' ∷ links → n ≡ length links + 1 → IsFramed s links' n bs
-takes_framed s links k bs now l l' m n links' f h is le ne = rw (le, is) (framed_link s (handed_link l m) links k n bs f h.inside h.older (omega arith))
+  module _ (ns' : List Note) (ne : ns' ≡ Handed k p ∷ ns) where
+    pub takes_over : (now : Kept) → view_of s links k ns ≡ now → view_of s links' k ns' ≡ kept_of (handed_all now.current m) now.saved
+    takes_over now view =
+        kept_so (frames_at s links' k) (handed_all now.current m) (saved_of s links' ns') now.saved
+        (ap (λ ls. frames_at s ls k) h.more ∙ handed_frames s m k links ∙ ap (λ (x : Kept). handed_all x.current m) view)
+        (ap (saved_of s links') ne ∙ ap (λ ls. saved_of s ls ns) links_again ∙ ap (λ (x : Kept). x.saved) view)
+
+    pub takes_framed : IsFramed s links k ns → IsFramed s links' k ns'
+    takes_framed f =
+        let n : length links' ≡ length links = ap length h.more ∙ length-changed (handed_link m) k links in
+        record {
+          placed = subst (ArePlaced (length s.cells)) (sym h.more) (placed_changed (length s.cells) (λ (x : Link). x.done + 1) m k links f.placed);
+          within = omega (arith, n, f.within);
+          marked = subst (AreMarked s links') (sym ne) (omega (arith, n, f.within), subst (λ ls. AreMarked s ls ns) (sym links_again) f.marked);
+        }
+
+-- or there was no memory for that
+pub takes_back : (s : Stored) (links : List Link) (k : ℕ) (ns ns' : List Note) (m p : ℕ) (links' links'' : List Link) → Hands links links' k m p → links'' ≡ changed (taken_link p) k links' → ns' ≡ ns
+    → IsFramed s links k ns → IsFramed s links'' k ns'
+takes_back s links k ns ns' m p links' links'' h le ne f =
+    let e : links'' ≡ links = le ∙ links_again s links k ns m p links' h in rw (e, ne) f
 
 pub takes_nothing : (now : Kept) (m : ℕ) → now.current ≡ [] → now ≡ kept_of (handed_all now.current m) now.saved
 takes_nothing now m e = kept_so now.current (handed_all now.current m) now.saved now.saved (e ∙ ap (λ F. handed_all F m) (sym e)) refl
 
-pub leaves : (s : Stored) (links : List Link) (k : ℕ) (bs : List Branch) (now : Kept) (l : Link) → view_of s links k bs ≡ now → IsInnermost s links l now → view_of s links l.around bs ≡ kept_of (outer now.current) now.saved
+pub leaves : (s : Stored) (links : List Link) (k : ℕ) (bs : List Note) (now : Kept) (l : Link) → view_of s links k bs ≡ now → IsInnermost s links l now → view_of s links l.around bs ≡ kept_of (outer now.current) now.saved
 leaves s links k bs now l view h = kept_so (frames_at s links l.around) (outer now.current) (saved_of s links bs) now.saved (ap outer (sym h.is)) (ap (λ (x : Kept). x.saved) view)
 
 pub leaves_nothing : (now : Kept) → now.current ≡ [] → now ≡ kept_of (outer now.current) now.saved
 leaves_nothing now e = kept_so now.current (outer now.current) now.saved now.saved (e ∙ ap outer (sym e)) refl
 
-pub saves : (s : Stored) (links : List Link) (k : ℕ) (bs bs' : List Branch) (now : Kept) (b : Branch) → view_of s links k bs ≡ now → IsFramed s links k bs → IsBranchAt s links k b → bs' ≡ b ∷ bs
-    → view_of s links k bs' ≡ kept_of now.current (now.current ∷ now.saved)
-saves s links k bs bs' now b view f at e =
-    rw e (kept_so (frames_at s links k) now.current (saved_of s links (b ∷ bs)) (now.current ∷ now.saved)
-    (ap (λ (x : Kept). x.current) view)
-    (saved-branch s s links k bs b at (Keeps-self s) f ∙ ap (λ (x : Kept). x.current ∷ x.saved) view))
+-- frames are saved
+module _ (s : Stored) (links : List Link) (k : ℕ) (ns ns' : List Note) (b : Branch) (f : IsFramed s links k ns) (mark : b.mark.0 ≡ length s.trail) (all : b.links ≡ length links) (is : b.innermost ≡ k)
+    (e : ns' ≡ Saved b ∷ ns) where
+  pub saves : (now : Kept) → view_of s links k ns ≡ now → view_of s links k ns' ≡ kept_of now.current (now.current ∷ now.saved)
+  saves now view =
+      rw e (kept_so (frames_at s links k) now.current (saved_of s links (Saved b ∷ ns)) (now.current ∷ now.saved)
+      (ap (λ (x : Kept). x.current) view)
+      (saved-branch s links k ns b f mark all is ∙ ap (λ (x : Kept). x.current ∷ x.saved) view))
 
-pub saves_framed : (s : Stored) (links : List Link) (k : ℕ) (bs bs' : List Branch) (b : Branch) → IsFramed s links k bs → IsBranchAt s links k b → bs' ≡ b ∷ bs → IsFramed s links k bs'
-saves_framed s links k bs bs' b f at e = rw e (framed_branch s s links k bs b at (Keeps-self s) f k (omega arith) f.within)
+  pub saves_framed : IsFramed s links k ns'
+  saves_framed = rw e (framed_branch s links k ns b f mark all is)
 
 -- back at the newest branch, which stays
-module _ (kept : Front) (s s' : Stored) (links links' : List Link) (k : ℕ) (bs rest : List Branch) (b : Branch) (f : IsFramed s links k bs) (e : bs ≡ b ∷ rest) (sound : IsSound s)
+module _ (kept : Front) (s s' : Stored) (links links' : List Link) (k : ℕ) (ns rest : List Note) (b : Branch) (f : IsFramed s links k ns) (e : ns ≡ Saved b ∷ rest) (sound : IsSound s)
     (se : s' ≡ undone kept b.mark.0 s) (le : links' ≡ oldest b.links links) where
-  framed_first : IsFramed s links k (b ∷ rest)
+  framed_first : IsFramed s links k (Saved b ∷ rest)
   framed_first = subst (IsFramed s links k) e f
 
-  framed_here : IsFramed (at_mark b.mark.0 s) (oldest b.links links) b.innermost (b ∷ rest)
-  framed_here = framed_there s links b framed_first.marked.0 framed_first.marked.1 k rest framed_first
+  framed_here : IsFramed (at_mark b.mark.0 s) (oldest b.links links) b.innermost (Saved b ∷ rest)
+  framed_here = framed_there s b framed_first.marked.0 links k rest framed_first.marked.1 framed_first
 
   more_here : HasMoreCells (at_mark b.mark.0 s) (undone kept b.mark.0 s)
   more_here = undone_more kept b.mark.0 s sound
@@ -169,35 +189,45 @@ module _ (kept : Front) (s s' : Stored) (links links' : List Link) (k : ℕ) (bs
   sound_here : IsSound (at_mark b.mark.0 s)
   sound_here = sound_at_mark b.mark.0 s sound
 
-  pub restores_framed : IsFramed s' links' b.innermost bs
-  restores_framed = rw (se, le, e) (framed_more (at_mark b.mark.0 s) (undone kept b.mark.0 s) (oldest b.links links) b.innermost (b ∷ rest) more_here sound_here framed_here)
+  pub restores_framed : IsFramed s' links' b.innermost ns
+  restores_framed = rw (se, le, e) (framed_more (at_mark b.mark.0 s) (undone kept b.mark.0 s) (oldest b.links links) b.innermost (Saved b ∷ rest) more_here sound_here framed_here)
 
-  pub restores_saved : saved_of s' links' bs ≡ saved_of s links bs
+  pub restores_saved : saved_of s' links' ns ≡ saved_of s links ns
   restores_saved = rw (se, le, e)
-      (saved_more (at_mark b.mark.0 s) (undone kept b.mark.0 s) (oldest b.links links) (b ∷ rest) more_here sound_here framed_here.marked
-      ∙ saved-forgotten s links b framed_first.marked.0 framed_first.marked.1 (b ∷ rest) framed_here.marked)
+      (saved_more (at_mark b.mark.0 s) (undone kept b.mark.0 s) (oldest b.links links) (Saved b ∷ rest) more_here sound_here framed_here.marked
+      ∙ saved-forgotten s b framed_first.marked.0 links (Saved b ∷ rest) framed_first.marked.1 framed_here.marked)
 
-  pub restores_current : saved_of s links bs ≡ frames_at s' links' b.innermost ∷ drop 1 (saved_of s links bs)
+  pub restores_current : saved_of s links ns ≡ frames_at s' links' b.innermost ∷ drop 1 (saved_of s links ns)
   restores_current = rw (se, le, e)
       (ap (λ F. F ∷ saved_of (at_mark b.mark.0 s) (oldest b.links links) rest)
       (sym (frames_more (at_mark b.mark.0 s) (undone kept b.mark.0 s) (oldest b.links links) b.innermost more_here sound_here framed_here.placed)))
 
-pub forgets_framed : (s : Stored) (links : List Link) (k : ℕ) (bs bs' : List Branch) (o : Option Branch) → IsFramed s links k bs → MatchOption o ((bs ≡ []) × (bs' ≡ [])) (λ b. bs ≡ b ∷ bs') → IsFramed s links k bs'
-forgets_framed s links k bs bs' None f h = rw h.1 (record { placed = f.placed; within = f.within; marked = tt })
-forgets_framed s links k bs bs' (Some b) f h =
-    let k' : IsFramed s links k (b ∷ bs') = subst (IsFramed s links k) h f in
-    record { placed = f.placed; within = f.within; marked = marked-forgotten s links b k'.marked.0 k'.marked.1 bs' k'.marked.4 }
+-- the exits that were handed behind the newest branch are taken back
+pub then_framed : (s : Stored) (links links' : List Link) (k : ℕ) (ns ns' : List Note) → IsFramed s links k ns → links' ≡ links_then links ns → ns' ≡ notes_then ns → IsFramed s links' k ns'
+then_framed s links links' k ns ns' f le ne = rw (le, ne) (framed_then s links k ns f)
 
-pub forgets : (s : Stored) (links : List Link) (k : ℕ) (bs bs' : List Branch) (now : Kept) (o : Option Branch) → view_of s links k bs ≡ now → IsFramed s links k bs → 0 < length now.saved
-    → MatchOption o ((bs ≡ []) × (bs' ≡ [])) (λ b. bs ≡ b ∷ bs') → view_of s links k bs' ≡ kept_of now.current (drop 1 now.saved)
-forgets s links k bs bs' now None view f l h =
-    let z : now.saved ≡ [] = ap (λ (x : Kept). x.saved) (sym view) ∙ ap (saved_of s links) h.0 in
-    absurd (omega (arith, l, ap length z))
-forgets s links k bs bs' now (Some b) view f l h =
-    let k' : IsFramed s links k (b ∷ bs') = subst (IsFramed s links k) h f in
-    let e : now.saved ≡ saved_of s links (b ∷ bs') = ap (λ (x : Kept). x.saved) (sym view) ∙ ap (saved_of s links) h in
-    kept_so (frames_at s links k) now.current (saved_of s links bs') (drop 1 now.saved) (ap (λ (x : Kept). x.current) view)
-    (sym (saved-forgotten s links b k'.marked.0 k'.marked.1 bs' k'.marked.4) ∙ ap (drop 1) (sym e))
+pub then_saved : (s : Stored) (links links' : List Link) (ns ns' : List Note) → links' ≡ links_then links ns → ns' ≡ notes_then ns → saved_of s links' ns' ≡ saved_of s links ns
+then_saved s links links' ns ns' le ne = rw (le, ne) (saved-then s links ns)
+
+-- then the newest note is a branch, where frames are saved
+pub then_some : (s : Stored) (links : List Link) (ns : List Note) → 0 < length (saved_of s links ns) → notes_then ns ≡ [] → ⊥
+then_some s links [] l e = omega (arith, l)
+then_some s links (Saved b ∷ ns) l e = cc
+then_some s links (Handed k p ∷ ns) l e = then_some s (changed (taken_link p) k links) ns l e
+
+pub branch_inside : (s : Stored) (links : List Link) (k : ℕ) (ns rest : List Note) (b : Branch) → IsFramed s links k ns → ns ≡ Saved b ∷ rest → (b.mark.0 ≤ length s.trail) × (b.links ≤ length links)
+branch_inside s links k ns rest b f e =
+    let m : AreMarked s links (Saved b ∷ rest) = subst (AreMarked s links) e f.marked in (m.0, m.1)
+
+-- without the newest branch
+pub forgets_framed : (s : Stored) (links : List Link) (k : ℕ) (ns ns' : List Note) → IsFramed s links k ns → ns' ≡ forgotten ns → IsFramed s links k ns'
+forgets_framed s links k ns ns' f e = rw e (record { placed = f.placed; within = f.within; marked = marked-without s links ns f.marked })
+
+pub forgets : (s : Stored) (links : List Link) (k : ℕ) (ns ns' : List Note) (now : Kept) → view_of s links k ns ≡ now → IsFramed s links k ns → ns' ≡ forgotten ns
+    → view_of s links k ns' ≡ kept_of now.current (drop 1 now.saved)
+forgets s links k ns ns' now view f e =
+    kept_so (frames_at s links k) now.current (saved_of s links ns') (drop 1 now.saved) (ap (λ (x : Kept). x.current) view)
+    (ap (saved_of s links) e ∙ saved-without s links ns f.marked ∙ ap (λ (x : Kept). drop 1 x.saved) view)
 
 -- the frame of a query, whose terms are loaded into an empty store
 module _ (s0 s1 s2 : Stored) (t : Tuple) (head : ℕ) (i : Instance) (empty : s0 ≡ record { cells = []; variables = 0; trail = [] })
@@ -226,7 +256,7 @@ module _ (s0 s1 s2 : Stored) (t : Tuple) (head : ℕ) (i : Instance) (empty : s0
       rw (le, e) (ap (λ (x : Tuple). with_tuple l0 x ∷ []) opened_tuple)
 
 -- the view of them, where nothing is saved
-pub opened_kept : (s : Stored) (links : List Link) (bs : List Branch) (t c : Tuple) → frames_at s links 1 ≡ query_frame t ∷ [] → bs ≡ [] → t ≡ c
+pub opened_kept : (s : Stored) (links : List Link) (bs : List Note) (t c : Tuple) → frames_at s links 1 ≡ query_frame t ∷ [] → bs ≡ [] → t ≡ c
     → view_of s links 1 bs ≡ kept_of (query_frame c ∷ []) []
 opened_kept s links bs t c e be te = ap (view_of s links 1) be ∙ ap (λ F. kept_of F []) (e ∙ ap (λ (x : Tuple). query_frame x ∷ []) te)
 
@@ -244,5 +274,5 @@ module _ (old new : Stored) (laid : HasLaid old new) where
       ∙ ap (λ F. if k == length older + 1 then frame_in old l ∷ F else frames_at new older k) (laid_frames older l.around h.2)
       ∙ ap (λ F. if k == length older + 1 then frame_in old l ∷ frames_at old older l.around else F) (laid_frames older k h.2)
 
-pub opened_framed : (s : Stored) (l : Link) (links : List Link) (bs : List Branch) → links ≡ l ∷ [] → bs ≡ [] → l.around ≡ 0 → IsInside (length s.cells) l.instance → IsFramed s links 1 bs
+pub opened_framed : (s : Stored) (l : Link) (links : List Link) (bs : List Note) → links ≡ l ∷ [] → bs ≡ [] → l.around ≡ 0 → IsInside (length s.cells) l.instance → IsFramed s links 1 bs
 opened_framed s l links bs le be a i = rw (le, be) (record { placed = (i, omega arith, tt); within = omega arith; marked = tt })

@@ -9,18 +9,18 @@ use Rattle.apd_frames.specs.Linked.{frames_at, saved_of, IsFramed}
 
 -- the frames from the innermost link outwards, and those at each branch
 abbrev pub frames_of : Linked → Kept
-frames_of l = record { current = frames_at l.store l.links l.innermost; saved = saved_of l.store l.links l.branches }
+frames_of l = record { current = frames_at l.store l.links l.innermost; saved = saved_of l.store l.links l.notes }
 
--- the links and branches are right
+-- the links and notes are right
 abbrev pub AreFramed : Linked → Type 0
-AreFramed l = IsFramed l.store l.links l.innermost l.branches
+AreFramed l = IsFramed l.store l.links l.innermost l.notes
 
--- the store, the links and the branches are what they were
+-- the store, the links and the notes are what they were
 pub record IsSame (old new : Linked) : Type 0 where
   pub store : new.store ≡ old.store
   pub links : new.links ≡ old.links
   pub innermost : new.innermost ≡ old.innermost
-  pub branches : new.branches ≡ old.branches
+  pub notes : new.notes ≡ old.notes
 
 -- the store had nothing when its trail had no note
 abbrev pub BeginsEmpty : Linked → Type 0

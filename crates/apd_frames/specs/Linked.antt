@@ -7,7 +7,8 @@ use Rattle.apd_trace.specs.Frames.{next_goal}
 use Rattle.apd_trace.specs.declared.frame.Called.{Called}
 use Rattle.apd_trace.specs.declared.frame.Frame.{Frame}
 use Rattle.apd_frames.specs.Links.{Instance, Link, link_of}
-use Rattle.apd_frames.specs.declared.links.Branch.{Branch}
+use Rattle.apd_notes.specs.declared.notes.Note.{Note}
+use Rattle.apd_notes.specs.declared.notes.Note.TheVariants.{Saved, Handed}
 use Rattle.apd_frames.specs.declared.links.LinkRef.{LinkRef}
 use Rattle.apd_frames.specs.Instances.{tuple_in, IsInside}
 
@@ -41,34 +42,42 @@ entered_link g c i m k =
       around = k;
     }
 
--- the link with one more goal solved, at point m
-abbrev pub handed_link : Link → ℕ → Link
-handed_link l m =
+-- the link with so many goals solved, at point m
+abbrev pub with_done : ℕ → ℕ → Link → Link
+with_done d m l =
     record {
       box_no = l.box_no;
       depth = l.depth;
       clause = l.clause;
       instance = l.instance;
-      done = l.done + 1;
+      done = d;
       point = m;
       around = l.around;
     }
+
+-- the link with one more goal solved, at point m
+abbrev pub handed_link : ℕ → Link → Link
+handed_link m l = with_done (l.done + 1) m l
+
+-- the link with one goal less solved, at point m
+abbrev pub taken_link : ℕ → Link → Link
+taken_link m l = with_done (l.done - 1) m l
+
+-- the links, that with this number being changed
+abbrev pub changed : (Link → Link) → ℕ → List Link → List Link
+changed f k [] = []
+changed f k (l ∷ older) = if k == length older + 1 then f l ∷ older else l ∷ changed f k older
 
 -- the link with this number, if there is one, has fewer than 64 goals solved
 abbrev pub MayHand : List Link → ℕ → Type 0
 MayHand links k = (l : Link) → numbered links k ≡ Some l → l.done < 64
 
--- link k was put behind the others once more, with one more goal solved at point m, and has number n there
-pub record HasHanded (n : ℕ) (old new : List Link) (k m : ℕ) : Type 0 where
+-- link k, whose newest point was p, has one more goal solved, at point m
+pub record Hands (old new : List Link) (k m p : ℕ) : Type 0 where
   pub link : Link
   pub is : numbered old k ≡ Some link
-  pub more : new ≡ handed_link link m ∷ old
-  pub number : n ≡ length old + 1
-
--- it was, or there is no link with this number and nothing changed
-abbrev pub Hands : Option ℕ → List Link → List Link → ℕ → ℕ → Type 0
-Hands None old new k m = (numbered old k ≡ None) × (new ≡ old)
-Hands (Some n) old new k m = HasHanded n old new k m
+  pub before : p ≡ link.point
+  pub more : new ≡ changed (handed_link m) k old
 
 -- the frames from the link with this number outwards
 abbrev pub frames_at : Stored → List Link → ℕ → List Frame
@@ -98,25 +107,33 @@ abbrev pub oldest : ℕ → List Link → List Link
 oldest k links = drop (length links - k) links
 
 -- the frames at each branch, the newest first: those of its link, in the store and the links as they were there
-abbrev pub saved_of : Stored → List Link → List Branch → List (List Frame)
+abbrev pub saved_of : Stored → List Link → List Note → List (List Frame)
 saved_of s links [] = []
-saved_of s links (b ∷ bs) = frames_at (at_mark b.mark.0 s) (oldest b.links links) b.innermost ∷ saved_of (at_mark b.mark.0 s) (oldest b.links links) bs
+saved_of s links (Saved b ∷ ns) = frames_at (at_mark b.mark.0 s) (oldest b.links links) b.innermost ∷ saved_of (at_mark b.mark.0 s) (oldest b.links links) ns
+saved_of s links (Handed k m ∷ ns) = saved_of s (changed (taken_link m) k links) ns
 
--- the branches' marks and numbers of links are of earlier and earlier times, when all links were in their places
-abbrev pub AreMarked : Stored → List Link → List Branch → Type 0
+-- the branches' marks and numbers of links are of earlier and earlier times, when all links were in their places; exits were
+-- handed to links that were there
+abbrev pub AreMarked : Stored → List Link → List Note → Type 0
 AreMarked s links [] = Unit {0}
-AreMarked s links (b ∷ bs) =
+AreMarked s links (Saved b ∷ ns) =
     (b.mark.0 ≤ length s.trail) × (b.links ≤ length links) × (b.innermost ≤ b.links) × ArePlaced (length (at_mark b.mark.0 s).cells) (oldest b.links links)
-    × AreMarked (at_mark b.mark.0 s) (oldest b.links links) bs
+    × AreMarked (at_mark b.mark.0 s) (oldest b.links links) ns
+AreMarked s links (Handed k m ∷ ns) = (k ≤ length links) × AreMarked s (changed (taken_link m) k links) ns
 
--- the links and branches of frames are right
-pub record IsFramed (s : Stored) (links : List Link) (innermost : ℕ) (bs : List Branch) : Type 0 where
+-- the links as they were at the newest branch, with those that came later, and the notes from it on
+abbrev pub links_then : List Link → List Note → List Link
+links_then links [] = links
+links_then links (Saved b ∷ ns) = links
+links_then links (Handed k m ∷ ns) = links_then (changed (taken_link m) k links) ns
+
+abbrev pub notes_then : List Note → List Note
+notes_then [] = []
+notes_then (Saved b ∷ ns) = Saved b ∷ ns
+notes_then (Handed k m ∷ ns) = notes_then ns
+
+-- the links and notes of frames are right
+pub record IsFramed (s : Stored) (links : List Link) (innermost : ℕ) (ns : List Note) : Type 0 where
   pub placed : ArePlaced (length s.cells) links
   pub within : innermost ≤ length links
-  pub marked : AreMarked s links bs
-
--- a branch at a store, links and the innermost of them
-pub record IsBranchAt (s : Stored) (links : List Link) (k : ℕ) (b : Branch) : Type 0 where
-  pub mark : b.mark.0 ≡ length s.trail
-  pub links_then : b.links ≡ length links
-  pub innermost : b.innermost ≡ k
+  pub marked : AreMarked s links ns

@@ -1,7 +1,6 @@
 -- Links, and how they are kept: the cells of all links' goals stand in one list.
 use Rattle.std.specs.Prelude.{ℕ, zero, suc, ◌+◌, ◌≤◌, List, [], ◌∷◌, ◌≡◌, ◌==◌, length, map, take, drop, Option, Some, None, slice_get, if◌then◌else◌}
 use Rattle.apd_unify.specs.declared.store.Cell.{Cell}
-use Rattle.apd_frames.specs.declared.links.Branch.{Branch}
 use Rattle.apd_frames.specs.declared.links.LinkRow.{LinkRow}
 use Rattle.apd_frames.specs.declared.links.LinkRef.{LinkRef}
 
@@ -68,21 +67,16 @@ links_in cells rows = map (link_in cells) rows
 abbrev pub IsSpanned : ℕ → LinkRow → Type 0
 IsSpanned n r = r.from + r.goals ≤ n
 
--- how many of n cells were there before a row: where no goal is solved yet, those before its own
-abbrev pub before : ℕ → ℕ → ℕ → ℕ
-before zero from n = from
-before (suc done) from n = n
-
 -- the rows are given the newest first: the goals of each are among the n cells that are there with it, and those of older
--- ones among the cells that were there before
+-- ones among the cells that stand before its own
 abbrev pub AreSpanned : ℕ → List LinkRow → Type 0
 AreSpanned n [] = Unit {0}
-AreSpanned n (r ∷ older) = IsSpanned n r × AreSpanned (before r.done r.from n) older
+AreSpanned n (r ∷ older) = IsSpanned n r × AreSpanned r.from older
 
 -- how many of n cells are left where this row is the oldest of those that are given up, if any is
 abbrev pub cells_left : Option LinkRow → ℕ → ℕ
 cells_left None n = n
-cells_left (Some r) n = before r.done r.from n
+cells_left (Some r) n = r.from
 
 -- the row with a number, counted from 1 at the oldest, which stands first
 abbrev pub row_at : List LinkRow → ℕ → Option LinkRow
@@ -95,9 +89,9 @@ pub record IsRowOf (l : LinkRef) (n : ℕ) (r : LinkRow) : Type 0 where
   pub from : r.from ≡ n
   pub goals : r.goals ≡ length l.goals.now
 
--- the row with one more goal solved, at point m
-abbrev pub handed_row : LinkRow → ℕ → LinkRow
-handed_row r m =
+-- the row with so many goals solved, at point m
+abbrev pub put_row : LinkRow → ℕ → ℕ → LinkRow
+put_row r d m =
     record {
       box_no = r.box_no;
       depth = r.depth;
@@ -107,9 +101,5 @@ handed_row r m =
       around = r.around;
       clause = r.clause;
       goals = r.goals;
-      done = r.done + 1;
+      done = d;
     }
-
--- a branch by its mark and its number of links, the newest of which is the innermost
-abbrev pub branch_in : ℕ → ℕ → Branch
-branch_in mark links = record { mark = record { 0 = mark }; links = links; innermost = links }

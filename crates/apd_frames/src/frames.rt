@@ -168,7 +168,7 @@ impl Frames {
         self.linked.take_over(point)
     }
 
-    /// Saves the frames for a choice; want of memory also where the innermost link isn't the newest, where no search saves.
+    /// Saves the frames for a choice; want of memory also where no note can tell the innermost link, where no search saves.
     pub fn save(&mut self) -> Result<(), AllocError>
         ensures { OnOk result (self.new ≡ record {
           current = self.old.current;

@@ -133,7 +133,7 @@ fn load_goal(
     store.load_for(goal, &mut made.slots)
 }
 
-/// Loads the goals of a clause that may have pieces one by one, as [`load_goals`] does.
+/// Loads the goals of a clause one by one, since its pieces aren't copied where they stand in the store.
 fn load_in_turn(
     store: &mut Store,
     made: &mut Made,

@@ -4,6 +4,7 @@
 #![tactic(auto)]
 
 pub mod ahead;
+mod back;
 pub mod builtin;
 mod evaluating;
 mod floor;

@@ -1,4 +1,4 @@
-//! Frames as links over a store, and the branches that a search may come back to.
+//! Frames as links over a store, and notes of the way back.
 
 ghost use Rattle.std.specs.Prelude.{◌≡◌, ℕ, ◌∷◌, [], ◌<◌, length, drop, Some, OnOk, IfOk};
 ghost use Rattle.apd_term.specs.Tuple.{canonical_tuple};
@@ -11,21 +11,21 @@ ghost use Rattle.apd_trace.specs.declared.frame.Called.{Called};
 ghost use Rattle.apd_term.specs.Term.{predicate_of};
 ghost use Rattle.apd_cells.specs.Store.{IsSound};
 ghost use Rattle.apd_cells.specs.Undone.{IsFront};
-ghost use Rattle.apd_frames.specs.Linked.{IsBranchAt};
 ghost use Rattle.apd_frames.specs.Measures.{MeasuresInnermost};
 ghost use Rattle.apd_frames.specs.Framed.{frames_of, AreFramed, BeginsEmpty, GoesBack, IsSame, KeepsStore};
 ghost use Rattle.apd_frames.specs.Solves.{solution_as, Keeps};
 
 use crate::ahead::Ahead;
+use crate::back::take_back;
 use crate::builtin::Solved;
 use crate::instance::{Made, canonical_within, instantiate, is_within, lay_query};
-use crate::links::{Branch, KeptBranch, Links, entered};
+use crate::links::{Links, entered};
 use crate::measuring::{Measure, measured};
 use crate::reading::{ahead, goal_depth, left, look, next_goal};
 use crate::settling::{predicate_at, settle};
-use apd_base::stack::Stack;
 use apd_cells::front::Front;
 use apd_clauses::Program;
+use apd_notes::notes::{Branch, Note, Notes};
 use apd_ports::BUILTIN;
 use apd_term::tuple::canonical_tuple;
 use apd_term::{Pred, Sym, Tuple};
@@ -34,26 +34,15 @@ use apd_unify::scratch::Scratch;
 use apd_unify::store::Store;
 use std::alloc::{AllocError, Global};
 
-/// Links over a store, and the branches. Contracts see all parts; what frames they are is `frames_of` them.
+/// Links over a store, and what is noted of the way back. Contracts see all parts; what frames they are is `frames_of` them.
 #[derive(Drop)]
 pub struct Linked {
     pub store: Store,
     pub links: Links,
     pub innermost: usize,
-    pub branches: Stack<KeptBranch>,
+    pub notes: Notes,
     scratch: Scratch,
     made: Made,
-}
-
-/// The branch at a store and its links.
-fn here(store: &Store, links: &Links, innermost: usize) -> Branch
-    ensures { IsBranchAt store.now links.now innermost result }
-{
-    Branch {
-        mark: store.mark(),
-        links: links.len(),
-        innermost,
-    }
 }
 
 impl Linked {
@@ -77,7 +66,7 @@ impl Linked {
             store: Store::new(alloc),
             links: Links::new(alloc),
             innermost: 1,
-            branches: Stack::new(alloc),
+            notes: Notes::new(alloc),
             scratch: Scratch::new(alloc),
             made: Made {
                 goals: Vec::new(alloc),
@@ -325,6 +314,7 @@ impl Linked {
     }
 
     /// The innermost frame takes over an exit.
+    #[inline(always)]
     pub fn take_over(&mut self, point: u32) -> Result<(), AllocError>
         requires framed { AreFramed self.old }
         requires takes { Takes (frames_of self.old).current }
@@ -335,14 +325,20 @@ impl Linked {
         }) }
         ensures store { self.new.store ≡ self.old.store }
     {
-        let Some(number) = self.links.push_handed(self.innermost, point)? else {
+        let number = self.innermost;
+        let Some(before) = self.links.hand(number, point) else {
             return Ok(());
         };
-        self.innermost = number;
-        Ok(())
+        match self.notes.push(Note::Handed(number, before)) {
+            Ok(()) => Ok(()),
+            Err(AllocError) => {
+                self.links.take(number, before);
+                Err(AllocError)
+            }
+        }
     }
 
-    /// Saves the frames for a choice; want of memory also where the innermost link isn't the newest, where no search saves.
+    /// Saves the frames for a choice; want of memory also where no note can tell the innermost link, where no search saves.
     #[inline(always)]
     pub fn save(&mut self) -> Result<(), AllocError>
         requires { AreFramed self.old }
@@ -353,13 +349,18 @@ impl Linked {
         }) }
         ensures store { self.new.store ≡ self.old.store }
     {
-        let branch = here(&self.store, &self.links, self.innermost);
-        let kept = KeptBranch::of(branch)?;
-        self.branches.push(kept)?;
+        let mark = self.store.mark();
+        let links = self.links.len();
+        self.notes.push(Note::Saved(Branch {
+            mark,
+            links,
+            innermost: self.innermost,
+        }))?;
         Ok(())
     }
 
     /// Goes back to the frames as they were at the newest choice. They stay saved, and a front of the cells stays.
+    #[inline(always)]
     pub fn restore(&mut self, kept: Front)
         requires framed { AreFramed self.old }
         requires some { 0 < length (frames_of self.old).saved }
@@ -371,10 +372,9 @@ impl Linked {
         ensures store { GoesBack kept self.old self.new }
         ensures sound { IsSound self.old.store }
     {
-        match self.branches.top() {
+        match take_back(&mut self.links, &mut self.notes) {
             None => unreachable!(),
-            Some(newest) => {
-                let branch = newest.get();
+            Some(branch) => {
                 self.store.go_back(branch.mark, kept);
                 self.links.keep(branch.links);
                 self.innermost = branch.innermost;
@@ -393,6 +393,6 @@ impl Linked {
         } }
         ensures store { self.new.store ≡ self.old.store }
     {
-        let _ = self.branches.pop();
+        self.notes.forget();
     }
 }

@@ -1,15 +1,15 @@
 //! Links between clause instances.
 
-ghost use Rattle.std.specs.Prelude.{◌≡◌, ◌∷◌, [], ◌+◌, ◌<◌, ◌≤◌, length, slice_get, None, Some, IfOk, OnOk, OnErr, MatchOption};
-ghost use Rattle.apd_frames.specs.Links.{instance_of, link_of, link_in, row_at, handed_row, clause_in, cells_left, IsRowOf, IsSpanned};
-ghost use Rattle.apd_frames.specs.Linked.{entered_link, numbered, oldest, Hands, MayHand};
+ghost use Rattle.std.specs.Prelude.{◌≡◌, ◌∷◌, [], ◌++◌, ◌+◌, ◌<◌, ◌≤◌, length, slice_get, slice_set, None, Some, IfOk, OnOk, OnErr, MatchOption};
+ghost use Rattle.apd_frames.specs.Links.{instance_of, link_of, link_in, row_at, put_row, clause_in, cells_left, IsRowOf, IsSpanned};
+ghost use Rattle.apd_frames.specs.Linked.{changed, entered_link, numbered, oldest, taken_link, Hands, MayHand};
 ghost use Rattle.apd_frames.specs.Kept.{IsIn};
 ghost use Rattle.apd_trace.specs.declared.frame.Called.{Called};
 
-use apd_base::stack::room_for_one;
+use apd_base::room::{room_for, room_for_one};
 use apd_base::{MOST_CLAUSES, MOST_GOALS, MOST_KEPT};
 use apd_ports::BUILTIN;
-use apd_unify::store::{Cell, Mark};
+use apd_unify::store::Cell;
 use std::alloc::{AllocError, Global};
 use std::marker::Model;
 use std::mem::size_of;
@@ -28,8 +28,8 @@ pub struct LinkRef<'a> {
     pub around: usize,
 }
 
-/// A link as it is kept. Its goals' cells stand among those of all links: where no goal is solved yet they were put there
-/// with it, behind those of older links. A link that is handed an exit shares them with the link that it comes from.
+/// A link as it is kept. Its goals' cells stand among those of all links: they were put there with it, behind those of older
+/// links.
 #[derive(Clone, Copy)]
 pub struct LinkRow {
     pub box_no: u32,
@@ -47,32 +47,6 @@ pub struct LinkRow {
 }
 
 const _: () = prove!(size_of::<LinkRow>() == 28);
-
-/// Where a search may come back to: the store's mark, and how many links there were, and which was the innermost.
-#[derive(Clone, Copy)]
-pub struct Branch {
-    pub mark: Mark,
-    pub links: usize,
-    pub innermost: usize,
-}
-
-/// A branch as it is kept: the newest of its links is the innermost. Contracts see the branch.
-#[derive(Drop)]
-pub struct KeptBranch {
-    mark: u32,
-    links: u32,
-}
-
-const _: () = prove!(size_of::<KeptBranch>() == 8);
-
-impl Model for KeptBranch {
-    ghost use Rattle.apd_frames.specs.declared.links.Branch.{Branch};
-    ghost use Rattle.apd_frames.specs.Links.{branch_in};
-
-    ghost Value = { Branch };
-
-    ghost view = { λ b. branch_in b.mark b.links };
-}
 
 /// Links, numbered from 1. Contracts see their list, the newest first.
 #[derive(Drop)]
@@ -187,65 +161,41 @@ fn link_in<'a>(cells: &'a [Cell], row: LinkRow) -> LinkRef<'a>
     }
 }
 
-/// The row with one more goal solved, at a point.
-fn handed(row: LinkRow, point: u32) -> LinkRow
-    requires { row.done < 64 }
-    ensures { result ≡ handed_row row point }
+/// The row at a place has so many goals solved, at a point. Its other fields aren't written.
+#[inline(always)]
+fn put_row(rows: &mut Vec<LinkRow>, place: usize, done: u8, point: u32)
+    requires { place < length rows.old.items }
+    ensures { (r : LinkRow) → slice_get rows.old.items place ≡ Some r →
+        rows.new.items ≡ slice_set rows.old.items place (put_row r done point) }
 {
-    LinkRow {
-        point,
-        done: row.done + 1,
-        ..row
-    }
+    let row = &mut rows[place];
+    row.done = done;
+    row.point = point;
 }
 
-/// How many of so many cells of goals are left where the rows from this place on, counted from 0, are given up. Where the
-/// first of these rows shares its goals' cells all stay: the search has given up the rows behind it before.
+/// How many of so many cells of goals are left where the rows from this place on, counted from 0, are given up.
 #[inline(always)]
 fn cells_left(rows: &[LinkRow], place: usize, cells: usize) -> usize
     ensures { result ≡ cells_left (slice_get rows.now place) cells }
 {
     match rows.get(place) {
         None => cells,
-        Some(row) => {
-            if row.done == 0 {
-                return row.from as usize;
-            }
-            cells
-        }
+        Some(row) => row.from as usize,
     }
 }
 
-impl KeptBranch {
-    /// The branch as it is kept; want of memory where a number is too great, and where the innermost link isn't the newest: no
-    /// search saves frames there, since it has just put a link behind the others, or has gone back to where it had.
-    pub fn of(branch: Branch) -> Result<KeptBranch, AllocError>
-        ensures { IfOk result (λ b. b ≡ branch) }
-    {
-        if branch.mark.0 > MOST_KEPT
-            || branch.links > MOST_KEPT
-            || branch.innermost != branch.links
-        {
-            return Err(AllocError);
-        }
-        Ok(KeptBranch {
-            mark: branch.mark.0 as u32,
-            links: branch.links as u32,
-        })
+/// Puts the cells of goals behind the others. It is compiled into each push: the link of a built-in goal has none, and then
+/// nothing is called.
+#[inline(always)]
+fn put_goals(there: &mut Vec<Cell>, goals: &[Cell]) -> Result<(), AllocError>
+    ensures ok { OnOk result (there.new.items ≡ there.old.items ++ goals.now) }
+    ensures err { OnErr result (there.new.items ≡ there.old.items) }
+{
+    if goals.is_empty() {
+        return Ok(());
     }
-
-    /// The branch.
-    #[inline(always)]
-    pub fn get(&self) -> Branch
-        ensures { result ≡ self.now }
-    {
-        let links = self.links as usize;
-        Branch {
-            mark: Mark(self.mark as usize),
-            links,
-            innermost: links,
-        }
-    }
+    room_for(there, goals.len())?;
+    there.extend_from_slice(goals)
 }
 
 /// The link of a clause that is entered for the goal of this box, or of a built-in goal that succeeds.
@@ -310,26 +260,44 @@ impl Links {
         ensures err { OnErr result (self.new ≡ self.old) }
     {
         let row = row_of(link, self.cells.len())?;
-        self.cells.extend_from_slice(link.goals)?;
+        put_goals(&mut self.cells, link.goals)?;
         room_for_one(&mut self.oldest_first)?;
         self.oldest_first.push_reserved(row);
         Ok(self.oldest_first.len())
     }
 
-    /// Puts the link with this number behind the others once more, with one more goal solved, at a
-    /// point, and tells its new number; none where no link has this number.
+    /// The link with this number has one more goal solved from now on, and this newest point; tells its newest point before,
+    /// or none where no link has this number.
     #[inline(always)]
-    pub fn push_handed(&mut self, number: usize, point: u32) -> Result<Option<usize>, AllocError>
+    pub fn hand(&mut self, number: usize, point: u32) -> Option<u32>
         requires { MayHand self.old number }
-        ensures ok { IfOk result (λ o. Hands o self.old self.new number point) }
-        ensures err { OnErr result (self.new ≡ self.old) }
+        ensures { MatchOption result
+            ((numbered self.old number ≡ None) × (self.new ≡ self.old))
+            (Hands self.old self.new number point) }
     {
-        let Some(row) = row_at(self.oldest_first.as_slice(), number) else {
-            return Ok(None);
+        let rows = self.oldest_first.as_slice();
+        let Some(row) = row_at(rows, number) else {
+            return None;
         };
-        room_for_one(&mut self.oldest_first)?;
-        self.oldest_first.push_reserved(handed(row, point));
-        Ok(Some(self.oldest_first.len()))
+        put_row(&mut self.oldest_first, number - 1, row.done + 1, point);
+        Some(row.point)
+    }
+
+    /// The link with this number, if there is one, has one goal less solved from now on, and this newest point.
+    #[inline(always)]
+    pub fn take(&mut self, number: usize, point: u32)
+        ensures { self.new ≡ changed (taken_link point) number self.old }
+    {
+        let rows = self.oldest_first.as_slice();
+        let Some(row) = row_at(rows, number) else {
+            return;
+        };
+        put_row(
+            &mut self.oldest_first,
+            number - 1,
+            row.done.saturating_sub(1),
+            point,
+        );
     }
 
     /// Keeps the oldest links, so many of them.

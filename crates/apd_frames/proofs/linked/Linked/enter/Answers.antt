@@ -19,11 +19,11 @@ instantiate-requires-clause-goal c = c.in-Some.ensures.0 (length c.args.self.now
 
 pub returns-in_err-instantiate-clause-framed : goal.returns-in_err-instantiate-clause-framed
 returns-in_err-instantiate-clause-framed c =
-    framed_kept c.args.self.now.store c.instantiate.new.store c.args.self.now.links c.args.self.now.innermost c.args.self.now.branches c.instantiate.ensures.kept c.instantiate.ensures.cells c.requires.framed
+    framed_kept c.args.self.now.store c.instantiate.new.store c.args.self.now.links c.args.self.now.innermost c.args.self.now.notes c.instantiate.ensures.kept c.instantiate.ensures.cells c.requires.framed
 
 pub returns-then-not-branch-clause-enters : goal.returns-then-not-branch-clause-enters
 returns-then-not-branch-clause-enters c = λ g calls.
-    enters_back c.args.self.now.store c.args.self.now.links c.args.self.now.innermost c.args.self.now.branches (frames_of c.args.self.now) refl c.requires.framed g c.args.rule.now c.args.clause c.args.point
+    enters_back c.args.self.now.store c.args.self.now.links c.args.self.now.innermost c.args.self.now.notes (frames_of c.args.self.now) refl c.requires.framed g c.args.rule.now c.args.clause c.args.point
     c.in-Some.goal c.in_ok-instantiate.ensures.answer.variant c.undo.new.self c.in-Some.ensures c.instantiate.ensures.numbered c.in_ok-instantiate.ensures.answer.renamed
     (no_instance c.in_ok-instantiate.field-0 c.in-Some.goal c.instantiate.new.made.goals.items c.args.self.now.store c.instantiate.new.store c.in-Some.goal.0 c.in_ok-instantiate.ensures.answer.variant c.if-not-branch.true c.in_ok-instantiate.ensures.answer.is)
     (undone c.args.self.now.store c.instantiate.new.store c.undo.new.self c.mark-mark.result.0 c.instantiate.ensures.kept c.mark-mark.ensures c.undo.ensures)
@@ -34,8 +34,8 @@ goal_depth-depth-requires c = λ s.
 
 pub returns-in_err-self-clause-framed : goal.returns-in_err-self-clause-framed
 returns-in_err-self-clause-framed c =
-    subst (λ ls. IsFramed c.instantiate.new.store ls c.args.self.now.innermost c.args.self.now.branches) (sym c.in_err-self.ensures.err)
-    (framed_kept c.args.self.now.store c.instantiate.new.store c.args.self.now.links c.args.self.now.innermost c.args.self.now.branches c.instantiate.ensures.kept c.instantiate.ensures.cells c.requires.framed)
+    subst (λ ls. IsFramed c.instantiate.new.store ls c.args.self.now.innermost c.args.self.now.notes) (sym c.in_err-self.ensures.err)
+    (framed_kept c.args.self.now.store c.instantiate.new.store c.args.self.now.links c.args.self.now.innermost c.args.self.now.notes c.instantiate.ensures.kept c.instantiate.ensures.cells c.requires.framed)
 
 pub returns-clause-framed : goal.returns-clause-framed
 returns-clause-framed c =
@@ -44,7 +44,7 @@ returns-clause-framed c =
     instance_there c.in_ok-instantiate.field-0 c.in-Some.goal c.instantiate.new.made.goals.items c.as_slice-goals.result.now c.args.self.now.store c.instantiate.new.store c.in-Some.goal.0 c.in_ok-instantiate.ensures.answer.variant
     c.if-not-branch.false c.as_slice-goals.ensures.value c.in_ok-instantiate.ensures.answer.is in
     let g : Called = record { box_no = c.args.box_no; caller = 0; depth = c.goal_depth-depth.result; atom = variable 0 } in
-    (entered_framed c.args.self.now.store c.args.self.now.links c.args.self.now.innermost c.args.self.now.branches (frames_of c.args.self.now) refl c.requires.framed g c.args.rule.now c.args.clause c.args.point c.instantiate.new.store c.instantiate.ensures.kept c.instantiate.ensures.cells
+    (entered_framed c.args.self.now.store c.args.self.now.links c.args.self.now.innermost c.args.self.now.notes (frames_of c.args.self.now) refl c.requires.framed g c.args.rule.now c.args.clause c.args.point c.instantiate.new.store c.instantiate.ensures.kept c.instantiate.ensures.cells
     (link_of c.entered-link.result) i c.push.new.self c.in_ok-self.field-0 inst.inside (c.entered-link.ensures g (record { box = refl; deep = refl }))
     c.in_ok-self.ensures.ok c.in_ok-self.ensures.number)
 
@@ -54,7 +54,7 @@ returns-clause-enters c = λ g calls.
     let inst : IsInstantiated i c.args.self.now.store c.instantiate.new.store c.in-Some.goal.0 c.in_ok-instantiate.ensures.answer.variant =
     instance_there c.in_ok-instantiate.field-0 c.in-Some.goal c.instantiate.new.made.goals.items c.as_slice-goals.result.now c.args.self.now.store c.instantiate.new.store c.in-Some.goal.0 c.in_ok-instantiate.ensures.answer.variant
     c.if-not-branch.false c.as_slice-goals.ensures.value c.in_ok-instantiate.ensures.answer.is in
-    (enters_so c.args.self.now.store c.args.self.now.links c.args.self.now.innermost c.args.self.now.branches (frames_of c.args.self.now) refl c.requires.framed g c.args.rule.now c.args.clause c.args.point c.instantiate.new.store c.instantiate.ensures.kept c.instantiate.ensures.cells
+    (enters_so c.args.self.now.store c.args.self.now.links c.args.self.now.innermost c.args.self.now.notes (frames_of c.args.self.now) refl c.requires.framed g c.args.rule.now c.args.clause c.args.point c.instantiate.new.store c.instantiate.ensures.kept c.instantiate.ensures.cells
     c.in-Some.goal i c.in_ok-instantiate.ensures.answer.variant (link_of c.entered-link.result) c.push.new.self c.in_ok-self.field-0
     c.in-Some.ensures c.instantiate.ensures.numbered c.in_ok-instantiate.ensures.answer.renamed inst
     (c.entered-link.ensures g (c.goal_depth-depth.ensures c.args.self.now.store c.args.box_no g calls))

@@ -11,6 +11,6 @@ key-requires c = c.in-Some.ensures.0 (length c.args.self.now.store.cells) c.requ
 
 pub returns-in-Some : goal.returns-in-Some
 returns-in-Some c = λ g r n m clashing.
-    (enters_no c.args.self.now.store c.args.self.now.links c.args.self.now.innermost c.args.self.now.branches (frames_of c.args.self.now) refl c.requires g r n m
+    (enters_no c.args.self.now.store c.args.self.now.links c.args.self.now.innermost c.args.self.now.notes (frames_of c.args.self.now) refl c.requires g r n m
     c.in-Some.goal c.in-Some.ensures
     (apart_keys (term_at c.args.self.now.store c.in-Some.goal.0) r.head (subst (λ k. AreClashing k (key_of r.head)) c.key.ensures clashing))).0

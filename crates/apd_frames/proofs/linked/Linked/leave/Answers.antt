@@ -8,13 +8,13 @@ use Rattle.apd_frames.proofs.linked.Linked.leave.Goals as goal
 
 pub returns-in-Some-clause-framed : goal.returns-in-Some-clause-framed
 returns-in-Some-clause-framed c =
-    framed_at c.args.self.now.store c.args.self.now.links c.args.self.now.innermost c.in-Some.link.around c.args.self.now.branches c.requires
-    (innermost_some c.args.self.now.store c.args.self.now.links c.args.self.now.innermost c.args.self.now.branches (frames_of c.args.self.now) (link_of c.in-Some.link) refl c.requires c.in-Some.ensures).older
+    framed_at c.args.self.now.store c.args.self.now.links c.args.self.now.innermost c.in-Some.link.around c.args.self.now.notes c.requires
+    (innermost_some c.args.self.now.store c.args.self.now.links c.args.self.now.innermost c.args.self.now.notes (frames_of c.args.self.now) (link_of c.in-Some.link) refl c.requires c.in-Some.ensures).older
 
 pub returns-in-Some-clause-left : goal.returns-in-Some-clause-left
 returns-in-Some-clause-left c =
-    leaves c.args.self.now.store c.args.self.now.links c.args.self.now.innermost c.args.self.now.branches (frames_of c.args.self.now) (link_of c.in-Some.link) refl
-    (innermost_some c.args.self.now.store c.args.self.now.links c.args.self.now.innermost c.args.self.now.branches (frames_of c.args.self.now) (link_of c.in-Some.link) refl c.requires c.in-Some.ensures)
+    leaves c.args.self.now.store c.args.self.now.links c.args.self.now.innermost c.args.self.now.notes (frames_of c.args.self.now) (link_of c.in-Some.link) refl
+    (innermost_some c.args.self.now.store c.args.self.now.links c.args.self.now.innermost c.args.self.now.notes (frames_of c.args.self.now) (link_of c.in-Some.link) refl c.requires c.in-Some.ensures)
 
 pub returns-in-None-clause-left : goal.returns-in-None-clause-left
-returns-in-None-clause-left c = leaves_nothing (frames_of c.args.self.now) (innermost_none c.args.self.now.store c.args.self.now.links c.args.self.now.innermost c.args.self.now.branches (frames_of c.args.self.now) refl c.in-None.ensures)
+returns-in-None-clause-left c = leaves_nothing (frames_of c.args.self.now) (innermost_none c.args.self.now.store c.args.self.now.links c.args.self.now.innermost c.args.self.now.notes (frames_of c.args.self.now) refl c.in-None.ensures)

@@ -8,4 +8,4 @@ predicate_at-requires c = c.in_ok-goal.ensures.0 (length c.args.self.now.store.c
 
 pub returns : goal.returns
 returns c =
-    predicate_some c.args.self.now.store c.args.self.now.links c.args.self.now.innermost c.args.self.now.branches (frames_of c.args.self.now) refl c.in_ok-goal.goal c.predicate_at.result c.in_ok-goal.ensures c.predicate_at.ensures
+    predicate_some c.args.self.now.store c.args.self.now.links c.args.self.now.innermost c.args.self.now.notes (frames_of c.args.self.now) refl c.in_ok-goal.goal c.predicate_at.result c.in_ok-goal.ensures c.predicate_at.ensures

@@ -69,7 +69,6 @@ module _ (calls : List Call) (lists : List (List PointId)) (query : PackedBox) (
   pub boxes_own : AreBoxes calls lists query rows → r.facts.is_whole ≡ false → AreBoxes calls lists query (rows ++ r ∷ [])
   boxes_own was part =
       record {
-        few = omega (arith, was.few, length-append rows (r ∷ []));
         there = All-push (IsCallThere (length calls)) rows r was.there (λ t. absurd (cc));
         apart = subst (AreApart lists) (sym (own_push query rows r none)) (apart_pushed lists (map own (query ∷ rows)) was.apart);
       }
@@ -97,7 +96,6 @@ module _ (calls : List Call) (lists : List (List PointId)) (query : PackedBox) (
   boxes_whole was call at =
       let longer : length (calls ++ call ∷ []) ≡ length calls + 1 = length-append calls (call ∷ []) in
       record {
-        few = omega (arith, was.few, length-append rows (r ∷ []), longer);
         there = All-push (IsCallThere (length (calls ++ call ∷ []))) rows r
             (All-weaker (IsCallThere (length calls)) (IsCallThere (length (calls ++ call ∷ []))) (λ x h t. let m = h t in omega (arith, m, longer)) rows was.there)
             (λ t. omega (arith, at, longer));
@@ -118,7 +116,6 @@ module _ (calls : List Call) (lists : List (List PointId)) (query : PackedBox) (
   pub boxes_passed : place < length rows → AreBoxes calls lists query rows → AreBoxes calls lists query (set rows place s)
   boxes_passed l was =
       record {
-        few = omega (arith, was.few, length-set rows place s);
         there = put_all (IsCallThere (length calls)) rows place r s l at (λ h. subst (IsCallThere (length calls)) (sym is) h) was.there;
         apart = subst (AreApart lists) (sym own_passed) was.apart;
       }
@@ -133,7 +130,7 @@ module _ (calls : List Call) (lists lists' : List (List PointId)) (query : Packe
       → AreBoxes calls lists' s rows × (boxes_in calls lists' s rows ≡ adding (boxes_in calls lists query rows) 0 number is_first is_exit)
   added_query s row ls =
       let both = owned_edited lists (map own (query ∷ rows)) was.apart 0 (own query) refl number is_first is_exit lists' (map own (s ∷ rows)) ls (ap (λ (o : KeptOwned). o ∷ map own rows) row) in
-      (record { few = was.few; there = was.there; apart = both.0 }, ap (λ os. record { boxes = map (told_in calls) rows; owned = os }) both.1)
+      (record { there = was.there; apart = both.0 }, ap (λ os. record { boxes = map (told_in calls) rows; owned = os }) both.1)
 
   pub added_later : (k : ℕ) (r s : PackedBox) → k ≢ 0 → k < length (query ∷ rows) → r ≡ get_or rows (k - 1) r → own s ≡ owns_more (own r) → lists' ≡ lists_owning lists number is_exit (few_of r)
       → told_in calls s ≡ told_in calls r → s.from ≡ r.from → s.facts.is_whole ≡ r.facts.is_whole
@@ -147,7 +144,6 @@ module _ (calls : List Call) (lists lists' : List (List PointId)) (query : Packe
       ap (λ j. own query ∷ map own (set rows j s)) e ∙ ap (λ (os : List KeptOwned). own query ∷ os) (put_edited own owns_more rows i r s here row) in
       let both = owned_edited lists (map own (query ∷ rows)) was.apart (suc i) (own r) there number is_first is_exit lists' (map own (query ∷ set rows (suc i - 1) s)) ls owns in (
         record {
-          few = omega (arith, was.few, length-set rows (suc i - 1) s);
           there = put_all (IsCallThere (length calls)) rows (suc i - 1) r s (omega (arith, within)) at (λ h t. subst (λ n. n < length calls) (sym from) (h (sym whole ∙ t))) was.there;
           apart = both.0;
         },

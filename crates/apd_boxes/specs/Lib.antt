@@ -4,3 +4,4 @@ pub mod Facts
 pub mod Few
 pub mod Boxes
 pub mod Packed
+pub mod Several

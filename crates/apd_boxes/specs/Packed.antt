@@ -1,5 +1,5 @@
 -- Boxes in few bytes: a call that a row has no room for is kept whole elsewhere.
-use Rattle.std.specs.Prelude.{◌≡◌, ℕ, ◌<◌, ◌≤◌, true, false, if◌then◌else◌, List, ◌∷◌, length, map, get_or, All}
+use Rattle.std.specs.Prelude.{◌≡◌, ℕ, ◌<◌, true, false, if◌then◌else◌, List, ◌∷◌, length, map, get_or, All}
 use Rattle.std.proofs.Common.{zero, suc}
 use Rattle.apd_ports.specs.declared.point.PointId.{PointId}
 use Rattle.apd_boxes.specs.declared.boxes.Call.{Call}
@@ -53,6 +53,5 @@ boxes_in calls lists query rows = record { boxes = map (told_in calls) rows; own
 
 -- what stands elsewhere is there, and no two boxes share a list of exits
 pub record AreBoxes (calls : List Call) (lists : List (List PointId)) (query : PackedBox) (rows : List PackedBox) : Type 0 where
-  pub few : length calls ≤ length rows
   pub there : All (IsCallThere (length calls)) rows
   pub apart : AreApart lists (map own (query ∷ rows))

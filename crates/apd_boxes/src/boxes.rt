@@ -6,9 +6,10 @@ ghost use Rattle.apd_boxes.specs.Boxes.{adding, called_box, no_boxes, passing, w
 ghost use Rattle.apd_boxes.specs.Packed.{call_in, IsCallThere};
 
 use crate::facts::{MOST_SYMBOLS, PackedFacts};
+use crate::few::Several;
 use crate::packed::PackedBox;
-use apd_base::ListOf;
-use apd_base::stack::room_for_one;
+use apd_base::MOST_KEPT;
+use apd_base::room::room_for_one;
 use apd_past::maybe_number::MaybeNumber;
 use apd_ports::{PointId, Port};
 use std::alloc::{AllocError, Global};
@@ -59,7 +60,7 @@ fn row_of<'a>(query: &'a PackedBox, rows: &'a Vec<PackedBox>, b: u32) -> &'a Pac
     if b == 0 { query } else { &rows[b as usize - 1] }
 }
 
-/// Boxes, and what each box owns, the query's first. Contracts see the two lists.
+/// The boxes without the query's, and what each box owns, the query's first. Contracts see the two lists.
 #[derive(Drop)]
 pub struct Boxes {
     alloc: Global,
@@ -68,7 +69,7 @@ pub struct Boxes {
     /// The calls that rows have no room for.
     calls: Vec<Call>,
     /// The exits of the boxes that have several.
-    lists: Vec<ListOf<PointId>>,
+    lists: Vec<Several>,
 }
 
 impl Model for Boxes {
@@ -131,29 +132,30 @@ impl Boxes {
         }
     }
 
-    /// One more box, whose call its row has no room for.
+    /// One more box, whose call its row has no room for. Want of memory too where there would be 2 ^ 32 such calls.
     #[inline(never)]
     fn open_whole(&mut self, call: Call, is_user: bool) -> Result<(), AllocError>
-        requires { length self.old.boxes < 2 ^ 32 - 1 }
-        ensures ok { OnOk result
-            (self.new ≡ with_box self.old (called_box call.from call.number call.is_written is_user)) }
+        ensures ok { OnOk result (self.new ≡ with_box self.old
+            (called_box call.from call.number call.is_written is_user)) }
         ensures err { OnErr result (self.new ≡ self.old) }
     {
+        let place = self.calls.len();
+        if place >= MOST_KEPT {
+            return Err(AllocError);
+        }
         room_for_one(&mut self.rows)?;
         room_for_one(&mut self.calls)?;
-        let place = self.calls.len() as u32;
         self.calls.push_reserved(call);
         let facts = PackedFacts::called(0, is_user, true);
-        self.rows.push_reserved(PackedBox::new(place, facts));
+        self.rows.push_reserved(PackedBox::new(place as u32, facts));
         Ok(())
     }
 
     /// One more box, which owns nothing. After want of memory all is as before.
     #[inline(always)]
     pub fn open(&mut self, call: Call, is_user: bool) -> Result<(), AllocError>
-        requires { length self.old.boxes < 2 ^ 32 - 1 }
-        ensures ok { OnOk result
-            (self.new ≡ with_box self.old (called_box call.from call.number call.is_written is_user)) }
+        ensures ok { OnOk result (self.new ≡ with_box self.old
+            (called_box call.from call.number call.is_written is_user)) }
         ensures err { OnErr result (self.new ≡ self.old) }
     {
         if call.is_written || call.number > MOST_SYMBOLS {

@@ -7,8 +7,7 @@ ghost use Rattle.apd_boxes.specs.Few.{few_with, kept_owning, lists_owning, lists
 ghost use Rattle.apd_boxes.specs.Packed.{few_of, own, told_in};
 
 use crate::facts::PackedFacts;
-use crate::few::{Few, put_two};
-use apd_base::ListOf;
+use crate::few::{Few, Several, put_two};
 use apd_past::maybe_number::MaybeNumber;
 use apd_ports::PointId;
 use std::alloc::{AllocError, Global};
@@ -57,7 +56,7 @@ impl PackedBox {
     }
 
     /// Its exits in order.
-    pub fn points<'a>(&'a self, lists: &'a Vec<ListOf<PointId>>) -> &'a [PointId]
+    pub fn points<'a>(&'a self, lists: &'a Vec<Several>) -> &'a [PointId]
         requires { IsFewThere (length lists.now.items) (few_of self.now) }
         ensures { result.now ≡ points_in lists.now.items (few_of self.now) }
     {
@@ -80,7 +79,7 @@ impl PackedBox {
     fn add_exit(
         &mut self,
         alloc: Global,
-        lists: &mut Vec<ListOf<PointId>>,
+        lists: &mut Vec<Several>,
         point: PointId,
     ) -> Result<(), AllocError>
         requires there { IsFewThere (length lists.old.items) (few_of self.old) }
@@ -101,11 +100,11 @@ impl PackedBox {
                 self.facts.add_exit();
             }
             Few::One(first) => {
-                let number = put_two(alloc, lists, first, point)?;
+                let number = put_two(lists, first, point)?;
                 self.exits = PointId(number);
                 self.facts.add_exit();
             }
-            Few::Many(number) => lists[number as usize].push(point)?,
+            Few::Many(number) => lists[number as usize].push(alloc, point)?,
         }
         Ok(())
     }
@@ -116,7 +115,7 @@ impl PackedBox {
     pub fn add(
         &mut self,
         alloc: Global,
-        lists: &mut Vec<ListOf<PointId>>,
+        lists: &mut Vec<Several>,
         number: u32,
         is_first: bool,
         is_exit: bool,
@@ -125,8 +124,8 @@ impl PackedBox {
         requires there { IsFewThere (length lists.old.items) (few_of self.old) }
         ensures earlier { IfOk result
             (λ s. s ≡ earlier_of is_first (owned_in lists.old.items (own self.old))) }
-        ensures row { OnOk result
-            (own self.new ≡ kept_owning (length lists.old.items) number is_first is_exit (own self.old)) }
+        ensures row { OnOk result (own self.new ≡
+            kept_owning (length lists.old.items) number is_first is_exit (own self.old)) }
         ensures lists { OnOk result
             (lists.new.items ≡ lists_owning lists.old.items number is_exit (few_of self.old)) }
         ensures told { (calls : List Call) → told_in calls self.new ≡ told_in calls self.old }

@@ -7,7 +7,9 @@ use Rattle.std.specs.Option.{option_map}
 use Rattle.std.proofs.lemmas.Option.{get_or_from_slice_get, slice_get-map, slice_get_read}
 use Rattle.apd_points.specs.declared.packed.PackedPoint.{PackedPoint}
 use Rattle.apd_points.specs.declared.packed.WholePoint.{WholePoint}
-use Rattle.apd_points.specs.Packed.{before_in, earlier_in, earlier_of_row, is_other, links_of, own, point_in, points_of, step_in, told_as, unpacked, unpacked_from, whole_in, IsPacked, IsPlace, IsThere, Listed}
+use Rattle.apd_ports.specs.declared.point.Step.{Step}
+use Rattle.apd_points.specs.declared.kept.KeptPoint.{KeptPoint}
+use Rattle.apd_points.specs.Packed.{before_in, earlier_in, earlier_of_row, is_other, links_of, number_of, own, point_in, points_of, row_of, step_in, told_as, unpacked, unpacked_from, whole_in, Fits, IsPacked, IsPlace, IsThere, Listed}
 
 pub unpacked_length : (others : List WholePoint) (place : ℕ) (rs : List PackedPoint) → length (unpacked_from others place rs) ≡ length rs
 unpacked_length others place [] = refl
@@ -122,6 +124,25 @@ module _ (rows : List PackedPoint) (others : List WholePoint) (was : IsPacked ro
             (All-weaker (IsThere (length others)) (IsThere (length (others ++ w ∷ []))) (λ x h t. place_on (length others) (length (others ++ w ∷ [])) x.number (omega (arith, longer)) (h t)) rows was.there)
             (λ t. subst (IsPlace (length (others ++ w ∷ []))) (sym n) last);
       }
+
+-- a point without solved goals fits whatever such point is before it
+pub fits_first : (place : ℕ) (x : KeptPoint) (e : Option ℕ) → x.done ≡ 0 → Fits place x None → Fits place x e
+fits_first place x e z h =
+    let made : Option Step → KeptPoint = λ b. (told_as place (row_of x None) b None).point in
+    let was : made (before_in place (number_of x.before None) x.done) ≡ x = ap point_in h.told in
+    let before : x.before ≡ None = sym (ap (λ (y : KeptPoint). y.before) was) ∙ ap (before_in place (number_of x.before None)) z in
+    let none : before_in place (number_of x.before None) x.done ≡ None = ap (before_in place (number_of x.before None)) z in
+    let none_now : before_in place (number_of x.before e) x.done ≡ None = ap (before_in place (number_of x.before e)) z in
+    let first : earlier_in (number_of x.before e) x.done ≡ e = ap (earlier_in (number_of x.before e)) z ∙ ap (λ b. number_of b e) before in
+    let same : made None ≡ x = ap made (sym none) ∙ was in
+    record {
+      told = ap (λ b. told_as place (row_of x e) b (earlier_in (number_of x.before e) x.done)) none_now
+          ∙ ap (λ l. told_as place (row_of x e) None l) first
+          ∙ ap (λ (y : KeptPoint). record { point = y; earlier = e }) same;
+      part = h.part;
+      goals = h.goals;
+      number = h.number;
+    }
 
 -- As those see it that keep points.
 

@@ -109,9 +109,10 @@ pub record IsPacked (rows : List PackedPoint) (others : List WholePoint) : Type 
   pub few : length others ≤ length rows
   pub there : All (IsThere (length others)) rows
 
--- the points in order, and whether there is room for one more
+-- the points in order, and whether there is room for one more that its row tells, and for any one more
 pub record Listed : Type 0 where
   pub rows : List WholePoint
+  pub has_row : Bool
   pub has_room : Bool
 
 abbrev pub point_in : WholePoint → KeptPoint

@@ -1,13 +1,13 @@
 //! The points of a record.
 
-ghost use Rattle.std.specs.Prelude.{◌≡◌, ◌<◌, ◌-◌, ◌^◌, ◌++◌, ◌∷◌, [], length, slice_get, Some, OnOk};
-ghost use Rattle.std.specs.Bool.{IsTrue};
+ghost use Rattle.std.specs.Prelude.{◌≡◌, ◌<◌, ◌-◌, ◌^◌, ◌++◌, ◌∷◌, [], length, slice_get, None, Some, OnOk};
+ghost use Rattle.std.specs.Bool.{IsTrue, OnTrue};
 ghost use Rattle.apd_points.specs.declared.packed.WholePoint.{WholePoint};
-ghost use Rattle.apd_points.specs.Packed.{links_of, points_of, step_in, whole_in, IsPlace};
+ghost use Rattle.apd_points.specs.Packed.{links_of, points_of, step_in, whole_in, Fits, IsPlace};
 
 use crate::kept::KeptPoint;
 use crate::packed::{PackedPoint, WHOLE, WholePoint, fits};
-use apd_base::stack::room_for_one;
+use apd_base::room::room_for_one;
 use apd_past::maybe_number::MaybeNumber;
 use apd_ports::{PointId, Step};
 use std::alloc::{AllocError, Global};
@@ -55,6 +55,7 @@ impl Model for Points {
 
     ghost view = { λ p. record {
       rows = unpacked_from p.others.items 0 p.rows.items;
+      has_row = nat_lt (vec_len p.rows) (vec_capacity p.rows);
       has_room = nat_lt (vec_len p.rows) (vec_capacity p.rows) && nat_lt (vec_len p.others) (vec_capacity p.others);
     } };
 
@@ -79,7 +80,7 @@ impl Points {
         self.rows.len()
     }
 
-    /// The point at this place, with the one before it.
+    /// The point at this place, with the point before it among those of its box without solved goals, if it is one.
     #[inline(always)]
     pub fn read(&self, place: u32) -> WholePoint
         requires { place < length self.now.rows }
@@ -95,6 +96,35 @@ impl Points {
             return row.told_as(place, None, number);
         }
         row.told_as(place, step_in(place, number), None)
+    }
+
+    /// Whether its row tells the next point, where none of its box without solved goals is before it.
+    #[inline(always)]
+    pub fn fits(&self, point: &KeptPoint) -> bool
+        ensures { OnTrue result (Fits (length self.now.rows) point.now None) }
+    {
+        let earlier = MaybeNumber::none();
+        fits(point, self.len(), &earlier)
+    }
+
+    /// Room for a point that its row tells.
+    #[inline(always)]
+    pub fn room_for_row(&mut self) -> Result<(), AllocError>
+        ensures rows { self.new.rows ≡ self.old.rows }
+        ensures room { OnOk result (IsTrue self.new.has_row) }
+    {
+        room_for_one(&mut self.rows)
+    }
+
+    /// Puts a point at the end that its row tells.
+    #[inline(always)]
+    pub fn push_row(&mut self, point: KeptPoint, earlier: MaybeNumber)
+        requires room { IsTrue self.old.has_row }
+        requires fits { Fits (length self.old.rows) point earlier }
+        ensures { self.new.rows ≡ self.old.rows
+            ++ record { point = point; earlier = earlier } ∷ [] }
+    {
+        self.rows.push_reserved(PackedPoint::of(&point, earlier));
     }
 
     /// Room for a point.

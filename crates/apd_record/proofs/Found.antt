@@ -84,6 +84,10 @@ pub ordered-point : (d : Order) (boxes : List KeptBox) (points : List KeptPoint)
 ordered-point d boxes points x in_turn n h e was next =
     record { in_turn = OnTrue_from in_turn _ (λ t. in_turn-push points x (OnTrue_at (OnTrue_at t was) h.in_turn) (subst (λ k. IsNext k x.before) e (OnTrue_at t next))); rising = h.rising; above = h.above }
 
+pub ordered-next : (d : Order) (boxes : List KeptBox) (points : List KeptPoint) (x : KeptPoint) → IsOrdered d boxes points → IsNext (length points) x.before → IsOrdered d boxes (points ++ x ∷ [])
+ordered-next d boxes points x h next =
+    record { in_turn = OnTrue_from d.in_turn _ (λ t. in_turn-push points x (OnTrue_at t h.in_turn) next); rising = h.rising; above = h.above }
+
 pub ordered-passed : (d : Order) (boxes : List KeptBox) (points : List KeptPoint) (port : Port) (place : ℕ) → IsOrdered d boxes points → IsOrdered d (edited (kept_passed port) boxes place) points
 ordered-passed d boxes points port place h =
     record {

@@ -1,6 +1,7 @@
 -- Rows of a search that goes on: what stands beside them stays right, and what record they tell.
-use Rattle.std.proofs.Common.{◌≡◌, ℕ, zero, suc, ◌+◌, ◌-◌, ◌^◌, ◌<◌, ◌≤◌, ◌==◌, Bool, false, List, [], ◌∷◌, ◌++◌, length, map, get_or, not, Option, Some, refl, ap, sym, subst, ◌∙◌, arith, inl, inr}
+use Rattle.std.proofs.Common.{◌≡◌, ℕ, zero, suc, ◌+◌, ◌-◌, ◌^◌, ◌<◌, ◌≤◌, ◌==◌, Bool, true, false, List, [], ◌∷◌, ◌++◌, length, map, get_or, not, Option, None, Some, refl, ap, sym, subst, ◌∙◌, arith, inl, inr}
 use Rattle.std.specs.Prelude.{nat_lt, slice_get, All}
+use Rattle.std.proofs.lemmas.Bool.{eqb-true}
 use Rattle.std.proofs.lemmas.List.{get_or_append_left, length-map, map-append, length_push}
 use Rattle.std.proofs.lemmas.List.Elements.{All-nil, All-head, All-tail, All-weaker}
 use Rattle.std.proofs.lemmas.Option.{get_or_from_slice_get, slice_get_within}
@@ -11,18 +12,22 @@ use Rattle.apd_term.specs.declared.tuple.Tuple.{Tuple}
 use Rattle.apd_ports.specs.declared.event.Port.{Port}
 use Rattle.apd_ports.specs.declared.event.Port.TheVariants.{Call}
 use Rattle.apd_ports.specs.declared.point.Point.{Point}
+use Rattle.apd_ports.specs.declared.point.Step.{Step}
 use Rattle.apd_tuples.specs.Tuples.{IsNumbered}
 use Rattle.apd_boxes.specs.Owned.{Owned, nothing, earlier_of, edited, owning}
 use Rattle.apd_boxes.specs.declared.boxes.KeptBox.{KeptBox}
 use Rattle.apd_points.specs.declared.kept.KeptPoint.{KeptPoint}
 use Rattle.apd_points.specs.declared.kept.TuplePlace.{TuplePlace}
 use Rattle.apd_points.specs.declared.kept.TuplePlace.TheVariants.{Written as Spanned, Kept as Held}
+use Rattle.apd_points.specs.declared.packed.WholePoint.{WholePoint}
+use Rattle.apd_points.specs.Packed.{before_in, number_of, Fits}
+use Rattle.apd_points.proofs.Packing.{fits_first}
 use Rattle.apd_record.specs.declared.ongoing.OpenPoint.{OpenPoint}
 use Rattle.apd_record.specs.declared.order.Order.{Order}
 use Rattle.apd_record.specs.Index.{is_exit, IsBelow, IsIndex, IsWithin}
 use Rattle.apd_record.specs.Kept.{box_from, form_of, goal_of, no_tuple, point_from, tuple_there, IsAtomThere, IsHeld, IsSized, IsTupleThere}
 use Rattle.apd_record.specs.Open.{blank_point, blank_tuple, blanked, box_row, made_point, no_rows, noted_row, point_row, told_by, variables_for, with_box_row, with_point_row, AreIn, IsBeside, Rows}
-use Rattle.apd_record.specs.Ordered.{IsOrdered}
+use Rattle.apd_record.specs.Ordered.{IsNext, IsOrdered}
 use Rattle.apd_record.specs.Recorded.{Recorded, BoxRow, is_user_atom, noted, opened, point_at, with_point}
 use Rattle.apd_record.specs.Sound.{IsKept, MayOpen}
 use Rattle.apd_record.proofs.Found.{ordered-passed}
@@ -111,6 +116,27 @@ beside_noted r o l d port i bs h e =
 pub noted_as : (r : Rows) (n : ℕ) (port : Port) → 0 < n → record { boxes = edited (kept_passed port) r.boxes (n - 1); points = r.points } ≡ noted_row r n port
 noted_as r zero port l = absurd (omega arith)
 noted_as r (suc i) port l = let e : suc i - 1 ≡ i = omega arith in ap (λ k. record { boxes = edited (kept_passed port) r.boxes k; points = r.points }) e
+
+-- What the row of a point tells.
+
+abbrev exit_number : Option Step → ℕ
+exit_number None = 0
+exit_number (Some s) = s.exit.0
+
+next_by : (place d : ℕ) (n : Option ℕ) (b : Option Step) → before_in place n d ≡ b → IsBelow place b → IsNext place b
+next_by place d n None e l = tt
+next_by place zero n (Some s) e l = cc
+next_by place (suc d) None (Some s) e l = cc
+next_by place (suc d) (Some m) (Some s) e l = let exit : place - 1 ≡ s.exit.0 = ap exit_number e in omega (arith, exit, l)
+
+-- the point that it is of stands right behind the exit by which it came about
+pub fits-next : (place : ℕ) (x : KeptPoint) (e : Option ℕ) → Fits place x e → IsBelow place x.before → IsNext place x.before
+fits-next place x e h l = next_by place x.done (number_of x.before e) x.before (ap (λ (w : WholePoint). w.point.before) h.told) l
+
+-- it is the row behind what its box had
+pub fits_earlier : (place : ℕ) (x : KeptPoint) (b : Bool) (e : Option ℕ) (o : Owned) → (x.done == 0) ≡ b → e ≡ earlier_of b o → Fits place x None → Fits place x e
+fits_earlier place x true e o t q h = fits_first place x e (eqb-true x.done 0 t) h
+fits_earlier place x false e o t q h = subst (Fits place x) (sym q) h
 
 -- The record that is closed.
 

@@ -1,10 +1,11 @@
 //! The record of a search that goes on.
 
-ghost use Rattle.std.specs.Prelude.{◌≡◌, ◌<◌, ◌≤◌, ◌+◌, ◌-◌, ◌^◌, ◌∷◌, length, nat_lt, not, IfOk, OnOk, OnErr};
+ghost use Rattle.std.specs.Prelude.{◌≡◌, ◌<◌, ◌≤◌, ◌+◌, ◌-◌, ◌^◌, ◌∷◌, length, nat_lt, not, None, IfOk, OnOk, OnErr};
+ghost use Rattle.apd_points.specs.Packed.{Fits};
 ghost use Rattle.apd_record.specs.Index.{id_of, IsBelow};
-ghost use Rattle.apd_record.specs.Open.{no_rows, noted_row, with_box_row, with_point_row};
+ghost use Rattle.apd_record.specs.Open.{no_rows, noted_row, point_row, with_box_row, with_point_row};
 
-use crate::order::{NONE_YET, Order, stays_in_turn, with_call};
+use crate::order::{NONE_YET, Order, note_call, stays_in_turn};
 use apd_boxes::{Boxes, Call};
 use apd_points::{KeptPoint, Points, TuplePlace};
 use apd_ports::{PointId, Port, Step};
@@ -50,6 +51,20 @@ fn are_solved(done: u8, goals: u32) -> bool
     done as u32 >= goals
 }
 
+/// The point as it is kept.
+#[inline(always)]
+fn row_of(point: &OpenPoint) -> KeptPoint
+    ensures { result ≡ point_row point.now }
+{
+    KeptPoint {
+        owner: point.owner,
+        clause: point.clause,
+        done: point.done,
+        tuple: TuplePlace::Kept(point.tuple),
+        before: point.before,
+    }
+}
+
 impl Open {
     /// No box and no point.
     pub fn new(alloc: Global) -> Open
@@ -72,7 +87,6 @@ impl Open {
         ensures opened { OnOk result (self.new ≡ with_box_row self.old from.0 user size) }
         ensures err { OnErr result (self.new ≡ self.old) }
     {
-        let order = with_call(self.order, from.0);
         let place = self.boxes.len() as u32;
         let call = Call {
             from: from.0,
@@ -80,13 +94,34 @@ impl Open {
             is_written: false,
         };
         self.boxes.open(call, user)?;
-        self.order = order;
+        note_call(&mut self.order, from.0);
         Ok(place + 1)
     }
 
-    /// A new point, and its number.
+    /// A new point that its row tells, and its number.
     #[inline(always)]
-    pub fn add_point(&mut self, point: OpenPoint) -> Result<PointId, AllocError>
+    fn add_row(&mut self, point: OpenPoint) -> Result<PointId, AllocError>
+        requires owner { point.owner ≤ length self.old.boxes }
+        requires before { IsBelow (length self.old.points) point.before }
+        requires few { length self.old.points < 2 ^ 32 - 1 }
+        requires fits { Fits (length self.old.points) (point_row point) None }
+        ensures number { IfOk result (λ p. p ≡ id_of (length self.old.points)) }
+        ensures added { OnOk result (self.new ≡ with_point_row self.old point) }
+        ensures err { OnErr result (self.new ≡ self.old) }
+    {
+        let number = self.points.len() as u32;
+        self.points.room_for_row()?;
+        let is_exit = are_solved(point.done, point.tuple.goals);
+        let is_first = point.done == 0;
+        let earlier = self.boxes.add(point.owner, number, is_first, is_exit)?;
+        self.points.push_row(row_of(&point), earlier);
+        Ok(PointId(number))
+    }
+
+    /// A new point that its row doesn't tell, and its number. No search makes one: it is a function of its own, so that its
+    /// parts stand in no loop of a run.
+    #[inline(never)]
+    fn add_whole(&mut self, point: OpenPoint) -> Result<PointId, AllocError>
         requires owner { point.owner ≤ length self.old.boxes }
         requires before { IsBelow (length self.old.points) point.before }
         requires few { length self.old.points < 2 ^ 32 - 1 }
@@ -100,15 +135,32 @@ impl Open {
         let is_first = point.done == 0;
         let earlier = self.boxes.add(point.owner, number, is_first, is_exit)?;
         self.order.in_turn = stays_in_turn(self.order.in_turn, point.before, number);
-        let row = KeptPoint {
+        self.points.push_reserved(row_of(&point), earlier);
+        Ok(PointId(number))
+    }
+
+    /// A new point, and its number.
+    #[inline(always)]
+    pub fn add_point(&mut self, point: OpenPoint) -> Result<PointId, AllocError>
+        requires owner { point.owner ≤ length self.old.boxes }
+        requires before { IsBelow (length self.old.points) point.before }
+        requires few { length self.old.points < 2 ^ 32 - 1 }
+        ensures number { IfOk result (λ p. p ≡ id_of (length self.old.points)) }
+        ensures added { OnOk result (self.new ≡ with_point_row self.old point) }
+        ensures err { OnErr result (self.new ≡ self.old) }
+    {
+        let row = row_of(&point);
+        if self.points.fits(&row) {
+            return self.add_row(point);
+        }
+        // Put together here: else it would stand in memory where its row tells it, too.
+        self.add_whole(OpenPoint {
             owner: point.owner,
             clause: point.clause,
             done: point.done,
-            tuple: TuplePlace::Kept(point.tuple),
+            tuple: point.tuple,
             before: point.before,
-        };
-        self.points.push_reserved(row, earlier);
-        Ok(PointId(number))
+        })
     }
 
     /// The port was passed last by the box; `Fail` makes it complete.

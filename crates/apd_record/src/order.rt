@@ -46,7 +46,21 @@ pub fn stays_in_turn(in_turn: bool, before: Option<Step>, number: u32) -> bool
     in_turn && is_next(before, number)
 }
 
-/// The same where one more box is called from this point.
+/// Notes that one more box is called from this point. Each part is written by itself: what is read next was then stored as a
+/// whole.
+#[inline(always)]
+pub fn note_call(order: &mut Order, from: u32)
+    requires { from < 2 ^ 32 - 1 }
+    ensures in_turn { order.new.in_turn ≡ order.old.in_turn }
+    ensures was { OnTrue order.new.rising (IsTrue order.old.rising) }
+    ensures later { OnTrue order.new.rising (order.old.above ≤ from) }
+    ensures above { order.new.above ≡ from + 1 }
+{
+    order.rising = order.rising && order.above <= from;
+    order.above = from + 1;
+}
+
+/// What is noted of the order where one more box is called from this point.
 #[inline(always)]
 pub fn with_call(order: Order, from: u32) -> Order
     requires { from < 2 ^ 32 - 1 }
@@ -55,9 +69,7 @@ pub fn with_call(order: Order, from: u32) -> Order
     ensures later { OnTrue result.rising (order.above ≤ from) }
     ensures above { result.above ≡ from + 1 }
 {
-    Order {
-        in_turn: order.in_turn,
-        rising: order.rising && order.above <= from,
-        above: from + 1,
-    }
+    let mut noted = order;
+    note_call(&mut noted, from);
+    noted
 }

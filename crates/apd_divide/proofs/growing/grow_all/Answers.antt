@@ -50,22 +50,24 @@ grow-grew-requires-clause-labelled c = (grows_at c.args.recorded.now c.requires.
 
 pub calls-smaller : goal.calls-smaller
 calls-smaller c =
-    more_made c.args.recorded.now c.requires.kept (tree c.args.recorded.now c.args.exit.0 c.args.label.now) c.calls.made.items c.push-in-Some.new.self.items c.calls.pending.items c.pop.new.self.items c.in-Some.next c.in_ok-row.row
-    c.calls.invariant.grows c.in-Some.ensures.items c.in_ok-push-2.ensures.items
+    more_made c.args.recorded.now c.requires.kept (tree c.args.recorded.now c.args.exit.0 c.args.label.now) c.calls.made.items c.push_reserved.new.self.items c.calls.pending.items c.pop.new.self.items c.in-Some.next c.in_ok-row.row
+    c.calls.invariant.grows c.in-Some.ensures.items (c.push_reserved.ensures.items ∙ ap (λ rs. rs ++ c.in_ok-row.row ∷ []) c.room_for_one.ensures.items)
 
 pub calls-preserved : goal.calls-preserved
 calls-preserved c =
-    let n = ap length c.in_ok-push-2.ensures.items ∙ length_push c.calls.made.items c.in_ok-row.row in
-    let l = c.in_ok-push-2.ensures.len in
+    let put = c.push_reserved.ensures.items ∙ ap (λ rs. rs ++ c.in_ok-row.row ∷ []) c.room_for_one.ensures.items in
+    let n = ap length put ∙ length_push c.calls.made.items c.in_ok-row.row in
+    let l = c.push_reserved.ensures.len in
+    let m = c.room_for_one.ensures.len in
     let q = c.calls.invariant.len in
     let few = c.if-len-ge-MOST_KEPT.false in
     let len = c.len.ensures in
     record {
       grows =
-          grows_on c.args.recorded.now c.requires.kept (tree c.args.recorded.now c.args.exit.0 c.args.label.now) c.calls.made.items c.push-in-Some.new.self.items c.calls.pending.items c.pop.new.self.items c.grow-grew.new.pending.items c.in-Some.next c.in_ok-row.row
-          c.calls.invariant.grows c.in-Some.ensures.items c.in_ok-row.ensures.row c.in_ok-row.ensures.pending c.in_ok-push-2.ensures.items;
-      few = omega (arith, l, few, len);
-      len = omega (arith, l, n, q);
+          grows_on c.args.recorded.now c.requires.kept (tree c.args.recorded.now c.args.exit.0 c.args.label.now) c.calls.made.items c.push_reserved.new.self.items c.calls.pending.items c.pop.new.self.items c.grow-grew.new.pending.items c.in-Some.next c.in_ok-row.row
+          c.calls.invariant.grows c.in-Some.ensures.items c.in_ok-row.ensures.row c.in_ok-row.ensures.pending put;
+      few = omega (arith, l, m, few, len);
+      len = omega (arith, l, m, n, q);
     }
 
 pub returns : goal.returns

@@ -19,7 +19,7 @@ rows_now c =
     ∙ ap (λ (r : PackedBox). c.self.inside.rows.items ++ r ∷ []) (c.new.ensures ∙ ap (λ f. record { from = c.len-place.result; facts = f; exits = record { 0 = 0 }; first = None }) c.called-facts.ensures)
 
 place : (c : goal.After-push_reserved-2) → c.len-place.result ≡ length c.self.inside.calls.items
-place c = c.len-place.ensures ∙ c.room_for_one-2.ensures.len ∙ c.self.inside.calls.ok.0
+place c = c.len-place.ensures ∙ c.self.inside.calls.ok.0
 
 pub invariant_of-self-2 : goal.invariant_of-self-2
 invariant_of-self-2 c =

@@ -7,13 +7,10 @@ use Rattle.apd_record.proofs.Opening.{beside_box}
 use Rattle.apd_points.specs.Packed.{links_of, points_of}
 use Rattle.apd_record.proofs.ongoing.Open.open_box.Goals as goal
 
-pub with_call-order-requires : goal.with_call-order-requires
-with_call-order-requires c =
+pub note_call-requires : goal.note_call-requires
+note_call-requires c =
     let n = ap (λ (r : Rows). length r.points) c.self.view_is in
     omega (arith, c.requires.from, n, c.self.invariant.points)
-
-pub open-requires : goal.open-requires
-open-requires c = let m = ap (λ (r : Rows). length r.boxes) c.self.view_is in omega (arith, c.requires.few, m)
 
 pub invariant_of-self : goal.invariant_of-self
 invariant_of-self c =
@@ -23,9 +20,9 @@ pub invariant_of-self-2 : goal.invariant_of-self-2
 invariant_of-self-2 c =
     let n = ap (λ (r : Rows). length r.points) c.self.view_is in
     let m = ap (λ (r : Rows). length r.boxes) c.self.view_is in
-    let order : IsOrdered c.with_call-order.result (c.self.inside.boxes.boxes ++ box_row c.args.from.0 c.args.user c.args.size ∷ []) (points_of c.self.inside.points) =
-    ordered-box c.self.inside.order c.with_call-order.result c.self.inside.boxes.boxes (points_of c.self.inside.points) (box_row c.args.from.0 c.args.user c.args.size) c.self.invariant.ordered
-    c.with_call-order.ensures.in_turn c.with_call-order.ensures.was c.with_call-order.ensures.later c.with_call-order.ensures.above in
+    let order : IsOrdered c.note_call.new.order (c.self.inside.boxes.boxes ++ box_row c.args.from.0 c.args.user c.args.size ∷ []) (points_of c.self.inside.points) =
+    ordered-box c.self.inside.order c.note_call.new.order c.self.inside.boxes.boxes (points_of c.self.inside.points) (box_row c.args.from.0 c.args.user c.args.size) c.self.invariant.ordered
+    c.note_call.ensures.in_turn c.note_call.ensures.was c.note_call.ensures.later c.note_call.ensures.above in
     beside_box (record { boxes = c.self.inside.boxes.boxes; points = points_of c.self.inside.points }) c.self.inside.boxes.owned _ (links_of c.self.inside.points) c.self.inside.order _
     (box_row c.args.from.0 c.args.user c.args.size) _ c.self.invariant (omega (arith, c.requires.from, n)) (omega (arith, c.requires.few, m))
     (ap (λ (l : BoxList). l.boxes) c.in_ok-open.ensures.ok) (ap (λ (l : BoxList). l.owned) c.in_ok-open.ensures.ok) order

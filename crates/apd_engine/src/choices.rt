@@ -3,17 +3,20 @@
 ghost use Rattle.std.specs.Prelude.{◌≡◌, ◌∷◌, [], IfOk, OnOk, MatchOption};
 
 use crate::search::Choice;
+use apd_base::MOST_CLAUSES;
 use apd_base::stack::Stack;
-use std::alloc::{AllocError, Global};
+use std::alloc::AllocError;
 use std::marker::Model;
 use std::mem::size_of;
 
-/// What stands in place of the next clause's index where no clauses are left to be tried. No goal has so many clauses.
+/// What stands in place of the next clause's index where no clauses are left to be tried.
 const AGAIN: u32 = 4_294_967_295;
 
 const OVER: u32 = 4_294_967_294;
 
 const CLOSING: u32 = 4_294_967_293;
+
+const _: () = prove!(MOST_CLAUSES < CLOSING);
 
 /// A choice as it is kept. Contracts see the choice.
 #[derive(Drop)]

@@ -91,7 +91,7 @@ impl Search {
         }
     }
 
-    /// The same where somebody reads ports.
+    /// The Call of the innermost frame's next goal, where somebody reads ports.
     #[inline(always)]
     fn read_call(&mut self, alloc: Global, unread: Unread) -> Result<Option<Box<Item>>, AllocError>
         requires boxes { self.old.boxes < 2 ^ 32 - 1 }
@@ -153,6 +153,7 @@ impl Search {
 
     /// The innermost frame exits, or answers, which is given whole.
     #[inline(never)]
+    #[cold]
     fn ends(&mut self, alloc: Global) -> Result<Box<Item>, AllocError>
         requires boxes { self.old.boxes < 2 ^ 32 - 1 }
         requires waits { Waits (stand self.old) }

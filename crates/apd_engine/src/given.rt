@@ -64,7 +64,7 @@ pub fn whole(alloc: Global, item: Item) -> Result<Given, AllocError>
     Ok(Given::Whole(item))
 }
 
-/// The same in the room of an item that was given up, where there is one.
+/// The item, given whole in the room of one that was given up, where there is one.
 #[inline(always)]
 pub fn whole_again(frames: &mut Following, alloc: Global, item: Item) -> Result<Given, AllocError>
     ensures whole { IfOk result (λ given. IsWhole given item) }
@@ -86,6 +86,7 @@ pub fn give_up_call(frames: &mut Following, port: Option<Box<Item>>)
 
 /// The error of an instance that is too large.
 #[inline(never)]
+#[cold]
 pub fn too_large(alloc: Global, box_no: u32) -> Result<Box<Item>, AllocError>
     ensures { IfOk result (λ item. item.value ≡ Item.Error RunError.Size box_no) }
 {
@@ -136,7 +137,7 @@ pub fn made(
     if unread.points {
         return frames.measure();
     }
-    match frames.keep()? {
+    match frames.keep(before)? {
         None => Ok(false),
         Some(kept) => {
             *held = Some(OpenPoint {

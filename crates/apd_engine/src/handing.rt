@@ -15,9 +15,10 @@ use std::alloc::{AllocError, Global};
 use std::boxed::Box;
 
 impl Search {
-    /// An exit is handed where there is no frame. It is a function of its own, as no run comes here, and answers a box, so
-    /// that the loop of a run has no place for what it gives.
+    /// An exit is handed where there is no frame. It is a function of its own, as no run comes here, and answers a pointer,
+    /// so that the loop of a run has no place for what it gives.
     #[inline(never)]
+    #[cold]
     fn hand_none(
         &mut self,
         alloc: Global,

@@ -92,6 +92,7 @@ impl Progress {
     }
 
     /// Passes a port other than Call; or tells that the budget is spent, and passes nothing.
+    #[inline(always)]
     fn pass_later<H: Hook>(
         &mut self,
         limits: Limits,
@@ -119,6 +120,7 @@ impl Progress {
     }
 
     /// Passes an answer, and tells where it is the last that is asked for.
+    #[inline(always)]
     fn pass_answer<H: Hook>(
         &mut self,
         limits: Limits,

@@ -19,6 +19,7 @@ use apd_trace::Item;
 use std::boxed::Box;
 
 /// The Call is shown, where somebody reads ports.
+#[inline(always)]
 fn show_read<H: Hook>(hook: &mut H, port: &Option<Box<Item>>) -> Result<(), RunFault>
     ensures shown { (e : Event) → IsPortRead H.step hook.old e port.now →
         OnOk result (H.step hook.old (ShownPort e) (Ok tt) hook.new) }
@@ -38,7 +39,9 @@ fn show_read<H: Hook>(hook: &mut H, port: &Option<Box<Item>>) -> Result<(), RunF
     }
 }
 
-/// A goal is called, after a point that was held back. The newest point then has this number.
+/// A goal is called, after a point that was held back. The newest point then has this number. It is compiled into the loop of
+/// a run, so that what is told of the call goes through no memory.
+#[inline(always)]
 pub fn show_call<H: Hook>(
     hook: &mut H,
     rows: &mut Open,
@@ -63,7 +66,9 @@ pub fn show_call<H: Hook>(
     show_read(hook, &call.port)
 }
 
-/// A port other than Call is passed, after a point that was held back.
+/// A port other than Call is passed, after a point that was held back. It is a function of its own, as is the next one, so that
+/// the loop of a run has no place for what the hook gives: where nobody reads ports it seldom comes to either.
+#[inline(never)]
 pub fn show_later<H: Hook>(
     hook: &mut H,
     rows: &mut Open,
@@ -86,6 +91,7 @@ pub fn show_later<H: Hook>(
 }
 
 /// An answer is given, after a point that was held back.
+#[inline(never)]
 pub fn show_answer<H: Hook>(
     hook: &mut H,
     rows: &mut Open,

@@ -24,16 +24,17 @@ ghost use Rattle.apd_following.specs.Followed.{IsGoalSized, IsKept, KeepsInstanc
 mod room;
 
 use crate::facts::{fact_of_measure, size_of};
+use crate::placing::push_link;
 use crate::tie::Tie;
 use apd_clauses::Program;
 use apd_frames::ahead::Ahead;
 use apd_frames::builtin::Solved;
 use apd_frames::linked::Linked;
-use apd_frames::links::LinkRef;
+use apd_frames::links::{LinkRef, Links};
 use apd_frames::measuring::{Measure, measured};
 use apd_frames::reading::next_goal;
 use apd_term::{Pred, Sym, Tuple};
-use apd_trace::{Called, Item, Look};
+use apd_trace::{Called, Item, Look, Step};
 use apd_tuples::spots::{Fact, Numbered, Spots};
 use apd_tuples::tuples::KeptTuples;
 use apd_unify::store::Store;
@@ -82,8 +83,10 @@ fn keep_at(
     tie: &mut Tie,
     spots: &mut Spots,
     store: &Store,
+    links: &Links,
     link: &LinkRef<'_>,
     fact: Fact,
+    step: Option<Step>,
 ) -> Result<KeptFrame, AllocError>
     requires tied { IsTied tie.old store.now }
     requires there { AreThere (past_of tie.old store.now) spots.old }
@@ -100,7 +103,7 @@ fn keep_at(
 {
     tie.catch_up(store)?;
     let moment = tie.journal.moment();
-    let tuple = spots.push(link.head, link.goals, moment, fact)?;
+    let tuple = push_link(spots, links, link, moment, fact, step)?;
     Ok(KeptFrame {
         owner: link.box_no,
         clause: link.clause,
@@ -260,7 +263,7 @@ impl Following {
         self.linked.take_over(point)
     }
 
-    /// Saves the frames for a choice; want of memory also where the innermost link isn't the newest, where no search saves.
+    /// Saves the frames for a choice; want of memory also where no note can tell the innermost link, where no search saves.
     #[inline(always)]
     pub fn save(&mut self) -> Result<(), AllocError>
         ensures saved { OnOk result (self.new ≡ record {
@@ -300,9 +303,9 @@ impl Following {
     }
 
     /// Keeps the innermost frame's instance, and tells of the frame; none exactly where it is too
-    /// large. Its link is looked up once: a run comes here at each point.
+    /// large. Its link is looked up once: a run comes here at each point, which came about by a step or by none.
     #[inline(always)]
-    pub fn keep(&mut self) -> Result<Option<KeptFrame>, AllocError>
+    pub fn keep(&mut self, step: Option<Step>) -> Result<Option<KeptFrame>, AllocError>
         requires { 0 < length self.old.current }
         ensures frames { kept_of self.new ≡ kept_of self.old }
         ensures kept { IfOk result
@@ -318,13 +321,14 @@ impl Following {
                 }
                 let fact = fact_of_measure(seen);
                 let (tie, spots) = (&mut self.tie, &mut self.spots);
-                let kept = keep_at(tie, spots, &self.linked.store, &link, fact)?;
+                let (store, links) = (&self.linked.store, &self.linked.links);
+                let kept = keep_at(tie, spots, store, links, &link, fact, step)?;
                 Ok(Some(kept))
             }
         }
     }
 
-    /// The same however large it is. Nothing is told of it.
+    /// Keeps the innermost frame's instance, however large it is, and tells of the frame.
     pub fn keep_any(&mut self) -> Result<KeptFrame, AllocError>
         requires { 0 < length self.old.current }
         ensures frames { kept_of self.new ≡ kept_of self.old }
@@ -336,7 +340,8 @@ impl Following {
             None => unreachable!(),
             Some(link) => {
                 let (tie, spots) = (&mut self.tie, &mut self.spots);
-                let kept = keep_at(tie, spots, &self.linked.store, &link, Fact::Nothing)?;
+                let (store, links) = (&self.linked.store, &self.linked.links);
+                let kept = keep_at(tie, spots, store, links, &link, Fact::Nothing, None)?;
                 Ok(kept)
             }
         }

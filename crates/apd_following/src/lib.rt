@@ -4,4 +4,5 @@
 
 mod facts;
 pub mod following;
+mod placing;
 pub mod tie;

@@ -32,9 +32,9 @@ returns-in_err-tuple-clause-err c =
 
 pub returns-clause-there : goal.returns-clause-there
 returns-clause-there c =
-    subst (λ (h : History). AreThere h c.push.new.self) (sym c.in_ok-catch_up.ensures.all)
+    subst (λ (h : History). AreThere h c.push_link.new.spots) (sym c.in_ok-catch_up.ensures.all)
     (one_there c.catch_up.new.self.journal c.args.store.now c.in_ok-catch_up.ensures.follows c.in_ok-catch_up.ensures.sound c.args.link.now.head c.args.link.now.goals.now c.requires.link.head c.requires.link.goals
-    c.moment-moment.result.0 c.moment-moment.ensures c.args.fact c.requires.fact (past_of c.args.tie.now c.args.store.now) c.args.spots.now c.push.new.self
+    c.moment-moment.result.0 c.moment-moment.ensures c.args.fact c.requires.fact (past_of c.args.tie.now c.args.store.now) c.args.spots.now c.push_link.new.spots
     (subst (KeepsMoments (past_of c.args.tie.now c.args.store.now)) c.in_ok-catch_up.ensures.all c.catch_up.ensures.kept) c.requires.there c.in_ok-tuple.ensures.ok)
 
 pub returns-clause-kept : goal.returns-clause-kept
@@ -42,9 +42,9 @@ returns-clause-kept c = λ F. record {
   frame = frame_in c.args.store.now (link_of c.args.link.now);
   around = F;
   is = refl;
-  more = ap (λ (h : History). kept_tuples h c.push.new.self) c.in_ok-catch_up.ensures.all
+  more = ap (λ (h : History). kept_tuples h c.push_link.new.spots) c.in_ok-catch_up.ensures.all
       ∙ one_kept c.catch_up.new.self.journal c.args.store.now c.in_ok-catch_up.ensures.follows c.in_ok-catch_up.ensures.sound c.args.link.now.head c.args.link.now.goals.now c.requires.link.head c.requires.link.goals
-      c.moment-moment.result.0 c.moment-moment.ensures c.args.fact c.requires.fact (past_of c.args.tie.now c.args.store.now) c.args.spots.now c.push.new.self
+      c.moment-moment.result.0 c.moment-moment.ensures c.args.fact c.requires.fact (past_of c.args.tie.now c.args.store.now) c.args.spots.now c.push_link.new.spots
       (subst (KeepsMoments (past_of c.args.tie.now c.args.store.now)) c.in_ok-catch_up.ensures.all c.catch_up.ensures.kept) c.requires.there c.in_ok-tuple.ensures.ok;
   number = c.in_ok-tuple.ensures.number ∙ sym (length-map c.args.spots.now (kept_tuple (past_of c.args.tie.now c.args.store.now)));
   goals = c.in_ok-tuple.ensures.count ∙ sym (length-map c.args.link.now.goals.now (λ (a : Cell). term_at c.args.store.now a.0));

@@ -18,13 +18,13 @@ use Rattle.apd_following.proofs.following.Following.keep.Goals as goal
 
 pub unreachable-requires : goal.unreachable-requires
 unreachable-requires c =
-    let e = ap length (innermost_none c.self.inside.linked.store c.self.inside.linked.links c.self.inside.linked.innermost c.self.inside.linked.branches (frames_of c.self.inside.linked) refl c.in-None.ensures) in
+    let e = ap length (innermost_none c.self.inside.linked.store c.self.inside.linked.links c.self.inside.linked.innermost c.self.inside.linked.notes (frames_of c.self.inside.linked) refl c.in-None.ensures) in
     let n = ap (λ (f : Followed). length f.current) c.self.view_is in
     omega (arith, c.requires, e, n)
 
 pub measured-requires : goal.measured-requires
 measured-requires c =
-    (innermost_some c.self.inside.linked.store c.self.inside.linked.links c.self.inside.linked.innermost c.self.inside.linked.branches (frames_of c.self.inside.linked) (link_of c.in-Some.link) refl c.self.invariant.0 c.in-Some.ensures).inside
+    (innermost_some c.self.inside.linked.store c.self.inside.linked.links c.self.inside.linked.innermost c.self.inside.linked.notes (frames_of c.self.inside.linked) (link_of c.in-Some.link) refl c.self.invariant.0 c.in-Some.ensures).inside
 
 pub keep_at-requires-clause-tied : goal.keep_at-requires-clause-tied
 keep_at-requires-clause-tied c =
@@ -36,7 +36,7 @@ keep_at-requires-clause-there c =
 
 pub keep_at-requires-clause-link : goal.keep_at-requires-clause-link
 keep_at-requires-clause-link c =
-    rw c.measured.ensures.same (innermost_some c.self.inside.linked.store c.self.inside.linked.links c.self.inside.linked.innermost c.self.inside.linked.branches (frames_of c.self.inside.linked) (link_of c.in-Some.link) refl c.self.invariant.0 c.in-Some.ensures).inside
+    rw c.measured.ensures.same (innermost_some c.self.inside.linked.store c.self.inside.linked.links c.self.inside.linked.innermost c.self.inside.linked.notes (frames_of c.self.inside.linked) (link_of c.in-Some.link) refl c.self.invariant.0 c.in-Some.ensures).inside
 
 pub keep_at-requires-clause-fact : goal.keep_at-requires-clause-fact
 keep_at-requires-clause-fact c =
@@ -44,18 +44,18 @@ keep_at-requires-clause-fact c =
 
 pub invariant_of-self-in-Some : goal.invariant_of-self-in-Some
 invariant_of-self-in-Some c =
-    (same_framed c.self.inside.linked (record c.self.inside.linked { store = c.measured.new.store }) (record { store = c.measured.ensures.same; links = refl; innermost = refl; branches = refl }) c.self.invariant.0, c.keep_at.ensures.tied, c.keep_at.ensures.there)
+    (same_framed c.self.inside.linked (record c.self.inside.linked { store = c.measured.new.store }) (record { store = c.measured.ensures.same; links = refl; innermost = refl; notes = refl }) c.self.invariant.0, c.keep_at.ensures.tied, c.keep_at.ensures.there)
 
 pub invariant_of-self-then-not-fits : goal.invariant_of-self-then-not-fits
 invariant_of-self-then-not-fits c = (
-  same_framed c.self.inside.linked (record c.self.inside.linked { store = c.measured.new.store }) (record { store = c.measured.ensures.same; links = refl; innermost = refl; branches = refl }) c.self.invariant.0,
+  same_framed c.self.inside.linked (record c.self.inside.linked { store = c.measured.new.store }) (record { store = c.measured.ensures.same; links = refl; innermost = refl; notes = refl }) c.self.invariant.0,
   tied_same c.self.inside.tie c.self.inside.linked.store c.measured.new.store c.self.invariant.1 c.measured.ensures.same,
   there_same c.self.inside.tie c.self.inside.linked.store c.measured.new.store c.self.inside.spots c.self.invariant.2 c.measured.ensures.same,
 )
 
 pub invariant_of-self : goal.invariant_of-self
 invariant_of-self c = (
-  same_framed c.self.inside.linked (record c.self.inside.linked { store = c.measured.new.store }) (record { store = c.measured.ensures.same; links = refl; innermost = refl; branches = refl }) c.self.invariant.0,
+  same_framed c.self.inside.linked (record c.self.inside.linked { store = c.measured.new.store }) (record { store = c.measured.ensures.same; links = refl; innermost = refl; notes = refl }) c.self.invariant.0,
   tied_same c.self.inside.tie c.self.inside.linked.store c.measured.new.store c.self.invariant.1 c.measured.ensures.same,
   there_same c.self.inside.tie c.self.inside.linked.store c.measured.new.store c.self.inside.spots c.self.invariant.2 c.measured.ensures.same,
 )
@@ -74,7 +74,7 @@ returns-then-not-fits-clause-frames c =
 
 pub returns-then-not-fits-clause-kept : goal.returns-then-not-fits-clause-kept
 returns-then-not-fits-clause-kept c = (
-  not-false (is_large_of c.args.self.now.current) (sym (c.fits.ensures c.args.self.now.current (subst (λ (f : Followed). MeasuresInnermost c.in_ok-seen-in-Some.seen f.current) c.self.view_is (subst (MeasuresInnermost c.in_ok-seen-in-Some.seen) (sym (innermost_some c.self.inside.linked.store c.self.inside.linked.links c.self.inside.linked.innermost c.self.inside.linked.branches (frames_of c.self.inside.linked) (link_of c.in-Some.link) refl c.self.invariant.0 c.in-Some.ensures).is) c.in_ok-seen-in-Some.ensures.measured))) ∙ c.if-not-fits.true),
+  not-false (is_large_of c.args.self.now.current) (sym (c.fits.ensures c.args.self.now.current (subst (λ (f : Followed). MeasuresInnermost c.in_ok-seen-in-Some.seen f.current) c.self.view_is (subst (MeasuresInnermost c.in_ok-seen-in-Some.seen) (sym (innermost_some c.self.inside.linked.store c.self.inside.linked.links c.self.inside.linked.innermost c.self.inside.linked.notes (frames_of c.self.inside.linked) (link_of c.in-Some.link) refl c.self.invariant.0 c.in-Some.ensures).is) c.in_ok-seen-in-Some.ensures.measured))) ∙ c.if-not-fits.true),
   kept_same c.self.inside.tie c.self.inside.linked.store c.measured.new.store c.self.inside.spots c.measured.ensures.same ∙ ap (λ (f : Followed). f.tuples) c.self.view_is,
 )
 
@@ -93,8 +93,8 @@ returns-clause-frames c =
 pub returns-clause-kept : goal.returns-clause-kept
 returns-clause-kept c =
     let i : IsInnermost c.self.inside.linked.store c.self.inside.linked.links (link_of c.in-Some.link) (frames_of c.self.inside.linked) =
-    innermost_some c.self.inside.linked.store c.self.inside.linked.links c.self.inside.linked.innermost c.self.inside.linked.branches (frames_of c.self.inside.linked) (link_of c.in-Some.link) refl c.self.invariant.0 c.in-Some.ensures in (
-      not-true (is_large_of c.args.self.now.current) (sym (c.fits.ensures c.args.self.now.current (subst (λ (f : Followed). MeasuresInnermost c.in_ok-seen-in-Some.seen f.current) c.self.view_is (subst (MeasuresInnermost c.in_ok-seen-in-Some.seen) (sym (innermost_some c.self.inside.linked.store c.self.inside.linked.links c.self.inside.linked.innermost c.self.inside.linked.branches (frames_of c.self.inside.linked) (link_of c.in-Some.link) refl c.self.invariant.0 c.in-Some.ensures).is) c.in_ok-seen-in-Some.ensures.measured))) ∙ c.if-not-fits.false),
+    innermost_some c.self.inside.linked.store c.self.inside.linked.links c.self.inside.linked.innermost c.self.inside.linked.notes (frames_of c.self.inside.linked) (link_of c.in-Some.link) refl c.self.invariant.0 c.in-Some.ensures in (
+      not-true (is_large_of c.args.self.now.current) (sym (c.fits.ensures c.args.self.now.current (subst (λ (f : Followed). MeasuresInnermost c.in_ok-seen-in-Some.seen f.current) c.self.view_is (subst (MeasuresInnermost c.in_ok-seen-in-Some.seen) (sym (innermost_some c.self.inside.linked.store c.self.inside.linked.links c.self.inside.linked.innermost c.self.inside.linked.notes (frames_of c.self.inside.linked) (link_of c.in-Some.link) refl c.self.invariant.0 c.in-Some.ensures).is) c.in_ok-seen-in-Some.ensures.measured))) ∙ c.if-not-fits.false),
       subst (λ (f : Followed). IsKept c.in_ok-kept-in-Some.kept f.current f.tuples (kept_tuples (past_of c.keep_at.new.tie c.measured.new.store) c.keep_at.new.spots)) c.self.view_is
           (subst (λ (F : List Frame). IsKept c.in_ok-kept-in-Some.kept F (kept_tuples (past_of c.self.inside.tie c.self.inside.linked.store) c.self.inside.spots) (kept_tuples (past_of c.keep_at.new.tie c.measured.new.store) c.keep_at.new.spots)) (sym i.is)
           (subst (λ (s : Stored). IsKept c.in_ok-kept-in-Some.kept (frame_in s (link_of c.in-Some.link) ∷ frames_at c.self.inside.linked.store c.self.inside.linked.links c.in-Some.link.around) (kept_tuples (past_of c.self.inside.tie s) c.self.inside.spots) (kept_tuples (past_of c.keep_at.new.tie c.measured.new.store) c.keep_at.new.spots)) c.measured.ensures.same

@@ -12,7 +12,7 @@ use Rattle.apd_following.proofs.following.Following.keep_any.Goals as goal
 
 pub unreachable-requires : goal.unreachable-requires
 unreachable-requires c =
-    let e = ap length (innermost_none c.self.inside.linked.store c.self.inside.linked.links c.self.inside.linked.innermost c.self.inside.linked.branches (frames_of c.self.inside.linked) refl c.in-None.ensures) in
+    let e = ap length (innermost_none c.self.inside.linked.store c.self.inside.linked.links c.self.inside.linked.innermost c.self.inside.linked.notes (frames_of c.self.inside.linked) refl c.in-None.ensures) in
     let n = ap (λ (f : Followed). length f.current) c.self.view_is in
     omega (arith, c.requires, e, n)
 
@@ -26,7 +26,7 @@ keep_at-requires-clause-there c =
 
 pub keep_at-requires-clause-link : goal.keep_at-requires-clause-link
 keep_at-requires-clause-link c =
-    (innermost_some c.self.inside.linked.store c.self.inside.linked.links c.self.inside.linked.innermost c.self.inside.linked.branches (frames_of c.self.inside.linked) (link_of c.in-Some.link) refl c.self.invariant.0 c.in-Some.ensures).inside
+    (innermost_some c.self.inside.linked.store c.self.inside.linked.links c.self.inside.linked.innermost c.self.inside.linked.notes (frames_of c.self.inside.linked) (link_of c.in-Some.link) refl c.self.invariant.0 c.in-Some.ensures).inside
 
 pub invariant_of-self-in-Some : goal.invariant_of-self-in-Some
 invariant_of-self-in-Some c =
@@ -52,7 +52,7 @@ returns-clause-frames c =
 pub returns-clause-kept : goal.returns-clause-kept
 returns-clause-kept c =
     let i : IsInnermost c.self.inside.linked.store c.self.inside.linked.links (link_of c.in-Some.link) (frames_of c.self.inside.linked) =
-    innermost_some c.self.inside.linked.store c.self.inside.linked.links c.self.inside.linked.innermost c.self.inside.linked.branches (frames_of c.self.inside.linked) (link_of c.in-Some.link) refl c.self.invariant.0 c.in-Some.ensures in
+    innermost_some c.self.inside.linked.store c.self.inside.linked.links c.self.inside.linked.innermost c.self.inside.linked.notes (frames_of c.self.inside.linked) (link_of c.in-Some.link) refl c.self.invariant.0 c.in-Some.ensures in
     subst (λ (f : Followed). IsKept c.in_ok-kept-in-Some.kept f.current f.tuples (kept_tuples (past_of c.keep_at.new.tie c.self.inside.linked.store) c.keep_at.new.spots)) c.self.view_is
     (subst (λ (F : List Frame). IsKept c.in_ok-kept-in-Some.kept F (kept_tuples (past_of c.self.inside.tie c.self.inside.linked.store) c.self.inside.spots) (kept_tuples (past_of c.keep_at.new.tie c.self.inside.linked.store) c.keep_at.new.spots)) (sym i.is)
     (c.in_ok-kept-in-Some.ensures.kept (frames_at c.self.inside.linked.store c.self.inside.linked.links c.in-Some.link.around)))

@@ -321,7 +321,7 @@ impl Answers {
         added
     }
 
-    /// The same of a question that has this canonical form.
+    /// Adds a pair as [`Answers::add`] does, of a question that has this canonical form.
     fn add_as(
         &mut self,
         form: &Question,
@@ -364,7 +364,7 @@ impl Answers {
         self.has_form(&form, reply)
     }
 
-    /// The same of a question that is in canonical form.
+    /// Whether a pair with this reply and this question, which is in canonical form, is kept.
     fn has_form(&self, form: &Question, reply: &Reply) -> Result<bool, AllocError>
         ensures { IfOk result (λ b. b ≡ is_kept_as self.now.pairs form.now reply.now) }
     {

@@ -52,7 +52,7 @@ fn found_in(alloc: Global, recorded: &Record, replies: &[bool]) -> Result<(Findi
     found
 }
 
-/// The same, of the record that is made by hand.
+/// What is found of that exit in the record that is made by hand, and how many of these replies weren't asked for.
 fn found(alloc: Global, replies: &[bool]) -> Result<(Finding, usize), AskEnd> {
     let recorded = made(alloc)?;
     let found = found_in(alloc, &recorded, replies);

@@ -122,7 +122,7 @@ pub(crate) fn or_garbled(claim: Option<Claim>) -> Claim
     }
 }
 
-/// The same; a line that isn't its text is garbled.
+/// What the text says where it is the entry's; else it is garbled.
 pub(crate) fn claim_as(
     alloc: Global,
     ops: &Ops,

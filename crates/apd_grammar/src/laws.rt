@@ -22,7 +22,8 @@ pub fn rules_prove_what_they_derive()
         HasGroundProofTree P (with_states n s t) ↔ IsDerived sources P n s t }
 {}
 
-/// The same of a text that is loaded: its program proves what its rules derive.
+/// In the program of a text that is loaded, where each clause with a predicate of the grammar is a rule's: the atom of a
+/// nonterminal with two states, all without variables, has a proof tree without variables exactly where the rules derive it.
 pub fn a_text_proves_what_its_rules_derive()
     ensures { (names : List (List ℕ)) (text : List ℕ) (l : Loaded)
         (made : Makes names text (loads (record { program = l.program; ops = l.ops; passed = l.passed }))) →

@@ -85,7 +85,7 @@ fn is_below(alloc: Global, atoms: &KeptAtoms, place: usize, atom: &Flat) -> Resu
     }
 }
 
-/// The same, where the row has the place's bit.
+/// Whether the row has the place's bit, and the atom at the place is an instance of this one.
 fn is_left_below(
     alloc: Global,
     atoms: &KeptAtoms,

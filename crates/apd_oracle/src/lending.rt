@@ -48,7 +48,7 @@ fn ask_with<S: Source, K: Sink, R: Replier>(
     ask_question(count, asked, replier, marked, by_reference, &mut desk)
 }
 
-/// The same over a log and a sink.
+/// Asks as [`ask_with`] does, over a log and a sink.
 pub(crate) fn ask_over<S: Source, K: Sink, R: Replier>(
     alloc: Global,
     count: u64,

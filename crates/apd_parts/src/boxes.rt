@@ -70,7 +70,7 @@ pub fn box_first(text: &[u8]) -> Option<Led<'_>>
     led_first(b") called by ", rest)
 }
 
-/// The same outside quotes.
+/// What [`box_first`] finds, where the text begins outside quotes; none inside.
 pub fn box_outside(quote: Quote, text: &[u8]) -> Option<Led<'_>>
     ensures { MatchOption result (box_outside quote text.now ≡ None)
         (λ a. box_outside quote text.now

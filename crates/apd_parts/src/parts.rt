@@ -35,7 +35,7 @@ pub fn cut<'a>(bytes: &[u8], text: &'a [u8]) -> Option<FrontAndRest<'a>>
     None
 }
 
-/// The same, where they last stand in it.
+/// What stands before these bytes where they last stand in the text, and what stands behind them.
 pub fn cut_last<'a>(bytes: &[u8], text: &'a [u8]) -> Option<FrontAndRest<'a>>
     ensures { MatchOption result (cut_last bytes.now text.now ≡ None)
         (λ p. cut_last bytes.now text.now ≡ Some (p.front.now, p.rest.now)) }

@@ -139,7 +139,7 @@ fn put_clauses(trial: &mut Trial, program: &Program) -> Option<()> {
     Some(())
 }
 
-/// The same, of the row's program.
+/// Gives the clauses of the row's program, and the numbers of those of an atom's predicate.
 pub fn put_program(trial: &mut Trial) -> Option<()> {
     let loaded = loaded_of_row(trial)?;
     let put = put_clauses(trial, &loaded.program);

@@ -190,7 +190,7 @@ fn put_different(trial: &mut Trial, tried: &mut Tried, copies: &mut Vec<Flat>) -
     Some(())
 }
 
-/// The same, of the row's term.
+/// Gives how many moments the row's deeds make, and at how many of them its term isn't what a copy is.
 pub fn put_long_past(trial: &mut Trial) -> Option<()> {
     let mut tried = tried_of_row(trial)?;
     let mut copies = Vec::new(trial.alloc);

@@ -111,7 +111,7 @@ fn put_match(trial: &mut Trial, sides: &Sides) -> Option<()> {
     Some(())
 }
 
-/// The same, of the row's sides.
+/// Gives whether the row's right side is an instance of its left one, and what matching makes of the left one.
 pub fn put_matched(trial: &mut Trial) -> Option<()> {
     let sides = trial.sides(0)?;
     let put = put_match(trial, &sides);

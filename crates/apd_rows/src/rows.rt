@@ -22,7 +22,7 @@ impl Row {
         }
     }
 
-    /// The same as text; none where it isn't UTF-8.
+    /// A field of the row as text; empty where it isn't UTF-8.
     pub fn text(&self, at: usize) -> &str {
         match std::str::from_utf8(self.bytes(at)) {
             Ok(text) => text,

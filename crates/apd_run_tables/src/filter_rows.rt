@@ -91,7 +91,7 @@ fn put_marks(trial: &mut Trial, admit: &mut Admit) -> Option<()> {
     Some(())
 }
 
-/// The same, by the row's filter.
+/// Gives a mark for each of the row's events: whether the row's filter admits it.
 pub fn put_admitted(trial: &mut Trial) -> Option<()> {
     let mut admit = admit_of(trial)?;
     let put = put_marks(trial, &mut admit);

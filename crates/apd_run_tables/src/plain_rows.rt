@@ -122,7 +122,7 @@ fn put_unifier(trial: &mut Trial, sides: &Sides) -> Option<()> {
     Some(())
 }
 
-/// The same, of the row's sides.
+/// Gives what a unifier of the row's sides makes of the left one.
 fn put_unified(trial: &mut Trial) -> Option<()> {
     let sides = trial.sides(1)?;
     let put = put_unifier(trial, &sides);

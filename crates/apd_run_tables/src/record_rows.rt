@@ -104,7 +104,7 @@ fn put_run(trial: &mut Trial, left: &mut Left) -> Option<()> {
     put_boxes(trial, &left.history).ok()
 }
 
-/// The same, of the row's run.
+/// Gives the end of the row's run, and what stands in its record then.
 pub fn put_record(trial: &mut Trial) -> Option<()> {
     let mut left = Left::new(trial.alloc, false)?;
     let put = put_run(trial, &mut left);

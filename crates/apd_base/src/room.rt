@@ -8,14 +8,15 @@ use std::mem::size_of_val;
 /// The bytes of a vector from which on it fills whole large pages when it grows.
 const LARGE: usize = 256 * 1024;
 
-/// The bytes of a large page, which a system gives at once where a block begins and ends with one.
+/// The bytes of a large page, which a system gives at once where a block begins and ends with
+/// one.
 const LARGE_PAGE: usize = 2 * 1024 * 1024;
 
 /// The bytes of its pages that a vector leaves to the allocator, which puts a header before each block.
 const HEADER: usize = 32;
 
-/// Room for one more element in a vector. Where it is there, as it mostly is, that takes a comparison: a step of a search
-/// pushes on several vectors, and each push would be a call.
+/// Room for one more element in a vector. Where it is there, as it mostly is, that takes a
+/// comparison: a step of a search pushes on several vectors, and each push would be a call.
 #[inline(always)]
 pub fn room_for_one<T>(v: &mut Vec<T>) -> Result<(), AllocError>
     ensures items { v.new.items ≡ v.old.items }
@@ -41,7 +42,8 @@ pub fn room_for<T>(v: &mut Vec<T>, count: usize) -> Result<(), AllocError>
     grow(v, count)
 }
 
-/// Makes a vector larger, so that there is room for so many elements more. It is told to be seldom called: else the compiler
+/// Makes a vector larger, so that there is room for so many elements more: a large one by whole
+/// large pages, where there is memory for them. It is told to be seldom called: else the compiler
 /// takes both ways of a push for equally likely, and this one takes registers of a search's loop.
 #[inline(never)]
 #[cold]
@@ -50,15 +52,18 @@ fn grow<T>(v: &mut Vec<T>, count: usize) -> Result<(), AllocError>
     ensures len { vec_len v.new ≡ vec_len v.old }
     ensures room { OnOk result (vec_len v.new + count ≤ vec_capacity v.new) }
 {
-    let more = larger(v.len(), size_of_val(v.as_slice()));
-    v.reserve(more.max(count))
+    let bytes = size_of_val(v.as_slice());
+    if bytes >= LARGE && v.reserve(larger(v.len(), bytes).max(count)).is_ok() {
+        return Ok(());
+    }
+    v.reserve(count)
 }
 
-/// How many elements more a vector is given that has so many, which take so many bytes: a large one fills whole large pages
-/// then. A block that does is put where such a page begins, and the system gives what is new of it by the page, not 4 KB by
-/// 4 KB.
+/// How many elements more a vector is given that has so many, which take so many bytes, so that it
+/// fills whole large pages. A block that does is put where such a page begins, and the system gives
+/// what is new of it by the page, not 4 KB by 4 KB.
 fn larger(len: usize, bytes: usize) -> usize {
-    if len == 0 || bytes < LARGE {
+    if len == 0 {
         return 0;
     }
     let pages = bytes / (LARGE_PAGE / 2) + 1;

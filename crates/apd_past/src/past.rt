@@ -8,6 +8,7 @@ ghost use Rattle.apd_cells.specs.Store.{term_at, binding_of, bound, MayBind, IsS
 ghost use Rattle.apd_past.specs.History.{at_moment, history_of, present, unbound, with_done, with_terms, IsRightHistory};
 
 use crate::journal::Journal;
+use apd_base::room::room_for;
 use apd_term::Sym;
 use std::alloc::{AllocError, Global};
 use std::marker::Model;
@@ -60,7 +61,7 @@ fn extend(cells: &mut Vec<Sym>, symbols: &[Sym]) -> Result<(), AllocError>
     ensures ok { OnOk result (cells.new.items ≡ cells.old.items ++ symbols.now) }
     ensures err { OnErr result (cells.new.items ≡ cells.old.items) }
 {
-    cells.reserve(symbols.len())?;
+    room_for(cells, symbols.len())?;
     for symbol in symbols {
         cells.push_reserved(*symbol);
     }

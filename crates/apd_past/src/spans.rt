@@ -209,7 +209,8 @@ impl Spans {
     {
         let v = v as usize;
         'variables: while self.newest.len() <= v {
-            self.newest.push(MaybeNumber::none())?;
+            room_for_one(&mut self.newest)?;
+            self.newest.push_reserved(MaybeNumber::none());
         }
         Ok(())
     }

@@ -181,6 +181,3 @@ apart_pushed lists rows h =
         | inr q ↦ let no : ⊥ = none_many o i q.1 e in elim no [ ]
       ];
     }
-
-pub apart_none : (lists : List (List PointId)) → AreApart lists (kept_nothing ∷ [])
-apart_none lists = apart_pushed lists [] (record { there = λ b o at. cc; one = λ b c i o p x y e f. cc })

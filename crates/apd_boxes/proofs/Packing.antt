@@ -1,7 +1,7 @@
 -- Boxes in few bytes, as rows come behind and are edited.
 use Rattle.std.proofs.Common.{◌≡◌, ◌≢◌, ℕ, zero, suc, ◌+◌, ◌-◌, ◌<◌, List, [], ◌∷◌, ◌++◌, length, map, get_or, set, if◌then◌else◌, Bool, true, false, Some, refl, ap, sym, subst, ◌∙◌, arith, length-append}
 use Rattle.std.specs.Prelude.{slice_get, All}
-use Rattle.std.proofs.lemmas.List.{get_or_append_left, length-map, length-set, map-append}
+use Rattle.std.proofs.lemmas.List.{get_or_append_left, length-map, map-append}
 use Rattle.std.proofs.lemmas.List.Elements.{All-get_or, All-head, All-set, All-tail, All-weaker, All-push}
 use Rattle.std.proofs.lemmas.Option.{slice_get-map, slice_get_read}
 use Rattle.std.specs.Option.{option_map}
@@ -9,26 +9,13 @@ use Rattle.apd_ports.specs.declared.event.Port.{Port}
 use Rattle.apd_ports.specs.declared.point.PointId.{PointId}
 use Rattle.apd_boxes.specs.declared.boxes.Call.{Call}
 use Rattle.apd_boxes.specs.declared.boxes.KeptBox.{KeptBox}
-use Rattle.apd_boxes.specs.declared.few.Few.TheVariants as few
 use Rattle.apd_boxes.specs.declared.packed.PackedBox.{PackedBox}
 use Rattle.apd_boxes.specs.Owned.{edited}
 use Rattle.apd_boxes.specs.Facts.{passed_facts}
 use Rattle.apd_boxes.specs.Few.{KeptOwned, all_owned, kept_nothing, kept_owning, lists_owning, owned_in, AreApart, IsFewThere}
 use Rattle.apd_boxes.specs.Boxes.{adding, kept_passed, passing, with_box}
-use Rattle.apd_boxes.specs.Packed.{boxes_in, box_of, few_in, few_of, own, own_call, told_in, AreBoxes, IsCallThere}
+use Rattle.apd_boxes.specs.Packed.{boxes_in, box_of, few_of, own, own_call, told_in, AreBoxes, IsCallThere}
 use Rattle.apd_boxes.proofs.Apart.{all_owned-push, apart_pushed, get-pushed, owned_edited}
-
--- The exits of a row, as their count tells them.
-
-pub none_in : (n : ℕ) (e : PointId) → few_in n e ≡ few.None → n ≡ 0
-none_in zero e h = refl
-none_in (suc zero) e h = absurd (cc)
-none_in (suc (suc n)) e h = absurd (cc)
-
-pub one_in : (n : ℕ) (e p : PointId) → few_in n e ≡ few.One p → (n ≡ 1) × (e ≡ p)
-one_in zero e p h = absurd (cc)
-one_in (suc zero) e p h = (refl, cc)
-one_in (suc (suc n)) e p h = absurd (cc)
 
 -- Lists of rows of which one is written.
 

@@ -1,5 +1,5 @@
 -- Lists of which one element is edited.
-use Rattle.std.proofs.Common.{◌≡◌, ◌≢◌, ◌⊎◌, ℕ, zero, suc, ◌-◌, ◌<◌, List, [], ◌∷◌, length, get_or, set, refl, ap, ◌∙◌, arith, Some, inl, inr}
+use Rattle.std.proofs.Common.{◌≡◌, ◌≢◌, ◌⊎◌, ℕ, zero, suc, ◌<◌, List, [], ◌∷◌, length, get_or, set, refl, ap, ◌∙◌, arith, Some, inl, inr}
 use Rattle.std.specs.Prelude.{slice_get}
 use Rattle.apd_boxes.specs.Owned.{edited}
 
@@ -26,8 +26,3 @@ edited_as-set f (x ∷ xs) (suc i) d h = ap (λ r. x ∷ r) (edited_as-set f xs 
 
 pub edited_read : {X : Type 0} (f : X → X) (xs : List X) (i : ℕ) (d : X) → i < length xs → d ≡ get_or xs i d → set xs i (f d) ≡ edited f xs i
 edited_read f xs i d h e = ap (λ x. set xs i (f x)) e ∙ edited_as-set f xs i d h
-
--- the same behind another element
-pub edited_later : {X : Type 0} (f : X → X) (q : X) (xs : List X) (k : ℕ) (d : X) → k ≢ 0 → k < length (q ∷ xs) → d ≡ get_or xs (k - 1) d → q ∷ set xs (k - 1) (f d) ≡ edited f (q ∷ xs) k
-edited_later f q xs zero d h w e = let no : ⊥ = h refl in elim no [ ]
-edited_later f q xs (suc i) d h w e = let s : suc i - 1 ≡ i = omega arith in rw s (ap (λ r. q ∷ r) (edited_read f xs i d (omega (arith, w)) (rw s at e)))

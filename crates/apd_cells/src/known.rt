@@ -49,7 +49,7 @@ pub struct KnownExtent {
     pub since: usize,
 }
 
-/// The same in 16 bytes. Contracts see cell, extent and notes.
+/// An extent that is known of a cell, in 16 bytes. Contracts see cell, extent and notes.
 #[derive(Drop)]
 pub struct KeptExtent {
     cell: u32,

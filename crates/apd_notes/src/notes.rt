@@ -166,7 +166,7 @@ impl Notes {
         }
     }
 
-    /// Notes this; want of memory also where a branch can't be kept.
+    /// Notes this; want of memory also where a row can't tell the branch or the link.
     #[inline(always)]
     pub fn push(&mut self, note: Note) -> Result<(), AllocError>
         ensures ok { OnOk result (self.new ≡ note ∷ self.old) }
@@ -213,7 +213,7 @@ impl Notes {
         }
     }
 
-    /// The same where an exit was handed behind it: no search does so.
+    /// Gives up the newest branch, where an exit was handed behind it: no search does so.
     #[inline(never)]
     fn forget_below(&mut self)
         ensures { self.new ≡ forgotten self.old }

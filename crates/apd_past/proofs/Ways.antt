@@ -219,10 +219,6 @@ pub linked_freed : (kept : List KeptSpan) (newest : List (Option ℕ)) (moments 
 linked_freed kept newest moments v None h n = linked_later kept newest moments h
 linked_freed kept newest moments v (Some i) h n = linked_ended kept i (with_until moments (get_or kept i no_kept)) n.0 refl refl refl newest moments h
 
-pub newest_there : (vs : List ℕ) (v k : ℕ) (o : Option ℕ) → IsNewest vs v k o → (i : ℕ) → o ≡ Some i → i < k
-newest_there vs v k None h i e = cc
-newest_there vs v k (Some n) h i e = (let same : n ≡ i = cc in omega (arith, h.0, same))
-
 -- the newest binding made before a moment is sought: those after the place weren't
 abbrev pub Seeks : List KeptSpan → ℕ → ℕ → Option ℕ → Type 0
 Seeks kept v m None = (i : ℕ) → IsOn (variables_of kept) v i → m ≤ (get_or kept i no_kept).from

@@ -33,7 +33,8 @@ fn put_one(there: &mut Vec<PastCell>, cell: PastCell) -> Result<usize, AllocErro
 #[inline(always)]
 fn put_tagged(there: &mut Vec<PastCell>, tag: PastCell, goals: &[Cell]) -> Result<(), AllocError>
     requires { length goals.now < 128 }
-    ensures ok { OnOk result (there.new.items ≡ there.old.items ++ tag ∷ [] ++ kept_cells goals.now) }
+    ensures ok { OnOk result
+        (there.new.items ≡ there.old.items ++ tag ∷ [] ++ kept_cells goals.now) }
     ensures more { HasMore there.old.items there.new.items }
 {
     room_for(there, goals.len() + 1)?;

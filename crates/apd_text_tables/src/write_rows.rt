@@ -49,7 +49,7 @@ pub fn put_text(trial: &mut Trial) -> Option<()> {
 /// Gives the text of the row's name by itself.
 pub fn put_name(trial: &mut Trial) -> Option<()> {
     let mut text = Text::copy_of(trial.alloc, BEFORE).ok()?;
-    write_name(trial.row.bytes(0), &mut text).ok()?;
+    write_name(trial.alloc, trial.row.bytes(0), &mut text).ok()?;
     put_appended(&mut trial.given, &text);
     Some(())
 }

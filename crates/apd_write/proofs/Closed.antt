@@ -1,20 +1,28 @@
 -- What closes a term, frame by frame.
-use Rattle.std.proofs.Common.{ℕ, ◌≡◌, ◌+◌, List, [], ◌∷◌, ◌++◌, ap, sym, ◌∙◌, arith, append_assoc, suc}
-use Rattle.std.specs.Prelude.{codes, Some, None}
+use Rattle.std.proofs.Common.{ℕ, ◌≡◌, ◌+◌, List, [], ◌∷◌, ◌++◌, refl, ap, sym, ◌∙◌, arith, append_assoc, suc}
+use Rattle.std.proofs.lemmas.List.{append-nil}
+use Rattle.std.specs.Prelude.{codes, Option, Some, None}
 use Rattle.apd_ops.specs.Table.{Table}
 use Rattle.apd_write.specs.Writing.{Part}
-use Rattle.apd_write.specs.Pending.{AddsClosing, Leaves, resume, takes, takes_in_all, text_in}
+use Rattle.apd_write.specs.Pending.{AddsClosing, Leaves, plain, resume, spread, takes, takes_in_all, text_in}
 use Rattle.apd_write.specs.declared.pending.TermPlace.{TermPlace}
 use Rattle.apd_write.specs.declared.pending.TermPlace.TheVariants as place
 use Rattle.apd_write.specs.declared.pending.PendingFrame.{PendingFrame}
 use Rattle.apd_write.specs.declared.pending.PendingFrame.TheVariants as frame
 use Rattle.apd_write.proofs.Frames.{resume-push, takes-push}
 
+-- what isn't an argument pushes no frame
+pub spread_other : (here : TermPlace) (frames : List PendingFrame) → ((left : ℕ) → here ≡ place.Argument left → ⊥) → spread here frames ≡ frames
+spread_other (place.Argument left) frames other = absurd (other left refl)
+spread_other (place.Whole max) frames other = refl
+spread_other (place.Left max) frames other = refl
+spread_other (place.Right max) frames other = refl
+spread_other place.Rest frames other = refl
+
 -- the comma before one more argument
-pub argument_left : (ops : Table) (names : List (List ℕ)) (n m : ℕ) (frames frames_now : List PendingFrame) (out out_now : List ℕ) → n ≡ suc m →
-    frames_now ≡ frames ++ frame.Arguments m ∷ [] → out_now ≡ out ++ codes "," →
-    Leaves ops names (frame.Arguments n) frames frames_now out out_now (Some (place.Whole 999))
-argument_left ops names n m frames frames_now out out_now some pushed added = rw (some, pushed) (
+pub argument_left : (ops : Table) (names : List (List ℕ)) (n m : ℕ) (frames : List PendingFrame) (out out_now : List ℕ) → n ≡ suc m →
+    out_now ≡ out ++ codes "," → Leaves ops names (frame.Arguments n) frames frames out out_now (Some (place.Argument m))
+argument_left ops names n m frames out out_now some added = rw some (
   codes ",",
   added,
   record {
@@ -64,9 +72,57 @@ Closing-next ops names frames frames_now popped next f out out_now out_next here
         ∙ ap (λ (o : List PendingFrame). before.marks ++ resume ops names o after (p ∷ ps)) is
         ∙ ap (λ (g : List Part → List ℕ). before.marks ++ g (p ∷ ps)) (resume-push ops names popped f after)
         ∙ ap (λ (x : List ℕ). before.marks ++ x) (leaves.2.text after p ps)
-        ∙ sym (append_assoc before.marks leaves.0 (text_in ops names here p ++ resume ops names next after ps));
+        ∙ sym (append_assoc before.marks leaves.0 (text_in ops names (plain here) p ++ resume ops names (spread here next) after ps));
   },
 )
+
+-- nothing was closed yet
+Closing-start : (ops : Table) (names : List (List ℕ)) (frames : List PendingFrame) (out : List ℕ) → Closing ops names frames frames out out
+Closing-start ops names frames out = record { marks = []; adds = sym (append-nil out); count = refl; text = λ after ps. refl }
+
+-- the comma behind an argument whose frame isn't pushed
+pub argument_closed : (ops : Table) (names : List (List ℕ)) (n m : ℕ) (frames : List PendingFrame) (out out_now : List ℕ) → n ≡ suc m → out_now ≡ out ++ codes "," →
+    AddsClosing ops names (frames ++ frame.Arguments n ∷ []) frames out out_now (Some (place.Argument m))
+argument_closed ops names n m frames out out_now some added =
+    Closing-next ops names (frames ++ frame.Arguments n ∷ []) (frames ++ frame.Arguments n ∷ []) frames frames (frame.Arguments n) out out out_now (place.Argument m)
+    (Closing-start ops names (frames ++ frame.Arguments n ∷ []) out) refl (argument_left ops names n m frames out out_now some added)
+
+-- the parenthesis behind the last one
+last_closed : (ops : Table) (names : List (List ℕ)) (frames : List PendingFrame) (out out_now : List ℕ) → out_now ≡ out ++ codes ")" →
+    Closing ops names (frames ++ frame.Arguments 0 ∷ []) frames out out_now
+last_closed ops names frames out out_now added =
+    Closing-more ops names (frames ++ frame.Arguments 0 ∷ []) (frames ++ frame.Arguments 0 ∷ []) frames frames (frame.Arguments 0) out out out_now
+    (Closing-start ops names (frames ++ frame.Arguments 0 ∷ []) out) refl (codes ")", added, record { count = refl; same = refl; text = λ after ps. refl })
+
+closed_then : (ops : Table) (names : List (List ℕ)) (frames frames_mid frames_now : List PendingFrame) (out out_mid out_now : List ℕ) (next : Option TermPlace) →
+    Closing ops names frames frames_mid out out_mid → AddsClosing ops names frames_mid frames_now out_mid out_now next → AddsClosing ops names frames frames_now out out_now next
+closed_then ops names frames frames_mid frames_now out out_mid out_now (Some next) before closing = (
+  before.marks ++ closing.0,
+  closing.1 ∙ ap (λ (o : List ℕ). o ++ closing.0) before.adds ∙ append_assoc out before.marks closing.0,
+  record {
+    count = before.count ∙ closing.2.count;
+    text = λ after p ps. before.text after (p ∷ ps)
+        ∙ ap (λ (x : List ℕ). before.marks ++ x) (closing.2.text after p ps)
+        ∙ sym (append_assoc before.marks closing.0 (text_in ops names (plain next) p ++ resume ops names (spread next frames_now) after ps));
+  },
+)
+closed_then ops names frames frames_mid frames_now out out_mid out_now None before closing = (
+  before.marks ++ closing.0,
+  closing.1 ∙ ap (λ (o : List ℕ). o ++ closing.0) before.adds ∙ append_assoc out before.marks closing.0,
+  record {
+    count = before.count ∙ closing.2.count;
+    none = closing.2.none;
+    text = λ after ps. before.text after ps
+        ∙ ap (λ (x : List ℕ). before.marks ++ x) (closing.2.text after ps)
+        ∙ sym (append_assoc before.marks closing.0 (after ps));
+  },
+)
+
+pub last_argument_closed : (ops : Table) (names : List (List ℕ)) (left : ℕ) (frames frames_now : List PendingFrame) (out out_mid out_now : List ℕ) (next : Option TermPlace) → left ≡ 0 →
+    out_mid ≡ out ++ codes ")" → AddsClosing ops names frames frames_now out_mid out_now next → AddsClosing ops names (frames ++ frame.Arguments left ∷ []) frames_now out out_now next
+last_argument_closed ops names left frames frames_now out out_mid out_now next none added closing = rw none (
+    closed_then ops names (frames ++ frame.Arguments 0 ∷ []) frames frames_now out out_mid out_now next (last_closed ops names frames out out_mid added) closing
+    )
 
 pub Closing-end : (ops : Table) (names : List (List ℕ)) (frames frames_now : List PendingFrame) (out out_now : List ℕ) → Closing ops names frames frames_now out out_now → frames_now ≡ [] →
     AddsClosing ops names frames frames_now out out_now None

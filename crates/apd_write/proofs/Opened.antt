@@ -22,12 +22,12 @@ opens_from_put : (ops : Table) (names : List (List ℕ)) (f : NameId) (count : �
     ((after : List Part → List ℕ) (ps qs : List Part) → length ps ≡ count →
     compound_in ops here f (text_of_name names f) ps ++ resume ops names frames after qs ≡ marks ++ next_in ops names stands (resume ops names (frames ++ pushed) after) (ps ++ qs)) →
     Puts marks pushed stands frames frames_now out out_now next → Opens ops names f count here frames frames_now out out_now next
-opens_from_put ops names f count here marks pushed stands frames frames_now out out_now next takes text put = rw (put.pushes, put.stands) (record {
+opens_from_put ops names f count here marks pushed stands frames frames_now out out_now next takes text put = record {
   marks = marks;
   adds = put.adds;
-  takes = takes;
-  text = text;
-})
+  takes = rw put.pushes takes;
+  text = λ after ps qs long. rw (put.pushes, put.stands) (text after ps qs long);
+}
 
 arguments_all : (ops : Table) (names : List (List ℕ)) (after : List Part → List ℕ) (ps qs : List Part) →
     arguments_then ops names (length ps) after (ps ++ qs) ≡ further_arguments ps ++ (codes ")" ++ after qs)

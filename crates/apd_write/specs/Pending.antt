@@ -40,6 +40,7 @@ is_negative_symbol x = false
 module _ (ops : Table) (names : List (List ℕ)) where
   -- the next part in its place
   abbrev pub text_in : TermPlace → Part → List ℕ
+  text_in (place.Argument n) p = p.text ARGUMENT_PRIORITY
   text_in (place.Whole max) p = p.text max
   text_in (place.Left max) p = left_operand ops max p
   text_in (place.Right max) p = right_operand ops max p
@@ -70,6 +71,22 @@ module _ (ops : Table) (names : List (List ℕ)) where
   resume [] after = after
   resume (f ∷ fs) after = resume fs (behind f after)
 
+-- the place of an argument by itself
+abbrev pub plain : TermPlace → TermPlace
+plain (place.Argument n) = place.Whole ARGUMENT_PRIORITY
+plain (place.Whole max) = place.Whole max
+plain (place.Left max) = place.Left max
+plain (place.Right max) = place.Right max
+plain place.Rest = place.Rest
+
+-- the frames with what stands behind an argument
+abbrev pub spread : TermPlace → List PendingFrame → List PendingFrame
+spread (place.Argument n) frames = frames ++ frame.Arguments n ∷ []
+spread (place.Whole max) frames = frames
+spread (place.Left max) frames = frames
+spread (place.Right max) frames = frames
+spread place.Rest frames = frames
+
 -- how many parts a frame takes
 abbrev pub takes : PendingFrame → ℕ
 takes (frame.Arguments n) = n
@@ -85,9 +102,9 @@ takes_in_all (f ∷ fs) = takes f + takes_in_all fs
 
 -- behind a term the frames were closed up to a place where the next is to be written
 pub record GoesOn (ops : Table) (names : List (List ℕ)) (frames frames_now : List PendingFrame) (marks : List ℕ) (next : TermPlace) : Type 0 where
-  pub count : takes_in_all frames ≡ takes_in_all frames_now + 1
+  pub count : takes_in_all frames ≡ takes_in_all (spread next frames_now) + 1
   pub text : (after : List Part → List ℕ) (p : Part) (ps : List Part) →
-      resume ops names frames after (p ∷ ps) ≡ marks ++ (text_in ops names next p ++ resume ops names frames_now after ps)
+      resume ops names frames after (p ∷ ps) ≡ marks ++ (text_in ops names (plain next) p ++ resume ops names (spread next frames_now) after ps)
 
 -- behind the last term all frames were closed
 pub record IsClosed (ops : Table) (names : List (List ℕ)) (frames frames_now : List PendingFrame) (marks : List ℕ) : Type 0 where
@@ -105,9 +122,9 @@ AddsClosing ops names frames frames_now out out_now next = (marks : List ℕ) ×
 
 -- one frame was left for the next term, which stands in it
 pub record LeavesFor (ops : Table) (names : List (List ℕ)) (frame : PendingFrame) (frames frames_now : List PendingFrame) (marks : List ℕ) (next : TermPlace) : Type 0 where
-  pub count : takes_in_all frames + takes frame ≡ takes_in_all frames_now + 1
+  pub count : takes_in_all frames + takes frame ≡ takes_in_all (spread next frames_now) + 1
   pub text : (after : List Part → List ℕ) (p : Part) (ps : List Part) →
-      behind ops names frame (resume ops names frames after) (p ∷ ps) ≡ marks ++ (text_in ops names next p ++ resume ops names frames_now after ps)
+      behind ops names frame (resume ops names frames after) (p ∷ ps) ≡ marks ++ (text_in ops names (plain next) p ++ resume ops names (spread next frames_now) after ps)
 
 -- one frame was left for good
 pub record LeavesBehind (ops : Table) (names : List (List ℕ)) (frame : PendingFrame) (frames frames_now : List PendingFrame) (marks : List ℕ) : Type 0 where
@@ -124,6 +141,7 @@ Leaves ops names frame frames frames_now out out_now next = (marks : List ℕ) �
 
 -- a name with its arguments in a place
 abbrev pub compound_in : Table → TermPlace → NameId → List ℕ → List Part → List ℕ
+compound_in ops (place.Argument n) f name ps = arranged ops f name ARGUMENT_PRIORITY ps
 compound_in ops (place.Whole max) f name ps = arranged ops f name max ps
 compound_in ops (place.Left max) f name ps = arranged ops f name max ps
 compound_in ops (place.Right max) f name ps = arranged ops f name max ps
@@ -140,16 +158,16 @@ closing_frames priority max = if nat_lt max priority then frame.ParenthesisEnd �
 -- marks were added to the text and frames pushed, and the next term stands in this place
 pub record Puts (marks : List ℕ) (pushed : List PendingFrame) (place : TermPlace) (frames frames_now : List PendingFrame) (out out_now : List ℕ) (next : TermPlace) : Type 0 where
   pub adds : out_now ≡ out ++ marks
-  pub pushes : frames_now ≡ frames ++ pushed
-  pub stands : next ≡ place
+  pub pushes : spread next frames_now ≡ frames ++ pushed
+  pub stands : plain next ≡ place
 
 -- what stands before the first argument was added to the text, with a frame for what stands behind it
 pub record Opens (ops : Table) (names : List (List ℕ)) (f : NameId) (count : ℕ) (here : TermPlace) (frames frames_now : List PendingFrame) (out out_now : List ℕ) (next : TermPlace) : Type 0 where
   pub marks : List ℕ
   pub adds : out_now ≡ out ++ marks
-  pub takes : takes_in_all frames_now + 1 ≡ takes_in_all frames + count
+  pub takes : takes_in_all (spread next frames_now) + 1 ≡ takes_in_all frames + count
   pub text : (after : List Part → List ℕ) (ps qs : List Part) → length ps ≡ count →
-      compound_in ops here f (text_of_name names f) ps ++ resume ops names frames after qs ≡ marks ++ next_in ops names next (resume ops names frames_now after) (ps ++ qs)
+      compound_in ops here f (text_of_name names f) ps ++ resume ops names frames after qs ≡ marks ++ next_in ops names (plain next) (resume ops names (spread next frames_now) after) (ps ++ qs)
 
 -- a symbol without arguments as the rest of a list
 abbrev pub leaf_rest : List (List ℕ) → Sym → List ℕ
@@ -157,6 +175,7 @@ leaf_rest names x = if is_nil_symbol x then codes "]" else codes "|" ++ leaf_tex
 
 -- a symbol without arguments in a place
 abbrev pub leaf_in : Table → List (List ℕ) → TermPlace → Sym → List ℕ
+leaf_in ops names (place.Argument n) x = leaf_text names x
 leaf_in ops names (place.Whole max) x = leaf_text names x
 leaf_in ops names (place.Left max) x = if is_negative_symbol x then in_parentheses (leaf_text names x) else (if is_operator_symbol ops x then in_parentheses (leaf_text names x) else leaf_text names x)
 leaf_in ops names (place.Right max) x = if is_operator_symbol ops x then in_parentheses (leaf_text names x) else leaf_text names x
@@ -164,8 +183,8 @@ leaf_in ops names place.Rest x = leaf_rest names x
 
 -- in the middle of a text: the next of these terms is to be written in this place, and the frames have what stands behind it
 pub record Expects (ops : Table) (names : List (List ℕ)) (whole : List ℕ) (frames : List PendingFrame) (out : List ℕ) (place : TermPlace) (ts : List Term) : Type 0 where
-  pub count : length ts ≡ takes_in_all frames + 1
-  pub text : whole ≡ out ++ next_in ops names place (resume ops names frames (λ ps. [])) (parts ops names (terms_of ts))
+  pub count : length ts ≡ takes_in_all (spread place frames) + 1
+  pub text : whole ≡ out ++ next_in ops names (plain place) (resume ops names (spread place frames) (λ ps. [])) (parts ops names (terms_of ts))
 
 -- in the middle of a text, or at its end
 abbrev pub Stands : Table → List (List ℕ) → List ℕ → List PendingFrame → List ℕ → Option TermPlace → List Term → Type 0

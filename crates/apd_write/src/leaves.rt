@@ -4,10 +4,10 @@ ghost use Rattle.std.specs.Prelude.{◌≡◌, ◌++◌, OnOk, codes};
 ghost use Rattle.apd_write.specs.Pending.{is_negative_symbol, is_nil_symbol, is_operator_symbol, leaf_in, leaf_rest, leaf_text};
 ghost use Rattle.apd_write.specs.Writing.{in_parentheses};
 
-use crate::names::write_name;
+use crate::names::put_name;
 use crate::numbers::{write_integer, write_number};
 use crate::pending::TermPlace;
-use apd_base::Text;
+use crate::sheet::Sheet;
 use apd_ops::Ops;
 use apd_term::Sym;
 use apd_term::names::Names;
@@ -35,7 +35,7 @@ fn is_negative(symbol: Sym) -> bool
 
 /// Writes a variable, an integer or a name.
 #[inline(always)]
-fn write_symbol(names: &Names, symbol: Sym, out: &mut Text) -> Result<(), AllocError>
+fn write_symbol(names: &Names, symbol: Sym, out: &mut Sheet) -> Result<(), AllocError>
     ensures { OnOk result (out.new ≡ out.old ++ leaf_text names.now symbol) }
 {
     match symbol {
@@ -44,14 +44,14 @@ fn write_symbol(names: &Names, symbol: Sym, out: &mut Text) -> Result<(), AllocE
             write_number(v, out)?;
         }
         Sym::Int(i) => write_integer(i, out)?,
-        Sym::Fun(name, _) => write_name(names.text(name), out)?,
+        Sym::Fun(name, _) => put_name(names.text(name), out)?,
     }
     Ok(())
 }
 
 /// Writes a symbol without arguments in parentheses.
 #[inline(never)]
-fn write_enclosed(names: &Names, symbol: Sym, out: &mut Text) -> Result<(), AllocError>
+fn write_enclosed(names: &Names, symbol: Sym, out: &mut Sheet) -> Result<(), AllocError>
     ensures { OnOk result (out.new ≡ out.old ++ in_parentheses (leaf_text names.now symbol)) }
 {
     out.push(b'(')?;
@@ -71,7 +71,7 @@ fn is_nil(symbol: Sym) -> bool
 
 /// Writes a symbol without arguments behind a list's bar, and the bracket that closes the list.
 #[inline(never)]
-fn write_tail(names: &Names, symbol: Sym, out: &mut Text) -> Result<(), AllocError>
+fn write_tail(names: &Names, symbol: Sym, out: &mut Sheet) -> Result<(), AllocError>
     ensures { OnOk result (out.new ≡ out.old ++ codes "|" ++ leaf_text names.now symbol
         ++ codes "]") }
 {
@@ -82,7 +82,7 @@ fn write_tail(names: &Names, symbol: Sym, out: &mut Text) -> Result<(), AllocErr
 
 /// Writes the end of a list whose rest is the symbol: what isn't `[]` stands behind the bar.
 #[inline(always)]
-fn write_rest(names: &Names, symbol: Sym, out: &mut Text) -> Result<(), AllocError>
+fn write_rest(names: &Names, symbol: Sym, out: &mut Sheet) -> Result<(), AllocError>
     ensures { OnOk result (out.new ≡ out.old ++ leaf_rest names.now symbol) }
 {
     if is_nil(symbol) {
@@ -91,14 +91,14 @@ fn write_rest(names: &Names, symbol: Sym, out: &mut Text) -> Result<(), AllocErr
     write_tail(names, symbol, out)
 }
 
-/// Writes a symbol without arguments in its place.
+/// Writes a symbol without arguments in its place, whichever that is.
 #[inline(always)]
-pub(crate) fn write_leaf(
+fn write_operand(
     ops: &Ops,
     names: &Names,
     symbol: Sym,
     place: TermPlace,
-    out: &mut Text,
+    out: &mut Sheet,
 ) -> Result<(), AllocError>
     ensures { OnOk result (out.new ≡ out.old ++ leaf_in ops.now names.now place symbol) }
 {
@@ -108,8 +108,26 @@ pub(crate) fn write_leaf(
             write_enclosed(names, symbol, out)
         }
         TermPlace::Rest => write_rest(names, symbol, out),
-        TermPlace::Whole(_) | TermPlace::Left(_) | TermPlace::Right(_) => {
-            write_symbol(names, symbol, out)
-        }
+        TermPlace::Argument(_) | TermPlace::Whole(_) | TermPlace::Left(_) | TermPlace::Right(_) =>
+            write_symbol(names, symbol, out),
+    }
+}
+
+/// Writes a symbol without arguments in its place. Few of them are operands, which are looked at
+/// more closely.
+#[inline(always)]
+pub(crate) fn write_leaf(
+    ops: &Ops,
+    names: &Names,
+    symbol: Sym,
+    place: TermPlace,
+    out: &mut Sheet,
+) -> Result<(), AllocError>
+    ensures { OnOk result (out.new ≡ out.old ++ leaf_in ops.now names.now place symbol) }
+{
+    match place {
+        TermPlace::Argument(_) | TermPlace::Whole(_) => write_symbol(names, symbol, out),
+        TermPlace::Rest => write_rest(names, symbol, out),
+        TermPlace::Left(_) | TermPlace::Right(_) => write_operand(ops, names, symbol, place, out),
     }
 }

@@ -1,6 +1,7 @@
 //! Writing of terms as Prolog reads them (ISO/IEC 13211-1 section 7.10.5).
 //!
-//! [`write_term`] writes a term by a table of operators, a [`Pen`] many of them, [`write_name`] a name by itself.
+//! [`write_term`] writes a term by a table of operators, a [`Pen`] many of them on a [`Sheet`],
+//! [`write_name`] a name by itself.
 #![tactic(auto)]
 
 // What most terms don't have isn't inlined, so that the loop over symbols keeps in registers what it works with.
@@ -11,8 +12,10 @@ mod names;
 mod numbers;
 mod opening;
 mod pending;
+mod sheet;
 mod terms;
 
 pub use names::write_name;
 pub use numbers::{write_integer, write_number};
+pub use sheet::Sheet;
 pub use terms::{Pen, write_term};

@@ -1,31 +1,15 @@
 //! Names: bare, or in quotes.
 
-ghost use Rattle.std.specs.Prelude.{◌≡◌, ◌++◌, ◌<◌, ◌||◌, codes, false, OnOk};
+ghost use Rattle.std.specs.Prelude.{◌≡◌, ◌++◌, ◌<◌, ◌||◌, codes, false, OnOk, OnErr};
 ghost use Rattle.std.specs.List.{list_all};
 ghost use Rattle.apd_term.specs.Names.{same_text};
-ghost use Rattle.apd_token.specs.Bytes.{is_word, is_graphic};
+ghost use Rattle.apd_token.specs.Bytes.{is_graphic};
 ghost use Rattle.apd_write.specs.NameTexts.{is_word_name, is_graphic_name, begins_comment, is_solo_name, is_bracket_name, hex_digit, quoted_byte, quoted, function_text, name_text};
 
+use crate::sheet::Sheet;
 use apd_base::Text;
-use apd_token::{is_graphic, is_small, is_word};
-use std::alloc::AllocError;
-
-/// Whether all are letters, digits and `_`.
-fn are_word_bytes(bytes: &[u8]) -> bool
-    ensures { result ≡ list_all is_word bytes.now }
-{
-    bytes.iter().all(|b| is_word(*b))
-}
-
-/// A small letter first, and only letters, digits and `_`.
-fn is_word_name(name: &[u8]) -> bool
-    ensures { result ≡ is_word_name name.now }
-{
-    match name {
-        [first, rest @ ..] => is_small(*first) && are_word_bytes(rest),
-        [] => false,
-    }
-}
+use apd_token::is_graphic;
+use std::alloc::{AllocError, Global};
 
 fn are_graphic_bytes(bytes: &[u8]) -> bool
     ensures { result ≡ list_all is_graphic bytes.now }
@@ -80,7 +64,7 @@ fn hex_digit(digit: u8) -> u8
 }
 
 /// Writes a byte between quotes.
-fn write_quoted_byte(byte: u8, out: &mut Text) -> Result<(), AllocError>
+fn write_quoted_byte(byte: u8, out: &mut Sheet) -> Result<(), AllocError>
     ensures { OnOk result (out.new ≡ out.old ++ quoted_byte byte) }
 {
     match byte {
@@ -99,7 +83,7 @@ fn write_quoted_byte(byte: u8, out: &mut Text) -> Result<(), AllocError>
 }
 
 #[inline(never)]
-fn write_quoted(name: &[u8], out: &mut Text) -> Result<(), AllocError>
+fn write_quoted(name: &[u8], out: &mut Sheet) -> Result<(), AllocError>
     ensures { OnOk result (out.new ≡ out.old ++ quoted name.now) }
 {
     out.push(b'\'')?;
@@ -112,7 +96,7 @@ fn write_quoted(name: &[u8], out: &mut Text) -> Result<(), AllocError>
 
 /// Writes a name that isn't a word before its arguments. It isn't inlined: most names of programs are words.
 #[inline(never)]
-fn write_other_function(name: &[u8], out: &mut Text) -> Result<(), AllocError>
+fn write_other_function(name: &[u8], out: &mut Sheet) -> Result<(), AllocError>
     requires { is_word_name name.now ≡ false }
     ensures { OnOk result (out.new ≡ out.old ++ function_text name.now) }
 {
@@ -125,18 +109,18 @@ fn write_other_function(name: &[u8], out: &mut Text) -> Result<(), AllocError>
 
 /// Writes a name before its arguments in parentheses: `[]` and `{}` are in quotes there.
 #[inline(always)]
-pub(crate) fn write_function_name(name: &[u8], out: &mut Text) -> Result<(), AllocError>
+pub(crate) fn write_function_name(name: &[u8], out: &mut Sheet) -> Result<(), AllocError>
     ensures { OnOk result (out.new ≡ out.old ++ function_text name.now) }
 {
-    if is_word_name(name) {
-        return out.extend(name);
+    if out.word(name)? {
+        return Ok(());
     }
     write_other_function(name, out)
 }
 
 /// Writes a name that isn't a word, as it stands by itself.
 #[inline(never)]
-fn write_other_name(name: &[u8], out: &mut Text) -> Result<(), AllocError>
+fn write_other_name(name: &[u8], out: &mut Sheet) -> Result<(), AllocError>
     requires { is_word_name name.now ≡ false }
     ensures { OnOk result (out.new ≡ out.old ++ name_text name.now) }
 {
@@ -147,14 +131,24 @@ fn write_other_name(name: &[u8], out: &mut Text) -> Result<(), AllocError>
     }
 }
 
-/// Writes a name as it stands by itself: bare where one token or a pair of brackets stands for it, else in single quotes.
-/// After want of memory a part may stand there.
+/// Writes a name as it stands by itself.
 #[inline(always)]
-pub fn write_name(name: &[u8], out: &mut Text) -> Result<(), AllocError>
+pub(crate) fn put_name(name: &[u8], out: &mut Sheet) -> Result<(), AllocError>
     ensures { OnOk result (out.new ≡ out.old ++ name_text name.now) }
 {
-    if is_word_name(name) {
-        return out.extend(name);
+    if out.word(name)? {
+        return Ok(());
     }
     write_other_name(name, out)
+}
+
+/// Writes a name as it stands by itself: bare where one token or a pair of brackets stands for it,
+/// else in single quotes. After want of memory the text is as it was.
+pub fn write_name(alloc: Global, name: &[u8], out: &mut Text) -> Result<(), AllocError>
+    ensures text { OnOk result (out.new ≡ out.old ++ name_text name.now) }
+    ensures same { OnErr result (out.new ≡ out.old) }
+{
+    let mut sheet = Sheet::new(alloc);
+    put_name(name, &mut sheet)?;
+    out.extend(sheet.bytes())
 }

@@ -3,13 +3,13 @@
 ghost use Rattle.std.specs.Prelude.{◌≡◌, ◌++◌, OnOk};
 ghost use Rattle.std.specs.Fmt.{decimal, signed_decimal};
 
-use apd_base::Text;
+use crate::sheet::Sheet;
 use itoa::Buffer;
 use std::alloc::AllocError;
 
 /// Writes a number of however many digits. It isn't inlined: most numbers of programs have one digit.
 #[inline(never)]
-fn write_long(number: u64, out: &mut Text) -> Result<(), AllocError>
+fn write_long(number: u64, out: &mut Sheet) -> Result<(), AllocError>
     ensures { OnOk result (out.new ≡ out.old ++ decimal number) }
 {
     let mut digits = Buffer::new();
@@ -19,7 +19,7 @@ fn write_long(number: u64, out: &mut Text) -> Result<(), AllocError>
 /// Writes a number in decimal digits.
 #[inline(always)]
 #[tactic(auto, using(std::proofs::lemmas::Fmt::decimal_digit))]
-pub fn write_number(number: u64, out: &mut Text) -> Result<(), AllocError>
+pub fn write_number(number: u64, out: &mut Sheet) -> Result<(), AllocError>
     ensures { OnOk result (out.new ≡ out.old ++ decimal number) }
 {
     if number < 10 {
@@ -30,7 +30,7 @@ pub fn write_number(number: u64, out: &mut Text) -> Result<(), AllocError>
 
 /// Writes an integer in decimal digits, with `-` before it where it is negative.
 #[inline(always)]
-pub fn write_integer(integer: i64, out: &mut Text) -> Result<(), AllocError>
+pub fn write_integer(integer: i64, out: &mut Sheet) -> Result<(), AllocError>
     ensures { OnOk result (out.new ≡ out.old ++ signed_decimal integer) }
 {
     let amount = integer.unsigned_abs();

@@ -1,17 +1,18 @@
 //! What stands before the arguments of a compound.
 
-ghost use Rattle.std.specs.Prelude.{◌≡◌, ◌<◌, ◌-◌, ◌++◌, [], ◌∷◌, codes, false, IfOk, OnOk};
+ghost use Rattle.std.specs.Prelude.{◌≡◌, ◌<◌, ◌-◌, ◌++◌, [], ◌∷◌, codes, false, List, IfOk, OnOk};
 ghost use Rattle.apd_ops.specs.Operators.{left_of, right_of};
 ghost use Rattle.apd_term.specs.Names.{text_of_name};
 ghost use Rattle.apd_write.specs.NameTexts.{function_text, name_text};
 ghost use Rattle.apd_write.specs.Pending.{Opens, Puts, closing_frames, opening_mark};
 ghost use Rattle.apd_write.specs.Writing.{is_same_name};
+ghost use Rattle.apd_write.specs.declared.pending.PendingFrame.{PendingFrame};
 ghost use Rattle.apd_write.specs.declared.pending.TermPlace.TheVariants as places;
 ghost use Rattle.apd_write.specs.declared.pending.PendingFrame.TheVariants as pushed;
 
-use crate::names::{write_function_name, write_name};
+use crate::names::{put_name, write_function_name};
 use crate::pending::{PendingFrame, TermPlace};
-use apd_base::Text;
+use crate::sheet::Sheet;
 use apd_ops::{ARGUMENT_PRIORITY, MOST_PRIORITY, Op, Ops};
 use apd_term::NameId;
 use apd_term::names::Names;
@@ -23,7 +24,7 @@ fn open_fitted(
     priority: u16,
     max: u16,
     frames: &mut Vec<PendingFrame>,
-    out: &mut Text,
+    out: &mut Sheet,
 ) -> Result<(), AllocError>
     ensures text { OnOk result (out.new ≡ out.old ++ opening_mark priority max) }
     ensures frames { OnOk result (frames.new.items ≡
@@ -42,18 +43,17 @@ fn open_function(
     names: &Names,
     name: NameId,
     count: u8,
-    frames: &mut Vec<PendingFrame>,
-    out: &mut Text,
+    out: &mut Sheet,
 ) -> Result<TermPlace, AllocError>
     requires { 0 < count }
-    ensures { IfOk result (λ next. Puts (function_text (text_of_name names.now name) ++ codes "(")
+    ensures { IfOk result (λ next. (frames : List PendingFrame) →
+        Puts (function_text (text_of_name names.now name) ++ codes "(")
         (pushed.Arguments (count - 1) ∷ [])
-        (places.Whole ARGUMENT_PRIORITY) frames.old.items frames.new.items out.old out.new next) }
+        (places.Whole ARGUMENT_PRIORITY) frames frames out.old out.new next) }
 {
     write_function_name(names.text(name), out)?;
     out.push(b'(')?;
-    frames.push(PendingFrame::Arguments(count - 1))?;
-    Ok(TermPlace::Whole(ARGUMENT_PRIORITY))
+    Ok(TermPlace::Argument(count - 1))
 }
 
 /// A prefix operator before its operand.
@@ -63,7 +63,7 @@ fn open_prefix(
     operator: Op,
     max: u16,
     frames: &mut Vec<PendingFrame>,
-    out: &mut Text,
+    out: &mut Sheet,
 ) -> Result<TermPlace, AllocError>
     ensures { IfOk result (λ next. Puts (opening_mark operator.priority max ++
         (name_text (text_of_name names.now operator.name) ++ codes " "))
@@ -71,7 +71,7 @@ fn open_prefix(
         (places.Left (right_of operator)) frames.old.items frames.new.items out.old out.new next) }
 {
     open_fitted(operator.priority, max, frames, out)?;
-    write_name(names.text(operator.name), out)?;
+    put_name(names.text(operator.name), out)?;
     out.push(b' ')?;
     Ok(TermPlace::Left(operator.right()))
 }
@@ -82,7 +82,7 @@ fn open_infix(
     operator: Op,
     max: u16,
     frames: &mut Vec<PendingFrame>,
-    out: &mut Text,
+    out: &mut Sheet,
 ) -> Result<TermPlace, AllocError>
     ensures { IfOk result (λ next. Puts (opening_mark operator.priority max)
         (closing_frames operator.priority max ++ pushed.Right operator.name
@@ -99,7 +99,7 @@ fn open_infix(
 
 /// A list, from its first element on.
 #[inline(always)]
-fn open_list(frames: &mut Vec<PendingFrame>, out: &mut Text) -> Result<TermPlace, AllocError>
+fn open_list(frames: &mut Vec<PendingFrame>, out: &mut Sheet) -> Result<TermPlace, AllocError>
     ensures { IfOk result (λ next. Puts (codes "[") (pushed.Rest ∷ [])
         (places.Whole ARGUMENT_PRIORITY) frames.old.items frames.new.items out.old out.new next) }
 {
@@ -110,7 +110,7 @@ fn open_list(frames: &mut Vec<PendingFrame>, out: &mut Text) -> Result<TermPlace
 
 /// A list's next element.
 #[inline(always)]
-fn open_further(frames: &mut Vec<PendingFrame>, out: &mut Text) -> Result<TermPlace, AllocError>
+fn open_further(frames: &mut Vec<PendingFrame>, out: &mut Sheet) -> Result<TermPlace, AllocError>
     ensures { IfOk result (λ next. Puts (codes ",") (pushed.Rest ∷ [])
         (places.Whole ARGUMENT_PRIORITY) frames.old.items frames.new.items out.old out.new next) }
 {
@@ -121,7 +121,7 @@ fn open_further(frames: &mut Vec<PendingFrame>, out: &mut Text) -> Result<TermPl
 
 /// A term in braces.
 #[inline(never)]
-fn open_curly(frames: &mut Vec<PendingFrame>, out: &mut Text) -> Result<TermPlace, AllocError>
+fn open_curly(frames: &mut Vec<PendingFrame>, out: &mut Sheet) -> Result<TermPlace, AllocError>
     ensures { IfOk result (λ next. Puts (codes "{") (pushed.CurlyEnd ∷ [])
         (places.Whole MOST_PRIORITY) frames.old.items frames.new.items out.old out.new next) }
 {
@@ -139,7 +139,7 @@ fn open_compound(
     count: u8,
     max: u16,
     frames: &mut Vec<PendingFrame>,
-    out: &mut Text,
+    out: &mut Sheet,
 ) -> Result<TermPlace, AllocError>
     requires { 0 < count }
     ensures { IfOk result (λ next. Opens ops.now names.now name count
@@ -171,7 +171,7 @@ fn open_compound(
         }
         _ => {}
     }
-    open_function(names, name, count, frames, out)
+    open_function(names, name, count, out)
 }
 
 /// The same as the rest of a list, behind the bar. It isn't inlined: few lists have such a rest.
@@ -182,7 +182,7 @@ fn open_tail(
     name: NameId,
     count: u8,
     frames: &mut Vec<PendingFrame>,
-    out: &mut Text,
+    out: &mut Sheet,
 ) -> Result<TermPlace, AllocError>
     requires count { 0 < count }
     requires tail { count ≡ 2 → is_same_name name CELL ≡ false }
@@ -203,13 +203,16 @@ pub(crate) fn open(
     count: u8,
     place: TermPlace,
     frames: &mut Vec<PendingFrame>,
-    out: &mut Text,
+    out: &mut Sheet,
 ) -> Result<TermPlace, AllocError>
     requires { 0 < count }
     ensures { IfOk result
         (λ next. Opens ops.now names.now name count place frames.old.items frames.new.items out.old out.new next) }
 {
     match place {
+        TermPlace::Argument(_) => {
+            open_compound(ops, names, name, count, ARGUMENT_PRIORITY, frames, out)
+        }
         TermPlace::Whole(max) | TermPlace::Left(max) | TermPlace::Right(max) => {
             open_compound(ops, names, name, count, max, frames, out)
         }

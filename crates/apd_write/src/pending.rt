@@ -5,7 +5,10 @@ use apd_term::NameId;
 /// Where the next term stands, with the greatest priority that it may have there.
 #[derive(Clone, Copy)]
 pub(crate) enum TermPlace {
-    /// An argument, a list's element or tail, or all of a text or of a bracket.
+    /// An argument of a function, with so many further ones behind it: what stands behind an
+    /// argument isn't among what is still to be written as long as the argument is.
+    Argument(u8),
+    /// A list's element or tail, or all of a text or of a bracket.
     Whole(u16),
     /// The left operand of an infix operator, or the operand of a prefix operator.
     Left(u16),

@@ -3,18 +3,30 @@
 ghost use Rattle.std.specs.Prelude.{◌≡◌, ◌++◌, ◌≤◌, List, ◌∷◌, ℕ, OnOk, OnErr, IfOk};
 ghost use Rattle.apd_term.specs.Term.{IsTerms, IsWhole, read_all, term_of};
 ghost use Rattle.apd_term.specs.declared.term.Sym.{Sym};
-ghost use Rattle.apd_write.specs.Pending.{Expects, Stands};
+ghost use Rattle.apd_write.specs.Pending.{Expects, Stands, spread};
 ghost use Rattle.apd_write.specs.Writing.{written};
 
 use crate::closing::close;
 use crate::leaves::write_leaf;
 use crate::opening::open;
 use crate::pending::{PendingFrame, TermPlace};
+use crate::sheet::Sheet;
 use apd_base::Text;
 use apd_ops::Ops;
 use apd_term::names::Names;
 use apd_term::{Flat, Sym};
 use std::alloc::{AllocError, Global};
+
+/// What stands behind an argument is pushed: a compound is written in its place.
+#[inline(always)]
+fn hold(place: TermPlace, frames: &mut Vec<PendingFrame>) -> Result<(), AllocError>
+    ensures { OnOk result (frames.new.items ≡ spread place frames.old.items) }
+{
+    if let TermPlace::Argument(left) = place {
+        frames.push(PendingFrame::Arguments(left))?;
+    }
+    Ok(())
+}
 
 /// Writes what a symbol stands for in its place, and what stands behind it up to the place of the next symbol.
 #[inline(always)]
@@ -24,7 +36,7 @@ fn write_next(
     symbol: Sym,
     place: TermPlace,
     frames: &mut Vec<PendingFrame>,
-    out: &mut Text,
+    out: &mut Sheet,
 ) -> Result<Option<TermPlace>, AllocError>
     ensures { IfOk result (λ next. (whole : List ℕ) (rest : List Sym) → IsTerms (symbol ∷ rest) →
         Expects ops.now names.now whole frames.old.items out.old place (read_all (symbol ∷ rest)) →
@@ -33,10 +45,11 @@ fn write_next(
     if let Sym::Fun(name, count) = symbol
         && count > 0
     {
+        hold(place, frames)?;
         return Ok(Some(open(ops, names, name, count, place, frames, out)?));
     }
     write_leaf(ops, names, symbol, place, out)?;
-    close(names, frames, out)
+    close(names, place, frames, out)
 }
 
 /// Writes the term that these symbols spell, for a place of a priority. What stands in the frames doesn't matter.
@@ -47,7 +60,7 @@ fn write_all(
     symbols: &[Sym],
     max: u16,
     frames: &mut Vec<PendingFrame>,
-    out: &mut Text,
+    out: &mut Sheet,
 ) -> Result<(), AllocError>
     requires { IsWhole symbols.now }
     ensures { OnOk result
@@ -87,7 +100,7 @@ impl Pen {
         names: &Names,
         term: &Flat,
         max: u16,
-        out: &mut Text,
+        out: &mut Sheet,
     ) -> Result<(), AllocError>
         ensures { OnOk result (out.new ≡ out.old ++ written ops.now names.now term.now max) }
     {
@@ -102,10 +115,10 @@ fn text_of(
     names: &Names,
     term: &Flat,
     max: u16,
-) -> Result<Text, AllocError>
+) -> Result<Sheet, AllocError>
     ensures { IfOk result (λ text. text ≡ written ops.now names.now term.now max) }
 {
-    let mut text = Text::new(alloc);
+    let mut text = Sheet::new(alloc);
     let mut pen = Pen::new(alloc);
     pen.write(ops, names, term, max, &mut text)?;
     Ok(text)

@@ -50,9 +50,9 @@ returns c =
     let names : List (List ℕ) = c.args.names.now in
     let f : NameId = c.args.name in
     IfOk-weaker c.open_function.result _ _ (λ next put.
-    function_opens ops names f c.args.count c.args.max c.args.frames.now.items c.open_function.new.frames.items c.args.out.now c.open_function.new.out next c.requires
+    function_opens ops names f c.args.count c.args.max c.args.frames.now.items c.args.frames.now.items c.args.out.now c.open_function.new.out next c.requires
     (λ ps long. elim c.match-count.branch [
       | in-1+in-None+else-eq w ↦ one_is_function ops f (text_of_name names f) c.args.max (sym w.prefix.ensures ∙ w.in-None.is) (sym w.eq.ensures ∙ w.if-eq.false) ps (long ∙ w.in-1.is)
       | in-2-2+in_default-infix w ↦ two_is_function ops f (text_of_name names f) c.args.max (sym w.infix.ensures ∙ w.in_default-infix.is) (sym w.if-eq-2.ensures) ps (long ∙ w.in-2.is)
       | in_default w ↦ let some : 0 < c.args.count = c.requires in let many : 2 < c.args.count = omega arith in many_is_function ops f (text_of_name names f) c.args.max ps (omega (arith, long, many))
-    ]) put) c.open_function.ensures
+    ]) (put c.args.frames.now.items)) c.open_function.ensures

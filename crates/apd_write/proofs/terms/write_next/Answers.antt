@@ -4,7 +4,8 @@ use Rattle.apd_ops.specs.Table.{Table}
 use Rattle.apd_term.specs.Term.{IsTerms, read_all, arity_of}
 use Rattle.apd_term.specs.declared.term.Sym.{Sym}
 use Rattle.apd_term.specs.declared.term.Sym.TheVariants.{Fun}
-use Rattle.apd_write.specs.Pending.{Expects, leaf_in}
+use Rattle.apd_write.specs.Pending.{Expects, Opens, leaf_in, spread}
+use Rattle.apd_write.specs.declared.pending.PendingFrame.{PendingFrame}
 use Rattle.apd_write.proofs.Standing.{leaf_next, compound_next}
 use Rattle.apd_write.proofs.terms.write_next.Goals as goal
 use Rattle.apd_write.proofs.terms.write_next.Goals.{in_default-via-in-Var-1, in_default-via-in-Fun+else-count-gt0}
@@ -16,7 +17,10 @@ returns c = λ whole rest terms expects.
     let here : IsTerms (Fun c.in-Fun.name c.in-Fun.count ∷ rest) = subst (λ (x : Sym). IsTerms (x ∷ rest)) c.in-Fun.is terms in
     let before : Expects ops names whole c.args.frames.now.items c.args.out.now c.args.place (read_all (Fun c.in-Fun.name c.in-Fun.count ∷ rest)) =
     subst (λ (x : Sym). Expects ops names whole c.args.frames.now.items c.args.out.now c.args.place (read_all (x ∷ rest))) c.in-Fun.is expects in
-    compound_next ops names whole c.args.frames.now.items c.open.new.frames.items c.args.out.now c.open.new.out c.args.place c.in_ok-open.field-0 c.in-Fun.name c.in-Fun.count rest c.if-count-gt0.true here before c.in_ok-open.ensures
+    let held : c.hold.new.frames.items ≡ spread c.args.place c.args.frames.now.items = search rules in
+    let opens : Opens ops names c.in-Fun.name c.in-Fun.count c.args.place (spread c.args.place c.args.frames.now.items) c.open.new.frames.items c.args.out.now c.open.new.out c.in_ok-open.field-0 =
+    subst (λ (fs : List PendingFrame). Opens ops names c.in-Fun.name c.in-Fun.count c.args.place fs c.open.new.frames.items c.args.out.now c.open.new.out c.in_ok-open.field-0) held c.in_ok-open.ensures in
+    compound_next ops names whole c.args.frames.now.items c.open.new.frames.items c.args.out.now c.open.new.out c.args.place c.in_ok-open.field-0 c.in-Fun.name c.in-Fun.count rest c.if-count-gt0.true here before opens
 
 pub returns-2 : goal.returns-2
 returns-2 c =

@@ -11,7 +11,7 @@ use Rattle.apd_ports.specs.declared.point.Point.{Point}
 use Rattle.apd_ports.specs.declared.point.Step.{Step}
 use Rattle.apd_record.specs.Index.{IsBelow}
 use Rattle.apd_record.specs.Kept.{box_from, point_from, seen}
-use Rattle.apd_record.specs.Open.{AreIn, Rows, noted_row, told_by, with_box_row}
+use Rattle.apd_record.specs.Open.{AreIn, MayAdd, Rows, noted_row, rows_held, told_by, with_box_row}
 use Rattle.apd_record.specs.Recorded.{Recorded, noted, opened, with_point}
 use Rattle.apd_record.specs.Sound.{MayOpen}
 use Rattle.apd_record.specs.declared.ongoing.OpenPoint.{OpenPoint}
@@ -20,7 +20,7 @@ use Rattle.apd_record.proofs.Told.{make-below, open-within}
 use Rattle.apd_recorded.specs.Told.{told_port}
 use Rattle.apd_engine.specs.Given.{IsGoalOf}
 use Rattle.apd_engine.specs.Progress.{IsHeld}
-use Rattle.apd_engine.specs.Recording.{newest, rows_held, told_held, HasRow, IsThere, MayAdd, MayBeToldHeld, MayPass}
+use Rattle.apd_engine.specs.Recording.{newest, told_held, HasRow, IsThere, MayBeToldHeld, MayPass}
 use Rattle.apd_engine.specs.Search.{Grows}
 use Rattle.apd_engine.specs.declared.given.ToldCall.{ToldCall}
 use Rattle.apd_engine.proofs.Telling.{later_port, later_there}

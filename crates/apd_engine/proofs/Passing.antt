@@ -18,7 +18,7 @@ use Rattle.apd_ports.specs.declared.hook.Shown.{Shown}
 use Rattle.apd_ports.specs.declared.hook.Shown.TheVariants.{Port as ShownPort, Answer as ShownAnswer}
 use Rattle.apd_ports.specs.declared.point.Point.{Point}
 use Rattle.apd_record.specs.Kept.{no_tuple}
-use Rattle.apd_record.specs.Open.{AreIn, Rows, made_point, noted_row, told_by, with_box_row}
+use Rattle.apd_record.specs.Open.{AreIn, MayAdd, Rows, made_point, noted_row, rows_held, told_by, with_box_row}
 use Rattle.apd_record.specs.Recorded.{Recorded, empty, query_point}
 use Rattle.apd_record.specs.declared.ongoing.OpenPoint.{OpenPoint}
 use Rattle.apd_record.proofs.Opening.{in_none}
@@ -30,7 +30,7 @@ use Rattle.apd_trace.specs.declared.item.Item.TheVariants.{Passed, Answer, Made,
 use Rattle.apd_engine.specs.Cut.{FailsAt, IsCut, is_write_fault}
 use Rattle.apd_engine.specs.Progress.{Course, HasEnded, IsFirst, IsHeld, IsOn, Keeping, PassesAnswer, PassesLater, held_point, left, record_at, to_come}
 use Rattle.apd_engine.specs.Given.{IsGoalOf, IsPointAt, IsPortRead, IsToldWhole, TellsPort}
-use Rattle.apd_engine.specs.Recording.{newest, rows_held, told_held, HasRow, MayAdd, MayBeToldAll, MayPass, with_held}
+use Rattle.apd_engine.specs.Recording.{newest, told_held, HasRow, MayBeToldAll, MayPass, with_held}
 use Rattle.apd_engine.specs.Search.{opened, stand, GivesBy, Grows, Ends}
 use Rattle.apd_engine.specs.declared.given.ToldCall.{ToldCall}
 use Rattle.apd_engine.specs.declared.given.Unread.{Unread}

@@ -10,12 +10,12 @@ use Rattle.apd_ports.specs.declared.hook.Shown.{Shown}
 use Rattle.apd_ports.specs.declared.hook.Shown.TheVariants.{Port as ShownPort}
 use Rattle.apd_ports.specs.declared.point.Point.{Point}
 use Rattle.apd_record.specs.Kept.{no_tuple}
-use Rattle.apd_record.specs.Open.{AreIn, made_point, no_rows, noted_row, told_by}
+use Rattle.apd_record.specs.Open.{AreIn, made_point, no_rows, noted_row, rows_held, told_by}
 use Rattle.apd_record.specs.Recorded.{Recorded}
 use Rattle.apd_record.specs.declared.ongoing.OpenPoint.{OpenPoint}
 use Rattle.apd_recorded.specs.Told.{record_from, record_of}
 use Rattle.apd_trace.specs.Run.{Run, run_of, ran_of, shown_of, ports_of, answers_of}
-use Rattle.apd_engine.specs.Recording.{MayBeToldAll, with_held, held_count, rows_held}
+use Rattle.apd_engine.specs.Recording.{MayBeToldAll, with_held, held_count}
 use Rattle.apd_engine.specs.Given.{IsOpened, IsPointAt}
 use Rattle.apd_engine.specs.Search.{rest, stand, AllWaits, Goes, Standing, may_make}
 use Rattle.apd_engine.specs.declared.progress.Limits.{Limits}

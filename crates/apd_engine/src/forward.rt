@@ -63,10 +63,11 @@ impl Search {
             self.step_in()?;
             return whole_again(&mut self.frames, alloc, port);
         }
-        let port = self.read_call(alloc, unread)?;
+        // Asked before the port is written out: nothing has changed then since the link was last looked up.
         let is_user = is_user(self.frames.predicate());
         // Only calls of the program's own stand in chains, whose sizes are compared.
         let size = self.frames.goal_size(is_user)?;
+        let port = self.read_call(alloc, unread)?;
         self.step_in()?;
         Ok(Given::Call(ToldCall {
             size,

@@ -14,6 +14,7 @@ use apd_arith::Builtin;
 use apd_causes::RunError;
 use apd_following::following::Following;
 use apd_ports::{Event, Port};
+use apd_record::held::Held;
 use apd_record::ongoing::OpenPoint;
 use apd_term::Pred;
 use apd_trace::{Called, Item, Look, Step};
@@ -125,7 +126,7 @@ pub fn made(
     frames: &mut Following,
     before: Option<Step>,
     unread: Unread,
-    held: &mut Option<OpenPoint>,
+    held: &mut Held,
 ) -> Result<bool, AllocError>
     requires { 0 < length frames.old.current }
     ensures made { IfOk result (λ b. Makes
@@ -140,7 +141,7 @@ pub fn made(
     match frames.keep(before)? {
         None => Ok(false),
         Some(kept) => {
-            *held = Some(OpenPoint {
+            held.put(OpenPoint {
                 owner: kept.owner,
                 clause: kept.clause,
                 done: kept.done,

@@ -9,7 +9,7 @@ use crate::given::{Given, Unread, leaving, made, of_point, too_large};
 use crate::search::{Mode, Search};
 use apd_clauses::Program;
 use apd_ports::Port;
-use apd_record::ongoing::OpenPoint;
+use apd_record::held::Held;
 use apd_trace::{PointId, Step};
 use std::alloc::{AllocError, Global};
 use std::boxed::Box;
@@ -24,7 +24,7 @@ impl Search {
         alloc: Global,
         program: &Program,
         unread: Unread,
-        held: &mut Option<OpenPoint>,
+        held: &mut Held,
     ) -> Result<Box<Option<Given>>, AllocError>
         requires program { IsProgram program.now }
         requires boxes { self.old.boxes < 2 ^ 32 - 1 }
@@ -51,7 +51,7 @@ impl Search {
         program: &Program,
         exit: u32,
         unread: Unread,
-        held: &mut Option<OpenPoint>,
+        held: &mut Held,
     ) -> Result<Option<Given>, AllocError>
         requires program { IsProgram program.now }
         requires boxes { self.old.boxes < 2 ^ 32 - 1 }

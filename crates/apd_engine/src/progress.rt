@@ -5,14 +5,14 @@ ghost use Rattle.std.specs.Prelude.{OnOk, IfOk, IfErr};
 ghost use Rattle.apd_base.specs.Counts.{Counts};
 ghost use Rattle.apd_base.specs.declared.limits.TheConstants.{MOST_SHOWN};
 ghost use Rattle.apd_clauses.specs.Clauses.{IsProgram, IsRunnable, tuples_of};
-ghost use Rattle.apd_record.specs.Open.{told_by, AreIn};
+ghost use Rattle.apd_record.specs.Open.{rows_held, told_by, AreIn, MayAdd};
 ghost use Rattle.apd_record.specs.Sound.{IsKept};
 ghost use Rattle.apd_ports.specs.declared.hook.Shown.TheVariants.{Port as ShownPort, Answer as ShownAnswer};
 ghost use Rattle.apd_trace.specs.Run.{shown_of};
 ghost use Rattle.apd_engine.specs.Cut.{FailsAt, IsCut, is_write_fault};
 ghost use Rattle.apd_engine.specs.Progress.{Course, HasEnded, IsFirst, IsOn, items_left};
 ghost use Rattle.apd_engine.specs.Progress.{PassesAnswer, PassesLater};
-ghost use Rattle.apd_engine.specs.Recording.{HasRow, MayAdd, rows_held};
+ghost use Rattle.apd_engine.specs.Recording.{HasRow};
 ghost use Rattle.apd_engine.specs.Stepped.{HasStepped};
 
 use crate::given::{Given, Unread, give_up_call};
@@ -24,7 +24,8 @@ use apd_causes::{Ran, RunEnd};
 use apd_clauses::Program;
 use apd_ports::{Event, Hook};
 use apd_record::Record;
-use apd_record::ongoing::{Open, OpenPoint};
+use apd_record::held::Held;
+use apd_record::ongoing::Open;
 use apd_term::{Flat, Tuple};
 use apd_trace::Item;
 use std::alloc::{AllocError, Global};
@@ -43,7 +44,7 @@ pub struct Limits {
 pub struct Progress {
     search: Search,
     rows: Open,
-    held: Option<OpenPoint>,
+    held: Held,
     ports: u32,
     answered: u32,
 }
@@ -59,10 +60,12 @@ impl Progress {
         ensures { IfOk result (λ p. IsFirst query.now p.value) }
     {
         let (search, point) = Search::open_kept(alloc, query, program)?;
+        let mut held = Held::none();
+        held.put(point);
         let first = Progress {
             search,
             rows: Open::new(alloc),
-            held: Some(point),
+            held,
             ports: 0,
             answered: 0,
         };

@@ -2,18 +2,19 @@
 
 ghost use Rattle.std.specs.Prelude.{◌≡◌, ◌-◌, ◌<◌, ◌^◌, length, None, Ok, OnOk, IfErr};
 ghost use Rattle.apd_base.specs.Counts.{Counts};
-ghost use Rattle.apd_record.specs.Open.{noted_row, with_box_row};
+ghost use Rattle.apd_record.specs.Open.{noted_row, rows_held, with_box_row, MayAdd};
 ghost use Rattle.apd_ports.specs.declared.event.Event.{Event};
 ghost use Rattle.apd_ports.specs.declared.hook.Shown.TheVariants.{Port as ShownPort, Answer as ShownAnswer};
 ghost use Rattle.apd_engine.specs.Cut.{FailsAt, is_write_fault};
 ghost use Rattle.apd_engine.specs.Given.{IsPortRead};
-ghost use Rattle.apd_engine.specs.Recording.{HasRow, MayAdd, rows_held};
+ghost use Rattle.apd_engine.specs.Recording.{HasRow};
 
 use crate::given::ToldCall;
 use crate::recording::{tell_answer, tell_call, tell_later};
 use crate::running::RunFault;
 use apd_ports::{Event, Hook, PointId};
-use apd_record::ongoing::{Open, OpenPoint};
+use apd_record::held::Held;
+use apd_record::ongoing::Open;
 use apd_term::Flat;
 use apd_trace::Item;
 use std::boxed::Box;
@@ -45,7 +46,7 @@ fn show_read<H: Hook>(hook: &mut H, port: &Option<Box<Item>>) -> Result<(), RunF
 pub fn show_call<H: Hook>(
     hook: &mut H,
     rows: &mut Open,
-    held: &mut Option<OpenPoint>,
+    held: &mut Held,
     call: &ToldCall,
     from: PointId,
 ) -> Result<(), RunFault>
@@ -72,7 +73,7 @@ pub fn show_call<H: Hook>(
 pub fn show_later<H: Hook>(
     hook: &mut H,
     rows: &mut Open,
-    held: &mut Option<OpenPoint>,
+    held: &mut Held,
     event: &Event,
 ) -> Result<(), RunFault>
     requires held { MayAdd rows.old held.old }
@@ -95,7 +96,7 @@ pub fn show_later<H: Hook>(
 pub fn show_answer<H: Hook>(
     hook: &mut H,
     rows: &mut Open,
-    held: &mut Option<OpenPoint>,
+    held: &mut Held,
     values: &Flat,
 ) -> Result<(), RunFault>
     requires held { MayAdd rows.old held.old }

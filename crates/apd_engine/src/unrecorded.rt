@@ -16,6 +16,7 @@ use crate::search::Search;
 use apd_causes::{Ran, RunEnd};
 use apd_clauses::Program;
 use apd_ports::Hook;
+use apd_record::held::Held;
 use apd_term::Tuple;
 use apd_trace::Item;
 use std::alloc::{AllocError, Global};
@@ -87,7 +88,7 @@ impl Unrecorded {
             ports: hook.ignores_ports(),
             points: true,
         };
-        let mut held = None;
+        let mut held = Held::none();
         let Some(given) = self.search.next(alloc, program, unread, &mut held)? else {
             return Ok(Some(self.ended(RunEnd::Exhausted)));
         };

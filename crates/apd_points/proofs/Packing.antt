@@ -1,6 +1,6 @@
 -- Points in few bytes, as rows come behind.
 use Rattle.std.proofs.Common.{◌≡◌, ℕ, zero, suc, ◌+◌, ◌<◌, ◌≤◌, List, [], ◌∷◌, ◌++◌, length, map, get_or, if◌then◌else◌, Bool, true, false, Option, Some, None, refl, ap, sym, subst, ◌∙◌, arith, length-append}
-use Rattle.std.specs.Prelude.{slice_get, All}
+use Rattle.std.specs.Prelude.{slice_get, All, IfSome, ◌-◌, ◌%◌, ◌^◌}
 use Rattle.std.proofs.lemmas.List.{get_or_append_left, length-map, map-append}
 use Rattle.std.proofs.lemmas.List.Elements.{All-get_or, All-head, All-tail, All-weaker, All-push}
 use Rattle.std.specs.Option.{option_map}
@@ -9,7 +9,7 @@ use Rattle.apd_points.specs.declared.packed.PackedPoint.{PackedPoint}
 use Rattle.apd_points.specs.declared.packed.WholePoint.{WholePoint}
 use Rattle.apd_ports.specs.declared.point.Step.{Step}
 use Rattle.apd_points.specs.declared.kept.KeptPoint.{KeptPoint}
-use Rattle.apd_points.specs.Packed.{before_in, earlier_in, earlier_of_row, is_other, links_of, number_of, own, point_in, points_of, row_of, step_in, told_as, unpacked, unpacked_from, whole_in, Fits, IsPacked, IsPlace, IsThere, Listed}
+use Rattle.apd_points.specs.Packed.{before_in, behind, earlier_in, earlier_of_row, goals_in, is_other, links_of, number_behind, number_of, own, point_in, points_of, row_of, step_in, told_as, unpacked, unpacked_from, whole_in, Fits, HasRoom, IsPacked, IsPlace, IsPlaced, IsThere, Listed}
 
 pub unpacked_length : (others : List WholePoint) (place : ℕ) (rs : List PackedPoint) → length (unpacked_from others place rs) ≡ length rs
 unpacked_length others place [] = refl
@@ -149,9 +149,6 @@ fits_first place x e z h =
 pub points_length : (l : Listed) → length (points_of l) ≡ length l.rows
 points_length l = length-map l.rows point_in
 
-pub links_length : (l : Listed) → length (links_of l) ≡ length l.rows
-links_length l = length-map l.rows earlier_of_row
-
 pub points_pushed : (was now : Listed) (w : WholePoint) → now.rows ≡ was.rows ++ w ∷ [] → points_of now ≡ points_of was ++ w.point ∷ []
 points_pushed was now w e = ap (map point_in) e ∙ map-append point_in was.rows (w ∷ [])
 
@@ -167,3 +164,36 @@ link_at ws i w e = slice_get-map earlier_of_row ws i ∙ ap (option_map earlier_
 -- an element as an index reads it
 pub read_as : {X : Type 0} (xs : List X) (i : ℕ) (x : X) → slice_get xs i ≡ Some x → x ≡ get_or xs i x
 read_as xs i x e = sym (get_or_from_slice_get xs i x x e)
+
+-- As a point is kept before it is put.
+
+number_put : (b : Option Step) (e : Option ℕ) → number_behind (number_of b None) e ≡ number_of b e
+number_put None e = refl
+number_put (Some s) e = refl
+
+-- a row that is put behind another point of its box
+pub row_behind : (place : ℕ) (r : PackedPoint) (e : Option ℕ) → IsPlaced place r → behind r e ≡ row_of (own place r).point e
+row_behind place r e placed =
+    let x : KeptPoint = (own place r).point in
+    ap (λ (y : PackedPoint). behind y e) (sym placed.is)
+    ∙ ap (λ k. record { owner = x.owner; number = k; clause = x.clause % 65536; done = x.done; goals = goals_in x.tuple }) (number_put x.before e)
+
+room_of : (b : Option Step) → HasRoom b → IfSome (number_of b None) (λ n. n < 2 ^ 32 - 1)
+room_of None h = h
+room_of (Some s) h = h
+
+-- it has room for its number
+pub number_fits : (place : ℕ) (r : PackedPoint) → IsPlaced place r → IfSome r.number (λ n. n < 2 ^ 32 - 1)
+number_fits place r placed =
+    subst (λ (y : PackedPoint). IfSome y.number (λ n. n < 2 ^ 32 - 1)) placed.is (room_of (own place r).point.before placed.fits.number)
+
+-- the row of a point that fits is that of the point that it tells
+pub placed_of : (place : ℕ) (x : KeptPoint) → Fits place x None → (x ≡ (own place (row_of x None)).point) × IsPlaced place (row_of x None)
+placed_of place x fits =
+    let same : x ≡ (own place (row_of x None)).point = sym (ap point_in fits.told) in (
+      same,
+      record {
+        is = ap (λ (y : KeptPoint). row_of y None) (sym same);
+        fits = subst (λ (y : KeptPoint). Fits place y None) same fits;
+      },
+    )

@@ -92,6 +92,26 @@ pub record Fits (place : ℕ) (x : KeptPoint) (earlier : Option ℕ) : Type 0 wh
   pub goals : goals_in x.tuple < 256
   pub number : HasRoom x.before
 
+-- the row of the same point, where this is before it among those of its box without solved goals
+abbrev pub number_behind : Option ℕ → Option ℕ → Option ℕ
+number_behind None earlier = earlier
+number_behind (Some n) earlier = Some n
+
+abbrev pub behind : PackedPoint → Option ℕ → PackedPoint
+behind r earlier =
+    record {
+      owner = r.owner;
+      number = number_behind r.number earlier;
+      clause = r.clause;
+      done = r.done;
+      goals = r.goals;
+    }
+
+-- the row is that of the point that it tells at this place
+pub record IsPlaced (place : ℕ) (r : PackedPoint) : Type 0 where
+  pub is : row_of (own place r).point None ≡ r
+  pub fits : Fits place (own place r).point None
+
 -- rows of which the first has this place
 abbrev pub unpacked_from : List WholePoint → ℕ → List PackedPoint → List WholePoint
 unpacked_from others place [] = []

@@ -1,13 +1,13 @@
 //! Points in 12 bytes each.
 
-ghost use Rattle.std.specs.Prelude.{◌≡◌, ◌<◌};
+ghost use Rattle.std.specs.Prelude.{◌≡◌, ◌<◌, ◌-◌, ◌^◌, IfSome};
 ghost use Rattle.std.specs.Bool.{OnTrue};
-ghost use Rattle.apd_points.specs.Packed.{clause_in, goals_in, row_of, told_as, Fits, HasPlace, HasRoom};
+ghost use Rattle.apd_points.specs.Packed.{behind, clause_in, goals_in, row_of, step_in, told_as, Fits, HasPlace, HasRoom};
 
 use crate::kept::{KeptPoint, TuplePlace};
 use apd_base::MOST_CLAUSES;
 use apd_past::maybe_number::MaybeNumber;
-use apd_ports::{BUILTIN, Step};
+use apd_ports::{BUILTIN, PointId, Step};
 use apd_tuples::spots::Numbered;
 use std::mem::size_of;
 
@@ -88,6 +88,20 @@ pub fn fits(point: &KeptPoint, place: usize, earlier: &MaybeNumber) -> bool
     }
 }
 
+/// The step by which the point at a place came about: it followed the point with this number.
+#[inline(always)]
+pub fn step_in(place: u32, number: Option<u32>) -> Option<Step>
+    ensures { result ≡ step_in place number }
+{
+    match number {
+        None => None,
+        Some(number) => Some(Step {
+            point: PointId(number),
+            exit: PointId(place.saturating_sub(1)),
+        }),
+    }
+}
+
 impl PackedPoint {
     /// The row that tells the point.
     #[inline(always)]
@@ -110,6 +124,25 @@ impl PackedPoint {
             clause: (point.clause % 65_536) as u16,
             done: point.done,
             goals,
+        }
+    }
+
+    /// The row of the same point, where this is before it among those of its box without solved goals, if it is one.
+    #[inline(always)]
+    pub fn behind(&self, earlier: MaybeNumber) -> PackedPoint
+        requires { IfSome self.now.number (λ n. n < 2 ^ 32 - 1) }
+        ensures { result ≡ behind self.now earlier }
+    {
+        let number = match self.number.get() {
+            None => earlier,
+            Some(number) => MaybeNumber::at(number),
+        };
+        PackedPoint {
+            owner: self.owner,
+            number,
+            clause: self.clause,
+            done: self.done,
+            goals: self.goals,
         }
     }
 

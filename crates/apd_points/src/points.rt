@@ -3,13 +3,13 @@
 ghost use Rattle.std.specs.Prelude.{◌≡◌, ◌<◌, ◌-◌, ◌^◌, ◌++◌, ◌∷◌, [], length, slice_get, None, Some, OnOk};
 ghost use Rattle.std.specs.Bool.{IsTrue, OnTrue};
 ghost use Rattle.apd_points.specs.declared.packed.WholePoint.{WholePoint};
-ghost use Rattle.apd_points.specs.Packed.{links_of, points_of, step_in, whole_in, Fits, IsPlace};
+ghost use Rattle.apd_points.specs.Packed.{links_of, points_of, whole_in, Fits, IsPlace};
 
 use crate::kept::KeptPoint;
-use crate::packed::{PackedPoint, WHOLE, WholePoint, fits};
+use crate::packed::{PackedPoint, WHOLE, WholePoint, fits, step_in};
+use crate::placed::PlacedPoint;
 use apd_base::room::room_for_one;
 use apd_past::maybe_number::MaybeNumber;
-use apd_ports::{PointId, Step};
 use std::alloc::{AllocError, Global};
 use std::marker::Model;
 
@@ -21,20 +21,6 @@ fn whole_at(others: &Vec<WholePoint>, place: Option<u32>) -> WholePoint
     match place {
         None => unreachable!(),
         Some(place) => others[place as usize],
-    }
-}
-
-/// The step by which the point at a place came about: it followed the point with this number.
-#[inline(always)]
-fn step_in(place: u32, number: Option<u32>) -> Option<Step>
-    ensures { result ≡ step_in place number }
-{
-    match number {
-        None => None,
-        Some(number) => Some(Step {
-            point: PointId(number),
-            exit: PointId(place.saturating_sub(1)),
-        }),
     }
 }
 
@@ -98,15 +84,6 @@ impl Points {
         row.told_as(place, step_in(place, number), None)
     }
 
-    /// Whether its row tells the next point, where none of its box without solved goals is before it.
-    #[inline(always)]
-    pub fn fits(&self, point: &KeptPoint) -> bool
-        ensures { OnTrue result (Fits (length self.now.rows) point.now None) }
-    {
-        let earlier = MaybeNumber::none();
-        fits(point, self.len(), &earlier)
-    }
-
     /// Room for a point that its row tells.
     #[inline(always)]
     pub fn room_for_row(&mut self) -> Result<(), AllocError>
@@ -116,15 +93,23 @@ impl Points {
         room_for_one(&mut self.rows)
     }
 
-    /// Puts a point at the end that its row tells.
+    /// Whether the point comes next here.
     #[inline(always)]
-    pub fn push_row(&mut self, point: KeptPoint, earlier: MaybeNumber)
-        requires room { IsTrue self.old.has_row }
-        requires fits { Fits (length self.old.rows) point earlier }
-        ensures { self.new.rows ≡ self.old.rows
-            ++ record { point = point; earlier = earlier } ∷ [] }
+    pub fn is_next(&self, point: &PlacedPoint) -> bool
+        ensures { OnTrue result (Fits (length self.now.rows) point.now None) }
     {
-        self.rows.push_reserved(PackedPoint::of(&point, earlier));
+        point.place as usize == self.len()
+    }
+
+    /// Puts a point at the end that its row tells, as it is kept.
+    #[inline(always)]
+    pub fn push_placed(&mut self, point: &PlacedPoint, earlier: MaybeNumber)
+        requires room { IsTrue self.old.has_row }
+        requires fits { Fits (length self.old.rows) point.now earlier }
+        ensures { self.new.rows ≡ self.old.rows
+            ++ record { point = point.now; earlier = earlier } ∷ [] }
+    {
+        self.rows.push_reserved(point.row.behind(earlier));
     }
 
     /// Room for a point.

@@ -20,13 +20,13 @@ use Rattle.apd_points.specs.declared.kept.KeptPoint.{KeptPoint}
 use Rattle.apd_points.specs.declared.kept.TuplePlace.{TuplePlace}
 use Rattle.apd_points.specs.declared.kept.TuplePlace.TheVariants.{Written as Spanned, Kept as Held}
 use Rattle.apd_points.specs.declared.packed.WholePoint.{WholePoint}
-use Rattle.apd_points.specs.Packed.{before_in, number_of, Fits}
+use Rattle.apd_points.specs.Packed.{before_in, number_of, own, row_of, Fits}
 use Rattle.apd_points.proofs.Packing.{fits_first}
 use Rattle.apd_record.specs.declared.ongoing.OpenPoint.{OpenPoint}
 use Rattle.apd_record.specs.declared.order.Order.{Order}
 use Rattle.apd_record.specs.Index.{is_exit, IsBelow, IsIndex, IsWithin}
 use Rattle.apd_record.specs.Kept.{box_from, form_of, goal_of, no_tuple, point_from, tuple_there, IsAtomThere, IsHeld, IsSized, IsTupleThere}
-use Rattle.apd_record.specs.Open.{blank_point, blank_tuple, blanked, box_row, made_point, no_rows, noted_row, point_row, told_by, variables_for, with_box_row, with_point_row, AreIn, IsBeside, Rows}
+use Rattle.apd_record.specs.Open.{blank_point, blank_tuple, blanked, box_row, made_point, no_rows, noted_row, open_row, point_row, told_by, variables_for, with_box_row, with_point_row, AreIn, IsBeside, Rows}
 use Rattle.apd_record.specs.Ordered.{IsNext, IsOrdered}
 use Rattle.apd_record.specs.Recorded.{Recorded, BoxRow, is_user_atom, noted, opened, point_at, with_point}
 use Rattle.apd_record.specs.Sound.{IsKept, MayOpen}
@@ -132,6 +132,12 @@ next_by place (suc d) (Some m) (Some s) e l = let exit : place - 1 ≡ s.exit.0 
 -- the point that it is of stands right behind the exit by which it came about
 pub fits-next : (place : ℕ) (x : KeptPoint) (e : Option ℕ) → Fits place x e → IsBelow place x.before → IsNext place x.before
 fits-next place x e h l = next_by place x.done (number_of x.before e) x.before (ap (λ (w : WholePoint). w.point.before) h.told) l
+
+-- and its tuple was kept
+pub open_fits : (place : ℕ) (x : KeptPoint) (e : Option ℕ) → Fits place x e → x ≡ point_row (open_row x)
+open_fits place x e h =
+    let same : (own place (row_of x e)).point ≡ x = ap (λ (w : WholePoint). w.point) h.told in
+    subst (λ (y : KeptPoint). y ≡ point_row (open_row y)) same refl
 
 -- it is the row behind what its box had
 pub fits_earlier : (place : ℕ) (x : KeptPoint) (b : Bool) (e : Option ℕ) (o : Owned) → (x.done == 0) ≡ b → e ≡ earlier_of b o → Fits place x None → Fits place x e

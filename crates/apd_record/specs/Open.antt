@@ -1,5 +1,5 @@
 -- A record of a search that goes on: kept tuples stand for terms.
-use Rattle.std.specs.Prelude.{ℕ, ◌<◌, ◌^◌, Bool, false, Option, List, [], ◌∷◌, ◌++◌, length, map}
+use Rattle.std.specs.Prelude.{ℕ, ◌<◌, ◌≤◌, ◌^◌, Bool, false, Option, None, Some, List, [], ◌∷◌, ◌++◌, length, map}
 use Rattle.std.proofs.Common.{zero, suc}
 use Rattle.apd_term.specs.Term.{Term, variable}
 use Rattle.apd_term.specs.declared.tuple.Tuple.{Tuple}
@@ -11,9 +11,12 @@ use Rattle.apd_boxes.specs.declared.boxes.KeptBox.{KeptBox}
 use Rattle.apd_points.specs.declared.kept.KeptPoint.{KeptPoint}
 use Rattle.apd_points.specs.declared.kept.TuplePlace.{TuplePlace}
 use Rattle.apd_points.specs.declared.kept.TuplePlace.TheVariants.{Written as Spanned, Kept as Held}
+use Rattle.apd_tuples.specs.declared.spots.Numbered.{Numbered}
+use Rattle.apd_record.specs.declared.held.Holds.{Holds}
+use Rattle.apd_record.specs.declared.held.Holds.TheVariants.{Nothing, Row, Whole}
 use Rattle.apd_record.specs.declared.ongoing.OpenPoint.{OpenPoint}
 use Rattle.apd_record.specs.declared.order.Order.{Order}
-use Rattle.apd_record.specs.Index.{IsIndex, IsWithin}
+use Rattle.apd_record.specs.Index.{IsBelow, IsIndex, IsWithin}
 use Rattle.apd_record.specs.Kept.{AreKept, box_from, told}
 use Rattle.apd_record.specs.Ordered.{IsOrdered}
 use Rattle.apd_record.specs.Recorded.{Recorded}
@@ -50,6 +53,30 @@ made_point p t = record { owner = p.owner; clause = p.clause; done = p.done; tup
 
 abbrev pub with_point_row : Rows → OpenPoint → Rows
 with_point_row r p = record { boxes = r.boxes; points = r.points ++ point_row p ∷ [] }
+
+-- the point of a row
+abbrev pub numbered_in : TuplePlace → Numbered
+numbered_in (Spanned s) = record { number = 0; goals = 0 }
+numbered_in (Held k) = k
+
+abbrev pub open_row : KeptPoint → OpenPoint
+open_row x = record { owner = x.owner; clause = x.clause; done = x.done; tuple = numbered_in x.tuple; before = x.before }
+
+-- the point that is held back, where it stands so
+abbrev pub held_in : Holds → KeptPoint → Option OpenPoint → Option OpenPoint
+held_in Nothing row whole = None
+held_in Row row whole = Some (open_row row)
+held_in Whole row whole = whole
+
+-- a point that was held back is made
+abbrev pub rows_held : Rows → Option OpenPoint → Rows
+rows_held r None = r
+rows_held r (Some p) = with_point_row r p
+
+-- it may be made
+abbrev pub MayAdd : Rows → Option OpenPoint → Type 0
+MayAdd r None = Unit {0}
+MayAdd r (Some p) = (p.owner ≤ length r.boxes) × IsBelow (length r.points) p.before
 
 -- the port was passed last by box n
 abbrev pub noted_row : Rows → ℕ → Port → Rows

@@ -4,6 +4,7 @@
 mod active;
 mod finding;
 mod guesses;
+pub mod held;
 mod kept;
 pub mod laws;
 pub mod ongoing;

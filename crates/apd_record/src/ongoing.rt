@@ -3,11 +3,12 @@
 ghost use Rattle.std.specs.Prelude.{◌≡◌, ◌<◌, ◌≤◌, ◌+◌, ◌-◌, ◌^◌, ◌∷◌, length, nat_lt, not, None, IfOk, OnOk, OnErr};
 ghost use Rattle.apd_points.specs.Packed.{Fits};
 ghost use Rattle.apd_record.specs.Index.{id_of, IsBelow};
-ghost use Rattle.apd_record.specs.Open.{no_rows, noted_row, point_row, with_box_row, with_point_row};
+ghost use Rattle.apd_record.specs.Open.{no_rows, noted_row, point_row, rows_held, with_box_row, with_point_row, MayAdd};
 
+use crate::held::{Held, Holds, open_row};
 use crate::order::{NONE_YET, Order, note_call, stays_in_turn};
 use apd_boxes::{Boxes, Call};
-use apd_points::{KeptPoint, Points, TuplePlace};
+use apd_points::{KeptPoint, PlacedPoint, Points, TuplePlace};
 use apd_ports::{PointId, Port, Step};
 use apd_tuples::spots::Numbered;
 use std::alloc::{AllocError, Global};
@@ -53,7 +54,7 @@ fn are_solved(done: u8, goals: u32) -> bool
 
 /// The point as it is kept.
 #[inline(always)]
-fn row_of(point: &OpenPoint) -> KeptPoint
+pub(crate) fn row_of(point: &OpenPoint) -> KeptPoint
     ensures { result ≡ point_row point.now }
 {
     KeptPoint {
@@ -98,14 +99,14 @@ impl Open {
         Ok(place + 1)
     }
 
-    /// A new point that its row tells, and its number.
+    /// A new point that its row tells, and that is kept so already.
     #[inline(always)]
-    fn add_row(&mut self, point: OpenPoint) -> Result<PointId, AllocError>
+    fn add_row(&mut self, point: OpenPoint, row: &PlacedPoint) -> Result<(), AllocError>
         requires owner { point.owner ≤ length self.old.boxes }
         requires before { IsBelow (length self.old.points) point.before }
         requires few { length self.old.points < 2 ^ 32 - 1 }
+        requires row { row.now ≡ point_row point }
         requires fits { Fits (length self.old.points) (point_row point) None }
-        ensures number { IfOk result (λ p. p ≡ id_of (length self.old.points)) }
         ensures added { OnOk result (self.new ≡ with_point_row self.old point) }
         ensures err { OnErr result (self.new ≡ self.old) }
     {
@@ -114,14 +115,13 @@ impl Open {
         let is_exit = are_solved(point.done, point.tuple.goals);
         let is_first = point.done == 0;
         let earlier = self.boxes.add(point.owner, number, is_first, is_exit)?;
-        self.points.push_row(row_of(&point), earlier);
-        Ok(PointId(number))
+        self.points.push_placed(row, earlier);
+        Ok(())
     }
 
-    /// A new point that its row doesn't tell, and its number. No search makes one: it is a function of its own, so that its
-    /// parts stand in no loop of a run.
+    /// A new point, and its number.
     #[inline(never)]
-    fn add_whole(&mut self, point: OpenPoint) -> Result<PointId, AllocError>
+    pub fn add_point(&mut self, point: OpenPoint) -> Result<PointId, AllocError>
         requires owner { point.owner ≤ length self.old.boxes }
         requires before { IsBelow (length self.old.points) point.before }
         requires few { length self.old.points < 2 ^ 32 - 1 }
@@ -139,28 +139,46 @@ impl Open {
         Ok(PointId(number))
     }
 
-    /// A new point, and its number.
-    #[inline(always)]
-    pub fn add_point(&mut self, point: OpenPoint) -> Result<PointId, AllocError>
-        requires owner { point.owner ≤ length self.old.boxes }
-        requires before { IsBelow (length self.old.points) point.before }
+    /// A point that was held back is made where it doesn't come next as its row, or there is none. It is a function of its own,
+    /// so that its parts stand in no loop of a run.
+    #[inline(never)]
+    #[cold]
+    fn add_taken(&mut self, held: &mut Held) -> Result<(), AllocError>
+        requires may { MayAdd self.old held.old }
         requires few { length self.old.points < 2 ^ 32 - 1 }
-        ensures number { IfOk result (λ p. p ≡ id_of (length self.old.points)) }
-        ensures added { OnOk result (self.new ≡ with_point_row self.old point) }
+        ensures added { OnOk result (self.new ≡ rows_held self.old held.old) }
         ensures err { OnErr result (self.new ≡ self.old) }
+        ensures none { held.new ≡ None }
     {
-        let row = row_of(&point);
-        if self.points.fits(&row) {
-            return self.add_row(point);
+        match held.take() {
+            None => Ok(()),
+            Some(point) => {
+                let _number = self.add_point(point)?;
+                Ok(())
+            }
         }
-        // Put together here: else it would stand in memory where its row tells it, too.
-        self.add_whole(OpenPoint {
-            owner: point.owner,
-            clause: point.clause,
-            done: point.done,
-            tuple: point.tuple,
-            before: point.before,
-        })
+    }
+
+    /// A point that was held back is made.
+    #[inline(always)]
+    pub fn add_held(&mut self, held: &mut Held) -> Result<(), AllocError>
+        requires may { MayAdd self.old held.old }
+        requires few { length self.old.points < 2 ^ 32 - 1 }
+        ensures added { OnOk result (self.new ≡ rows_held self.old held.old) }
+        ensures err { OnErr result (self.new ≡ self.old) }
+        ensures none { held.new ≡ None }
+    {
+        match held.holds {
+            Holds::Nothing => Ok(()),
+            Holds::Row => {
+                if self.points.is_next(&held.row) {
+                    held.holds = Holds::Nothing;
+                    return self.add_row(open_row(held.row.get()), &held.row);
+                }
+                self.add_taken(held)
+            }
+            Holds::Whole => self.add_taken(held),
+        }
     }
 
     /// The port was passed last by the box; `Fail` makes it complete.

@@ -1,6 +1,7 @@
-use Rattle.std.proofs.Common.{Some, refl, subst}
+use Rattle.std.proofs.Common.{refl, subst, sym, true}
 use Rattle.std.proofs.lemmas.Result.{IfOk-weaker}
 use Rattle.apd_following.specs.Followed.{KeepsInstance}
+use Rattle.apd_engine.specs.Given.{Makes}
 use Rattle.apd_engine.proofs.Telling.{held_made, held_where, makes_kept, makes_measured}
 use Rattle.apd_engine.proofs.given.made.Goals as goal
 
@@ -13,10 +14,9 @@ returns-then-unread-clause-held c = IfOk-weaker c.measure.result _ _ (λ b is. h
 
 pub returns-in-Some-clause-made : goal.returns-in-Some-clause-made
 returns-in-Some-clause-made c =
-    makes_kept c.args.unread c.in-Some.kept c.args.frames.now.current c.args.before c.args.frames.now.tuples c.keep.new.self.tuples c.if-unread.false
-    (subst (λ o. KeepsInstance o c.args.frames.now.current c.args.frames.now.tuples c.keep.new.self.tuples) c.in-Some.is c.in_ok-keep.ensures.kept)
+    subst (λ h. Makes (record { tuples = c.keep.new.self.tuples; held = h }) c.args.unread true c.args.frames.now.current c.args.before) (sym c.put.ensures)
+    (makes_kept c.args.unread c.in-Some.kept c.args.frames.now.current c.args.before c.args.frames.now.tuples c.keep.new.self.tuples c.if-unread.false
+    (subst (λ o. KeepsInstance o c.args.frames.now.current c.args.frames.now.tuples c.keep.new.self.tuples) c.in-Some.is c.in_ok-keep.ensures.kept))
 
 pub returns-in-Some-clause-held : goal.returns-in-Some-clause-held
-returns-in-Some-clause-held c =
-    let k = c.in-Some.kept in
-    held_made c.args.unread.points c.args.held.now (Some (record { owner = k.owner; clause = k.clause; done = k.done; tuple = k.tuple; before = c.args.before })) c.if-unread.false
+returns-in-Some-clause-held c = held_made c.args.unread.points c.args.held.now c.put.new.self c.if-unread.false

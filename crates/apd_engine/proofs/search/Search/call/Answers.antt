@@ -1,9 +1,5 @@
-use Rattle.std.proofs.Common.{◌≡◌, ℕ, ◌∙◌, ap, subst}
+use Rattle.std.proofs.Common.{◌∙◌, ap}
 use Rattle.std.proofs.lemmas.Result.{IfOk-weaker}
-use Rattle.apd_term.specs.Term.{predicate_of}
-use Rattle.apd_trace.specs.declared.frame.Called.{Called}
-use Rattle.apd_frames.specs.Kept.{Calls}
-use Rattle.apd_following.specs.Followed.{IsGoalSized}
 use Rattle.apd_engine.specs.Search.{called_at, stand}
 use Rattle.apd_engine.specs.declared.search.Search.{Search}
 use Rattle.apd_engine.proofs.Telling.{tells_call, tells_called, tells_call_of}
@@ -26,6 +22,6 @@ returns-clause-told c = λ kept.
     tells_call_of kept c.args.unread (stand c.args.self.now) (stand c.step_in-2.new.self) c.in_ok-port-2.port c.in_ok-size.size c.is_user-is_user.result c.predicate.result c.if-unread.false c.requires.calls c.requires.goes c.requires.waits
     (c.in_ok-step_in-3.ensures.called ∙ ap (λ (t : Search). called_at (stand t)) c.in_ok-port-2.ensures.kept)
     c.in_ok-port-2.ensures.called
-    (subst (λ (t : Search). (n : ℕ) (g : Called) → Calls t.frames.current n g → c.predicate.result ≡ predicate_of g.atom) c.in_ok-port-2.ensures.kept c.predicate.ensures)
+    c.predicate.ensures
     c.is_user-is_user.ensures
-    (subst (λ (t : Search). IsGoalSized c.in_ok-size.size t.frames.current) c.in_ok-port-2.ensures.kept c.in_ok-size.ensures)
+    c.in_ok-size.ensures

@@ -2,11 +2,12 @@
 
 ghost use Rattle.std.specs.Prelude.{◌≡◌, ◌<◌, length, IfOk};
 ghost use Rattle.apd_term.specs.Canonical.{canonical};
+ghost use Rattle.apd_term.specs.Tuple.{canonical_tuple};
 ghost use Rattle.apd_record.specs.Reading.{point_of};
 ghost use Rattle.apd_divide.specs.Referring.{goal_at};
 
 use crate::forms::canonical_form;
-use crate::reading::tuple_at;
+use crate::label::Label;
 use apd_ports::PointId;
 use apd_record::Record;
 use apd_term::Flat;
@@ -15,20 +16,21 @@ use std::marker::Model;
 
 /// Where goals are.
 #[derive(Clone, Copy)]
-pub enum GoalsPlace<'a> {
+pub enum GoalsPlace<'r, 'a> {
     /// They are those of this recorded exit.
-    Recorded(&'a Record, PointId),
+    Recorded(&'r Record, PointId),
     /// They were read.
     Read(&'a [Flat]),
 }
 
-/// Goals: those of a recorded exit aren't written out before one is wanted. Contracts see the list.
+/// Goals: those of a recorded exit aren't written out before one is wanted. Contracts see the list, of a recorded exit as it is
+/// where the exit's instance is in canonical form.
 #[derive(Drop)]
-pub struct Goals<'a> {
-    place: GoalsPlace<'a>,
+pub struct Goals<'r, 'a> {
+    place: GoalsPlace<'r, 'a>,
 }
 
-impl<'a> Model for Goals<'a> {
+impl<'r, 'a> Model for Goals<'r, 'a> {
     ghost use Rattle.std.specs.Prelude.{List};
     ghost use Rattle.std.specs.Coded.{coded_list};
     ghost use Rattle.apd_term.specs.Term.{Term};
@@ -52,28 +54,11 @@ fn label_at(alloc: Global, atoms: &[Flat], place: usize) -> Result<Flat, AllocEr
     canonical_form(alloc, &atoms[place])
 }
 
-/// The goal at a place of a recorded exit, in canonical form.
-fn recorded_label(
-    alloc: Global,
-    recorded: &Record,
-    exit: PointId,
-    place: usize,
-) -> Result<Flat, AllocError>
-    requires there { exit.0 < length recorded.now.points }
-    requires place { place < length (point_of recorded.now exit.0).tuple.body }
-    ensures { IfOk result (λ l. l ≡
-        canonical (goal_at (point_of recorded.now exit.0).tuple.body place)) }
-{
-    let tuple = tuple_at(recorded, exit)?;
-    let label = label_at(alloc, tuple.body.as_slice(), place)?;
-    Ok(label)
-}
-
-impl<'a> Goals<'a> {
+impl<'r, 'a> Goals<'r, 'a> {
     /// The goals of a recorded exit.
-    pub fn of_exit(recorded: &'a Record, exit: PointId) -> Goals<'a>
+    pub fn of_exit(recorded: &'r Record, exit: PointId) -> Goals<'r, 'a>
         requires { exit.0 < length recorded.now.points }
-        ensures { result ≡ (point_of recorded.now exit.0).tuple.body }
+        ensures { result ≡ (canonical_tuple (point_of recorded.now exit.0).tuple).body }
     {
         Goals {
             place: GoalsPlace::Recorded(recorded, exit),
@@ -81,7 +66,7 @@ impl<'a> Goals<'a> {
     }
 
     /// These goals.
-    pub fn of_atoms(atoms: &'a [Flat]) -> Goals<'a>
+    pub fn of_atoms(atoms: &'a [Flat]) -> Goals<'r, 'a>
         ensures { result ≡ atoms.entry.now }
     {
         Goals {
@@ -89,14 +74,25 @@ impl<'a> Goals<'a> {
         }
     }
 
+    /// Whether they were read.
+    pub fn are_read(&self) -> bool {
+        match self.place {
+            GoalsPlace::Recorded(..) => false,
+            GoalsPlace::Read(_) => true,
+        }
+    }
+
     /// The goal at a place, counted from 0, in canonical form. The only error is want of memory.
-    pub fn label(&self, alloc: Global, place: usize) -> Result<Flat, AllocError>
+    pub fn label(&self, alloc: Global, place: usize) -> Result<Label<'r>, AllocError>
         requires { place < length self.now }
         ensures { IfOk result (λ l. l ≡ canonical (goal_at self.now place)) }
     {
         match self.place {
-            GoalsPlace::Recorded(recorded, exit) => recorded_label(alloc, recorded, exit, place),
-            GoalsPlace::Read(atoms) => label_at(alloc, atoms, place),
+            GoalsPlace::Recorded(recorded, exit) => Ok(Label::of_goal(recorded, exit, place)),
+            GoalsPlace::Read(atoms) => {
+                let label = label_at(alloc, atoms, place)?;
+                Ok(Label::of_term(label))
+            }
         }
     }
 }

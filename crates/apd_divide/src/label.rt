@@ -1,9 +1,11 @@
 //! Labels of calls, which are read from the record where they are wanted.
 
 ghost use Rattle.std.specs.Prelude.{◌≡◌, ◌<◌, length, IfOk};
+ghost use Rattle.apd_term.specs.Canonical.{canonical};
 ghost use Rattle.apd_record.specs.Reading.{point_of};
+ghost use Rattle.apd_divide.specs.Referring.{goal_at};
 
-use crate::reading::head_at;
+use crate::reading::{goal_at, head_at};
 use apd_ports::PointId;
 use apd_record::Record;
 use apd_term::Flat;
@@ -15,11 +17,13 @@ use std::marker::Model;
 pub enum LabelPlace<'a> {
     /// It is the head of this recorded exit.
     Recorded(&'a Record, PointId),
+    /// It is the goal with this number, counted from 0, of this recorded exit, in canonical form.
+    Goal(&'a Record, PointId, usize),
     /// It is a term of its own.
     Own(Flat),
 }
 
-/// A label: that of a recorded exit isn't written out before it is wanted. Contracts see the term.
+/// A label: one of a recorded exit isn't written out before it is wanted. Contracts see the term.
 #[derive(Drop)]
 pub struct Label<'a> {
     place: LabelPlace<'a>,
@@ -50,6 +54,17 @@ impl<'a> Label<'a> {
         }
     }
 
+    /// The goal with this number, counted from 0, of a recorded exit, in canonical form.
+    pub fn of_goal(recorded: &'a Record, exit: PointId, place: usize) -> Label<'a>
+        requires there { exit.0 < length recorded.now.points }
+        requires place { place < length (point_of recorded.now exit.0).tuple.body }
+        ensures { result ≡ canonical (goal_at (point_of recorded.now exit.0).tuple.body place) }
+    {
+        Label {
+            place: LabelPlace::Goal(recorded, exit, place),
+        }
+    }
+
     /// This term.
     pub fn of_term(term: Flat) -> Label<'a>
         ensures { result ≡ term }
@@ -65,6 +80,7 @@ impl<'a> Label<'a> {
     {
         match &self.place {
             LabelPlace::Recorded(recorded, exit) => head_at(recorded, *exit),
+            LabelPlace::Goal(recorded, exit, place) => goal_at(recorded, *exit, *place),
             LabelPlace::Own(term) => term.copy(alloc),
         }
     }

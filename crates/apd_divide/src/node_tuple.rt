@@ -1,10 +1,12 @@
 //! Instances of nodes, which are read from the record where they are wanted.
 
-ghost use Rattle.std.specs.Prelude.{◌≡◌, ◌<◌, length, Some, IfOk};
+ghost use Rattle.std.specs.Prelude.{◌≡◌, ◌<◌, length, IfOk};
 ghost use Rattle.apd_term.specs.Term.{predicate_of};
+ghost use Rattle.apd_term.specs.Tuple.{canonical_tuple};
 ghost use Rattle.apd_record.specs.Reading.{point_of};
+ghost use Rattle.apd_divide.specs.Referring.{IsGroundExit};
 
-use crate::reading::{head_at, tuple_at};
+use crate::reading::{form_at, head_at};
 use crate::spelled::Spelled;
 use apd_ports::PointId;
 use apd_record::Record;
@@ -16,7 +18,7 @@ use std::marker::Model;
 /// Where a tuple is.
 #[derive(Drop)]
 pub enum NodeTuplePlace<'a> {
-    /// It is that of this recorded exit, and its head has this predicate.
+    /// It is that of this recorded exit, in canonical form. No variable stands in its head, which has this predicate.
     Recorded(PointId, Pred, &'a Record),
     /// It is one of its own.
     Own(Box<Spelled>),
@@ -44,11 +46,11 @@ impl<'a> Model for NodeTuple<'a> {
 }
 
 impl<'a> NodeTuple<'a> {
-    /// The tuple of a recorded exit, whose head has this predicate.
+    /// The tuple of a recorded exit, in canonical form. No variable stands in its head, which has this predicate.
     pub fn of_exit(recorded: &'a Record, exit: PointId, pred: Pred) -> NodeTuple<'a>
         requires there { exit.0 < length recorded.now.points }
-        requires pred { predicate_of (point_of recorded.now exit.0).tuple.head ≡ Some pred }
-        ensures { result ≡ (point_of recorded.now exit.0).tuple }
+        requires exit { IsGroundExit recorded.now exit.0 pred }
+        ensures { result ≡ canonical_tuple (point_of recorded.now exit.0).tuple }
     {
         NodeTuple {
             place: NodeTuplePlace::Recorded(exit, pred, recorded),
@@ -90,7 +92,7 @@ impl<'a> NodeTuple<'a> {
         ensures { IfOk result (λ t. t ≡ self.now) }
     {
         match &self.place {
-            NodeTuplePlace::Recorded(exit, _, recorded) => tuple_at(recorded, *exit),
+            NodeTuplePlace::Recorded(exit, _, recorded) => form_at(alloc, recorded, *exit),
             NodeTuplePlace::Own(spelled) => spelled.tuple(alloc),
         }
     }

@@ -15,4 +15,4 @@ returns-then-is_head_ground c =
     c.of_exit.ensures ∙ ground_label c.args.recorded.now (c.args.exit.0 + 1) c.args.exit.0 (goal_at c.args.goals.now c.args.place) c.requires.solved (OnTrue_at c.if-is_head_ground.true c.is_head_ground.ensures)
 
 pub returns : goal.returns
-returns c = c.of_term.ensures ∙ c.in_ok-label.ensures
+returns c = c.label.ensures

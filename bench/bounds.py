@@ -7,10 +7,12 @@ PROGRAM is the proved program, which is built where none is named. UNRECORDED is
 runs leave no record (`run_query` of apd_query calls `show` in place of `run`); without it what a record costs isn't told.
 The C library's settings are those with which ./apd starts the program.
 With `swipl` on the path some rows are beside SWI-Prolog's bare engine with the occurs check, which neither counts ports nor
-records them. The time of sessions is the least of 3 to 20 of them, that of SWI-Prolog the least of three means of many runs,
-in its processor's time. A session that takes more than 20 seconds or 4 GB, or that doesn't end well, is told as cut off, and
-its row isn't met. With a word, only the rows are measured that have it in their names. It ends with 1 where a row isn't met.
+records them. The time of sessions is the least of 3 to 30 of them, that of SWI-Prolog the least of as many means of many runs,
+in its processor's time. What is compared takes turns, so that a machine whose pace changes has the same for all of it. A
+session that takes more than 20 seconds or 4 GB, or that doesn't end well, is told as cut off, and its row isn't met. With a
+word, only the rows are measured that have it in their names. It ends with 1 where a row isn't met.
 """
+import itertools
 import os
 import re
 import select
@@ -29,10 +31,10 @@ from terminal.program import surroundings  # noqa: E402
 
 LONGEST = 20
 MOST_MEMORY = 4 << 30
-# A session is run LEAST_ROUNDS times, and a short one again until all together take ENOUGH seconds, but at most MOST_ROUNDS
-# times. One that takes more than LONG seconds is run once.
+# What is compared is run in rounds: LEAST_ROUNDS of them, and more until they take ENOUGH seconds for each measure, but at most
+# MOST_ROUNDS. Where one measure takes more than LONG seconds, there is one round.
 LEAST_ROUNDS = 3
-MOST_ROUNDS = 20
+MOST_ROUNDS = 30
 ENOUGH = 1
 LONG = 5
 
@@ -95,6 +97,7 @@ class Bench:
     def __init__(self, folder, program, unrecorded, only):
         self.folder, self.program, self.unrecorded, self.only = folder, program, unrecorded, only
         self.met = True
+        self.numbers = itertools.count(1)
 
     def wanted(self, what):
         return self.only in what
@@ -110,11 +113,12 @@ class Bench:
 
     def seconds(self, source, lines, words=(), program=None):
         """The least seconds of some sessions."""
+        return turns(self.timed(source, lines, words, program))[0]
+
+    def timed(self, source, lines, words=(), program=None):
+        """What runs a session and tells its seconds."""
         command, asked = self.command(source, lines, words, program)
-        took = [self.once(command, asked)]
-        while took[-1] <= LONG and (len(took) < LEAST_ROUNDS or (len(took) < MOST_ROUNDS and sum(took) < ENOUGH)):
-            took.append(self.once(command, asked))
-        return min(took)
+        return lambda: self.once(command, asked)
 
     def peak(self, source, lines, words=(), program=None):
         """The peak memory of a session in KB, and what is printed. A child's peak counts that of who started it, so `time` does."""
@@ -125,8 +129,9 @@ class Bench:
 
     def command(self, source, lines, words, program):
         """What starts a session, and the file that it reads."""
-        return ([program or self.program, *words, self.file("program.pl", source)],
-                self.file("input", "\n".join(lines) + "\n"))
+        number = next(self.numbers)
+        return ([program or self.program, *words, self.file(f"program{number}.pl", source)],
+                self.file(f"input{number}", "\n".join(lines) + "\n"))
 
     def once(self, command, asked):
         """The seconds of a session."""
@@ -207,22 +212,40 @@ def ports(printed):
     return int(re.findall(r", (\d+) ports", printed)[-1])
 
 
+def turns(*measures):
+    """The least seconds that each of these measures tells. They take turns, a round of all of them after the other."""
+    took = []
+    started = time.perf_counter()
+    while not took or (max(took[-1]) <= LONG and (len(took) < LEAST_ROUNDS or (
+            len(took) < MOST_ROUNDS and time.perf_counter() - started < ENOUGH * len(measures)))):
+        took.append([measure() for measure in measures])
+    return [min(times) for times in zip(*took)]
+
+
 def swipl(bench, source, goal, runs):
-    """The processor's seconds of a goal in SWI-Prolog, up to its first solution: the least of three means of so many runs."""
-    file = bench.file("program.pl", source)
+    """What tells the processor's seconds of a goal in SWI-Prolog, up to its first solution: the mean of so many runs."""
+    file = bench.file(f"program{next(bench.numbers)}.pl", source)
     text = (f"set_prolog_flag(occurs_check, true), consult('{file}'), statistics(cputime, Start), "
             f"forall(between(1, {runs}, _), ignore({goal})), statistics(cputime, End), "
             f"Took is (End - Start) / {runs}, writeln(Took)")
     command = ["swipl", "-q", "-f", "none", "-g", text, "-t", "halt"]
-    return min(float(subprocess.run(command, capture_output=True, text=True, timeout=600).stdout) for _ in range(3))
+    return lambda: float(subprocess.run(command, capture_output=True, text=True, timeout=600).stdout)
 
 
-def bare_and_whole(bench, source, goal, repeat, program=None):
-    """The seconds that runs of a goal take beside runs of one port, the ports of one, and the KB beside."""
-    query = [f"?- {goal}."] * repeat
-    bare, low, _ = bench.session(source, query, ["--budget", "1"], program)
-    whole, peak, out = bench.session(source, query, ["--budget", "1000000", "--answers", "1"], program)
-    return (whole - bare) / repeat, ports(out), peak - low
+BARE = ["--budget", "1"]
+WHOLE = ["--budget", "1000000", "--answers", "1"]
+
+
+def bare_and_whole(bench, source, query, program=None):
+    """What tells the seconds of a query's runs of one port, and what tells those of whole ones."""
+    return [bench.timed(source, query, BARE, program), bench.timed(source, query, WHOLE, program)]
+
+
+def beside_bare(bench, source, query):
+    """The ports of a whole run of a query, and the KB that it takes beside one of one port."""
+    low, _ = bench.peak(source, query, BARE)
+    peak, out = bench.peak(source, query, WHOLE)
+    return ports(out), peak - low
 
 
 def beside_swipl(bench):
@@ -236,28 +259,44 @@ def beside_swipl(bench):
         ("naive reverse of 215", REVERSE, f"reverse({elements(215)}, _)", 3, 50, 15, 350),
         ("naive reverse of 690", REVERSE, f"reverse({elements(690)}, _)", 1, 5, 20, 350),
     ]
-    each = {}
     for what, source, goal, repeat, runs, ratio, bytes_a_port in programs:
+        query = [f"?- {goal}."] * repeat
+
         def measure():
-            took, passed, more = bare_and_whole(bench, source, goal, repeat)
-            each[what] = took / passed
-            theirs = swipl(bench, source, goal, runs) if shutil.which("swipl") else None
+            passed, more = beside_bare(bench, source, query)
+            theirs = [swipl(bench, source, goal, runs)] if shutil.which("swipl") else []
+            bare, whole, *swi = turns(*bare_and_whole(bench, source, query), *theirs)
+            took = (whole - bare) / repeat
             print(f"{what}: {passed} ports, {took / passed * 1e9:.0f} ns each"
-                  + (f", {theirs / passed * 1e9:.0f} ns each in SWI-Prolog" if theirs else ""))
-            figures = [took / theirs if theirs else None]
+                  + (f", {swi[0] / passed * 1e9:.0f} ns each in SWI-Prolog" if swi else ""))
+            figures = [took / swi[0] if swi else None]
             if bytes_a_port:
                 figures.append(more * 1024 / passed)
             return figures
+
+        def beside_unrecorded():
+            bare, whole, bare_without, without = turns(
+                *bare_and_whole(bench, source, query), *bare_and_whole(bench, source, query, bench.unrecorded))
+            return [(whole - bare) / (without - bare_without)]
+
         rows = [(f"{what}, times SWI-Prolog", "", ratio)]
         if bytes_a_port:
             rows.append((f"{what}, memory for each port", "bytes", bytes_a_port))
         bench.measured(rows, measure)
         if bench.unrecorded:
-            bench.measured([(f"{what}, times the same without a record", "", 1.5)], lambda: [
-                bare_and_whole(bench, source, goal, repeat)[0]
-                / bare_and_whole(bench, source, goal, repeat, bench.unrecorded)[0]])
-    if "naive reverse of 690" in each and "naive reverse of 30" in each:
-        bench.row("a port of the reverse of 690, times one of 30", each["naive reverse of 690"] / each["naive reverse of 30"], "", 1.3)
+            bench.measured([(f"{what}, times the same without a record", "", 1.5)], beside_unrecorded)
+
+    def long_and_short():
+        figures = []
+        for number, repeat in [(690, 1), (30, 100)]:
+            query = [f"?- reverse({elements(number)}, _)."] * repeat
+            passed = ports(bench.peak(REVERSE, query, WHOLE)[1])
+            figures.append((passed * repeat, bare_and_whole(bench, REVERSE, query)))
+        (long_ports, long), (short_ports, short) = figures
+        bare, whole, short_bare, short_whole = turns(*long, *short)
+        return [(whole - bare) / long_ports / ((short_whole - short_bare) / short_ports)]
+
+    bench.measured([("a port of the reverse of 690, times one of 30", "", 1.3)], long_and_short)
 
 
 def growing(bench):
@@ -276,8 +315,9 @@ def growing(bench):
             return [took, peak / 1024]
 
         def chain():
-            bare, low, _ = bench.session(source, run)
-            took, peak, out = bench.session(source, run + ["loop."])
+            low, _ = bench.peak(source, run)
+            peak, out = bench.peak(source, run + ["loop."])
+            bare, took = turns(bench.timed(source, run), bench.timed(source, run + ["loop."]))
             beside = max(0, peak - low - len(out) // 1024)
             return [took - bare, beside / 1024]
 
@@ -291,8 +331,7 @@ def growing(bench):
 
     def passed_on():
         source = "t(0,a).\nt(N,f(T,T)) :- N > 0, M is N-1, t(M,T).\np(T) :- p(T).\n"
-        bare = bench.seconds(source, ["?- t(17,_)."], ["--answers", "1"])
-        took = bench.seconds(source, ["?- t(17,T), p(T)."])
+        bare, took = turns(bench.timed(source, ["?- t(17,_)."], ["--answers", "1"]), bench.timed(source, ["?- t(17,T), p(T)."]))
         return [took - bare]
 
     bench.measured([("a term of 2^18 symbols passed on, 100,000 ports", "s", 0.2)], passed_on)
@@ -323,20 +362,16 @@ def growing(bench):
 def facts(bench):
     rule = "walk(0, X, X).\nwalk(N, X, Y) :- N > 0, M is N - 1, e(X, Z), walk(M, Z, Y).\n"
     goal = "walk(5000, 1, Y)"
-    took = {}
 
-    def measure(number):
-        source = rule + "".join(f"e({i}, {i * 7 % number + 1}).\n" for i in range(1, number + 1))
-        bare = bench.seconds(source, [f"?- {goal}."], ["--budget", "1"])
-        whole = bench.seconds(source, [f"?- {goal}."], ["--budget", "1000000", "--answers", "1"])
-        took[number] = whole - bare
-        return source
+    def program(number):
+        return rule + "".join(f"e({i}, {i * 7 % number + 1}).\n" for i in range(1, number + 1))
 
     def beside():
-        measure(1000)
-        source = measure(19000)
-        theirs = swipl(bench, source, goal, 20) if shutil.which("swipl") else None
-        return [took[19000] / theirs if theirs else None, took[19000] / took[1000]]
+        query = [f"?- {goal}."]
+        theirs = [swipl(bench, program(19000), goal, 20)] if shutil.which("swipl") else []
+        bare, whole, few_bare, few_whole, *swi = turns(
+            *bare_and_whole(bench, program(19000), query), *bare_and_whole(bench, program(1000), query), *theirs)
+        return [(whole - bare) / swi[0] if swi else None, (whole - bare) / (few_whole - few_bare)]
 
     bench.measured([("5,000 look-ups in 19,000 facts, times SWI-Prolog", "", 10), ("times those in 1,000 facts", "", 2)], beside)
 
@@ -414,21 +449,25 @@ def diagnoses(bench):
 
     bench.measured([("a diagnosis of 10,000 suspects, half of them trusted: first question", "ms", 50)], trusted)
 
+    def part_of_run(*session):
+        """The least time of a first diagnosis, as a part of the least of its run, of some dialogues."""
+        dialogues = [bench.dialogue(*session) for _ in range(LEAST_ROUNDS)]
+        return [min(diagnosis for _, diagnosis in dialogues) / min(run for run, _ in dialogues)]
+
     def part():
-        times = bench.dialogue(source, f"?- q(X), {choices}, fail.", ["wrong(1, 1)."], ["--budget", "1000000"])
-        return [times[1] / times[0]]
+        return part_of_run(source, f"?- q(X), {choices}, fail.", ["wrong(1, 1)."], ["--budget", "1000000"])
 
     bench.measured([("the first diagnosis of a run of 1,000,000 ports, part of its time", "", 0.1)], part)
 
     def counted():
-        times = bench.dialogue(COUNT, "?- count(166666).", ["wrong(1, 1)."], words)
-        return [times[1] / times[0]]
+        return part_of_run(COUNT, "?- count(166666).", ["wrong(1, 1)."], words)
 
     bench.measured([("the first diagnosis of a counting loop of 1,000,000 ports, part of its time", "", 0.1)], counted)
 
     def printed():
-        bare = bench.seconds(colours(1000), ["?- maps."])
-        took, _, out = bench.session(colours(1000), ["?- maps."], ["--trace"])
+        query = ["?- maps."]
+        _, out = bench.peak(colours(1000), query, ["--trace"])
+        bare, took = turns(bench.timed(colours(1000), query), bench.timed(colours(1000), query, ["--trace"]))
         return [(took - bare) / ports(out) * 1e9]
 
     bench.measured([("a printed port, more than one that isn't", "ns", 500)], printed)
@@ -442,16 +481,17 @@ def references(bench):
     told = ["?- p(1000).", "wrong(1,1)."]
 
     def reply():
-        file = bench.file("right.pl", right)
-        mine = bench.seconds(source, told + ["yes."] * 2000, words)
-        whole, _, out = bench.session(source, told, words + ["--reference", file])
+        asked = [source, told, words + ["--reference", bench.file("right.pl", right)]]
+        _, out = bench.peak(*asked)
         replies = out.count("(reference)")
         if not replies:
             raise Cut
         query = ["?- q(1)."] * 2000
-        bare = bench.seconds(right, query, ["--budget", "1"])
-        runs, _, out = bench.session(right, query)
-        print(f"{replies} replies of a reference, {ports(out)} ports each")
+        _, ran = bench.peak(right, query)
+        mine, whole, bare, runs = turns(
+            bench.timed(source, told + ["yes."] * 2000, words), bench.timed(*asked),
+            bench.timed(right, query, ["--budget", "1"]), bench.timed(right, query))
+        print(f"{replies} replies of a reference, {ports(ran)} ports each")
         return [1000 * ((whole - mine) / replies - (runs - bare) / len(query))]
 
     bench.measured([("a reply of a reference of 1,000 clauses, more than its run", "ms", 0.1)], reply)
@@ -465,8 +505,7 @@ def references(bench):
     def silent():
         endless = bench.file("endless.pl", "q(X) :- q(X).\n")
         asked = ["r(X) :- q(X).\nq(1).\n", ["?- r(1).", "wrong(1,1)."], ["--reference", endless]]
-        took = bench.seconds(*asked)
-        run = bench.seconds("q(X) :- q(X).\n", ["?- q(1)."])
+        took, run = turns(bench.timed(*asked), bench.timed("q(X) :- q(X).\n", ["?- q(1)."]))
         return [took / run]
 
     bench.measured([("a question without a reply of a reference, times a run of 100,000 ports", "", 2)], silent)

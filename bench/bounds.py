@@ -7,10 +7,11 @@ PROGRAM is the proved program, which is built where none is named. UNRECORDED is
 runs leave no record (`run_query` of apd_query calls `show` in place of `run`); without it what a record costs isn't told.
 The C library's settings are those with which ./apd starts the program.
 With `swipl` on the path some rows are beside SWI-Prolog's bare engine with the occurs check, which neither counts ports nor
-records them. The time of sessions is the least of 3 to 30 of them, that of SWI-Prolog the least of as many means of many runs,
-in its processor's time. What is compared takes turns, so that a machine whose pace changes has the same for all of it. A
-session that takes more than 20 seconds or 4 GB, or that doesn't end well, is told as cut off, and its row isn't met. With a
-word, only the rows are measured that have it in their names. It ends with 1 where a row isn't met.
+records them. The time of sessions is the least of 3 to 30 of them, that of SWI-Prolog the least of as many means of many
+runs, in its processor's time. What is compared takes turns, so that a machine whose pace changes has the same for all of
+it; how many times as long one takes is told by the middle one of the ratios of all rounds. A session that takes more than
+20 seconds or 4 GB, or that doesn't end well, is told as cut off, and its row isn't met. With a word, only the rows are
+measured that have it in their names. It ends with 1 where a row isn't met.
 """
 import itertools
 import os
@@ -18,6 +19,7 @@ import re
 import select
 import shutil
 import signal
+import statistics
 import subprocess
 import sys
 import tempfile
@@ -113,7 +115,7 @@ class Bench:
 
     def seconds(self, source, lines, words=(), program=None):
         """The least seconds of some sessions."""
-        return turns(self.timed(source, lines, words, program))[0]
+        return min(*turns(self.timed(source, lines, words, program)))
 
     def timed(self, source, lines, words=(), program=None):
         """What runs a session and tells its seconds."""
@@ -213,13 +215,28 @@ def ports(printed):
 
 
 def turns(*measures):
-    """The least seconds that each of these measures tells. They take turns, a round of all of them after the other."""
+    """The seconds that each of these measures tells. They take turns, so those of one round had the machine at one pace."""
     took = []
     started = time.perf_counter()
     while not took or (max(took[-1]) <= LONG and (len(took) < LEAST_ROUNDS or (
             len(took) < MOST_ROUNDS and time.perf_counter() - started < ENOUGH * len(measures)))):
         took.append([measure() for measure in measures])
-    return [min(times) for times in zip(*took)]
+    return list(zip(*took))
+
+
+def more(whole, bare):
+    """The least seconds that whole sessions take beside bare ones."""
+    return min(whole) - min(bare)
+
+
+def middle(whole, bare):
+    """The seconds that a whole session takes beside the bare one of its round, in the middle round."""
+    return statistics.median(one - that for one, that in zip(whole, bare))
+
+
+def times(whole, bare, other, other_bare=(0,)):
+    """How many times as long whole sessions take as others, each beside bare ones: the middle one of the ratios of all rounds."""
+    return statistics.median((one - min(bare)) / (that - min(other_bare)) for one, that in zip(whole, other))
 
 
 def swipl(bench, source, goal, runs):
@@ -263,21 +280,20 @@ def beside_swipl(bench):
         query = [f"?- {goal}."] * repeat
 
         def measure():
-            passed, more = beside_bare(bench, source, query)
+            passed, kilobytes = beside_bare(bench, source, query)
             theirs = [swipl(bench, source, goal, runs)] if shutil.which("swipl") else []
             bare, whole, *swi = turns(*bare_and_whole(bench, source, query), *theirs)
-            took = (whole - bare) / repeat
-            print(f"{what}: {passed} ports, {took / passed * 1e9:.0f} ns each"
-                  + (f", {swi[0] / passed * 1e9:.0f} ns each in SWI-Prolog" if swi else ""))
-            figures = [took / swi[0] if swi else None]
+            print(f"{what}: {passed} ports, {more(whole, bare) / repeat / passed * 1e9:.0f} ns each"
+                  + (f", {min(swi[0]) / passed * 1e9:.0f} ns each in SWI-Prolog" if swi else ""))
+            figures = [times(whole, bare, swi[0]) / repeat if swi else None]
             if bytes_a_port:
-                figures.append(more * 1024 / passed)
+                figures.append(kilobytes * 1024 / passed)
             return figures
 
         def beside_unrecorded():
             bare, whole, bare_without, without = turns(
                 *bare_and_whole(bench, source, query), *bare_and_whole(bench, source, query, bench.unrecorded))
-            return [(whole - bare) / (without - bare_without)]
+            return [times(whole, bare, without, bare_without)]
 
         rows = [(f"{what}, times SWI-Prolog", "", ratio)]
         if bytes_a_port:
@@ -294,7 +310,7 @@ def beside_swipl(bench):
             figures.append((passed * repeat, bare_and_whole(bench, REVERSE, query)))
         (long_ports, long), (short_ports, short) = figures
         bare, whole, short_bare, short_whole = turns(*long, *short)
-        return [(whole - bare) / long_ports / ((short_whole - short_bare) / short_ports)]
+        return [times(whole, bare, short_whole, short_bare) * short_ports / long_ports]
 
     bench.measured([("a port of the reverse of 690, times one of 30", "", 1.3)], long_and_short)
 
@@ -319,7 +335,7 @@ def growing(bench):
             peak, out = bench.peak(source, run + ["loop."])
             bare, took = turns(bench.timed(source, run), bench.timed(source, run + ["loop."]))
             beside = max(0, peak - low - len(out) // 1024)
-            return [took - bare, beside / 1024]
+            return [more(took, bare), beside / 1024]
 
         def most():
             took, peak, _ = bench.session(source, run, ["--budget", "1000000"])
@@ -332,7 +348,7 @@ def growing(bench):
     def passed_on():
         source = "t(0,a).\nt(N,f(T,T)) :- N > 0, M is N-1, t(M,T).\np(T) :- p(T).\n"
         bare, took = turns(bench.timed(source, ["?- t(17,_)."], ["--answers", "1"]), bench.timed(source, ["?- t(17,T), p(T)."]))
-        return [took - bare]
+        return [more(took, bare)]
 
     bench.measured([("a term of 2^18 symbols passed on, 100,000 ports", "s", 0.2)], passed_on)
 
@@ -371,7 +387,9 @@ def facts(bench):
         theirs = [swipl(bench, program(19000), goal, 20)] if shutil.which("swipl") else []
         bare, whole, few_bare, few_whole, *swi = turns(
             *bare_and_whole(bench, program(19000), query), *bare_and_whole(bench, program(1000), query), *theirs)
-        return [(whole - bare) / swi[0] if swi else None, (whole - bare) / (few_whole - few_bare)]
+        # A program of 19,000 facts takes several times as long to load as to run.
+        took = middle(whole, bare)
+        return [took / statistics.median(swi[0]) if swi else None, took / middle(few_whole, few_bare)]
 
     bench.measured([("5,000 look-ups in 19,000 facts, times SWI-Prolog", "", 10), ("times those in 1,000 facts", "", 2)], beside)
 
@@ -468,7 +486,7 @@ def diagnoses(bench):
         query = ["?- maps."]
         _, out = bench.peak(colours(1000), query, ["--trace"])
         bare, took = turns(bench.timed(colours(1000), query), bench.timed(colours(1000), query, ["--trace"]))
-        return [(took - bare) / ports(out) * 1e9]
+        return [more(took, bare) / ports(out) * 1e9]
 
     bench.measured([("a printed port, more than one that isn't", "ns", 500)], printed)
 
@@ -492,7 +510,7 @@ def references(bench):
             bench.timed(source, told + ["yes."] * 2000, words), bench.timed(*asked),
             bench.timed(right, query, ["--budget", "1"]), bench.timed(right, query))
         print(f"{replies} replies of a reference, {ports(ran)} ports each")
-        return [1000 * ((whole - mine) / replies - (runs - bare) / len(query))]
+        return [1000 * (more(whole, mine) / replies - more(runs, bare) / len(query))]
 
     bench.measured([("a reply of a reference of 1,000 clauses, more than its run", "ms", 0.1)], reply)
 
@@ -506,7 +524,7 @@ def references(bench):
         endless = bench.file("endless.pl", "q(X) :- q(X).\n")
         asked = ["r(X) :- q(X).\nq(1).\n", ["?- r(1).", "wrong(1,1)."], ["--reference", endless]]
         took, run = turns(bench.timed(*asked), bench.timed("q(X) :- q(X).\n", ["?- q(1)."]))
-        return [took / run]
+        return [times(took, (0,), run)]
 
     bench.measured([("a question without a reply of a reference, times a run of 100,000 ports", "", 2)], silent)
 

@@ -79,6 +79,7 @@ fn owner(links: &Links, number: usize) -> u32
 }
 
 /// The term at a cell as it is shown. No memory has more symbols than a u64 can count.
+#[inline(always)]
 fn shown(store: &Store, scratch: &mut Scratch, cell: Cell) -> Result<Flat, AllocError>
     requires { cell.0 < length store.now.cells }
     ensures { IfOk result (λ t. t ≡ canonical (term_at store.now cell.0)) }

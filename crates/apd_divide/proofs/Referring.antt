@@ -1,5 +1,6 @@
--- What is read of a recorded exit, and what isn't read: where the head is ground, the canonical form of the exit's tuple is the
--- instance with any label, and the head is the label of each goal that it solved.
+-- What is read of a recorded exit, and what isn't read: where the head is ground, the canonical form
+-- of the exit's tuple is the instance with any label, and the head is the label of each goal that it
+-- solved.
 use Rattle.std.proofs.Common.{◌≡◌, ℕ, zero, suc, ◌<◌, Bool, true, false, List, [], ◌∷◌, length, Option, Some, None, sym, ◌∙◌, ap, subst, arith}
 use Rattle.std.specs.Prelude.{if◌then◌else◌, get_or, slice_get, IfSome}
 use Rattle.std.specs.Option.{option_map}
@@ -22,7 +23,7 @@ use Rattle.apd_record.specs.Sound.{IsKept}
 use Rattle.apd_record.specs.Reading.{point_of, exits_to}
 use Rattle.apd_divide.specs.declared.growing.PendingCall.{PendingCall}
 use Rattle.apd_divide.specs.Exits.{IsLabelled}
-use Rattle.apd_divide.specs.Referring.{goal_at, IsGroundExit}
+use Rattle.apd_divide.specs.Referring.{goal_at, HasGroundHead}
 use Rattle.apd_divide.specs.Solved.{IsSolvedBy, AreSolved}
 use Rattle.apd_divide.specs.Growing.{instance_at, calls_for, calls_at}
 use Rattle.apd_divide.proofs.Ground.{instance_with-ground_head}
@@ -35,7 +36,7 @@ pub read_there : {X : Type 0} (R : Recorded) (e : ℕ) (x : X) (part : Point →
 read_there R e x part l h = subst (λ o. IfSome o (λ (p : Point). x ≡ part p)) (point_there R e l) h
 
 pub ground_told : (R : Recorded) (e : ℕ) (o : Option Pred) → e < length R.points → IfSome (point_at R e) (λ (x : Point). IsGround x.tuple.head)
-    → IfSome o (λ pred. IfSome (point_at R e) (λ (x : Point). predicate_of x.tuple.head ≡ Some pred)) → IfSome o (IsGroundExit R e)
+    → IfSome o (λ pred. IfSome (point_at R e) (λ (x : Point). predicate_of x.tuple.head ≡ Some pred)) → IfSome o (HasGroundHead R e)
 ground_told R e None l g h = tt
 ground_told R e (Some pred) l g h = record {
   ground = subst (λ o. IfSome o (λ (x : Point). IsGround x.tuple.head)) (point_there R e l) g;
@@ -65,23 +66,23 @@ goal-form t k l =
 
 -- Exits whose head is ground.
 
-pub ground_head : (R : Recorded) (e : ℕ) (pred : Pred) → IsGroundExit R e pred → (point_of R e).tuple.head ≡ (canonical_tuple (point_of R e).tuple).head
+pub ground_head : (R : Recorded) (e : ℕ) (pred : Pred) → HasGroundHead R e pred → (point_of R e).tuple.head ≡ (canonical_tuple (point_of R e).tuple).head
 ground_head R e pred g = sym (apply-ground (λ v. variable (place_of (by_appearance (variables_of_tuple (point_of R e).tuple)) v)) (point_of R e).tuple.head g.ground)
 
-pub ground_instance : (R : Recorded) (e : ℕ) (label : Term) (pred : Pred) → IsGroundExit R e pred → canonical_tuple (point_of R e).tuple ≡ instance_at R e label
+pub ground_instance : (R : Recorded) (e : ℕ) (label : Term) (pred : Pred) → HasGroundHead R e pred → canonical_tuple (point_of R e).tuple ≡ instance_at R e label
 ground_instance R e label pred g = instance_with-ground_head (point_of R e).tuple label g.ground
 
-pub ground_done : (R : Recorded) → IsKept R → (e : ℕ) (label : Term) (pred : Pred) (goals : List Term) → IsLabelled R e label → IsGroundExit R e pred → goals ≡ (canonical_tuple (point_of R e).tuple).body
+pub ground_done : (R : Recorded) → IsKept R → (e : ℕ) (label : Term) (pred : Pred) (goals : List Term) → IsLabelled R e label → HasGroundHead R e pred → goals ≡ (canonical_tuple (point_of R e).tuple).body
     → length goals ≡ (point_of R e).done
 ground_done R kept e label pred goals l g is =
     ap length is ∙ ap (λ (t : Tuple). length t.body) (ground_instance R e label pred g) ∙ instance_done R kept e label l
 
-pub ground_solved : (R : Recorded) → IsKept R → (e : ℕ) (label : Term) (pred : Pred) (goals : List Term) → IsLabelled R e label → IsGroundExit R e pred → goals ≡ (canonical_tuple (point_of R e).tuple).body
+pub ground_solved : (R : Recorded) → IsKept R → (e : ℕ) (label : Term) (pred : Pred) (goals : List Term) → IsLabelled R e label → HasGroundHead R e pred → goals ≡ (canonical_tuple (point_of R e).tuple).body
     → AreSolved R e goals (exits_to R e)
 ground_solved R kept e label pred goals l g is =
     subst (λ ts. AreSolved R e ts (exits_to R e)) (sym (is ∙ ap (λ (t : Tuple). t.body) (ground_instance R e label pred g))) (instance_solved R kept e label l)
 
-pub ground_calls : (R : Recorded) (e : ℕ) (label : Term) (pred : Pred) (goals : List Term) → IsGroundExit R e pred → goals ≡ (canonical_tuple (point_of R e).tuple).body
+pub ground_calls : (R : Recorded) (e : ℕ) (label : Term) (pred : Pred) (goals : List Term) → HasGroundHead R e pred → goals ≡ (canonical_tuple (point_of R e).tuple).body
     → calls_for goals (exits_to R e) ≡ calls_at R e label
 ground_calls R e label pred goals g is =
     ap (λ ts. calls_for ts (exits_to R e)) (is ∙ ap (λ (t : Tuple). t.body) (ground_instance R e label pred g))

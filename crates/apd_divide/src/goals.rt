@@ -23,8 +23,8 @@ pub enum GoalsPlace<'r, 'a> {
     Read(&'a [Flat]),
 }
 
-/// Goals: those of a recorded exit aren't written out before one is wanted. Contracts see the list, of a recorded exit as it is
-/// where the exit's instance is in canonical form.
+/// Goals: those of a recorded exit aren't written out before one is wanted. Contracts see the list;
+/// of a recorded exit it is that of the exit's instance in canonical form.
 #[derive(Drop)]
 pub struct Goals<'r, 'a> {
     place: GoalsPlace<'r, 'a>,
@@ -74,7 +74,7 @@ impl<'r, 'a> Goals<'r, 'a> {
         }
     }
 
-    /// Whether they were read.
+    /// Whether these are goals that were read; false for those of a recorded exit.
     pub fn are_read(&self) -> bool {
         match self.place {
             GoalsPlace::Recorded(..) => false,

@@ -4,7 +4,7 @@ ghost use Rattle.std.specs.Prelude.{◌≡◌, ◌<◌, length, IfOk};
 ghost use Rattle.apd_term.specs.Term.{predicate_of};
 ghost use Rattle.apd_term.specs.Tuple.{canonical_tuple};
 ghost use Rattle.apd_record.specs.Reading.{point_of};
-ghost use Rattle.apd_divide.specs.Referring.{IsGroundExit};
+ghost use Rattle.apd_divide.specs.Referring.{HasGroundHead};
 
 use crate::reading::{form_at, head_at};
 use crate::spelled::Spelled;
@@ -18,7 +18,8 @@ use std::marker::Model;
 /// Where a tuple is.
 #[derive(Drop)]
 pub enum NodeTuplePlace<'a> {
-    /// It is that of this recorded exit, in canonical form. No variable stands in its head, which has this predicate.
+    /// It is that of this recorded exit, in canonical form. No variable stands in its head, which
+    /// has this predicate.
     Recorded(PointId, Pred, &'a Record),
     /// It is one of its own.
     Own(Box<Spelled>),
@@ -46,10 +47,11 @@ impl<'a> Model for NodeTuple<'a> {
 }
 
 impl<'a> NodeTuple<'a> {
-    /// The tuple of a recorded exit, in canonical form. No variable stands in its head, which has this predicate.
+    /// The tuple of a recorded exit, in canonical form. No variable stands in its head, which has
+    /// this predicate.
     pub fn of_exit(recorded: &'a Record, exit: PointId, pred: Pred) -> NodeTuple<'a>
         requires there { exit.0 < length recorded.now.points }
-        requires exit { IsGroundExit recorded.now exit.0 pred }
+        requires exit { HasGroundHead recorded.now exit.0 pred }
         ensures { result ≡ canonical_tuple (point_of recorded.now exit.0).tuple }
     {
         NodeTuple {

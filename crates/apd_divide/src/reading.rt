@@ -40,7 +40,8 @@ pub fn head_at(recorded: &Record, exit: PointId) -> Result<Flat, AllocError>
     Ok(tuple.head)
 }
 
-/// The goal with this number, counted from 0, of a recorded exit, in canonical form. The only error is want of memory.
+/// The goal with this number, counted from 0, of a recorded exit, in canonical form. The only error
+/// is want of memory.
 pub fn goal_at(recorded: &Record, exit: PointId, place: usize) -> Result<Flat, AllocError>
     requires there { exit.0 < length recorded.now.points }
     requires place { place < length (point_of recorded.now exit.0).tuple.body }

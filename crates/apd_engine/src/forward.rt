@@ -63,7 +63,8 @@ impl Search {
             self.step_in()?;
             return whole_again(&mut self.frames, alloc, port);
         }
-        // Asked before the port is written out: nothing has changed then since the link was last looked up.
+        // Asked before the port is written out: the innermost frame's link, which was looked up
+        // just before, needn't be looked up again then.
         let is_user = is_user(self.frames.predicate());
         // Only calls of the program's own stand in chains, whose sizes are compared.
         let size = self.frames.goal_size(is_user)?;

@@ -197,8 +197,9 @@ impl Linked {
         }
     }
 
-    /// Whether the innermost instance is small enough for a point, and where its symbols are passed for that, whether it
-    /// has variables. Sizes of long terms are kept on the way, so that later looks needn't count them.
+    /// Whether the innermost instance is small enough for a point, and where its symbols are passed
+    /// for that, whether it has variables. Sizes of long terms are kept on the way, so that later
+    /// looks needn't count them.
     #[inline(always)]
     pub fn measure(&mut self) -> Result<Measure, AllocError>
         requires { AreFramed self.old }

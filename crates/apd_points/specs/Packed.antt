@@ -4,7 +4,7 @@ use Rattle.std.proofs.Common.{zero, suc}
 use Rattle.apd_ports.specs.declared.point.Step.{Step}
 use Rattle.apd_points.specs.declared.kept.KeptPoint.{KeptPoint}
 use Rattle.apd_points.specs.declared.kept.TuplePlace.{TuplePlace}
-use Rattle.apd_points.specs.declared.kept.TuplePlace.TheVariants.{Written as Spanned, Kept as Held}
+use Rattle.apd_points.specs.declared.kept.TuplePlace.TheVariants.{Written as Spanned, Kept as Named}
 use Rattle.apd_points.specs.declared.packed.PackedPoint.{PackedPoint}
 use Rattle.apd_points.specs.declared.packed.WholePoint.{WholePoint}
 
@@ -43,7 +43,7 @@ told_as place r before earlier =
         owner = r.owner;
         clause = clause_in r.clause;
         done = r.done;
-        tuple = Held (record { number = place; goals = r.goals });
+        tuple = Named (record { number = place; goals = r.goals });
         before = before;
       };
       earlier = earlier;
@@ -63,7 +63,7 @@ unpacked others place r = if is_other r then whole_in others r.number (own place
 -- how many goals a tuple has that isn't written
 abbrev pub goals_in : TuplePlace → ℕ
 goals_in (Spanned s) = 0
-goals_in (Held k) = k.goals
+goals_in (Named k) = k.goals
 
 -- the number that a row has for a point that came about so
 abbrev pub number_of : Option Step → Option ℕ → Option ℕ
@@ -92,11 +92,12 @@ pub record Fits (place : ℕ) (x : KeptPoint) (earlier : Option ℕ) : Type 0 wh
   pub goals : goals_in x.tuple < 256
   pub number : HasRoom x.before
 
--- the row of the same point, where this is before it among those of its box without solved goals
+-- the number of a row, where this is before its point
 abbrev pub number_behind : Option ℕ → Option ℕ → Option ℕ
 number_behind None earlier = earlier
 number_behind (Some n) earlier = Some n
 
+-- the row of the same point, where this is before it among those of its box without solved goals
 abbrev pub behind : PackedPoint → Option ℕ → PackedPoint
 behind r earlier =
     record {

@@ -127,7 +127,8 @@ impl PackedPoint {
         }
     }
 
-    /// The row of the same point, where this is before it among those of its box without solved goals, if it is one.
+    /// The row of the same point, where this is before it among those of its box without solved
+    /// goals, if it is one.
     #[inline(always)]
     pub fn behind(&self, earlier: MaybeNumber) -> PackedPoint
         requires { IfSome self.now.number (λ n. n < 2 ^ 32 - 1) }

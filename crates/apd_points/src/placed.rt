@@ -8,8 +8,8 @@ use crate::packed::{PackedPoint, fits, step_in};
 use apd_past::maybe_number::MaybeNumber;
 use std::marker::Model;
 
-/// A point that its row tells at the place that is its tuple's number, where none of its box without solved goals is before
-/// it. It is kept as that row. Contracts see the point.
+/// A point that its row tells at the place that is its tuple's number, where none of its box
+/// without solved goals is before it. It is kept as that row. Contracts see the point.
 #[derive(Drop)]
 pub struct PlacedPoint {
     pub(crate) row: PackedPoint,

@@ -18,7 +18,7 @@ use Rattle.apd_boxes.specs.Owned.{Owned, nothing, earlier_of, edited, owning}
 use Rattle.apd_boxes.specs.declared.boxes.KeptBox.{KeptBox}
 use Rattle.apd_points.specs.declared.kept.KeptPoint.{KeptPoint}
 use Rattle.apd_points.specs.declared.kept.TuplePlace.{TuplePlace}
-use Rattle.apd_points.specs.declared.kept.TuplePlace.TheVariants.{Written as Spanned, Kept as Held}
+use Rattle.apd_points.specs.declared.kept.TuplePlace.TheVariants.{Written as Spanned, Kept as Named}
 use Rattle.apd_points.specs.declared.packed.WholePoint.{WholePoint}
 use Rattle.apd_points.specs.Packed.{before_in, number_of, own, row_of, Fits}
 use Rattle.apd_points.proofs.Packing.{fits_first}
@@ -26,7 +26,7 @@ use Rattle.apd_record.specs.declared.ongoing.OpenPoint.{OpenPoint}
 use Rattle.apd_record.specs.declared.order.Order.{Order}
 use Rattle.apd_record.specs.Index.{is_exit, IsBelow, IsIndex, IsWithin}
 use Rattle.apd_record.specs.Kept.{box_from, form_of, goal_of, no_tuple, point_from, tuple_there, IsAtomThere, IsHeld, IsSized, IsTupleThere}
-use Rattle.apd_record.specs.Open.{blank_point, blank_tuple, blanked, box_row, made_point, no_rows, noted_row, open_row, point_row, told_by, variables_for, with_box_row, with_point_row, AreIn, IsBeside, Rows}
+use Rattle.apd_record.specs.Open.{blank_point, blank_tuple, blanked, box_row, made_point, no_rows, noted_row, point_of_row, point_row, told_by, variables_for, with_box_row, with_point_row, AreIn, IsBeside, Rows}
 use Rattle.apd_record.specs.Ordered.{IsNext, IsOrdered}
 use Rattle.apd_record.specs.Recorded.{Recorded, BoxRow, is_user_atom, noted, opened, point_at, with_point}
 use Rattle.apd_record.specs.Sound.{IsKept, MayOpen}
@@ -134,10 +134,10 @@ pub fits-next : (place : ℕ) (x : KeptPoint) (e : Option ℕ) → Fits place x 
 fits-next place x e h l = next_by place x.done (number_of x.before e) x.before (ap (λ (w : WholePoint). w.point.before) h.told) l
 
 -- and its tuple was kept
-pub open_fits : (place : ℕ) (x : KeptPoint) (e : Option ℕ) → Fits place x e → x ≡ point_row (open_row x)
-open_fits place x e h =
+pub row_from_fits : (place : ℕ) (x : KeptPoint) (e : Option ℕ) → Fits place x e → x ≡ point_row (point_of_row x)
+row_from_fits place x e h =
     let same : (own place (row_of x e)).point ≡ x = ap (λ (w : WholePoint). w.point) h.told in
-    subst (λ (y : KeptPoint). y ≡ point_row (open_row y)) same refl
+    subst (λ (y : KeptPoint). y ≡ point_row (point_of_row y)) same refl
 
 -- it is the row behind what its box had
 pub fits_earlier : (place : ℕ) (x : KeptPoint) (b : Bool) (e : Option ℕ) (o : Owned) → (x.done == 0) ≡ b → e ≡ earlier_of b o → Fits place x None → Fits place x e
@@ -155,7 +155,7 @@ exit_of p = ap (λ n. not (nat_lt p.done n)) (length-variables p.tuple.goals)
 
 same_goals : (kept : List Tuple) (at : TuplePlace) → IsTupleThere 0 kept at → length (tuple_there [] kept at).body ≡ length (blank_tuple at).body
 same_goals kept (Spanned s) h = absurd (omega (arith, h))
-same_goals kept (Held k) h =
+same_goals kept (Named k) h =
     ap (λ (t : Tuple). length t.body) (get_or_from_slice_get kept k.number h.tuple no_tuple h.there) ∙ sym h.goals ∙ sym (length-variables k.goals)
 
 abbrev with_exit : KeptPoint → Bool → Shape
@@ -216,7 +216,7 @@ told_noted kept r (suc i) port = ap (λ bs. record { boxes = bs; points = (told_
 
 tuple_on : (kept more : List Tuple) (at : TuplePlace) → IsTupleThere 0 kept at → (tuple_there [] (kept ++ more) at ≡ tuple_there [] kept at) × IsTupleThere 0 (kept ++ more) at
 tuple_on kept more (Spanned s) h = absurd (omega (arith, h))
-tuple_on kept more (Held k) h = (
+tuple_on kept more (Named k) h = (
   get_or_append_left kept more no_tuple k.number (slice_get_within kept k.number h.tuple h.there),
   record { tuple = h.tuple; there = slice_get-front kept more k.number h.tuple h.there; goals = h.goals },
 )

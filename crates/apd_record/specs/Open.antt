@@ -10,7 +10,7 @@ use Rattle.apd_boxes.specs.Owned.{Owned, edited}
 use Rattle.apd_boxes.specs.declared.boxes.KeptBox.{KeptBox}
 use Rattle.apd_points.specs.declared.kept.KeptPoint.{KeptPoint}
 use Rattle.apd_points.specs.declared.kept.TuplePlace.{TuplePlace}
-use Rattle.apd_points.specs.declared.kept.TuplePlace.TheVariants.{Written as Spanned, Kept as Held}
+use Rattle.apd_points.specs.declared.kept.TuplePlace.TheVariants.{Written as Spanned, Kept as Named}
 use Rattle.apd_tuples.specs.declared.spots.Numbered.{Numbered}
 use Rattle.apd_record.specs.declared.held.Holds.{Holds}
 use Rattle.apd_record.specs.declared.held.Holds.TheVariants.{Nothing, Row, Whole}
@@ -45,7 +45,14 @@ abbrev pub with_box_row : Rows → ℕ → Bool → ℕ → Rows
 with_box_row r from user size = record { boxes = r.boxes ++ box_row from user size ∷ []; points = r.points }
 
 abbrev pub point_row : OpenPoint → KeptPoint
-point_row p = record { owner = p.owner; clause = p.clause; done = p.done; tuple = Held p.tuple; before = p.before }
+point_row p =
+    record {
+      owner = p.owner;
+      clause = p.clause;
+      done = p.done;
+      tuple = Named p.tuple;
+      before = p.before;
+    }
 
 -- the point, where this tuple was kept for it
 abbrev pub made_point : OpenPoint → Tuple → Point
@@ -54,19 +61,27 @@ made_point p t = record { owner = p.owner; clause = p.clause; done = p.done; tup
 abbrev pub with_point_row : Rows → OpenPoint → Rows
 with_point_row r p = record { boxes = r.boxes; points = r.points ++ point_row p ∷ [] }
 
--- the point of a row
+-- the number of a row's tuple
 abbrev pub numbered_in : TuplePlace → Numbered
 numbered_in (Spanned s) = record { number = 0; goals = 0 }
-numbered_in (Held k) = k
+numbered_in (Named k) = k
 
-abbrev pub open_row : KeptPoint → OpenPoint
-open_row x = record { owner = x.owner; clause = x.clause; done = x.done; tuple = numbered_in x.tuple; before = x.before }
+-- the point of a row
+abbrev pub point_of_row : KeptPoint → OpenPoint
+point_of_row x =
+    record {
+      owner = x.owner;
+      clause = x.clause;
+      done = x.done;
+      tuple = numbered_in x.tuple;
+      before = x.before;
+    }
 
 -- the point that is held back, where it stands so
 abbrev pub held_in : Holds → KeptPoint → Option OpenPoint → Option OpenPoint
-held_in Nothing row whole = None
-held_in Row row whole = Some (open_row row)
-held_in Whole row whole = whole
+held_in Nothing placed whole = None
+held_in Row placed whole = Some (point_of_row placed)
+held_in Whole placed whole = whole
 
 -- a point that was held back is made
 abbrev pub rows_held : Rows → Option OpenPoint → Rows
@@ -91,7 +106,7 @@ variables_for (suc n) = variable 0 ∷ variables_for n
 
 abbrev pub blank_tuple : TuplePlace → Tuple
 blank_tuple (Spanned s) = record { head = variable 0; body = variables_for s.goals }
-blank_tuple (Held k) = record { head = variable 0; body = variables_for k.goals }
+blank_tuple (Named k) = record { head = variable 0; body = variables_for k.goals }
 
 abbrev pub blank_point : KeptPoint → Point
 blank_point x =

@@ -1,14 +1,14 @@
 //! The point that a run holds back until a port or an answer is passed after it.
 
 ghost use Rattle.std.specs.Prelude.{◌≡◌, None, Some};
-ghost use Rattle.apd_record.specs.Open.{open_row};
+ghost use Rattle.apd_record.specs.Open.{point_of_row};
 
 use crate::ongoing::{OpenPoint, row_of};
 use apd_points::{KeptPoint, PlacedPoint, TuplePlace};
 use apd_tuples::spots::Numbered;
 use std::marker::Model;
 
-/// Where the point stands.
+/// What is held: nothing, a point that its row tells, or one that is kept whole.
 #[derive(Clone, Copy)]
 pub enum Holds {
     Nothing,
@@ -16,12 +16,12 @@ pub enum Holds {
     Whole,
 }
 
-/// A point that is held back, if there is one. It is kept as its row, and whole only where that doesn't tell it. Contracts see
-/// the option.
+/// A point that is held back, if there is one. It is kept as its row, and whole only where that
+/// doesn't tell it. Contracts see the option.
 #[derive(Drop)]
 pub struct Held {
     pub(crate) holds: Holds,
-    pub(crate) row: PlacedPoint,
+    pub(crate) placed: PlacedPoint,
     pub(crate) whole: Option<OpenPoint>,
 }
 
@@ -32,13 +32,13 @@ impl Model for Held {
 
     ghost Value = { Option OpenPoint };
 
-    ghost view = { λ h. held_in h.holds h.row h.whole };
+    ghost view = { λ h. held_in h.holds h.placed h.whole };
 }
 
 /// A point whose instance is a kept tuple, as it is kept.
 #[inline(always)]
-pub(crate) fn open_row(point: KeptPoint) -> OpenPoint
-    ensures { result ≡ open_row point }
+pub(crate) fn point_of_row(point: KeptPoint) -> OpenPoint
+    ensures { result ≡ point_of_row point }
 {
     let tuple = match point.tuple {
         TuplePlace::Written(_) => Numbered {
@@ -63,7 +63,7 @@ impl Held {
     {
         Held {
             holds: Holds::Nothing,
-            row: PlacedPoint::blank(),
+            placed: PlacedPoint::blank(),
             whole: None,
         }
     }
@@ -73,10 +73,11 @@ impl Held {
     pub fn put(&mut self, point: OpenPoint)
         ensures { self.new ≡ Some point }
     {
-        if self.row.put(&row_of(&point)) {
+        if self.placed.put(&row_of(&point)) {
             self.holds = Holds::Row;
             return;
         }
+        // Put together here: else it would stand in memory where its row tells it, too.
         self.put_whole(OpenPoint {
             owner: point.owner,
             clause: point.clause,
@@ -105,7 +106,7 @@ impl Held {
         self.holds = Holds::Nothing;
         match holds {
             Holds::Nothing => None,
-            Holds::Row => Some(open_row(self.row.get())),
+            Holds::Row => Some(point_of_row(self.placed.get())),
             Holds::Whole => self.whole,
         }
     }

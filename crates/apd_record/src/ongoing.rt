@@ -5,7 +5,7 @@ ghost use Rattle.apd_points.specs.Packed.{Fits};
 ghost use Rattle.apd_record.specs.Index.{id_of, IsBelow};
 ghost use Rattle.apd_record.specs.Open.{no_rows, noted_row, point_row, rows_held, with_box_row, with_point_row, MayAdd};
 
-use crate::held::{Held, Holds, open_row};
+use crate::held::{Held, Holds, point_of_row};
 use crate::order::{NONE_YET, Order, note_call, stays_in_turn};
 use apd_boxes::{Boxes, Call};
 use apd_points::{KeptPoint, PlacedPoint, Points, TuplePlace};
@@ -119,7 +119,7 @@ impl Open {
         Ok(())
     }
 
-    /// A new point, and its number.
+    /// A new point that is put by its fields, and its number. A search comes here for none.
     #[inline(never)]
     pub fn add_point(&mut self, point: OpenPoint) -> Result<PointId, AllocError>
         requires owner { point.owner ≤ length self.old.boxes }
@@ -139,8 +139,8 @@ impl Open {
         Ok(PointId(number))
     }
 
-    /// A point that was held back is made where it doesn't come next as its row, or there is none. It is a function of its own,
-    /// so that its parts stand in no loop of a run.
+    /// Makes a point that was held back, if there is one, in whichever way it is held. It is a
+    /// function of its own, so that its parts stand in no loop of a run.
     #[inline(never)]
     #[cold]
     fn add_taken(&mut self, held: &mut Held) -> Result<(), AllocError>
@@ -171,9 +171,9 @@ impl Open {
         match held.holds {
             Holds::Nothing => Ok(()),
             Holds::Row => {
-                if self.points.is_next(&held.row) {
+                if self.points.is_next(&held.placed) {
                     held.holds = Holds::Nothing;
-                    return self.add_row(open_row(held.row.get()), &held.row);
+                    return self.add_row(point_of_row(held.placed.get()), &held.placed);
                 }
                 self.add_taken(held)
             }

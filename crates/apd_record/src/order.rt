@@ -46,8 +46,8 @@ pub fn stays_in_turn(in_turn: bool, before: Option<Step>, number: u32) -> bool
     in_turn && is_next(before, number)
 }
 
-/// Notes that one more box is called from this point. Each part is written by itself, as each is read by itself: parts that
-/// were just stored together can't be read apart at once.
+/// Notes that one more box is called from this point. Each part is written by itself, as each is
+/// read by itself: a processor waits where it reads a part of what was just stored as a whole.
 #[inline(always)]
 pub fn note_call(order: &mut Order, from: u32)
     requires { from < 2 ^ 32 - 1 }

@@ -4,7 +4,7 @@ use Rattle.std.proofs.lemmas.List.{append-nil}
 use Rattle.std.specs.Prelude.{codes, Option, Some, None}
 use Rattle.apd_ops.specs.Table.{Table}
 use Rattle.apd_write.specs.Writing.{Part}
-use Rattle.apd_write.specs.Pending.{AddsClosing, Leaves, plain, resume, spread, takes, takes_in_all, text_in}
+use Rattle.apd_write.specs.Pending.{AddsClosing, Leaves, resume, resumed_in, takes, takes_in_all, with_arguments}
 use Rattle.apd_write.specs.declared.pending.TermPlace.{TermPlace}
 use Rattle.apd_write.specs.declared.pending.TermPlace.TheVariants as place
 use Rattle.apd_write.specs.declared.pending.PendingFrame.{PendingFrame}
@@ -12,12 +12,12 @@ use Rattle.apd_write.specs.declared.pending.PendingFrame.TheVariants as frame
 use Rattle.apd_write.proofs.Frames.{resume-push, takes-push}
 
 -- what isn't an argument pushes no frame
-pub spread_other : (here : TermPlace) (frames : List PendingFrame) → ((left : ℕ) → here ≡ place.Argument left → ⊥) → spread here frames ≡ frames
-spread_other (place.Argument left) frames other = absurd (other left refl)
-spread_other (place.Whole max) frames other = refl
-spread_other (place.Left max) frames other = refl
-spread_other (place.Right max) frames other = refl
-spread_other place.Rest frames other = refl
+pub no_arguments : (here : TermPlace) (frames : List PendingFrame) → ((left : ℕ) → here ≡ place.Argument left → ⊥) → with_arguments here frames ≡ frames
+no_arguments (place.Argument left) frames other = absurd (other left refl)
+no_arguments (place.Whole max) frames other = refl
+no_arguments (place.Left max) frames other = refl
+no_arguments (place.Right max) frames other = refl
+no_arguments place.Rest frames other = refl
 
 -- the comma before one more argument
 pub argument_left : (ops : Table) (names : List (List ℕ)) (n m : ℕ) (frames : List PendingFrame) (out out_now : List ℕ) → n ≡ suc m →
@@ -72,7 +72,7 @@ Closing-next ops names frames frames_now popped next f out out_now out_next here
         ∙ ap (λ (o : List PendingFrame). before.marks ++ resume ops names o after (p ∷ ps)) is
         ∙ ap (λ (g : List Part → List ℕ). before.marks ++ g (p ∷ ps)) (resume-push ops names popped f after)
         ∙ ap (λ (x : List ℕ). before.marks ++ x) (leaves.2.text after p ps)
-        ∙ sym (append_assoc before.marks leaves.0 (text_in ops names (plain here) p ++ resume ops names (spread here next) after ps));
+        ∙ sym (append_assoc before.marks leaves.0 (resumed_in ops names here next after (p ∷ ps)));
   },
 )
 
@@ -103,7 +103,7 @@ closed_then ops names frames frames_mid frames_now out out_mid out_now (Some nex
     count = before.count ∙ closing.2.count;
     text = λ after p ps. before.text after (p ∷ ps)
         ∙ ap (λ (x : List ℕ). before.marks ++ x) (closing.2.text after p ps)
-        ∙ sym (append_assoc before.marks closing.0 (text_in ops names (plain next) p ++ resume ops names (spread next frames_now) after ps));
+        ∙ sym (append_assoc before.marks closing.0 (resumed_in ops names next frames_now after (p ∷ ps)));
   },
 )
 closed_then ops names frames frames_mid frames_now out out_mid out_now None before closing = (

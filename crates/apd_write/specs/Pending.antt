@@ -37,8 +37,24 @@ abbrev pub is_negative_symbol : Sym → Bool
 is_negative_symbol (Int i) = is_negative i
 is_negative_symbol x = false
 
+-- the place with its priority alone, without how many arguments are behind it
+abbrev pub alone : TermPlace → TermPlace
+alone (place.Argument n) = place.Whole ARGUMENT_PRIORITY
+alone (place.Whole max) = place.Whole max
+alone (place.Left max) = place.Left max
+alone (place.Right max) = place.Right max
+alone place.Rest = place.Rest
+
+-- the frames, with one for what stands behind an argument
+abbrev pub with_arguments : TermPlace → List PendingFrame → List PendingFrame
+with_arguments (place.Argument n) frames = frames ++ frame.Arguments n ∷ []
+with_arguments (place.Whole max) frames = frames
+with_arguments (place.Left max) frames = frames
+with_arguments (place.Right max) frames = frames
+with_arguments place.Rest frames = frames
+
 module _ (ops : Table) (names : List (List ℕ)) where
-  -- the next part in its place
+  -- the next part in its place; an argument's is asked for as `alone` has it
   abbrev pub text_in : TermPlace → Part → List ℕ
   text_in (place.Argument n) p = p.text ARGUMENT_PRIORITY
   text_in (place.Whole max) p = p.text max
@@ -71,21 +87,10 @@ module _ (ops : Table) (names : List (List ℕ)) where
   resume [] after = after
   resume (f ∷ fs) after = resume fs (behind f after)
 
--- the place of an argument by itself
-abbrev pub plain : TermPlace → TermPlace
-plain (place.Argument n) = place.Whole ARGUMENT_PRIORITY
-plain (place.Whole max) = place.Whole max
-plain (place.Left max) = place.Left max
-plain (place.Right max) = place.Right max
-plain place.Rest = place.Rest
-
--- the frames with what stands behind an argument
-abbrev pub spread : TermPlace → List PendingFrame → List PendingFrame
-spread (place.Argument n) frames = frames ++ frame.Arguments n ∷ []
-spread (place.Whole max) frames = frames
-spread (place.Left max) frames = frames
-spread (place.Right max) frames = frames
-spread place.Rest frames = frames
+  -- the next of the parts in its place, and what is behind it
+  abbrev pub resumed_in : TermPlace → List PendingFrame → (List Part → List ℕ) → List Part → List ℕ
+  resumed_in next frames after ps =
+      next_in (alone next) (resume (with_arguments next frames) after) ps
 
 -- how many parts a frame takes
 abbrev pub takes : PendingFrame → ℕ
@@ -102,9 +107,10 @@ takes_in_all (f ∷ fs) = takes f + takes_in_all fs
 
 -- behind a term the frames were closed up to a place where the next is to be written
 pub record GoesOn (ops : Table) (names : List (List ℕ)) (frames frames_now : List PendingFrame) (marks : List ℕ) (next : TermPlace) : Type 0 where
-  pub count : takes_in_all frames ≡ takes_in_all (spread next frames_now) + 1
+  pub count : takes_in_all frames ≡ takes_in_all (with_arguments next frames_now) + 1
   pub text : (after : List Part → List ℕ) (p : Part) (ps : List Part) →
-      resume ops names frames after (p ∷ ps) ≡ marks ++ (text_in ops names (plain next) p ++ resume ops names (spread next frames_now) after ps)
+      resume ops names frames after (p ∷ ps)
+      ≡ marks ++ resumed_in ops names next frames_now after (p ∷ ps)
 
 -- behind the last term all frames were closed
 pub record IsClosed (ops : Table) (names : List (List ℕ)) (frames frames_now : List PendingFrame) (marks : List ℕ) : Type 0 where
@@ -122,9 +128,10 @@ AddsClosing ops names frames frames_now out out_now next = (marks : List ℕ) ×
 
 -- one frame was left for the next term, which stands in it
 pub record LeavesFor (ops : Table) (names : List (List ℕ)) (frame : PendingFrame) (frames frames_now : List PendingFrame) (marks : List ℕ) (next : TermPlace) : Type 0 where
-  pub count : takes_in_all frames + takes frame ≡ takes_in_all (spread next frames_now) + 1
+  pub count : takes_in_all frames + takes frame ≡ takes_in_all (with_arguments next frames_now) + 1
   pub text : (after : List Part → List ℕ) (p : Part) (ps : List Part) →
-      behind ops names frame (resume ops names frames after) (p ∷ ps) ≡ marks ++ (text_in ops names (plain next) p ++ resume ops names (spread next frames_now) after ps)
+      behind ops names frame (resume ops names frames after) (p ∷ ps)
+      ≡ marks ++ resumed_in ops names next frames_now after (p ∷ ps)
 
 -- one frame was left for good
 pub record LeavesBehind (ops : Table) (names : List (List ℕ)) (frame : PendingFrame) (frames frames_now : List PendingFrame) (marks : List ℕ) : Type 0 where
@@ -158,16 +165,17 @@ closing_frames priority max = if nat_lt max priority then frame.ParenthesisEnd �
 -- marks were added to the text and frames pushed, and the next term stands in this place
 pub record Puts (marks : List ℕ) (pushed : List PendingFrame) (place : TermPlace) (frames frames_now : List PendingFrame) (out out_now : List ℕ) (next : TermPlace) : Type 0 where
   pub adds : out_now ≡ out ++ marks
-  pub pushes : spread next frames_now ≡ frames ++ pushed
-  pub stands : plain next ≡ place
+  pub pushes : with_arguments next frames_now ≡ frames ++ pushed
+  pub stands : alone next ≡ place
 
 -- what stands before the first argument was added to the text, with a frame for what stands behind it
 pub record Opens (ops : Table) (names : List (List ℕ)) (f : NameId) (count : ℕ) (here : TermPlace) (frames frames_now : List PendingFrame) (out out_now : List ℕ) (next : TermPlace) : Type 0 where
   pub marks : List ℕ
   pub adds : out_now ≡ out ++ marks
-  pub takes : takes_in_all (spread next frames_now) + 1 ≡ takes_in_all frames + count
+  pub takes : takes_in_all (with_arguments next frames_now) + 1 ≡ takes_in_all frames + count
   pub text : (after : List Part → List ℕ) (ps qs : List Part) → length ps ≡ count →
-      compound_in ops here f (text_of_name names f) ps ++ resume ops names frames after qs ≡ marks ++ next_in ops names (plain next) (resume ops names (spread next frames_now) after) (ps ++ qs)
+      compound_in ops here f (text_of_name names f) ps ++ resume ops names frames after qs
+      ≡ marks ++ resumed_in ops names next frames_now after (ps ++ qs)
 
 -- a symbol without arguments as the rest of a list
 abbrev pub leaf_rest : List (List ℕ) → Sym → List ℕ
@@ -183,8 +191,9 @@ leaf_in ops names place.Rest x = leaf_rest names x
 
 -- in the middle of a text: the next of these terms is to be written in this place, and the frames have what stands behind it
 pub record Expects (ops : Table) (names : List (List ℕ)) (whole : List ℕ) (frames : List PendingFrame) (out : List ℕ) (place : TermPlace) (ts : List Term) : Type 0 where
-  pub count : length ts ≡ takes_in_all (spread place frames) + 1
-  pub text : whole ≡ out ++ next_in ops names (plain place) (resume ops names (spread place frames) (λ ps. [])) (parts ops names (terms_of ts))
+  pub count : length ts ≡ takes_in_all (with_arguments place frames) + 1
+  pub text : whole
+      ≡ out ++ resumed_in ops names place frames (λ ps. []) (parts ops names (terms_of ts))
 
 -- in the middle of a text, or at its end
 abbrev pub Stands : Table → List (List ℕ) → List ℕ → List PendingFrame → List ℕ → Option TermPlace → List Term → Type 0

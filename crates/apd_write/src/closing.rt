@@ -4,7 +4,7 @@ ghost use Rattle.std.specs.Prelude.{◌≡◌, ◌++◌, [], ◌∷◌, List, If
 ghost use Rattle.apd_ops.specs.Table.{Table};
 ghost use Rattle.apd_term.specs.Names.{text_of_name};
 ghost use Rattle.apd_write.specs.NameTexts.{name_text};
-ghost use Rattle.apd_write.specs.Pending.{AddsClosing, Leaves, spread};
+ghost use Rattle.apd_write.specs.Pending.{AddsClosing, Leaves, with_arguments};
 ghost use Rattle.apd_write.specs.Writing.{between};
 ghost use Rattle.apd_write.specs.declared.pending.PendingFrame.{PendingFrame};
 ghost use Rattle.apd_write.specs.declared.pending.PendingFrame.TheVariants as pushed;
@@ -31,8 +31,8 @@ fn write_infix(names: &Names, name: NameId, out: &mut Sheet) -> Result<(), Alloc
     out.push(b' ')
 }
 
-/// Writes what a frame has behind the term before the next one, and tells the place of that, where there is one. Frames
-/// are without the frame.
+/// Writes what a frame has behind the term before the next one, and tells the place of that, where
+/// there is one. It pushes no frame: an argument's place has what stands behind it.
 #[inline(always)]
 fn leave(
     names: &Names,
@@ -107,7 +107,7 @@ pub(crate) fn close(
     out: &mut Sheet,
 ) -> Result<Option<TermPlace>, AllocError>
     ensures { IfOk result (λ next. (ops : Table) → AddsClosing ops names.now
-        (spread place frames.old.items) frames.new.items out.old out.new next) }
+        (with_arguments place frames.old.items) frames.new.items out.old out.new next) }
 {
     match place {
         TermPlace::Argument(left) => close_argument(names, left, frames, out),

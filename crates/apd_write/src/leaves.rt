@@ -91,7 +91,8 @@ fn write_rest(names: &Names, symbol: Sym, out: &mut Sheet) -> Result<(), AllocEr
     write_tail(names, symbol, out)
 }
 
-/// Writes a symbol without arguments in its place, whichever that is.
+/// Writes an operand without arguments: in parentheses where it is an operator or, on the left, a
+/// negative integer. It serves other places too, so that its contract is that of `write_leaf`.
 #[inline(always)]
 fn write_operand(
     ops: &Ops,

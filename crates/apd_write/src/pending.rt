@@ -5,8 +5,8 @@ use apd_term::NameId;
 /// Where the next term stands, with the greatest priority that it may have there.
 #[derive(Clone, Copy)]
 pub(crate) enum TermPlace {
-    /// An argument of a function, with so many further ones behind it: what stands behind an
-    /// argument isn't among what is still to be written as long as the argument is.
+    /// An argument of a function, with so many further ones behind it. Only where the argument has
+    /// arguments itself does that become a frame.
     Argument(u8),
     /// A list's element or tail, or all of a text or of a bracket.
     Whole(u16),

@@ -9,7 +9,7 @@ use apd_token::{is_small, is_word};
 use std::alloc::{AllocError, Global};
 use std::marker::Model;
 
-/// Room for so many bytes is taken at once.
+/// The least room that is taken.
 const LEAST: usize = 256;
 
 /// Bytes that are written one behind the other. What is behind their end is room, in which bytes

@@ -3,7 +3,7 @@
 ghost use Rattle.std.specs.Prelude.{◌≡◌, ◌++◌, ◌≤◌, List, ◌∷◌, ℕ, OnOk, OnErr, IfOk};
 ghost use Rattle.apd_term.specs.Term.{IsTerms, IsWhole, read_all, term_of};
 ghost use Rattle.apd_term.specs.declared.term.Sym.{Sym};
-ghost use Rattle.apd_write.specs.Pending.{Expects, Stands, spread};
+ghost use Rattle.apd_write.specs.Pending.{Expects, Stands, with_arguments};
 ghost use Rattle.apd_write.specs.Writing.{written};
 
 use crate::closing::close;
@@ -17,10 +17,10 @@ use apd_term::names::Names;
 use apd_term::{Flat, Sym};
 use std::alloc::{AllocError, Global};
 
-/// What stands behind an argument is pushed: a compound is written in its place.
+/// Pushes what stands behind an argument, since a compound is written in its place.
 #[inline(always)]
-fn hold(place: TermPlace, frames: &mut Vec<PendingFrame>) -> Result<(), AllocError>
-    ensures { OnOk result (frames.new.items ≡ spread place frames.old.items) }
+fn push_arguments(place: TermPlace, frames: &mut Vec<PendingFrame>) -> Result<(), AllocError>
+    ensures { OnOk result (frames.new.items ≡ with_arguments place frames.old.items) }
 {
     if let TermPlace::Argument(left) = place {
         frames.push(PendingFrame::Arguments(left))?;
@@ -45,7 +45,7 @@ fn write_next(
     if let Sym::Fun(name, count) = symbol
         && count > 0
     {
-        hold(place, frames)?;
+        push_arguments(place, frames)?;
         return Ok(Some(open(ops, names, name, count, place, frames, out)?));
     }
     write_leaf(ops, names, symbol, place, out)?;

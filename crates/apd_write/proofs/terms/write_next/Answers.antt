@@ -4,7 +4,7 @@ use Rattle.apd_ops.specs.Table.{Table}
 use Rattle.apd_term.specs.Term.{IsTerms, read_all, arity_of}
 use Rattle.apd_term.specs.declared.term.Sym.{Sym}
 use Rattle.apd_term.specs.declared.term.Sym.TheVariants.{Fun}
-use Rattle.apd_write.specs.Pending.{Expects, Opens, leaf_in, spread}
+use Rattle.apd_write.specs.Pending.{Expects, Opens, leaf_in, with_arguments}
 use Rattle.apd_write.specs.declared.pending.PendingFrame.{PendingFrame}
 use Rattle.apd_write.proofs.Standing.{leaf_next, compound_next}
 use Rattle.apd_write.proofs.terms.write_next.Goals as goal
@@ -17,9 +17,9 @@ returns c = λ whole rest terms expects.
     let here : IsTerms (Fun c.in-Fun.name c.in-Fun.count ∷ rest) = subst (λ (x : Sym). IsTerms (x ∷ rest)) c.in-Fun.is terms in
     let before : Expects ops names whole c.args.frames.now.items c.args.out.now c.args.place (read_all (Fun c.in-Fun.name c.in-Fun.count ∷ rest)) =
     subst (λ (x : Sym). Expects ops names whole c.args.frames.now.items c.args.out.now c.args.place (read_all (x ∷ rest))) c.in-Fun.is expects in
-    let held : c.hold.new.frames.items ≡ spread c.args.place c.args.frames.now.items = search rules in
-    let opens : Opens ops names c.in-Fun.name c.in-Fun.count c.args.place (spread c.args.place c.args.frames.now.items) c.open.new.frames.items c.args.out.now c.open.new.out c.in_ok-open.field-0 =
-    subst (λ (fs : List PendingFrame). Opens ops names c.in-Fun.name c.in-Fun.count c.args.place fs c.open.new.frames.items c.args.out.now c.open.new.out c.in_ok-open.field-0) held c.in_ok-open.ensures in
+    let pushed : c.push_arguments.new.frames.items ≡ with_arguments c.args.place c.args.frames.now.items = search rules in
+    let opens : Opens ops names c.in-Fun.name c.in-Fun.count c.args.place (with_arguments c.args.place c.args.frames.now.items) c.open.new.frames.items c.args.out.now c.open.new.out c.in_ok-open.field-0 =
+    subst (λ (fs : List PendingFrame). Opens ops names c.in-Fun.name c.in-Fun.count c.args.place fs c.open.new.frames.items c.args.out.now c.open.new.out c.in_ok-open.field-0) pushed c.in_ok-open.ensures in
     compound_next ops names whole c.args.frames.now.items c.open.new.frames.items c.args.out.now c.open.new.out c.args.place c.in_ok-open.field-0 c.in-Fun.name c.in-Fun.count rest c.if-count-gt0.true here before opens
 
 pub returns-2 : goal.returns-2

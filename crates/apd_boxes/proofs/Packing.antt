@@ -34,14 +34,6 @@ put_edited f g (x ∷ xs) (suc i) d y e h = ap (λ zs. f x ∷ zs) (put_edited f
 pub put_all : {X : Type 0} (P : X → Type 0) (xs : List X) (i : ℕ) (d y : X) → i < length xs → d ≡ get_or xs i d → (P d → P y) → All P xs → All P (set xs i y)
 put_all P xs i d y l e h all = All-set P xs i y (h (subst P (sym e) (All-get_or P xs i d l all))) all
 
--- What is read.
-
-pub told_read : (calls : List Call) (rows : List PackedBox) (place : ℕ) (r : PackedBox) → place < length rows → r ≡ get_or rows place r → slice_get (map (told_in calls) rows) place ≡ Some (told_in calls r)
-told_read calls rows place r l e = slice_get-map (told_in calls) rows place ∙ ap (option_map (told_in calls)) (slice_get_read rows (length rows) place r refl l e)
-
-pub call_there : (n : ℕ) (rows : List PackedBox) (place : ℕ) (r : PackedBox) → place < length rows → r ≡ get_or rows place r → All (IsCallThere n) rows → IsCallThere n r
-call_there n rows place r l e h = subst (IsCallThere n) (sym e) (All-get_or (IsCallThere n) rows place r l h)
-
 -- What is put.
 
 own_push : (query : PackedBox) (rows : List PackedBox) (r : PackedBox) → own r ≡ kept_nothing → map own (query ∷ (rows ++ r ∷ [])) ≡ map own (query ∷ rows) ++ kept_nothing ∷ []

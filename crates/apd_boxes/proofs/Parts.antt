@@ -1,11 +1,10 @@
 -- What is told of a box, read from its number.
-use Rattle.std.proofs.Common.{◌≡◌, ℕ, ◌+◌, ◌*◌, ◌/◌, ◌%◌, ◌<◌, ◌^◌, Bool, true, false, if◌then◌else◌, refl, ap, sym, ◌∙◌, arith}
-use Rattle.std.specs.Prelude.{◌==◌}
+use Rattle.std.proofs.Common.{◌≡◌, ℕ, ◌+◌, ◌*◌, ◌/◌, ◌%◌, ◌<◌, Bool, true, false, if◌then◌else◌, refl, ap, sym, ◌∙◌, arith}
 use Rattle.std.proofs.lemmas.Bool.{eq-eqb, ne_eqb}
 use Rattle.apd_ports.specs.declared.event.Port.{Port}
 use Rattle.apd_ports.specs.declared.event.Port.TheVariants.{Call, Exit, Redo, Fail}
 use Rattle.apd_boxes.specs.Ports.{completes, number_of_port, port_of_number, same_port}
-use Rattle.apd_boxes.specs.Facts.{called_facts, facts_in, is_set, one_more, passed_facts}
+use Rattle.apd_boxes.specs.Facts.{called_facts, facts_in, is_set, passed_facts}
 
 abbrev bit : Bool → ℕ
 bit true = 1
@@ -83,19 +82,3 @@ pass_other n k Call e h = ap (λ j. facts_in (n / 4 * 4 + j)) e ∙ passed_in n 
 pass_other n k Exit e h = ap (λ j. facts_in (n / 4 * 4 + j)) e ∙ passed_in n Exit (omega arith) refl
 pass_other n k Redo e h = ap (λ j. facts_in (n / 4 * 4 + j)) e ∙ passed_in n Redo (omega arith) refl
 pass_other n k Fail e h = let no : ⊥ = h e in elim no [ ]
-
-pub one_more_in : (n : ℕ) → n / 8 % 4 < 2 → facts_in (n + 8) ≡ one_more (facts_in n)
-one_more_in n l =
-    let m : ℕ = n + 8 in
-    let x : m / 8 ≡ n / 8 + 1 = omega arith in
-    let d : m / 8 % 4 ≡ n / 8 % 4 + 1 = omega (arith, x, l) in
-    let y : m / 8 / 4 ≡ n / 8 / 4 = omega (arith, x, l) in
-    let c : m / 32 ≡ n / 32 = omega (arith, y) in
-    let b : m / 64 ≡ n / 64 = omega (arith, c) in
-    let a : m / 128 ≡ n / 128 = omega (arith, b) in
-    let e : m / 4 % 2 ≡ n / 4 % 2 = omega arith in
-    let f : m % 4 ≡ n % 4 = omega arith in
-    facts_as m (n / 128) (is_set (n / 64)) (is_set (n / 32)) (n / 8 % 4 + 1) (is_set (n / 4)) (port_of_number (n % 4)) a (ap is_set b) (ap is_set c) d (ap (λ k. k == 1) e) (ap port_of_number f)
-
-pub one_more_fits : (n : ℕ) → n / 8 % 4 < 2 → n < 2 ^ 32 → n + 8 < 2 ^ 32
-one_more_fits n l h = omega (arith, l, h)

@@ -1,22 +1,17 @@
 -- Terms whose symbols are passed, none of which is a variable.
-use Rattle.std.proofs.Common.{◌≡◌, ℕ, ◌<◌, ◌≤◌, ◌+◌, ◌-◌, inl, List, [], ◌∷◌, ◌++◌, length, drop, get_or, refl, sym, ◌∙◌, ap, arith}
+use Rattle.std.proofs.Common.{◌≡◌, ℕ, ◌<◌, ◌+◌, ◌-◌, inl, [], ◌∷◌, length, refl, ◌∙◌, ap}
 use Rattle.std.specs.List.{flat_map}
-use Rattle.std.proofs.lemmas.List.{append-nil, drop_more, drop_all}
+use Rattle.std.proofs.lemmas.List.{append-nil}
 use Rattle.apd_term.specs.declared.term.Sym.{Sym}
-use Rattle.apd_term.specs.declared.term.Sym.TheVariants.{Var, Int, Fun}
 use Rattle.apd_term.specs.Term.{variables}
 use Rattle.apd_term.specs.Spelling.{variable_in}
-use Rattle.apd_term.specs.Tuple.{variables_of_tuple}
 use Rattle.apd_term.proofs.Spelling.{flat_map-variables}
 use Rattle.apd_cells.specs.declared.walk.Run.{Run}
-use Rattle.apd_cells.specs.First.{IsFixed}
 use Rattle.apd_cells.specs.Stored.{Stored}
 use Rattle.apd_cells.specs.Store.{term_at, symbol_at, IsSound}
 use Rattle.apd_cells.specs.Work.{AreRuns, Leads, run_symbols, runs_symbols}
 use Rattle.apd_cells.proofs.Passing.{passed_here, run_inside, run_one, run_one-is}
-use Rattle.apd_past.specs.declared.past.PastCell.{PastCell}
 use Rattle.apd_past.specs.Ground.{HasFixedArity, PassesFixed}
-use Rattle.apd_past.specs.Tuples.{terms_at, tuple_at}
 
 -- a symbol that is no variable is passed where it is written
 pub written_there : (s : Stored) (here : Run) (x : Sym) (n : ℕ) → IsSound s → AreRuns s.cells (here ∷ []) → 0 < here.left → x ≡ symbol_at s here.at → HasFixedArity x n
@@ -44,7 +39,3 @@ seeing_first s c l = record {
   right = (run_one-is s c l, tt);
   variables_are = ap (flat_map variable_in) (append-nil (run_symbols s c 1) ∙ run_one s c l) ∙ flat_map-variables (term_at s c);
 }
-
--- no variable stands in the terms before those that are left
-pub record AreGround (s : Stored) (cells : List PastCell) (left : ℕ) : Type 0 where
-  pub same : flat_map variables (terms_at s cells) ≡ flat_map variables (terms_at s (drop left cells))

@@ -3,11 +3,9 @@
 ghost use Rattle.std.specs.Prelude.{◌≡◌, [], ◌∷◌, ◌<◌, length, IfSome};
 ghost use Rattle.std.specs.Bool.{OnTrue};
 ghost use Rattle.apd_term.specs.Term.{variables};
-ghost use Rattle.apd_term.specs.Tuple.{variables_of_tuple};
 ghost use Rattle.apd_cells.specs.Store.{term_at};
 ghost use Rattle.apd_cells.specs.Work.{AreRuns};
 ghost use Rattle.apd_past.specs.Ground.{HasFixedArity, PassesFixed};
-ghost use Rattle.apd_past.specs.Tuples.{tuple_at, AreInside};
 
 use crate::past::PastCell;
 use crate::then::Then;
@@ -75,24 +73,6 @@ impl<'a> Then<'a> {
             match pass_fixed(self, here) {
                 None => return false,
                 Some(next) => here = next,
-            }
-        }
-        true
-    }
-
-    /// Whether it is seen that no variable stands in the tuple of the terms at a head's cell and at goals' cells. False says
-    /// nothing.
-    pub fn is_tuple_seen_ground(&self, head: PastCell, goals: &[PastCell]) -> bool
-        requires head { head.0 < length self.now.cells }
-        requires goals { AreInside (length self.now.cells) goals.now }
-        ensures { OnTrue result (variables_of_tuple (tuple_at self.now head.0 goals.now) ≡ []) }
-    {
-        if !self.is_seen_ground(head) {
-            return false;
-        }
-        'goals: for goal in goals {
-            if !self.is_seen_ground(*goal) {
-                return false;
             }
         }
         true

@@ -186,14 +186,3 @@ room_of (Some s) h = h
 pub number_fits : (place : ℕ) (r : PackedPoint) → IsPlaced place r → IfSome r.number (λ n. n < 2 ^ 32 - 1)
 number_fits place r placed =
     subst (λ (y : PackedPoint). IfSome y.number (λ n. n < 2 ^ 32 - 1)) placed.is (room_of (own place r).point.before placed.fits.number)
-
--- the row of a point that fits is that of the point that it tells
-pub placed_of : (place : ℕ) (x : KeptPoint) → Fits place x None → (x ≡ (own place (row_of x None)).point) × IsPlaced place (row_of x None)
-placed_of place x fits =
-    let same : x ≡ (own place (row_of x None)).point = sym (ap point_in fits.told) in (
-      same,
-      record {
-        is = ap (λ (y : KeptPoint). row_of y None) (sym same);
-        fits = subst (λ (y : KeptPoint). Fits place y None) same fits;
-      },
-    )

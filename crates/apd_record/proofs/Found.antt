@@ -3,7 +3,7 @@ use Rattle.std.proofs.Common.{◌≡◌, ℕ, zero, suc, ◌+◌, ◌<◌, ◌�
 use Rattle.std.specs.Prelude.{slice_get, ◌==◌, IfSome}
 use Rattle.std.specs.Bool.{IsTrue, OnTrue}
 use Rattle.std.proofs.lemmas.Bool.{cases_eq, eqb-true, ne_eqb, and_parts, false_from_ne_true, OnTrue_at, OnTrue_from}
-use Rattle.std.proofs.lemmas.Option.{slice_get-get_or, slice_get_read, slice_get_within, MatchOption-at_some}
+use Rattle.std.proofs.lemmas.Option.{slice_get-get_or, slice_get_within, MatchOption-at_some}
 use Rattle.apd_base.proofs.Lists.{slice_get-push}
 use Rattle.apd_ports.specs.declared.event.Port.{Port}
 use Rattle.apd_ports.specs.declared.point.Step.{Step}
@@ -103,9 +103,6 @@ from-read boxes i n l h =
     let none : KeptBox = called_box 0 0 false false in
     let at = slice_get-get_or boxes i none l in
     (get_or boxes i none, at, MatchOption-at_some _ _ (get_or boxes i none) at h)
-
-pub read-at : {X : Type 0} (xs : List X) (n : ℕ) (x : X) → n < length xs → x ≡ get_or xs n x → slice_get xs n ≡ Some x
-read-at xs n x l e = slice_get_read xs (length xs) n x refl l e
 
 pub not-upto : {X : Type 0} (test : X → Bool) (xs : List X) (n : ℕ) (x : X) → slice_get xs n ≡ Some x → test x ≡ false → ((i : ℕ) (y : X) → slice_get xs i ≡ Some y → i < n → test y ≡ false)
     → (i : ℕ) (y : X) → slice_get xs i ≡ Some y → i < n + 1 → test y ≡ false

@@ -1,8 +1,8 @@
 //! The record of a search that goes on.
 
-ghost use Rattle.std.specs.Prelude.{◌≡◌, ◌<◌, ◌≤◌, ◌+◌, ◌-◌, ◌^◌, ◌∷◌, length, nat_lt, not, None, IfOk, OnOk, OnErr};
+ghost use Rattle.std.specs.Prelude.{◌≡◌, ◌<◌, ◌≤◌, ◌+◌, ◌-◌, ◌^◌, length, nat_lt, not, None, IfOk, OnOk, OnErr};
 ghost use Rattle.apd_points.specs.Packed.{Fits};
-ghost use Rattle.apd_record.specs.Index.{id_of, IsBelow};
+ghost use Rattle.apd_record.specs.Index.{IsBelow};
 ghost use Rattle.apd_record.specs.Open.{no_rows, noted_row, point_row, rows_held, with_box_row, with_point_row, MayAdd};
 
 use crate::held::{Held, Holds, point_of_row};
@@ -119,13 +119,12 @@ impl Open {
         Ok(())
     }
 
-    /// A new point that is put by its fields, and its number. A search comes here for none.
+    /// A new point that is put by its fields. A search comes here for none.
     #[inline(never)]
-    pub fn add_point(&mut self, point: OpenPoint) -> Result<PointId, AllocError>
+    fn add_point(&mut self, point: OpenPoint) -> Result<(), AllocError>
         requires owner { point.owner ≤ length self.old.boxes }
         requires before { IsBelow (length self.old.points) point.before }
         requires few { length self.old.points < 2 ^ 32 - 1 }
-        ensures number { IfOk result (λ p. p ≡ id_of (length self.old.points)) }
         ensures added { OnOk result (self.new ≡ with_point_row self.old point) }
         ensures err { OnErr result (self.new ≡ self.old) }
     {
@@ -136,7 +135,7 @@ impl Open {
         let earlier = self.boxes.add(point.owner, number, is_first, is_exit)?;
         self.order.in_turn = stays_in_turn(self.order.in_turn, point.before, number);
         self.points.push_reserved(row_of(&point), earlier);
-        Ok(PointId(number))
+        Ok(())
     }
 
     /// Makes a point that was held back, if there is one, in whichever way it is held. It is a
@@ -153,7 +152,7 @@ impl Open {
         match held.take() {
             None => Ok(()),
             Some(point) => {
-                let _number = self.add_point(point)?;
+                self.add_point(point)?;
                 Ok(())
             }
         }

@@ -39,13 +39,6 @@ module _ (cells more : List PastCell) (at : ℕ) where
 pub more_again : (one two three : List PastCell) → HasMore one two → HasMore two three → HasMore one three
 more_again one two three m n = (m.0 ++ n.0, n.1 ∙ ap (λ cs. cs ++ n.0) m.1 ∙ append_assoc one m.0 n.0)
 
--- a cell stays at its place
-pub cell_stays : (cells new : List PastCell) (k : ℕ) (c : PastCell) → HasMore cells new → slice_get cells k ≡ Some c → slice_get new k ≡ Some c
-cell_stays cells new k c m at =
-    let inside : k < length cells = slice_get_within cells k c at in
-    let far : k < length new = omega (arith, inside, ap length m.1, length-append cells m.0) in
-    slice_get-get_or new k c far ∙ ap Some (ap (λ cs. get_or cs k c) m.1 ∙ get_or_append_left cells m.0 c k inside ∙ get_or_from_slice_get cells k c c at)
-
 -- a cell was put behind the others
 pub put_there : (old new : List PastCell) (c : PastCell) → new ≡ old ++ c ∷ [] → slice_get new (length old) ≡ Some c
 put_there old new c put =

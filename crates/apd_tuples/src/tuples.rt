@@ -5,7 +5,6 @@ ghost use Rattle.std.specs.Bool.{OnTrue};
 ghost use Rattle.std.specs.Option.{option_map};
 ghost use Rattle.apd_term.specs.Canonical.{canonical};
 ghost use Rattle.apd_term.specs.Term.{Term, predicate_of, IsGround};
-ghost use Rattle.apd_term.specs.Tuple.{variables_of_tuple};
 ghost use Rattle.apd_term.specs.declared.tuple.Tuple.{Tuple};
 ghost use Rattle.apd_cells.specs.First.{first_symbol};
 ghost use Rattle.apd_tuples.specs.Spots.{spot_at};
@@ -62,19 +61,6 @@ fn cell_at(cells: &[PastCell], k: usize) -> Option<PastCell>
     }
 }
 
-/// Whether no variable stands in the tuple at a spot: that is known, or it is seen.
-fn is_spot_ground(past: &Past, spot: &Spot<'_>) -> bool
-    requires { IsThere past.now (spot_at spot.now) }
-    ensures { OnTrue result (variables_of_tuple (kept_tuple past.now (spot_at spot.now)) ≡ []) }
-{
-    match spot.fact {
-        Fact::Ground => true,
-        _ => past
-            .at(spot.moment)
-            .is_tuple_seen_ground(spot.head, spot.goals),
-    }
-}
-
 /// Whether no variable stands in the head of a kept tuple; false where that is neither known nor seen at once.
 fn is_spot_head_ground(past: &Past, spot: &Spot<'_>) -> bool
     requires { IsThere past.now (spot_at spot.now) }
@@ -110,17 +96,6 @@ impl KeptTuples {
         ensures { result ≡ length self.now }
     {
         self.spots.len()
-    }
-
-    /// Whether no variable stands in that with this number; false where that is neither known nor seen at once.
-    pub fn is_ground(&self, number: u32) -> bool
-        ensures { (t : Tuple) → slice_get self.now number ≡ Some t →
-            OnTrue result (variables_of_tuple t ≡ []) }
-    {
-        match self.spots.get(number as usize) {
-            None => false,
-            Some(spot) => is_spot_ground(&self.past, &spot),
-        }
     }
 
     /// Whether no variable stands in the head of that with this number; false where that is neither known nor seen at once.

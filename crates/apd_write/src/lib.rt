@@ -16,6 +16,5 @@ mod sheet;
 mod terms;
 
 pub use names::write_name;
-pub use numbers::{write_integer, write_number};
 pub use sheet::Sheet;
 pub use terms::{Pen, write_term};

@@ -19,7 +19,7 @@ fn write_long(number: u64, out: &mut Sheet) -> Result<(), AllocError>
 /// Writes a number in decimal digits.
 #[inline(always)]
 #[tactic(auto, using(std::proofs::lemmas::Fmt::decimal_digit))]
-pub fn write_number(number: u64, out: &mut Sheet) -> Result<(), AllocError>
+pub(crate) fn write_number(number: u64, out: &mut Sheet) -> Result<(), AllocError>
     ensures { OnOk result (out.new ≡ out.old ++ decimal number) }
 {
     if number < 10 {
@@ -30,7 +30,7 @@ pub fn write_number(number: u64, out: &mut Sheet) -> Result<(), AllocError>
 
 /// Writes an integer in decimal digits, with `-` before it where it is negative.
 #[inline(always)]
-pub fn write_integer(integer: i64, out: &mut Sheet) -> Result<(), AllocError>
+pub(crate) fn write_integer(integer: i64, out: &mut Sheet) -> Result<(), AllocError>
     ensures { OnOk result (out.new ≡ out.old ++ signed_decimal integer) }
 {
     let amount = integer.unsigned_abs();

@@ -1,6 +1,6 @@
 //! Terms, symbol by symbol.
 
-ghost use Rattle.std.specs.Prelude.{◌≡◌, ◌++◌, ◌≤◌, List, ◌∷◌, ℕ, OnOk, OnErr, IfOk};
+ghost use Rattle.std.specs.Prelude.{◌≡◌, ◌++◌, List, ◌∷◌, ℕ, OnOk, OnErr, IfOk};
 ghost use Rattle.apd_term.specs.Term.{IsTerms, IsWhole, read_all, term_of};
 ghost use Rattle.apd_term.specs.declared.term.Sym.{Sym};
 ghost use Rattle.apd_write.specs.Pending.{Expects, Stands, with_arguments};

@@ -9,7 +9,7 @@ use apd_token::{is_small, is_word};
 use std::alloc::{AllocError, Global};
 use std::marker::Model;
 
-/// The least room that is taken.
+/// The least room that is asked for at first.
 const LEAST: usize = 256;
 
 /// Bytes that are written one behind the other. What is behind their end is room, in which bytes
@@ -31,7 +31,24 @@ impl Model for Sheet {
     ghost invariant = { λ s. s.end ≤ length s.bytes.items };
 }
 
-/// Takes room for so many bytes behind the end. It isn't inlined: the room is mostly there.
+/// Takes room up to so many bytes, and no more. It is reserved first, since a vector that is made
+/// longer asks for twice its room by itself.
+#[inline(never)]
+#[cold]
+fn enlarge_exactly(bytes: &mut Vec<u8>, end: usize, least: usize) -> Result<(), AllocError>
+    requires inside { end ≤ length bytes.old.items }
+    requires more { end ≤ least }
+    ensures front { take end bytes.new.items ≡ take end bytes.old.items }
+    ensures within { end ≤ length bytes.new.items }
+    ensures room { OnOk result (least ≤ length bytes.new.items) }
+{
+    let more = least.saturating_sub(bytes.len());
+    bytes.reserve_exact(more)?;
+    bytes.resize(least, 0)
+}
+
+/// Takes room for so many bytes behind the end: twice the room or, where that is refused, as much
+/// as is asked for. It isn't inlined: the room is mostly there.
 #[inline(never)]
 fn enlarge(bytes: &mut Vec<u8>, end: usize, count: usize) -> Result<(), AllocError>
     requires { end ≤ length bytes.old.items }
@@ -43,7 +60,10 @@ fn enlarge(bytes: &mut Vec<u8>, end: usize, count: usize) -> Result<(), AllocErr
         return Err(AllocError);
     };
     let twice = bytes.len().saturating_mul(2);
-    bytes.resize(least.max(twice).max(LEAST), 0)
+    match bytes.resize(least.max(twice).max(LEAST), 0) {
+        Ok(()) => Ok(()),
+        Err(AllocError) => enlarge_exactly(bytes, end, least),
+    }
 }
 
 /// Room for so many bytes behind the end.

@@ -93,7 +93,7 @@ fn write_rest(names: &Names, symbol: Sym, out: &mut Sheet) -> Result<(), AllocEr
 
 /// Writes an operand without arguments: in parentheses where it is an operator or, on the left, a
 /// negative integer. It serves other places too, so that its contract is that of `write_leaf`.
-#[inline(always)]
+#[inline(never)]
 fn write_operand(
     ops: &Ops,
     names: &Names,

@@ -194,8 +194,9 @@ fn open_tail(
     open_compound(ops, names, name, count, ARGUMENT_PRIORITY, frames, out)
 }
 
-/// What stands before the first argument of a compound in any place.
-#[inline(always)]
+/// What stands before the first argument of a compound in any place. It isn't inlined: with it what writes a symbol would
+/// be larger than what the compiler inlines.
+#[inline(never)]
 pub(crate) fn open(
     ops: &Ops,
     names: &Names,

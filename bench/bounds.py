@@ -34,10 +34,12 @@ from terminal.program import surroundings  # noqa: E402
 LONGEST = 20
 MOST_MEMORY = 4 << 30
 # What is compared is run in rounds: LEAST_ROUNDS of them, and more until they take ENOUGH seconds for each measure, but at most
-# MOST_ROUNDS. Where one measure takes more than LONG seconds, there is one round.
+# MOST_ROUNDS; where rows tell what a record costs, until MANY seconds, since what is compared there is alike. Where one measure
+# takes more than LONG seconds, there is one round.
 LEAST_ROUNDS = 3
 MOST_ROUNDS = 30
 ENOUGH = 1
+MANY = 4
 LONG = 5
 
 REVERSE = """append([], Ys, Ys).
@@ -214,12 +216,12 @@ def ports(printed):
     return int(re.findall(r", (\d+) ports", printed)[-1])
 
 
-def turns(*measures):
+def turns(*measures, enough=ENOUGH):
     """The seconds that each of these measures tells. They take turns, so those of one round had the machine at one pace."""
     took = []
     started = time.perf_counter()
     while not took or (max(took[-1]) <= LONG and (len(took) < LEAST_ROUNDS or (
-            len(took) < MOST_ROUNDS and time.perf_counter() - started < ENOUGH * len(measures)))):
+            len(took) < MOST_ROUNDS and time.perf_counter() - started < enough * len(measures)))):
         took.append([measure() for measure in measures])
     return list(zip(*took))
 
@@ -237,6 +239,24 @@ def middle(whole, bare):
 def times(whole, bare, other, other_bare=(0,)):
     """How many times as long whole sessions take as others, each beside bare ones: the middle one of the ratios of all rounds."""
     return statistics.median((one - min(bare)) / (that - min(other_bare)) for one, that in zip(whole, other))
+
+
+def writing(path, printed):
+    """What tells the seconds in which the system writes what was printed to a file, each line by a call of its own, as the
+    program writes it. What the loop itself takes is taken out."""
+    lines = printed.encode().splitlines(keepends=True)
+
+    def once():
+        with open(path, "wb", buffering=0) as out:
+            file, start = out.fileno(), time.perf_counter()
+            for line in lines:
+                os.write(file, line)
+            written = time.perf_counter()
+            for line in lines:
+                len(line)
+            return 2 * written - start - time.perf_counter()
+
+    return once
 
 
 def swipl(bench, source, goal, runs):
@@ -292,7 +312,7 @@ def beside_swipl(bench):
 
         def beside_unrecorded():
             bare, whole, bare_without, without = turns(
-                *bare_and_whole(bench, source, query), *bare_and_whole(bench, source, query, bench.unrecorded))
+                *bare_and_whole(bench, source, query), *bare_and_whole(bench, source, query, bench.unrecorded), enough=MANY)
             return [times(whole, bare, without, bare_without)]
 
         rows = [(f"{what}, times SWI-Prolog", "", ratio)]
@@ -485,7 +505,9 @@ def diagnoses(bench):
     def printed():
         query = ["?- maps."]
         _, out = bench.peak(colours(1000), query, ["--trace"])
-        bare, took = turns(bench.timed(colours(1000), query), bench.timed(colours(1000), query, ["--trace"]))
+        bare, took, wrote = turns(bench.timed(colours(1000), query), bench.timed(colours(1000), query, ["--trace"]),
+                                  writing(bench.file("lines", ""), out))
+        print(f"of a printed port: {min(wrote) / ports(out) * 1e9:.0f} ns are the system's, to write a line")
         return [more(took, bare) / ports(out) * 1e9]
 
     bench.measured([("a printed port, more than one that isn't", "ns", 500)], printed)

@@ -28,6 +28,13 @@ supported-by R store later a b (Ok x) test not h = (
 )
 supported-by R store later a b (Err x) test not h = tt
 
+-- a test tells the same of what is the same
+pub candidate-same : (P : List Tuple) (R S : Recorded) (store pairs : Store) (later behind : List Instance) (c : Instance) (b : Bool) → R ≡ S → store ≡ pairs → later ≡ behind → b ≡ true ↔ IsCandidate P R store later c
+    → b ≡ true ↔ IsCandidate P S pairs behind c
+candidate-same P R S store pairs later behind c b e f g test =
+    subst (λ (x : Recorded). b ≡ true ↔ IsCandidate P x pairs behind c) e
+    (subst (λ (x : Store). b ≡ true ↔ IsCandidate P R x behind c) f (subst (λ (x : List Instance). b ≡ true ↔ IsCandidate P R store x c) g test))
+
 module _ (P : List Tuple) (R : Recorded) (store : Store) where
   -- One of them.
 

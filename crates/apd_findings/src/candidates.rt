@@ -20,120 +20,111 @@ use apd_term::{Flat, Instance};
 use indexmap::IndexSet;
 use std::alloc::{AllocError, Global};
 
-/// Whether the atom is a variant of the head of one of the instances, whose keys these are.
-fn is_head_among(
-    alloc: Global,
-    heads: &Keys,
-    later: &[Instance],
-    atom: &Flat,
-) -> Result<bool, AllocError>
-    requires { AreHeads (map (λ v. v.items) heads.now.keys) later.now }
-    ensures { IfOk result (λ b. IsTrue b ↔ IsHeadAmong later.now atom.now) }
+/// What the body of a candidate may rest on: what the record and the replies grant, and the heads of the instances
+/// behind it.
+#[derive(Drop)]
+struct Support<'a> {
+    record: &'a Record,
+    answers: &'a Parted,
+    /// The instances behind the candidate.
+    later: &'a [Instance],
+    /// The keys of their heads.
+    heads: Keys,
+}
+
+/// Whether the atom is a variant of the head of one of the later instances.
+fn is_head_among(alloc: Global, support: &Support<'_>, atom: &Flat) -> Result<bool, AllocError>
+    requires { AreHeads (map (λ v. v.items) support.now.heads.keys) support.now.later.now }
+    ensures { IfOk result (λ b. IsTrue b ↔ IsHeadAmong support.now.later.now atom.now) }
 {
-    Ok(heads.contains(&key_of_form(alloc, atom)?))
+    Ok(support.heads.contains(&key_of_form(alloc, atom)?))
 }
 
 /// Whether the atom is granted, or a variant of the head of one of the later instances.
 fn is_granted_or_later(
     alloc: Global,
-    record: &Record,
-    answers: &Parted,
-    heads: &Keys,
-    later: &[Instance],
+    support: &Support<'_>,
     atom: &Flat,
 ) -> Result<bool, AllocError>
-    requires { AreHeads (map (λ v. v.items) heads.now.keys) later.now }
+    requires { AreHeads (map (λ v. v.items) support.now.heads.keys) support.now.later.now }
     ensures { IfOk result (λ b. IsTrue b ↔
-        (IsGranted record.now answers.now atom.now ⊎ IsHeadAmong later.now atom.now)) }
+        (IsGranted support.now.record.now support.now.answers.now atom.now
+        ⊎ IsHeadAmong support.now.later.now atom.now)) }
 {
-    if is_granted(alloc, record, answers, atom)? {
+    if is_granted(alloc, support.record, support.answers, atom)? {
         return Ok(true);
     }
-    is_head_among(alloc, heads, later, atom)
+    is_head_among(alloc, support, atom)
 }
 
 /// Whether that is so of the atom, or it is one of a built-in goal and always true.
-fn is_supported(
-    alloc: Global,
-    record: &Record,
-    answers: &Parted,
-    heads: &Keys,
-    later: &[Instance],
-    atom: &Flat,
-) -> Result<bool, AllocError>
-    requires { AreHeads (map (λ v. v.items) heads.now.keys) later.now }
+fn is_supported(alloc: Global, support: &Support<'_>, atom: &Flat) -> Result<bool, AllocError>
+    requires { AreHeads (map (λ v. v.items) support.now.heads.keys) support.now.later.now }
     ensures { IfOk result (λ b. IsTrue b ↔
-        IsTrueWhere (λ a. IsGranted record.now answers.now a ⊎ IsHeadAmong later.now a) atom.now) }
+        IsTrueWhere (λ a. IsGranted support.now.record.now support.now.answers.now a
+        ⊎ IsHeadAmong support.now.later.now a) atom.now) }
 {
     match Builtin::of_atom(atom) {
         Some(_) => stands(alloc, atom),
-        None => is_granted_or_later(alloc, record, answers, heads, later, atom),
+        None => is_granted_or_later(alloc, support, atom),
     }
 }
 
 /// Whether that is so of each of these.
-fn are_supported(
-    alloc: Global,
-    record: &Record,
-    answers: &Parted,
-    heads: &Keys,
-    later: &[Instance],
-    atoms: &[Flat],
-) -> Result<bool, AllocError>
-    requires { AreHeads (map (λ v. v.items) heads.now.keys) later.now }
+fn are_supported(alloc: Global, support: &Support<'_>, atoms: &[Flat]) -> Result<bool, AllocError>
+    requires { AreHeads (map (λ v. v.items) support.now.heads.keys) support.now.later.now }
     ensures { IfOk result (λ b. IsTrue b ↔ AllByRecursion
-        (IsTrueWhere (λ a. IsGranted record.now answers.now a ⊎ IsHeadAmong later.now a)) atoms.now) }
+        (IsTrueWhere (λ a. IsGranted support.now.record.now support.now.answers.now a
+        ⊎ IsHeadAmong support.now.later.now a)) atoms.now) }
 {
     'atoms: for atom in atoms {
-        if !is_supported(alloc, record, answers, heads, later, atom)? {
+        if !is_supported(alloc, support, atom)? {
             return Ok(false);
         }
     }
     Ok(true)
 }
 
-/// Whether an instance is a candidate in front of these later ones.
+/// Whether an instance is a candidate in front of the later ones.
 fn is_candidate(
     alloc: Global,
     program: &Program,
-    record: &Record,
-    answers: &Parted,
-    heads: &Keys,
-    later: &[Instance],
+    support: &Support<'_>,
     instance: &Instance,
 ) -> Result<bool, AllocError>
-    requires { AreHeads (map (λ v. v.items) heads.now.keys) later.now }
+    requires { AreHeads (map (λ v. v.items) support.now.heads.keys) support.now.later.now }
     ensures { IfOk result (λ b. IsTrue b ↔
-        IsCandidate (tuples_of program.now) record.now answers.now later.now instance.now) }
+        IsCandidate (tuples_of program.now) support.now.record.now support.now.answers.now
+        support.now.later.now instance.now) }
 {
     if !is_instance_of(alloc, program, instance.clause, &instance.tuple)? {
         return Ok(false);
     }
-    let body = instance.tuple.body.as_slice();
-    are_supported(alloc, record, answers, heads, later, body)
+    are_supported(alloc, support, instance.tuple.body.as_slice())
 }
 
 /// Whether each of them is one in front of those behind it. They are looked at from the last one on, and the keys of
 /// their heads kept.
-fn are_candidates_with(
+fn are_candidates_with<'a>(
     alloc: Global,
     program: &Program,
-    record: &Record,
-    answers: &Parted,
-    heads: &mut Keys,
-    instances: &[Instance],
+    support: &mut Support<'a>,
+    instances: &'a [Instance],
 ) -> Result<bool, AllocError>
-    requires { heads.old.keys ≡ [] }
+    requires { support.old.heads.keys ≡ [] }
     ensures { IfOk result (λ b. IsTrue b ↔
-        AreCandidates (tuples_of program.now) record.now answers.now instances.now) }
+        AreCandidates (tuples_of program.now) support.old.record.now support.old.answers.now
+        instances.now) }
 {
     let mut left = instances.len();
     'instances: while left > 0 {
-        let (later, instance) = (&instances[left..], &instances[left - 1]);
-        if !is_candidate(alloc, program, record, answers, heads, later, instance)? {
+        let instance = &instances[left - 1];
+        support.later = &instances[left..];
+        if !is_candidate(alloc, program, support, instance)? {
             return Ok(false);
         }
-        heads.insert_full(key_of_form(alloc, &instance.tuple.head)?)?;
+        let key = key_of_form(alloc, &instance.tuple.head)?;
+        support.heads.insert_full(key)?;
         left -= 1;
     }
     Ok(true)
@@ -150,10 +141,15 @@ fn are_candidates(
     ensures { IfOk result (λ b. IsTrue b ↔
         AreCandidates (tuples_of program.now) record.now answers.now instances.now) }
 {
-    let mut heads = IndexSet::new(alloc);
-    let found = are_candidates_with(alloc, program, record, answers, &mut heads, instances);
+    let mut support = Support {
+        record,
+        answers,
+        later: &[],
+        heads: IndexSet::new(alloc),
+    };
+    let found = are_candidates_with(alloc, program, &mut support, instances);
     // Dropped by a call: else each part of it is a step to check, at each end of the loop.
-    drop(heads);
+    drop(support);
     found
 }
 

@@ -6,5 +6,5 @@ use Rattle.apd_findings.proofs.candidates.are_supported.Given as goal
 
 abbrev pub invariant-atoms : goal.invariant-atoms
 invariant-atoms l =
-    AllByRecursion (IsTrueWhere (λ a. IsGranted l.record l.answers a ⊎ IsHeadAmong l.later a)) l.atoms
-    ↔ AllByRecursion (IsTrueWhere (λ a. IsGranted l.record l.answers a ⊎ IsHeadAmong l.later a)) (drop l.atom-index l.atoms)
+    AllByRecursion (IsTrueWhere (λ a. IsGranted l.support.record.now l.support.answers.now a ⊎ IsHeadAmong l.support.later.now a)) l.atoms
+    ↔ AllByRecursion (IsTrueWhere (λ a. IsGranted l.support.record.now l.support.answers.now a ⊎ IsHeadAmong l.support.later.now a)) (drop l.atom-index l.atoms)

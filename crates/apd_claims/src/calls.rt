@@ -15,13 +15,16 @@ use crate::claim::Claim;
 use crate::claims::{or_garbled, with_newline, written};
 use crate::entries::call_entry;
 use crate::form::Calling;
+use crate::means::Means;
+use crate::parting::CallLine;
 use crate::reading::read_term;
+use apd_base::Text;
 use apd_ops::Ops;
 use apd_parts::{Led, Quote, box_outside, boxed_in, quote_after, word_begins};
 use apd_term::names::Names;
 use apd_term::{Flat, Pred};
 use apd_text::Entry;
-use std::alloc::{AllocError, Global};
+use std::alloc::AllocError;
 
 /// The entry of a call whose atom and whose caller's atom were read.
 fn entry_of(
@@ -40,8 +43,7 @@ fn entry_of(
 
 /// The two calls, where both texts are terms.
 pub(crate) fn called(
-    alloc: Global,
-    ops: &Ops,
+    means: &Means<'_>,
     names: &mut Names,
     calling: Calling,
     call: &[u8],
@@ -50,59 +52,54 @@ pub(crate) fn called(
     ensures names { Grown names.old names.new }
     ensures few { KeepsFew names.old names.new }
     ensures entry { IfOk result (λ o. Lasting names.new (λ n. (reader : Reader n) →
-        o ≡ called reader ops.now calling call.now
+        o ≡ called reader means.now.ops.now calling call.now
         (record { number = led.now.number; rest = led.now.rest.now }))) }
     ensures named { IfOk result (λ o. IfSome o (EntryIsNamed (length names.new))) }
 {
-    let callee = read_term(alloc, ops, names, call)?;
-    let caller = read_term(alloc, ops, names, led.rest)?;
+    let callee = read_term(means, names, call)?;
+    let caller = read_term(means, names, led.rest)?;
     let _count = names.count();
     Ok(entry_of(calling, led.number, callee, caller))
 }
 
-/// What the whole text says, if these are the call's atom, its box and its caller.
+/// What a line says, if these are the call's atom, its box and its caller.
 fn claim_between(
-    alloc: Global,
-    ops: &Ops,
+    means: &Means<'_>,
     names: &mut Names,
-    whole: &[u8],
-    calling: Calling,
+    line: &CallLine,
     call: &[u8],
     led: &Led<'_>,
 ) -> Result<Option<Claim>, AllocError>
     ensures names { Grown names.old names.new }
     ensures few { KeepsFew names.old names.new }
     ensures claim { IfOk result (λ o. Lasting names.new (λ n. (reader : Reader n) →
-        o ≡ call_between reader ops.now whole.now calling (record {
+        o ≡ call_between reader means.now.ops.now line.now.whole line.now.calling (record {
           front = call.now;
           led = record { number = led.now.number; rest = led.now.rest.now };
         }))) }
     ensures sayable { IfOk result (λ o. IfSome o IsSayable) }
 {
-    let entry = called(alloc, ops, names, calling, call, led)?;
-    written(alloc, ops, names, whole, entry)
+    let entry = called(means, names, line.calling, call, led)?;
+    written(means, names, line.whole.bytes(), entry)
 }
 
 /// What a line says of a call, by the first place outside quotes.
 fn claim_outside(
-    alloc: Global,
-    ops: &Ops,
+    means: &Means<'_>,
     names: &mut Names,
-    whole: &[u8],
-    calling: Calling,
-    text: &[u8],
+    line: &CallLine,
 ) -> Result<Option<Claim>, AllocError>
     ensures names { Grown names.old names.new }
     ensures few { KeepsFew names.old names.new }
     ensures claim { IfOk result (λ o. Lasting names.new (λ n. (reader : Reader n) →
-        o ≡ option_and_then (call_between reader ops.now whole.now calling)
-        (boxed_in Quote.Outside text.now))) }
+        o ≡ option_and_then (call_between reader means.now.ops.now line.now.whole line.now.calling)
+        (boxed_in Quote.Outside line.now.text))) }
     ensures sayable { IfOk result (λ o. IfSome o IsSayable) }
 {
-    let Some(boxed) = boxed_in(text) else {
+    let Some(boxed) = boxed_in(line.text.bytes()) else {
         return Ok(None);
     };
-    claim_between(alloc, ops, names, whole, calling, boxed.front, &boxed.led)
+    claim_between(means, names, line, boxed.front, &boxed.led)
 }
 
 /// Whether it is an operator without arguments.
@@ -127,23 +124,22 @@ fn is_operator_read(ops: &Ops, read: Option<Flat>) -> bool
 }
 
 /// Whether a text of more than an operator's name may end with this word.
-fn may_end(alloc: Global, ops: &Ops, names: &mut Names, word: &[u8]) -> Result<bool, AllocError>
+fn may_end(means: &Means<'_>, names: &mut Names, word: &[u8]) -> Result<bool, AllocError>
     ensures names { Grown names.old names.new }
     ensures few { KeepsFew names.old names.new }
     ensures may { IfOk result (λ b. Lasting names.new (λ n. (reader : Reader n) →
-        b ≡ may_end reader ops.now word.now)) }
+        b ≡ may_end reader means.now.ops.now word.now)) }
 {
     if word.is_empty() {
         return Ok(false);
     }
-    let read = read_term(alloc, ops, names, word)?;
-    Ok(!is_operator_read(ops, read))
+    let read = read_term(means, names, word)?;
+    Ok(!is_operator_read(means.ops, read))
 }
 
 /// The box of a call and its caller, where they stand first outside quotes, behind a word that may end a term.
 fn box_here<'a>(
-    alloc: Global,
-    ops: &Ops,
+    means: &Means<'_>,
     names: &mut Names,
     quote: Quote,
     word: &[u8],
@@ -152,14 +148,14 @@ fn box_here<'a>(
     ensures names { Grown names.old names.new }
     ensures few { KeepsFew names.old names.new }
     ensures here { IfOk result (λ o. Lasting names.new (λ n. (reader : Reader n) →
-        MatchOption o (box_where (may_end reader ops.now) quote word.now text.now ≡ None)
-        (λ a. box_where (may_end reader ops.now) quote word.now text.now
+        MatchOption o (box_where (may_end reader means.now.ops.now) quote word.now text.now ≡ None)
+        (λ a. box_where (may_end reader means.now.ops.now) quote word.now text.now
         ≡ Some (record { number = a.number; rest = a.rest.now })))) }
 {
     let Some(led) = box_outside(quote, text) else {
         return Ok(None);
     };
-    let may = may_end(alloc, ops, names, word)?;
+    let may = may_end(means, names, word)?;
     if !may {
         return Ok(None);
     }
@@ -168,33 +164,24 @@ fn box_here<'a>(
 
 /// What a line says of a call, by the first place outside quotes behind a word that may end a term.
 fn claim_behind(
-    alloc: Global,
-    ops: &Ops,
+    means: &Means<'_>,
     names: &mut Names,
-    whole: &[u8],
-    calling: Calling,
-    text: &[u8],
+    line: &CallLine,
 ) -> Result<Option<Claim>, AllocError>
     ensures names { Grown names.old names.new }
     ensures few { KeepsFew names.old names.new }
     ensures claim { IfOk result (λ o. Lasting names.new (λ n. (reader : Reader n) →
-        o ≡ option_and_then (call_between reader ops.now whole.now calling)
-        (boxed_where (may_end reader ops.now) Quote.Outside [] text.now))) }
+        o ≡ option_and_then (call_between reader means.now.ops.now line.now.whole line.now.calling)
+        (boxed_where (may_end reader means.now.ops.now) Quote.Outside [] line.now.text))) }
     ensures sayable { IfOk result (λ o. IfSome o IsSayable) }
 {
+    let text = line.text.bytes();
     let mut quote = Quote::Outside;
     let mut begun = 0;
     'places: for place in 0..text.len() {
-        let led = box_here(
-            alloc,
-            ops,
-            names,
-            quote,
-            &text[begun..place],
-            &text[place..],
-        )?;
+        let led = box_here(means, names, quote, &text[begun..place], &text[place..])?;
         if let Some(led) = led {
-            return claim_between(alloc, ops, names, whole, calling, &text[..place], &led);
+            return claim_between(means, names, line, &text[..place], &led);
         }
         begun = word_begins(quote, text[place], begun, place);
         quote = quote_after(quote, text[place]);
@@ -204,44 +191,45 @@ fn claim_behind(
 
 /// What a line says of a call, if anything.
 fn call_in(
-    alloc: Global,
-    ops: &Ops,
+    means: &Means<'_>,
     names: &mut Names,
-    whole: &[u8],
-    calling: Calling,
-    text: &[u8],
+    line: &CallLine,
 ) -> Result<Option<Claim>, AllocError>
     ensures names { Grown names.old names.new }
     ensures few { KeepsFew names.old names.new }
     ensures claim { IfOk result (λ o. Lasting names.new (λ n. (reader : Reader n) →
-        o ≡ call_in reader ops.now whole.now calling text.now)) }
+        o ≡ call_in reader means.now.ops.now line.now.whole line.now.calling line.now.text)) }
     ensures sayable { IfOk result (λ o. IfSome o IsSayable) }
 {
-    let first = claim_outside(alloc, ops, names, whole, calling, text)?;
+    let first = claim_outside(means, names, line)?;
     if first.is_some() {
         return Ok(first);
     }
     // Dropped by a call: else each part of each kind of claim is a step to check.
     drop(first);
-    claim_behind(alloc, ops, names, whole, calling, text)
+    claim_behind(means, names, line)
 }
 
 /// What a line says of a call that isn't below its caller.
 pub(crate) fn call_claim(
-    alloc: Global,
-    ops: &Ops,
+    means: &Means<'_>,
     names: &mut Names,
     line: &[u8],
     calling: Calling,
-    text: &[u8],
+    text: Text,
 ) -> Result<Claim, AllocError>
     ensures names { Grown names.old names.new }
     ensures few { KeepsFew names.old names.new }
     ensures claim { IfOk result (λ c. Lasting names.new (λ n. (reader : Reader n) →
-        c ≡ call_claim reader ops.now line.now calling text.now)) }
+        c ≡ call_claim reader means.now.ops.now line.now calling text)) }
     ensures sayable { IfOk result IsSayable }
 {
-    let whole = with_newline(alloc, line)?;
-    let claim = call_in(alloc, ops, names, whole.bytes(), calling, text)?;
+    let whole = with_newline(means.alloc, line)?;
+    let call = CallLine {
+        calling,
+        text,
+        whole,
+    };
+    let claim = call_in(means, names, &call)?;
     Ok(or_garbled(claim))
 }

@@ -20,12 +20,12 @@ ghost use Rattle.apd_claims.specs.declared.claim.Claim.TheVariants.{Garbled};
 use crate::claim::Claim;
 use crate::entries::entry_for;
 use crate::form::LineFrame;
+use crate::means::Means;
 use crate::reading::{as_clause, read_term, read_whole};
 use apd_answers::{Question, Reply};
 use apd_base::Text;
 use apd_causes::BodyFault;
 use apd_clauses::{is_query, query_of};
-use apd_ops::Ops;
 use apd_read::Read;
 use apd_term::Flat;
 use apd_term::names::Names;
@@ -42,17 +42,11 @@ pub(crate) fn with_newline(alloc: Global, line: &[u8]) -> Result<Text, AllocErro
 }
 
 /// Whether the text is the entry's.
-fn is_text(
-    alloc: Global,
-    ops: &Ops,
-    names: &Names,
-    text: &[u8],
-    entry: &Entry,
-) -> Result<bool, AllocError>
-    ensures { IfOk result (λ b. b ≡ is_text ops.now names.now text.now entry.now) }
+fn is_text(means: &Means<'_>, names: &Names, text: &[u8], entry: &Entry) -> Result<bool, AllocError>
+    ensures { IfOk result (λ b. b ≡ is_text means.now.ops.now names.now text.now entry.now) }
 {
-    let mut written = Text::new(alloc);
-    text_of(alloc, entry, names, ops, &mut written)?;
+    let mut written = Text::new(means.alloc);
+    text_of(means.alloc, entry, names, means.ops, &mut written)?;
     Ok(written.bytes() == text)
 }
 
@@ -88,21 +82,20 @@ fn said_if(is_text: bool, entry: Entry) -> Option<Claim>
 
 /// What the entry that was read says, if the text is its text.
 pub(crate) fn written(
-    alloc: Global,
-    ops: &Ops,
+    means: &Means<'_>,
     names: &Names,
     text: &[u8],
     entry: Option<Entry>,
 ) -> Result<Option<Claim>, AllocError>
     requires { IfSome entry (EntryIsNamed (length names.now)) }
     ensures claim { IfOk result (λ o. Lasting names.now (λ n.
-        o ≡ option_and_then (written ops.now n text.now) entry)) }
+        o ≡ option_and_then (written means.now.ops.now n text.now) entry)) }
     ensures sayable { IfOk result (λ o. IfSome o IsSayable) }
 {
     let Some(entry) = entry else {
         return Ok(None);
     };
-    match is_text(alloc, ops, names, text, &entry) {
+    match is_text(means, names, text, &entry) {
         Ok(same) => Ok(said_if(same, entry)),
         Err(AllocError) => {
             drop(entry);
@@ -124,18 +117,17 @@ pub(crate) fn or_garbled(claim: Option<Claim>) -> Claim
 
 /// What the text says where it is the entry's; else it is garbled.
 pub(crate) fn claim_as(
-    alloc: Global,
-    ops: &Ops,
+    means: &Means<'_>,
     names: &Names,
     text: &[u8],
     entry: Option<Entry>,
 ) -> Result<Claim, AllocError>
     requires { IfSome entry (EntryIsNamed (length names.now)) }
     ensures claim { IfOk result (λ c. Lasting names.now (λ n.
-        c ≡ claim_as ops.now n text.now entry)) }
+        c ≡ claim_as means.now.ops.now n text.now entry)) }
     ensures sayable { IfOk result IsSayable }
 {
-    let claim = written(alloc, ops, names, text, entry)?;
+    let claim = written(means, names, text, entry)?;
     Ok(or_garbled(claim))
 }
 
@@ -155,8 +147,7 @@ fn entry_of(
 
 /// What a line says whose text has a term in it.
 pub(crate) fn framed_claim(
-    alloc: Global,
-    ops: &Ops,
+    means: &Means<'_>,
     names: &mut Names,
     line: &[u8],
     frame: LineFrame,
@@ -165,14 +156,14 @@ pub(crate) fn framed_claim(
     ensures names { Grown names.old names.new }
     ensures few { KeepsFew names.old names.new }
     ensures claim { IfOk result (λ c. Lasting names.new (λ n. (reader : Reader n) →
-        c ≡ framed_claim reader ops.now line.now frame text.now)) }
+        c ≡ framed_claim reader means.now.ops.now line.now frame text.now)) }
     ensures sayable { IfOk result IsSayable }
 {
-    let term = read_term(alloc, ops, names, text)?;
+    let term = read_term(means, names, text)?;
     let _count = names.count();
-    let whole = with_newline(alloc, line)?;
-    let entry = entry_of(alloc, frame, term)?;
-    claim_as(alloc, ops, names, whole.bytes(), entry)
+    let whole = with_newline(means.alloc, line)?;
+    let entry = entry_of(means.alloc, frame, term)?;
+    claim_as(means, names, whole.bytes(), entry)
 }
 
 /// That an atom is true, or that it isn't.
@@ -197,8 +188,7 @@ fn told_of(is_true: bool, atom: Option<Flat>) -> Claim
 
 /// What a symptom says.
 pub(crate) fn symptom_claim(
-    alloc: Global,
-    ops: &Ops,
+    means: &Means<'_>,
     names: &mut Names,
     is_true: bool,
     text: &[u8],
@@ -206,10 +196,10 @@ pub(crate) fn symptom_claim(
     ensures names { Grown names.old names.new }
     ensures few { KeepsFew names.old names.new }
     ensures claim { IfOk result (λ c. Lasting names.new (λ n. (reader : Reader n) →
-        c ≡ symptom_claim reader ops.now is_true text.now)) }
+        c ≡ symptom_claim reader means.now.ops.now is_true text.now)) }
     ensures sayable { IfOk result IsSayable }
 {
-    let atom = read_term(alloc, ops, names, text)?;
+    let atom = read_term(means, names, text)?;
     Ok(told_of(is_true, atom))
 }
 
@@ -253,18 +243,17 @@ fn as_query(alloc: Global, goals: &[u8]) -> Result<Text, AllocError>
 
 /// What a line says that tells which goals are run.
 pub(crate) fn run_claim(
-    alloc: Global,
-    ops: &Ops,
+    means: &Means<'_>,
     names: &mut Names,
     goals: &[u8],
 ) -> Result<Claim, AllocError>
     ensures names { Grown names.old names.new }
     ensures few { KeepsFew names.old names.new }
     ensures claim { IfOk result (λ c. Lasting names.new (λ n. (reader : Reader n) →
-        c ≡ run_claim reader ops.now goals.now)) }
+        c ≡ run_claim reader means.now.ops.now goals.now)) }
     ensures sayable { IfOk result IsSayable }
 {
-    let text = as_query(alloc, goals)?;
-    let read = read_whole(alloc, ops, names, text.bytes())?;
-    run_of(alloc, read)
+    let text = as_query(means.alloc, goals)?;
+    let read = read_whole(means, names, text.bytes())?;
+    run_of(means.alloc, read)
 }

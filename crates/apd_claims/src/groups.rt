@@ -17,10 +17,10 @@ ghost use Rattle.apd_claims.specs.Texts.{KeepsFew};
 use crate::claim::Claim;
 use crate::claims::{claim_as, with_newline};
 use crate::entries::tuple_in;
+use crate::means::Means;
 use crate::reading::read_term;
 use apd_answers::Finding;
 use apd_base::Text;
-use apd_ops::Ops;
 use apd_parts::{FirstLine, Led, after, first_line, led_by};
 use apd_term::names::Names;
 use apd_term::{Flat, Instance, Instances};
@@ -85,45 +85,43 @@ fn instance_of(
 
 /// The instance that a candidate's line tells.
 fn instance_in(
-    alloc: Global,
-    ops: &Ops,
+    means: &Means<'_>,
     names: &mut Names,
     line: &[u8],
 ) -> Result<Option<Instance>, AllocError>
     ensures names { Grown names.old names.new }
     ensures few { KeepsFew names.old names.new }
     ensures instance { IfOk result (λ o. Lasting names.new (λ n. (reader : Reader n) →
-        o ≡ instance_in reader ops.now line.now)) }
+        o ≡ instance_in reader means.now.ops.now line.now)) }
     ensures named { IfOk result (λ o. IfSome o (λ c. TupleIsNamed (length names.new) c.tuple)) }
 {
     let Some(led) = instance_at(line) else {
         return Ok(None);
     };
-    let term = read_term(alloc, ops, names, led.rest)?;
-    instance_of(alloc, led.number, term)
+    let term = read_term(means, names, led.rest)?;
+    instance_of(means.alloc, led.number, term)
 }
 
 /// The instances that the candidates' lines tell which stand first.
 fn instances_in(
-    alloc: Global,
-    ops: &Ops,
+    means: &Means<'_>,
     names: &mut Names,
     rest: &[u8],
 ) -> Result<Option<Instances>, AllocError>
     ensures names { Grown names.old names.new }
     ensures few { KeepsFew names.old names.new }
     ensures instances { IfOk result (λ o. Lasting names.new (λ n. (reader : Reader n) →
-        o ≡ instances_in reader ops.now [] (lines_of rest.now))) }
+        o ≡ instances_in reader means.now.ops.now [] (lines_of rest.now))) }
     ensures named { IfOk result (λ o. IfSome o
         (AllByRecursion (λ (c : Instance). TupleIsNamed (length names.new) c.tuple))) }
 {
-    let mut instances = Instances::new(alloc);
+    let mut instances = Instances::new(means.alloc);
     let mut left = rest;
     'lines: loop {
         match first_candidate(left) {
             None => return Ok(Some(instances)),
             Some(first) => {
-                let Some(instance) = instance_in(alloc, ops, names, first.line)? else {
+                let Some(instance) = instance_in(means, names, first.line)? else {
                     return Ok(None);
                 };
                 instances.push(instance)?;
@@ -148,8 +146,7 @@ fn group_entry(instances: Option<Instances>) -> Option<Entry>
 
 /// What a line says that tells how many candidates follow.
 pub(crate) fn group_claim(
-    alloc: Global,
-    ops: &Ops,
+    means: &Means<'_>,
     names: &mut Names,
     line: &[u8],
     rest: &[u8],
@@ -157,12 +154,12 @@ pub(crate) fn group_claim(
     ensures names { Grown names.old names.new }
     ensures few { KeepsFew names.old names.new }
     ensures claim { IfOk result (λ c. Lasting names.new (λ n. (reader : Reader n) →
-        c ≡ group_claim reader ops.now line.now (lines_of rest.now))) }
+        c ≡ group_claim reader means.now.ops.now line.now (lines_of rest.now))) }
     ensures sayable { IfOk result IsSayable }
 {
-    let instances = instances_in(alloc, ops, names, rest)?;
+    let instances = instances_in(means, names, rest)?;
     let _count = names.count();
-    let text = group_text(alloc, line, rest)?;
+    let text = group_text(means.alloc, line, rest)?;
     let entry = group_entry(instances);
-    claim_as(alloc, ops, names, text.bytes(), entry)
+    claim_as(means, names, text.bytes(), entry)
 }

@@ -9,6 +9,7 @@ mod entries;
 mod form;
 mod forms;
 mod groups;
+mod means;
 mod parting;
 mod reading;
 mod saying;

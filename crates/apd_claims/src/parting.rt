@@ -15,6 +15,7 @@ use crate::claim::Claim;
 use crate::claims::{with_newline, written};
 use crate::form::{Calling, LineForm};
 use crate::forms::form_in;
+use crate::means::Means;
 use apd_answers::Finding;
 use apd_base::Text;
 use apd_ops::{ARGUMENT_PRIORITY, Ops};
@@ -29,8 +30,11 @@ use std::alloc::{AllocError, Global};
 /// The line of a call that isn't below its caller, of which the text has both atoms.
 #[derive(Drop)]
 pub struct CallLine {
+    /// The goal and its caller, by the numbers.
     pub calling: Calling,
+    /// The two atoms, and the number of the call's box between them.
     pub text: Text,
+    /// The line and its newline.
     pub whole: Text,
 }
 
@@ -84,17 +88,17 @@ pub fn lasting_text(
 
 /// Whether the text is that of the caller's atom of a finding.
 fn is_callers_found(
-    alloc: Global,
-    ops: &Ops,
+    means: &Means<'_>,
     names: &Names,
     text: &[u8],
     finding: &Finding,
 ) -> Result<bool, AllocError>
-    ensures { IfOk result (λ b. b ≡ is_callers_found ops.now names.now text.now finding.now) }
+    ensures { IfOk result (λ b.
+        b ≡ is_callers_found means.now.ops.now names.now text.now finding.now) }
 {
     match finding {
         Finding::Violation { caller_atom, .. } => {
-            let callers = atom_text(alloc, ops, names, caller_atom)?;
+            let callers = atom_text(means.alloc, means.ops, names, caller_atom)?;
             Ok(callers.bytes() == text)
         }
         _ => Ok(false),
@@ -103,32 +107,31 @@ fn is_callers_found(
 
 /// That of an entry.
 fn is_callers_said(
-    alloc: Global,
-    ops: &Ops,
+    means: &Means<'_>,
     names: &Names,
     text: &[u8],
     entry: &Entry,
 ) -> Result<bool, AllocError>
-    ensures { IfOk result (λ b. b ≡ is_callers_said ops.now names.now text.now entry.now) }
+    ensures { IfOk result (λ b.
+        b ≡ is_callers_said means.now.ops.now names.now text.now entry.now) }
 {
     match entry {
-        Entry::Found { finding, .. } => is_callers_found(alloc, ops, names, text, finding),
+        Entry::Found { finding, .. } => is_callers_found(means, names, text, finding),
         _ => Ok(false),
     }
 }
 
 /// That of an entry, if there is one.
 fn is_callers(
-    alloc: Global,
-    ops: &Ops,
+    means: &Means<'_>,
     names: &Names,
     text: &[u8],
     entry: &Option<Entry>,
 ) -> Result<bool, AllocError>
-    ensures { IfOk result (λ b. b ≡ is_callers ops.now names.now text.now entry.now) }
+    ensures { IfOk result (λ b. b ≡ is_callers means.now.ops.now names.now text.now entry.now) }
 {
     match entry {
-        Some(entry) => is_callers_said(alloc, ops, names, text, entry),
+        Some(entry) => is_callers_said(means, names, text, entry),
         None => Ok(false),
     }
 }
@@ -170,8 +173,7 @@ impl CallLine {
     /// What the line says, if these are its two calls.
     fn claim_with(
         &self,
-        alloc: Global,
-        ops: &Ops,
+        means: &Means<'_>,
         names: &mut Names,
         call: &[u8],
         led: &Led<'_>,
@@ -179,13 +181,13 @@ impl CallLine {
         ensures names { Grown names.old names.new }
         ensures few { KeepsFew names.old names.new }
         ensures claim { IfOk result (λ o. Lasting names.new (λ n. (reader : Reader n) →
-            o ≡ claim_with reader ops.now self.now call.now
+            o ≡ claim_with reader means.now.ops.now self.now call.now
             (record { number = led.now.number; rest = led.now.rest.now }))) }
         ensures sayable { IfOk result (λ o. IfSome o IsSayable) }
     {
-        let entry = called(alloc, ops, names, self.calling, call, led)?;
-        match is_callers(alloc, ops, names, led.rest, &entry) {
-            Ok(true) => written(alloc, ops, names, self.whole.bytes(), entry),
+        let entry = called(means, names, self.calling, call, led)?;
+        match is_callers(means, names, led.rest, &entry) {
+            Ok(true) => written(means, names, self.whole.bytes(), entry),
             Ok(false) => {
                 // Dropped by a call, here and below: else each part of each kind of entry is a step to check.
                 drop(entry);
@@ -217,6 +219,7 @@ impl CallLine {
         let Some(led) = box_first(&text[place..]) else {
             return Ok(None);
         };
-        self.claim_with(alloc, ops, names, &text[..place], &led)
+        let means = Means { alloc, ops };
+        self.claim_with(&means, names, &text[..place], &led)
     }
 }

@@ -12,9 +12,9 @@ ghost use Rattle.apd_claims.specs.Reading.{as_clause, read_of, reading, term_in}
 ghost use Rattle.apd_claims.specs.Texts.{KeepsFew};
 ghost use Rattle.apd_base.specs.declared.limits.TheConstants.{MAX_FILE};
 
+use crate::means::Means;
 use apd_base::{MAX_FILE, Text};
 use apd_lines::{LineRead, read_text};
-use apd_ops::Ops;
 use apd_read::Read;
 use apd_term::Flat;
 use apd_term::names::Names;
@@ -40,15 +40,14 @@ fn clause_of_line(line: LineRead) -> Option<Read>
 /// Where there was no memory, or no room for as many names as the text may have; then, too, the names have only grown, and few
 /// stay few.
 pub(crate) fn read_whole(
-    alloc: Global,
-    ops: &Ops,
+    means: &Means<'_>,
     names: &mut Names,
     text: &[u8],
 ) -> Result<Option<Read>, AllocError>
     ensures names { Grown names.old names.new }
     ensures few { KeepsFew names.old names.new }
     ensures read { IfOk result (λ o. Lasting names.new (λ n. (reader : Reader n) →
-        o ≡ reading reader ops.now text.now)) }
+        o ≡ reading reader means.now.ops.now text.now)) }
     ensures named { IfOk result (λ o. IfSome o (λ r.
         IsReadOf (length names.new) MAX_FILE r.term)) }
 {
@@ -58,7 +57,7 @@ pub(crate) fn read_whole(
     if names.count() > MOST_READ_NAMES - MAX_FILE {
         return Err(AllocError);
     }
-    let line = read_text(alloc, ops, names, text)?;
+    let line = read_text(means.alloc, means.ops, names, text)?;
     Ok(clause_of_line(line))
 }
 
@@ -87,18 +86,17 @@ fn term_of_read(read: Option<Read>) -> Option<Flat>
 ///
 /// As there.
 pub(crate) fn read_term(
-    alloc: Global,
-    ops: &Ops,
+    means: &Means<'_>,
     names: &mut Names,
     text: &[u8],
 ) -> Result<Option<Flat>, AllocError>
     ensures names { Grown names.old names.new }
     ensures few { KeepsFew names.old names.new }
     ensures read { IfOk result (λ o. Lasting names.new (λ n. (reader : Reader n) →
-        o ≡ term_in reader ops.now text.now)) }
+        o ≡ term_in reader means.now.ops.now text.now)) }
     ensures named { IfOk result (λ o. IfSome o (IsNamed (length names.new))) }
 {
-    let clause = as_clause(alloc, text)?;
-    let read = read_whole(alloc, ops, names, clause.bytes())?;
+    let clause = as_clause(means.alloc, text)?;
+    let read = read_whole(means, names, clause.bytes())?;
     Ok(term_of_read(read))
 }

@@ -18,6 +18,7 @@ use crate::claims::{claim_as, framed_claim, run_claim, symptom_claim, with_newli
 use crate::form::LineForm;
 use crate::forms::form_in;
 use crate::groups::group_claim;
+use crate::means::Means;
 use apd_ops::Ops;
 use apd_parts::after;
 use apd_term::names::Names;
@@ -34,25 +35,23 @@ pub struct LogLine<'a> {
 
 /// What a line says of calls that descend.
 fn descent_claim(
-    alloc: Global,
-    ops: &Ops,
+    means: &Means<'_>,
     names: &Names,
     line: &[u8],
     calls: u32,
 ) -> Result<Claim, AllocError>
     ensures claim { IfOk result (λ c. Lasting names.now (λ n.
-        c ≡ claim_as ops.now n (with_newline line.now) (Some (AllDescend calls)))) }
+        c ≡ claim_as means.now.ops.now n (with_newline line.now) (Some (AllDescend calls)))) }
     ensures sayable { IfOk result IsSayable }
 {
-    let whole = with_newline(alloc, line)?;
+    let whole = with_newline(means.alloc, line)?;
     let entry = Entry::AllDescend { calls };
-    claim_as(alloc, ops, names, whole.bytes(), Some(entry))
+    claim_as(means, names, whole.bytes(), Some(entry))
 }
 
 /// What a line of this form says.
 fn claim_by(
-    alloc: Global,
-    ops: &Ops,
+    means: &Means<'_>,
     names: &mut Names,
     place: &LogLine<'_>,
     form: LineForm,
@@ -61,23 +60,21 @@ fn claim_by(
     ensures names { Grown names.old names.new }
     ensures few { KeepsFew names.old names.new }
     ensures claim { IfOk result (λ c. Lasting names.new (λ n. (reader : Reader n) →
-        c ≡ claim_by reader ops.now place.now.in_group place.now.line.now
+        c ≡ claim_by reader means.now.ops.now place.now.in_group place.now.line.now
         (lines_of place.now.rest.now) form)) }
     ensures sayable { IfOk result IsSayable }
 {
     match form {
-        LineForm::Query(goals) => run_claim(alloc, ops, names, goals.bytes()),
+        LineForm::Query(goals) => run_claim(means, names, goals.bytes()),
         LineForm::End(ran) => Ok(Claim::Ends(ran)),
-        LineForm::Symptom(is_true, text) => symptom_claim(alloc, ops, names, is_true, text.bytes()),
+        LineForm::Symptom(is_true, text) => symptom_claim(means, names, is_true, text.bytes()),
         LineForm::Framed(frame, text) => {
-            framed_claim(alloc, ops, names, place.line, frame, text.bytes())
+            framed_claim(means, names, place.line, frame, text.bytes())
         }
-        LineForm::Call(calling, text) => {
-            call_claim(alloc, ops, names, place.line, calling, text.bytes())
-        }
-        LineForm::Candidates => group_claim(alloc, ops, names, place.line, place.rest),
+        LineForm::Call(calling, text) => call_claim(means, names, place.line, calling, text),
+        LineForm::Candidates => group_claim(means, names, place.line, place.rest),
         LineForm::Candidate if place.in_group => Ok(Claim::Nothing),
-        LineForm::Descent(calls) => descent_claim(alloc, ops, names, place.line, calls),
+        LineForm::Descent(calls) => descent_claim(means, names, place.line, calls),
         LineForm::Other => Ok(Claim::Nothing),
         LineForm::Candidate | LineForm::Unread => Ok(Claim::Garbled),
     }
@@ -98,7 +95,8 @@ pub fn claim_at(
     ensures sayable { IfOk result IsSayable }
 {
     let form = form_in(alloc, place.line)?;
-    claim_by(alloc, ops, names, place, form)
+    let means = Means { alloc, ops };
+    claim_by(&means, names, place, form)
 }
 
 /// Whether the lines behind a line may be those of candidates.

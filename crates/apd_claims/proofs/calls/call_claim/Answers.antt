@@ -6,4 +6,4 @@ pub returns-clause-claim : goal.returns-clause-claim
 returns-clause-claim c = λ n grew reader.
     c.or_garbled.ensures.claim
     ∙ ap or_garbled (c.in_ok-claim.ensures.claim n grew reader
-    ∙ ap (λ whole. call_in reader c.args.ops.now whole c.args.calling c.args.text.now) (c.bytes.ensures ∙ c.in_ok-whole.ensures))
+    ∙ ap (λ whole. call_in reader c.args.means.now.ops.now whole c.args.calling c.args.text) c.in_ok-whole.ensures)

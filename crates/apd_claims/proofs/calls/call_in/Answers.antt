@@ -10,8 +10,8 @@ use Rattle.apd_claims.proofs.calls.call_in.Goals as goal
 
 pub returns-then-is_some-clause-claim : goal.returns-then-is_some-clause-claim
 returns-then-is_some-clause-claim c = λ n grew reader.
-    something-first (option_and_then (call_between reader c.args.ops.now c.args.whole.now c.args.calling) (boxed_in Outside c.args.text.now))
-    (option_and_then (call_between reader c.args.ops.now c.args.whole.now c.args.calling) (boxed_where (may_end reader c.args.ops.now) Outside [] c.args.text.now))
+    something-first (option_and_then (call_between reader c.args.means.now.ops.now c.args.line.now.whole c.args.line.now.calling) (boxed_in Outside c.args.line.now.text))
+    (option_and_then (call_between reader c.args.means.now.ops.now c.args.line.now.whole c.args.line.now.calling) (boxed_where (may_end reader c.args.means.now.ops.now) Outside [] c.args.line.now.text))
     c.in_ok-first.first (c.in_ok-first.ensures.claim n grew reader) (sym c.is_some.ensures ∙ c.if-is_some.true)
 
 pub returns-clause-names : goal.returns-clause-names
@@ -23,7 +23,7 @@ returns-clause-few c = λ l. c.claim_behind.ensures.few (c.claim_outside.ensures
 pub returns-clause-claim : goal.returns-clause-claim
 returns-clause-claim c = IfOk-weaker c.claim_behind.result _ _ (λ o is n grew reader.
     is n grew reader
-    ∙ nothing-first (option_and_then (call_between reader c.args.ops.now c.args.whole.now c.args.calling) (boxed_in Outside c.args.text.now))
-    (option_and_then (call_between reader c.args.ops.now c.args.whole.now c.args.calling) (boxed_where (may_end reader c.args.ops.now) Outside [] c.args.text.now))
+    ∙ nothing-first (option_and_then (call_between reader c.args.means.now.ops.now c.args.line.now.whole c.args.line.now.calling) (boxed_in Outside c.args.line.now.text))
+    (option_and_then (call_between reader c.args.means.now.ops.now c.args.line.now.whole c.args.line.now.calling) (boxed_where (may_end reader c.args.means.now.ops.now) Outside [] c.args.line.now.text))
     c.in_ok-first.first (c.in_ok-first.ensures.claim n (Grown-more c.claim_outside.new.names c.claim_behind.new.names n c.claim_behind.ensures.names grew) reader) (sym c.is_some.ensures ∙ c.if-is_some.false))
     c.claim_behind.ensures.claim

@@ -24,7 +24,7 @@ returns-clause-entry c = λ n grew reader.
     c.entry_of.ensures
     ∙ ap (λ o. if_some o (λ q. option_map (call_entry c.args.calling c.args.led.now.number q) c.in_ok-caller.caller) None)
     (c.in_ok-callee.ensures.read n (Grown-more c.read_term.new.names c.read_term-2.new.names n c.read_term-2.ensures.names grew) reader)
-    ∙ ap (λ o. if_some (term_in reader c.args.ops.now c.args.call.now) (λ q. option_map (call_entry c.args.calling c.args.led.now.number q) o) None)
+    ∙ ap (λ o. if_some (term_in reader c.args.means.now.ops.now c.args.call.now) (λ q. option_map (call_entry c.args.calling c.args.led.now.number q) o) None)
     (c.in_ok-caller.ensures.read n grew reader)
 
 pub returns-clause-named : goal.returns-clause-named

@@ -6,6 +6,6 @@ use Rattle.apd_claims.proofs.calls.claim_between.Goals as goal
 
 pub returns-clause-claim : goal.returns-clause-claim
 returns-clause-claim c = IfOk-weaker c.written.result _ _ (λ o is n grew reader.
-    is n grew
-    ∙ ap (option_and_then (written c.args.ops.now n c.args.whole.now)) (c.in_ok-entry.ensures.entry n grew reader))
+    rw c.bytes.ensures at (is n grew)
+    ∙ ap (option_and_then (written c.args.means.now.ops.now n c.args.line.now.whole)) (c.in_ok-entry.ensures.entry n grew reader))
     c.written.ensures.claim

@@ -12,6 +12,6 @@ claim_as-requires c = rw c.in_ok-entry.ensures (framed-named c.read_term.new.nam
 pub returns-clause-claim : goal.returns-clause-claim
 returns-clause-claim c = IfOk-weaker c.claim_as.result _ _ (λ claim is n grew reader.
     is n grew
-    ∙ ap (λ whole. claim_as c.args.ops.now n whole c.in_ok-entry.entry) (c.bytes.ensures ∙ c.in_ok-whole.ensures)
-    ∙ ap (λ entry. claim_as c.args.ops.now n (with_newline c.args.line.now) entry) (c.in_ok-entry.ensures ∙ ap (option_and_then (entry_for c.args.frame)) (c.in_ok-term.ensures.read n grew reader)))
+    ∙ ap (λ whole. claim_as c.args.means.now.ops.now n whole c.in_ok-entry.entry) (c.bytes.ensures ∙ c.in_ok-whole.ensures)
+    ∙ ap (λ entry. claim_as c.args.means.now.ops.now n (with_newline c.args.line.now) entry) (c.in_ok-entry.ensures ∙ ap (option_and_then (entry_for c.args.frame)) (c.in_ok-term.ensures.read n grew reader)))
     c.claim_as.ensures.claim

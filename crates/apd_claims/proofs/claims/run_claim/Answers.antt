@@ -12,5 +12,5 @@ run_of-requires c = few-symbols (length c.read_whole.new.names) c.in_ok-read.rea
 
 pub returns-clause-claim : goal.returns-clause-claim
 returns-clause-claim c = IfOk-weaker c.run_of.result _ _ (λ claim is n grew reader.
-    is ∙ ap (λ o. if_some o query_claim Garbled) (c.in_ok-read.ensures.read n grew reader ∙ ap (reading reader c.args.ops.now) (c.bytes.ensures ∙ c.in_ok-text.ensures)))
+    is ∙ ap (λ o. if_some o query_claim Garbled) (c.in_ok-read.ensures.read n grew reader ∙ ap (reading reader c.args.means.now.ops.now) (c.bytes.ensures ∙ c.in_ok-text.ensures)))
     c.run_of.ensures.claim

@@ -13,6 +13,6 @@ claim_as-requires c = rw c.group_entry-entry.ensures (group-named c.instances_in
 pub returns-clause-claim : goal.returns-clause-claim
 returns-clause-claim c = IfOk-weaker c.claim_as.result _ _ (λ claim is n grew reader.
     is n grew
-    ∙ ap (λ whole. claim_as c.args.ops.now n whole c.group_entry-entry.result) (c.bytes.ensures ∙ c.in_ok-text.ensures)
-    ∙ ap (λ entry. claim_as c.args.ops.now n (group_text c.args.line.now (lines_of c.args.rest.now)) entry) (c.group_entry-entry.ensures ∙ ap (option_map group_entry) (c.in_ok-instances.ensures.instances n grew reader)))
+    ∙ ap (λ whole. claim_as c.args.means.now.ops.now n whole c.group_entry-entry.result) (c.bytes.ensures ∙ c.in_ok-text.ensures)
+    ∙ ap (λ entry. claim_as c.args.means.now.ops.now n (group_text c.args.line.now (lines_of c.args.rest.now)) entry) (c.group_entry-entry.ensures ∙ ap (option_map group_entry) (c.in_ok-instances.ensures.instances n grew reader)))
     c.claim_as.ensures.claim

@@ -8,7 +8,7 @@ use Rattle.apd_claims.proofs.groups.instance_in.Goals as goal
 pub returns-clause-instance : goal.returns-clause-instance
 returns-clause-instance c = IfOk-weaker c.instance_of.result _ _ (λ o is n grew reader.
     is ∙ ap (option_map (instance_with c.in-Some.led.number)) (c.in_ok-term.ensures.read n grew reader)
-    ∙ ap (option_and_then (instance_at reader c.args.ops.now)) (sym c.in-Some.ensures))
+    ∙ ap (option_and_then (instance_at reader c.args.means.now.ops.now)) (sym c.in-Some.ensures))
     c.instance_of.ensures
 
 pub returns-clause-named : goal.returns-clause-named

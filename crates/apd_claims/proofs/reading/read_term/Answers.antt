@@ -8,7 +8,7 @@ use Rattle.apd_claims.proofs.reading.read_term.Goals as goal
 pub returns-clause-read : goal.returns-clause-read
 returns-clause-read c = λ n grew reader.
     c.term_of_read.ensures
-    ∙ ap (option_map (λ (r : Read). r.term)) (c.in_ok-read.ensures.read n grew reader ∙ ap (reading reader c.args.ops.now) (c.bytes.ensures ∙ c.in_ok-clause.ensures))
+    ∙ ap (option_map (λ (r : Read). r.term)) (c.in_ok-read.ensures.read n grew reader ∙ ap (reading reader c.args.means.now.ops.now) (c.bytes.ensures ∙ c.in_ok-clause.ensures))
 
 pub returns-clause-named : goal.returns-clause-named
 returns-clause-named c = rw c.term_of_read.ensures (term-named (length c.read_whole.new.names) c.in_ok-read.read c.in_ok-read.ensures.named)

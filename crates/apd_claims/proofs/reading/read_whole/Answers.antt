@@ -22,7 +22,7 @@ returns-clause-few c =
 
 pub returns-clause-read : goal.returns-clause-read
 returns-clause-read c = λ n grew reader.
-    c.clause_of_line.ensures ∙ ap read_of (c.in_ok-line.ensures.line n grew reader) ∙ reads-short reader c.args.ops.now c.args.text.now (omega arith)
+    c.clause_of_line.ensures ∙ ap read_of (c.in_ok-line.ensures.line n grew reader) ∙ reads-short reader c.args.means.now.ops.now c.args.text.now (omega arith)
 
 pub returns-clause-named : goal.returns-clause-named
 returns-clause-named c = read-named (length c.read_text.new.names) (length c.args.text.now) c.in_ok-line.line c.clause_of_line.result (omega arith) c.clause_of_line.ensures c.in_ok-line.ensures.named

@@ -15,6 +15,7 @@ use Rattle.apd_index.specs.declared.columns.Columns.{Columns}
 use Rattle.apd_index.specs.declared.columns.ColumnEntry.{ColumnEntry}
 use Rattle.apd_index.specs.declared.nodes.Nodes.{Nodes}
 use Rattle.apd_index.specs.declared.sharing.SymbolSpot.{SymbolSpot}
+use Rattle.apd_index.specs.declared.waiting.Known.{Known}
 use Rattle.apd_index.specs.declared.walk.Table.{Table}
 use Rattle.apd_marks.specs.Places.{Index, places_at}
 use Rattle.apd_marks.specs.declared.positions.Parent.{Parent}
@@ -25,13 +26,14 @@ use Rattle.apd_index.proofs.Rooted.{same-root}
 
 -- where nothing is noted
 pub grows-none : (t : Table) → tables.IsSound t → tables.Grows t t
-grows-none t is = record { sound = is; kept = λ m k a. a; founders = record { still = λ m k f. f }; numbers = λ p c n. n; entries = λ c e i. i }
+grows-none t is = record { sound = is; kept = λ m k a. a; founders = record { still = λ m k f. f }; large = λ k a. a; numbers = λ p c n. n; entries = λ c e i. i }
 
 pub grows-on : (t u v : Table) → tables.Grows t u → tables.Grows u v → tables.Grows t v
 grows-on t u v one two = record {
   sound = two.sound;
   kept = λ m k a. two.kept m k (one.kept m k a);
   founders = record { still = λ m k f. two.founders.still m k (one.founders.still m k f) };
+  large = λ k a. two.large k (one.large k a);
   numbers = λ p c n. two.numbers p c (one.numbers p c n);
   entries = λ c e i. two.entries c e (one.entries c e i);
 }
@@ -88,16 +90,22 @@ pub instance-spot : (a x : Term) (s : SymbolSpot) → IsInstance x a → IsSpot 
 instance-spot a x s (f, is) (p, t, at, above, m) = (p, apply f t, instance-at f a x p t is at, above, subst (λ (y : Sym). IsAmong (noted p y) s.mark) (sym (root-stays f t p s.mark m)) m)
 
 -- each instance of the atom is looked at: its bit is left, or it is large, or it waits
-module _ (xs : List Term) (nodes : Nodes) (large : List ℕ) (waiting : Index) (columns : Columns) (a : Term) (root : ℕ) (row more full : List ℕ) where
-  pub all-left : AreSpecials xs nodes large waiting → IsSound nodes → HasColumns xs nodes columns → root_mark a ≡ Some root
-      → ((k : ℕ) → IsAmong (noted_at nodes any_term) k → AllLeave nodes k a → IsAlike nodes columns a k → HasBit row k) → IsWithin row more → HasBits more large
-      → IsWithin more full → HasBits full (places_at waiting root) → (k : ℕ) (x : Term) → slice_get xs k ≡ Some x → IsInstance x a → HasBit full k
-  all-left known sound right is_root left kept set further wait k x e i = elim (known k x e) [
+module _ (xs : List Term) (known : Known) (a : Term) (root : ℕ) (row more full : List ℕ) where
+  abbrev nodes : Nodes
+  nodes = known.table.nodes
+
+  abbrev columns : Columns
+  columns = known.table.columns
+
+  pub all-left : AreSpecials xs known → IsSound nodes → HasColumns xs nodes columns → root_mark a ≡ Some root
+      → ((k : ℕ) → IsAmong (noted_at nodes any_term) k → AllLeave nodes k a → IsAlike nodes columns a k → HasBit row k) → IsWithin row more → HasBits more known.table.large.items
+      → IsWithin more full → HasBits full (places_at known.waiting root) → (k : ℕ) (x : Term) → slice_get xs k ≡ Some x → IsInstance x a → HasBit full k
+  all-left are sound right is_root left kept set further wait k x e i = elim (are k x e) [
     | inl noted ↦ further k (elim noted [
       | inl above ↦ kept k (left k above.1 (λ s is. above.0 s (instance-spot a x s i is)) (alike xs nodes columns a x k sound right e i))
       | inr l ↦ set k l
     ])
-    | inr w ↦ wait k (subst (λ (m : ℕ). IsAmong (places_at waiting m) k) (sym (same-root a x root w.0 is_root i w.1)) w.2)
+    | inr w ↦ wait k (subst (λ (m : ℕ). IsAmong (places_at known.waiting m) k) (sym (same-root a x root w.0 is_root i w.1)) w.2)
   ]
 
 -- a ground atom is its one instance

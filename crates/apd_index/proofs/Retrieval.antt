@@ -14,7 +14,10 @@ use Rattle.apd_marks.specs.Positions.{IsLasting, all_marks, any_term, whole}
 use Rattle.apd_index.specs.Retrieval.{AreGenerals, AreKeptIn, AreSpecials, AreWholes, IsKnown, IsNoted, IsNotedBelow, NoneLeft, SomeLeft, has_general, has_special, is_above, is_below}
 use Rattle.apd_index.specs.Nodes.{AreKept, KeepsFounders}
 use Rattle.apd_index.specs.Spots.{AllLeave}
+use Rattle.apd_index.specs.Table.{KeepsLarge}
 use Rattle.apd_index.specs.declared.nodes.Nodes.{Nodes}
+use Rattle.apd_index.specs.declared.waiting.Known.{Known}
+use Rattle.apd_index.specs.declared.walk.Table.{Table}
 use Rattle.apd_bits.specs.Rows.{HasBit, has_bit}
 use Rattle.apd_index.proofs.Noting.{notes-kept, notes-one}
 use Rattle.apd_index.proofs.Telling.{among-any, any-among, any-there, same-truth}
@@ -35,16 +38,16 @@ below-kept xs old new kept h k x e = let n = h k x e in record { mark = n.mark; 
 pub leaves-kept : (old new : Nodes) (k : ℕ) (x : Term) → AreKept old new → KeepsFounders old new → AllLeave old k x → AllLeave new k x
 leaves-kept old new k x kept founders fine s is = elim (fine s is) [ inl n ↦ inl (kept s.mark k n) | inr f ↦ inr (founders.still s.parent k f) ]
 
-pub noted-kept : (old new : Nodes) (large larger : List ℕ) (k : ℕ) (x : Term) → AreKept old new → KeepsFounders old new → ((k : ℕ) → IsAmong large k → IsAmong larger k) → IsNoted old large k x → IsNoted new larger k x
-noted-kept old new large larger k x kept founders still h = elim h [
-  | inl above ↦ inl (leaves-kept old new k x kept founders above.0, kept any_term k above.1)
+pub noted-kept : (old new : Table) (k : ℕ) (x : Term) → AreKept old.nodes new.nodes → KeepsFounders old.nodes new.nodes → KeepsLarge old new → IsNoted old k x → IsNoted new k x
+noted-kept old new k x kept founders still h = elim h [
+  | inl above ↦ inl (leaves-kept old.nodes new.nodes k x kept founders above.0, kept any_term k above.1)
   | inr l ↦ inr (still k l)
 ]
 
-pub above-kept : (xs : List Term) (old new : Nodes) (large larger : List ℕ) (waiting more : Index) → AreKept old new → KeepsFounders old new → ((k : ℕ) → IsAmong large k → IsAmong larger k) → AreKeptIn waiting more
-    → AreSpecials xs old large waiting → AreSpecials xs new larger more
-above-kept xs old new large larger waiting more kept founders still wait h k x e = elim (h k x e) [
-  | inl noted ↦ inl (noted-kept old new large larger k x kept founders still noted)
+pub above-kept : (xs : List Term) (old new : Known) → AreKept old.table.nodes new.table.nodes → KeepsFounders old.table.nodes new.table.nodes → KeepsLarge old.table new.table → AreKeptIn old.waiting new.waiting
+    → AreSpecials xs old → AreSpecials xs new
+above-kept xs old new kept founders still wait h k x e = elim (h k x e) [
+  | inl noted ↦ inl (noted-kept old.table new.table k x kept founders still noted)
   | inr w ↦ inr (w.0, w.1, wait w.0 k w.2)
 ]
 
@@ -55,12 +58,11 @@ module _ (xs : List Term) (places : Index) (a : Term) where
     | inr f ↦ subst (λ (n : ℕ). IsNotedBelow places n x) f.0 (subst (IsNotedBelow places (length xs)) f.1 (record { mark = m; lasting = lasting; noted = noted }))
   ]
 
-module _ (xs : List Term) (places : Nodes) (a : Term) where
-  above-more : (large : List ℕ) (waiting : Index) → IsKnown places large waiting (length xs) a → AreSpecials xs places large waiting → AreSpecials (xs ++ a ∷ []) places large waiting
-  above-more large waiting known h k x e = elim (last-at xs a x k e) [
-    | inl f ↦ h k x f
-    | inr f ↦ subst (λ (n : ℕ). IsKnown places large waiting n x) f.0 (subst (IsKnown places large waiting (length xs)) f.1 known)
-  ]
+above-more : (xs : List Term) (known : Known) (a : Term) → IsKnown known (length xs) a → AreSpecials xs known → AreSpecials (xs ++ a ∷ []) known
+above-more xs known a is h k x e = elim (last-at xs a x k e) [
+  | inl f ↦ h k x f
+  | inr f ↦ subst (λ (n : ℕ). IsKnown known n x) f.0 (subst (IsKnown known (length xs)) f.1 is)
+]
 
 pub wholes-kept : (xs : List Term) (old new : Index) → AreKeptIn old new → AreWholes xs old → AreWholes xs new
 wholes-kept xs old new kept h k x e = kept (whole x) k (h k x e)
@@ -80,9 +82,9 @@ pub below-pushed : {T E : Type 0} (r : Result T E) (xs new : List Term) (places 
     → IsAmong (places_at places m) (length xs) → AreGenerals xs places → AreGenerals new places
 below-pushed r xs new places a m ok err lasting noted h = either-way r (λ ys. AreGenerals ys places) xs (xs ++ a ∷ []) new ok err h (below-more xs places a m lasting noted h)
 
-pub above-pushed : {T E : Type 0} (r : Result T E) (xs new : List Term) (places : Nodes) (large : List ℕ) (waiting : Index) (a : Term) → OnOk r (new ≡ xs ++ a ∷ []) → OnErr r (new ≡ xs)
-    → IsKnown places large waiting (length xs) a → AreSpecials xs places large waiting → AreSpecials new places large waiting
-above-pushed r xs new places large waiting a ok err known h = either-way r (λ ys. AreSpecials ys places large waiting) xs (xs ++ a ∷ []) new ok err h (above-more xs places a large waiting known h)
+pub above-pushed : {T E : Type 0} (r : Result T E) (xs new : List Term) (known : Known) (a : Term) → OnOk r (new ≡ xs ++ a ∷ []) → OnErr r (new ≡ xs)
+    → IsKnown known (length xs) a → AreSpecials xs known → AreSpecials new known
+above-pushed r xs new known a ok err is h = either-way r (λ ys. AreSpecials ys known) xs (xs ++ a ∷ []) new ok err h (above-more xs known a is h)
 
 -- its place was noted for the mark of the whole before
 pub wholes-put : {T E : Type 0} (r : Result T E) (xs new : List Term) (old wholes : Index) (a : Term) (mark place : ℕ) → mark ≡ whole a → place ≡ length xs → Notes old mark place wholes

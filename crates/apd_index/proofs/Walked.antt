@@ -39,12 +39,12 @@ pub record IsWalked (t : Term) (xs : List Sym) (place i : ℕ) (first now : Tabl
 
 -- a table with other nodes
 abbrev with_nodes : Table → Nodes → Table
-with_nodes t nodes = record { nodes = nodes; columns = t.columns; is_given_up = t.is_given_up }
+with_nodes t nodes = record { nodes = nodes; columns = t.columns; large = t.large; is_given_up = t.is_given_up }
 
 pub walked-begins : (t : Term) (xs : List Sym) (place : ℕ) (first : Table) (nodes : Nodes) (none opened : List Open) (is_right : Bool) → AreColumns first.columns → xs ≡ spell t → Grow first.nodes nodes → AreOpen nodes place opened → none ≡ []
     → parents_of opened ≡ waiting top 1 (parents_of none) → IsWalked t xs place 0 first (with_nodes first nodes) opened is_right
 walked-begins t xs place first nodes none opened is_right columns is grow opens empty parents = record {
-  grows = record { sound = (grow.sound, columns); kept = grow.kept; founders = grow.founders; numbers = grow.numbers; entries = λ c e i. i };
+  grows = record { sound = (grow.sound, columns); kept = grow.kept; founders = grow.founders; large = λ k a. a; numbers = grow.numbers; entries = λ c e i. i };
   opens = opens;
   within = omega arith;
   ahead = ap (λ (ys : List Sym). rest ys (reverse (parents_of opened))) is ∙ ap (λ (ps : List Parent). rest (spell t) (reverse ps)) begun ∙ rest-whole t;
@@ -83,11 +83,12 @@ digests-within t ds i is l = let h = as-many-digests t (positions t) ds refl is 
 pub grow-none : (nodes : Nodes) → AreSound nodes → Grow nodes nodes
 grow-none nodes sound = record { sound = sound; kept = λ m k a. a; founders = record { still = λ m k f. f }; numbers = λ p c a. a }
 
-pub grows-more : (first now : Table) (nodes : Nodes) (columns : Columns) → Grows first now → Grow now.nodes nodes → AreColumns columns → KeepsEntries now.columns columns → Grows first (record { nodes = nodes; columns = columns; is_given_up = now.is_given_up })
+pub grows-more : (first now : Table) (nodes : Nodes) (columns : Columns) → Grows first now → Grow now.nodes nodes → AreColumns columns → KeepsEntries now.columns columns → Grows first (record { nodes = nodes; columns = columns; large = now.large; is_given_up = now.is_given_up })
 grows-more first now nodes columns so_far grow are keeps = record {
   sound = (grow.sound, are);
   kept = λ m k a. grow.kept m k (so_far.kept m k a);
   founders = record { still = λ m k f. grow.founders.still m k (so_far.founders.still m k f) };
+  large = λ k a. so_far.large k a;
   numbers = λ p c a. grow.numbers p c (so_far.numbers p c a);
   entries = λ c e a. keeps c e (so_far.entries c e a);
 }
@@ -109,7 +110,7 @@ module _ (t : Term) (xs : List Sym) (place i : ℕ) (first now : Table) (opened 
   -- with what was put into columns, and what was noted
   module _ (nodes : Nodes) (columns : Columns) (are : AreColumns columns) (keeps : KeepsEntries now.columns columns) (grow : Grow now.nodes nodes) where
     abbrev grown : Table
-    grown = record { nodes = nodes; columns = columns; is_given_up = now.is_given_up }
+    grown = record { nodes = nodes; columns = columns; large = now.large; is_given_up = now.is_given_up }
 
     last : IsOpen now.nodes place o
     last = last-open now.nodes place opened left o is w.opens

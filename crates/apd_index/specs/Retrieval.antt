@@ -5,7 +5,8 @@ use Rattle.apd_term.specs.Term.{Term, IsAmong}
 use Rattle.apd_term.specs.Matching.{is_instance}
 use Rattle.apd_marks.specs.Places.{Index, places_at}
 use Rattle.apd_marks.specs.Positions.{IsLasting, marks_of, whole}
-use Rattle.apd_index.specs.declared.nodes.Nodes.{Nodes}
+use Rattle.apd_index.specs.declared.waiting.Known.{Known}
+use Rattle.apd_index.specs.declared.walk.Table.{Table}
 use Rattle.apd_index.specs.Spots.{IsNotedAbove}
 use Rattle.apd_bits.specs.Rows.{has_bit}
 
@@ -42,8 +43,8 @@ pub record IsNotedBelow (places : Index) (k : ℕ) (x : Term) : Type 0 where
   pub noted : IsAmong (places_at places mark) k
 
 -- the place is noted for the atom's symbols, but constants below one of which it is the founder; or it is that of a large atom
-abbrev pub IsNoted : Nodes → List ℕ → ℕ → Term → Type 0
-IsNoted nodes large k x = IsNotedAbove nodes k x ⊎ IsAmong large k
+abbrev pub IsNoted : Table → ℕ → Term → Type 0
+IsNoted table k x = IsNotedAbove table.nodes k x ⊎ IsAmong table.large.items k
 
 -- the mark of the atom's root symbol, which its marks begin with; a variable has none
 abbrev pub root_mark : Term → Option ℕ
@@ -54,24 +55,24 @@ abbrev pub Waits : Index → ℕ → Term → Type 0
 Waits waiting k x = (m : ℕ) × (root_mark x ≡ Some m) × IsAmong (places_at waiting m) k
 
 -- the place is noted, or it waits
-abbrev pub IsKnown : Nodes → List ℕ → Index → ℕ → Term → Type 0
-IsKnown nodes large waiting k x = IsNoted nodes large k x ⊎ Waits waiting k x
+abbrev pub IsKnown : Known → ℕ → Term → Type 0
+IsKnown known k x = IsNoted known.table k x ⊎ Waits known.waiting k x
 
 -- each place that waited does so still, unless at this mark
 abbrev pub AreKeptBut : ℕ → Index → Index → Type 0
 AreKeptBut mark old new = (m k : ℕ) → IsAmong (places_at old m) k → (mark ≡ m) ⊎ IsAmong (places_at new m) k
 
 -- the atoms at these places are noted
-abbrev pub AreNoted : List Term → Nodes → List ℕ → List ℕ → Type 0
-AreNoted xs nodes large ks = (k : ℕ) (x : Term) → IsAmong ks k → slice_get xs k ≡ Some x → IsNoted nodes large k x
+abbrev pub AreNoted : List Term → Table → List ℕ → Type 0
+AreNoted xs table ks = (k : ℕ) (x : Term) → IsAmong ks k → slice_get xs k ≡ Some x → IsNoted table k x
 
 -- What is noted of each atom of a list; a place may be noted where there is no atom.
 
 abbrev pub AreGenerals : List Term → Index → Type 0
 AreGenerals xs places = (k : ℕ) (x : Term) → slice_get xs k ≡ Some x → IsNotedBelow places k x
 
-abbrev pub AreSpecials : List Term → Nodes → List ℕ → Index → Type 0
-AreSpecials xs nodes large waiting = (k : ℕ) (x : Term) → slice_get xs k ≡ Some x → IsKnown nodes large waiting k x
+abbrev pub AreSpecials : List Term → Known → Type 0
+AreSpecials xs known = (k : ℕ) (x : Term) → slice_get xs k ≡ Some x → IsKnown known k x
 
 -- Of the places that have their bit in a row.
 

@@ -1,5 +1,6 @@
--- What is noted of atoms: nodes with the columns of positions, and that it grows.
+-- What is noted of atoms: nodes with the columns of positions, and the places of large ones; and that it grows.
 use Rattle.std.specs.Prelude.{ℕ, ◌≡◌, ◌⊎◌, ◌≢◌, ◌==◌, ◌++◌, if◌then◌else◌, List, [], ◌∷◌, IsTrue, map, slice_get, Some}
+use Rattle.apd_term.specs.Term.{IsAmong}
 use Rattle.apd_marks.specs.declared.positions.Parent.{Parent}
 use Rattle.apd_index.specs.Columns.{AreColumns, EndsAt, IsIn, KeepsEntries, column_at}
 use Rattle.apd_index.specs.Nodes.{AreKept, AreSlots, IsNumberIn, KeepsFounders, KeepsNumbers, IsFounder}
@@ -12,11 +13,16 @@ use Rattle.apd_index.specs.declared.walk.Table.{Table}
 abbrev pub IsSound : Table → Type 0
 IsSound t = nodes.IsSound t.nodes × AreColumns t.columns
 
+-- the places of large atoms are noted still
+abbrev pub KeepsLarge : Table → Table → Type 0
+KeepsLarge old new = (k : ℕ) → IsAmong old.large.items k → IsAmong new.large.items k
+
 -- what was noted is noted still, founders stay, positions keep their numbers, and columns their entries
 pub record Grows (old new : Table) : Type 0 where
   pub sound : IsSound new
   pub kept : AreKept old.nodes new.nodes
   pub founders : KeepsFounders old.nodes new.nodes
+  pub large : KeepsLarge old new
   pub numbers : KeepsNumbers old.nodes new.nodes
   pub entries : KeepsEntries old.columns new.columns
 
@@ -35,6 +41,7 @@ pub record AreSame (old new : Table) : Type 0 where
   pub next : new.nodes.next ≡ old.nodes.next
   pub heads : new.columns.heads.items ≡ old.columns.heads.items
   pub entries : new.columns.entries.items ≡ old.columns.entries.items
+  pub large : new.large.items ≡ old.large.items
   pub given_up : new.is_given_up ≡ old.is_given_up
 
 -- The walk: symbols below which terms are still to be read.

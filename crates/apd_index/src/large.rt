@@ -1,13 +1,13 @@
 //! What is noted of an atom when it is put. A large one is compared with each atom that is looked up: as many as there is room for cost
 //! less so than their marks would.
 
-ghost use Rattle.std.specs.Prelude.{◌≡◌, ℕ, List, IfOk, IfSome, IsTrue, OnOk};
-ghost use Rattle.apd_term.specs.Term.{IsAmong, Term};
+ghost use Rattle.std.specs.Prelude.{◌≡◌, List, IfOk, IfSome, IsTrue, OnOk};
+ghost use Rattle.apd_term.specs.Term.{Term};
 ghost use Rattle.apd_index.specs.Columns.{AddsOf, HasColumns, HasUnlikes};
 ghost use Rattle.apd_index.specs.Nodes.{AreKept, KeepsFounders};
 ghost use Rattle.apd_index.specs.Retrieval.{IsNoted};
 ghost use Rattle.apd_index.specs.Subterms.{digests as digests_in};
-ghost use Rattle.apd_index.specs.Table.{Grows, IsSound};
+ghost use Rattle.apd_index.specs.Table.{Grows, IsSound, KeepsLarge};
 
 use crate::columns::Columns;
 use crate::unlike::Unlikes;
@@ -36,7 +36,6 @@ fn small_place(atom: &Flat, links: usize, place: usize) -> Option<u32>
 pub(crate) fn note_any(
     alloc: Global,
     table: &mut Table,
-    large: &mut Vec<usize>,
     atom: &Flat,
     digests: &[u64],
     place: usize,
@@ -44,15 +43,14 @@ pub(crate) fn note_any(
     requires sound { IsSound table.old }
     requires digests { digests.now ≡ digests_in atom.now }
     ensures grows { Grows table.old table.new }
-    ensures still { (k : ℕ) → IsAmong large.old.items k → IsAmong large.new.items k }
-    ensures noted { OnOk result (IsNoted table.new.nodes large.new.items place atom.now) }
+    ensures noted { OnOk result (IsNoted table.new place atom.now) }
     ensures adds { IfOk result (λ b. IsTrue b
         → AddsOf table.new.nodes table.old.columns atom.now place table.new.columns) }
 {
     match small_place(atom, table.nodes.links.len(), place) {
         Some(place) => note_atom(alloc, table, atom, digests, place),
         None => {
-            large.push(place)?;
+            table.large.push(place)?;
             Ok(true)
         }
     }
@@ -64,6 +62,7 @@ pub(crate) fn give_up(alloc: Global, table: &mut Table, unlikes: &mut Unlikes)
     ensures sound { IsSound table.new }
     ensures kept { AreKept table.old.nodes table.new.nodes }
     ensures founders { KeepsFounders table.old.nodes table.new.nodes }
+    ensures large { KeepsLarge table.old table.new }
     ensures columns { (xs : List Term) → HasColumns xs table.new.nodes table.new.columns }
     ensures unlikes { HasUnlikes table.new.columns unlikes.new }
 {

@@ -9,6 +9,7 @@ use crate::columns::{ColumnEntry, Columns};
 use crate::nodes::{Nodes, number_at};
 use crate::positions::positions_of;
 use crate::unlike::{Repeat, Unlikes, is_of, keep, key_of};
+use crate::walk::Table;
 use apd_bits::Row;
 use apd_term::{Flat, Sym};
 use indexmap::IndexMap;
@@ -60,18 +61,17 @@ fn repeats_of(alloc: Global, nodes: &Nodes, atom: &Flat) -> Result<Vec<Repeat>, 
 /// Keeps, for the positions at which the atom has a variable again, the places for which their columns differ.
 pub(crate) fn prepare(
     alloc: Global,
-    nodes: &Nodes,
-    columns: &Columns,
+    table: &Table,
     unlikes: &mut Unlikes,
     atom: &Flat,
 ) -> Result<(), AllocError>
-    requires columns { AreColumns columns.now }
-    requires unlikes { HasUnlikes columns.now unlikes.old }
-    ensures { HasUnlikes columns.now unlikes.new }
+    requires columns { AreColumns table.now.columns }
+    requires unlikes { HasUnlikes table.now.columns unlikes.old }
+    ensures { HasUnlikes table.now.columns unlikes.new }
 {
-    let repeats = repeats_of(alloc, nodes, atom)?;
+    let repeats = repeats_of(alloc, &table.nodes, atom)?;
     'repeats: for repeat in repeats.as_slice() {
-        keep(alloc, columns, unlikes, *repeat)?;
+        keep(alloc, &table.columns, unlikes, *repeat)?;
     }
     Ok(())
 }
@@ -131,23 +131,22 @@ fn strike_repeat(columns: &Columns, unlikes: &Unlikes, repeat: Repeat, row: &mut
 /// Clears the bits of places that have unequal terms where a variable of the atom stands twice, until no bit is left.
 pub(crate) fn strike_unequal(
     alloc: Global,
-    nodes: &Nodes,
-    columns: &Columns,
+    table: &Table,
     unlikes: &Unlikes,
     atom: &Flat,
     row: &mut Row,
 ) -> Result<(), AllocError>
-    requires columns { AreColumns columns.now }
-    requires unlikes { HasUnlikes columns.now unlikes.now }
-    ensures { (k : ℕ) → HasBit row.old k → IsAlike nodes.now columns.now atom.now k
+    requires columns { AreColumns table.now.columns }
+    requires unlikes { HasUnlikes table.now.columns unlikes.now }
+    ensures { (k : ℕ) → HasBit row.old k → IsAlike table.now.nodes table.now.columns atom.now k
         → HasBit row.new k }
 {
-    let repeats = repeats_of(alloc, nodes, atom)?;
+    let repeats = repeats_of(alloc, &table.nodes, atom)?;
     'repeats: for repeat in repeats.as_slice() {
         if row.is_clear() {
             return Ok(());
         }
-        strike_repeat(columns, unlikes, *repeat, row);
+        strike_repeat(&table.columns, unlikes, *repeat, row);
     }
     Ok(())
 }

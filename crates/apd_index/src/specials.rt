@@ -16,7 +16,7 @@ use crate::large::give_up;
 use crate::repeats::{prepare, strike_unequal};
 use crate::sharing::alike;
 use crate::unlike::Unlikes;
-use crate::waiting::{cost_of, gather, note_or_wait, root_of};
+use crate::waiting::{Known, cost_of, gather, note_or_wait, root_of};
 use crate::walk::Table;
 use apd_bits::Row;
 use apd_marks::{Places, note, whole, with_mark};
@@ -31,33 +31,23 @@ use std::marker::Model;
 fn put(
     alloc: Global,
     atoms: &mut KeptAtoms,
-    table: &mut Table,
-    large: &mut Vec<usize>,
-    waiting: &mut Places,
+    known: &mut Known,
     atom: &Flat,
 ) -> Result<bool, AllocError>
-    requires noted { AreSpecials atoms.old table.old.nodes large.old.items waiting.old }
-    requires sound { IsSound table.old }
-    requires columns { HasColumns atoms.old table.old.nodes table.old.columns }
+    requires noted { AreSpecials atoms.old known.old }
+    requires sound { IsSound known.old.table }
+    requires columns { HasColumns atoms.old known.old.table.nodes known.old.table.columns }
     ensures ok { OnOk result (atoms.new ≡ atoms.old ++ atom.now ∷ []) }
     ensures err { OnErr result (atoms.new ≡ atoms.old) }
-    ensures noted { AreSpecials atoms.new table.new.nodes large.new.items waiting.new }
-    ensures grows { Grows table.old table.new }
+    ensures noted { AreSpecials atoms.new known.new }
+    ensures grows { Grows known.old.table known.new.table }
     ensures columns { IfOk result (λ b. IsTrue b
-        → HasColumns atoms.new table.new.nodes table.new.columns) }
+        → HasColumns atoms.new known.new.table.nodes known.new.table.columns) }
 {
     let digests = digests_of(alloc, atom)?;
     let kept = Kept::of(alloc, atom, digests.as_slice())?;
     let place = atoms.len();
-    let is_right = note_or_wait(
-        alloc,
-        table,
-        large,
-        waiting,
-        atom,
-        digests.as_slice(),
-        place,
-    )?;
+    let is_right = note_or_wait(alloc, known, atom, digests.as_slice(), place)?;
     atoms.push(kept)?;
     Ok(is_right)
 }
@@ -71,7 +61,7 @@ fn likely(alloc: Global, table: &Table, unlikes: &Unlikes, atom: &Flat) -> Resul
         → IsAlike table.now.nodes table.now.columns atom.now k → HasBit row k) }
 {
     let mut row = alike(alloc, &table.nodes, atom)?;
-    strike_unequal(alloc, &table.nodes, &table.columns, unlikes, atom, &mut row)?;
+    strike_unequal(alloc, table, unlikes, atom, &mut row)?;
     Ok(row)
 }
 
@@ -154,12 +144,8 @@ pub struct Specials {
     atoms: KeptAtoms,
     /// The place of each atom, by the mark of the whole.
     wholes: Places,
-    /// What is noted of their symbols.
-    table: Table,
-    /// The places of large atoms, of which nothing is noted otherwise.
-    large: Vec<usize>,
-    /// The places of atoms of which nothing is noted yet, by the marks of their root symbols.
-    waiting: Places,
+    /// What is noted of them, and which of them wait.
+    known: Known,
     /// How long comparisons with atoms that waited took at most, in symbols that were compared.
     compared: usize,
     /// Where atoms have unequal terms at two positions, of the pairs of positions that were asked about.
@@ -182,9 +168,10 @@ impl Model for Specials {
     ghost view = { λ d. d.atoms };
 
     ghost invariant = { λ d. (AreWholes d.atoms d.wholes
-        × AreSpecials d.atoms d.table.nodes d.large.items d.waiting)
-        × (IsSound d.table × (HasColumns d.atoms d.table.nodes d.table.columns
-        × HasUnlikes d.table.columns d.unlikes)) };
+        × AreSpecials d.atoms d.known)
+        × (IsSound d.known.table
+        × (HasColumns d.atoms d.known.table.nodes d.known.table.columns
+        × HasUnlikes d.known.table.columns d.unlikes)) };
 }
 
 impl Specials {
@@ -195,9 +182,10 @@ impl Specials {
         Specials {
             atoms: KeptAtoms::new(alloc),
             wholes: IndexMap::new(alloc),
-            table: Table::new(alloc),
-            large: Vec::new(alloc),
-            waiting: IndexMap::new(alloc),
+            known: Known {
+                table: Table::new(alloc),
+                waiting: IndexMap::new(alloc),
+            },
             compared: 0,
             unlikes: Unlikes::new(alloc),
         }
@@ -208,21 +196,14 @@ impl Specials {
         ensures { OnOk result (self.new ≡ self.old ++ atom.now ∷ []) }
     {
         note(alloc, &mut self.wholes, whole(atom), self.atoms.len())?;
-        match put(
-            alloc,
-            &mut self.atoms,
-            &mut self.table,
-            &mut self.large,
-            &mut self.waiting,
-            atom,
-        ) {
+        match put(alloc, &mut self.atoms, &mut self.known, atom) {
             Ok(true) => Ok(()),
             Ok(false) => {
-                give_up(alloc, &mut self.table, &mut self.unlikes);
+                give_up(alloc, &mut self.known.table, &mut self.unlikes);
                 Ok(())
             }
             Err(e) => {
-                give_up(alloc, &mut self.table, &mut self.unlikes);
+                give_up(alloc, &mut self.known.table, &mut self.unlikes);
                 Err(e)
             }
         }
@@ -232,21 +213,14 @@ impl Specials {
     fn gather(&mut self, alloc: Global, atom: &Flat) -> Result<(), AllocError>
         ensures { self.new ≡ self.old }
     {
-        match gather(
-            alloc,
-            &self.atoms,
-            &mut self.table,
-            &mut self.large,
-            &mut self.waiting,
-            atom,
-        ) {
+        match gather(alloc, &self.atoms, &mut self.known, atom) {
             Ok(true) => Ok(()),
             Ok(false) => {
-                give_up(alloc, &mut self.table, &mut self.unlikes);
+                give_up(alloc, &mut self.known.table, &mut self.unlikes);
                 Ok(())
             }
             Err(e) => {
-                give_up(alloc, &mut self.table, &mut self.unlikes);
+                give_up(alloc, &mut self.known.table, &mut self.unlikes);
                 Err(e)
             }
         }
@@ -259,17 +233,13 @@ impl Specials {
         if atom.is_ground() {
             return Ok(());
         }
-        self.compared = self.compared.saturating_add(cost_of(&self.waiting, atom));
+        self.compared = self
+            .compared
+            .saturating_add(cost_of(&self.known.waiting, atom));
         if self.compared > PATIENCE {
             self.gather(alloc, atom)?;
         }
-        prepare(
-            alloc,
-            &self.table.nodes,
-            &self.table.columns,
-            &mut self.unlikes,
-            atom,
-        )
+        prepare(alloc, &self.known.table, &mut self.unlikes, atom)
     }
 
     /// Whether some of these is an instance of the atom. Of a variable, each is.
@@ -282,9 +252,9 @@ impl Specials {
         let Some(root) = root_of(atom) else {
             return is_below(alloc, &self.atoms, 0, atom);
         };
-        let mut row = likely(alloc, &self.table, &self.unlikes, atom)?;
-        row.set_all(self.large.as_slice())?;
-        row.set_all(with_mark(&self.waiting, root))?;
+        let mut row = likely(alloc, &self.known.table, &self.unlikes, atom)?;
+        row.set_all(self.known.table.large.as_slice())?;
+        row.set_all(with_mark(&self.known.waiting, root))?;
         some_below(alloc, &self.atoms, &row, atom)
     }
 }

@@ -2,8 +2,8 @@
 //! each symbol of them takes longer than to compare them some times. So they wait until look-ups may have compared many symbols of
 //! atoms that waited; from then on those of a root are noted at the next look-up of that root, where they are many.
 
-ghost use Rattle.std.specs.Prelude.{◌≡◌, ℕ, IfOk, IsTrue, OnOk, slice_get, IfSome, Some};
-ghost use Rattle.apd_term.specs.Term.{IsAmong, Term};
+ghost use Rattle.std.specs.Prelude.{◌≡◌, IfOk, IsTrue, OnOk, slice_get, IfSome, Some};
+ghost use Rattle.apd_term.specs.Term.{Term};
 ghost use Rattle.apd_index.specs.Columns.{AddsOf, HasColumns};
 ghost use Rattle.apd_index.specs.Retrieval.{AreKeptBut, AreKeptIn, AreNoted, AreSpecials, IsKnown, IsNoted, root_mark};
 ghost use Rattle.apd_index.specs.Subterms.{digests as digests_in};
@@ -26,6 +26,14 @@ const FEW: usize = 64;
 
 /// How long it takes to find an atom that is compared, in symbols that are compared.
 const TO_FIND: usize = 16;
+
+/// What is known of atoms, each by its place: it is noted, or it waits.
+#[derive(Drop)]
+pub(crate) struct Known {
+    pub table: Table,
+    /// The places of atoms of which nothing is noted yet, by the marks of their root symbols.
+    pub waiting: Places,
+}
 
 /// The mark of the atom's root symbol; a variable has none.
 pub(crate) fn root_of(atom: &Flat) -> Option<u64>
@@ -51,14 +59,12 @@ fn note_at(
     alloc: Global,
     atoms: &KeptAtoms,
     table: &mut Table,
-    large: &mut Vec<usize>,
     place: usize,
 ) -> Result<bool, AllocError>
     requires { IsSound table.old }
     ensures grows { Grows table.old table.new }
-    ensures still { (k : ℕ) → IsAmong large.old.items k → IsAmong large.new.items k }
     ensures noted { OnOk result ((x : Term) → slice_get atoms.now place ≡ Some x
-        → IsNoted table.new.nodes large.new.items place x) }
+        → IsNoted table.new place x) }
     ensures columns { IfOk result (λ b. IsTrue b
         → HasColumns atoms.now table.old.nodes table.old.columns
         → HasColumns atoms.now table.new.nodes table.new.columns) }
@@ -68,7 +74,7 @@ fn note_at(
     };
     let atom = kept.atom();
     let digests = digests_of(alloc, atom)?;
-    note_any(alloc, table, large, atom, digests.as_slice(), place)
+    note_any(alloc, table, atom, digests.as_slice(), place)
 }
 
 /// Notes the atoms at these places.
@@ -76,21 +82,18 @@ fn note_all(
     alloc: Global,
     atoms: &KeptAtoms,
     table: &mut Table,
-    large: &mut Vec<usize>,
     places: &[usize],
 ) -> Result<bool, AllocError>
     requires { IsSound table.old }
     ensures grows { Grows table.old table.new }
-    ensures still { (k : ℕ) → IsAmong large.old.items k → IsAmong large.new.items k }
-    ensures noted { OnOk result
-        (AreNoted atoms.now table.new.nodes large.new.items places.now) }
+    ensures noted { OnOk result (AreNoted atoms.now table.new places.now) }
     ensures columns { IfOk result (λ b. IsTrue b
         → HasColumns atoms.now table.old.nodes table.old.columns
         → HasColumns atoms.now table.new.nodes table.new.columns) }
 {
     let mut are_right = true;
     'places: for place in places {
-        let is_right = note_at(alloc, atoms, table, large, *place)?;
+        let is_right = note_at(alloc, atoms, table, *place)?;
         are_right = are_right && is_right;
     }
     Ok(are_right)
@@ -108,29 +111,27 @@ fn forget(alloc: Global, waiting: &mut Places, mark: u64) -> Result<(), AllocErr
 pub(crate) fn gather(
     alloc: Global,
     atoms: &KeptAtoms,
-    table: &mut Table,
-    large: &mut Vec<usize>,
-    waiting: &mut Places,
+    known: &mut Known,
     atom: &Flat,
 ) -> Result<bool, AllocError>
-    requires sound { IsSound table.old }
-    requires noted { AreSpecials atoms.now table.old.nodes large.old.items waiting.old }
-    ensures grows { Grows table.old table.new }
-    ensures noted { AreSpecials atoms.now table.new.nodes large.new.items waiting.new }
+    requires sound { IsSound known.old.table }
+    requires noted { AreSpecials atoms.now known.old }
+    ensures grows { Grows known.old.table known.new.table }
+    ensures noted { AreSpecials atoms.now known.new }
     ensures columns { IfOk result (λ b. IsTrue b
-        → HasColumns atoms.now table.old.nodes table.old.columns
-        → HasColumns atoms.now table.new.nodes table.new.columns) }
+        → HasColumns atoms.now known.old.table.nodes known.old.table.columns
+        → HasColumns atoms.now known.new.table.nodes known.new.table.columns) }
 {
     let Some(mark) = root_of(atom) else {
         return Ok(true);
     };
-    let places = with_mark(waiting, mark);
+    let places = with_mark(&known.waiting, mark);
     if places.len() < FEW {
         return Ok(true);
     }
-    make_room(table, atoms, places);
-    let are_right = note_all(alloc, atoms, table, large, places)?;
-    forget(alloc, waiting, mark)?;
+    make_room(&mut known.table, atoms, places);
+    let are_right = note_all(alloc, atoms, &mut known.table, places)?;
+    forget(alloc, &mut known.waiting, mark)?;
     Ok(are_right)
 }
 
@@ -150,26 +151,23 @@ fn free_root(table: &Table, atom: &Flat) -> Option<u64>
 /// Notes an atom with a place, or lets it wait, and tells whether what was put into columns is right.
 pub(crate) fn note_or_wait(
     alloc: Global,
-    table: &mut Table,
-    large: &mut Vec<usize>,
-    waiting: &mut Places,
+    known: &mut Known,
     atom: &Flat,
     digests: &[u64],
     place: usize,
 ) -> Result<bool, AllocError>
-    requires sound { IsSound table.old }
+    requires sound { IsSound known.old.table }
     requires digests { digests.now ≡ digests_in atom.now }
-    ensures grows { Grows table.old table.new }
-    ensures still { (k : ℕ) → IsAmong large.old.items k → IsAmong large.new.items k }
-    ensures waiting { AreKeptIn waiting.old waiting.new }
-    ensures noted { OnOk result
-        (IsKnown table.new.nodes large.new.items waiting.new place atom.now) }
+    ensures grows { Grows known.old.table known.new.table }
+    ensures waiting { AreKeptIn known.old.waiting known.new.waiting }
+    ensures noted { OnOk result (IsKnown known.new place atom.now) }
     ensures adds { IfOk result (λ b. IsTrue b
-        → AddsOf table.new.nodes table.old.columns atom.now place table.new.columns) }
+        → AddsOf known.new.table.nodes known.old.table.columns atom.now place
+        known.new.table.columns) }
 {
-    let Some(mark) = free_root(table, atom) else {
-        return note_any(alloc, table, large, atom, digests, place);
+    let Some(mark) = free_root(&known.table, atom) else {
+        return note_any(alloc, &mut known.table, atom, digests, place);
     };
-    note(alloc, waiting, mark, place)?;
+    note(alloc, &mut known.waiting, mark, place)?;
     Ok(true)
 }

@@ -17,11 +17,13 @@ use apd_marks::{ANY_TERM, Parent, TOP, mixed};
 use apd_term::{Flat, Sym};
 use std::alloc::{AllocError, Global};
 
-/// What is kept of atoms' symbols and positions.
+/// What is noted of atoms: of their symbols and positions, and of large ones their places alone.
 #[derive(Drop)]
 pub(crate) struct Table {
     pub nodes: Nodes,
     pub columns: Columns,
+    /// The places of large atoms.
+    pub large: Vec<usize>,
     /// Whether nothing is put into columns any more.
     pub is_given_up: bool,
 }
@@ -35,6 +37,7 @@ impl Table {
         Table {
             nodes: Nodes::new(alloc),
             columns: Columns::new(alloc),
+            large: Vec::new(alloc),
             is_given_up: false,
         }
     }

@@ -8,10 +8,9 @@ use Rattle.apd_index.proofs.waiting.note_all.Goals.{else-are_right, then-are_rig
 pub places-preserved : goal.places-preserved
 places-preserved c = record {
   grows = grows-on c.args.table.now c.places.table c.note_at.new.table c.places.invariant.grows c.note_at.ensures.grows;
-  still = λ k a. c.note_at.ensures.still k (c.places.invariant.still k a);
   noted =
-      noted-more c.args.atoms.now c.args.places.now c.places.place-index (get_or c.args.places.now c.places.place-index 0) c.places.table.nodes c.note_at.new.table.nodes c.places.large.items c.note_at.new.large.items
-      c.places-test.true refl c.note_at.ensures.grows.kept c.note_at.ensures.grows.founders c.note_at.ensures.still c.places.invariant.noted c.in_ok-is_right.ensures.noted;
+      noted-more c.args.atoms.now c.args.places.now c.places.place-index (get_or c.args.places.now c.places.place-index 0) c.places.table c.note_at.new.table
+      c.places-test.true refl c.note_at.ensures.grows c.places.invariant.noted c.in_ok-is_right.ensures.noted;
   columns = λ is h. elim c.if-are_right.branch [
     | then-are_right w ↦ c.in_ok-is_right.ensures.columns (subst (λ (b : Bool). IsTrue b) w.are_right-is is) (c.places.invariant.columns w.if-are_right.true h)
     | else-are_right w ↦ absurd (let yes : IsTrue c.places.are_right = subst (λ (b : Bool). IsTrue b) w.are_right-is is in let no = w.if-are_right.false in cc)

@@ -13,7 +13,7 @@ returns-clause-columns c =
 pub returns-clause-noted : goal.returns-clause-noted
 returns-clause-noted c =
     on_ok_weaker c.note_any.result
-    (λ noted x e. subst (IsNoted c.note_any.new.table.nodes c.note_any.new.large.items c.args.place) (only (sym (c.in-Some.ensures ∙ ap (λ (y : Term). Some y) (sym c.atom-atom.ensures)) ∙ e)) noted)
+    (λ noted x e. subst (IsNoted c.note_any.new.table c.args.place) (only (sym (c.in-Some.ensures ∙ ap (λ (y : Term). Some y) (sym c.atom-atom.ensures)) ∙ e)) noted)
     c.note_any.ensures.noted
   where
     only : {y z : Term} → Some y ≡ Some z → y ≡ z

@@ -8,7 +8,7 @@ invariant_of-self c = (
     c.gather.ensures.grows.sound,
     (
       c.in-Ok-true.ensures.columns c.in-Ok-true.field-0-test c.self.invariant.1.1.0,
-      unlikes-still c.self.inside.table.columns c.gather.new.table.columns c.self.inside.unlikes c.gather.ensures.grows.entries c.self.invariant.1.1.1,
+      unlikes-still c.self.inside.known.table.columns c.gather.new.known.table.columns c.self.inside.unlikes c.gather.ensures.grows.entries c.self.invariant.1.1.1,
     ),
   ),
 )

@@ -23,7 +23,7 @@ invariant_of-self-in-Ok-true c = (
     c.put.ensures.grows.sound,
     (
       c.in-Ok-true.ensures.columns c.in-Ok-true.field-0-test,
-      unlikes-still c.self.inside.table.columns c.put.new.table.columns c.self.inside.unlikes c.put.ensures.grows.entries c.self.invariant.1.1.1,
+      unlikes-still c.self.inside.known.table.columns c.put.new.known.table.columns c.self.inside.unlikes c.put.ensures.grows.entries c.self.invariant.1.1.1,
     ),
   ),
 )
@@ -33,7 +33,7 @@ invariant_of-self-in-Ok-false c = (
   (
     wholes-put c.put.result c.self.inside.atoms c.put.new.atoms c.self.inside.wholes c.note.new.places c.args.atom.now c.whole.result c.len.result c.whole.ensures c.len.ensures c.in_ok-note.ensures.ok
         c.put.ensures.ok c.put.ensures.err c.self.invariant.0.0,
-    above-kept c.put.new.atoms c.put.new.table.nodes c.give_up.new.table.nodes c.put.new.large.items c.put.new.large.items c.put.new.waiting c.put.new.waiting c.give_up.ensures.kept c.give_up.ensures.founders (λ k a. a) (λ m k a. a)
+    above-kept c.put.new.atoms c.put.new.known (record { table = c.give_up.new.table; waiting = c.put.new.known.waiting }) c.give_up.ensures.kept c.give_up.ensures.founders c.give_up.ensures.large (λ m k a. a)
         c.put.ensures.noted,
   ),
   (c.give_up.ensures.sound, (c.give_up.ensures.columns c.put.new.atoms, c.give_up.ensures.unlikes)),
@@ -44,7 +44,7 @@ invariant_of-self-in-Err c = (
   (
     wholes-put c.put.result c.self.inside.atoms c.put.new.atoms c.self.inside.wholes c.note.new.places c.args.atom.now c.whole.result c.len.result c.whole.ensures c.len.ensures c.in_ok-note.ensures.ok
         c.put.ensures.ok c.put.ensures.err c.self.invariant.0.0,
-    above-kept c.put.new.atoms c.put.new.table.nodes c.give_up-in-Err.new.table.nodes c.put.new.large.items c.put.new.large.items c.put.new.waiting c.put.new.waiting c.give_up-in-Err.ensures.kept c.give_up-in-Err.ensures.founders (λ k a. a) (λ m k a. a)
+    above-kept c.put.new.atoms c.put.new.known (record { table = c.give_up-in-Err.new.table; waiting = c.put.new.known.waiting }) c.give_up-in-Err.ensures.kept c.give_up-in-Err.ensures.founders c.give_up-in-Err.ensures.large (λ m k a. a)
         c.put.ensures.noted,
   ),
   (c.give_up-in-Err.ensures.sound, (c.give_up-in-Err.ensures.columns c.put.new.atoms, c.give_up-in-Err.ensures.unlikes)),
